@@ -1,0 +1,12 @@
+//! The price of an account's taps.
+#![tactic(auto)]
+
+mod account;
+mod boarding;
+mod fares;
+mod places;
+mod prices;
+
+pub use account::Account;
+pub use boarding::Boarding;
+pub use fares::{Fares, Priced, TapFault};

@@ -1,0 +1,65 @@
+-- What a service day is.
+use Rattle.std.specs.Prelude.{◌≡◌, ℕ, ◌+◌, ◌-◌, ◌%◌, ◌<◌, ◌≤◌, ℤ, pos, ◌+ℤ◌, ◌-ℤ◌, if◌then◌else◌, nat_lt, unsigned_abs, refl}
+use Rattle.std.specs.Int.{int_div_euclid, int_rem_euclid}
+use Rattle.jiff.specs.Words.{plain_zone, nanos_of_seconds, offset_at}
+use Rattle.jiff.specs.declared.tz.timezone.TimeZone.{TimeZone}
+
+-- an instant as it is kept: seconds of the Unix clock, the service day, and the local second of the day
+pub record Stamp : Type 0 where
+  pub utc : ℕ
+  pub day : ℕ
+  pub second : ℕ
+
+-- instants are taken from 1970-01-08 to the end of 2099
+abbrev pub IsInstant : ℕ → Type 0
+IsInstant utc = (604_800 ≤ utc) × (utc ≤ 4_102_444_799)
+
+-- days are counted from 1970-01-01
+abbrev pub IsDay : ℕ → Type 0
+IsDay day = (4 ≤ day) × (day ≤ 50_000)
+
+-- each number of a stamp is in its range
+pub record IsStamp (s : Stamp) : Type 0 where
+  pub utc : IsInstant s.utc
+  pub day : IsDay s.day
+  pub second : s.second < 86_400
+
+-- seconds from 1970-01-01 00:00:00 to what the zone's clock shows at the instant
+unfoldable pub local_seconds : TimeZone → ℕ → ℤ
+local_seconds zone utc = pos utc +ℤ offset_at (plain_zone zone) (nanos_of_seconds (pos utc))
+
+-- the date that the zone's calendar shows, counted from 1970-01-01
+unfoldable pub local_date : TimeZone → ℕ → ℤ
+local_date zone utc = int_div_euclid (local_seconds zone utc) (pos 86_400)
+
+-- the second of that date, from 0 at midnight
+unfoldable pub local_second : TimeZone → ℕ → ℕ
+local_second zone utc = unsigned_abs (int_rem_euclid (local_seconds zone utc) (pos 86_400))
+
+-- the service day: the local date, less one day before 04:30
+unfoldable pub service_day : TimeZone → ℕ → ℤ
+service_day zone utc =
+    if nat_lt (local_second zone utc) 16_200 then local_date zone utc -ℤ pos 1
+    else local_date zone utc
+
+-- the instant, its service day and its local second
+abbrev pub stamp_of : TimeZone → ℕ → Stamp
+stamp_of zone utc = record {
+  utc = utc;
+  day = unsigned_abs (service_day zone utc);
+  second = local_second zone utc;
+}
+
+-- the Monday of a day's week: day 0 was a Thursday
+abbrev pub monday : ℕ → ℕ
+monday day = day - (day + 3) % 7
+
+-- 2024-01-08 is a Monday, and so is the week's first day of the Sunday after it
+monday_of_a_monday : monday 19730 ≡ 19730
+monday_of_a_monday = refl
+
+monday_of_a_sunday : monday 19736 ≡ 19730
+monday_of_a_sunday = refl
+
+monday_of_the_sunday_before : monday 19729 ≡ 19723
+monday_of_the_sunday_before = refl

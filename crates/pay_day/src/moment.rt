@@ -1,0 +1,79 @@
+ghost use Rattle.std.specs.Prelude.{◌≡◌, ◌<◌, ◌≤◌, ◌↔◌, IsSome, IfSome};
+ghost use Rattle.pay_day.specs.Day.{Stamp, IsStamp, IsInstant, IsDay};
+
+use std::marker::Model;
+
+/// An instant and where it falls: seconds of the Unix clock, the service day (counted from
+/// 1970-01-01), and the local second of the day.
+#[derive(Clone, Copy, Debug, PartialEq, Eq)]
+pub struct Moment {
+    utc: u64,
+    day: u32,
+    second: u32,
+}
+
+impl Model for Moment {
+    ghost use Rattle.pay_day.specs.Day.{Stamp, IsStamp};
+
+    ghost Value = { Stamp };
+
+    ghost view = { λ m. record { utc = m.utc; day = m.day; second = m.second } };
+
+    ghost invariant = { λ m. IsStamp (record { utc = m.utc; day = m.day; second = m.second }) };
+
+    ghost inverse = { λ s. record { utc = s.utc; day = s.day; second = s.second } };
+}
+
+impl Moment {
+    /// 1970-01-08 00:00:00 UTC.
+    pub(crate) const FIRST_INSTANT: u64 = 604_800;
+
+    /// 2099-12-31 23:59:59 UTC.
+    pub(crate) const LAST_INSTANT: u64 = 4_102_444_799;
+
+    pub(crate) fn new(utc: u64, day: u32, second: u32) -> Moment
+        requires { IsStamp (record { utc = utc; day = day; second = second }) }
+        ensures { result ≡ record { utc = utc; day = day; second = second } }
+    {
+        Moment { utc, day, second }
+    }
+
+    /// A moment of these numbers, if each is in its range: `utc` from 604,800 to 4,102,444,799, `day`
+    /// from 4 to 50,000, and `second` below 86,400. Nothing else is tested: no zone is asked.
+    pub fn from_parts(utc: u64, day: u32, second: u32) -> Option<Moment>
+        ensures in_range { IsSome result ↔ IsStamp (record { utc = utc; day = day; second = second }) }
+        ensures parts { IfSome result (λ m. m ≡ record { utc = utc; day = day; second = second }) }
+    {
+        let is_instant = Moment::FIRST_INSTANT <= utc && utc <= Moment::LAST_INSTANT;
+        let is_day = 4 <= day && day <= 50_000;
+        if is_instant && is_day && second < 86_400 {
+            Some(Moment::new(utc, day, second))
+        } else {
+            None
+        }
+    }
+
+    /// Seconds of the Unix clock.
+    pub fn utc(self) -> u64
+        ensures value { result ≡ self.utc }
+        ensures in_range { IsInstant result }
+    {
+        self.utc
+    }
+
+    /// The service day, counted from 1970-01-01.
+    pub fn day(self) -> u32
+        ensures value { result ≡ self.day }
+        ensures in_range { IsDay result }
+    {
+        self.day
+    }
+
+    /// The local second of the day.
+    pub fn second(self) -> u32
+        ensures value { result ≡ self.second }
+        ensures in_range { result < 86_400 }
+    {
+        self.second
+    }
+}

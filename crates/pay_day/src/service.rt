@@ -1,0 +1,58 @@
+ghost use Rattle.std.specs.Prelude.{◌≡◌, ◌+◌, ◌≤◌, ◌↔◌, pos, IsOk, IfOk, IfErr};
+ghost use Rattle.pay_day.specs.Day.{IsInstant, local_seconds, stamp_of};
+
+use crate::Moment;
+use jiff::Timestamp;
+use jiff::tz::TimeZone;
+
+const SECONDS_PER_DAY: u64 = 86_400;
+
+/// 04:30, when a service day begins.
+const SERVICE_START: u64 = 16_200;
+
+/// Why an instant has no stamp.
+#[derive(Clone, Copy, Debug, PartialEq, Eq)]
+pub enum StampFault {
+    /// Refusal 1: the instant is before 1970-01-08 00:00:00 UTC or after 2099-12-31 23:59:59 UTC.
+    OutOfTime,
+    /// Refusal 90: no memory. No zone takes any, so this is never given.
+    Memory,
+}
+
+// Seconds from 1970-01-01 00:00:00 to what the zone's clock shows. No zone is further than 25:59:59
+// from UTC.
+fn local_clock(zone: &TimeZone<'_>, utc: u64) -> u64
+    requires { IsInstant utc }
+    ensures value { pos result ≡ local_seconds zone.now utc }
+    ensures not_far_before { 604_800 ≤ result + 93_599 }
+    ensures not_far_after { result ≤ 4_102_444_799 + 93_599 }
+{
+    let Ok(instant) = Timestamp::from_second(utc as i64) else {
+        unreachable!()
+    };
+    let offset = zone.to_offset(instant);
+    (utc as i64 + offset.seconds() as i64) as u64
+}
+
+/// The instant with its service day and its local second in the zone, for `utc` seconds of the Unix
+/// clock. A service day runs from 04:30 to 04:30 by the zone's clock, and has the date on which it
+/// begins.
+#[tactic(auto, unfolding(crate::specs::Day::service_day, crate::specs::Day::local_date, crate::specs::Day::local_second))]
+pub fn stamp(zone: &TimeZone<'_>, utc: u64) -> Result<Moment, StampFault>
+    ensures taken { IsOk result ↔ IsInstant utc }
+    ensures value { IfOk result (λ m. m ≡ stamp_of zone.now utc) }
+    ensures refused { IfErr result (λ e. e ≡ StampFault.OutOfTime) }
+{
+    if utc < Moment::FIRST_INSTANT || utc > Moment::LAST_INSTANT {
+        return Err(StampFault::OutOfTime);
+    }
+    let local = local_clock(zone, utc);
+    let date = local / SECONDS_PER_DAY;
+    let second = local % SECONDS_PER_DAY;
+    let day = if second < SERVICE_START {
+        date - 1
+    } else {
+        date
+    };
+    Ok(Moment::new(utc, day as u32, second as u32))
+}

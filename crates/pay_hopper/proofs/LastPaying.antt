@@ -1,0 +1,61 @@
+-- The last paying instant stands for all of them.
+use Rattle.std.proofs.Common.{◌≡◌, ℕ, ◌+◌, Bool, true, false, List, [], ◌∷◌, ◌++◌, ◌≤◌, length, drop, Option, Some, None, nat_lt, if◌then◌else◌, ◌&&◌, refl, arith}
+use Rattle.std.proofs.lemmas.Bool.Decides.{nat_tests}
+use Rattle.std.proofs.lemmas.List.{append-nil, drop_all}
+use Rattle.pay_day.specs.Day.{Stamp}
+use Rattle.pay_taps.specs.declared.tap.Touch.{Touch}
+use Rattle.pay_hopper.specs.Hopper.{instants_of, pays_after, marks_after, paying_marks}
+
+-- whether an instant is more than `hopper` seconds after the last paying one, if there is one
+abbrev pub pays_by_last : ℕ → Option Stamp → ℕ → Bool
+pays_by_last hopper None utc = true
+pays_by_last hopper (Some paid) utc = nat_lt (paid.utc + hopper) utc
+
+-- which taps pay, by the last paying one before them
+abbrev pub marks_by_last : ℕ → Option Stamp → List Touch → List Bool
+marks_by_last hopper last [] = []
+marks_by_last hopper last (tap ∷ later) =
+    let pays = pays_by_last hopper last tap.stamp.utc in
+    pays ∷ marks_by_last hopper (if pays then Some tap.stamp else last) later
+
+and_true : (b : Bool) → (b && true) ≡ b
+and_true true = refl
+and_true false = refl
+
+and_same : (a b : Bool) → (a ≡ true → b ≡ true) → (a && b) ≡ a
+and_same true b h = h refl
+and_same false b h = refl
+
+later_too : (hopper : ℕ) (last : Option Stamp) (utc : ℕ) → pays_by_last hopper last utc ≡ true →
+    (next : ℕ) → nat_lt (utc + hopper) next ≡ true → pays_by_last hopper last next ≡ true
+later_too hopper None utc h next l = refl
+later_too hopper (Some paid) utc h next l = grind (arith, nat_tests)
+
+step : (hopper : ℕ) (paid : List ℕ) (last : Option Stamp) (stamp : Stamp) (pays : Bool) →
+    ((utc : ℕ) → pays_after hopper paid utc ≡ pays_by_last hopper last utc) →
+    pays_by_last hopper last stamp.utc ≡ pays →
+    (utc : ℕ) →
+    pays_after hopper (if pays then stamp.utc ∷ paid else paid) utc ≡ pays_by_last hopper (if pays then Some stamp else last) utc
+step hopper paid last stamp true same h utc =
+    rw (same utc) (and_same (nat_lt (stamp.utc + hopper) utc) (pays_by_last hopper last utc) (later_too hopper last stamp.utc h utc))
+step hopper paid last stamp false same h utc = same utc
+
+pub marks_by_last_is : (hopper : ℕ) (paid : List ℕ) (last : Option Stamp) (taps : List Touch) →
+    ((utc : ℕ) → pays_after hopper paid utc ≡ pays_by_last hopper last utc) →
+    marks_by_last hopper last taps ≡ marks_after hopper paid (instants_of taps)
+marks_by_last_is hopper paid last [] same = refl
+marks_by_last_is hopper paid last (tap ∷ later) same =
+    let pays = pays_by_last hopper last tap.stamp.utc in
+    let rest = marks_by_last_is hopper (if pays then tap.stamp.utc ∷ paid else paid) (if pays then Some tap.stamp else last) later
+    (step hopper paid last tap.stamp pays same refl) in
+    rw (same tap.stamp.utc) (cc)
+
+-- past the last tap, the marks so far are all of them
+pub all_marked : (hopper : ℕ) (last : Option Stamp) (taps : List Touch) (marks : List Bool) (count : ℕ) →
+    length taps ≤ count → marks_by_last hopper None taps ≡ marks ++ marks_by_last hopper last (drop count taps) →
+    marks ≡ paying_marks hopper (instants_of taps)
+all_marked hopper last taps marks count past h =
+    let whole = marks_by_last_is hopper [] None taps (λ _. refl) in
+    let none_left = drop_all count taps past in
+    let e : marks ++ marks_by_last hopper last (drop count taps) ≡ marks = rw none_left (append-nil marks) in
+    cc

@@ -1,0 +1,2 @@
+pub mod LastPaying
+pub mod Sets

@@ -1,0 +1,9 @@
+//! Amounts of money, in pence.
+#![tactic(auto)]
+
+mod pence;
+
+pub use pence::Pence;
+
+#[cfg(test)]
+mod tests;

@@ -1,0 +1,4 @@
+pub mod Numbers
+pub mod Placing
+pub mod Items
+pub mod Ranges

@@ -1,0 +1,70 @@
+ghost use Rattle.std.specs.Prelude.{◌≡◌};
+ghost use Rattle.pay_tables.specs.declared.fault.FareFileFault.TheVariants.{Memory};
+
+use std::alloc::AllocFailed;
+
+/// Why a fare file is refused: the first fault in the order of the keys.
+#[derive(Clone, Copy, Debug, PartialEq, Eq)]
+pub enum FareFileFault {
+    /// 10: the text is no TOML document.
+    NotToml,
+    /// 11: a key that must be there is missing.
+    MissingKey,
+    /// 12: a value has another form than its key wants: a text for an integer, say.
+    WrongType,
+    /// 13: a number is outside its range.
+    OutOfRange,
+    /// 14: an item has the place of an earlier one.
+    Duplicate,
+    /// 16: an array has more items than its limit.
+    TooMany,
+    /// 61: the file has fare bands, which are not read yet.
+    BandsNotYet,
+    /// 90: memory ran out. The file may be a good one.
+    Memory,
+}
+
+impl FareFileFault {
+    ghost use Rattle.std.specs.Prelude.{◌≡◌};
+    ghost use Rattle.pay_tables.specs.Fault.{fault_number, fault_name};
+
+    /// The number that is printed for the refusal.
+    pub fn number(self) -> u16
+        ensures { result ≡ fault_number self }
+    {
+        match self {
+            FareFileFault::NotToml => 10,
+            FareFileFault::MissingKey => 11,
+            FareFileFault::WrongType => 12,
+            FareFileFault::OutOfRange => 13,
+            FareFileFault::Duplicate => 14,
+            FareFileFault::TooMany => 16,
+            FareFileFault::BandsNotYet => 61,
+            FareFileFault::Memory => 90,
+        }
+    }
+
+    /// The name that is printed behind the number.
+    pub fn name(self) -> &'static str
+        ensures { result.now ≡ fault_name self }
+    {
+        match self {
+            FareFileFault::NotToml => "NotToml",
+            FareFileFault::MissingKey => "MissingKey",
+            FareFileFault::WrongType => "WrongType",
+            FareFileFault::OutOfRange => "OutOfRange",
+            FareFileFault::Duplicate => "Duplicate",
+            FareFileFault::TooMany => "TooMany",
+            FareFileFault::BandsNotYet => "BandsNotYet",
+            FareFileFault::Memory => "Memory",
+        }
+    }
+}
+
+impl<T: Drop> From<AllocFailed<T>> for FareFileFault {
+    ghost from_gives = { λ _ fault. fault ≡ Memory };
+
+    fn from(_failed: AllocFailed<T>) -> FareFileFault {
+        FareFileFault::Memory
+    }
+}

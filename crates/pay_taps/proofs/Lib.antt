@@ -1,0 +1,4 @@
+pub mod Sorting
+pub mod Judgement
+pub mod Numbers
+pub mod TouchOrder

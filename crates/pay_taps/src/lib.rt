@@ -1,0 +1,11 @@
+//! Taps of an account: the set of accepted taps by number, and the effective taps in order.
+#![tactic(auto)]
+
+pub mod laws;
+mod order;
+mod tap;
+mod tap_set;
+
+pub use order::{sort_touches, touches, touches_of};
+pub use tap::{Kind, Tap, Touch};
+pub use tap_set::{Addition, TAPS_OF_AN_ACCOUNT, TapSet, TapSetFault};
