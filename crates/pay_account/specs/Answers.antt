@@ -1,5 +1,5 @@
 -- What an account answers to a tap, and what it has then.
-use Rattle.std.specs.Prelude.{◌≡◌, Bool, true, false, if◌then◌else◌, Result, Ok, Err, IsOk}
+use Rattle.std.specs.Prelude.{◌≡◌, true, false, if◌then◌else◌, Result, Ok, Err, IsOk}
 use Rattle.std.specs.FinMap as map
 use Rattle.pay_tables.specs.FareTables.{FareTables}
 use Rattle.pay_taps.specs.declared.tap.Tap.{Tap}

@@ -1,5 +1,5 @@
 -- Where a tap may be made.
-use Rattle.std.specs.Prelude.{Bool, true, false, Option, Some, None}
+use Rattle.std.specs.Prelude.{Bool, true, false, Option, Some}
 use Rattle.std.specs.FinMap as map
 use Rattle.pay_tables.specs.FareTables.{FareTables}
 use Rattle.pay_tables.specs.declared.place.Place.{Place}

@@ -35,8 +35,8 @@ abbrev pub week_price : FareTables → Taps → ℕ → ℕ
 week_price tables taps through = sum_by (day_price tables taps) (days_through through)
 
 -- the price of a day and of its week through Sunday, by the touches in order
-abbrev pub priced : FareTables → List Touch → Bool → ℕ → Priced
-priced tables list again day = record {
+abbrev pub prices_of_touches : FareTables → List Touch → Bool → ℕ → Priced
+prices_of_touches tables list again day = record {
   again = again;
   day = day;
   day_price = fares_on tables (boardings tables list) day;

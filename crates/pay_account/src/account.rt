@@ -34,13 +34,13 @@ impl Model for Account {
 
 impl Account {
     /// What `tap` answers. The account stays as it is.
-    fn answer(&self, tables: &Tables, tap: Tap) -> Result<Priced, TapFault>
-        ensures { IsAnswer result tables.now self.now.taps tap }
+    fn answer(&self, tables: &Tables, tap: &Tap) -> Result<Priced, TapFault>
+        ensures { IsAnswer result tables.now self.now.taps tap.now }
     {
-        if !is_known(tables, &tap) {
+        if !is_known(tables, tap) {
             return Err(TapFault::UnknownPlace);
         }
-        let priced = match self.taps.judge(&tap)? {
+        let priced = match self.taps.judge(tap)? {
             Addition::Added => self.price_with(tables, tap)?,
             Addition::Repeat => self.price_again(tables, tap.stamp.day())?,
         };
@@ -48,14 +48,14 @@ impl Account {
     }
 
     /// The prices once a further tap is there.
-    fn price_with(&self, tables: &Tables, tap: Tap) -> Result<Priced, AllocError>
-        requires { judged self.now.taps tap ≡ Ok Addition.Added }
-        ensures { IfOk result (λ p. p ≡ prices tables.now (map.insert self.now.taps (number tap) tap) false tap.stamp.day) }
+    fn price_with(&self, tables: &Tables, tap: &Tap) -> Result<Priced, AllocError>
+        requires { judged self.now.taps tap.now ≡ Ok Addition.Added }
+        ensures { IfOk result (λ p. p ≡ prices tables.now (map.insert self.now.taps (number tap.now) tap.now) false tap.now.stamp.day) }
     {
         laws::answers();
         laws::one_more_tap();
         let mut taps = self.taps.list(self.alloc)?;
-        taps.push(tap)?;
+        taps.push(*tap)?;
         price(self.alloc, tables, &taps, false, tap.stamp.day())
     }
 
@@ -87,7 +87,7 @@ impl Fares for Account {
     }
 
     fn tap(&mut self, tables: &Tables, tap: Tap) -> Result<Priced, TapFault> {
-        let priced = self.answer(tables, tap)?;
+        let priced = self.answer(tables, &tap)?;
         if !priced.again {
             self.taps.add(tap)?;
         }

@@ -30,11 +30,18 @@ pub fn boardings(
     marked(alloc, &touches, &marks)
 }
 
+/// Whether a touch was made on a bus or a tram.
+fn is_bus(touch: &Touch) -> bool
+    ensures { result ≡ is_bus touch.now }
+{
+    touch.kind == Kind::Bus
+}
+
 /// Leaves the touches on buses and trams.
 fn keep_buses(touches: &mut Vec<Touch>)
     ensures { touches.new.items ≡ filter is_bus touches.old.items }
 {
-    touches.retain(|touch| touch.kind == Kind::Bus);
+    touches.retain(|touch| is_bus(touch));
 }
 
 /// Each touch with its mark.

@@ -10,3 +10,6 @@ mod prices;
 pub use account::Account;
 pub use boarding::Boarding;
 pub use fares::{Fares, Priced, TapFault};
+
+#[cfg(test)]
+mod tests;

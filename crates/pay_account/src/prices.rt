@@ -1,7 +1,7 @@
 ghost use Rattle.std.specs.Prelude.{◌≡◌, ◌≤◌, length, map, sum_by, IfOk};
 ghost use Rattle.pay_day.specs.Day.{IsDay};
 ghost use Rattle.pay_taps.specs.Order.{touch_of, in_order};
-ghost use Rattle.pay_account.specs.Prices.{fare_of, fares_on, days_through, priced};
+ghost use Rattle.pay_account.specs.Prices.{fare_of, fares_on, days_through, prices_of_touches};
 
 use crate::boarding::{Boarding, boardings};
 use crate::fares::Priced;
@@ -32,7 +32,7 @@ pub fn price(
 ) -> Result<Priced, AllocError>
     requires few { length taps.now ≤ 16_384 }
     requires is_day { IsDay day }
-    ensures { IfOk result (λ p. p ≡ priced tables.now (in_order (map touch_of taps.now)) again day) }
+    ensures { IfOk result (λ p. p ≡ prices_of_touches tables.now (in_order (map touch_of taps.now)) again day) }
 {
     let boardings = boardings(alloc, tables, ordered(alloc, taps)?)?;
     Ok(Priced {

@@ -1,18 +1,17 @@
 -- What the zone's clock shows by jiff's words is the local date and the local second.
-use Rattle.std.proofs.Common.{arith, ◌≡◌, ℕ, ◌+◌, ◌*◌, ◌^◌, ◌<◌, ◌≤◌, ℤ, pos, ◌+ℤ◌, ◌*ℤ◌, unsigned_abs, to_z, w64, ap, ◌∙◌, sym}
-use Rattle.std.proofs.lemmas.Int.{to_z_pos}
+use Rattle.std.proofs.Common.{arith, ◌≡◌, ℕ, ◌+◌, ◌*◌, ◌<◌, ℤ, pos, ◌+ℤ◌, ◌*ℤ◌, unsigned_abs, ap}
 use Rattle.std.specs.Int.{int_div_euclid, int_rem_euclid}
-use Rattle.jiff.proofs.Family.{civil_nanos-parts, time_nanos_bound}
 use Rattle.jiff.proofs.SpanFacts.{signed_arith}
-use Rattle.jiff.specs.Words.{civil_nanos, epoch_day, nanos_of_seconds, offset_at, plain_zone, time_nanos}
+use Rattle.jiff.specs.Words.{nanos_of_seconds, offset_at, plain_zone}
 use Rattle.jiff.specs.declared.tz.timezone.TimeZone.{TimeZone}
-use Rattle.pay_day.specs.Day.{local_seconds, local_date, local_second, IsInstant}
+use Rattle.pay_day.specs.Day.{local_seconds}
 
 -- that many whole days and seconds
 pub date_of : (day seconds : ℤ) (second subsec : ℕ) → day *ℤ pos 86_400_000_000_000 +ℤ pos (second * 1_000_000_000 + subsec) ≡ nanos_of_seconds seconds
     → second < 86_400 → subsec < 1_000_000_000 → day ≡ int_div_euclid seconds (pos 86_400)
 date_of day seconds second subsec e h k = omega (arith, signed_arith)
 
+-- and the seconds of the last of them
 pub second_of : (day seconds : ℤ) (second subsec : ℕ) → day *ℤ pos 86_400_000_000_000 +ℤ pos (second * 1_000_000_000 + subsec) ≡ nanos_of_seconds seconds
     → second < 86_400 → subsec < 1_000_000_000 → second ≡ unsigned_abs (int_rem_euclid seconds (pos 86_400))
 second_of day seconds second subsec e h k = omega (arith, signed_arith)

@@ -18,19 +18,18 @@ marks_by_last hopper last (tap ∷ later) =
     let pays = pays_by_last hopper last tap.stamp.utc in
     pays ∷ marks_by_last hopper (if pays then Some tap.stamp else last) later
 
-and_true : (b : Bool) → (b && true) ≡ b
-and_true true = refl
-and_true false = refl
-
+-- a second test that follows from the first adds nothing
 and_same : (a b : Bool) → (a ≡ true → b ≡ true) → (a && b) ≡ a
 and_same true b h = h refl
 and_same false b h = refl
 
+-- what is long after a paying instant is long after the one before it
 later_too : (hopper : ℕ) (last : Option Stamp) (utc : ℕ) → pays_by_last hopper last utc ≡ true →
     (next : ℕ) → nat_lt (utc + hopper) next ≡ true → pays_by_last hopper last next ≡ true
 later_too hopper None utc h next l = refl
 later_too hopper (Some paid) utc h next l = grind (arith, nat_tests)
 
+-- the last paying instant stands for all of them after one more tap too
 step : (hopper : ℕ) (paid : List ℕ) (last : Option Stamp) (stamp : Stamp) (pays : Bool) →
     ((utc : ℕ) → pays_after hopper paid utc ≡ pays_by_last hopper last utc) →
     pays_by_last hopper last stamp.utc ≡ pays →
@@ -40,6 +39,7 @@ step hopper paid last stamp true same h utc =
     rw (same utc) (and_same (nat_lt (stamp.utc + hopper) utc) (pays_by_last hopper last utc) (later_too hopper last stamp.utc h utc))
 step hopper paid last stamp false same h utc = same utc
 
+-- the marks by the last paying instant are those by all of them
 pub marks_by_last_is : (hopper : ℕ) (paid : List ℕ) (last : Option Stamp) (taps : List Touch) →
     ((utc : ℕ) → pays_after hopper paid utc ≡ pays_by_last hopper last utc) →
     marks_by_last hopper last taps ≡ marks_after hopper paid (instants_of taps)

@@ -8,16 +8,19 @@ abbrev AreLongBefore : ℕ → List ℕ → ℕ → Type 0
 AreLongBefore hopper [] utc = Unit {0}
 AreLongBefore hopper (earlier ∷ rest) utc = (earlier + hopper < utc) × AreLongBefore hopper rest utc
 
+-- a conjunction holds by its parts
 both : (a b : Bool) → (a && b) ≡ true → (a ≡ true) × (b ≡ true)
 both true b h = (refl, h)
 both false b h = cc
 
+-- where the test passes, all are long before
 long_before : (hopper : ℕ) (paid : List ℕ) (utc : ℕ) → pays_after hopper paid utc ≡ true → AreLongBefore hopper paid utc
 long_before hopper [] utc h = tt
 long_before hopper (earlier ∷ rest) utc h =
     let parts = both (nat_lt (earlier + hopper) utc) (pays_after hopper rest utc) h in
     (grind (arith, nat_tests, parts.0), long_before hopper rest utc parts.1)
 
+-- and where all are long before, the test passes
 pays_long_after : (hopper : ℕ) (paid : List ℕ) (utc : ℕ) → AreLongBefore hopper paid utc → pays_after hopper paid utc ≡ true
 pays_long_after hopper [] utc h = refl
 pays_long_after hopper (earlier ∷ rest) utc h =
@@ -31,18 +34,21 @@ record IsPayingAfter (hopper : ℕ) (paid : List ℕ) (utcs : List ℕ) (marks :
       Pays marks i ↔
       (AreLongBefore hopper paid (slice_index utcs i) × ((j : ℕ) → j < i → Pays marks j → IsWithin hopper utcs j i → ⊥))
 
+-- none is within, where a paying tap is put before the others
 none_within : (hopper utc : ℕ) (later : List ℕ) (marks : List Bool) (i : ℕ) → utc + hopper < slice_index later i →
     ((j : ℕ) → j < i → Pays marks j → IsWithin hopper later j i → ⊥) →
     (j : ℕ) → j < suc i → Pays (true ∷ marks) j → IsWithin hopper (utc ∷ later) j (suc i) → ⊥
 none_within hopper utc later marks i first rest zero l p w = omega arith
 none_within hopper utc later marks i first rest (suc j) l p w = rest j (omega arith) p w
 
+-- the same, where a free tap is put before them
 none_within_free : (hopper utc : ℕ) (later : List ℕ) (marks : List Bool) (i : ℕ) →
     ((j : ℕ) → j < i → Pays marks j → IsWithin hopper later j i → ⊥) →
     (j : ℕ) → j < suc i → Pays (false ∷ marks) j → IsWithin hopper (utc ∷ later) j (suc i) → ⊥
 none_within_free hopper utc later marks i rest zero l p w = cc
 none_within_free hopper utc later marks i rest (suc j) l p w = rest j (omega arith) p w
 
+-- the rule of taps where a paying one is put before them
 rule_paying : (hopper : ℕ) (paid : List ℕ) (utc : ℕ) (later : List ℕ) (marks : List Bool) →
     AreLongBefore hopper paid utc → IsPayingAfter hopper (utc ∷ paid) later marks →
     (i : ℕ) → i < length (utc ∷ later) →
@@ -57,6 +63,7 @@ rule_paying hopper paid utc later marks clear rest (suc i) l =
           here.1 ((first, q.0), λ j h p. q.1 (suc j) (omega arith) p),
     )
 
+-- the same, where a free one is put before them
 rule_free : (hopper : ℕ) (paid : List ℕ) (utc : ℕ) (later : List ℕ) (marks : List Bool) →
     (AreLongBefore hopper paid utc → ⊥) → IsPayingAfter hopper paid later marks →
     (i : ℕ) → i < length (utc ∷ later) →
@@ -69,6 +76,7 @@ rule_free hopper paid utc later marks near rest (suc i) l =
       λ q. here.1 (q.0, λ j h p. q.1 (suc j) (omega arith) p),
     )
 
+-- one more tap in front, by whether it pays
 step : (hopper : ℕ) (paid : List ℕ) (utc : ℕ) (later : List ℕ) (marks : List Bool) (pays : Bool) →
     pays_after hopper paid utc ≡ pays →
     IsPayingAfter hopper (if pays then utc ∷ paid else paid) later marks →
@@ -82,6 +90,7 @@ step hopper paid utc later marks false h rest = record {
   rule = rule_free hopper paid utc later marks (λ far. let there = pays_long_after hopper paid utc far in cc) rest;
 }
 
+-- what is computed meets the rule
 marks_after_is : (hopper : ℕ) (paid utcs : List ℕ) → IsPayingAfter hopper paid utcs (marks_after hopper paid utcs)
 marks_after_is hopper paid [] = record { one_each = refl; rule = λ i l. absurd (omega arith) }
 marks_after_is hopper paid (utc ∷ later) =
@@ -108,12 +117,14 @@ agree hopper utcs marks others a b (suc n) i l within = (
   λ p. (a.rule i within).1 (λ j h q. (b.rule i within).0 p j h ((agree hopper utcs marks others a b n j (omega arith) (omega arith)).0 q)),
 )
 
+-- tests that pass together are the same
 same_head : (a b : Bool) → ((a ≡ true) ↔ (b ≡ true)) → a ≡ b
 same_head true true h = refl
 same_head true false h = let e = h.0 refl in cc
 same_head false true h = let e = h.1 refl in cc
 same_head false false h = refl
 
+-- the same of a mark that is there
 inner : (a b : Bool) → (Some a ≡ Some true) ↔ (Some b ≡ Some true) → (a ≡ true) ↔ (b ≡ true)
 inner a b h = (λ e. let f = h.0 (cc) in cc, λ e. let f = h.1 (cc) in cc)
 

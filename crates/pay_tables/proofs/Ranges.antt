@@ -1,5 +1,5 @@
 -- Each place of a map stays one that may stand.
-use Rattle.std.proofs.Common.{◌≡◌, ℕ, Bool, true, false, cond, Option, Some, sym, subst}
+use Rattle.std.proofs.Common.{ℕ, Bool, true, false, cond, Option, Some}
 use Rattle.std.specs.Prelude.{IfSome}
 use Rattle.std.specs.Ordering.{nat_cmp, eq_by_cmp}
 use Rattle.std.specs.Cmp.{nat_cmp_total}

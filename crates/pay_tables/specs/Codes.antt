@@ -1,9 +1,14 @@
--- How a place and the rules are stored as numbers, so that a model may hold them.
+-- How places, rules and tables are stored as numbers, so that a model may hold them.
 use Rattle.std.specs.Prelude.{◌≡◌, ℕ, ◌⊎◌, refl}
 use Rattle.std.proofs.Common.{inl, inr}
+use Rattle.std.specs.Ordering.{nat_cmp}
+use Rattle.std.specs.FinMap as map
+use Rattle.std.specs.FinMap.{FinMap}
 use Rattle.std.specs.Coded.{Coded, code_by, coded×, coded⊎, coded_ℕ}
 use Rattle.pay_tables.specs.declared.place.Place.{Place}
 use Rattle.pay_tables.specs.declared.place.Place.TheVariants.{Station, Route}
+use Rattle.pay_tables.specs.declared.rules.Rules.{Rules}
+use Rattle.pay_tables.specs.FareTables.{FareTables}
 
 abbrev place_parts : Place → (ℕ × (ℕ × ℕ)) ⊎ ℕ
 place_parts (Station low high operator) = inl (low, (high, operator))
@@ -20,3 +25,15 @@ place_from_parts-place_parts (Route operator) = refl
 -- a place is stored as its parts
 abbrev pub place_code : Coded Place
 place_code = code_by ((ℕ × (ℕ × ℕ)) ⊎ ℕ) (coded⊎ (coded× coded_ℕ (coded× coded_ℕ coded_ℕ)) coded_ℕ) place_parts place_from_parts place_from_parts-place_parts
+
+-- rules are stored as the tuple of their numbers
+abbrev pub rules_code : Coded Rules
+rules_code =
+    code_by (ℕ × (ℕ × (ℕ × (ℕ × ℕ)))) (coded× coded_ℕ (coded× coded_ℕ (coded× coded_ℕ (coded× coded_ℕ coded_ℕ)))) (λ r. (r.bus, (r.maximum, (r.hopper, (r.same_free, r.same_limit)))))
+    (λ p. record { bus = p.0; maximum = p.1.0; hopper = p.1.1.0; same_free = p.1.1.1.0; same_limit = p.1.1.1.1 })
+    (λ _. refl)
+
+-- what a file says is stored as the pair of its parts
+abbrev pub fare_tables_code : Coded FareTables
+fare_tables_code =
+    code_by (Rules × FinMap nat_cmp Place) (coded× rules_code (map.code coded_ℕ place_code)) (λ t. (t.rules, t.places)) (λ p. record { rules = p.0; places = p.1 }) (λ _. refl)

@@ -1,13 +1,10 @@
 -- What a fare file says, as contracts see it.
-use Rattle.std.specs.Prelude.{ℕ, ◌+◌, ◌≤◌, IfSome, refl}
+use Rattle.std.specs.Prelude.{ℕ, ◌+◌, ◌≤◌, IfSome}
 use Rattle.std.specs.Ordering.{nat_cmp}
-use Rattle.std.specs.FinMap as map
-use Rattle.std.specs.FinMap.{FinMap}
-use Rattle.std.specs.Coded.{Coded, code_by, coded×, coded_ℕ}
+use Rattle.std.specs.FinMap.{FinMap, get}
 use Rattle.pay_tables.specs.declared.place.Place.{Place}
 use Rattle.pay_tables.specs.declared.place.Place.TheVariants.{Station, Route}
 use Rattle.pay_tables.specs.declared.rules.Rules.{Rules}
-use Rattle.pay_tables.specs.Codes.{place_code}
 
 -- what rules may say: prices up to 100,000 pence, times up to 7,200 seconds
 pub record AreRules (r : Rules) : Type 0 where
@@ -28,21 +25,9 @@ IsPlace (Route operator) = IsOperator operator
 
 -- each place is one that may stand
 abbrev pub ArePlaces : FinMap nat_cmp Place → Type 0
-ArePlaces places = (number : ℕ) → IfSome (map.get places number) IsPlace
+ArePlaces places = (number : ℕ) → IfSome (get places number) IsPlace
 
 -- the rules, and the places by their numbers
 pub record FareTables : Type 0 where
   pub rules : Rules
   pub places : FinMap nat_cmp Place
-
--- rules are stored as the tuple of their numbers
-abbrev pub rules_code : Coded Rules
-rules_code =
-    code_by (ℕ × (ℕ × (ℕ × (ℕ × ℕ)))) (coded× coded_ℕ (coded× coded_ℕ (coded× coded_ℕ (coded× coded_ℕ coded_ℕ)))) (λ r. (r.bus, (r.maximum, (r.hopper, (r.same_free, r.same_limit)))))
-    (λ p. record { bus = p.0; maximum = p.1.0; hopper = p.1.1.0; same_free = p.1.1.1.0; same_limit = p.1.1.1.1 })
-    (λ _. refl)
-
--- what a file says is stored as the pair of its parts
-abbrev pub fare_tables_code : Coded FareTables
-fare_tables_code =
-    code_by (Rules × FinMap nat_cmp Place) (coded× rules_code (map.code coded_ℕ place_code)) (λ t. (t.rules, t.places)) (λ p. record { rules = p.0; places = p.1 }) (λ _. refl)

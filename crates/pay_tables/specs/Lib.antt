@@ -1,6 +1,6 @@
 pub mod Fault
-pub mod Codes
 pub mod FareTables
+pub mod Codes
 pub mod Keys
 pub mod FareFile
 pub mod Rows

@@ -1,5 +1,6 @@
-ghost use Rattle.std.specs.Prelude.{◌≡◌, ◌≢◌, IfOk, IfErr, IfSome, Ok, Err};
+ghost use Rattle.std.specs.Prelude.{◌≡◌, ◌≢◌, IfOk, IfErr, IfSome, None, Ok, Err};
 ghost use Rattle.std.specs.FinMap as map;
+ghost use Rattle.toml.specs.Parse.{parse_document};
 ghost use Rattle.toml.specs.View.{table_view};
 ghost use Rattle.pay_tables.specs.Fault.{GivesUnlessMemory};
 ghost use Rattle.pay_tables.specs.FareFile.{fare_file, fare_text};
@@ -23,7 +24,8 @@ pub struct Tables {
 }
 
 impl Model for Tables {
-    ghost use Rattle.pay_tables.specs.FareTables.{FareTables, AreRules, fare_tables_code};
+    ghost use Rattle.pay_tables.specs.FareTables.{FareTables, AreRules};
+    ghost use Rattle.pay_tables.specs.Codes.{fare_tables_code};
 
     ghost Value = { FareTables };
 
@@ -38,6 +40,7 @@ impl Tables {
     /// Reads the text of a fare file. The first fault is given, in the order of the keys; `Memory`
     /// comes before any that would be found later.
     pub fn read(alloc: Global, text: &str) -> Result<Tables, FareFileFault>
+        ensures not_toml { result ≡ Err FareFileFault.NotToml → parse_document text.now ≡ None }
         ensures ok { IfOk result (λ tables. fare_text text.now ≡ Ok tables) }
         ensures refused { IfErr result (λ fault. fault ≢ FareFileFault.Memory → fare_text text.now ≡ Err fault) }
     {
@@ -49,6 +52,7 @@ impl Tables {
         Tables::of(alloc, &file)
     }
 
+    /// What a document says.
     fn of(alloc: Global, file: &Table) -> Result<Tables, FareFileFault>
         ensures { GivesUnlessMemory (λ tables. tables) result (fare_file (table_view file.now)) }
     {

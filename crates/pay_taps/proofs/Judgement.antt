@@ -1,5 +1,5 @@
 -- What each answer to a tap means.
-use Rattle.std.proofs.Common.{◌≡◌, ◌≢◌, ◌↔◌, ℕ, ◌<◌, ◌≤◌, Bool, true, false, ◌&&◌, nat_le, Option, Some, None, Result, Ok, Err, if◌then◌else◌, eqb-true, eq-eqb, leb-true, leb-false, le-leb, refl, sym, ap, ◌∙◌, subst, arith}
+use Rattle.std.proofs.Common.{◌≡◌, ◌≢◌, ◌↔◌, ℕ, ◌<◌, ◌≤◌, Bool, true, false, nat_le, Option, Some, None, Ok, Err, if◌then◌else◌, eqb-true, eq-eqb, leb-true, leb-false, le-leb, refl, sym, ap, ◌∙◌, subst}
 use Rattle.std.proofs.lemmas.Bool.{and_parts, and_from, lt-leb}
 use Rattle.pay_day.specs.Day.{Stamp}
 use Rattle.pay_taps.specs.declared.tap.Kind.{Kind}
@@ -110,9 +110,10 @@ repeat_iff t None count = (λ e. absurd (new_not_repeat (nat_le 16_384 count) e)
 
 -- a conflict has other content
 pub conflict_iff : (t : Tap) (there : Option Tap) (count : ℕ) → (answer_to t there count ≡ Err Conflict) ↔ ((other : Tap) × (there ≡ Some other) × (other ≢ t))
-conflict_iff t (Some x) count =
-    (λ e. (x, refl, conflict_found t x (same_tap x t) refl e),
-     λ h. let same : x ≡ h.0 = cc (h.1) in conflict_given t x (same_tap x t) refl (λ is. h.2 (sym same ∙ is)))
+conflict_iff t (Some x) count = (
+  λ e. (x, refl, conflict_found t x (same_tap x t) refl e),
+  λ h. let same : x ≡ h.0 = cc (h.1) in conflict_given t x (same_tap x t) refl (λ is. h.2 (sym same ∙ is)),
+)
 conflict_iff t None count = (λ e. absurd (new_not_conflict (nat_le 16_384 count) e), λ h. absurd (cc (h.1)))
 
 -- a tap is added where there is none and there is room

@@ -1,5 +1,5 @@
 -- Numbers of taps as keys, and what a map under them keeps.
-use Rattle.std.proofs.Common.{◌≡◌, ℕ, ◌+◌, ◌<◌, Bool, true, false, cond, ◌&&◌, T, nat_le, List, [], ◌∷◌, length, map, Option, Some, None, Ok, Err, IfSome, is_some, Ordering, Less, Equal, Greater, nat_cmp, is_eq, is_lt, if◌then◌else◌, leb-false, eqb-true, IsTrue, nat_eq, ◌↔◌, refl, sym, ap, ◌∙◌, subst, arith}
+use Rattle.std.proofs.Common.{◌≡◌, ℕ, ◌+◌, ◌<◌, Bool, true, false, cond, ◌&&◌, T, List, [], ◌∷◌, length, map, Option, Some, Ok, IfSome, is_some, Ordering, Less, Equal, Greater, nat_cmp, is_eq, is_lt, eqb-true, IsTrue, nat_eq, ◌↔◌, refl, sym, ap, ◌∙◌, subst, arith}
 use Rattle.std.specs.Ordering.{eq_by_cmp}
 use Rattle.std.specs.Cmp.{IsTotalOrder, nat_cmp_total, eq_by_cmp_equiv}
 use Rattle.std.specs.List.{AllByRecursion}
@@ -11,9 +11,9 @@ use Rattle.std.specs.FinMap.Entries.{below_all, by_order}
 use Rattle.std.proofs.lemmas.Cmp.{on_total, then_total}
 use Rattle.std.proofs.lemmas.Map.Lookups.{CmpEqualImpliesEq, exact_pairs, exact_unsigned}
 use Rattle.pay_taps.specs.declared.tap.Tap.{Tap}
-use Rattle.pay_taps.specs.declared.tap_set.Addition.TheVariants.{Added, Repeat}
+use Rattle.pay_taps.specs.declared.tap_set.Addition.TheVariants.{Added}
 use Rattle.pay_taps.proofs.Judgement.{added_iff}
-use Rattle.pay_taps.specs.Taps.{Taps, IsTapSet, number, number_cmp, same_tap, answer_to, judged}
+use Rattle.pay_taps.specs.Taps.{Taps, IsTapSet, number, number_cmp, judged}
 
 pub number_total : IsTotalOrder number_cmp
 number_total = then_total (on_total (λ n. n.0) nat_cmp_total) (on_total (λ n. n.1) nat_cmp_total)

@@ -218,16 +218,16 @@ module _ {X : Type 0} (lt : X → X → Bool) where
     none_meet : (z x : X) (xs : List X) → ties lt z x ≡ true → AllByRecursion (λ y. ties lt x y ≡ false) xs → filter (ties lt z) xs ≡ []
     none_meet z x [] t h = refl
     none_meet z x (y ∷ ys) t h = elim (ties lt z y) as (λ b. ties lt z y ≡ b → cond b (y ∷ filter (ties lt z) ys) (filter (ties lt z) ys) ≡ []) [
-        | true ↦ λ u. let meet : ties lt x y ≡ true = ties_meet z x y t u in let not_meet : ties lt x y ≡ false = h.0 in absurd (cc)
-        | false ↦ λ u. none_meet z x ys t h.1
-      ] refl
+      | true ↦ λ u. let meet : ties lt x y ≡ true = ties_meet z x y t u in let not_meet : ties lt x y ≡ false = h.0 in absurd (cc)
+      | false ↦ λ u. none_meet z x ys t h.1
+    ] refl
 
     few_tie : (z : X) (xs : List X) → NoTies xs → (filter (ties lt z) xs ≡ []) ⊎ ((x : X) × (filter (ties lt z) xs ≡ x ∷ []))
     few_tie z [] h = inl refl
     few_tie z (x ∷ xs) h = elim (ties lt z x) as (λ b. ties lt z x ≡ b → (cond b (x ∷ filter (ties lt z) xs) (filter (ties lt z) xs) ≡ []) ⊎ ((w : X) × (cond b (x ∷ filter (ties lt z) xs) (filter (ties lt z) xs) ≡ w ∷ []))) [
-        | true ↦ λ t. inr (x, ap (λ (l : List X). x ∷ l) (none_meet z x xs t h.0))
-        | false ↦ λ t. few_tie z xs h.1
-      ] refl
+      | true ↦ λ t. inr (x, ap (λ (l : List X). x ∷ l) (none_meet z x xs t h.0))
+      | false ↦ λ t. few_tie z xs h.1
+    ] refl
 
     -- where no two tie, every arrangement has one order
     pub one_arrangement : (xs ys : List X) → NoTies xs → IsPermutation xs ys → ordered_by xs ≡ ordered_by ys

@@ -1,7 +1,7 @@
 -- The order of touches, and of those of a set of taps.
-use Rattle.std.proofs.Common.{◌≡◌, ℕ, ◌≤◌, Bool, true, false, not, ◌&&◌, T, eqb, List, [], ◌∷◌, ◌++◌, map, Option, Some, None, Ordering, Less, Equal, Greater, nat_cmp, is_lt, is_eq, cond, IsPermutation, eq-eqb, eqb-true, refl, sym, ap, ◌∙◌, subst, arith}
+use Rattle.std.proofs.Common.{◌≡◌, ℕ, Bool, true, false, ◌&&◌, T, List, [], ◌∷◌, ◌++◌, map, Some, None, Ordering, Less, Equal, Greater, is_lt, is_eq, cond, IsPermutation, eq-eqb, eqb-true, refl, sym, ap, ◌∙◌, subst}
 use Rattle.std.specs.Bool.{beq}
-use Rattle.std.specs.Ordering.{bool_cmp, ordering_then, ordering_reverse, eq_by_cmp}
+use Rattle.std.specs.Ordering.{bool_cmp, ordering_then, ordering_reverse}
 use Rattle.std.specs.Cmp.{IsTotalOrder, IsStrictWeakOrder, nat_cmp_total, bool_cmp_total}
 use Rattle.std.specs.List.{AllByRecursion, IsDistinct}
 use Rattle.std.specs.List.Sorted.{ties}
@@ -59,9 +59,9 @@ tied_number a b t =
 
 untied : (a b : Touch) → same_number a b ≡ false → ties comes_before a b ≡ false
 untied a b h = elim (ties comes_before a b) as (λ t. ties comes_before a b ≡ t → t ≡ false) [
-      | true ↦ λ t. let same : same_number a b ≡ true = tied_number a b t in cc
-      | false ↦ λ t. refl
-    ] refl
+  | true ↦ λ t. let same : same_number a b ≡ true = tied_number a b t in cc
+  | false ↦ λ t. refl
+] refl
 
 untied_all : (a : Touch) (bs : List Touch) → AllByRecursion (λ b. same_number a b ≡ false) bs → AllByRecursion (λ b. ties comes_before a b ≡ false) bs
 untied_all a [] h = tt
@@ -100,9 +100,9 @@ second false b p = absurd p
 -- a tap whose number is below another's has another number
 another : (s t : Tap) (k : ℕ × ℕ) → number t ≡ k → T (is_lt (number_cmp (number s) k)) → same_number (touch_of s) (touch_of t) ≡ false
 another s t k own h = elim (same_number (touch_of s) (touch_of t)) as (λ b. same_number (touch_of s) (touch_of t) ≡ b → b ≡ false) [
-      | true ↦ λ e. absurd (subst (λ r. T (is_lt r)) (ap (number_cmp (number s)) (sym own) ∙ same_parts s t e) h)
-      | false ↦ λ e. refl
-    ] refl
+  | true ↦ λ e. absurd (subst (λ r. T (is_lt r)) (ap (number_cmp (number s)) (sym own) ∙ same_parts s t e) h)
+  | false ↦ λ e. refl
+] refl
 
 other_numbers : (s : Tap) (es : List ((ℕ × ℕ) × Tap)) → T (below_all number_cmp (number s) es) → map number (map (λ (e : (ℕ × ℕ) × Tap). e.1) es) ≡ map (λ (e : (ℕ × ℕ) × Tap). e.0) es → AllByRecursion (λ b. same_number (touch_of s) b ≡ false) (map touch_of (map (λ (e : (ℕ × ℕ) × Tap). e.1) es))
 other_numbers s [] h own = tt
@@ -134,17 +134,17 @@ put_moves (e ∷ es) t none =
 pub one_more : (taps : Taps) (t : Tap) → get taps (number t) ≡ None → IsPermutation (values (insert taps (number t) t)) (t ∷ values taps)
 one_more taps t none =
     subst (λ (l : List ((ℕ × ℕ) × Tap)). IsPermutation (map (λ (e : (ℕ × ℕ) × Tap). e.1) l) (t ∷ values taps)) (sym (entries-insert number_total taps (number t) t))
-      (put_moves (entries taps) t (sym (get-entries taps (number t)) ∙ none))
+    (put_moves (entries taps) t (sym (get-entries taps (number t)) ∙ none))
 
 -- the order with one more tap is that of the tap and the others
 pub touches_with : (taps : Taps) (t : Tap) → map number (values taps) ≡ keys taps → get taps (number t) ≡ None → touches (insert taps (number t) t) ≡ put_in (touch_of t) (touches taps)
 touches_with taps t own none =
     one_order_of_all (map touch_of (values (insert taps (number t) t))) (map touch_of (t ∷ values taps))
-      (own_numbers_of_all (insert taps (number t) t) (own_numbers-insert taps t own))
-      (IsPermutation-map touch_of _ _ (one_more taps t none))
+    (own_numbers_of_all (insert taps (number t) t) (own_numbers-insert taps t own))
+    (IsPermutation-map touch_of _ _ (one_more taps t none))
 
 pub touches_behind : (taps : Taps) (t : Tap) → map number (values taps) ≡ keys taps → get taps (number t) ≡ None → touches (insert taps (number t) t) ≡ in_order (map touch_of (values taps ++ t ∷ []))
 touches_behind taps t own none =
     one_order_of_all (map touch_of (values (insert taps (number t) t))) (map touch_of (values taps ++ t ∷ []))
-      (own_numbers_of_all (insert taps (number t) t) (own_numbers-insert taps t own))
-      (IsPermutation-map touch_of _ _ (IsPermutation-trans _ _ _ (one_more taps t none) (IsPermutation-sym _ _ (IsPermutation-to_front (values taps) t))))
+    (own_numbers_of_all (insert taps (number t) t) (own_numbers-insert taps t own))
+    (IsPermutation-map touch_of _ _ (IsPermutation-trans _ _ _ (one_more taps t none) (IsPermutation-sym _ _ (IsPermutation-to_front (values taps) t))))

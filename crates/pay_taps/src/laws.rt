@@ -29,15 +29,13 @@ pub fn answers()
     ensures full { (taps : Taps) (tap : Tap) → (judged taps tap ≡ Err TapSetFault.AccountFull)
         ↔ ((map.get taps (number tap) ≡ None) × (16_384 ≤ map.len taps)) }
     ensures never_memory { (taps : Taps) (tap : Tap) → judged taps tap ≢ Err TapSetFault.Memory }
-{
-}
+{}
 
 /// No taps are a set of taps, without touches.
 pub fn no_taps()
     ensures tap_set { IsTapSet map.empty }
     ensures touches { touches map.empty ≡ [] }
-{
-}
+{}
 
 /// A set of taps with one more tap: the order of its touches is that of the others and the new one,
 /// wherever the new one stands before they are put in order.
@@ -50,16 +48,14 @@ pub fn one_more_tap()
         → touches (map.insert taps (number tap) tap) ≡ in_order (each touch_of (map.values taps ++ tap ∷ [])) }
     ensures put_in { (taps : Taps) (tap : Tap) → IsTapSet taps → map.get taps (number tap) ≡ None
         → touches (map.insert taps (number tap) tap) ≡ put_in (touch_of tap) (touches taps) }
-{
-}
+{}
 
 /// To put in order moves touches and does nothing else.
 pub fn order()
     ensures same_touches { (list : List Touch) → IsPermutation list (in_order list) }
     ensures in_order { (list : List Touch) → IsInOrder (in_order list) }
     ensures ties_stay { (list : List Touch) → IsStable touch_cmp list (in_order list) }
-{
-}
+{}
 
 /// Touches with numbers of their own, as those of a set of taps, have one order, in whatever
 /// arrangement they come.
@@ -67,5 +63,4 @@ pub fn order_forgets_arrival()
     ensures own_numbers { (taps : Taps) → IsTapSet taps → HaveOwnNumbers (each touch_of (map.values taps)) }
     ensures one_order { (list other : List Touch) → HaveOwnNumbers list → IsPermutation list other
         → in_order list ≡ in_order other }
-{
-}
+{}

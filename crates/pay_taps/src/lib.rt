@@ -5,6 +5,8 @@ pub mod laws;
 mod order;
 mod tap;
 mod tap_set;
+#[cfg(test)]
+mod tests;
 
 pub use order::{sort_touches, touches, touches_of};
 pub use tap::{Kind, Tap, Touch};

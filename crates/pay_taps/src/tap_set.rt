@@ -96,7 +96,7 @@ impl TapSet {
         self.taps.get(&(reader, seq)).copied()
     }
 
-    /// The taps in ascending order of their numbers.
+    /// The taps in ascending order of their numbers: by reader, then by seq.
     pub fn list(&self, alloc: Global) -> Result<Vec<Tap>, AllocError>
         ensures all { IfOk result (λ taps. taps.items ≡ map.values self.now) }
         ensures tap_set { IsTapSet self.now }

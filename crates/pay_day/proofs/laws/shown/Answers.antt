@@ -1,14 +1,16 @@
-use Rattle.std.proofs.Common.{arith, ◌≡◌, ℕ, ◌+◌, ◌*◌, ◌<◌, ◌^◌, ℤ, pos, ◌+ℤ◌, ◌*ℤ◌, to_z, w64, ap, ◌∙◌, sym}
+use Rattle.std.proofs.Common.{arith, ◌≡◌, ℕ, ◌+◌, ◌*◌, pos, ◌+ℤ◌, ◌*ℤ◌, to_z, w64, ap, ◌∙◌, sym}
 use Rattle.std.proofs.lemmas.Int.{to_z_pos}
 use Rattle.jiff.proofs.Family.{civil_nanos-parts}
-use Rattle.jiff.specs.Words.{civil_nanos, epoch_day, nanos_of_seconds, time_nanos}
+use Rattle.jiff.specs.Words.{epoch_day, nanos_of_seconds}
 use Rattle.pay_day.specs.Day.{local_seconds, local_date, local_second}
 use Rattle.pay_day.proofs.Clock.{date_of, second_of, nanos_shown}
 use Rattle.pay_day.proofs.laws.shown.Goals as goal
 
+-- the seconds since midnight that the clock shows
 abbrev second_shown : goal.After-to_datetime → ℕ
 second_shown c = c.to_datetime.result.time.hour * 3_600 + c.to_datetime.result.time.minute * 60 + c.to_datetime.result.time.second
 
+-- the days and the seconds that the clock shows are the local seconds
 total : (c : goal.After-to_datetime)
     → epoch_day c.to_datetime.result.date *ℤ pos 86_400_000_000_000 +ℤ pos (second_shown c * 1_000_000_000 + c.to_datetime.result.time.subsec_nanosecond)
     ≡ nanos_of_seconds (local_seconds c.args.zone.now c.args.utc)

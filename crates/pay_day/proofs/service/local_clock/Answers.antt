@@ -19,6 +19,7 @@ sum_of utc offset h k =
     let wide : to_z w64 (of_z w64 (to_z w32 (of_z w32 offset))) ≡ offset = omega (arith, signed_arith) in
     omega (arith, signed_arith)
 
+-- and so is its size
 clock_of : (utc : ℕ) (offset z : ℤ) → IsInstant utc → IsOffsetSeconds offset → z ≡ pos utc +ℤ offset → pos (nat_abs z) ≡ pos utc +ℤ offset
 clock_of utc offset z h k e = size_of z (omega (arith, signed_arith)) ∙ e
 

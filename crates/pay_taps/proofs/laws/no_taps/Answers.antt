@@ -1,6 +1,5 @@
 use Rattle.std.proofs.Common.{[], refl, ap}
-use Rattle.pay_taps.specs.Order.{touch_of, in_order}
-use Rattle.pay_taps.proofs.Numbers.{none_made, nothing_made, tap_values}
+use Rattle.pay_taps.proofs.Numbers.{none_made, nothing_made}
 use Rattle.pay_taps.proofs.TouchOrder.{touches_among}
 use Rattle.pay_taps.proofs.laws.no_taps.Goals as goal
 

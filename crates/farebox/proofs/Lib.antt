@@ -1,0 +1,17 @@
+pub mod CommandLine
+pub mod Digits
+pub mod Fills
+pub mod Flags
+pub mod Held
+pub mod Levels
+pub mod LineLengths
+pub mod Numerals
+pub mod Pieces
+pub mod Rests
+pub mod Spaces
+pub mod Spelled
+pub mod Steps
+pub mod Takes
+pub mod Told
+pub mod Visible
+pub mod Whole

@@ -1,0 +1,25 @@
+-- What no newline ends, at the end of a session.
+use Rattle.std.proofs.Common.{◌≡◌, ℕ, ◌+◌, Bool, List, [], ◌∷◌, length, subst, sym, ap, ◌∙◌, refl, Option}
+use Rattle.std.specs.Io.KnownBytes.{Appends}
+use Rattle.farebox.specs.Requests.{request_of_rest}
+use Rattle.farebox.specs.Run.{run, reply_then, Outcome}
+use Rattle.farebox.specs.Session.{Replies, EndsRest, Tells}
+use Rattle.farebox.specs.Machine.{Machine, Step, step}
+use Rattle.farebox.specs.declared.request.Request.{Request}
+use Rattle.farebox.proofs.Steps.{Tells_none, Tells_one}
+
+pub EndsRest_none : (m : Machine) (line : List ℕ) (held : Option (List ℕ)) (n : ℕ) → line ≡ [] → EndsRest m line held held n n
+EndsRest_none m line held n e = record {
+  marks = [];
+  told = [];
+  replies = ap (λ l. (run [] m (request_of_rest l)).replies) e;
+  tells = Tells_none held n;
+}
+
+pub EndsRest_one : (a b : Machine) (line : List ℕ) (r : Request) (h i : Option (List ℕ)) (m n : ℕ) → request_of_rest line ≡ r ∷ [] → Replies a r b h i → n ≡ m + 1 → EndsRest a line h i m n
+EndsRest_one a b line r h i m n asked p counted = record {
+  marks = p.mark ∷ [];
+  told = p.reply ∷ [];
+  replies = ap (λ rs. (run (p.mark ∷ []) a rs).replies) asked ∙ ap (λ (s : Step). s.reply ∷ []) p.step;
+  tells = subst (λ k. Tells h i m k (p.reply ∷ [])) (sym counted) (Tells_one h i m p.reply p.written);
+}

@@ -1,0 +1,36 @@
+-- The words of a line, and how fields are read from them.
+use Rattle.std.specs.Prelude.{◌≡◌, ℕ, ◌==◌, Bool, true, false, List, [], ◌∷◌, Option, Some, None}
+use Rattle.std.specs.List.{slice_split}
+
+abbrev pub is_space : ℕ → Bool
+is_space byte = byte == 32
+
+-- what stands between the spaces of a line; two spaces side by side have the empty word between them
+abbrev pub words : List ℕ → List (List ℕ)
+words line = slice_split is_space line
+
+-- the words behind a word: none, or those behind the space that ends it
+abbrev pub words_after : List ℕ → List (List ℕ)
+words_after [] = []
+words_after (space ∷ line) = words line
+
+abbrev pub has_none : List (List ℕ) → Bool
+has_none [] = true
+has_none (word ∷ more) = false
+
+infixl 10 ◌>>=◌
+abbrev pub ◌>>=◌ : {A B : Type 0} → Option A → (A → Option B) → Option B
+(Some x) >>= f = f x
+None >>= f = None
+
+-- what the first word says, and the words behind it
+abbrev pub field : {A : Type 0} → (List ℕ → Option A) → List (List ℕ) → Option (A × List (List ℕ))
+field read [] = None
+field read (word ∷ more) = do
+  value ← read word
+  Some (value, more)
+
+-- what a function returned, seen by view, is what is read
+abbrev pub Gives : {X Y : Type 0} → (X → Y) → Option X → Option Y → Type 0
+Gives view (Some x) read = read ≡ Some (view x)
+Gives view None read = read ≡ None

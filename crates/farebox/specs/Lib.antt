@@ -1,0 +1,14 @@
+pub mod Accounts
+pub mod CommandLine
+pub mod Commands
+pub mod Desk
+pub mod Fields
+pub mod Machine
+pub mod Numbers
+pub mod Output
+pub mod ProgramWords
+pub mod Replies
+pub mod Requests
+pub mod Run
+pub mod Session
+pub mod Spellings

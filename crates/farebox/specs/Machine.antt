@@ -1,0 +1,84 @@
+-- The machine that answers: it keeps the accepted taps of each account, and prices them from scratch.
+use Rattle.std.specs.Prelude.{ℕ, Bool, true, false, ◌&&◌, nat_le, Result, Ok, Err, if◌then◌else◌}
+use Rattle.jiff.specs.declared.tz.timezone.TimeZone.{TimeZone}
+use Rattle.std.specs.FinMap as map
+use Rattle.pay_day.specs.Day.{Stamp, stamp_of}
+use Rattle.pay_tables.specs.FareTables.{FareTables}
+use Rattle.pay_taps.specs.declared.tap.Tap.{Tap}
+use Rattle.pay_account.specs.Answers.{answer_to}
+use Rattle.pay_account.specs.declared.fares.Priced.{Priced}
+use Rattle.pay_account.specs.declared.fares.TapFault.{TapFault}
+use Rattle.pay_account.specs.declared.fares.TapFault.TheVariants as fault
+use Rattle.farebox.specs.Accounts.{TapsByAccount, taps_of, accounts_after}
+use Rattle.farebox.specs.declared.command.Command.{Command}
+use Rattle.farebox.specs.declared.command.Command.TheVariants as command
+use Rattle.farebox.specs.declared.command.TapLine.{TapLine}
+use Rattle.farebox.specs.declared.refusal.Refusal.{Refusal}
+use Rattle.farebox.specs.declared.refusal.Refusal.TheVariants as refusal
+use Rattle.farebox.specs.declared.reply.Reply.{Reply}
+use Rattle.farebox.specs.declared.reply.Reply.TheVariants as replies
+use Rattle.farebox.specs.declared.request.Request.{Request}
+use Rattle.farebox.specs.declared.request.Request.TheVariants as request
+
+-- the zone and the fare file, which stay, and the accepted taps by account
+pub record Machine : Type 0 where
+  pub zone : TimeZone
+  pub tables : FareTables
+  pub accounts : TapsByAccount
+
+-- a machine that has accepted nothing
+abbrev pub new_machine : TimeZone → FareTables → Machine
+new_machine zone tables = record { zone = zone; tables = tables; accounts = map.empty }
+
+-- the reply to a request, and the machine after it
+pub record Step : Type 0 where
+  pub reply : Reply
+  pub after : Machine
+
+-- a reply that changes nothing
+abbrev pub refuse : Machine → Refusal → Step
+refuse m why = record { reply = replies.No why; after = m }
+
+-- the instants that are taken
+abbrev pub is_instant : ℕ → Bool
+is_instant utc = nat_le 604_800 utc && nat_le utc 4_102_444_799
+
+-- the tap that a line spells, with where its instant falls
+abbrev pub tap_of_line : TapLine → Stamp → Tap
+tap_of_line line stamp =
+    record { account = line.account; reader = line.reader; seq = line.seq; stamp = stamp; place = line.place; kind = line.kind }
+
+-- the refusal of an account, as one of a line
+abbrev pub refusal_of : TapFault → Refusal
+refusal_of fault.UnknownPlace = refusal.UnknownPlace
+refusal_of fault.Conflict = refusal.Conflict
+refusal_of fault.AccountFull = refusal.AccountFull
+refusal_of fault.Memory = refusal.Memory
+
+-- an accepted tap is kept; a refusal changes nothing, and neither does want of memory
+abbrev pub step_answer : Bool → Machine → Tap → Result Priced TapFault → Step
+step_answer refused_memory m tap (Err why) = refuse m (refusal_of why)
+step_answer true m tap (Ok priced) = refuse m refusal.Memory
+step_answer false m tap (Ok priced) =
+    record { reply = replies.Priced priced; after = record { zone = m.zone; tables = m.tables; accounts = accounts_after (Ok priced) m.accounts tap } }
+
+-- a tap is answered by its own account
+abbrev pub step_tap : Bool → Machine → Tap → Step
+step_tap refused_memory m tap = step_answer refused_memory m tap (answer_to m.tables (taps_of m.accounts tap.account) tap)
+
+-- an instant out of range comes before all that an account answers
+abbrev pub step_line : Bool → Machine → TapLine → Step
+step_line refused_memory m line =
+    if is_instant line.utc then step_tap refused_memory m (tap_of_line line (stamp_of m.zone line.utc)) else refuse m refusal.OutOfTime
+
+abbrev pub step_command : Bool → Machine → Command → Step
+step_command refused_memory m (command.Tap line) = step_line refused_memory m line
+step_command refused_memory m command.NotYet = refuse m refusal.NotYet
+step_command refused_memory m command.Quit = record { reply = replies.Bye; after = m }
+
+-- The reply to a request, and the machine after it. The mark says that memory for the request was refused; it has no
+-- effect where the reply is a refusal all the same.
+unfoldable pub step : Bool → Machine → Request → Step
+step refused_memory m (request.Command c) = step_command refused_memory m c
+step refused_memory m request.BadLine = refuse m refusal.BadLine
+step refused_memory m request.LongLine = refuse m refusal.LongLine

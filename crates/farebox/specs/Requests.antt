@@ -1,0 +1,78 @@
+-- What the input asks for: its lines in order, up to the first QUIT.
+use Rattle.std.specs.Prelude.{ℕ, Bool, true, false, nat_lt, ◌==◌, List, [], ◌∷◌, ◌++◌, map, length, Option, Some, None, if◌then◌else◌}
+use Rattle.std.specs.List.{list_any}
+use Rattle.farebox.specs.Commands.{command_of}
+use Rattle.farebox.specs.declared.command.Command.{Command}
+use Rattle.farebox.specs.declared.command.Command.TheVariants.{Quit}
+use Rattle.farebox.specs.declared.request.Request.{Request}
+use Rattle.farebox.specs.declared.request.Request.TheVariants as requests
+
+-- a line of the input, without its newline, and the bytes after that newline
+pub record Line : Type 0 where
+  pub text : List ℕ
+  pub after : List ℕ
+
+-- the first line with a byte more at its front
+abbrev pub onto_first : ℕ → List Line → List Line
+onto_first b [] = []
+onto_first b (l ∷ ls) = record { text = b ∷ l.text; after = l.after } ∷ ls
+
+-- the lines of the input, which newlines end
+abbrev pub lines_of : List ℕ → List Line
+lines_of [] = []
+lines_of (b ∷ bs) = if b == 10 then record { text = []; after = bs } ∷ lines_of bs else onto_first b (lines_of bs)
+
+abbrev pub has_newline : List ℕ → Bool
+has_newline = list_any (λ b. b == 10)
+
+-- the bytes after the last newline
+abbrev pub rest_of : List ℕ → List ℕ
+rest_of [] = []
+rest_of (b ∷ bs) = if has_newline (b ∷ bs) then rest_of bs else b ∷ bs
+
+-- a line that spells a command asks for it
+abbrev pub asked : Option Command → Request
+asked (Some c) = requests.Command c
+asked None = requests.BadLine
+
+-- a line of more than 128 bytes is too long, whatever it says
+unfoldable pub request_of : List ℕ → Request
+request_of line = if nat_lt 128 (length line) then requests.LongLine else asked (command_of line)
+
+-- what no newline ends is no command: a number that is cut could be another number
+abbrev pub request_of_rest : List ℕ → List Request
+request_of_rest [] = []
+request_of_rest (b ∷ bs) = (if nat_lt 128 (length (b ∷ bs)) then requests.LongLine else requests.BadLine) ∷ []
+
+abbrev pub asks_to_quit : Command → Bool
+asks_to_quit Quit = true
+asks_to_quit _ = false
+
+abbrev pub is_quit : Request → Bool
+is_quit (requests.Command c) = asks_to_quit c
+is_quit _ = false
+
+-- nothing after the first QUIT counts
+abbrev pub through_quit : List Request → List Request
+through_quit [] = []
+through_quit (r ∷ rs) = if is_quit r then r ∷ [] else r ∷ through_quit rs
+
+-- what the lines ask for
+abbrev pub line_requests : List ℕ → List Request
+line_requests input = map (λ (l : Line). request_of l.text) (lines_of input)
+
+-- what the input asks for
+abbrev pub requests_of : List ℕ → List Request
+requests_of input = through_quit (line_requests input ++ request_of_rest (rest_of input))
+
+abbrev pub quits : List ℕ → Bool
+quits input = list_any is_quit (line_requests input)
+
+-- the bytes after the first line that asks to quit, or none
+abbrev pub after_quit : List Line → List ℕ
+after_quit [] = []
+after_quit (l ∷ ls) = if is_quit (request_of l.text) then l.after else after_quit ls
+
+-- what is left unread
+abbrev pub unread : List ℕ → List ℕ
+unread input = after_quit (lines_of input)

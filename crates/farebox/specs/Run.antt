@@ -1,0 +1,25 @@
+-- A whole run: what is written for the bytes that are read.
+use Rattle.std.specs.Prelude.{ℕ, Bool, false, List, [], ◌∷◌}
+use Rattle.std.specs.List.{flat_map}
+use Rattle.farebox.specs.Replies.{spelling_of_reply}
+use Rattle.farebox.specs.Machine.{Machine, Step, step}
+use Rattle.farebox.specs.declared.reply.Reply.{Reply}
+use Rattle.farebox.specs.declared.request.Request.{Request}
+
+-- the replies to a list of requests, and the machine after them
+pub record Outcome : Type 0 where
+  pub replies : List Reply
+  pub after : Machine
+
+abbrev pub reply_then : Reply → Outcome → Outcome
+reply_then r o = record { replies = r ∷ o.replies; after = o.after }
+
+-- A mark says of each request whether it was refused for memory; past the marks none was.
+abbrev pub run : List Bool → Machine → List Request → Outcome
+run marks m [] = record { replies = []; after = m }
+run [] m (r ∷ rs) = reply_then (step false m r).reply (run [] (step false m r).after rs)
+run (mark ∷ marks) m (r ∷ rs) = reply_then (step mark m r).reply (run marks (step mark m r).after rs)
+
+-- what is written for replies
+abbrev pub text_of : List Reply → List ℕ
+text_of = flat_map spelling_of_reply

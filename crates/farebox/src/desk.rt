@@ -1,0 +1,96 @@
+ghost use Rattle.std.specs.Prelude.{◌≡◌, Bool};
+ghost use Rattle.farebox.specs.Machine.{new_machine, step, step_command, step_line};
+
+use crate::accounts::Accounts;
+use crate::command::{Command, TapLine};
+use crate::refusal::Refusal;
+use crate::reply::Reply;
+use crate::request::Request;
+use jiff::tz::TimeZone;
+use pay_account::TapFault;
+use pay_day::{StampFault, stamp};
+use pay_tables::Tables;
+use pay_taps::Tap;
+use std::alloc::Global;
+
+/// What answers requests: a zone, a fare file, and the accounts.
+#[derive(Drop)]
+pub struct Desk<'a> {
+    zone: &'a TimeZone<'a>,
+    tables: &'a Tables,
+    accounts: Accounts,
+}
+
+impl<'a> Desk<'a> {
+    ghost use Rattle.farebox.specs.Desk.{machine_of};
+
+    /// A desk with no accounts.
+    pub fn new(alloc: Global, zone: &'a TimeZone<'a>, tables: &'a Tables) -> Desk<'a>
+        ensures { machine_of result ≡ new_machine zone.now tables.now }
+    {
+        Desk {
+            zone,
+            tables,
+            accounts: Accounts::new(alloc),
+        }
+    }
+
+    /// Answers a request, as the machine does.
+    pub fn answer(&mut self, request: Request) -> Reply
+        ensures { (refused_memory : Bool) × (step refused_memory (machine_of self.old) request ≡ record { reply = result; after = machine_of self.new }) }
+    {
+        match request {
+            Request::Command(command) => self.serve(command),
+            Request::BadLine => Reply::No(Refusal::BadLine),
+            Request::LongLine => Reply::No(Refusal::LongLine),
+        }
+    }
+
+    fn serve(&mut self, command: Command) -> Reply
+        ensures { (refused_memory : Bool) × (step_command refused_memory (machine_of self.old) command ≡ record { reply = result; after = machine_of self.new }) }
+    {
+        match command {
+            Command::Tap(line) => self.tap(line),
+            Command::NotYet => Reply::No(Refusal::NotYet),
+            Command::Quit => Reply::Bye,
+        }
+    }
+
+    fn tap(&mut self, line: TapLine) -> Reply
+        ensures { (refused_memory : Bool) × (step_line refused_memory (machine_of self.old) line ≡ record { reply = result; after = machine_of self.new }) }
+    {
+        let stamp = match stamp(self.zone, line.utc) {
+            Ok(stamp) => stamp,
+            Err(StampFault::OutOfTime) => return Reply::No(Refusal::OutOfTime),
+            Err(StampFault::Memory) => return Reply::No(Refusal::Memory),
+        };
+        let tap = Tap {
+            account: line.account,
+            reader: line.reader,
+            seq: line.seq,
+            stamp,
+            place: line.place,
+            kind: line.kind,
+        };
+        match self.accounts.tap(self.tables, tap) {
+            Ok(priced) => Reply::Priced(priced),
+            Err(fault) => Reply::No(Refusal::from(fault)),
+        }
+    }
+}
+
+impl From<TapFault> for Refusal {
+    ghost use Rattle.std.specs.Prelude.{◌≡◌};
+    ghost use Rattle.farebox.specs.Machine.{refusal_of};
+
+    ghost from_gives = { λ fault refusal. refusal ≡ refusal_of fault };
+
+    fn from(fault: TapFault) -> Refusal {
+        match fault {
+            TapFault::UnknownPlace => Refusal::UnknownPlace,
+            TapFault::Conflict => Refusal::Conflict,
+            TapFault::AccountFull => Refusal::AccountFull,
+            TapFault::Memory => Refusal::Memory,
+        }
+    }
+}

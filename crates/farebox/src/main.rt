@@ -1,0 +1,31 @@
+//! The fare engine: reads taps as lines, and answers each with the price of its day and its week.
+#![tactic(auto)]
+
+mod accounts;
+mod command;
+mod cut;
+mod desk;
+pub mod laws;
+mod line;
+mod number;
+mod output;
+mod program;
+mod refusal;
+mod reply;
+mod request;
+mod session;
+#[cfg(test)]
+mod tests;
+mod words;
+
+use std::process::ExitCode;
+
+fn main(rt: HostRuntime) -> ExitCode {
+    match program::run(&rt) {
+        Ok(()) => ExitCode::SUCCESS,
+        Err(fault) => {
+            let _ = eprintln!(rt; "{fault}");
+            ExitCode::from(fault.status())
+        }
+    }
+}

@@ -1,0 +1,51 @@
+ghost use Rattle.std.specs.Prelude.{◌≡◌, ◌<◌, ◌∷◌, [], length};
+ghost use Rattle.farebox.specs.Requests.{request_of, request_of_rest, is_quit};
+
+use crate::command::{Command, read_command};
+
+/// What a piece of the input asks for: a command, or nothing that is one.
+#[derive(Clone, Copy, Debug, PartialEq, Eq)]
+pub enum Request {
+    Command(Command),
+    BadLine,
+    LongLine,
+}
+
+/// The most bytes that a line may have, without its newline.
+pub const LINE_LIMIT: usize = 128;
+
+/// What a line asks for, which is given without its newline.
+#[tactic(auto, unfolding(crate::specs::Requests::request_of))]
+pub fn request_of(line: &[u8]) -> Request
+    ensures { result ≡ request_of line.now }
+{
+    if line.len() > LINE_LIMIT {
+        return Request::LongLine;
+    }
+    match read_command(line) {
+        Some(command) => Request::Command(command),
+        None => Request::BadLine,
+    }
+}
+
+/// What is asked for by bytes that no newline ends: nothing, since a number that is cut could be
+/// another number.
+pub fn request_of_rest(rest: &[u8]) -> Request
+    requires { 0 < length rest.now }
+    ensures { request_of_rest rest.now ≡ result ∷ [] }
+{
+    if rest.len() > LINE_LIMIT {
+        Request::LongLine
+    } else {
+        Request::BadLine
+    }
+}
+
+impl Request {
+    /// Whether it asks to end the session.
+    pub fn is_quit(self) -> bool
+        ensures { result ≡ is_quit self }
+    {
+        matches!(self, Request::Command(Command::Quit))
+    }
+}
