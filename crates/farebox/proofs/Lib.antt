@@ -1,13 +1,11 @@
-pub mod CommandLine
 pub mod Digits
 pub mod Fills
-pub mod Flags
 pub mod Held
-pub mod Levels
 pub mod LineLengths
 pub mod Numerals
 pub mod Pieces
 pub mod Rests
+pub mod RunLevel
 pub mod Spaces
 pub mod Spelled
 pub mod Steps
@@ -15,3 +13,6 @@ pub mod Takes
 pub mod Told
 pub mod Visible
 pub mod Whole
+pub mod WordKinds
+pub mod WordLevels
+pub mod WordsAsked

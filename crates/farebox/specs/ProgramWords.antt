@@ -1,11 +1,9 @@
 -- What the words of the process ask for.
 use Rattle.std.specs.Prelude.{◌≡◌, ◌==◌, ℕ, zero, suc, List, [], ◌∷◌, codes, refl}
-use Rattle.std.specs.Prelude.{Option, Some, None, slice_get, if◌then◌else◌}
-use Rattle.std.specs.Prelude.{◌⊎◌, ⊤}
+use Rattle.std.specs.Prelude.{◌⊎◌, ⊤, Option, Some, None, slice_get, if◌then◌else◌}
 use Rattle.std.specs.Str.{bytes_eq, chars}
 use Rattle.farebox.specs.declared.words.Job.{Job}
 use Rattle.farebox.specs.declared.words.Job.TheVariants.{Run}
-use Rattle.farebox.specs.declared.words.RunWords.{RunWords}
 use Rattle.farebox.specs.declared.words.WordsFault.{WordsFault}
 use Rattle.farebox.specs.declared.words.WordsFault.TheVariants.{Help, Usage, Memory}
 
@@ -14,11 +12,14 @@ Text = List ℕ
 
 -- ---- one word
 
--- a value; `--`, after which each word is a value; a call for help; any other option
+-- what a word is
 pub data Word : Type 0 where
   value : Word
+  -- `--`, after which each word is a value
   dashes : Word
+  -- `--help`, and `-h` with or without more letters
   call_for_help : Word
+  -- any other option
   option : Word
 
 -- by the first letter after the hyphen, where there is one: `-h` (104) calls for help
@@ -32,9 +33,9 @@ kind_after_hyphen rest = if bytes_eq rest (codes "-") then dashes
     else kind_by_letter (slice_get (chars rest) 0))
 
 -- a word that begins with a hyphen (45) and goes on is no value
-abbrev pub kind_of : Text → Word
-kind_of [] = value
-kind_of (b ∷ rest) = if b == 45 then kind_after_hyphen rest else value
+abbrev pub word_kind : Text → Word
+word_kind [] = value
+word_kind (b ∷ rest) = if b == 45 then kind_after_hyphen rest else value
 
 -- ---- the words of a program that takes values alone
 
@@ -66,16 +67,19 @@ given_by option n word rest next = refused
 -- the words, of which at most n may be values
 abbrev pub given : ℕ → List Text → Given
 given n [] = values []
-given n (word ∷ rest) = given_by (kind_of word) n word rest (λ m. given m rest)
+given n (word ∷ rest) = given_by (word_kind word) n word rest (λ m. given m rest)
 
 -- ---- the words of the process
 
--- the job of `run` with its values; help; the word `help`, which gets help, or usage where a word
--- after it names no program; usage
+-- what the words ask for
 pub data Asked : Type 0 where
+  -- `run` with its fare file and zone
   run : Text → Text → Asked
+  -- help, by `-h` or `--help`
   help_asked : Asked
+  -- the word `help`: help, or usage where a word after it names no program
   help_named : Asked
+  -- nothing that the program takes
   usage : Asked
 
 -- `run FARES ZONE`
@@ -90,7 +94,7 @@ option_asked _ = usage
 
 abbrev pub program_asked : Text → List Text → Asked
 program_asked program rest = if bytes_eq (codes "run") program then run_asked (given 2 rest)
-    else (if bytes_eq (codes "help") program then help_named else option_asked (kind_of program))
+    else (if bytes_eq (codes "help") program then help_named else option_asked (word_kind program))
 
 -- the first word is the program's own name, and the second names what it is to do
 abbrev pub asked : List Text → Asked
@@ -151,6 +155,10 @@ help_row = refl
 short_help_row : row (codes "-h" ∷ []) ≡ help_asked
 unfolding chars
 short_help_row = refl
+
+named_help_row : row (codes "help" ∷ []) ≡ help_named
+unfolding chars
+named_help_row = refl
 
 other_row : row (codes "fly" ∷ []) ≡ usage
 unfolding chars

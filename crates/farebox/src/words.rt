@@ -1,11 +1,13 @@
 //! The words that the program is started with, and the job that they ask for.
-ghost use Rattle.std.specs.Prelude.{◌≡◌, ◌≢◌, [], ◌∷◌, false, codes, drop, slice_index, IfOk, IfErr, IsOkAnd, MatchResult};
+ghost use Rattle.std.specs.Prelude.{◌≡◌, ◌≢◌, [], ◌∷◌, false, codes, drop, slice_index};
+ghost use Rattle.std.specs.Prelude.{IfOk, IfErr, IsOkAnd, MatchResult};
 ghost use Rattle.clap.specs.Walk.{texts};
 ghost use Rattle.clap.specs.Words.{app_of, first_value, found_of, kind_of};
 ghost use Rattle.clap.specs.declared.builder.command.Command.TheViews.{out-Command as fields_of};
-ghost use Rattle.farebox.specs.CommandLine.{GivesRun, IsFaultOfKind, IsHelpOrMemory, farebox_app, run_app};
-ghost use Rattle.farebox.specs.ProgramWords.{IsFaultOf, Text, asked, job_asked, job_words, without_dashes};
-ghost use Rattle.farebox.specs.ProgramWords.{run as run_asked};
+ghost use Rattle.farebox.specs.CommandLine.{GivesRun, IsFaultOfKind, IsHelpOrMemory};
+ghost use Rattle.farebox.specs.CommandLine.{farebox_app, run_app};
+ghost use Rattle.farebox.specs.ProgramWords.{IsFaultOf, Text, asked, job_asked, job_words};
+ghost use Rattle.farebox.specs.ProgramWords.{run as run_asked, without_dashes};
 ghost use Rattle.farebox.specs.declared.words.WordsFault.TheVariants.{Memory};
 
 use clap::error::ErrorKind;
@@ -13,7 +15,7 @@ use clap::{Arg, ArgMatches, Command, Error};
 use std::alloc::{AllocError, Global};
 
 /// The job that the words ask for, with its values.
-#[derive(Debug, PartialEq, Eq, Drop)]
+#[derive(Clone, Copy, Debug, PartialEq, Eq)]
 pub enum Job<'a> {
     /// `run FARES ZONE`: one session, from standard input to standard output.
     Run(RunWords<'a>),

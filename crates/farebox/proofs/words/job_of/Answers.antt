@@ -1,5 +1,5 @@
 use Rattle.clap.specs.Words.{found_of}
-use Rattle.farebox.proofs.CommandLine.{run_values}
+use Rattle.farebox.proofs.WordsAsked.{run_values}
 use Rattle.farebox.proofs.words.job_of.Goals as goal
 
 pub returns-in-Some-run-default : goal.returns-in-Some-run-default

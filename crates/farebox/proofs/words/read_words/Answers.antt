@@ -1,9 +1,9 @@
 use Rattle.std.proofs.Common.{◌≡◌, Err, ap, subst, List, []}
-use Rattle.clap.specs.Words.{App, HasMatchesOf, FailsBy, HasKind, Text, app_of, fault_of, is_simple_and_free, kind_of}
+use Rattle.clap.specs.Words.{App, HasMatchesOf, HasKind, Text, app_of, fault_of, is_simple_and_free, kind_of}
 use Rattle.clap.specs.Walk.{texts}
-use Rattle.farebox.specs.ProgramWords.{IsFaultOf, asked, job_asked}
+use Rattle.farebox.specs.ProgramWords.{asked}
 use Rattle.farebox.specs.CommandLine.{farebox_app}
-use Rattle.farebox.proofs.CommandLine.{answered, refused_as, result_job, result_no_fault, result_plain, result_words}
+use Rattle.farebox.proofs.WordsAsked.{answered, refused_as, result_job, result_no_fault, result_plain, result_words}
 use Rattle.farebox.proofs.words.read_words.Goals as goal
 
 pub returns-in-Ok-clause-job : goal.returns-in-Ok-clause-job

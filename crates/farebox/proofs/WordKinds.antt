@@ -1,20 +1,19 @@
 -- What `clap` makes of a word, where help is the only option.
-use Rattle.std.proofs.Common.{◌≡◌, ◌∙◌, ◌+◌, ◌&&◌, ◌||◌, ℕ, Bool, cond, codes, true, false, not, zero, suc, refl, sym, ap, ap₂, subst, arith, List, [], ◌∷◌, length, Option, Some, None, true≢false, eqb-true, eq-eqb, inl, inr}
+use Rattle.std.proofs.Common.{◌≡◌, ◌∙◌, ◌+◌, ◌||◌, ℕ, Bool, codes, true, false, not, suc, refl, sym, ap, subst, arith, List, [], ◌∷◌, Option, Some, None, true≢false, eqb-true, eq-eqb, inl, inr}
 use Rattle.std.proofs.lemmas.Bool.Decides.{eqb_tells}
-use Rattle.std.specs.Prelude.{encode_utf8, slice_get, ◌==◌, if◌then◌else◌}
+use Rattle.std.specs.Prelude.{slice_get, ◌==◌, if◌then◌else◌}
 use Rattle.std.specs.List.{after_first, before_first, list_all, prefix_len}
 use Rattle.std.specs.Str.{bytes_eq, chars}
 use Rattle.std.proofs.lemmas.Slice.Eq.{bytes_eq-Decides}
-use Rattle.clap.specs.Lexer.{has_byte, long_of, short_of}
-use Rattle.clap.specs.Walk.{Held, Names, Row, Rule, Step, Text, Waiting, idle, value, arg_by_long, arg_by_short, long_or_other, bundle_met}
+use Rattle.clap.specs.Lexer.{has_byte, long_of}
+use Rattle.clap.specs.Walk.{Held, Row, Rule, Text, idle, value, arg_by_long, arg_by_short, long_or_other, bundle_met}
 use Rattle.clap.specs.Simple.{help_rule}
-use Rattle.clap.specs.Kinds.{Kinds, or_else}
+use Rattle.clap.specs.Kinds.{Kinds}
 use Rattle.clap.specs.Faults.{flag_word_fault, long_fault, flags_fault, settle_fault}
-use Rattle.clap.specs.declared.builder.range.ValueRange.{ValueRange}
 use Rattle.clap.specs.declared.builder.value_parser.ValueParser.TheVariants as vp
 use Rattle.clap.specs.declared.error.kind.ErrorKind.{ErrorKind}
 use Rattle.clap.specs.declared.error.kind.ErrorKind.TheVariants.{DisplayHelp}
-use Rattle.farebox.specs.ProgramWords.{Word, kind_after_hyphen, kind_by_letter, kind_of}
+use Rattle.farebox.specs.ProgramWords.{Word, kind_after_hyphen, kind_by_letter, word_kind}
 use Rattle.farebox.specs.ProgramWords as words
 
 -- help's option, as the build fills it in
@@ -52,17 +51,16 @@ same_bytes a b e = (bytes_eq-Decides a b).0 e
 
 same_other_way : (a b : ℕ) → (a == b) ≡ false → (b == a) ≡ false
 same_other_way a b e = elim (eqb_tells b a) [
-    | inl h ↦
-        let is : (b == b) ≡ false = rw (← h.1) at e in
-        absurd (true≢false (sym (eq-eqb b b refl) ∙ is))
-    | inr h ↦ h.0
-  ]
+  | inl h ↦
+      let is : (b == b) ≡ false = rw (← h.1) at e in
+      absurd (true≢false (sym (eq-eqb b b refl) ∙ is))
+  | inr h ↦ h.0
+]
 
 module _ (c : List Rule)
     (long : (name : Text) → arg_by_long c name ≡ (if bytes_eq (codes "help") name || false then Some help_filled else None))
     (short : (x : ℕ) → arg_by_short c x ≡ (if (104 == x) || false then Some help_filled else None))
     (rows : List Row) (pending : Option (Text × List Text)) where
-
   abbrev held : Held
   held = record { rows = rows; pending = pending; skip = 0 }
 
@@ -132,10 +130,10 @@ module _ (c : List Rule)
       go true t = subst (λ v. Reads (kind_after_hyphen (v ∷ xs)) (45 ∷ v ∷ xs)) (sym (eqb-true x 45 t)) (long_word settles xs)
       go false t = simp t (letter settles x xs _ refl t)
 
-  pub reads : (settles : settle_fault c false held ≡ []) (w : Text) → Reads (kind_of w) w
+  pub reads : (settles : settle_fault c false held ≡ []) (w : Text) → Reads (word_kind w) w
   reads settles [] = (refl, refl, refl)
   reads settles (b ∷ rest) = go (b == 45) refl
     where
-      go : (t : Bool) → (b == 45) ≡ t → Reads (kind_of (b ∷ rest)) (b ∷ rest)
-      go true t = subst (λ v. Reads (kind_of (v ∷ rest)) (v ∷ rest)) (sym (eqb-true b 45 t)) (hyphen settles rest)
+      go : (t : Bool) → (b == 45) ≡ t → Reads (word_kind (b ∷ rest)) (b ∷ rest)
+      go true t = subst (λ v. Reads (word_kind (v ∷ rest)) (v ∷ rest)) (sym (eqb-true b 45 t)) (hyphen settles rest)
       go false t = rw t (rw t refl, rw (t, t) refl, rw (t, t) refl)

@@ -1,19 +1,18 @@
 -- What `clap` makes of the words of the process.
-use Rattle.std.proofs.Common.{◌≡◌, ◌∙◌, ◌||◌, ◌++◌, ℕ, Bool, cond, codes, true, false, zero, suc, refl, sym, ap, ap₂, subst, List, [], ◌∷◌, Option, Some, None, is_some, append-nil, append_assoc}
+use Rattle.std.proofs.Common.{◌≡◌, ◌∙◌, ◌||◌, ◌++◌, ℕ, Bool, codes, true, false, zero, suc, refl, sym, ap, ap₂, subst, List, [], ◌∷◌, Option, Some, None, is_some, append-nil, append_assoc}
 use Rattle.std.specs.Prelude.{fold, ◌==◌, if◌then◌else◌}
-use Rattle.std.specs.Str.{bytes_eq, chars}
-use Rattle.std.proofs.lemmas.Slice.Eq.{bytes_eq-Decides}
-use Rattle.clap.specs.Walk.{Names, Row, Rule, Text, Walk, idle, arg_by_long, arg_by_short, finished, settled, subcommand_met, walked}
-use Rattle.clap.specs.Simple.{App, Shape, built, built_leaf, entered, help_shape, names_of, new_shape, subcommand_of}
+use Rattle.std.specs.Str.{bytes_eq}
+use Rattle.clap.specs.Walk.{Names, Row, Text, Walk, idle, arg_by_long, arg_by_short, finished, settled, subcommand_met, walked}
+use Rattle.clap.specs.Simple.{App, Shape, built, built_leaf, entered, help_shape, new_shape, subcommand_of}
 use Rattle.clap.specs.Kinds.{Kinds, or_else}
 use Rattle.clap.specs.Faults.{check_fault, defaults_fault, entered_fault, fault_of, flags_fault, settle_fault, turn_fault, walk_fault}
 use Rattle.clap.specs.declared.error.kind.ErrorKind.TheVariants.{DisplayHelp, InvalidSubcommand, UnknownArgument}
-use Rattle.farebox.specs.ProgramWords.{Asked, Word, asked, given, kind_of, option_asked, program_asked, run_asked, run, help_asked, help_named, usage}
+use Rattle.farebox.specs.ProgramWords.{Asked, Word, asked, given, word_kind, option_asked, program_asked, run_asked, run, help_asked, help_named, usage}
 use Rattle.farebox.specs.ProgramWords as words
 use Rattle.std.proofs.Common.{◌⊎◌, inl, inr, true≢false, option_map, drop, Result, Ok, Err, IfOk, IfErr, MatchResult, slice_index, ◌≢◌}
 use Rattle.std.proofs.lemmas.Bool.Decides.{eqb_tells}
 use Rattle.std.specs.List.{list_all}
-use Rattle.clap.specs.Words.{HasMatchesOf, IsAmong, first_of, first_value, found_of, rows_of, subcommand_rows_of}
+use Rattle.clap.specs.Words.{HasMatchesOf, IsAmong, first_of, first_value, rows_of, subcommand_rows_of}
 use Rattle.clap.specs.declared.error.kind.ErrorKind.{ErrorKind}
 use Rattle.clap.specs.declared.error.kind.ErrorKind.TheVariants.{OutOfMemory}
 use Rattle.clap.specs.declared.parser.matches.ArgMatches.{ArgMatches}
@@ -26,8 +25,9 @@ use Rattle.farebox.specs.declared.words.WordsFault.{WordsFault}
 use Rattle.farebox.specs.declared.words.WordsFault.TheVariants.{Help, Usage, Memory}
 use Rattle.farebox.specs.ProgramWords.{Given, IsFaultOf, all_given, job_asked, job_words, given_by, with_value, values, help, refused, without_dashes}
 use Rattle.farebox.specs.CommandLine.{GivesRun, IsFaultOfKind, IsHelpOrMemory, farebox_app, values_in}
-use Rattle.farebox.proofs.Flags.{Reads, Refuses, help_filled, is_refusal, reads, same_bytes}
-use Rattle.farebox.proofs.Levels.{Ends, Level, place, refuses_first, run_ends, run_rows, run_long, run_rules, run_shape, run_short, turn_dashes, turn_helps, turn_refuses, turn_value, walked_dashes, rows_from}
+use Rattle.farebox.proofs.WordKinds.{Reads, Refuses, help_filled, is_refusal, reads, same_bytes}
+use Rattle.farebox.proofs.WordLevels.{Level, place, refuses_first, turn_dashes, turn_helps, turn_refuses, turn_value, walked_dashes, rows_from}
+use Rattle.farebox.proofs.RunLevel.{Ends, run_ends, run_rows, run_long, run_rules, run_shape, run_short}
 
 abbrev top_shape : Shape
 top_shape = record (new_shape (codes "farebox")) { rules = help_filled ∷ []; is_leaf = false; subcommand_required = true; is_built = true }
@@ -157,7 +157,7 @@ module _ (name word : Text) (rest : List Text) (unmet : subcommand_met names idl
       subst Refuses (sym step_kinds) (refuses_first (or_else t (walk_fault top_shape names after rest)) _ (refuses_first t (walk_fault top_shape names after rest) declined))
   option_comes words.value r =
       let stray : turn_fault top_shape names start word ≡ UnknownArgument ∷ InvalidSubcommand ∷ [] =
-          turn_value top_shape.rules top_long top_short top_shape names [] None 1 word unmet r in
+      turn_value top_shape.rules top_long top_short top_shape names [] None 1 word unmet r in
       subst Refuses (sym (step_kinds ∙ ap (λ (t : Kinds). first_kinds t after) stray)) refl
   option_comes words.dashes r =
       let passes = turn_dashes top_shape.rules top_long top_short top_shape names [] None 1 word unmet r in
@@ -178,9 +178,9 @@ comes (name ∷ word ∷ rest) = go (bytes_eq (codes "run") word) refl (bytes_eq
         (same_bytes (codes "help") word v) refl
     go false t false v =
         let unmet : subcommand_met names idle word ≡ None = rw (t, v) refl in
-        let asks : program_asked word rest ≡ option_asked (kind_of word) = rw (t, v) refl in
+        let asks : program_asked word rest ≡ option_asked (word_kind word) = rw (t, v) refl in
         subst (λ (x : Asked). Comes x (fault_of farebox_app (name ∷ word ∷ rest)) (subcommand_of farebox_app (name ∷ word ∷ rest))) (sym asks)
-        (option_comes name word rest unmet (kind_of word) (reads top_shape.rules top_long top_short [] None refl word))
+        (option_comes name word rest unmet (word_kind word) (reads top_shape.rules top_long top_short [] None refl word))
 
 -- ---- what the result says
 
@@ -232,14 +232,14 @@ refused_as ws k fault (inr among) is = go (asked ws) (comes ws)
     go : (x : Asked) → Comes x (fault_of farebox_app ws) (subcommand_of farebox_app ws) → IsFaultOf x fault
     go (run a b) h = absurd (subst (IsAmong k) h.0 among)
     go help_asked h = elim (subst (IsAmong k) h among) [
-        | inl e ↦ called_help help_asked fault (inl refl) (subst (λ (y : ErrorKind). IsFaultOfKind y fault) e is)
-        | inr bad ↦ absurd bad
-      ]
+      | inl e ↦ called_help help_asked fault (inl refl) (subst (λ (y : ErrorKind). IsFaultOfKind y fault) e is)
+      | inr bad ↦ absurd bad
+    ]
     go help_named h = elim (subst (IsAmong k) h among) [
-        | inl e ↦ called_help help_named fault (inr refl) (subst (λ (y : ErrorKind). IsFaultOfKind y fault) e is)
-        | inr (inl e) ↦ called_usage help_named fault (inr refl) (inl (subst (λ (y : ErrorKind). IsFaultOfKind y fault) e is))
-        | inr (inr bad) ↦ absurd bad
-      ]
+      | inl e ↦ called_help help_named fault (inr refl) (subst (λ (y : ErrorKind). IsFaultOfKind y fault) e is)
+      | inr (inl e) ↦ called_usage help_named fault (inr refl) (inl (subst (λ (y : ErrorKind). IsFaultOfKind y fault) e is))
+      | inr (inr bad) ↦ absurd bad
+    ]
     go usage h = called_usage usage fault (inl refl) (refusal_fault k fault (usage_among k (fault_of farebox_app ws) h among) is)
 
 -- the matches of `run` have its values
@@ -252,9 +252,10 @@ run_values m f fares zone same gives = go (subcommand_rows_of m) same gives
     go None e h = cc
     go (Some p) e h =
         let rows_are : rows_of f ≡ p.1 = cc in
-        let all : values_in p ≡ (codes "run", Some fares, Some zone) = cc in
-        (first_value-rows f (codes "FARES") ∙ (ap (first_of (codes "FARES")) rows_are ∙ ap (λ (t : Text × Option Text × Option Text). t.1) all),
-          first_value-rows f (codes "ZONE") ∙ (ap (first_of (codes "ZONE")) rows_are ∙ ap (λ (t : Text × Option Text × Option Text). t.2) all))
+        let all : values_in p ≡ (codes "run", Some fares, Some zone) = cc in (
+          first_value-rows f (codes "FARES") ∙ (ap (first_of (codes "FARES")) rows_are ∙ ap (λ (t : Text × Option Text × Option Text). t.1) all),
+          first_value-rows f (codes "ZONE") ∙ (ap (first_of (codes "ZONE")) rows_are ∙ ap (λ (t : Text × Option Text × Option Text). t.2) all),
+        )
 
 -- ---- the words in order
 
@@ -276,13 +277,13 @@ all_are (suc n) (word ∷ rest) vs e =
     let m = one_more word (all_given n rest) vs e in
     ap (λ (l : List Text). word ∷ l) (all_are n rest m.0 m.1) ∙ m.2
 
-any_row : (word : Text) → Reads run_rules run_long run_short [] None (kind_of word) word
+any_row : (word : Text) → Reads run_rules run_long run_short [] None (word_kind word) word
 any_row word = reads run_rules run_long run_short [] None refl word
 
 -- the values are the words, but for the first `--`
 given_are : (n : ℕ) (rest vs : List Text) → given n rest ≡ values vs → without_dashes rest ≡ vs
 given_are n [] vs e = ap listed e
-given_are n (word ∷ rest) vs e = go (kind_of word) (any_row word) n e (λ m ws h. given_are m rest ws h)
+given_are n (word ∷ rest) vs e = go (word_kind word) (any_row word) n e (λ m ws h. given_are m rest ws h)
   where
     go : (k : Word) → Reads run_rules run_long run_short [] None k word → (n : ℕ) → given_by k n word rest (λ m. given m rest) ≡ values vs
         → ((m : ℕ) (ws : List Text) → given m rest ≡ values ws → without_dashes rest ≡ ws) → without_dashes (word ∷ rest) ≡ vs
@@ -325,16 +326,16 @@ in_order (name ∷ word ∷ rest) a b e = go (bytes_eq (codes "run") word) refl 
         let asks : help_named ≡ run a b = rw (t, v) at e in
         cc
     go false t false v =
-        let asks : option_asked (kind_of word) ≡ run a b = rw (t, v) at e in
-        absurd (option_no_run (kind_of word) a b asks)
+        let asks : option_asked (word_kind word) ≡ run a b = rw (t, v) at e in
+        absurd (option_no_run (word_kind word) a b asks)
 
 -- two words with no hyphen before them are the values of `run`
-no_hyphen : (w : Text) → slice_index w 0 ≢ 45 → kind_of w ≡ words.value
+no_hyphen : (w : Text) → slice_index w 0 ≢ 45 → word_kind w ≡ words.value
 no_hyphen [] ne = refl
 no_hyphen (b ∷ rest) ne = elim (eqb_tells b 45) [
-    | inl h ↦ absurd (ne h.1)
-    | inr h ↦ rw h.0 refl
-  ]
+  | inl h ↦ absurd (ne h.1)
+  | inr h ↦ rw h.0 refl
+]
 
 pub asks_run : (ws : List Text) (name fares zone : Text) → ws ≡ name ∷ codes "run" ∷ fares ∷ zone ∷ [] → slice_index fares 0 ≢ 45 → slice_index zone 0 ≢ 45
     → asked ws ≡ run fares zone
