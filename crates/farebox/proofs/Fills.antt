@@ -5,7 +5,7 @@ use Rattle.std.proofs.KnownBytes.{starts_with_rest}
 use Rattle.std.specs.Io.{StartsWith}
 use Rattle.std.specs.Io.KnownBytes.{Keeps}
 use Rattle.std.specs.Io.BufRead.{DropsConsumable}
-use Rattle.farebox.specs.Session.{Answers, TakesAll, TakesToQuit, TakesToFault, BringsMore, BringsEnd, BringsQuit, LosesReader, LosesWriter}
+use Rattle.farebox.specs.SessionSteps.{Answers, TakesAll, TakesToQuit, TakesToFault, BringsMore, BringsEnd, BringsQuit, LosesReader, LosesWriter}
 use Rattle.farebox.specs.Machine.{Machine}
 use Rattle.farebox.proofs.Steps.{Answers_none, Tells_none}
 

@@ -1,3 +1,4 @@
+pub mod Cuts
 pub mod Digits
 pub mod Fills
 pub mod Held

@@ -3,7 +3,7 @@ use Rattle.std.proofs.Common.{◌≡◌, ℕ, ◌+◌, Bool, List, [], ◌∷◌
 use Rattle.std.specs.Io.KnownBytes.{Appends}
 use Rattle.farebox.specs.Requests.{request_of_rest}
 use Rattle.farebox.specs.Run.{run, reply_then, Outcome}
-use Rattle.farebox.specs.Session.{Replies, EndsRest, Tells}
+use Rattle.farebox.specs.SessionSteps.{Replies, EndsRest, Tells}
 use Rattle.farebox.specs.Machine.{Machine, Step, step}
 use Rattle.farebox.specs.declared.request.Request.{Request}
 use Rattle.farebox.proofs.Steps.{Tells_none, Tells_one}

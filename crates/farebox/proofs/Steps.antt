@@ -9,7 +9,8 @@ use Rattle.farebox.specs.Output.{AppendsFront}
 use Rattle.farebox.specs.Replies.{spelling_of_reply}
 use Rattle.farebox.specs.Requests.{has_newline, is_quit, line_requests, quits, request_of, request_of_rest, requests_of, rest_of, through_quit, unread}
 use Rattle.farebox.specs.Run.{run, Outcome, text_of, reply_then}
-use Rattle.farebox.specs.Session.{Answers, Quits, Breaks, Tells, EndsLine, Replies, Falters, TakesAll, TakesToQuit, TakesToFault, Ends, StopsReading, StopsWriting}
+use Rattle.farebox.specs.Session.{Ends, StopsReading, StopsWriting}
+use Rattle.farebox.specs.SessionSteps.{Answers, Quits, Breaks, Tells, EndsLine, Replies, Falters, TakesAll, TakesToQuit, TakesToFault}
 use Rattle.farebox.specs.Machine.{Machine, Step, step}
 use Rattle.farebox.specs.declared.reply.Reply.{Reply}
 use Rattle.farebox.specs.declared.request.Request.{Request}

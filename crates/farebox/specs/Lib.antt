@@ -11,4 +11,5 @@ pub mod Replies
 pub mod Requests
 pub mod Run
 pub mod Session
+pub mod SessionSteps
 pub mod Spellings

@@ -20,6 +20,7 @@ pub struct TapLine {
     pub utc: u64,
     /// The station or bus route, from 1.
     pub place: u16,
+    /// `IN`, `OUT` or `BUS`.
     pub kind: Kind,
 }
 

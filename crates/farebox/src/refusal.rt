@@ -15,7 +15,7 @@ pub enum Refusal {
     AccountFull,
     /// 50: the line spells no command.
     BadLine,
-    /// 51: the line has more bytes than any command.
+    /// 51: the line has more than 128 bytes.
     LongLine,
     /// 60: the command is not served yet.
     NotYet,

@@ -6,8 +6,11 @@ use crate::command::{Command, read_command};
 /// What a piece of the input asks for: a command, or nothing that is one.
 #[derive(Clone, Copy, Debug, PartialEq, Eq)]
 pub enum Request {
+    /// A line that spells this command.
     Command(Command),
+    /// A line that spells none, or bytes that no newline ends.
     BadLine,
+    /// More bytes than a line may have.
     LongLine,
 }
 

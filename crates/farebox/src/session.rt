@@ -3,7 +3,8 @@ ghost use Rattle.std.specs.Arc.{arc_value};
 ghost use Rattle.farebox.specs.Desk.{machine_of};
 ghost use Rattle.farebox.specs.Machine.{new_machine};
 ghost use Rattle.farebox.specs.Requests.{has_newline};
-ghost use Rattle.farebox.specs.Session.{Replies, Falters, EndsLine, TakesAll, TakesToQuit, TakesToFault, Brings, Loses, EndsRest, FaltersAtRest, Ends, FailsSo};
+ghost use Rattle.farebox.specs.Session.{Ends, FailsSo};
+ghost use Rattle.farebox.specs.SessionSteps.{Replies, Falters, EndsLine, TakesAll, TakesToQuit, TakesToFault, Brings, Loses, EndsRest, FaltersAtRest};
 
 use crate::cut::cut;
 use crate::desk::Desk;
@@ -17,17 +18,21 @@ use std::alloc::Global;
 use std::io::{BufRead, ErrorKind, Write};
 use std::sync::Arc;
 
-/// How a session ended.
+/// How a session ended by itself.
 #[derive(Clone, Copy, Debug, PartialEq, Eq)]
 pub struct Done {
+    /// The replies that were written and flushed.
     pub answered: u128,
+    /// Whether a `QUIT` ended the session, and not the end of the input.
     pub quit: bool,
 }
 
-/// A fault.
+/// What broke a session off. `answered` counts the replies that were written and flushed before.
 #[derive(Clone, Copy, Debug, PartialEq, Eq)]
 pub enum SessionFault {
+    /// The reader failed, or its buffer was filled [`FILLS`] times without an end.
     Read { answered: u128 },
+    /// The writer failed. Of the next reply it may hold a front.
     Write { answered: u128 },
 }
 
@@ -203,7 +208,7 @@ impl Session<'_> {
 /// a fault in the end.
 pub const FILLS: u32 = 16_777_216;
 
-/// Answers the lines of a reader by a machine, from its state on.
+/// Answers the lines of a reader at a desk, from the accounts that it has.
 pub fn run<R: BufRead, W: Write>(
     desk: Desk<'_>,
     reader: &mut R,
@@ -236,8 +241,9 @@ pub fn run<R: BufRead, W: Write>(
     })
 }
 
-/// Answers the lines of a reader, beginning with no accounts. This is the whole path: what is written
-/// is, for the lines of the input in order, the replies of the machine to what they ask for.
+/// Answers the lines of a reader, beginning with no accounts. This is the whole path: for a reader that
+/// tells its bytes and a writer that tells what it holds, what is written is, for the lines of the input in
+/// order, the replies of the machine to what they ask for.
 pub fn run_lines<R: BufRead, W: Write>(
     alloc: Global,
     reader: &mut R,
