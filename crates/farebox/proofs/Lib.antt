@@ -3,6 +3,7 @@ pub mod Digits
 pub mod Fills
 pub mod Held
 pub mod LineLengths
+pub mod Newlines
 pub mod Numerals
 pub mod Pieces
 pub mod Rests

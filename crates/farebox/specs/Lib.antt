@@ -2,6 +2,7 @@ pub mod Accounts
 pub mod CommandLine
 pub mod Commands
 pub mod Desk
+pub mod Faults
 pub mod Fields
 pub mod Machine
 pub mod Numbers

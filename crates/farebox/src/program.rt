@@ -1,4 +1,9 @@
 //! The program: its words, its streams and its statuses.
+ghost use Rattle.std.specs.Prelude.{◌≡◌, ◌≢◌};
+ghost use Rattle.std.specs.IoError.{error_kind};
+ghost use Rattle.farebox.specs.Faults.{IsRefusal, IsWantOfMemory, status_of, stream_fault};
+ghost use Rattle.pay_tables.specs.Fault.{fault_number, fault_name};
+
 use crate::session::{SessionFault, run_lines};
 use crate::words::{Job, RunWords, WordsFault, read_words};
 use jiff::tz::TimeZone;
@@ -41,7 +46,9 @@ const MEMORY: Fault = Fault::Refused {
 
 impl Fault {
     /// The status that the program ends with.
-    pub fn status(self) -> u8 {
+    pub fn status(self) -> u8
+        ensures { result ≡ status_of self }
+    {
         match self {
             Fault::Usage => 2,
             _ => 1,
@@ -50,12 +57,16 @@ impl Fault {
 }
 
 impl From<AllocError> for Fault {
+    ghost from_gives = { λ _ fault. IsWantOfMemory fault };
+
     fn from(_: AllocError) -> Fault {
         MEMORY
     }
 }
 
 impl From<FareFileFault> for Fault {
+    ghost from_gives = { λ of fault. IsRefusal fault (fault_number of) (fault_name of) };
+
     fn from(fault: FareFileFault) -> Fault {
         Fault::Refused {
             number: fault.number(),
@@ -65,6 +76,8 @@ impl From<FareFileFault> for Fault {
 }
 
 impl From<SessionFault> for Fault {
+    ghost from_gives = { λ of fault. fault ≡ stream_fault of };
+
     fn from(fault: SessionFault) -> Fault {
         match fault {
             SessionFault::Read { .. } => Fault::Input,
@@ -74,7 +87,10 @@ impl From<SessionFault> for Fault {
 }
 
 /// Want of memory, or else the fault that is at hand.
-fn memory_or(error: &io::Error, fault: Fault) -> Fault {
+fn memory_or(error: &io::Error, fault: Fault) -> Fault
+    ensures memory { error_kind error.now ≡ ErrorKind.OutOfMemory → IsWantOfMemory result }
+    ensures other { error_kind error.now ≢ ErrorKind.OutOfMemory → result ≡ fault }
+{
     if error.kind() == ErrorKind::OutOfMemory {
         MEMORY
     } else {
@@ -95,9 +111,7 @@ pub fn run<R: Env + Files + Input + Print + AllocGlobal>(rt: &R) -> Result<(), F
     }
     match read_words(rt.alloc(), words.as_slice()) {
         Ok(Job::Run(words)) => run_session(rt, &words),
-        Err(WordsFault::Help(text)) => {
-            rt.print(text.as_str()).map_err(|_| Fault::Output)
-        }
+        Err(WordsFault::Help(text)) => { rt.print(text.as_str()).map_err(|_| Fault::Output) }
         Err(WordsFault::Usage) => Err(Fault::Usage),
         Err(WordsFault::Memory) => Err(MEMORY),
     }
@@ -124,3 +138,6 @@ fn run_session<R: Files + Input + Print + AllocGlobal>(
     run_lines(rt.alloc(), &mut reader, &mut writer, &zone, &tables)?;
     Ok(())
 }
+
+#[cfg(test)]
+mod tests;
