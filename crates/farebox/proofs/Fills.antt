@@ -1,11 +1,11 @@
 -- What a fill of the reader's buffer brings to a session.
-use Rattle.std.proofs.Common.{◌≡◌, ◌≤◌, ℕ, ◌+◌, ◌-◌, List, [], ◌∷◌, ◌++◌, length, take, drop, sym, ap, ◌∙◌, subst, refl, arith, append_assoc, append-nil, Some, None, Option, IfSome, length-append}
+use Rattle.std.proofs.Common.{◌≡◌, ◌≤◌, ℕ, ◌-◌, List, [], ◌++◌, length, drop, sym, ap, ◌∙◌, subst, refl, arith, append_assoc, append-nil, Some, None, Option, IfSome, length-append}
 use Rattle.std.proofs.Math.Seq.{drop-append_seam}
 use Rattle.std.proofs.KnownBytes.{starts_with_rest}
 use Rattle.std.specs.Io.{StartsWith}
 use Rattle.std.specs.Io.KnownBytes.{Keeps}
 use Rattle.std.specs.Io.BufRead.{DropsConsumable}
-use Rattle.farebox.specs.SessionSteps.{Answers, TakesAll, TakesToQuit, TakesToFault, BringsMore, BringsEnd, BringsQuit, LosesReader, LosesWriter}
+use Rattle.farebox.specs.SessionSteps.{TakesAll, TakesToQuit, TakesToFault, BringsMore, BringsEnd, BringsQuit, LosesReader, LosesWriter}
 use Rattle.farebox.specs.Machine.{Machine}
 use Rattle.farebox.proofs.Steps.{Answers_none, Tells_none}
 

@@ -92,6 +92,7 @@ seen_after (Ok priced) es fs tap a w h e same = by_again priced.again refl
   where
     taps : Bool → Taps
     taps again = if again then a.taps else map.insert a.taps (number tap) tap
+
     by_again : (b : Bool) → priced.again ≡ b → seen fs ≡ accounts_after (Ok priced) (seen es) tap
     by_again true p =
         seen_same es fs tap.account a w h e (same ∙ ap taps p)
@@ -107,6 +108,7 @@ first_is_new tables tap priced e = by_place (is_known tables tap) (e ∙ ap (λ 
   where
     added : judged map.empty tap ≡ Ok Added
     added = ap (λ o. set_answer tap o (map.len (map.empty {X = Tap} {R = number_cmp}))) (get-empty number_cmp (number tap)) ∙ ap (λ n. if nat_le 16_384 n then Err AccountFull else Ok Added) (len-empty number_cmp Tap)
+
     by_place : (b : Bool) → Ok priced ≡ (if b then answered tables map.empty tap (Ok Added) else Err UnknownPlace) → priced.again ≡ false
     by_place true f = let same : priced ≡ prices tables (map.insert map.empty (number tap) tap) false tap.stamp.day = cc in ap (λ (p : Priced). p.again) same
     by_place false f = cc

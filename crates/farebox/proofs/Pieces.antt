@@ -1,13 +1,10 @@
 -- The lines of an input that comes in pieces.
-use Rattle.std.proofs.Common.{◌≡◌, ℕ, ◌+◌, ◌-◌, ◌<◌, ◌≤◌, Bool, true, false, ◌||◌, cond, nat_lt, ltb, eqb, List, [], ◌∷◌, ◌++◌, map, length, take, sym, ap, ◌∙◌, subst, refl, arith, append_assoc, append-nil, take_all, lt-ltb, length-append, length-take-le, take-append-drop, drop, eqb-true, inl, inr, rules}
+use Rattle.std.proofs.Common.{◌≡◌, ℕ, ◌<◌, Bool, true, false, ◌||◌, cond, eqb, List, [], ◌∷◌, ◌++◌, map, length, take, sym, ap, ◌∙◌, refl, arith, append_assoc, append-nil, take_all, lt-ltb, length-append, length-take-le, take-append-drop, drop, eqb-true, inl, inr}
 use Rattle.std.specs.Prelude.{◌⊎◌}
-use Rattle.std.specs.List.{list_any}
 use Rattle.std.proofs.lemmas.List.Folds.{list_any-append}
 use Rattle.std.proofs.lemmas.Bool.{cases_lt}
-use Rattle.std.proofs.lemmas.Grind.{common_steps}
 use Rattle.farebox.specs.Commands.{command_of}
 use Rattle.farebox.specs.Requests.{Line, asked, onto_first, lines_of, rest_of, has_newline, request_of, request_of_rest, line_requests, after_quit, unread, is_quit}
-use Rattle.farebox.specs.declared.request.Request.{Request}
 use Rattle.farebox.specs.declared.request.Request.TheVariants as requests
 
 pub false_or : (a b : Bool) → (a || b) ≡ false → (a ≡ false) × (b ≡ false)

@@ -1,10 +1,9 @@
 -- What no newline ends, at the end of a session.
-use Rattle.std.proofs.Common.{◌≡◌, ℕ, ◌+◌, Bool, List, [], ◌∷◌, length, subst, sym, ap, ◌∙◌, refl, Option}
-use Rattle.std.specs.Io.KnownBytes.{Appends}
+use Rattle.std.proofs.Common.{◌≡◌, ℕ, ◌+◌, List, [], ◌∷◌, subst, sym, ap, ◌∙◌, Option}
 use Rattle.farebox.specs.Requests.{request_of_rest}
-use Rattle.farebox.specs.Run.{run, reply_then, Outcome}
+use Rattle.farebox.specs.Run.{run}
 use Rattle.farebox.specs.SessionSteps.{Replies, EndsRest, Tells}
-use Rattle.farebox.specs.Machine.{Machine, Step, step}
+use Rattle.farebox.specs.Machine.{Machine, Step}
 use Rattle.farebox.specs.declared.request.Request.{Request}
 use Rattle.farebox.proofs.Steps.{Tells_none, Tells_one}
 

@@ -1,20 +1,19 @@
 -- How the steps of a session join.
-use Rattle.std.proofs.Common.{◌≡◌, ◌≤◌, ℕ, suc, ◌+◌, Bool, true, false, ◌||◌, cond, List, [], ◌∷◌, ◌++◌, map, length, take, sym, ap, ◌∙◌, subst, refl, arith, append_assoc, append-nil, length-append, Some, Option}
-use Rattle.std.specs.List.{list_any, flat_map}
+use Rattle.std.proofs.Common.{◌≡◌, ◌≤◌, ℕ, ◌+◌, Bool, true, false, ◌||◌, cond, List, [], ◌∷◌, ◌++◌, length, take, sym, ap, ◌∙◌, subst, refl, arith, append_assoc, append-nil, length-append, Option}
+use Rattle.std.specs.List.{list_any}
 use Rattle.std.proofs.lemmas.List.Folds.{list_any-append}
 use Rattle.std.proofs.lemmas.Grind.{flat_map-append}
 use Rattle.std.proofs.KnownBytes.{Appends-nil, Appends-trans}
 use Rattle.std.specs.Io.KnownBytes.{Appends}
 use Rattle.farebox.specs.Output.{AppendsFront}
 use Rattle.farebox.specs.Replies.{spelling_of_reply}
-use Rattle.farebox.specs.Requests.{has_newline, is_quit, line_requests, quits, request_of, request_of_rest, requests_of, rest_of, through_quit, unread}
+use Rattle.farebox.specs.Requests.{has_newline, is_quit, line_requests, quits, request_of, request_of_rest, rest_of, through_quit, unread}
 use Rattle.farebox.specs.Run.{run, Outcome, text_of, reply_then}
-use Rattle.farebox.specs.Session.{Ends, StopsReading, StopsWriting}
 use Rattle.farebox.specs.SessionSteps.{Answers, Quits, Breaks, Tells, EndsLine, Replies, Falters, TakesAll, TakesToQuit, TakesToFault}
 use Rattle.farebox.specs.Machine.{Machine, Step, step}
 use Rattle.farebox.specs.declared.reply.Reply.{Reply}
 use Rattle.farebox.specs.declared.request.Request.{Request}
-use Rattle.farebox.proofs.Pieces.{false_or, kept_alike, line_requests_line, line_requests_part, unread_line, unread_part, rest_of_line, rest_of_part, has_newline_both, has_newline_kept, request_of_kept}
+use Rattle.farebox.proofs.Pieces.{false_or, kept_alike, line_requests_line, unread_line, rest_of_line, has_newline_both, has_newline_kept}
 
 -- ---- runs
 
@@ -46,7 +45,14 @@ both_marked marks later done rs e f = omega (arith, length-append marks later, l
 
 pub Answers_none : (m : Machine) (x : List ℕ) → Answers m x [] m x
 Answers_none m x = record {
-  done = []; marks = []; requests = λ _. refl; rest = λ _. refl; unread = λ _. refl; goes_on = refl; marked = refl; outcome = refl;
+  done = [];
+  marks = [];
+  requests = λ _. refl;
+  rest = λ _. refl;
+  unread = λ _. refl;
+  goes_on = refl;
+  marked = refl;
+  outcome = refl;
 }
 
 pub Answers_then : (a b c : Machine) (x y z : List ℕ) (t u : List Reply) → Answers a x t b y → Answers b y u c z → Answers a x (t ++ u) c z
@@ -116,7 +122,7 @@ Quits_line a b line text rest mark reply h quit s =
     let whole = line ++ text in
     let first = request_of whole in
     let lines : (after : List ℕ) → line_requests ((line ++ (text ++ 10 ∷ rest)) ++ after) ≡ first ∷ line_requests (rest ++ after) =
-        λ after. ap line_requests (behind line text rest after) ∙ line_requests_line whole (rest ++ after) h in
+    λ after. ap line_requests (behind line text rest after) ∙ line_requests_line whole (rest ++ after) h in
     record {
       done = first ∷ [];
       marks = mark ∷ [];
@@ -132,7 +138,7 @@ Breaks_line a line text rest mark h =
     let whole = line ++ text in
     let first = request_of whole in
     let lines : (after : List ℕ) → line_requests ((line ++ (text ++ 10 ∷ rest)) ++ after) ≡ first ∷ line_requests (rest ++ after) =
-        λ after. ap line_requests (behind line text rest after) ∙ line_requests_line whole (rest ++ after) h in
+    λ after. ap line_requests (behind line text rest after) ∙ line_requests_line whole (rest ++ after) h in
     record {
       done = first ∷ [];
       marks = mark ∷ [];
@@ -143,6 +149,7 @@ Breaks_line a line text rest mark h =
   where
     others : Request → List Request → List Request
     others r rs = cond (is_quit r) [] (through_quit rs)
+
     through_first : (r : Request) (rs : List Request) → through_quit (r ∷ rs) ≡ r ∷ cond (is_quit r) [] (through_quit rs)
     through_first r rs = elim (is_quit r) as (λ b. cond b (r ∷ []) (r ∷ through_quit rs) ≡ r ∷ cond b [] (through_quit rs)) [ true ↦ refl | false ↦ refl ]
 

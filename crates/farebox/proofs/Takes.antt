@@ -1,5 +1,5 @@
 -- Fronts of lists, and of what a writer takes.
-use Rattle.std.proofs.Common.{◌≡◌, ℕ, ◌+◌, ◌-◌, ◌≤◌, min, List, [], ◌++◌, Option, Result, Ok, Err, IsOk, OnOk, length, take, drop, sym, ap, subst, ◌∙◌, arith, length-drop}
+use Rattle.std.proofs.Common.{◌≡◌, ℕ, ◌+◌, ◌-◌, ◌≤◌, min, List, ◌++◌, Option, Result, Ok, Err, IsOk, OnOk, length, take, drop, sym, ap, subst, ◌∙◌, arith, length-drop}
 use Rattle.std.proofs.Math.Seq.{take-append-add, take-length, take-add}
 use Rattle.std.proofs.lemmas.List.{take_min}
 use Rattle.std.proofs.KnownBytes.{Appends-trans}

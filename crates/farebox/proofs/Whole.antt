@@ -1,16 +1,12 @@
 -- A session from its start.
-use Rattle.std.proofs.Common.{◌≡◌, ℕ, ◌+◌, Bool, true, false, ◌||◌, cond, nat_lt, List, [], ◌∷◌, ◌++◌, map, length, sym, ap, ◌∙◌, subst, refl, arith, append_assoc, append-nil, Some, None, Ok, Err, Option, Result, IfSome, IfOk, IfErr, OnErr, length-append, zero-add}
+use Rattle.std.proofs.Common.{◌≡◌, ℕ, Bool, true, false, cond, nat_lt, List, [], ◌∷◌, ◌++◌, length, sym, ap, ◌∙◌, subst, refl, append_assoc, append-nil, Some, None, Ok, Err, Option, Result, IfSome, IfOk, IfErr, OnErr, zero-add}
 use Rattle.std.specs.List.{list_any}
-use Rattle.std.proofs.lemmas.List.Folds.{list_any-append}
-use Rattle.std.proofs.KnownBytes.{Appends-trans}
 use Rattle.std.specs.Io.KnownBytes.{Appends}
-use Rattle.farebox.specs.Output.{AppendsFront}
-use Rattle.farebox.specs.Replies.{spelling_of_reply}
 use Rattle.farebox.specs.Requests.{has_newline, is_quit, line_requests, quits, request_of_rest, requests_of, rest_of, through_quit, unread}
 use Rattle.farebox.specs.Run.{run, Outcome, text_of}
 use Rattle.farebox.specs.Session.{Ends, StopsReading, StopsWriting, FailsSo}
-use Rattle.farebox.specs.SessionSteps.{Answers, Quits, Breaks, Tells, TakesAll, TakesToFault, BringsMore, BringsEnd, BringsQuit, LosesReader, LosesWriter, EndsRest, FaltersAtRest, Falters, Brings, Loses}
-use Rattle.farebox.specs.Machine.{Machine, Step, step}
+use Rattle.farebox.specs.SessionSteps.{Tells, TakesAll, BringsMore, BringsEnd, BringsQuit, LosesReader, LosesWriter, EndsRest, FaltersAtRest, Brings, Loses}
+use Rattle.farebox.specs.Machine.{Machine, step}
 use Rattle.farebox.specs.declared.reply.Reply.{Reply}
 use Rattle.farebox.specs.declared.request.Request.{Request}
 use Rattle.farebox.specs.declared.request.Request.TheVariants as requests
@@ -19,7 +15,7 @@ use Rattle.farebox.specs.declared.session.Fill.{Fill}
 use Rattle.farebox.specs.declared.session.SessionFault.{SessionFault}
 use Rattle.farebox.specs.declared.session.SessionFault.TheVariants.{Read, Write}
 use Rattle.farebox.proofs.Pieces.{line_requests_part, rest_of_part, unread_part}
-use Rattle.farebox.proofs.Steps.{Answers_none, Answers_then, Answers_more, Tells_none, Tells_then, TakesAll_then, TakesToFault_then, Quits_then, Breaks_then, run_after, run_append, through_quit_append}
+use Rattle.farebox.proofs.Steps.{Answers_none, Answers_more, Tells_none, Tells_then, TakesAll_then, TakesToFault_then, Quits_then, run_after, run_append, through_quit_append}
 
 -- so far: the bytes that were taken from the input, and those that are left
 pub record Underway (m : Machine) (input : List ℕ) (remaining : Option (List ℕ)) (new : Machine) (line : List ℕ) (held taken : Option (List ℕ)) (answered : ℕ) : Type 0 where
@@ -161,9 +157,9 @@ pub Ends_end : (a c : Machine) (y : List ℕ) (first new h j k : Option (List �
 Ends_end a c y None new h j k n o p q = tt
 Ends_end a c y (Some input) new h j k n o p q =
     let replies : (run (p.marks ++ q.marks) a (requests_of input)).replies ≡ p.told ++ q.told =
-        ap (λ rs. (run (p.marks ++ q.marks) a rs).replies) p.requests
-        ∙ ap (λ (o : Outcome). o.replies) (run_after p.marks q.marks p.done (request_of_rest y) a c p.told p.marked p.outcome)
-        ∙ ap (λ l. p.told ++ l) q.replies in
+    ap (λ rs. (run (p.marks ++ q.marks) a rs).replies) p.requests
+    ∙ ap (λ (o : Outcome). o.replies) (run_after p.marks q.marks p.done (request_of_rest y) a c p.told p.marked p.outcome)
+    ∙ ap (λ l. p.told ++ l) q.replies in
     let tells = Tells_then h j k 0 n o p.told q.told p.tells q.tells in
     record {
       marks = p.marks ++ q.marks;

@@ -2,7 +2,7 @@
 use Rattle.std.specs.Prelude.{ℕ, Bool, false, List, [], ◌∷◌}
 use Rattle.std.specs.List.{flat_map}
 use Rattle.farebox.specs.Replies.{spelling_of_reply}
-use Rattle.farebox.specs.Machine.{Machine, Step, step}
+use Rattle.farebox.specs.Machine.{Machine, step}
 use Rattle.farebox.specs.declared.reply.Reply.{Reply}
 use Rattle.farebox.specs.declared.request.Request.{Request}
 

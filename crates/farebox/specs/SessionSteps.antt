@@ -6,7 +6,7 @@ use Rattle.farebox.specs.Output.{AppendsFront}
 use Rattle.farebox.specs.Replies.{spelling_of_reply}
 use Rattle.farebox.specs.Requests.{is_quit, line_requests, quits, request_of_rest, rest_of, through_quit, unread}
 use Rattle.farebox.specs.Run.{run, text_of}
-use Rattle.farebox.specs.Machine.{Machine, Step, step}
+use Rattle.farebox.specs.Machine.{Machine, step}
 use Rattle.farebox.specs.declared.reply.Reply.{Reply}
 use Rattle.farebox.specs.declared.request.Request.{Request}
 use Rattle.farebox.specs.declared.session.Fill.{Fill}

@@ -1,4 +1,4 @@
-use Rattle.std.proofs.Common.{◌≡◌, false, length, take, ap, ◌∙◌, sym, take_all, arith}
+use Rattle.std.proofs.Common.{length, ap, ◌∙◌, sym, take_all, arith}
 use Rattle.farebox.specs.Requests.{has_newline}
 use Rattle.farebox.proofs.Newlines.{no_newline_before}
 use Rattle.farebox.proofs.cut.cut.Goals as goal

@@ -1,7 +1,7 @@
-use Rattle.std.proofs.Common.{◌≡◌, false, ap, ◌∙◌, refl, arith, subst, sym}
+use Rattle.std.proofs.Common.{ap, arith}
 use Rattle.std.proofs.lemmas.Result.{err_from_is_err_and}
 use Rattle.farebox.specs.Requests.{has_newline}
-use Rattle.farebox.proofs.Whole.{brings_at, Ends_rest, FailsSo_rest, Underway_start, Underway_more, Ends_quit, AtEnd_brought, Ends_end, StopsWriting_end, StopsReading_underway, FailsSo_lost}
+use Rattle.farebox.proofs.Whole.{brings_at, Ends_rest, FailsSo_rest, Underway_start, Underway_more, Ends_quit, AtEnd_brought, StopsReading_underway, FailsSo_lost}
 use Rattle.farebox.proofs.session.run.Goals as goal
 
 pub loop-init : goal.loop-init

@@ -12,7 +12,7 @@ pub returns-in-Some-clause-after : goal.returns-in-Some-clause-after
 returns-in-Some-clause-after c =
     let h = c.get_mut.follows.holds c.tap.new.self in
     after_held c.self.inside.accounts.entries (c.get_mut.follows.lender c.tap.new.self).entries c.args.self.now c.args.tap c.in-Some.account.now c.tap.new.self c.tap.result c.self.view_is c.in-Some.ensures.value c.tap.ensures.after
-        (h.3 (ap is_some (sym c.in-Some.ensures.value))).0
+    (h.3 (ap is_some (sym c.in-Some.ensures.value))).0
 
 pub returns-in-None-clause-answer : goal.returns-in-None-clause-answer
 returns-in-None-clause-answer c = answer_of_none c.self.inside.accounts.entries c.args.self.now c.args.tables.now c.args.tap c.open.result c.self.view_is c.in-None.ensures.value c.open.ensures.answer

@@ -1,5 +1,5 @@
 use Rattle.farebox.proofs.Takes.{take_fitting, holds_if_ok}
-use Rattle.std.proofs.Common.{◌≤◌, ◌-◌, ◌+◌, length, take, min, arith, length-take-le, rules, ap, ◌∙◌, sym, ◌≡◌, ◌++◌, subst}
+use Rattle.std.proofs.Common.{◌≤◌, ◌-◌, ◌+◌, length, take, min, arith, length-take-le, ap, ◌∙◌, ◌≡◌, ◌++◌}
 use Rattle.farebox.proofs.line.LineBuffer.extend.Goals as goal
 
 pub returns : goal.returns

@@ -1,6 +1,6 @@
-use Rattle.std.proofs.Common.{◌≡◌, ◌∷◌, [], ap, sym, ◌∙◌}
+use Rattle.std.proofs.Common.{ap, sym, ◌∙◌}
 use Rattle.farebox.specs.Requests.{request_of_rest}
-use Rattle.farebox.proofs.Rests.{EndsRest_none, EndsRest_one}
+use Rattle.farebox.proofs.Rests.{EndsRest_one}
 use Rattle.farebox.proofs.session.Session.end.Goals as goal
 
 pub returns-clause-ok : goal.returns-clause-ok

@@ -11,7 +11,7 @@ returns-clause-ok g c =
     let text = c.args.text.now in
     let whole = has_newline_both line text c.requires.begun c.requires.text in
     let asked : c.request_of-request.result ≡ request_of (line ++ text) =
-        c.request_of-request.ensures ∙ ap request_of (c.as_slice.ensures.value ∙ c.extend.ensures) ∙ request_kept (line ++ text) in
+    c.request_of-request.ensures ∙ ap request_of (c.as_slice.ensures.value ∙ c.extend.ensures) ∙ request_kept (line ++ text) in
     EndsLine_answered _ _ line text _ _ c.request_of-request.result c.is_quit.result whole asked c.is_quit.ensures c.in_ok-answer.ensures.ok
 
 pub returns-in_err-answer-clause-err : goal.returns-in_err-answer-clause-err
@@ -21,5 +21,5 @@ returns-in_err-answer-clause-err g c =
     let text = c.args.text.now in
     let whole = has_newline_both line text c.requires.begun c.requires.text in
     let asked : c.request_of-request.result ≡ request_of (line ++ text) =
-        c.request_of-request.ensures ∙ ap request_of (c.as_slice.ensures.value ∙ c.extend.ensures) ∙ request_kept (line ++ text) in
+    c.request_of-request.ensures ∙ ap request_of (c.as_slice.ensures.value ∙ c.extend.ensures) ∙ request_kept (line ++ text) in
     rw p.1 (λ rest. TakesToFault_line _ line text rest _ _ _ c.request_of-request.result whole asked c.in_err-answer.ensures.err)

@@ -1,8 +1,4 @@
-use Rattle.std.proofs.Common.{◌≡◌, ◌++◌, false, take, ap, ◌∙◌, subst, sym}
 use Rattle.std.proofs.lemmas.Result.{err_from_is_err_and}
-use Rattle.farebox.specs.Requests.{has_newline}
-use Rattle.farebox.specs.SessionSteps.{TakesAll}
-use Rattle.farebox.proofs.Pieces.{has_newline_both, has_newline_kept}
 use Rattle.farebox.proofs.Steps.{TakesFront_none, TakesFront_line, TakesAll_part, unended_part, TakesToQuit_line, TakesToFault_front}
 use Rattle.farebox.proofs.session.Session.take.Goals as goal
 

@@ -28,5 +28,5 @@ returns-in-Some-clause-brings g c =
     let filled = subst (FillKeeps _ (g.R.Read.remaining rested) (g.R.BufRead.consumable_len rested)) c.in-Ok.is c.fill_buf.follows.holds-at-none in
     let within : length shown - c.in-Some.left ≤ length shown = omega arith in
     brings_quit _ _ shown c.in_ok-take.field-0 c.in-Some.left _ _ _ _ _ _ c.in-Ok.ensures.front
-        (consumed _ (g.R.Read.remaining rested) _ _ shown (length shown - c.in-Some.left) within filled.0 filled.1 c.consume-in-Some.ensures.bytes)
-        c.in-Some.is c.in_ok-take.ensures.quit
+    (consumed _ (g.R.Read.remaining rested) _ _ shown (length shown - c.in-Some.left) within filled.0 filled.1 c.consume-in-Some.ensures.bytes)
+    c.in-Some.is c.in_ok-take.ensures.quit
