@@ -18,6 +18,7 @@ use Rattle.pay_taps.specs.declared.tap.Tap.{Tap}
 abbrev pub TapsByAccount : Type 0
 TapsByAccount = FinMap nat_cmp Taps
 
+-- the code that a model of this type needs
 abbrev pub taps_by_account_code : Coded TapsByAccount
 taps_by_account_code = map.code coded_ℕ (map.code (coded× coded_ℕ coded_ℕ) tap.the_row.coded)
 

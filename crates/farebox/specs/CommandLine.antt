@@ -33,6 +33,7 @@ abbrev pub GivesRun : ArgMatches → Text → Text → Type 0
 GivesRun m fares zone =
     option_map values_in (subcommand_rows_of m) ≡ Some (codes "run", Some fares, Some zone)
 
+-- help was asked for, or memory was refused
 abbrev pub IsHelpOrMemory : WordsFault → Type 0
 IsHelpOrMemory (Help text) = ⊤
 IsHelpOrMemory Usage = ⊥

@@ -17,6 +17,7 @@ number_within low high word = do
   number ← number_of word
   if nat_le low number && nat_le number high then Some number else None
 
+-- the kind of a tap, in capital letters
 abbrev pub kind_of : List ℕ → Option Kind
 kind_of word =
     if bytes_eq word (codes "IN") then Some In
@@ -41,6 +42,7 @@ tap_of fields = do
 abbrev pub command_of_tap : TapLine → Command
 command_of_tap tap = elim tap.kind [ In ↦ NotYet | Out ↦ NotYet | Bus ↦ Tap tap ]
 
+-- the first word of a command
 abbrev pub keyword_of : List ℕ → Option Keyword
 keyword_of name =
     if bytes_eq name (codes "TAP") then Some keyword.Tap
@@ -56,6 +58,7 @@ command_for keyword.Tap fields = do
 command_for keyword.Quit fields = if has_none fields then Some Quit else None
 command_for keyword.Unserved fields = Some NotYet
 
+-- the first word says the command, and the others are its fields
 abbrev pub command_of_words : List (List ℕ) → Option Command
 command_of_words [] = None
 command_of_words (name ∷ fields) = do

@@ -2,6 +2,7 @@
 use Rattle.std.specs.Prelude.{◌≡◌, ℕ, ◌==◌, Bool, true, false, List, [], ◌∷◌, Option, Some, None}
 use Rattle.std.specs.List.{slice_split}
 
+-- byte 32
 abbrev pub is_space : ℕ → Bool
 is_space byte = byte == 32
 
@@ -14,6 +15,7 @@ abbrev pub words_after : List ℕ → List (List ℕ)
 words_after [] = []
 words_after (space ∷ line) = words line
 
+-- no words, not even an empty one
 abbrev pub has_none : List (List ℕ) → Bool
 has_none [] = true
 has_none (word ∷ more) = false

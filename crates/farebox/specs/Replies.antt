@@ -8,6 +8,7 @@ use Rattle.pay_account.specs.declared.fares.Priced.{Priced}
 use Rattle.farebox.specs.declared.reply.Reply.{Reply}
 use Rattle.farebox.specs.declared.reply.Reply.TheVariants as replies
 
+-- the number of a refusal, which stays its own
 abbrev pub refusal_number : Refusal → ℕ
 refusal_number OutOfTime = 1
 refusal_number UnknownPlace = 15
@@ -18,6 +19,7 @@ refusal_number LongLine = 51
 refusal_number NotYet = 60
 refusal_number Memory = 90
 
+-- the name of a refusal
 abbrev pub refusal_name : Refusal → List ℕ
 refusal_name OutOfTime = codes "OutOfTime"
 refusal_name UnknownPlace = codes "UnknownPlace"
@@ -37,6 +39,7 @@ words_of_priced p =
 abbrev pub words_of_refusal : Refusal → List (List ℕ)
 words_of_refusal r = codes "NO" ∷ decimal (refusal_number r) ∷ refusal_name r ∷ []
 
+-- the words of a reply, in order
 abbrev pub words_of_reply : Reply → List (List ℕ)
 words_of_reply (replies.Priced p) = words_of_priced p
 words_of_reply (replies.No r) = words_of_refusal r

@@ -22,6 +22,7 @@ abbrev pub lines_of : List ℕ → List Line
 lines_of [] = []
 lines_of (b ∷ bs) = if b == 10 then record { text = []; after = bs } ∷ lines_of bs else onto_first b (lines_of bs)
 
+-- whether a newline, byte 10, is there
 abbrev pub has_newline : List ℕ → Bool
 has_newline = list_any (λ b. b == 10)
 
@@ -44,10 +45,12 @@ abbrev pub request_of_rest : List ℕ → List Request
 request_of_rest [] = []
 request_of_rest (b ∷ bs) = (if nat_lt 128 (length (b ∷ bs)) then requests.LongLine else requests.BadLine) ∷ []
 
+-- whether a command ends the session
 abbrev pub asks_to_quit : Command → Bool
 asks_to_quit Quit = true
 asks_to_quit _ = false
 
+-- whether a request is that command
 abbrev pub is_quit : Request → Bool
 is_quit (requests.Command c) = asks_to_quit c
 is_quit _ = false
@@ -65,6 +68,7 @@ line_requests input = map (λ (l : Line). request_of l.text) (lines_of input)
 abbrev pub requests_of : List ℕ → List Request
 requests_of input = through_quit (line_requests input ++ request_of_rest (rest_of input))
 
+-- whether a line of the input ends the session
 abbrev pub quits : List ℕ → Bool
 quits input = list_any is_quit (line_requests input)
 

@@ -11,6 +11,7 @@ pub record Outcome : Type 0 where
   pub replies : List Reply
   pub after : Machine
 
+-- a reply before those of an outcome
 abbrev pub reply_then : Reply → Outcome → Outcome
 reply_then r o = record { replies = r ∷ o.replies; after = o.after }
 

@@ -1,3 +1,4 @@
 pub mod Counts
 pub mod Days
 mod Rows
+pub mod Answering

@@ -24,7 +24,7 @@ answered tables taps tap (Err fault) = Err (tap_fault fault)
 abbrev pub answer_to : FareTables → Taps → Tap → Result Priced TapFault
 answer_to tables taps tap = if is_known tables tap then answered tables taps tap (judged taps tap) else Err UnknownPlace
 
--- an answer is the one that is due, or want of memory where that is no refusal
+-- an answer is that one, or want of memory where that one is no refusal
 abbrev pub IsAnswer : Result Priced TapFault → FareTables → Taps → Tap → Type 0
 IsAnswer (Err Memory) tables taps tap = IsOk (answer_to tables taps tap)
 IsAnswer answer tables taps tap = answer ≡ answer_to tables taps tap

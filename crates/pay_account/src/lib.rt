@@ -4,6 +4,7 @@
 mod account;
 mod boarding;
 mod fares;
+pub mod laws;
 mod places;
 mod prices;
 

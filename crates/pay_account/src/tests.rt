@@ -1,3 +1,5 @@
+ghost use Rattle.std.specs.Prelude.{◌≡◌};
+
 use super::*;
 use pay_day::Moment;
 use pay_money::Pence;
@@ -27,19 +29,33 @@ fn read(alloc: Global) -> Result<Tables, FareFileFault> {
 }
 
 /// The answer of an account to a tap, asked for twice where memory is wanting once.
-fn answer<F: Fares>(account: &mut F, tables: &Tables, seq: u32, at: Moment, place: u16, kind: Kind) -> Result<Priced, TapFault> {
+fn asked_twice<F: Fares>(account: &mut F, tables: &Tables, tap: &Tap) -> Result<Priced, TapFault>
+    requires { tap.now.account ≡ F.account account.old }
+{
+    match account.tap(tables, *tap) {
+        Err(TapFault::Memory) => account.tap(tables, *tap),
+        answer => answer,
+    }
+}
+
+/// The answer of an account to a tap of reader 1.
+fn answer<F: Fares>(
+    account: &mut F,
+    tables: &Tables,
+    seq: u32,
+    stamp: Moment,
+    place: u16,
+    kind: Kind,
+) -> Result<Priced, TapFault> {
     let tap = Tap {
         account: account.number(),
         reader: 1,
         seq,
-        stamp: at,
+        stamp,
         place,
         kind,
     };
-    match account.tap(tables, tap) {
-        Err(TapFault::Memory) => account.tap(tables, tap),
-        answer => answer,
-    }
+    asked_twice(account, tables, &tap)
 }
 
 fn priced(again: bool, day: u32, day_price: u64, week_price: u64) -> Result<Priced, TapFault> {
@@ -52,17 +68,29 @@ fn priced(again: bool, day: u32, day_price: u64, week_price: u64) -> Result<Pric
 }
 
 const BEFORE_SEVEN: Parts = (1_704_696_200, 19_730, 24_200);
+
 const SEVEN: Parts = (1_704_697_200, 19_730, 25_200);
+
 const TEN_TO_EIGHT: Parts = (1_704_700_200, 19_730, 28_200);
+
 const EIGHT: Parts = (1_704_700_800, 19_730, 28_800);
+
 const SECOND_PAST_EIGHT: Parts = (1_704_700_801, 19_730, 28_801);
+
 const PAST_EIGHT: Parts = (1_704_702_200, 19_730, 30_200);
+
 const SUNDAY_BEFORE: Parts = (1_704_610_800, 19_729, 25_200);
+
 const SUNDAY: Parts = (1_705_215_600, 19_736, 25_200);
+
 const NEXT_MONDAY: Parts = (1_705_302_000, 19_737, 25_200);
+
 const LAST_OF_SATURDAY: Parts = (1_711_855_799, 19_812, 16_199);
+
 const FIRST_OF_SUNDAY: Parts = (1_711_855_800, 19_813, 16_200);
+
 const FIRST_INSTANT: Parts = (604_800, 6, 0);
+
 const LAST_INSTANT: Parts = (4_102_444_799, 47_481, 86_399);
 
 #[test]
@@ -74,7 +102,10 @@ fn prices_bus_taps(rt: HostRuntime) -> Result<(), Fail> {
     let rows: [&[(u32, Parts, bool, u64, u64)]; 8] = [
         &[(1, SEVEN, false, 175, 175)],
         &[(1, SEVEN, false, 175, 175), (2, EIGHT, false, 175, 175)],
-        &[(1, SEVEN, false, 175, 175), (2, SECOND_PAST_EIGHT, false, 350, 350)],
+        &[
+            (1, SEVEN, false, 175, 175),
+            (2, SECOND_PAST_EIGHT, false, 350, 350),
+        ],
         &[
             (1, SEVEN, false, 175, 175),
             (2, TEN_TO_EIGHT, false, 175, 175),
@@ -107,7 +138,11 @@ fn prices_bus_taps(rt: HostRuntime) -> Result<(), Fail> {
         for &(seq, (utc, day, second), again, day_price, week_price) in row {
             let at = Moment::from_parts(utc, day, second).ok_or("a number out of range")?;
             let is = answer(&mut account, &tables, seq, at, 50, Kind::Bus);
-            assert_eq!(rt; is, priced(again, day, day_price, week_price), "tap {seq} at {utc}");
+            assert_eq!(rt;
+                is,
+                priced(again, day, day_price, week_price),
+                "tap {seq} at {utc}"
+            );
         }
     }
     Ok(())
