@@ -2,3 +2,4 @@ pub mod Sorting
 pub mod Judgement
 pub mod Numbers
 pub mod TouchOrder
+mod Listed

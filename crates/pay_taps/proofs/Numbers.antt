@@ -1,14 +1,11 @@
 -- Numbers of taps as keys, and what a map under them keeps.
-use Rattle.std.proofs.Common.{◌≡◌, ℕ, ◌+◌, ◌<◌, Bool, true, false, cond, ◌&&◌, T, List, [], ◌∷◌, length, map, Option, Some, Ok, IfSome, is_some, Ordering, Less, Equal, Greater, nat_cmp, is_eq, is_lt, eqb-true, IsTrue, nat_eq, ◌↔◌, refl, sym, ap, ◌∙◌, subst, arith}
+use Rattle.std.proofs.Common.{◌≡◌, ℕ, ◌+◌, ◌<◌, true, false, cond, T, List, [], ◌∷◌, length, map, Option, Some, Ok, IfSome, is_some, Ordering, Less, Equal, Greater, nat_cmp, is_eq, eqb-true, IsTrue, nat_eq, ◌↔◌, refl, sym, ap, ◌∙◌, subst, arith}
 use Rattle.std.specs.Ordering.{eq_by_cmp}
-use Rattle.std.specs.Cmp.{IsTotalOrder, nat_cmp_total, eq_by_cmp_equiv}
-use Rattle.std.specs.List.{AllByRecursion}
-use Rattle.std.specs.List.Sorted.{IsStrictlySortedBy}
-use Rattle.std.specs.Map.{lookup, keys_of}
-use Rattle.std.specs.BTreeMap.{is_at}
-use Rattle.std.specs.FinMap.{get, len, insert, empty, entries, keys, values, from_entries, from_sorted, find, put, is_sorted, same_map, get-from_entries, get-from_sorted, get-entries, get-insert, len-entries, len-insert, len-empty, empty_of_len, entries-from_sorted, entries-insert}
-use Rattle.std.specs.FinMap.Entries.{below_all, by_order}
+use Rattle.std.specs.Cmp.{IsTotalOrder, nat_cmp_total}
+use Rattle.std.specs.FinMap.{get, len, insert, empty, entries, keys, values, from_entries, from_sorted, find, put, is_sorted, same_map, get-from_entries, get-from_sorted, get-entries, len-entries, len-insert, len-empty, empty_of_len, entries-from_sorted, entries-insert}
+use Rattle.std.specs.FinMap.Entries.{by_order}
 use Rattle.std.proofs.lemmas.Cmp.{on_total, then_total}
+use Rattle.std.proofs.lemmas.List.{length-map}
 use Rattle.std.proofs.lemmas.Map.Lookups.{CmpEqualImpliesEq, exact_pairs, exact_unsigned}
 use Rattle.pay_taps.specs.declared.tap.Tap.{Tap}
 use Rattle.pay_taps.specs.declared.tap_set.Addition.TheVariants.{Added}
@@ -30,51 +27,15 @@ equal Greater e = absurd (cc)
 pub same_number : (q k : ℕ × ℕ) → eq_by_cmp number_cmp q k ≡ true → q ≡ k
 same_number q k e = exact_numbers q k (equal _ e)
 
-abbrev pub tap_values : List ((ℕ × ℕ) × Tap) → List Tap
-tap_values es = map (λ e. e.1) es
-
--- ---- a tree's entries as a map
-
--- what the entries have at a number
-abbrev pub tap_at : List ((ℕ × ℕ) × Tap) → ℕ × ℕ → Option Tap
-tap_at es q = lookup (is_at (number_cmp q)) es
-
-find_tap : (es : List ((ℕ × ℕ) × Tap)) (q : ℕ × ℕ) → find number_cmp q es ≡ tap_at es q
-find_tap [] q = refl
-find_tap (e ∷ es) q = ap (cond (is_at (number_cmp q) e.0) (Some e.1)) (find_tap es q)
-
--- what the map that the entries make has at a number
-pub get_tap : (es : List ((ℕ × ℕ) × Tap)) (q : ℕ × ℕ) → get (from_entries {R = number_cmp} es) q ≡ tap_at es q
-get_tap es q = get-from_entries number_total es q ∙ find_tap es q
-
--- entries that differ at one number make maps that differ there
-pub one_added : (es fs : List ((ℕ × ℕ) × Tap)) (k : ℕ × ℕ) (t : Tap) → ((q : ℕ × ℕ) → tap_at fs q ≡ cond (is_at (number_cmp k) q) (Some t) (tap_at es q)) → from_entries {R = number_cmp} fs ≡ insert (from_entries es) k t
-one_added es fs k t h = same_map number_total exact_numbers _ _ (λ q.
-    get_tap fs q ∙ h q ∙ ap (λ b. cond b (Some t) (tap_at es q)) ((eq_by_cmp_equiv number_total).symm k q)
-    ∙ sym (get-insert number_total (from_entries es) k t q ∙ ap (cond (eq_by_cmp number_cmp q k) (Some t)) (get_tap es q)))
-
-both : (a b : Bool) → T a → T b → T (a && b)
-both true b p q = q
-both false b p q = p
-
-below : (k : ℕ × ℕ) (es : List ((ℕ × ℕ) × Tap)) → AllByRecursion (λ y. number_cmp k y ≡ Less) (keys_of es) → T (below_all number_cmp k es)
-below k [] h = tt
-below k (e ∷ es) h = both _ _ (subst (λ r. T (is_lt r)) (sym h.0) tt) (below k es h.1)
-
-sorted : (es : List ((ℕ × ℕ) × Tap)) → IsStrictlySortedBy number_cmp (keys_of es) → T (is_sorted number_cmp es)
-unfolding IsStrictlySortedBy
-sorted [] h = tt
-sorted (e ∷ es) h = both _ _ (below e.0 es h.0) (sorted es h.1)
-
 -- entries in order are those of the map that they make
-pub entries_made : (es : List ((ℕ × ℕ) × Tap)) → IsStrictlySortedBy number_cmp (keys_of es) → entries (from_entries {R = number_cmp} es) ≡ es
+pub entries_made : (es : List ((ℕ × ℕ) × Tap)) → T (is_sorted number_cmp es) → entries (from_entries {R = number_cmp} es) ≡ es
 entries_made es h =
     let one : from_entries {R = number_cmp} es ≡ from_sorted es = same_map number_total exact_numbers _ _ (λ q.
-    get-from_entries number_total es q ∙ sym (get-from_sorted number_cmp es q (sorted es h))) in
-    ap entries one ∙ entries-from_sorted number_cmp es (sorted es h)
+    get-from_entries number_total es q ∙ sym (get-from_sorted number_cmp es q h)) in
+    ap entries one ∙ entries-from_sorted number_cmp es h
 
-pub len_made : (es : List ((ℕ × ℕ) × Tap)) → IsStrictlySortedBy number_cmp (keys_of es) → len (from_entries {R = number_cmp} es) ≡ length es
-len_made es h = len-entries _ ∙ ap length (entries_made es h)
+pub length_values : (taps : Taps) → length (values taps) ≡ len taps
+length_values taps = length-map (entries taps) (λ e. e.1) ∙ sym (len-entries taps)
 
 -- ---- each tap at its own number
 
@@ -107,7 +68,6 @@ own_numbers-insert taps t own =
 -- ---- a set of taps
 
 pub nothing_made : entries (from_entries {K = ℕ × ℕ} {X = Tap} {R = number_cmp} []) ≡ []
-unfolding IsStrictlySortedBy
 nothing_made = entries_made [] tt
 
 pub none_made : (es : List ((ℕ × ℕ) × Tap)) → es ≡ [] → IsTapSet (from_entries es)

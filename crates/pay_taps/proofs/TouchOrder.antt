@@ -25,6 +25,10 @@ touches_total = then_total (then_total (then_total (on_total (λ t. t.stamp.utc)
 pub touches_ranked : IsStrictWeakOrder comes_before
 touches_ranked = ranks_by touches_total (λ t. t)
 
+-- what has a touch is ranked by it
+pub ranked_by : {X : Type 0} (touch : X → Touch) → IsStrictWeakOrder (λ a b. comes_before (touch a) (touch b))
+ranked_by touch = ranks_by touches_total touch
+
 -- what a touch is sorted by
 abbrev pub touch_key : Touch → ℕ × Bool × ℕ × ℕ
 touch_key t = (t.stamp.utc, t.filled, t.first, t.second)

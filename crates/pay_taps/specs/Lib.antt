@@ -1,2 +1,3 @@
 pub mod Taps
 pub mod Order
+pub mod Listed

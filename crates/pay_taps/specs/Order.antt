@@ -22,15 +22,26 @@ touch_cmp a b = ordering_then (ordering_then (ordering_then (nat_cmp a.stamp.utc
 abbrev pub comes_before : Touch → Touch → Bool
 comes_before a b = is_lt (touch_cmp a b)
 
--- a touch among touches in order: before the first that it does not come after
-abbrev pub put_in : Touch → List Touch → List Touch
-put_in touch [] = touch ∷ []
-put_in touch (other ∷ others) = if comes_before other touch then other ∷ put_in touch others else touch ∷ other ∷ others
+-- what has a touch is ordered by it
+abbrev pub cmp_by : {X : Type 0} → (X → Touch) → X → X → Ordering
+cmp_by touch a b = touch_cmp (touch a) (touch b)
 
--- touches in order; those that tie stay as they stand
+-- what has a touch among its like in order: before the first that it does not come after
+abbrev pub put_in_by : {X : Type 0} → (X → Touch) → X → List X → List X
+put_in_by touch x [] = x ∷ []
+put_in_by touch x (other ∷ others) = if comes_before (touch other) (touch x) then other ∷ put_in_by touch x others else x ∷ other ∷ others
+
+-- all that has a touch in order of the touches; what ties stays as it stands
+abbrev pub in_order_by : {X : Type 0} → (X → Touch) → List X → List X
+in_order_by touch [] = []
+in_order_by touch (x ∷ others) = put_in_by touch x (in_order_by touch others)
+
+-- touches in order
+abbrev pub put_in : Touch → List Touch → List Touch
+put_in = put_in_by (λ touch. touch)
+
 abbrev pub in_order : List Touch → List Touch
-in_order [] = []
-in_order (touch ∷ others) = put_in touch (in_order others)
+in_order = in_order_by (λ touch. touch)
 
 -- no touch comes before the one that stands before it
 abbrev pub IsInOrder : List Touch → Type 0

@@ -1,13 +1,13 @@
 //! Laws of taps and of their order. Each is the contract of a function that does nothing: a caller
 //! whose proof needs a law calls its function.
-ghost use Rattle.std.specs.Prelude.{◌≡◌, ◌≢◌, ◌↔◌, ◌<◌, ◌≤◌, List, [], ◌∷◌, ◌++◌, IsPermutation};
+ghost use Rattle.std.specs.Prelude.{◌≡◌, ◌≢◌, ◌↔◌, ◌<◌, ◌≤◌, List, [], ◌∷◌, ◌++◌, IsPermutation, IsSorted};
 ghost use Rattle.std.specs.Prelude.{map as each};
 ghost use Rattle.std.specs.FinMap as map;
 ghost use Rattle.std.specs.List.Sorted.{IsStable};
 ghost use Rattle.pay_taps.specs.declared.tap.Tap.{Tap};
 ghost use Rattle.pay_taps.specs.declared.tap.Touch.{Touch};
 ghost use Rattle.pay_taps.specs.Taps.{Taps, IsTapSet, number, judged};
-ghost use Rattle.pay_taps.specs.Order.{touch_of, touch_cmp, touches, put_in, in_order, IsInOrder, HaveOwnNumbers};
+ghost use Rattle.pay_taps.specs.Order.{touch_of, touch_cmp, cmp_by, touches, put_in, in_order, in_order_by, IsInOrder, HaveOwnNumbers};
 
 use crate::tap_set::{Addition, TapSetFault};
 
@@ -63,4 +63,11 @@ pub fn order_forgets_arrival()
     ensures own_numbers { (taps : Taps) → IsTapSet taps → HaveOwnNumbers (each touch_of (map.values taps)) }
     ensures one_order { (list other : List Touch) → HaveOwnNumbers list → IsPermutation list other
         → in_order list ≡ in_order other }
+{}
+
+/// What has a touch, as a journey has its first one, has one order too: a list in order, in which what
+/// ties stands as in another list, is that other list in order.
+pub fn sorting<X>()
+    ensures { (touch : X → Touch) (list sorted : List X) → IsSorted (cmp_by touch) sorted → IsStable (cmp_by touch) list sorted
+        → sorted ≡ in_order_by touch list }
 {}

@@ -8,6 +8,6 @@ mod tap_set;
 #[cfg(test)]
 mod tests;
 
-pub use order::{sort_touches, touches, touches_of};
+pub use order::{sort_touches, touches, touches_of, touches_with};
 pub use tap::{Kind, Tap, Touch};
 pub use tap_set::{Addition, TAPS_OF_AN_ACCOUNT, TapSet, TapSetFault};

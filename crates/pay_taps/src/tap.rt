@@ -20,12 +20,12 @@ pub struct Tap {
     pub reader: u16,
     /// The reader's count of taps.
     pub seq: u32,
-    /// The instant, and where it falls.
-    pub stamp: Moment,
     /// The station, or the route of a bus or a tram.
     pub place: u16,
     /// Where the tap was made.
     pub kind: Kind,
+    /// The instant, and where it falls.
+    pub stamp: Moment,
 }
 
 /// An effective tap: an accepted tap, or the tap that a standing Fill adds. Its number is (`first`,

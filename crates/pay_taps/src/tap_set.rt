@@ -1,10 +1,10 @@
-ghost use Rattle.std.specs.Prelude.{◌≡◌, ◌≤◌, ◌↔◌, IsTrue, IfOk, IfSome};
+ghost use Rattle.std.specs.Prelude.{◌≡◌, ◌≤◌, ◌↔◌, length, IsTrue, IfOk, IfSome};
 ghost use Rattle.std.specs.FinMap as map;
-ghost use Rattle.pay_taps.specs.Taps.{IsTapSet, number, judged, IsAnswer, taps_after};
+ghost use Rattle.std.specs.List.Sorted.{IsBinarySearchResult, IsSearchInRange};
+ghost use Rattle.pay_taps.specs.Taps.{IsTapSet, number, number_cmp, judged, IsAnswer, taps_after};
 
 use crate::tap::Tap;
 use std::alloc::{AllocError, AllocFailed, Global};
-use std::collections::BTreeMap;
 use std::marker::Model;
 
 /// How many taps an account may have.
@@ -45,22 +45,32 @@ impl<T: Drop> From<AllocFailed<T>> for TapSetFault {
 /// tap, of at most `TAPS_OF_AN_ACCOUNT` taps.
 #[derive(Drop)]
 pub struct TapSet {
-    taps: BTreeMap<(u16, u32), Tap>,
+    // In ascending order of their numbers: the few taps of an account lie side by side.
+    taps: Vec<Tap>,
 }
 
 impl Model for TapSet {
     ghost use Rattle.std.specs.FinMap as map;
     ghost use Rattle.std.specs.Coded.{coded×, coded_ℕ};
     ghost use Rattle.pay_taps.specs.contracts.tap.Tap as tap;
-    ghost use Rattle.pay_taps.specs.Taps.{Taps, IsTapSet};
+    ghost use Rattle.pay_taps.specs.Taps.{Taps};
+    ghost use Rattle.pay_taps.specs.Listed.{set_of, IsListed};
 
     ghost Value = { Taps };
 
     ghost coded = { map.code (coded× coded_ℕ coded_ℕ) tap.the_row.coded };
 
-    ghost view = { λ set. map.from_entries set.taps.entries };
+    ghost view = { λ set. set_of set.taps.items };
 
-    ghost invariant = { λ set. IsTapSet (map.from_entries set.taps.entries) };
+    ghost invariant = { λ set. IsListed set.taps.items };
+}
+
+/// Where the tap of a number stands in taps by ascending numbers, or else where it would stand.
+fn position(taps: &[Tap], reader: u16, seq: u32) -> Result<usize, usize>
+    ensures in_range { IsSearchInRange result (length taps.now) }
+    ensures position { IsBinarySearchResult (λ tap. number_cmp (number tap) (reader, seq)) taps.now result }
+{
+    taps.binary_search_by_key(&(reader, seq), |tap| (tap.reader, tap.seq))
 }
 
 impl TapSet {
@@ -69,7 +79,7 @@ impl TapSet {
         ensures { result ≡ map.empty }
     {
         TapSet {
-            taps: BTreeMap::new(alloc),
+            taps: Vec::new(alloc),
         }
     }
 
@@ -78,7 +88,7 @@ impl TapSet {
         ensures value { result ≡ map.len self.now }
         ensures tap_set { IsTapSet self.now }
     {
-        self.taps.len()
+        self.as_slice().len()
     }
 
     /// Whether there is no tap.
@@ -93,15 +103,26 @@ impl TapSet {
         ensures value { result ≡ map.get self.now (reader, seq) }
         ensures own_number { IfSome result (λ tap. number tap ≡ (reader, seq)) }
     {
-        self.taps.get(&(reader, seq)).copied()
+        match position(&self.taps, reader, seq) {
+            Ok(at) => Some(self.taps[at]),
+            Err(_) => None,
+        }
     }
 
     /// The taps in ascending order of their numbers: by reader, then by seq.
+    pub fn as_slice(&self) -> &[Tap]
+        ensures all { result.now ≡ map.values self.now }
+        ensures tap_set { IsTapSet self.now }
+    {
+        self.taps.as_slice()
+    }
+
+    /// The same taps, copied.
     pub fn list(&self, alloc: Global) -> Result<Vec<Tap>, AllocError>
         ensures all { IfOk result (λ taps. taps.items ≡ map.values self.now) }
         ensures tap_set { IsTapSet self.now }
     {
-        self.taps.values().copied().collect(alloc)
+        Vec::from_slice(alloc, self.as_slice())
     }
 
     /// What `add` would answer where memory suffices. It takes none.
@@ -126,7 +147,10 @@ impl TapSet {
     {
         let addition = self.judge(&tap)?;
         if addition == Addition::Added {
-            self.taps.insert((tap.reader, tap.seq), tap)?;
+            let Err(at) = position(&self.taps, tap.reader, tap.seq) else {
+                unreachable!()
+            };
+            self.taps.insert(at, tap)?;
         }
         Ok(addition)
     }

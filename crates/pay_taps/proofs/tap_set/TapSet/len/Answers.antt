@@ -1,7 +1,6 @@
-use Rattle.std.proofs.Common.{◌∙◌, ap, sym}
-use Rattle.std.specs.FinMap as map
-use Rattle.pay_taps.proofs.Numbers.{len_made}
+use Rattle.std.proofs.Common.{◌∙◌, ap, length}
+use Rattle.pay_taps.proofs.Numbers.{length_values}
 use Rattle.pay_taps.proofs.tap_set.TapSet.len.Goals as goal
 
 pub returns-clause-value : goal.returns-clause-value
-returns-clause-value c = c.len.ensures.len ∙ sym (len_made _ c.len.ensures.ordered) ∙ ap (λ m. map.len m) c.self.view_is
+returns-clause-value c = ap length c.as_slice.ensures.all ∙ length_values c.args.self.now
