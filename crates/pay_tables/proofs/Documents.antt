@@ -1,14 +1,14 @@
 -- Only a text that is no document is refused as such.
-use Rattle.std.proofs.Common.{◌≡◌, ℕ, ℤ, pos, negsuc, Bool, true, false, cond, List, [], ◌∷◌, Option, Some, None, Result, Ok, Err, refl, sym, ap, ◌∙◌, codes}
-use Rattle.std.specs.Prelude.{ok_or, nat_le, nat_eq, nat_lt, ◌&&◌, is_some}
-use Rattle.std.specs.List.{list_any}
+use Rattle.std.proofs.Common.{◌≡◌, ℕ, ℤ, ◌+◌, ◌-◌, pos, negsuc, min, Bool, true, false, cond, List, [], Option, Some, None, Result, Ok, Err, refl, sym, ap, ◌∙◌, codes}
+use Rattle.std.specs.Prelude.{ok_or, nat_le, nat_lt, ◌==◌, ◌&&◌, is_some}
 use Rattle.toml.specs.Data.{Data, Items, no_items, item, Members, get_member, as_integer, as_table, as_array}
 use Rattle.pay_tables.specs.declared.fault.FareFileFault.{FareFileFault}
-use Rattle.pay_tables.specs.declared.fault.FareFileFault.TheVariants.{NotToml, WrongType, OutOfRange, Duplicate, TooMany, BandsNotYet}
+use Rattle.pay_tables.specs.declared.fault.FareFileFault.TheVariants.{NotToml, MissingKey, WrongType, OutOfRange, Duplicate, TooMany, BandsNotYet}
 use Rattle.pay_tables.specs.declared.place.Place.{Place}
+use Rattle.pay_tables.specs.declared.single.Single.{Single}
 use Rattle.pay_tables.specs.Fault.{◌>>=◌}
-use Rattle.pay_tables.specs.Keys.{needed, integer_in, integer_of, integer_at, table_of, table_at, items_len, items_of, items_or_none, items_at}
-use Rattle.pay_tables.specs.FareFile.{rules_of, route_of, places_of, places_at, fare_file}
+use Rattle.pay_tables.specs.Keys.{needed, integer_in, integer_of, integer_at, table_of, table_at, array_of, array_at, items_len, items_of, items_or_none, items_at}
+use Rattle.pay_tables.specs.FareFile.{with_each, with_minutes, minutes_of, minutes_at, rules_of, single_of, with_single, singles_of, singles_at, has_single, has_each_single, has_holiday, with_holiday, holidays_at, station_of, route_of, is_taken, with_place, with_station, with_route, places_at, fare_file}
 
 abbrev other_fault : FareFileFault → Bool
 other_fault NotToml = false
@@ -35,15 +35,38 @@ ok_or_other : {A : Type 0} (o : Option A) → other (ok_or o WrongType) ≡ true
 ok_or_other None = refl
 ok_or_other (Some x) = refl
 
+with_each_other : {A : Type 0} (with_one : A → Data → Result A FareFileFault) → ((before : A) (d : Data) → other (with_one before d) ≡ true) → (before : A) (items : Items) → other (with_each with_one before items) ≡ true
+with_each_other with_one h before no_items = refl
+with_each_other with_one h before (item d ds) = then_other (with_one before d) _ (h before d) (λ now. with_each_other with_one h now ds)
+
 integer_in_other : (least most : ℕ) (z : ℤ) → other (integer_in least most z) ≡ true
 integer_in_other least most (pos n) = cond_other (nat_le least n && nat_le n most) (Ok n) (Err OutOfRange) refl refl
 integer_in_other least most (negsuc n) = refl
 
-integer_at_other : (key : List ℕ) (least most : ℕ) (ms : Members) → other (integer_at key least most ms) ≡ true
-integer_at_other key least most ms = needed_other (integer_of least most) (get_member key ms) (λ d. then_other (ok_or (as_integer d) WrongType) (integer_in least most) (ok_or_other (as_integer d)) (integer_in_other least most))
+integer_of_other : (least most : ℕ) (d : Data) → other (integer_of least most d) ≡ true
+integer_of_other least most d = then_other (ok_or (as_integer d) WrongType) (integer_in least most) (ok_or_other (as_integer d)) (integer_in_other least most)
 
 integer_then : {A : Type 0} (key : List ℕ) (least most : ℕ) (ms : Members) (f : ℕ → Result A FareFileFault) → ((n : ℕ) → other (f n) ≡ true) → other (integer_at key least most ms >>= f) ≡ true
-integer_then key least most ms f h = then_other (integer_at key least most ms) f (integer_at_other key least most ms) h
+integer_then key least most ms f h = then_other (integer_at key least most ms) f (needed_other (integer_of least most) (get_member key ms) (integer_of_other least most)) h
+
+array_at_other : (key : List ℕ) (ms : Members) → other (array_at key ms) ≡ true
+array_at_other key ms = needed_other array_of (get_member key ms) (λ d. ok_or_other (as_array d))
+
+items_of_other : (most : ℕ) (d : Data) → other (items_of most d) ≡ true
+items_of_other most d = then_other (array_of d) _ (ok_or_other (as_array d)) (λ ds. cond_other (nat_lt most (items_len ds)) (Err TooMany) (Ok ds) refl refl)
+
+items_or_none_other : (most : ℕ) (o : Option Data) → other (items_or_none most o) ≡ true
+items_or_none_other most None = refl
+items_or_none_other most (Some d) = items_of_other most d
+
+items_at_other : (key : List ℕ) (most : ℕ) (ms : Members) → other (items_at key most ms) ≡ true
+items_at_other key most ms = items_or_none_other most (get_member key ms)
+
+minutes_at_other : (zones : ℕ) (ms : Members) → other (minutes_at zones ms) ≡ true
+minutes_at_other zones ms =
+    then_other (array_at (codes "minutes") ms) (minutes_of zones) (array_at_other (codes "minutes") ms) (λ items.
+    cond_other (items_len items == zones) _ (Err OutOfRange)
+    (with_each_other with_minutes (λ before d. then_other (integer_of 1 1_440 d) _ (integer_of_other 1 1_440 d) (λ n. refl)) [] items) refl)
 
 rules_of_other : (ms : Members) → other (rules_of ms) ≡ true
 rules_of_other ms =
@@ -53,37 +76,69 @@ rules_of_other ms =
     integer_then (codes "same_free") 0 7_200 ms _ (λ same_free.
     integer_then (codes "same_limit") same_free 7_200 ms _ (λ same_limit. refl)))))
 
+single_of_other : (zones : ℕ) (d : Data) → other (single_of zones d) ≡ true
+single_of_other zones d =
+    then_other (table_of d) _ (ok_or_other (as_table d)) (λ ms.
+    integer_then (codes "from") 1 zones ms _ (λ from.
+    integer_then (codes "to") from zones ms _ (λ to.
+    integer_then (codes "peak") 0 100_000 ms _ (λ peak.
+    integer_then (codes "off") 0 100_000 ms _ (λ off. refl)))))
+
+with_single_other : (zones : ℕ) (before : List Single) (d : Data) → other (with_single zones before d) ≡ true
+with_single_other zones before d = then_other (single_of zones d) _ (single_of_other zones d) (λ single. cond_other (has_single before single.span) (Err Duplicate) _ refl refl)
+
+singles_at_other : (zones : ℕ) (ms : Members) → other (singles_at zones ms) ≡ true
+singles_at_other zones ms =
+    then_other (array_at (codes "single") ms) (singles_of zones) (array_at_other (codes "single") ms) (λ items.
+    then_other (with_each (with_single zones) [] items) _ (with_each_other (with_single zones) (with_single_other zones) [] items) (λ singles.
+    cond_other (has_each_single singles zones) (Ok singles) (Err MissingKey) refl refl))
+
+with_holiday_other : (before : List ℕ) (d : Data) → other (with_holiday before d) ≡ true
+with_holiday_other before d = then_other (integer_of 4 50_000 d) _ (integer_of_other 4 50_000 d) (λ day. cond_other (has_holiday before day) (Err Duplicate) _ refl refl)
+
+holidays_at_other : (ms : Members) → other (holidays_at ms) ≡ true
+holidays_at_other ms = then_other (items_at (codes "holidays") 64 ms) _ (items_at_other (codes "holidays") 64 ms) (with_each_other with_holiday with_holiday_other [])
+
+station_of_other : (zones : ℕ) (d : Data) → other (station_of zones d) ≡ true
+station_of_other zones d =
+    then_other (table_of d) _ (ok_or_other (as_table d)) (λ ms.
+    integer_then (codes "place") 1 65_535 ms _ (λ place.
+    integer_then (codes "low") 1 zones ms _ (λ low.
+    integer_then (codes "high") low (min (low + 1) zones) ms _ (λ high.
+    integer_then (codes "operator") 1 16 ms _ (λ operator. refl)))))
+
 route_of_other : (d : Data) → other (route_of d) ≡ true
 route_of_other d =
     then_other (table_of d) _ (ok_or_other (as_table d)) (λ ms.
     integer_then (codes "place") 1 65_535 ms _ (λ place.
     integer_then (codes "operator") 1 16 ms _ (λ operator. refl)))
 
-places_of_other : (read : Data → Result (ℕ × Place) FareFileFault) → ((d : Data) → other (read d) ≡ true) → (taken : List ℕ) (items : Items) → other (places_of read taken items) ≡ true
-places_of_other read h taken no_items = refl
-places_of_other read h taken (item d ds) =
-    then_other (read d) _ (h d) (λ place.
-    then_other (cond (list_any (nat_eq place.0) taken) (Err Duplicate) (places_of read (place.0 ∷ taken) ds)) _
-    (cond_other (list_any (nat_eq place.0) taken) _ _ refl (places_of_other read h (place.0 ∷ taken) ds)) (λ others. refl))
+with_place_other : (places : List (ℕ × Place)) (place : ℕ × Place) → other (with_place places place) ≡ true
+with_place_other places place = cond_other (is_taken places place.0) (Err Duplicate) _ refl refl
 
-items_of_other : (most : ℕ) (d : Data) → other (items_of most d) ≡ true
-items_of_other most d = then_other (ok_or (as_array d) WrongType) _ (ok_or_other (as_array d)) (λ ds. cond_other (nat_lt most (items_len ds)) (Err TooMany) (Ok ds) refl refl)
+with_station_other : (zones : ℕ) (places : List (ℕ × Place)) (d : Data) → other (with_station zones places d) ≡ true
+with_station_other zones places d = then_other (station_of zones d) _ (station_of_other zones d) (with_place_other places)
 
-items_or_none_other : (most : ℕ) (o : Option Data) → other (items_or_none most o) ≡ true
-items_or_none_other most None = refl
-items_or_none_other most (Some d) = items_of_other most d
+with_route_other : (places : List (ℕ × Place)) (d : Data) → other (with_route places d) ≡ true
+with_route_other places d = then_other (route_of d) _ (route_of_other d) (with_place_other places)
 
-places_at_other : (ms : Members) → other (places_at ms) ≡ true
-places_at_other ms =
-    then_other (items_at (codes "route") 1_024 ms) _ (items_or_none_other 1_024 (get_member (codes "route") ms)) (λ items.
-    then_other (places_of route_of [] items) _ (places_of_other route_of route_of_other [] items) (λ routes. refl))
+places_at_other : (zones : ℕ) (ms : Members) → other (places_at zones ms) ≡ true
+places_at_other zones ms =
+    then_other (items_at (codes "station") 1_024 ms) _ (items_at_other (codes "station") 1_024 ms) (λ station_items.
+    then_other (with_each (with_station zones) [] station_items) _ (with_each_other (with_station zones) (with_station_other zones) [] station_items) (λ stations.
+    then_other (items_at (codes "route") (1_024 - items_len station_items) ms) _ (items_at_other (codes "route") (1_024 - items_len station_items) ms) (λ route_items.
+    then_other (with_each with_route stations route_items) _ (with_each_other with_route with_route_other stations route_items) (λ places. refl))))
 
 fare_file_other : (ms : Members) → other (fare_file ms) ≡ true
 fare_file_other ms =
     cond_other (is_some (get_member (codes "band") ms)) (Err BandsNotYet) _ refl
-    (then_other (table_at (codes "rules") ms >>= rules_of) _
+    (integer_then (codes "zones") 1 9 ms _ (λ zones.
+    then_other (minutes_at zones ms) _ (minutes_at_other zones ms) (λ minutes.
+    then_other (table_at (codes "rules") ms >>= rules_of) _
     (then_other (table_at (codes "rules") ms) rules_of (needed_other table_of (get_member (codes "rules") ms) (λ d. ok_or_other (as_table d))) rules_of_other) (λ rules.
-    then_other (places_at ms) _ (places_at_other ms) (λ places. refl)))
+    then_other (singles_at zones ms) _ (singles_at_other zones ms) (λ singles.
+    then_other (holidays_at ms) _ (holidays_at_other ms) (λ holidays.
+    then_other (places_at zones ms) _ (places_at_other zones ms) (λ places. refl)))))))
 
 refused_as_none : {X : Type 0} (r : Result X FareFileFault) → other r ≡ true → r ≡ Err NotToml → ⊥
 refused_as_none (Ok x) h e = absurd cc

@@ -1,5 +1,8 @@
 pub mod Numbers
-pub mod Placing
 pub mod Items
-pub mod Ranges
+pub mod Spans
+pub mod Singles
 pub mod Documents
+pub mod Ranges
+pub mod Placing
+pub mod Inclusive

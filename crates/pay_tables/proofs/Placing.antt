@@ -1,32 +1,45 @@
 -- Places put into a map one after another are the map of the places.
-use Rattle.std.proofs.Common.{◌≡◌, ℕ, Bool, true, false, cond, ◌||◌, List, [], ◌∷◌, ◌++◌, Option, Some, None, is_some, Result, Ok, Err, refl, sym, ap, ◌∙◌, append_assoc, inl, inr}
-use Rattle.std.specs.Prelude.{nat_eq}
-use Rattle.std.specs.List.{list_any}
+use Rattle.std.proofs.Common.{◌≡◌, ℕ, Bool, true, false, cond, ◌||◌, List, [], ◌∷◌, Option, Some, None, is_some, Result, Ok, Err, codes, ◌-◌, refl, sym, ap, ◌∙◌, inl, inr}
 use Rattle.std.specs.Ordering.{nat_cmp, eq_by_cmp}
 use Rattle.std.specs.Cmp.{nat_cmp_total, unsigned_tied}
-use Rattle.std.specs.FinMap.{FinMap, contains_key, insert, empty, from_entries, get-from_entries, get-insert, get-empty, from_entries_push, nat_cmp-IsAntisymmetric}
+use Rattle.std.specs.FinMap.{FinMap, contains_key, empty, find, from_entries, get-from_entries, get-empty, from_entries_push, nat_cmp-IsAntisymmetric, same_map}
 use Rattle.std.proofs.lemmas.Bool.{cases_Bool}
-use Rattle.std.proofs.lemmas.List.{append-nil}
-use Rattle.toml.specs.Data.{Data, Items, no_items, item}
+use Rattle.toml.specs.Data.{Data, Items, no_items, item, Members}
 use Rattle.pay_tables.specs.declared.fault.FareFileFault.{FareFileFault}
-use Rattle.pay_tables.specs.declared.fault.FareFileFault.TheVariants.{Duplicate}
 use Rattle.pay_tables.specs.declared.place.Place.{Place}
 use Rattle.pay_tables.specs.Fault.{◌>>=◌}
-use Rattle.pay_tables.specs.FareFile.{with_place, placed, places_of}
+use Rattle.pay_tables.specs.Keys.{items_at, items_len}
+use Rattle.pay_tables.specs.FareFile.{with_each, is_taken, with_place, with_station, with_route, station_of, route_of, places_at}
+use Rattle.pay_tables.specs.Placed.{put_place, put_station, put_route, put_places_at}
 
-abbrev pub Reader : Type 0
-Reader = Data → Result (ℕ × Place) FareFileFault
+-- what is said of lists, as f sees them
+abbrev seen : {A B : Type 0} → (A → B) → Result A FareFileFault → Result B FareFileFault
+seen f said = said >>= λ x. Ok (f x)
 
-abbrev pub Entries : Type 0
-Entries = List (ℕ × Place)
+seen_then : {A B C : Type 0} (f : A → B) (r : Result C FareFileFault) (a : C → Result A FareFileFault) (b : C → Result B FareFileFault) → ((x : C) → b x ≡ seen f (a x)) → (r >>= b) ≡ seen f (r >>= a)
+seen_then f (Ok x) a b h = h x
+seen_then f (Err fault) a b h = refl
 
--- the map of these places and of those read after them
-abbrev pub with_front : Entries → Result Entries FareFileFault → Result (FinMap nat_cmp Place) FareFileFault
-with_front es read = read >>= λ more. Ok (from_entries (es ++ more))
+same_then : {A B : Type 0} (r : Result A FareFileFault) (a b : A → Result B FareFileFault) → ((x : A) → a x ≡ b x) → (r >>= a) ≡ (r >>= b)
+same_then (Ok x) a b h = h x
+same_then (Err fault) a b h = refl
 
--- these numbers are those of the places
-abbrev pub AreNumbers : List ℕ → Entries → Type 0
-AreNumbers taken es = (q : ℕ) → list_any (nat_eq q) taken ≡ contains_key (from_entries {R = nat_cmp} es) q
+then_seen : {A B C : Type 0} (f : A → B) (r : Result A FareFileFault) (b : B → Result C FareFileFault) (a : A → Result C FareFileFault) → ((x : A) → b (f x) ≡ a x) → (seen f r >>= b) ≡ (r >>= a)
+then_seen f (Ok x) b a h = h x
+then_seen f (Err fault) b a h = refl
+
+next_seen : {A B : Type 0} (f : A → B) (r : Result A FareFileFault) (a : A → Result A FareFileFault) (b : B → Result B FareFileFault) → ((x : A) → b (f x) ≡ seen f (a x)) → (seen f r >>= b) ≡ seen f (r >>= a)
+next_seen f (Ok x) a b h = h x
+next_seen f (Err fault) a b h = refl
+
+with_each_seen : {A B : Type 0} (f : A → B) (a : A → Data → Result A FareFileFault) (b : B → Data → Result B FareFileFault) → ((x : A) (d : Data) → b (f x) d ≡ seen f (a x d))
+    → (x : A) (items : Items) → with_each b (f x) items ≡ seen f (with_each a x items)
+with_each_seen f a b h x no_items = refl
+with_each_seen f a b h x (item d ds) =
+    ap (λ r. r >>= λ y. with_each b y ds) (h x d) ∙ next_seen f (a x d) (λ y. with_each a y ds) (λ y. with_each b y ds) (λ y. with_each_seen f a b h y ds)
+
+abbrev map_of : List (ℕ × Place) → FinMap nat_cmp Place
+map_of places = from_entries places
 
 is_some-cond : {X : Type 0} (b : Bool) (x : X) (o : Option X) → is_some (cond b (Some x) o) ≡ (b || is_some o)
 is_some-cond true x o = refl
@@ -36,41 +49,35 @@ none_from : {X : Type 0} (o : Option X) → is_some o ≡ false → o ≡ None
 none_from None e = refl
 none_from (Some x) e = absurd cc
 
--- a place under a free number goes behind the others
-one_more : (es : Entries) (p : ℕ × Place) → contains_key (from_entries {R = nat_cmp} es) p.0 ≡ false → from_entries {R = nat_cmp} (es ++ p ∷ []) ≡ insert (from_entries es) p.0 p.1
-one_more es p free = from_entries_push nat_cmp_total nat_cmp-IsAntisymmetric es p.0 p.1 (sym (get-from_entries nat_cmp_total es p.0) ∙ none_from _ free)
+is_some-find : (places : List (ℕ × Place)) (number : ℕ) → is_some (find nat_cmp number places) ≡ is_taken places number
+is_some-find [] number = refl
+is_some-find (p ∷ ps) number = is_some-cond (eq_by_cmp nat_cmp number p.0) p.1 (find nat_cmp number ps) ∙ cong_or (unsigned_tied number p.0) (is_some-find ps number)
+  where
+    cong_or : {a b c d : Bool} → a ≡ b → c ≡ d → (a || c) ≡ (b || d)
+    cong_or e f = cc
 
-AreNumbers-more : (taken : List ℕ) (es : Entries) (p : ℕ × Place) → AreNumbers taken es → contains_key (from_entries {R = nat_cmp} es) p.0 ≡ false → AreNumbers (p.0 ∷ taken) (es ++ p ∷ [])
-AreNumbers-more taken es p same free q =
-    let now : contains_key (from_entries {R = nat_cmp} (es ++ p ∷ [])) q ≡ (nat_eq q p.0 || contains_key (from_entries {R = nat_cmp} es) q) =
-    ap (λ m. contains_key m q) (one_more es p free) ∙ ap is_some (get-insert nat_cmp_total (from_entries es) p.0 p.1 q) ∙ is_some-cond (eq_by_cmp nat_cmp q p.0) p.1 _
-    ∙ ap (λ b. b || contains_key (from_entries {R = nat_cmp} es) q) (unsigned_tied q p.0) in
-    ap (λ b. nat_eq q p.0 || b) (same q) ∙ sym now
-
-regroup : (es : Entries) (p : ℕ × Place) (read : Result Entries FareFileFault) → with_front (es ++ p ∷ []) read ≡ with_front es (read >>= λ more. Ok (p ∷ more))
-regroup es p (Ok more) = ap (λ (all : Entries). Ok (from_entries all)) (append_assoc es (p ∷ []) more)
-regroup es p (Err fault) = refl
-
--- the same for the items behind one
-abbrev AreRead : Reader → Items → Type 0
-AreRead read ds = (taken : List ℕ) (es : Entries) → AreNumbers taken es → placed read (from_entries es) ds ≡ with_front es (places_of read taken ds)
-
-placed_next : (read : Reader) (ds : Items) (taken : List ℕ) (es : Entries) → AreNumbers taken es → AreRead read ds → (next : Result (ℕ × Place) FareFileFault)
-    → (next >>= λ p. with_place (from_entries es) p.0 p.1 >>= λ m. placed read m ds) ≡ with_front es (next >>= λ p. cond (list_any (nat_eq p.0) taken) (Err Duplicate) (places_of read (p.0 ∷ taken) ds) >>= λ more. Ok (p ∷ more))
-placed_next read ds taken es same rest (Err fault) = refl
-placed_next read ds taken es same rest (Ok p) =
-    elim (cases_Bool (contains_key (from_entries {R = nat_cmp} es) p.0)) [
-      | inl held ↦ rw (same p.0, held) refl
-      | inr free ↦
-          rw (same p.0, free, ← one_more es p free)
-          (rest (p.0 ∷ taken) (es ++ p ∷ []) (AreNumbers-more taken es p same free) ∙ regroup es p (places_of read (p.0 ∷ taken) ds))
+put_place-seen : (places : List (ℕ × Place)) (place : ℕ × Place) → put_place (map_of places) place ≡ seen map_of (with_place places place)
+put_place-seen places place =
+    let held : contains_key (map_of places) place.0 ≡ is_taken places place.0 = ap is_some (get-from_entries nat_cmp_total places place.0) ∙ is_some-find places place.0 in
+    elim (cases_Bool (is_taken places place.0)) [
+      | inl taken ↦ rw (held, taken) refl
+      | inr free ↦ rw (held, free, from_entries_push nat_cmp_total nat_cmp-IsAntisymmetric places place.0 place.1 (none_from _ (is_some-find places place.0 ∙ free))) refl
     ]
 
--- what is placed is what is read, behind the places that stand
-placed-places_of : (read : Reader) (items : Items) → AreRead read items
-placed-places_of read no_items taken es same = ap (λ (all : Entries). Ok (from_entries all)) (sym (append-nil es))
-placed-places_of read (item d ds) taken es same = placed_next read ds taken es same (placed-places_of read ds) (read d)
+station_seen : (zones : ℕ) (places : List (ℕ × Place)) (items : Items) → with_each (put_station zones) (map_of places) items ≡ seen map_of (with_each (with_station zones) places items)
+station_seen zones = with_each_seen map_of (with_station zones) (put_station zones) (λ places d. seen_then map_of (station_of zones d) (with_place places) (put_place (map_of places)) (put_place-seen places))
 
--- from no place on
-pub placed_from_empty : (read : Reader) (items : Items) → placed read empty items ≡ (places_of read [] items >>= λ all. Ok (from_entries all))
-placed_from_empty read items = placed-places_of read items [] [] (λ q. sym (ap is_some (get-empty nat_cmp q)))
+route_seen : (places : List (ℕ × Place)) (items : Items) → with_each put_route (map_of places) items ≡ seen map_of (with_each with_route places items)
+route_seen = with_each_seen map_of with_route put_route (λ places d. seen_then map_of (route_of d) (with_place places) (put_place (map_of places)) (put_place-seen places))
+
+no_places : empty ≡ map_of []
+no_places = same_map nat_cmp_total nat_cmp-IsAntisymmetric _ _ (λ q. get-empty nat_cmp q ∙ sym (get-from_entries nat_cmp_total [] q))
+
+-- what is put into a map is what the file says
+pub put_places_at-places_at : (zones : ℕ) (ms : Members) → put_places_at zones ms ≡ places_at zones ms
+put_places_at-places_at zones ms =
+    same_then (items_at (codes "station") 1_024 ms) _ _ (λ station_items.
+    let stations = ap (λ m. with_each (put_station zones) m station_items) no_places ∙ station_seen zones [] station_items in
+    ap (λ r. r >>= λ places. items_at (codes "route") (1_024 - items_len station_items) ms >>= with_each put_route places) stations
+    ∙ then_seen map_of (with_each (with_station zones) [] station_items) _ _ (λ places.
+    same_then (items_at (codes "route") (1_024 - items_len station_items) ms) _ _ (route_seen places)))

@@ -1,19 +1,236 @@
--- Each place of a map stays one that may stand.
-use Rattle.std.proofs.Common.{ℕ, Bool, true, false, cond, Option, Some}
-use Rattle.std.specs.Prelude.{IfSome}
-use Rattle.std.specs.Ordering.{nat_cmp, eq_by_cmp}
-use Rattle.std.specs.Cmp.{nat_cmp_total}
-use Rattle.std.specs.FinMap.{FinMap, get, insert, empty, get-empty, get-insert}
+-- What a fare file says is in its ranges, and each span has its single fare.
+use Rattle.std.proofs.Common.{◌≡◌, ℕ, ℤ, ◌+◌, ◌-◌, ◌≤◌, ◌<◌, pos, negsuc, zero, suc, min, Bool, true, false, cond, List, [], ◌∷◌, ◌++◌, length, length-append, Option, Some, None, Result, Ok, Err, refl, ap, ◌∙◌, codes, arith, inl, inr}
+use Rattle.std.specs.Prelude.{ok_or, nat_le, ◌==◌, ◌&&◌, ◌||◌, ◌⊎◌, is_some, All, IfOk, IfSome, IsSome}
+use Rattle.std.specs.List.{list_all, list_any, find, range_with_len}
+use Rattle.std.specs.Ordering.{nat_cmp}
+use Rattle.std.specs.Map.{lookup}
+use Rattle.std.specs.BTreeMap.{is_at}
+use Rattle.std.specs.FinMap.{FinMap, get}
+use Rattle.std.proofs.lemmas.Bool.Decides.{nat_tests}
+use Rattle.std.proofs.lemmas.List.Elements.{All-nil, All-cons, All-head, All-tail, All-append}
+use Rattle.pay_tables.proofs.Numbers.{get-lookup}
+use Rattle.toml.specs.Data.{Data, Items, no_items, item, Members, get_member, as_integer}
+use Rattle.pay_tables.specs.declared.fault.FareFileFault.{FareFileFault}
+use Rattle.pay_tables.specs.declared.fault.FareFileFault.TheVariants.{WrongType, OutOfRange, Duplicate, MissingKey, BandsNotYet}
 use Rattle.pay_tables.specs.declared.place.Place.{Place}
-use Rattle.pay_tables.specs.FareTables.{IsPlace, ArePlaces}
+use Rattle.pay_tables.specs.declared.single.Single.{Single}
+use Rattle.pay_tables.specs.declared.zones.Span.{Span}
+use Rattle.pay_tables.specs.Fault.{◌>>=◌}
+use Rattle.pay_tables.specs.Keys.{needed, integer_in, integer_of, integer_at, table_of, table_at, array_at, items_len, items_at}
+use Rattle.pay_tables.specs.Spans.{IsSpan, same_span}
+use Rattle.pay_tables.specs.FareTables.{AreRules, IsSingle, IsPlace, IsFareTables}
+use Rattle.pay_tables.specs.FareFile.{with_each, with_minutes, minutes_of, minutes_at, rules_of, single_of, with_single, singles_of, singles_at, has_single, has_singles_from, has_each_single, holidays_at, station_of, route_of, is_taken, with_place, with_station, with_route, places_at, fare_file}
 
-pub ArePlaces-empty : ArePlaces empty
-ArePlaces-empty number = rw (get-empty nat_cmp number) tt
+-- ---- steps
 
-IsPlace-cond : (b : Bool) (place : Place) (other : Option Place) → IsPlace place → IfSome other IsPlace → IfSome (cond b (Some place) other) IsPlace
-IsPlace-cond true place other h others = h
-IsPlace-cond false place other h others = others
+IfOk_then : {A B : Type 0} (P : A → Type 0) (Q : B → Type 0) (r : Result A FareFileFault) (f : A → Result B FareFileFault) → IfOk r P → ((x : A) → P x → IfOk (f x) Q) → IfOk (r >>= f) Q
+IfOk_then P Q (Ok x) f h k = k x h
+IfOk_then P Q (Err fault) f h k = tt
 
-pub ArePlaces-insert : (places : FinMap nat_cmp Place) (number : ℕ) (place : Place) → ArePlaces places → IsPlace place → ArePlaces (insert places number place)
-ArePlaces-insert places number place each h n =
-    rw (get-insert nat_cmp_total places number place n) (IsPlace-cond (eq_by_cmp nat_cmp n number) place (get places n) h (each n))
+IfOk_after : {A B : Type 0} (Q : B → Type 0) (r : Result A FareFileFault) (f : A → Result B FareFileFault) → ((x : A) → IfOk (f x) Q) → IfOk (r >>= f) Q
+IfOk_after Q (Ok x) f k = k x
+IfOk_after Q (Err fault) f k = tt
+
+IfOk_cond : {A : Type 0} (Q : A → Type 0) (b : Bool) (r : Result A FareFileFault) (fault : FareFileFault) → (b ≡ true → IfOk r Q) → IfOk (cond b r (Err fault)) Q
+IfOk_cond Q true r fault h = h refl
+IfOk_cond Q false r fault h = tt
+
+IfOk_unless : {A : Type 0} (Q : A → Type 0) (b : Bool) (r : Result A FareFileFault) (fault : FareFileFault) → IfOk r Q → IfOk (cond b (Err fault) r) Q
+IfOk_unless Q true r fault h = tt
+IfOk_unless Q false r fault h = h
+
+-- what each item keeps, all of them keep
+with_each_keeps : {A : Type 0} (P : A → Items → Type 0) (with_one : A → Data → Result A FareFileFault) → ((before : A) (d : Data) (ds : Items) → P before (item d ds) → IfOk (with_one before d) (λ now. P now ds))
+    → (before : A) (items : Items) → P before items → IfOk (with_each with_one before items) (λ all. P all no_items)
+with_each_keeps P with_one keeps before no_items h = h
+with_each_keeps P with_one keeps before (item d ds) h =
+    IfOk_then (λ now. P now ds) (λ all. P all no_items) (with_one before d) (λ now. with_each with_one now ds) (keeps before d ds h) (λ now k. with_each_keeps P with_one keeps now ds k)
+
+-- ---- numbers
+
+integer_in_range : (least most : ℕ) (z : ℤ) → IfOk (integer_in least most z) (λ n. (least ≤ n) × (n ≤ most))
+integer_in_range least most (pos n) =
+    IfOk_cond (λ m. (least ≤ m) × (m ≤ most)) (nat_le least n && nat_le n most) (Ok n) OutOfRange (λ e. both_bounds least most n e)
+  where
+    both_bounds : (least most n : ℕ) → (nat_le least n && nat_le n most) ≡ true → (least ≤ n) × (n ≤ most)
+    both_bounds least most n e = grind (arith, nat_tests)
+integer_in_range least most (negsuc n) = tt
+
+integer_of_range : (least most : ℕ) (d : Data) → IfOk (integer_of least most d) (λ n. (least ≤ n) × (n ≤ most))
+integer_of_range least most d = IfOk_after (λ n. (least ≤ n) × (n ≤ most)) (ok_or (as_integer d) WrongType) (integer_in least most) (integer_in_range least most)
+
+needed_integer : (least most : ℕ) (o : Option Data) → IfOk (needed (integer_of least most) o) (λ n. (least ≤ n) × (n ≤ most))
+needed_integer least most None = tt
+needed_integer least most (Some d) = integer_of_range least most d
+
+integer_then : {A : Type 0} (Q : A → Type 0) (key : List ℕ) (least most : ℕ) (ms : Members) (f : ℕ → Result A FareFileFault) → ((n : ℕ) → (least ≤ n) × (n ≤ most) → IfOk (f n) Q) → IfOk (integer_at key least most ms >>= f) Q
+integer_then Q key least most ms f h = IfOk_then (λ n. (least ≤ n) × (n ≤ most)) Q (integer_at key least most ms) f (needed_integer least most (get_member key ms)) h
+
+-- ---- minutes
+
+abbrev IsMinutes : ℕ → Type 0
+IsMinutes n = (1 ≤ n) × (n ≤ 1_440)
+
+-- so many numbers in their range, with those that are to come
+abbrev AreMinutes : ℕ → List ℕ → Items → Type 0
+AreMinutes zones ns ds = All IsMinutes ns × (length ns + items_len ds ≡ zones)
+
+with_minutes_keeps : (zones : ℕ) (ns : List ℕ) (d : Data) (ds : Items) → AreMinutes zones ns (item d ds) → IfOk (with_minutes ns d) (λ more. AreMinutes zones more ds)
+with_minutes_keeps zones ns d ds h =
+    IfOk_then IsMinutes (λ more. AreMinutes zones more ds) (integer_of 1 1_440 d) (λ n. Ok (ns ++ n ∷ [])) (integer_of_range 1 1_440 d)
+    (λ n r. (All-append IsMinutes ns (n ∷ []) h.0 (All-cons IsMinutes n [] r (All-nil IsMinutes)), omega (arith, h.1, length-append ns (n ∷ []))))
+
+minutes_are : (zones : ℕ) (ms : Members) → IfOk (minutes_at zones ms) (λ ns. AreMinutes zones ns no_items)
+minutes_are zones ms =
+    IfOk_after (λ ns. AreMinutes zones ns no_items) (array_at (codes "minutes") ms) (minutes_of zones) (λ items.
+    IfOk_cond (λ ns. AreMinutes zones ns no_items) (items_len items == zones) (with_each with_minutes [] items) OutOfRange (λ e.
+    with_each_keeps (AreMinutes zones) with_minutes (with_minutes_keeps zones) [] items (All-nil IsMinutes, counted items e)))
+  where
+    counted : (items : Items) → (items_len items == zones) ≡ true → 0 + items_len items ≡ zones
+    counted items e = grind (arith, nat_tests)
+
+-- ---- rules
+
+rules_are : (ms : Members) → IfOk (rules_of ms) AreRules
+rules_are ms =
+    integer_then AreRules (codes "bus") 0 100_000 ms _ (λ bus b.
+    integer_then AreRules (codes "maximum") 0 100_000 ms _ (λ maximum m.
+    integer_then AreRules (codes "hopper") 1 7_200 ms _ (λ hopper h.
+    integer_then AreRules (codes "same_free") 0 7_200 ms _ (λ same_free f.
+    integer_then AreRules (codes "same_limit") same_free 7_200 ms _ (λ same_limit l.
+    record { bus = b.1; maximum = m.1; hopper = h; same_free = l.0; same_limit = l.1 })))))
+
+-- ---- single fares
+
+single_is : (zones : ℕ) (d : Data) → IfOk (single_of zones d) (IsSingle zones)
+single_is zones d =
+    IfOk_after (IsSingle zones) (table_of d) _ (λ ms.
+    integer_then (IsSingle zones) (codes "from") 1 zones ms _ (λ from a.
+    integer_then (IsSingle zones) (codes "to") from zones ms _ (λ to b.
+    integer_then (IsSingle zones) (codes "peak") 0 100_000 ms _ (λ peak p.
+    integer_then (IsSingle zones) (codes "off") 0 100_000 ms _ (λ off o.
+    record { span = record { from = a.0; to = b }; peak = p.1; off = o.1 })))))
+
+with_single_keeps : (zones : ℕ) (before : List Single) (d : Data) (ds : Items) → All (IsSingle zones) before → IfOk (with_single zones before d) (All (IsSingle zones))
+with_single_keeps zones before d ds h =
+    IfOk_then (IsSingle zones) (All (IsSingle zones)) (single_of zones d) _ (single_is zones d) (λ single s.
+    IfOk_unless (All (IsSingle zones)) (has_single before single.span) (Ok (before ++ single ∷ [])) Duplicate
+    (All-append (IsSingle zones) before (single ∷ []) h (All-cons (IsSingle zones) single [] s (All-nil (IsSingle zones)))))
+
+-- single fares within the zones, one for each span
+abbrev AreSingles : ℕ → List Single → Type 0
+AreSingles zones singles = All (IsSingle zones) singles × (has_each_single singles zones ≡ true)
+
+singles_are : (zones : ℕ) (ms : Members) → IfOk (singles_at zones ms) (AreSingles zones)
+singles_are zones ms =
+    IfOk_after (AreSingles zones) (array_at (codes "single") ms) (singles_of zones) (λ items.
+    IfOk_then (All (IsSingle zones)) (AreSingles zones) (with_each (with_single zones) [] items) _
+    (with_each_keeps (λ singles _. All (IsSingle zones) singles) (with_single zones) (with_single_keeps zones) [] items (All-nil (IsSingle zones))) (λ singles h.
+    IfOk_cond (AreSingles zones) (has_each_single singles zones) (Ok singles) MissingKey (λ e. (h, e))))
+
+and_both : (a b : Bool) → (a && b) ≡ true → (a ≡ true) × (b ≡ true)
+and_both true b e = (refl, e)
+and_both false b e = absurd cc
+
+-- what holds of all numbers from one on holds of each of them
+each_of_range : (p : ℕ → Bool) (a n k : ℕ) → list_all p (range_with_len a n) ≡ true → a ≤ k → k < a + n → p k ≡ true
+each_of_range p a zero k h low high = absurd (omega arith)
+each_of_range p a (suc n) k h low high =
+    let both = and_both (p a) (list_all p (range_with_len (a + 1) n)) h in
+    elim (first_or_later a k low) [
+      | inl same ↦ ap p same ∙ both.0
+      | inr later ↦ each_of_range p (a + 1) n k both.1 later (omega (arith, high))
+    ]
+  where
+    first_or_later : (a k : ℕ) → a ≤ k → (k ≡ a) ⊎ (a + 1 ≤ k)
+    first_or_later a k low = grind arith
+
+-- a test that some element passes finds one
+found : {X : Type 0} (p : X → Bool) (xs : List X) → list_any p xs ≡ true → IsSome (find p xs)
+found p [] e = absurd cc
+found p (x ∷ xs) e = found_first (p x) x (find p xs) (list_any p xs) e (found p xs)
+  where
+    found_first : {X : Type 0} (b : Bool) (x : X) (others : Option X) (any : Bool) → (b || any) ≡ true → (any ≡ true → IsSome others) → IsSome (cond b (Some x) others)
+    found_first true x others any e h = refl
+    found_first false x others any e h = h e
+
+each_span : (singles : List Single) (zones : ℕ) → has_each_single singles zones ≡ true → (span : Span) → IsSpan zones span → IsSome (find (λ single. same_span span single.span) singles)
+each_span singles zones h span within =
+    let from = each_of_range (has_singles_from singles zones) 1 zones span.from h within.from (omega (arith, within.to.0, within.to.1)) in
+    found (λ single. same_span span single.span) singles
+    (each_of_range (λ to. has_single singles (record { from = span.from; to = to })) span.from (zones + 1 - span.from) span.to from within.to.0 (omega (arith, within.to.0, within.to.1)))
+
+-- ---- places
+
+-- places that may stand
+abbrev ArePlaces : ℕ → List (ℕ × Place) → Type 0
+ArePlaces zones places = All (λ place. IsPlace zones place.1) places
+
+with_place_keeps : (zones : ℕ) (places : List (ℕ × Place)) (place : ℕ × Place) → ArePlaces zones places → IsPlace zones place.1 → IfOk (with_place places place) (ArePlaces zones)
+with_place_keeps zones places place all h =
+    let P : ℕ × Place → Type 0 = λ p. IsPlace zones p.1 in
+    IfOk_unless (ArePlaces zones) (is_taken places place.0) (Ok (places ++ place ∷ [])) Duplicate (All-append P places (place ∷ []) all (All-cons P place [] h (All-nil P)))
+
+-- what a map of them has at a number may stand
+looked_up : (zones : ℕ) (places : List (ℕ × Place)) (number : ℕ) → ArePlaces zones places → IfSome (lookup (is_at (nat_cmp number)) places) (IsPlace zones)
+looked_up zones [] number all = tt
+looked_up zones (p ∷ ps) number all =
+    let P : ℕ × Place → Type 0 = λ q. IsPlace zones q.1 in
+    either zones (is_at (nat_cmp number) p.0) p.1 (lookup (is_at (nat_cmp number)) ps) (All-head P p ps all) (looked_up zones ps number (All-tail P p ps all))
+  where
+    either : (zones : ℕ) (b : Bool) (place : Place) (other : Option Place) → IsPlace zones place → IfSome other (IsPlace zones) → IfSome (cond b (Some place) other) (IsPlace zones)
+    either zones true place other h others = h
+    either zones false place other h others = others
+
+station_is : (zones : ℕ) (d : Data) → IfOk (station_of zones d) (λ p. IsPlace zones p.1)
+station_is zones d =
+    let P : ℕ × Place → Type 0 = λ p. IsPlace zones p.1 in
+    IfOk_after P (table_of d) _ (λ ms.
+    integer_then P (codes "place") 1 65_535 ms _ (λ place n.
+    integer_then P (codes "low") 1 zones ms _ (λ low l.
+    integer_then P (codes "high") low (min (low + 1) zones) ms _ (λ high h.
+    integer_then P (codes "operator") 1 16 ms _ (λ operator o.
+    (l.0, h.0, omega (arith, h.1), omega (arith, h.1), o))))))
+
+route_is : (zones : ℕ) → 1 ≤ zones → (d : Data) → IfOk (route_of d) (λ p. IsPlace zones p.1)
+route_is zones z d =
+    let P : ℕ × Place → Type 0 = λ p. IsPlace zones p.1 in
+    IfOk_after P (table_of d) _ (λ ms.
+    integer_then P (codes "place") 1 65_535 ms _ (λ place n.
+    integer_then P (codes "operator") 1 16 ms _ (λ operator o.
+    (z, o))))
+
+places_are : (zones : ℕ) → 1 ≤ zones → (ms : Members) → IfOk (places_at zones ms) (λ places. (number : ℕ) → IfSome (get places number) (IsPlace zones))
+places_are zones z ms =
+    let P : ℕ × Place → Type 0 = λ p. IsPlace zones p.1 in
+    let Q : FinMap nat_cmp Place → Type 0 = λ places. (number : ℕ) → IfSome (get places number) (IsPlace zones) in
+    IfOk_after Q (items_at (codes "station") 1_024 ms) _ (λ station_items.
+    IfOk_then (ArePlaces zones) Q (with_each (with_station zones) [] station_items) _
+    (with_each_keeps (λ places _. ArePlaces zones places) (with_station zones) (λ places d ds all.
+    IfOk_then P (ArePlaces zones) (station_of zones d) (with_place places) (station_is zones d) (λ station h. with_place_keeps zones places station all h)) [] station_items (All-nil P)) (λ stations s.
+    IfOk_after Q (items_at (codes "route") (1_024 - items_len station_items) ms) _ (λ route_items.
+    IfOk_then (ArePlaces zones) Q (with_each with_route stations route_items) _
+    (with_each_keeps (λ places _. ArePlaces zones places) with_route (λ places d ds all.
+    IfOk_then P (ArePlaces zones) (route_of d) (with_place places) (route_is zones z d) (λ route h. with_place_keeps zones places route all h)) stations route_items s) (λ places all number.
+    rw (get-lookup places number) (looked_up zones places number all)))))
+
+-- ---- the file
+
+pub fare_file_is : (ms : Members) → IfOk (fare_file ms) IsFareTables
+fare_file_is ms =
+    IfOk_unless IsFareTables (is_some (get_member (codes "band") ms)) _ BandsNotYet
+    (integer_then IsFareTables (codes "zones") 1 9 ms _ (λ zones z.
+    IfOk_then (λ ns. AreMinutes zones ns no_items) IsFareTables (minutes_at zones ms) _ (minutes_are zones ms) (λ minutes m.
+    IfOk_then AreRules IsFareTables (table_at (codes "rules") ms >>= rules_of) _ (IfOk_after AreRules (table_at (codes "rules") ms) rules_of rules_are) (λ rules r.
+    IfOk_then (AreSingles zones) IsFareTables (singles_at zones ms) _ (singles_are zones ms) (λ singles s.
+    IfOk_after IsFareTables (holidays_at ms) _ (λ holidays.
+    IfOk_then (λ places. (number : ℕ) → IfSome (get places number) (IsPlace zones)) IsFareTables (places_at zones ms) _ (places_are zones z.0 ms) (λ places p.
+    record {
+      zones = z;
+      minutes = omega (arith, m.1);
+      each_minutes = m.0;
+      rules = r;
+      singles = s.0;
+      each_span = each_span singles zones s.1;
+      places = p;
+    })))))))

@@ -1,13 +1,15 @@
 -- How places, rules and tables are stored as numbers, so that a model may hold them.
-use Rattle.std.specs.Prelude.{◌≡◌, ℕ, ◌⊎◌, refl}
+use Rattle.std.specs.Prelude.{◌≡◌, ℕ, ◌⊎◌, List, refl}
 use Rattle.std.proofs.Common.{inl, inr}
 use Rattle.std.specs.Ordering.{nat_cmp}
 use Rattle.std.specs.FinMap as map
 use Rattle.std.specs.FinMap.{FinMap}
-use Rattle.std.specs.Coded.{Coded, code_by, coded×, coded⊎, coded_ℕ}
+use Rattle.std.specs.Coded.{Coded, code_by, coded×, coded⊎, coded_ℕ, coded_list}
 use Rattle.pay_tables.specs.declared.place.Place.{Place}
 use Rattle.pay_tables.specs.declared.place.Place.TheVariants.{Station, Route}
 use Rattle.pay_tables.specs.declared.rules.Rules.{Rules}
+use Rattle.pay_tables.specs.declared.single.Single.{Single}
+use Rattle.pay_tables.specs.declared.interchange.Interchange.{Interchange}
 use Rattle.pay_tables.specs.FareTables.{FareTables}
 
 abbrev place_parts : Place → (ℕ × (ℕ × ℕ)) ⊎ ℕ
@@ -33,7 +35,26 @@ rules_code =
     (λ p. record { bus = p.0; maximum = p.1.0; hopper = p.1.1.0; same_free = p.1.1.1.0; same_limit = p.1.1.1.1 })
     (λ _. refl)
 
--- what a file says is stored as the pair of its parts
+-- a single fare is stored as the tuple of its numbers
+abbrev pub single_code : Coded Single
+single_code =
+    code_by ((ℕ × ℕ) × (ℕ × ℕ)) (coded× (coded× coded_ℕ coded_ℕ) (coded× coded_ℕ coded_ℕ)) (λ s. ((s.span.from, s.span.to), (s.peak, s.off)))
+    (λ p. record { span = record { from = p.0.0; to = p.0.1 }; peak = p.1.0; off = p.1.1 })
+    (λ _. refl)
+
+-- an interchange likewise
+abbrev pub interchange_code : Coded Interchange
+interchange_code = code_by (ℕ × (ℕ × ℕ)) (coded× coded_ℕ (coded× coded_ℕ coded_ℕ)) (λ i. (i.a, (i.b, i.seconds))) (λ p. record { a = p.0; b = p.1.0; seconds = p.1.1 }) (λ _. refl)
+
+-- the parts of what a file says
+abbrev pub FareTablesParts : Type 0
+FareTablesParts = (ℕ × List ℕ) × ((Rules × List Single) × ((List ℕ × FinMap nat_cmp Place) × List Interchange))
+
+-- what a file says is stored as the tuple of its parts
 abbrev pub fare_tables_code : Coded FareTables
 fare_tables_code =
-    code_by (Rules × FinMap nat_cmp Place) (coded× rules_code (map.code coded_ℕ place_code)) (λ t. (t.rules, t.places)) (λ p. record { rules = p.0; places = p.1 }) (λ _. refl)
+    code_by FareTablesParts
+    (coded× (coded× coded_ℕ (coded_list coded_ℕ)) (coded× (coded× rules_code (coded_list single_code)) (coded× (coded× (coded_list coded_ℕ) (map.code coded_ℕ place_code)) (coded_list interchange_code))))
+    (λ t. ((t.zones, t.minutes), ((t.rules, t.singles), ((t.holidays, t.places), t.interchanges))))
+    (λ p. record { zones = p.0.0; minutes = p.0.1; rules = p.1.0.0; singles = p.1.0.1; holidays = p.1.1.0.0; places = p.1.1.0.1; interchanges = p.1.1.1 })
+    (λ _. refl)

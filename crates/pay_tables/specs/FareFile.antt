@@ -1,18 +1,41 @@
 -- What a fare file says: its keys in order, and the first fault.
-use Rattle.std.specs.Prelude.{ℕ, List, [], ◌∷◌, Option, Some, None, Result, Ok, Err, codes, is_some, nat_eq, if◌then◌else◌}
-use Rattle.std.specs.List.{list_any}
+use Rattle.std.specs.Prelude.{ℕ, ◌+◌, ◌-◌, ◌==◌, min, nat_eq, Bool, List, [], ◌∷◌, ◌++◌, Option, Some, None, Result, Ok, Err, codes, is_some, if◌then◌else◌}
+use Rattle.std.specs.List.{list_all, list_any, range_with_len}
 use Rattle.std.specs.Ordering.{nat_cmp}
-use Rattle.std.specs.FinMap.{FinMap, contains_key, insert, from_entries}
+use Rattle.std.specs.FinMap.{FinMap, from_entries}
 use Rattle.toml.specs.Data.{Data, Items, no_items, item, Members, get_member}
 use Rattle.toml.specs.Parse.{parse_document}
 use Rattle.pay_tables.specs.declared.fault.FareFileFault.{FareFileFault}
-use Rattle.pay_tables.specs.declared.fault.FareFileFault.TheVariants.{NotToml, Duplicate, BandsNotYet}
+use Rattle.pay_tables.specs.declared.fault.FareFileFault.TheVariants.{NotToml, MissingKey, OutOfRange, Duplicate, BandsNotYet}
 use Rattle.pay_tables.specs.declared.place.Place.{Place}
-use Rattle.pay_tables.specs.declared.place.Place.TheVariants.{Route}
+use Rattle.pay_tables.specs.declared.place.Place.TheVariants.{Station, Route}
 use Rattle.pay_tables.specs.declared.rules.Rules.{Rules}
+use Rattle.pay_tables.specs.declared.single.Single.{Single}
+use Rattle.pay_tables.specs.declared.zones.Span.{Span}
 use Rattle.pay_tables.specs.Fault.{◌>>=◌}
 use Rattle.pay_tables.specs.FareTables.{FareTables}
-use Rattle.pay_tables.specs.Keys.{integer_at, table_of, table_at, items_at}
+use Rattle.pay_tables.specs.Keys.{array_at, integer_at, integer_of, items_at, items_len, table_of, table_at}
+use Rattle.pay_tables.specs.Spans.{same_span}
+
+-- what was said before some items, and what each of them adds to it, in order
+abbrev pub with_each : {X : Type 0} → (X → Data → Result X FareFileFault) → X → Items → Result X FareFileFault
+with_each with_one before no_items = Ok before
+with_each with_one before (item d ds) = do
+  now ← with_one before d
+  with_each with_one now ds
+
+-- one more number of minutes
+abbrev pub with_minutes : List ℕ → Data → Result (List ℕ) FareFileFault
+with_minutes before d = do
+  n ← integer_of 1 1_440 d
+  Ok (before ++ n ∷ [])
+
+-- the minutes that a leg may last, one number for each count of zones
+abbrev pub minutes_of : ℕ → Items → Result (List ℕ) FareFileFault
+minutes_of zones items = if items_len items == zones then with_each with_minutes [] items else Err OutOfRange
+
+abbrev pub minutes_at : ℕ → Members → Result (List ℕ) FareFileFault
+minutes_at zones ms = array_at (codes "minutes") ms >>= minutes_of zones
 
 -- the rules: prices up to 100,000 pence, times up to 7,200 seconds, and no time of a free leg at one station above the limit of such a leg
 abbrev pub rules_of : Members → Result Rules FareFileFault
@@ -24,6 +47,66 @@ rules_of ms = do
   same_limit ← integer_at (codes "same_limit") same_free 7_200 ms
   Ok (record { bus = bus; maximum = maximum; hopper = hopper; same_free = same_free; same_limit = same_limit })
 
+-- a single fare: its span, and its two prices
+abbrev pub single_of : ℕ → Data → Result Single FareFileFault
+single_of zones d = do
+  ms ← table_of d
+  from ← integer_at (codes "from") 1 zones ms
+  to ← integer_at (codes "to") from zones ms
+  peak ← integer_at (codes "peak") 0 100_000 ms
+  off ← integer_at (codes "off") 0 100_000 ms
+  Ok (record { span = record { from = from; to = to }; peak = peak; off = off })
+
+-- whether a span has a single fare
+abbrev pub has_single : List Single → Span → Bool
+has_single singles span = list_any (λ single. same_span span single.span) singles
+
+-- whether each span from a zone on has one, and each span within the zones
+abbrev pub has_singles_from : List Single → ℕ → ℕ → Bool
+has_singles_from singles zones from = list_all (λ (to : ℕ). has_single singles (record { from = from; to = to })) (range_with_len from (zones + 1 - from))
+
+abbrev pub has_each_single : List Single → ℕ → Bool
+has_each_single singles zones = list_all (has_singles_from singles zones) (range_with_len 1 zones)
+
+-- one more single fare, of a span that has none
+abbrev pub with_single : ℕ → List Single → Data → Result (List Single) FareFileFault
+with_single zones before d = do
+  single ← single_of zones d
+  if has_single before single.span then Err Duplicate else Ok (before ++ single ∷ [])
+
+-- the single fares: one for each span within the zones
+abbrev pub singles_of : ℕ → Items → Result (List Single) FareFileFault
+singles_of zones items = do
+  singles ← with_each (with_single zones) [] items
+  if has_each_single singles zones then Ok singles else Err MissingKey
+
+abbrev pub singles_at : ℕ → Members → Result (List Single) FareFileFault
+singles_at zones ms = array_at (codes "single") ms >>= singles_of zones
+
+-- whether a day is among the holidays
+abbrev pub has_holiday : List ℕ → ℕ → Bool
+has_holiday holidays day = list_any (nat_eq day) holidays
+
+-- one more public holiday, that is not among them
+abbrev pub with_holiday : List ℕ → Data → Result (List ℕ) FareFileFault
+with_holiday before d = do
+  day ← integer_of 4 50_000 d
+  if has_holiday before day then Err Duplicate else Ok (before ++ day ∷ [])
+
+-- the public holidays, up to 64
+abbrev pub holidays_at : Members → Result (List ℕ) FareFileFault
+holidays_at ms = items_at (codes "holidays") 64 ms >>= with_each with_holiday []
+
+-- a station: its place number, its zone or its two neighbouring zones, and its operator
+abbrev pub station_of : ℕ → Data → Result (ℕ × Place) FareFileFault
+station_of zones d = do
+  ms ← table_of d
+  place ← integer_at (codes "place") 1 65_535 ms
+  low ← integer_at (codes "low") 1 zones ms
+  high ← integer_at (codes "high") low (min (low + 1) zones) ms
+  operator ← integer_at (codes "operator") 1 16 ms
+  Ok (place, Station low high operator)
+
 -- a route: its place number, and its operator
 abbrev pub route_of : Data → Result (ℕ × Place) FareFileFault
 route_of d = do
@@ -32,27 +115,39 @@ route_of d = do
   operator ← integer_at (codes "operator") 1 16 ms
   Ok (place, Route operator)
 
--- the places of items in order: none has a number that is taken by then
-abbrev pub places_of : (Data → Result (ℕ × Place) FareFileFault) → List ℕ → Items → Result (List (ℕ × Place)) FareFileFault
-places_of read taken no_items = Ok []
-places_of read taken (item d ds) = do
-  place ← read d
-  others ← if list_any (nat_eq place.0) taken then Err Duplicate else places_of read (place.0 ∷ taken) ds
-  Ok (place ∷ others)
+-- whether a place has a number
+abbrev pub is_taken : List (ℕ × Place) → ℕ → Bool
+is_taken places number = list_any (λ place. nat_eq number place.0) places
 
--- the places of a file: its routes
-abbrev pub places_at : Members → Result (FinMap nat_cmp Place) FareFileFault
-places_at ms = do
-  items ← items_at (codes "route") 1_024 ms
-  routes ← places_of route_of [] items
-  Ok (from_entries routes)
+-- one more place, under a number that no other has
+abbrev pub with_place : List (ℕ × Place) → ℕ × Place → Result (List (ℕ × Place)) FareFileFault
+with_place places place = if is_taken places place.0 then Err Duplicate else Ok (places ++ place ∷ [])
 
--- what a file says, where it is a document
+abbrev pub with_station : ℕ → List (ℕ × Place) → Data → Result (List (ℕ × Place)) FareFileFault
+with_station zones places d = station_of zones d >>= with_place places
+
+abbrev pub with_route : List (ℕ × Place) → Data → Result (List (ℕ × Place)) FareFileFault
+with_route places d = route_of d >>= with_place places
+
+-- the places of a file: its stations and its routes, up to 1,024 together
+abbrev pub places_at : ℕ → Members → Result (FinMap nat_cmp Place) FareFileFault
+places_at zones ms = do
+  station_items ← items_at (codes "station") 1_024 ms
+  stations ← with_each (with_station zones) [] station_items
+  route_items ← items_at (codes "route") (1_024 - items_len station_items) ms
+  places ← with_each with_route stations route_items
+  Ok (from_entries places)
+
+-- what a file says, where it is a document; interchanges are not read
 abbrev pub fare_file : Members → Result FareTables FareFileFault
 fare_file ms = if is_some (get_member (codes "band") ms) then Err BandsNotYet else do
+  zones ← integer_at (codes "zones") 1 9 ms
+  minutes ← minutes_at zones ms
   rules ← table_at (codes "rules") ms >>= rules_of
-  places ← places_at ms
-  Ok (record { rules = rules; places = places })
+  singles ← singles_at zones ms
+  holidays ← holidays_at ms
+  places ← places_at zones ms
+  Ok (record { zones = zones; minutes = minutes; rules = rules; singles = singles; holidays = holidays; places = places; interchanges = [] })
 
 abbrev pub fare_document : Option Members → Result FareTables FareFileFault
 fare_document None = Err NotToml
@@ -61,14 +156,3 @@ fare_document (Some ms) = fare_file ms
 -- what the text of a file says
 abbrev pub fare_text : List ℕ → Result FareTables FareFileFault
 fare_text text = fare_document (parse_document text)
-
--- The same places, put into a map one after another.
-abbrev pub with_place : FinMap nat_cmp Place → ℕ → Place → Result (FinMap nat_cmp Place) FareFileFault
-with_place places number place = if contains_key places number then Err Duplicate else Ok (insert places number place)
-
-abbrev pub placed : (Data → Result (ℕ × Place) FareFileFault) → FinMap nat_cmp Place → Items → Result (FinMap nat_cmp Place) FareFileFault
-placed read places no_items = Ok places
-placed read places (item d ds) = do
-  place ← read d
-  more ← with_place places place.0 place.1
-  placed read more ds

@@ -30,6 +30,13 @@ table_of d = ok_or (as_table d) WrongType
 abbrev pub table_at : List ℕ → Members → Result Members FareFileFault
 table_at key ms = needed table_of (get_member key ms)
 
+-- an array
+abbrev pub array_of : Data → Result Items FareFileFault
+array_of d = ok_or (as_array d) WrongType
+
+abbrev pub array_at : List ℕ → Members → Result Items FareFileFault
+array_at key ms = needed array_of (get_member key ms)
+
 -- how many items
 abbrev pub items_len : Items → ℕ
 items_len no_items = 0
@@ -38,7 +45,7 @@ items_len (item d ds) = suc (items_len ds)
 -- an array of at most so many items, which may be missing
 abbrev pub items_of : ℕ → Data → Result Items FareFileFault
 items_of most d = do
-  ds ← ok_or (as_array d) WrongType
+  ds ← array_of d
   if nat_lt most (items_len ds) then Err TooMany else Ok ds
 
 abbrev pub items_or_none : ℕ → Option Data → Result Items FareFileFault

@@ -1,6 +1,8 @@
 pub mod Fault
+pub mod Spans
 pub mod FareTables
 pub mod Codes
 pub mod Keys
 pub mod FareFile
+pub mod Placed
 pub mod Rows

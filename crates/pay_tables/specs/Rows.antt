@@ -4,46 +4,145 @@ use Rattle.std.specs.FinMap.{from_entries}
 use Rattle.toml.specs.Data.{Data, string, integer, array, table, Items, no_items, item, Members, no_members, member}
 use Rattle.toml.proofs.OnLiterals.{toml_on_literals}
 use Rattle.pay_tables.specs.declared.fault.FareFileFault.TheVariants.{NotToml, MissingKey, WrongType, OutOfRange, Duplicate, TooMany, BandsNotYet}
-use Rattle.pay_tables.specs.declared.place.Place.TheVariants.{Route}
+use Rattle.pay_tables.specs.declared.place.Place.TheVariants.{Station, Route}
+use Rattle.pay_tables.specs.declared.single.Single.{Single}
+use Rattle.pay_tables.specs.FareTables.{FareTables}
 use Rattle.pay_tables.specs.Keys.{integer_at, items_at}
-use Rattle.pay_tables.specs.FareFile.{rules_of, fare_file, fare_text}
+use Rattle.pay_tables.specs.FareFile.{minutes_at, rules_of, singles_at, holidays_at, places_at, fare_file, fare_text}
+
+-- ---- how the rows are written
 
 -- a key with a number
 abbrev number : List ℕ → ℕ → Members → Members
 number key n rest = member key (integer (pos n)) rest
 
+abbrev numbers : List ℕ → Items
+numbers [] = no_items
+numbers (n ∷ ns) = item (integer (pos n)) (numbers ns)
+
+abbrev one : Data → Items
+one d = item d no_items
+
+abbrev a_text : Data
+a_text = string (codes "x")
+
 abbrev rules : ℕ → ℕ → ℕ → ℕ → ℕ → Members
 rules bus maximum hopper same_free same_limit =
     number (codes "bus") bus (number (codes "hopper") hopper (number (codes "maximum") maximum (number (codes "same_free") same_free (number (codes "same_limit") same_limit no_members))))
 
+abbrev fare : ℕ → ℕ → ℕ → ℕ → Data
+fare from to peak off = table (number (codes "from") from (number (codes "off") off (number (codes "peak") peak (number (codes "to") to no_members))))
+
+abbrev station : ℕ → ℕ → ℕ → ℕ → Data
+station place low high operator = table (number (codes "high") high (number (codes "low") low (number (codes "operator") operator (number (codes "place") place no_members))))
+
 abbrev route : ℕ → ℕ → Data
 route place operator = table (number (codes "operator") operator (number (codes "place") place no_members))
 
-abbrev file : Items → Members → Members
-file routes r = member (codes "route") (array routes) (member (codes "rules") (table r) no_members)
+-- a file of these keys
+abbrev file : ℕ → List ℕ → Members → Items → List ℕ → Items → Items → Members
+file zones minutes r singles holidays stations routes =
+    member (codes "holidays") (array (numbers holidays)) (member (codes "minutes") (array (numbers minutes)) (member (codes "route") (array routes)
+    (member (codes "rules") (table r) (member (codes "single") (array singles) (member (codes "station") (array stations) (number (codes "zones") zones no_members))))))
 
--- the sample's rules and its one route
-sample : fare_file (file (item (route 50 4) no_items) (rules 175 860 3_600 120 1_800))
-    ≡ Ok (record { rules = record { bus = 175; maximum = 860; hopper = 3_600; same_free = 120; same_limit = 1_800 }; places = from_entries ((50, Route 4) ∷ []) })
+-- what a single fare says
+abbrev says : ℕ → ℕ → ℕ → ℕ → Single
+says from to peak off = record { span = record { from = from; to = to }; peak = peak; off = off }
+
+-- ---- the sample
+
+abbrev sample_rules : Members
+sample_rules = rules 175 860 3_600 120 1_800
+
+abbrev sample_singles : Items
+sample_singles = item (fare 1 1 280 270) (item (fare 1 2 340 280) (item (fare 1 3 370 300) (item (fare 2 2 200 190) (item (fare 2 3 210 195) (one (fare 3 3 200 180))))))
+
+abbrev sample_stations : Items
+sample_stations = item (station 10 1 1 1) (item (station 11 1 2 1) (item (station 12 2 2 2) (item (station 13 2 3 2) (one (station 14 3 3 3)))))
+
+abbrev sample_tables : FareTables
+sample_tables = record {
+  zones = 3;
+  minutes = 90 ∷ 100 ∷ 110 ∷ [];
+  rules = record { bus = 175; maximum = 860; hopper = 3_600; same_free = 120; same_limit = 1_800 };
+  singles = says 1 1 280 270 ∷ says 1 2 340 280 ∷ says 1 3 370 300 ∷ says 2 2 200 190 ∷ says 2 3 210 195 ∷ says 3 3 200 180 ∷ [];
+  holidays = 19_723 ∷ [];
+  places = from_entries ((10, Station 1 1 1) ∷ (11, Station 1 2 1) ∷ (12, Station 2 2 2) ∷ (13, Station 2 3 2) ∷ (14, Station 3 3 3) ∷ (50, Route 4) ∷ []);
+  interchanges = [];
+}
+
+sample : fare_file (file 3 (90 ∷ 100 ∷ 110 ∷ []) sample_rules sample_singles (19_723 ∷ []) sample_stations (one (route 50 4))) ≡ Ok sample_tables
 sample = refl
 
-two_routes : fare_file (file (item (route 7 1) (item (route 50 4) no_items)) (rules 0 100_000 7_200 0 0))
-    ≡ Ok (record { rules = record { bus = 0; maximum = 100_000; hopper = 7_200; same_free = 0; same_limit = 0 }; places = from_entries ((7, Route 1) ∷ (50, Route 4) ∷ []) })
-two_routes = refl
+-- holidays, stations and routes may be missing
+least : fare_file (member (codes "minutes") (array (numbers (1 ∷ []))) (member (codes "rules") (table (rules 0 100_000 7_200 0 0)) (member (codes "single") (array (one (fare 1 1 0 100_000))) (number (codes "zones") 1 no_members))))
+    ≡ Ok (record { zones = 1; minutes = 1 ∷ []; rules = record { bus = 0; maximum = 100_000; hopper = 7_200; same_free = 0; same_limit = 0 }; singles = says 1 1 0 100_000 ∷ []; holidays = []; places = from_entries []; interchanges = [] })
+least = refl
 
--- a file may have no routes
-no_routes : fare_file (member (codes "rules") (table (rules 175 860 1 7_200 7_200)) no_members)
-    ≡ Ok (record { rules = record { bus = 175; maximum = 860; hopper = 1; same_free = 7_200; same_limit = 7_200 }; places = from_entries [] })
-no_routes = refl
+-- ---- the order of the keys
 
 -- bands come before all else
-bands_first : fare_file (member (codes "band") (integer (pos 1)) no_members) ≡ Err BandsNotYet
+bands_first : fare_file (number (codes "band") 1 (number (codes "zones") 0 no_members)) ≡ Err BandsNotYet
 bands_first = refl
 
-no_rules : fare_file no_members ≡ Err MissingKey
-no_rules = refl
+nothing : fare_file no_members ≡ Err MissingKey
+nothing = refl
 
-rules_that_are_no_table : fare_file (member (codes "rules") (integer (pos 1)) no_members) ≡ Err WrongType
+ten_zones : fare_file (file 10 [] sample_rules no_items [] no_items no_items) ≡ Err OutOfRange
+ten_zones = refl
+
+no_zone : fare_file (file 0 [] sample_rules no_items [] no_items no_items) ≡ Err OutOfRange
+no_zone = refl
+
+zones_that_are_a_text : fare_file (member (codes "zones") a_text no_members) ≡ Err WrongType
+zones_that_are_a_text = refl
+
+-- of two faults the first key's: zones, minutes, rules, single fares, holidays, stations, routes
+zones_before_minutes : fare_file (member (codes "minutes") (integer (pos 1)) (number (codes "zones") 0 no_members)) ≡ Err OutOfRange
+zones_before_minutes = refl
+
+minutes_before_rules : fare_file (member (codes "minutes") (array no_items) (number (codes "rules") 1 (number (codes "zones") 1 no_members))) ≡ Err OutOfRange
+minutes_before_rules = refl
+
+rules_before_singles : fare_file (member (codes "minutes") (array (numbers (1 ∷ []))) (number (codes "rules") 1 (number (codes "zones") 1 no_members))) ≡ Err WrongType
+rules_before_singles = refl
+
+singles_before_holidays : fare_file (file 1 (90 ∷ []) sample_rules no_items (3 ∷ []) no_items no_items) ≡ Err MissingKey
+singles_before_holidays = refl
+
+holidays_before_stations : fare_file (file 1 (90 ∷ []) sample_rules (one (fare 1 1 0 0)) (4 ∷ 4 ∷ []) (one (integer (pos 1))) no_items) ≡ Err Duplicate
+holidays_before_stations = refl
+
+stations_before_routes : fare_file (file 1 (90 ∷ []) sample_rules (one (fare 1 1 0 0)) [] (one (station 0 1 1 1)) (one (integer (pos 1)))) ≡ Err OutOfRange
+stations_before_routes = refl
+
+-- ---- minutes
+
+abbrev minutes : Items → Members
+minutes items = member (codes "minutes") (array items) no_members
+
+no_minutes : minutes_at 2 no_members ≡ Err MissingKey
+no_minutes = refl
+
+two_minutes : minutes_at 2 (minutes (numbers (1 ∷ 1_440 ∷ []))) ≡ Ok (1 ∷ 1_440 ∷ [])
+two_minutes = refl
+
+-- another count comes before the items
+minutes_of_one_zone : minutes_at 2 (minutes (one a_text)) ≡ Err OutOfRange
+minutes_of_one_zone = refl
+
+no_time : minutes_at 2 (minutes (numbers (90 ∷ 0 ∷ []))) ≡ Err OutOfRange
+no_time = refl
+
+more_than_a_day : minutes_at 2 (minutes (numbers (1_441 ∷ 90 ∷ []))) ≡ Err OutOfRange
+more_than_a_day = refl
+
+minutes_that_are_a_text : minutes_at 2 (minutes (item a_text (numbers (0 ∷ [])))) ≡ Err WrongType
+minutes_that_are_a_text = refl
+
+-- ---- rules
+
+rules_that_are_no_table : fare_file (member (codes "minutes") (array (numbers (1 ∷ []))) (member (codes "rules") (array no_items) (number (codes "zones") 1 no_members))) ≡ Err WrongType
 rules_that_are_no_table = refl
 
 -- each number just outside its range
@@ -66,28 +165,136 @@ a_text_for_a_number : integer_at (codes "bus") 0 100_000 (member (codes "bus") (
 a_text_for_a_number = refl
 
 -- of two faults the first key's
-order_of_keys : rules_of (member (codes "bus") (string (codes "175")) (number (codes "hopper") 0 no_members)) ≡ Err WrongType
-order_of_keys = refl
+order_of_rules : rules_of (member (codes "bus") (string (codes "175")) (number (codes "hopper") 0 no_members)) ≡ Err WrongType
+order_of_rules = refl
+
+-- ---- single fares of two zones
+
+abbrev singles : Items → Members
+singles items = member (codes "single") (array items) no_members
+
+in_any_order : singles_at 2 (singles (item (fare 2 2 7 6) (item (fare 1 1 5 4) (one (fare 1 2 9 8))))) ≡ Ok (says 2 2 7 6 ∷ says 1 1 5 4 ∷ says 1 2 9 8 ∷ [])
+in_any_order = refl
+
+no_singles : singles_at 2 no_members ≡ Err MissingKey
+no_singles = refl
+
+without_the_last : singles_at 2 (singles (item (fare 1 1 5 4) (one (fare 1 2 9 8)))) ≡ Err MissingKey
+without_the_last = refl
+
+without_the_long_one : singles_at 2 (singles (item (fare 1 1 5 4) (one (fare 2 2 7 6)))) ≡ Err MissingKey
+without_the_long_one = refl
+
+-- a span that is there twice is found before one that is not there
+twice : singles_at 2 (singles (item (fare 1 1 5 4) (one (fare 1 1 5 4)))) ≡ Err Duplicate
+twice = refl
+
+backwards : singles_at 2 (singles (one (fare 2 1 0 0))) ≡ Err OutOfRange
+backwards = refl
+
+beyond_the_zones : singles_at 2 (singles (one (fare 1 3 0 0))) ≡ Err OutOfRange
+beyond_the_zones = refl
+
+from_beyond_the_zones : singles_at 2 (singles (one (fare 3 3 0 0))) ≡ Err OutOfRange
+from_beyond_the_zones = refl
+
+peak_too_large : singles_at 2 (singles (one (fare 1 1 100_001 0))) ≡ Err OutOfRange
+peak_too_large = refl
+
+off_too_large : singles_at 2 (singles (one (fare 1 1 0 100_001))) ≡ Err OutOfRange
+off_too_large = refl
+
+-- the second item's own keys come before its span is looked for
+off_before_span : singles_at 2 (singles (item (fare 1 1 5 4) (one (fare 1 1 5 100_001)))) ≡ Err OutOfRange
+off_before_span = refl
+
+-- ---- holidays
+
+abbrev holidays : Items → Members
+holidays items = member (codes "holidays") (array items) no_members
+
+no_holidays : holidays_at no_members ≡ Ok []
+no_holidays = refl
+
+two_holidays : holidays_at (holidays (numbers (50_000 ∷ 4 ∷ []))) ≡ Ok (50_000 ∷ 4 ∷ [])
+two_holidays = refl
+
+holidays_that_are_no_array : holidays_at (number (codes "holidays") 4 no_members) ≡ Err WrongType
+holidays_that_are_no_array = refl
+
+too_early : holidays_at (holidays (numbers (3 ∷ []))) ≡ Err OutOfRange
+too_early = refl
+
+too_late : holidays_at (holidays (numbers (50_001 ∷ []))) ≡ Err OutOfRange
+too_late = refl
+
+same_holiday : holidays_at (holidays (numbers (4 ∷ 5 ∷ 4 ∷ []))) ≡ Err Duplicate
+same_holiday = refl
+
+-- ---- stations and routes of three zones
+
+abbrev places : Items → Items → Members
+places stations routes = member (codes "route") (array routes) (member (codes "station") (array stations) no_members)
+
+no_places : places_at 3 no_members ≡ Ok (from_entries [])
+no_places = refl
+
+two_routes : places_at 3 (places no_items (item (route 7 1) (one (route 65_535 16)))) ≡ Ok (from_entries ((7, Route 1) ∷ (65_535, Route 16) ∷ []))
+two_routes = refl
+
+at_the_edge : places_at 3 (places (one (station 1 2 3 16)) no_items) ≡ Ok (from_entries ((1, Station 2 3 16) ∷ []))
+at_the_edge = refl
+
+over_two_edges : places_at 3 (places (one (station 1 1 3 1)) no_items) ≡ Err OutOfRange
+over_two_edges = refl
+
+high_below_low : places_at 3 (places (one (station 1 2 1 1)) no_items) ≡ Err OutOfRange
+high_below_low = refl
+
+high_beyond_the_zones : places_at 3 (places (one (station 1 3 4 1)) no_items) ≡ Err OutOfRange
+high_beyond_the_zones = refl
+
+low_beyond_the_zones : places_at 3 (places (one (station 1 4 4 1)) no_items) ≡ Err OutOfRange
+low_beyond_the_zones = refl
+
+no_operator : places_at 3 (places (one (station 1 1 1 0)) no_items) ≡ Err OutOfRange
+no_operator = refl
+
+same_station : places_at 3 (places (item (station 10 1 1 1) (one (station 10 2 2 2))) no_items) ≡ Err Duplicate
+same_station = refl
+
+same_route : places_at 3 (places no_items (item (route 50 4) (one (route 50 5)))) ≡ Err Duplicate
+same_route = refl
+
+route_at_a_station : places_at 3 (places (one (station 10 1 1 1)) (one (route 10 1))) ≡ Err Duplicate
+route_at_a_station = refl
 
 -- the second item's own keys come before its place is looked for
-same_place : fare_file (file (item (route 50 4) (item (route 50 4) no_items)) (rules 175 860 3_600 120 1_800)) ≡ Err Duplicate
-same_place = refl
-
-operator_before_place : fare_file (file (item (route 50 4) (item (route 50 17) no_items)) (rules 175 860 3_600 120 1_800)) ≡ Err OutOfRange
+operator_before_place : places_at 3 (places (one (station 10 1 1 1)) (one (route 10 17))) ≡ Err OutOfRange
 operator_before_place = refl
 
 -- too many items come before the items
-three_at_most_two : items_at (codes "route") 2 (member (codes "route") (array (item (integer (pos 1)) (item (route 1 1) (item (route 2 1) no_items)))) no_members) ≡ Err TooMany
+three_at_most_two : items_at (codes "route") 2 (member (codes "route") (array (item (integer (pos 1)) (item (route 1 1) (one (route 2 1))))) no_members) ≡ Err TooMany
 three_at_most_two = refl
 
+-- ---- texts
+
 abbrev short_text : List ℕ
-short_text = codes "[rules]\nbus = 175\nmaximum = 860\nhopper = 3600\nsame_free = 120\nsame_limit = 1800\n[[route]]\nplace = 50\noperator = 4\n"
+short_text = codes "zones = 1\nminutes = [90]\nsingle = [{ from = 1, to = 1, peak = 280, off = 270 }]\n[rules]\nbus = 175\nmaximum = 860\nhopper = 3600\nsame_free = 120\nsame_limit = 1800\n[[route]]\nplace = 50\noperator = 4\n"
 
 from_text : fare_text short_text
-    ≡ Ok (record { rules = record { bus = 175; maximum = 860; hopper = 3_600; same_free = 120; same_limit = 1_800 }; places = from_entries ((50, Route 4) ∷ []) })
+    ≡ Ok (record {
+      zones = 1;
+      minutes = 90 ∷ [];
+      rules = record { bus = 175; maximum = 860; hopper = 3_600; same_free = 120; same_limit = 1_800 };
+      singles = says 1 1 280 270 ∷ [];
+      holidays = [];
+      places = from_entries ((50, Route 4) ∷ []);
+      interchanges = [];
+    })
 unfolding toml_on_literals
 from_text = refl
 
-no_toml : fare_text (codes "rules") ≡ Err NotToml
+no_toml : fare_text (codes "zones") ≡ Err NotToml
 unfolding toml_on_literals
 no_toml = refl

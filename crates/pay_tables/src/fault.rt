@@ -8,13 +8,13 @@ use std::alloc::AllocFailed;
 pub enum FareFileFault {
     /// 10: the text is no TOML document.
     NotToml,
-    /// 11: a key that must be there is missing.
+    /// 11: a key that must be there is missing, or a span within the zones has no single fare.
     MissingKey,
     /// 12: a value has another form than its key wants: a text for an integer, say.
     WrongType,
-    /// 13: a number is outside its range.
+    /// 13: a number is outside its range, or the minutes are not one for each zone.
     OutOfRange,
-    /// 14: an item has the place of an earlier one.
+    /// 14: an item has the span, the day or the place of an earlier one.
     Duplicate,
     /// 16: an array has more items than its limit.
     TooMany,

@@ -1,9 +1,9 @@
 //! What stands at one key of a table, or the fault there.
-ghost use Rattle.std.specs.Prelude.{◌≡◌, ◌≤◌, IfOk, is_some, option_map};
+ghost use Rattle.std.specs.Prelude.{◌≡◌, ◌≤◌, IfOk, is_some, length, option_map};
 ghost use Rattle.toml.specs.Data.{get_member};
 ghost use Rattle.toml.specs.View.{view, table_view, items_view};
 ghost use Rattle.pay_tables.specs.Fault.{Gives};
-ghost use Rattle.pay_tables.specs.Keys.{integer_in, integer_of, integer_at, table_of, table_at, items_of, items_at};
+ghost use Rattle.pay_tables.specs.Keys.{integer_in, integer_of, integer_at, table_of, table_at, array_of, array_at, items_of, items_at};
 
 use crate::fault::FareFileFault;
 use pay_money::Pence;
@@ -37,7 +37,8 @@ pub fn integer_at(table: &Table, key: &str, least: u32, most: u32) -> Result<u32
     }
 }
 
-fn integer(value: &Value, least: u32, most: u32) -> Result<u32, FareFileFault>
+/// The value as an integer, if it is from `least` to `most`.
+pub fn integer(value: &Value, least: u32, most: u32) -> Result<u32, FareFileFault>
     ensures value { result ≡ integer_of least most (view value.now) }
     ensures range { IfOk result (λ n. (least ≤ n) × (n ≤ most)) }
 {
@@ -86,9 +87,20 @@ pub fn inner_table(value: &Value) -> Result<&Table, FareFileFault>
     }
 }
 
-/// The items at a key that may be missing, if they are no more than `most`. A missing key has none.
+/// The items of an array that must be there.
+pub fn array_at<'a>(table: &'a Table, key: &str) -> Result<&'a [Value], FareFileFault>
+    ensures { Gives (λ items. items_view items.now) result (array_at key.now (table_view table.now)) }
+{
+    match member(table, key) {
+        Some(value) => inner_array(value),
+        None => Err(FareFileFault::MissingKey),
+    }
+}
+
+/// The items of an array that may be missing, if they are no more than `most`. A missing one has none.
 pub fn items_at<'a>(table: &'a Table, key: &str, most: usize) -> Result<&'a [Value], FareFileFault>
-    ensures { Gives (λ items. items_view items.now) result (items_at key.now most (table_view table.now)) }
+    ensures value { Gives (λ items. items_view items.now) result (items_at key.now most (table_view table.now)) }
+    ensures count { IfOk result (λ items. length items.now ≤ most) }
 {
     match member(table, key) {
         Some(value) => items(value, most),
@@ -98,10 +110,20 @@ pub fn items_at<'a>(table: &'a Table, key: &str, most: usize) -> Result<&'a [Val
 
 #[tactic(auto, using(crate::proofs::Items::items_len_view))]
 fn items(value: &Value, most: usize) -> Result<&[Value], FareFileFault>
-    ensures { Gives (λ items. items_view items.now) result (items_of most (view value.now)) }
+    ensures value { Gives (λ items. items_view items.now) result (items_of most (view value.now)) }
+    ensures count { IfOk result (λ items. length items.now ≤ most) }
+{
+    let items = inner_array(value)?;
+    if items.len() > most {
+        return Err(FareFileFault::TooMany);
+    }
+    Ok(items)
+}
+
+fn inner_array(value: &Value) -> Result<&[Value], FareFileFault>
+    ensures { Gives (λ items. items_view items.now) result (array_of (view value.now)) }
 {
     match value.as_array() {
-        Some(items) if items.len() > most => Err(FareFileFault::TooMany),
         Some(items) => Ok(items.as_slice()),
         None => Err(FareFileFault::WrongType),
     }

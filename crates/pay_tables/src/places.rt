@@ -1,14 +1,22 @@
-ghost use Rattle.std.specs.Prelude.{◌≡◌, IfSome, OnErr};
+ghost use Rattle.std.specs.Prelude.{◌≡◌, OnErr};
 ghost use Rattle.std.specs.FinMap as map;
+ghost use Rattle.toml.specs.View.{table_view};
 ghost use Rattle.pay_tables.specs.Fault.{GivesUnlessMemory};
-ghost use Rattle.pay_tables.specs.FareFile.{with_place};
-ghost use Rattle.pay_tables.specs.FareTables.{IsPlace};
+ghost use Rattle.pay_tables.specs.FareFile.{places_at};
+ghost use Rattle.pay_tables.specs.Placed.{put_place};
 
 use crate::fault::FareFileFault;
+use crate::keys::items_at;
 use crate::place::Place;
+use crate::routes::add_routes;
+use crate::stations::add_stations;
 use std::alloc::Global;
 use std::collections::BTreeMap;
 use std::marker::Model;
+use toml::Table;
+
+/// How many stations and routes a fare file may have together.
+const MOST_PLACES: usize = 1_024;
 
 /// Places by their numbers. In a contract it is that finite map.
 #[derive(Debug, Drop)]
@@ -22,18 +30,28 @@ impl Model for Places {
     ghost use Rattle.std.specs.FinMap as map;
     ghost use Rattle.pay_tables.specs.declared.place.Place.{Place};
     ghost use Rattle.pay_tables.specs.Codes.{place_code};
-    ghost use Rattle.pay_tables.specs.FareTables.{ArePlaces};
 
     ghost Value = { map.FinMap nat_cmp Place };
 
     ghost coded = { map.code coded_ℕ place_code };
 
     ghost view = { λ p. map.from_entries p.numbers.entries };
-
-    ghost invariant = { λ p. ArePlaces (map.from_entries p.numbers.entries) };
 }
 
 impl Places {
+    /// The places of a fare file: its stations and its routes.
+    #[tactic(auto, using(crate::proofs::Items::items_len_view))]
+    pub fn of(alloc: Global, file: &Table, zones: u8) -> Result<Places, FareFileFault>
+        ensures { GivesUnlessMemory (λ places. places) result (places_at zones (table_view file.now)) }
+    {
+        let mut places = Places::new(alloc);
+        let stations = items_at(file, "station", MOST_PLACES)?;
+        add_stations(&mut places, stations, zones)?;
+        let routes = items_at(file, "route", MOST_PLACES - stations.len())?;
+        add_routes(&mut places, routes)?;
+        Ok(places)
+    }
+
     /// No place.
     pub fn new(alloc: Global) -> Places
         ensures { result ≡ map.empty }
@@ -45,16 +63,14 @@ impl Places {
 
     /// What stands at a number.
     pub fn get(&self, number: u16) -> Option<Place>
-        ensures value { result ≡ map.get self.now number }
-        ensures in_range { IfSome result IsPlace }
+        ensures { result ≡ map.get self.now number }
     {
         self.numbers.get(&number).copied()
     }
 
     /// Adds a place under a number that is not taken: `Duplicate` if it is. An `Err` changes nothing.
     pub fn add(&mut self, number: u16, place: Place) -> Result<(), FareFileFault>
-        requires { IsPlace place }
-        ensures added { GivesUnlessMemory (λ _. self.new) result (with_place self.old number place) }
+        ensures added { GivesUnlessMemory (λ _. self.new) result (put_place self.old (number, place)) }
         ensures err { OnErr result (self.new ≡ self.old) }
     {
         if self.numbers.contains_key(&number) {

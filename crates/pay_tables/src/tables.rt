@@ -1,17 +1,24 @@
-ghost use Rattle.std.specs.Prelude.{◌≡◌, ◌≢◌, IfOk, IfErr, IfSome, None, Ok, Err};
+ghost use Rattle.std.specs.Prelude.{◌≡◌, ◌≢◌, ◌≤◌, IfOk, IfErr, IfSome, None, Ok, Err, option_map};
 ghost use Rattle.std.specs.FinMap as map;
 ghost use Rattle.toml.specs.Parse.{parse_document};
 ghost use Rattle.toml.specs.View.{table_view};
 ghost use Rattle.pay_tables.specs.Fault.{GivesUnlessMemory};
 ghost use Rattle.pay_tables.specs.FareFile.{fare_file, fare_text};
-ghost use Rattle.pay_tables.specs.FareTables.{AreRules, IsPlace};
+ghost use Rattle.pay_tables.specs.FareTables.{AreRules, IsPlace, IsSingle, station_at, single_of_span, single_fare, allowed_seconds, is_holiday, interchange};
+ghost use Rattle.pay_tables.specs.Spans.{IsSpan};
 
+use crate::fares::singles_at;
 use crate::fault::FareFileFault;
-use crate::keys::{has_key, table_at};
+use crate::holidays::holidays_at;
+use crate::interchange::Interchange;
+use crate::keys::{has_key, integer_at, table_at};
+use crate::minutes::minutes_at;
 use crate::place::Place;
 use crate::places::Places;
-use crate::routes::places_at;
 use crate::rules::Rules;
+use crate::single::Single;
+use crate::zones::Span;
+use pay_money::Pence;
 use std::alloc::Global;
 use std::marker::Model;
 use toml::Table;
@@ -19,21 +26,42 @@ use toml::Table;
 /// What a fare file says.
 #[derive(Debug, Drop)]
 pub struct Tables {
+    zones: u8,
+    minutes: Vec<u32>,
     rules: Rules,
+    singles: Vec<Single>,
+    holidays: Vec<u32>,
     places: Places,
+    interchanges: Vec<Interchange>,
 }
 
 impl Model for Tables {
-    ghost use Rattle.pay_tables.specs.FareTables.{FareTables, AreRules};
+    ghost use Rattle.pay_tables.specs.FareTables.{FareTables, IsFareTables};
     ghost use Rattle.pay_tables.specs.Codes.{fare_tables_code};
 
     ghost Value = { FareTables };
 
     ghost coded = { fare_tables_code };
 
-    ghost view = { λ t. record { rules = t.rules; places = t.places } };
+    ghost view = { λ t. record {
+      zones = t.zones;
+      minutes = t.minutes.items;
+      rules = t.rules;
+      singles = t.singles.items;
+      holidays = t.holidays.items;
+      places = t.places;
+      interchanges = t.interchanges.items;
+    } };
 
-    ghost invariant = { λ t. AreRules t.rules };
+    ghost invariant = { λ t. IsFareTables (record {
+      zones = t.zones;
+      minutes = t.minutes.items;
+      rules = t.rules;
+      singles = t.singles.items;
+      holidays = t.holidays.items;
+      places = t.places;
+      interchanges = t.interchanges.items;
+    }) };
 }
 
 impl Tables {
@@ -59,9 +87,29 @@ impl Tables {
         if has_key(file, "band") {
             return Err(FareFileFault::BandsNotYet);
         }
+        let zones = integer_at(file, "zones", 1, 9)? as u8;
+        let minutes = minutes_at(alloc, file, zones)?;
         let rules = Rules::of(table_at(file, "rules")?)?;
-        let places = places_at(alloc, file)?;
-        Ok(Tables { rules, places })
+        let singles = singles_at(alloc, file, zones)?;
+        let holidays = holidays_at(alloc, file)?;
+        let places = Places::of(alloc, file, zones)?;
+        Ok(Tables {
+            zones,
+            minutes,
+            rules,
+            singles,
+            holidays,
+            places,
+            interchanges: Vec::new(alloc),
+        })
+    }
+
+    /// How many fare zones there are.
+    pub fn zones(&self) -> u8
+        ensures value { result ≡ self.now.zones }
+        ensures in_range { (1 ≤ result) × (result ≤ 9) }
+    {
+        self.zones
     }
 
     /// The prices and the times that hold for every journey.
@@ -75,8 +123,68 @@ impl Tables {
     /// What stands at a place's number, if anything does.
     pub fn place(&self, number: u16) -> Option<Place>
         ensures value { result ≡ map.get self.now.places number }
-        ensures in_range { IfSome result IsPlace }
+        ensures in_range { IfSome result (IsPlace self.now.zones) }
     {
         self.places.get(number)
+    }
+
+    /// The station at a place's number. A number without a place, which no accepted tap has, counts as
+    /// a station in zone 1.
+    pub fn station(&self, number: u16) -> Place
+        ensures value { result ≡ station_at self.now number }
+        ensures in_range { IsPlace self.now.zones result }
+    {
+        let _ = &self.zones;
+        match self.place(number) {
+            Some(place) => place,
+            None => Place::Route { operator: 1 },
+        }
+    }
+
+    /// The single fare of a span, for a journey that is peak or for one that is not.
+    pub fn single(&self, span: Span, peak: bool) -> Pence
+        requires { IsSpan self.now.zones span }
+        ensures value { result ≡ single_fare self.now span peak }
+        ensures in_range { result ≤ 100_000 }
+    {
+        let _ = &self.zones;
+        match self.single_of_span(span) {
+            Some(single) if peak => single.peak,
+            Some(single) => single.off,
+            None => unreachable!(),
+        }
+    }
+
+    #[tactic(auto, using(crate::proofs::Singles::found_is))]
+    fn single_of_span(&self, span: Span) -> Option<&Single>
+        ensures value { option_map (λ single. single.now) result ≡ single_of_span self.now span }
+        ensures in_range { IfSome result (λ single. IsSingle self.now.zones single.now) }
+    {
+        self.singles.iter().find(|single| single.span == span)
+    }
+
+    /// How many seconds a leg within a span may last.
+    pub fn max_seconds(&self, span: Span) -> u32
+        requires { IsSpan self.now.zones span }
+        ensures value { result ≡ allowed_seconds self.now span }
+        ensures in_range { (60 ≤ result) × (result ≤ 86_400) }
+    {
+        60 * self.minutes[usize::from(span.to - span.from)]
+    }
+
+    /// Whether a service day is a public holiday.
+    pub fn is_holiday(&self, day: u32) -> bool
+        ensures { result ≡ is_holiday self.now day }
+    {
+        self.holidays.contains(&day)
+    }
+
+    /// How many seconds may pass between the exit at one station and the entry at another, in either
+    /// order, if the file lists them.
+    pub fn interchange(&self, a: u16, b: u16) -> Option<u32>
+        ensures { result ≡ interchange self.now a b }
+    {
+        let pair = self.interchanges.iter().find(|pair| pair.is_between(a, b))?;
+        Some(pair.seconds)
     }
 }

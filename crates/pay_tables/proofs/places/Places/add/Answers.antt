@@ -1,7 +1,6 @@
 use Rattle.std.proofs.Common.{◌≡◌, is_some, ap, sym, ◌∙◌, true, false}
 use Rattle.std.specs.FinMap as map
 use Rattle.pay_tables.proofs.Numbers.{get-lookup, from_entries-updated}
-use Rattle.pay_tables.proofs.Ranges.{ArePlaces-insert}
 use Rattle.pay_tables.proofs.places.Places.add.Goals as goal
 
 pub returns-then-contains_key-clause-added : goal.returns-then-contains_key-clause-added
@@ -18,8 +17,3 @@ returns-clause-added c =
     from_entries-updated c.self.inside.numbers.entries c.insert.new.self.entries c.args.number c.args.place c.in_ok-insert.ensures.updates.0
     ∙ ap (λ m. map.insert m c.args.number c.args.place) c.self.view_is in
     rw (free, put)
-
-pub invariant_of-self-2 : goal.invariant_of-self-2
-invariant_of-self-2 c =
-    let put = from_entries-updated c.self.inside.numbers.entries c.insert.new.self.entries c.args.number c.args.place c.in_ok-insert.ensures.updates.0 in
-    rw put (ArePlaces-insert _ c.args.number c.args.place c.self.invariant c.requires)

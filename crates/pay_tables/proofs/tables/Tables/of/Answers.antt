@@ -1,0 +1,21 @@
+use Rattle.std.proofs.Common.{◌≡◌, Ok, rules}
+use Rattle.std.proofs.lemmas.Result.{IfOk-at_ok}
+use Rattle.toml.specs.View.{table_view}
+use Rattle.pay_tables.specs.FareTables.{IsFareTables, FareTables}
+use Rattle.pay_tables.specs.FareFile.{fare_file}
+use Rattle.pay_tables.proofs.Ranges.{fare_file_is}
+use Rattle.pay_tables.proofs.tables.Tables.of.Goals as goal
+
+pub invariant_of-result : goal.invariant_of-result
+invariant_of-result c =
+    let said : FareTables = record {
+      zones = c.in_ok-zones.field-0;
+      minutes = c.in_ok-minutes.minutes.items;
+      rules = c.in_ok-rules.rules;
+      singles = c.in_ok-singles.singles.items;
+      holidays = c.in_ok-holidays.holidays.items;
+      places = c.in_ok-places.places;
+      interchanges = c.new.result.items;
+    } in
+    let given : fare_file (table_view c.args.file.now) ≡ Ok said = search rules in
+    IfOk-at_ok IsFareTables given (fare_file_is (table_view c.args.file.now))

@@ -1,0 +1,13 @@
+use crate::zones::Span;
+use pay_money::Pence;
+
+/// The single fare of a span.
+#[derive(Clone, Copy, Debug, PartialEq, Eq)]
+pub struct Single {
+    /// The zones that it is for.
+    pub span: Span,
+    /// The fare of a journey that is peak: 0 to 100,000 pence.
+    pub peak: Pence,
+    /// The fare of one that is off-peak: 0 to 100,000 pence.
+    pub off: Pence,
+}

@@ -1,0 +1,88 @@
+ghost use Rattle.std.specs.Prelude.{◌≡◌, ◌≤◌, ℕ, All, length};
+ghost use Rattle.pay_tables.specs.FareTables.{IsPlace};
+ghost use Rattle.pay_tables.specs.Spans.{IsSpan, IsTouched, low_of, high_of, touched_one, touched_also, touched_by, span_touched, span_of};
+
+use crate::place::Place;
+use crate::zones::Span;
+
+/// What stations touched so far say of the span.
+#[derive(Clone, Copy, Debug, PartialEq, Eq)]
+pub struct Touched {
+    /// The least of their higher zones.
+    pub least_high: u8,
+    /// The greatest of their lower zones.
+    pub greatest_low: u8,
+}
+
+impl Place {
+    /// The zones of a station, the lower and the higher. A route counts as a station in zone 1.
+    fn zones(self) -> (u8, u8)
+        ensures { result ≡ (low_of self, high_of self) }
+    {
+        match self {
+            Place::Station { low, high, .. } => (low, high),
+            Place::Route { .. } => (1, 1),
+        }
+    }
+}
+
+impl Touched {
+    /// One station.
+    #[tactic(auto, using(crate::proofs::Spans::one_within))]
+    pub fn one(station: Place) -> Touched
+        ensures value { result ≡ touched_one station }
+        ensures within { (zones : ℕ) → IsPlace zones station → IsTouched zones result }
+    {
+        let (low, high) = station.zones();
+        Touched {
+            least_high: high,
+            greatest_low: low,
+        }
+    }
+
+    /// One station more.
+    #[tactic(auto, using(crate::proofs::Spans::also_within))]
+    pub fn also(self, station: Place) -> Touched
+        ensures value { result ≡ touched_also self station }
+        ensures within { (zones : ℕ) → IsTouched zones self → IsPlace zones station → IsTouched zones result }
+    {
+        let (low, high) = station.zones();
+        Touched {
+            least_high: self.least_high.min(high),
+            greatest_low: self.greatest_low.max(low),
+        }
+    }
+
+    /// The span of the stations: from the least higher zone to the greatest lower one, or that zone
+    /// alone if the other is below it. A journey is given the narrowest span that its stations allow.
+    #[tactic(auto, using(crate::proofs::Spans::span_within))]
+    pub fn span(self) -> Span
+        ensures value { result ≡ span_touched self }
+        ensures within { (zones : ℕ) → IsTouched zones self → IsSpan zones result }
+    {
+        Span {
+            from: self.least_high,
+            to: self.least_high.max(self.greatest_low),
+        }
+    }
+}
+
+/// What stations say of the span together.
+fn touched_by(stations: &[Place]) -> Touched
+    requires { 1 ≤ length stations.now }
+    ensures { result ≡ touched_by stations.now }
+{
+    let first = Touched::one(stations[0]);
+    stations[1..]
+        .iter()
+        .fold(first, |touched, station| touched.also(*station))
+}
+
+/// The span of the stations that a journey touches.
+pub fn span(stations: &[Place]) -> Span
+    requires { 1 ≤ length stations.now }
+    ensures value { result ≡ span_of stations.now }
+    ensures within { (zones : ℕ) → All (IsPlace zones) stations.now → IsSpan zones result }
+{
+    touched_by(stations).span()
+}
