@@ -1,0 +1,3 @@
+mod Rows
+pub mod Parting
+pub mod Waiting

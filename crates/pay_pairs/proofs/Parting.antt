@@ -1,0 +1,148 @@
+-- There is one parting of taps, and `legs` computes it.
+use Rattle.std.proofs.Common.{◌≡◌, Bool, true, false, List, [], ◌∷◌, ◌++◌, ◌&&◌, if◌then◌else◌, refl}
+use Rattle.std.proofs.lemmas.List.{append_assoc}
+use Rattle.std.proofs.lemmas.List.Elements.{All-nil, All-cons, All-head, All-tail}
+use Rattle.pay_tables.specs.FareTables.{FareTables}
+use Rattle.pay_taps.specs.declared.tap.Kind.{Kind}
+use Rattle.pay_taps.specs.declared.tap.Kind.TheVariants.{In, Out, Bus}
+use Rattle.pay_taps.specs.declared.tap.Touch.{Touch}
+use Rattle.pay_taps.specs.Taps.{same_kind}
+use Rattle.pay_pairs.specs.declared.parts.Leg.{Leg}
+use Rattle.pay_pairs.specs.declared.parts.RailPart.{RailPart}
+use Rattle.pay_pairs.specs.declared.parts.RailPart.TheVariants as part
+use Rattle.pay_pairs.specs.Legs.{is_leg, leg, legs, taps_of_part, taps_of, IsPart, HasLeg, AreParts}
+
+-- ---- what is computed is a parting
+
+-- the test of a leg tells the kinds of its taps
+in_then_out : (first second : Kind) (near : Bool) → (same_kind first In && same_kind second Out && near) ≡ true → (first ≡ In) × (second ≡ Out)
+in_then_out In Out near h = (refl, refl)
+in_then_out In In near h = cc
+in_then_out In Bus near h = cc
+in_then_out Out second near h = cc
+in_then_out Bus second near h = cc
+
+-- an exit is no entry of a next leg
+exit_is_no_entry : (tables : FareTables) (entry exit next : Touch) → is_leg tables entry exit ≡ true → is_leg tables exit next ≡ true → ⊥
+exit_is_no_entry tables entry exit next h k =
+    let out = (in_then_out entry.kind exit.kind _ h).1 in
+    let in' = (in_then_out exit.kind next.kind _ k).0 in
+    cc
+
+-- two taps that are a leg, before a parting
+leg_first : (tables : FareTables) (entry exit : Touch) (taps : List Touch) (parts : List RailPart) →
+    is_leg tables entry exit ≡ true → AreParts tables taps parts → AreParts tables (entry ∷ exit ∷ taps) (leg entry exit ∷ parts)
+leg_first tables entry exit taps parts h rest = record {
+  each_tap = cc (rest.each_tap);
+  each_part = All-cons (IsPart tables) _ _ h rest.each_part;
+  each_leg = behind;
+} where
+  behind : (before after : List Touch) (a b : Touch) → entry ∷ exit ∷ taps ≡ before ++ a ∷ b ∷ after → is_leg tables a b ≡ true →
+      HasLeg (leg entry exit ∷ parts) before a b
+  behind [] after a b e k = ([], parts, cc, refl)
+  behind (x ∷ []) after a b e k = absurd (exit_is_no_entry tables entry exit b h (cc))
+  behind (x ∷ y ∷ before) after a b e k =
+      let there = rest.each_leg before after a b (cc) k in
+      (leg entry exit ∷ there.0, there.1, cc (there.2), cc (there.3))
+
+-- a tap that is no leg with the next one, before a parting
+lone_first : (tables : FareTables) (tap next : Touch) (taps : List Touch) (parts : List RailPart) →
+    is_leg tables tap next ≡ false → AreParts tables (next ∷ taps) parts → AreParts tables (tap ∷ next ∷ taps) (part.Lone tap ∷ parts)
+lone_first tables tap next taps parts h rest = record {
+  each_tap = cc (rest.each_tap);
+  each_part = All-cons (IsPart tables) _ _ tt rest.each_part;
+  each_leg = behind;
+} where
+  behind : (before after : List Touch) (a b : Touch) → tap ∷ next ∷ taps ≡ before ++ a ∷ b ∷ after → is_leg tables a b ≡ true →
+      HasLeg (part.Lone tap ∷ parts) before a b
+  behind [] after a b e k = cc
+  behind (x ∷ before) after a b e k =
+      let there = rest.each_leg before after a b (cc) k in
+      (part.Lone tap ∷ there.0, there.1, cc (there.2), cc (there.3))
+
+no_taps : (tables : FareTables) → AreParts tables [] []
+no_taps tables = record { each_tap = refl; each_part = All-nil (IsPart tables); each_leg = behind } where
+  behind : (before after : List Touch) (a b : Touch) → [] ≡ before ++ a ∷ b ∷ after → is_leg tables a b ≡ true → HasLeg [] before a b
+  behind [] after a b e k = cc
+  behind (x ∷ before) after a b e k = cc
+
+one_tap : (tables : FareTables) (tap : Touch) → AreParts tables (tap ∷ []) (part.Lone tap ∷ [])
+one_tap tables tap = record { each_tap = refl; each_part = All-cons (IsPart tables) (part.Lone tap) [] tt (All-nil (IsPart tables)); each_leg = behind } where
+  behind : (before after : List Touch) (a b : Touch) → tap ∷ [] ≡ before ++ a ∷ b ∷ after → is_leg tables a b ≡ true → HasLeg (part.Lone tap ∷ []) before a b
+  behind [] after a b e k = cc
+  behind (x ∷ []) after a b e k = cc
+  behind (x ∷ y ∷ before) after a b e k = cc
+
+-- the same by whether the first two are a leg
+by_first_two : (tables : FareTables) (tap next : Touch) (later : List Touch) (together : Bool) → is_leg tables tap next ≡ together →
+    AreParts tables later (legs tables later) → AreParts tables (next ∷ later) (legs tables (next ∷ later)) →
+    AreParts tables (tap ∷ next ∷ later) (if together then leg tap next ∷ legs tables later else part.Lone tap ∷ legs tables (next ∷ later))
+by_first_two tables tap next later true h both one = leg_first tables tap next later (legs tables later) h both
+by_first_two tables tap next later false h both one = lone_first tables tap next later (legs tables (next ∷ later)) h one
+
+pub legs_are_parts : (tables : FareTables) (taps : List Touch) → AreParts tables taps (legs tables taps)
+legs_are_parts tables [] = no_taps tables
+legs_are_parts tables (tap ∷ []) = one_tap tables tap
+legs_are_parts tables (tap ∷ next ∷ later) =
+    by_first_two tables tap next later (is_leg tables tap next) refl (legs_are_parts tables later) (legs_are_parts tables (next ∷ later))
+
+pub are_parts : (tables : FareTables) (taps : List Touch) (parts : List RailPart) → parts ≡ legs tables taps → AreParts tables taps parts
+are_parts tables taps parts e = rw e (legs_are_parts tables taps)
+
+-- ---- and there is no other
+
+-- a leg behind a first part stands among the others
+among_others : (p : RailPart) (parts : List RailPart) (before : List Touch) (entry exit : Touch) →
+    HasLeg (p ∷ parts) (taps_of_part p ++ before) entry exit → HasLeg parts before entry exit
+among_others (part.Lone tap) parts before entry exit ([], back, e, f) = cc
+among_others (part.Leg l) parts before entry exit ([], back, e, f) = cc
+among_others (part.Lone tap) parts before entry exit (part.Leg other ∷ front, back, e, f) = cc
+among_others (part.Leg l) parts before entry exit (part.Lone other ∷ front, back, e, f) = cc
+among_others (part.Lone tap) parts before entry exit (part.Lone other ∷ front, back, e, f) = (front, back, cc, cc)
+among_others (part.Leg l) parts before entry exit (part.Leg other ∷ front, back, e, f) = (front, back, cc, cc)
+
+-- the parts behind a first one are a parting of their taps
+rest_are : (tables : FareTables) (p : RailPart) (parts : List RailPart) (taps rest : List Touch) →
+    AreParts tables taps (p ∷ parts) → taps_of parts ≡ rest → AreParts tables rest parts
+rest_are tables p parts taps rest h r = record {
+  each_tap = r;
+  each_part = All-tail (IsPart tables) p parts h.each_part;
+  each_leg = λ before after a b e k.
+      among_others p parts before a b
+      (h.each_leg (taps_of_part p ++ before) after a b (cc (h.each_tap, e, r, append_assoc (taps_of_part p) before (a ∷ b ∷ after))) k);
+}
+
+-- the first leg does not begin with a first tap that is alone
+alone : (tap : Touch) (parts : List RailPart) (entry exit : Touch) → HasLeg (part.Lone tap ∷ parts) [] entry exit → ⊥
+alone tap parts entry exit ([], back, e, f) = cc
+alone tap parts entry exit (part.Lone other ∷ front, back, e, f) = cc
+alone tap parts entry exit (part.Leg other ∷ front, back, e, f) = cc
+
+-- a first tap is not alone in one parting and in a leg in another
+not_alone_too : (tables : FareTables) (taps : List Touch) (tap : Touch) (l : Leg) (parts others : List RailPart) →
+    AreParts tables taps (part.Lone tap ∷ parts) → AreParts tables taps (part.Leg l ∷ others) → ⊥
+not_alone_too tables taps tap l parts others h k =
+    alone tap parts l.entry l.exit (h.each_leg [] (taps_of others) l.entry l.exit (cc (k.each_tap)) (All-head (IsPart tables) (part.Leg l) others k.each_part))
+
+-- legs of the same two taps are the same
+same_leg : (a b : Leg) → a.entry ≡ b.entry → a.exit ≡ b.exit → part.Leg a ≡ part.Leg b
+same_leg a b e f = same a.entry b.entry a.exit b.exit e f where
+  same : (entry other_entry exit other_exit : Touch) → entry ≡ other_entry → exit ≡ other_exit → leg entry exit ≡ leg other_entry other_exit
+  same entry other_entry exit other_exit e f = cc
+
+pub one_parting : (tables : FareTables) (taps : List Touch) (parts others : List RailPart) →
+    AreParts tables taps parts → AreParts tables taps others → parts ≡ others
+one_parting tables taps [] [] h k = refl
+one_parting tables taps [] (part.Lone tap ∷ others) h k = cc (h.each_tap, k.each_tap)
+one_parting tables taps [] (part.Leg l ∷ others) h k = cc (h.each_tap, k.each_tap)
+one_parting tables taps (part.Lone tap ∷ parts) [] h k = cc (h.each_tap, k.each_tap)
+one_parting tables taps (part.Leg l ∷ parts) [] h k = cc (h.each_tap, k.each_tap)
+one_parting tables taps (part.Lone tap ∷ parts) (part.Leg l ∷ others) h k = absurd (not_alone_too tables taps tap l parts others h k)
+one_parting tables taps (part.Leg l ∷ parts) (part.Lone tap ∷ others) h k = absurd (not_alone_too tables taps tap l others parts k h)
+one_parting tables taps (part.Lone tap ∷ parts) (part.Lone other ∷ others) h k =
+    let same = one_parting tables (taps_of parts) parts others (rest_are tables _ parts taps _ h refl) (rest_are tables _ others taps _ k (cc (h.each_tap, k.each_tap))) in
+    cc (h.each_tap, k.each_tap, same)
+one_parting tables taps (part.Leg l ∷ parts) (part.Leg other ∷ others) h k =
+    let same = one_parting tables (taps_of parts) parts others (rest_are tables _ parts taps _ h refl) (rest_are tables _ others taps _ k (cc (h.each_tap, k.each_tap))) in
+    let first = same_leg l other (cc (h.each_tap, k.each_tap)) (cc (h.each_tap, k.each_tap)) in
+    cc (first, same)

@@ -1,0 +1,9 @@
+//! Legs: which taps of a rail traveller on the way in and out belong together.
+#![tactic(auto)]
+
+pub mod laws;
+mod parts;
+#[cfg(test)]
+mod tests;
+
+pub use parts::{Leg, RailPart, legs};

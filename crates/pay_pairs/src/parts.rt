@@ -1,0 +1,75 @@
+ghost use Rattle.std.specs.Prelude.{◌≡◌, IfOk};
+ghost use Rattle.pay_pairs.specs.Legs.{seconds_between, is_leg, legs, AreParts};
+
+use pay_tables::{Tables, span};
+use pay_taps::{Kind, Touch};
+use std::alloc::{AllocError, Global};
+
+/// A way by rail, from a tap on the way in to the one on the way out.
+#[derive(Clone, Copy, Debug, PartialEq, Eq)]
+pub struct Leg {
+    /// The tap on the way in.
+    pub entry: Touch,
+    /// The tap on the way out.
+    pub exit: Touch,
+}
+
+/// What a rail tap belongs to.
+#[derive(Clone, Copy, Debug, PartialEq, Eq)]
+pub enum RailPart {
+    /// Two taps that are a leg.
+    Leg(Leg),
+    /// A tap without its partner.
+    Lone(Touch),
+}
+
+/// How many seconds may pass between two taps that are a leg.
+fn seconds_between(tables: &Tables, entry: &Touch, exit: &Touch) -> u32
+    ensures { result ≡ seconds_between tables.now entry.now exit.now }
+{
+    if entry.place == exit.place {
+        return tables.rules().same_limit;
+    }
+    let stations = [tables.station(entry.place), tables.station(exit.place)];
+    tables.max_seconds(span(&stations))
+}
+
+/// Whether a tap and the next one are a leg.
+fn is_leg(tables: &Tables, entry: &Touch, exit: &Touch) -> bool
+    ensures { result ≡ is_leg tables.now entry.now exit.now }
+{
+    entry.kind == Kind::In
+        && exit.kind == Kind::Out
+        && exit.stamp.utc() <= entry.stamp.utc() + u64::from(seconds_between(tables, entry, exit))
+}
+
+/// The legs and the lone taps of an account's rail taps, in order.
+///
+/// Of the rail taps in their order, neighbours are a leg if they are a tap on the way in and one on the
+/// way out, at most so many seconds apart: at one and the same station `same_limit`, and at two
+/// stations the allowed time of their span. Every other rail tap is a lone one.
+pub fn legs(alloc: Global, tables: &Tables, taps: &[Touch]) -> Result<Vec<RailPart>, AllocError>
+    ensures described { IfOk result (λ parts. AreParts tables.now taps.now parts.items) }
+    ensures computed { IfOk result (λ parts. parts.items ≡ legs tables.now taps.now) }
+{
+    let mut parts = Vec::with_capacity(alloc, taps.len())?;
+    // The last tap, where it is in no part yet.
+    let mut waiting: Option<Touch> = None;
+    for tap in taps {
+        match waiting {
+            Some(entry) if is_leg(tables, &entry, tap) => {
+                parts.push(RailPart::Leg(Leg { entry, exit: *tap }))?;
+                waiting = None;
+            }
+            Some(lone) => {
+                parts.push(RailPart::Lone(lone))?;
+                waiting = Some(*tap);
+            }
+            None => waiting = Some(*tap),
+        }
+    }
+    if let Some(lone) = waiting {
+        parts.push(RailPart::Lone(lone))?;
+    }
+    Ok(parts)
+}
