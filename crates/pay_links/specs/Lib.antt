@@ -1,0 +1,4 @@
+pub mod Legs
+pub mod Journeys
+pub mod Current
+pub mod Rows

@@ -1,0 +1,148 @@
+use super::*;
+use pay_day::Moment;
+use pay_pairs::{Leg, RailPart};
+use pay_tables::Tables;
+use pay_taps::{Kind, Touch};
+use std::alloc::Global;
+use std::test::Fail;
+
+/// Stations 10 to 14, and no interchange.
+const FARES: &str = "
+zones = 3
+minutes = [90, 100, 110]
+rules = { bus = 175, maximum = 860, hopper = 3600, same_free = 120, same_limit = 1800 }
+single = [
+  { from = 1, to = 1, peak = 280, off = 270 },
+  { from = 1, to = 2, peak = 340, off = 280 },
+  { from = 1, to = 3, peak = 370, off = 300 },
+  { from = 2, to = 2, peak = 200, off = 190 },
+  { from = 2, to = 3, peak = 210, off = 195 },
+  { from = 3, to = 3, peak = 200, off = 180 },
+]
+station = [
+  { place = 10, low = 1, high = 1, operator = 1 },
+  { place = 11, low = 1, high = 2, operator = 1 },
+  { place = 12, low = 2, high = 2, operator = 2 },
+  { place = 13, low = 2, high = 3, operator = 2 },
+  { place = 14, low = 3, high = 3, operator = 3 },
+]
+";
+
+/// A leg by the station and the seconds after seven of its taps, or a tap alone.
+enum Part {
+    Between((u16, u32), (u16, u32)),
+    Alone(u16, u32),
+}
+
+use Part::{Alone, Between};
+
+/// A tap so many seconds after 07:00 on 2024-01-08, with these as its number.
+fn tap(kind: Kind, place: u16, after: u32) -> Result<Touch, Fail> {
+    let second = 25_200_u32
+        .checked_add(after)
+        .ok_or("a number out of range")?;
+    let stamp = Moment::from_parts(1_704_697_200 + u64::from(after), 19_730, second);
+    Ok(Touch {
+        filled: false,
+        first: 1,
+        second: after,
+        stamp: stamp.ok_or("a number out of range")?,
+        place,
+        kind,
+    })
+}
+
+fn leg(from: (u16, u32), to: (u16, u32)) -> Result<Leg, Fail> {
+    Ok(Leg {
+        entry: tap(Kind::In, from.0, from.1)?,
+        exit: tap(Kind::Out, to.0, to.1)?,
+    })
+}
+
+fn parts_of(alloc: Global, row: &[Part]) -> Result<Vec<RailPart>, Fail> {
+    let mut parts = Vec::new(alloc);
+    for part in row {
+        parts.push(match *part {
+            Between(from, to) => RailPart::Leg(leg(from, to)?),
+            Alone(place, after) => RailPart::Lone(tap(Kind::In, place, after)?),
+        })?;
+    }
+    Ok(parts)
+}
+
+/// A journey in short: what it is, how many legs it has, and when its first tap and its last were made.
+fn short(journey: &Journey) -> (&'static str, usize, u32, u32) {
+    let first = journey.first_tap().second;
+    match journey {
+        Journey::Run(run) => {
+            let legs = run.others().iter().count() + 1;
+            ("run", legs, first, run.last().exit.second)
+        }
+        Journey::Same(leg) => ("same", 1, first, leg.exit.second),
+        Journey::Lone(_) => ("lone", 0, first, first),
+        Journey::Bus { .. } => ("bus", 0, first, first),
+    }
+}
+
+#[test]
+fn where_none_is_listed_each_leg_is_by_itself(rt: HostRuntime) -> Result<(), Fail> {
+    let alloc = rt.alloc();
+    let tables = Tables::read(alloc, FARES)?;
+    let rows: [(&[Part], &[(&'static str, usize, u32, u32)]); 6] = [
+        (&[], &[]),
+        (&[Between((10, 0), (12, 1200))], &[("run", 1, 0, 1200)]),
+        (&[Between((10, 0), (10, 120))], &[("same", 1, 0, 120)]),
+        (&[Alone(13, 60)], &[("lone", 0, 60, 60)]),
+        (
+            &[
+                Between((14, 0), (12, 1200)),
+                Between((10, 2400), (11, 3000)),
+            ],
+            &[("run", 1, 0, 1200), ("run", 1, 2400, 3000)],
+        ),
+        (
+            &[
+                Alone(10, 0),
+                Between((10, 60), (12, 1200)),
+                Between((12, 1800), (12, 1860)),
+                Alone(11, 2400),
+                Alone(11, 2460),
+                Between((13, 3000), (14, 3600)),
+            ],
+            &[
+                ("lone", 0, 0, 0),
+                ("run", 1, 60, 1200),
+                ("same", 1, 1800, 1860),
+                ("lone", 0, 2400, 2400),
+                ("lone", 0, 2460, 2460),
+                ("run", 1, 3000, 3600),
+            ],
+        ),
+    ];
+    for (row, wanted) in rows {
+        let parts = parts_of(alloc, row)?;
+        let mut found = Vec::new(alloc);
+        for journey in &journeys(alloc, &tables, &parts)? {
+            found.push(short(journey))?;
+        }
+        assert_eq!(rt; found.as_slice(), wanted);
+    }
+    Ok(())
+}
+
+#[test]
+fn a_run_has_its_legs_in_order(rt: HostRuntime) -> Result<(), Fail> {
+    let alloc = rt.alloc();
+    let mut run = Run::new(alloc, leg((14, 0), (12, 1200))?);
+    assert_eq!(rt; *run.last(), *run.first());
+    run.push(leg((10, 2400), (12, 3000))?)?;
+    run.push(leg((10, 3600), (11, 4200))?)?;
+    assert_eq!(rt; *run.first(), leg((14, 0), (12, 1200))?);
+    assert_eq!(rt;
+        run.others(),
+        [leg((10, 2400), (12, 3000))?, leg((10, 3600), (11, 4200))?].as_slice()
+    );
+    assert_eq!(rt; *run.last(), leg((10, 3600), (11, 4200))?);
+    assert_eq!(rt; Journey::Run(run).first_tap().second, 0);
+    Ok(())
+}
