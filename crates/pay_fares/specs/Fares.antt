@@ -1,0 +1,37 @@
+-- What a journey costs by itself.
+use Rattle.std.specs.Prelude.{ℕ, ◌+◌, nat_le, Bool, if◌then◌else◌, List, [], ◌∷◌}
+use Rattle.std.specs.List.{flat_map}
+use Rattle.pay_tables.specs.declared.place.Place.{Place}
+use Rattle.pay_tables.specs.declared.zones.Span.{Span}
+use Rattle.pay_tables.specs.FareTables.{FareTables, station_at, single_fare}
+use Rattle.pay_tables.specs.Spans.{span_of}
+use Rattle.pay_pairs.specs.declared.parts.Leg.{Leg}
+use Rattle.pay_links.specs.Legs.{Legs, all_legs}
+use Rattle.pay_links.specs.declared.journey.Journey.{Journey}
+use Rattle.pay_links.specs.declared.journey.Journey.TheVariants.{Run, Same, Lone, Bus}
+use Rattle.pay_fares.specs.Peak.{is_peak}
+
+-- the stations of a leg: the one of the way in and the one of the way out
+abbrev pub stations_of : FareTables → Leg → List Place
+stations_of tables leg = station_at tables leg.entry.place ∷ station_at tables leg.exit.place ∷ []
+
+-- the span of all stations of legs
+abbrev pub span_of_legs : FareTables → Legs → Span
+span_of_legs tables legs = span_of (flat_map (stations_of tables) (all_legs legs))
+
+-- whether a leg that ends where it began is free: it takes no more than so many seconds
+abbrev pub is_free : FareTables → Leg → Bool
+is_free tables leg = nat_le leg.exit.stamp.utc (leg.entry.stamp.utc + tables.rules.same_free)
+
+-- what a journey costs where it is peak, or where it is not
+abbrev pub fare_if : FareTables → Bool → Journey → ℕ
+fare_if tables peak (Run legs) = single_fare tables (span_of_legs tables legs) peak
+fare_if tables peak (Same leg) = if is_free tables leg then 0 else single_fare tables (span_of (station_at tables leg.entry.place ∷ [])) peak
+fare_if tables peak (Lone tap) = tables.rules.maximum
+fare_if tables peak (Bus tap pays) = if pays then tables.rules.bus else 0
+
+-- What a journey costs. Linked legs cost one single fare together, that of the span of all their stations. A leg that ends where it began is
+-- free for some time, and then costs the single fare of its station's own span. A rail tap without its partner costs the maximum fare, and a
+-- boarding the bus fare if it pays, and else nothing.
+abbrev pub fare : FareTables → Journey → ℕ
+fare tables journey = fare_if tables (is_peak tables journey) journey

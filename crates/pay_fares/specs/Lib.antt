@@ -1,0 +1,2 @@
+pub mod Peak
+pub mod Fares

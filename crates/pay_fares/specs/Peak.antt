@@ -1,0 +1,66 @@
+-- When a journey is peak.
+use Rattle.std.specs.Prelude.{◌≡◌, ℕ, ◌+◌, ◌%◌, ◌&&◌, ◌||◌, not, nat_le, nat_lt, Bool, true, false, refl}
+use Rattle.pay_day.specs.Day.{Stamp}
+use Rattle.pay_tables.specs.FareTables.{FareTables, is_holiday}
+use Rattle.pay_links.specs.declared.journey.Journey.{Journey}
+use Rattle.pay_links.specs.Journeys.{first_tap}
+
+-- Monday to Friday: day 0 was a Thursday
+abbrev pub is_weekday : ℕ → Bool
+is_weekday day = nat_lt ((day + 3) % 7) 5
+
+-- the local seconds from 06:30:00 up to, and without, 09:30:00
+abbrev pub is_morning : ℕ → Bool
+is_morning second = nat_le 23_400 second && nat_lt second 34_200
+
+-- and from 16:00:00 up to, and without, 19:00:00
+abbrev pub is_evening : ℕ → Bool
+is_evening second = nat_le 57_600 second && nat_lt second 68_400
+
+-- whether an instant is at a peak time: in the morning or the evening of a weekday that is no public holiday
+abbrev pub is_peak_time : FareTables → Stamp → Bool
+is_peak_time tables stamp = is_weekday stamp.day && not (is_holiday tables stamp.day) && (is_morning stamp.second || is_evening stamp.second)
+
+-- a journey is peak if its first tap is at a peak time
+abbrev pub is_peak : FareTables → Journey → Bool
+is_peak tables journey = is_peak_time tables (first_tap journey).stamp
+
+-- ---- worked rows: a Sunday, 2024-01-07, and the days behind it
+
+sunday : is_weekday 19_729 ≡ false
+sunday = refl
+
+monday : is_weekday 19_730 ≡ true
+monday = refl
+
+friday : is_weekday 19_734 ≡ true
+friday = refl
+
+saturday : is_weekday 19_735 ≡ false
+saturday = refl
+
+-- 06:29:59 and 06:30:00, 09:29:59 and 09:30:00
+before_the_morning : is_morning 23_399 ≡ false
+before_the_morning = refl
+
+first_of_the_morning : is_morning 23_400 ≡ true
+first_of_the_morning = refl
+
+last_of_the_morning : is_morning 34_199 ≡ true
+last_of_the_morning = refl
+
+after_the_morning : is_morning 34_200 ≡ false
+after_the_morning = refl
+
+-- 15:59:59 and 16:00:00, 18:59:59 and 19:00:00
+before_the_evening : is_evening 57_599 ≡ false
+before_the_evening = refl
+
+first_of_the_evening : is_evening 57_600 ≡ true
+first_of_the_evening = refl
+
+last_of_the_evening : is_evening 68_399 ≡ true
+last_of_the_evening = refl
+
+after_the_evening : is_evening 68_400 ≡ false
+after_the_evening = refl

@@ -1,0 +1,12 @@
+//! Single fares: what a journey costs by itself, and whether it is peak.
+#![tactic(auto)]
+
+mod fares;
+pub mod laws;
+mod peak;
+
+pub use fares::fare;
+pub use peak::is_peak;
+
+#[cfg(test)]
+mod tests;

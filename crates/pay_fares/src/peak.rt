@@ -1,0 +1,45 @@
+ghost use Rattle.std.specs.Prelude.{◌≡◌};
+ghost use Rattle.pay_fares.specs.Peak.{is_weekday, is_morning, is_evening, is_peak_time, is_peak};
+
+use pay_day::Moment;
+use pay_links::Journey;
+use pay_tables::Tables;
+
+/// Whether the service day of a moment is one of Monday to Friday. Day 0 was a Thursday.
+fn is_weekday(stamp: Moment) -> bool
+    ensures { result ≡ is_weekday stamp.day }
+{
+    (stamp.day() + 3) % 7 < 5
+}
+
+/// Whether a local second is from 06:30:00 up to but not including 09:30:00.
+fn is_morning(second: u32) -> bool
+    ensures { result ≡ is_morning second }
+{
+    (23_400..34_200).contains(&second)
+}
+
+/// Whether a local second is from 16:00:00 up to but not including 19:00:00.
+fn is_evening(second: u32) -> bool
+    ensures { result ≡ is_evening second }
+{
+    (57_600..68_400).contains(&second)
+}
+
+/// Whether a moment is at a peak time.
+fn is_peak_time(tables: &Tables, stamp: Moment) -> bool
+    ensures { result ≡ is_peak_time tables.now stamp }
+{
+    is_weekday(stamp)
+        && !tables.is_holiday(stamp.day())
+        && (is_morning(stamp.second()) || is_evening(stamp.second()))
+}
+
+/// Whether a journey is peak: its first tap is on a service day from Monday to Friday that is no
+/// public holiday, at a local time from 06:30:00 up to but not including 09:30:00, or from 16:00:00 up
+/// to but not including 19:00:00.
+pub fn is_peak(tables: &Tables, journey: &Journey) -> bool
+    ensures { result ≡ is_peak tables.now journey.now }
+{
+    is_peak_time(tables, journey.first_tap().stamp)
+}

@@ -1,0 +1,175 @@
+use crate::*;
+use pay_day::Moment;
+use pay_links::{Journey, journeys};
+use pay_pairs::legs;
+use pay_tables::Tables;
+use pay_taps::{Kind, Touch};
+use std::alloc::Global;
+use std::process::Abort;
+use std::test::Fail;
+
+/// Three zones, with a station in each and one between each two, and a public holiday on Monday,
+/// 2024-01-01.
+const FARES: &str = "
+zones = 3
+minutes = [90, 100, 110]
+rules = { bus = 175, maximum = 860, hopper = 3600, same_free = 120, same_limit = 1800 }
+single = [
+  { from = 1, to = 1, peak = 280, off = 270 },
+  { from = 1, to = 2, peak = 340, off = 280 },
+  { from = 1, to = 3, peak = 370, off = 300 },
+  { from = 2, to = 2, peak = 200, off = 190 },
+  { from = 2, to = 3, peak = 210, off = 195 },
+  { from = 3, to = 3, peak = 200, off = 180 },
+]
+holidays = [19723]
+station = [
+  { place = 10, low = 1, high = 1, operator = 1 },
+  { place = 11, low = 1, high = 2, operator = 1 },
+  { place = 12, low = 2, high = 2, operator = 2 },
+  { place = 13, low = 2, high = 3, operator = 2 },
+  { place = 14, low = 3, high = 3, operator = 3 },
+]
+route = [{ place = 50, operator = 4 }]
+";
+
+/// Monday, 2024-01-08.
+const MONDAY: u32 = 19_730;
+
+/// Saturday, 2024-01-13.
+const SATURDAY: u32 = 19_735;
+
+/// Monday, 2024-01-01, a public holiday.
+const HOLIDAY: u32 = 19_723;
+
+/// A tap at a local second of a service day in winter, when the clocks show UTC.
+fn tap(rt: &impl Abort, place: u16, kind: Kind, day: u32, second: u32) -> Touch {
+    let utc = u64::from(day) * 86_400 + u64::from(second);
+    Touch {
+        filled: false,
+        first: 1,
+        second: 1,
+        stamp: Moment::from_parts(utc, day, second).expect(rt, "a moment"),
+        place,
+        kind,
+    }
+}
+
+/// The prices of the journeys that rail taps make, in order: whether each is peak, and its fare in pence.
+fn rail_prices(
+    alloc: Global,
+    tables: &Tables,
+    touches: &[Touch],
+) -> Result<Vec<(bool, u64)>, Fail> {
+    let parts = legs(alloc, tables, touches)?;
+    let mut prices = Vec::new(alloc);
+    for journey in &journeys(alloc, tables, &parts)? {
+        prices.push((is_peak(tables, journey), fare(tables, journey).pence()))?;
+    }
+    Ok(prices)
+}
+
+/// From 10 to 12, in twenty minutes, by the day and the second of the way in.
+#[test]
+fn is_peak_by_the_first_tap(rt: HostRuntime) -> Result<(), Fail> {
+    let alloc = rt.alloc();
+    let tables = Tables::read(alloc, FARES)?;
+    for (day, second, price) in [
+        // 06:29:59, 06:30:00, 09:29:59 and 09:30:00
+        (MONDAY, 23_399, (false, 280)),
+        (MONDAY, 23_400, (true, 340)),
+        (MONDAY, 34_199, (true, 340)),
+        (MONDAY, 34_200, (false, 280)),
+        // 15:59:59, 16:00:00, 18:59:59 and 19:00:00
+        (MONDAY, 57_599, (false, 280)),
+        (MONDAY, 57_600, (true, 340)),
+        (MONDAY, 68_399, (true, 340)),
+        (MONDAY, 68_400, (false, 280)),
+        // 07:00:00
+        (HOLIDAY, 25_200, (false, 280)),
+        (HOLIDAY + 1, 25_200, (true, 340)),
+        (SATURDAY - 1, 25_200, (true, 340)),
+        (SATURDAY, 25_200, (false, 280)),
+        (SATURDAY + 1, 25_200, (false, 280)),
+        (SATURDAY + 2, 25_200, (true, 340)),
+    ] {
+        let entry = tap(&rt, 10, Kind::In, day, second);
+        let exit = tap(&rt, 12, Kind::Out, day, second.saturating_add(1_200));
+        let prices = rail_prices(alloc, &tables, &[entry, exit])?;
+        assert_eq!(rt;
+            prices.as_slice(),
+            [price].as_slice(),
+            "on {day} at {second}"
+        );
+    }
+    Ok(())
+}
+
+/// Rail taps by their places, kinds and seconds after 07:00, and the fares of their journeys, all of
+/// which are peak.
+#[test]
+fn fares_of_rail_journeys(rt: HostRuntime) -> Result<(), Fail> {
+    use Kind::{In, Out};
+    let alloc = rt.alloc();
+    let tables = Tables::read(alloc, FARES)?;
+    let rows: [(&[(u16, Kind, u32)], &[u64]); 14] = [
+        (&[], &[]),
+        // The allowed time of two zones, and a second more.
+        (&[(10, In, 0), (12, Out, 6_000)], &[340]),
+        (&[(10, In, 0), (12, Out, 6_001)], &[860, 860]),
+        // A tap without its partner.
+        (&[(10, In, 0)], &[860]),
+        (&[(12, Out, 1_800)], &[860]),
+        // Out at the station of the way in.
+        (&[(10, In, 0), (10, Out, 120)], &[0]),
+        (&[(10, In, 0), (10, Out, 121)], &[280]),
+        (&[(11, In, 0), (11, Out, 121)], &[200]),
+        (&[(10, In, 0), (10, Out, 1_800)], &[280]),
+        (&[(10, In, 0), (10, Out, 1_801)], &[860, 860]),
+        // A station in two zones counts as the nearer.
+        (&[(11, In, 0), (13, Out, 1_200)], &[200]),
+        (&[(14, In, 0), (13, Out, 1_200)], &[200]),
+        (&[(14, In, 0), (10, Out, 1_200)], &[370]),
+        // No interchange is listed between 12 and 10.
+        (
+            &[
+                (14, In, 0),
+                (12, Out, 1_200),
+                (10, In, 2_400),
+                (11, Out, 3_000),
+            ],
+            &[210, 280],
+        ),
+    ];
+    for (taps, fares) in rows {
+        let mut touches = Vec::new(alloc);
+        for &(place, kind, after) in taps {
+            touches.push(tap(&rt, place, kind, MONDAY, after.saturating_add(25_200)))?;
+        }
+        let prices = rail_prices(alloc, &tables, &touches)?;
+        assert_eq!(rt; prices.len(), fares.len(), "of {taps:?}");
+        for (price, fare) in prices.iter().zip(fares) {
+            assert_eq!(rt; *price, (true, *fare), "of {taps:?}");
+        }
+    }
+    Ok(())
+}
+
+#[test]
+fn fares_of_boardings(rt: HostRuntime) -> Result<(), Fail> {
+    let tables = Tables::read(rt.alloc(), FARES)?;
+    for (second, pays, peak, pence) in [
+        (25_200, true, true, 175),
+        (25_200, false, true, 0),
+        (43_200, true, false, 175),
+        (43_200, false, false, 0),
+    ] {
+        let boarding = Journey::Bus {
+            tap: tap(&rt, 50, Kind::Bus, MONDAY, second),
+            pays,
+        };
+        assert_eq!(rt; is_peak(&tables, &boarding), peak);
+        assert_eq!(rt; fare(&tables, &boarding).pence(), pence);
+    }
+    Ok(())
+}
