@@ -1,4 +1,5 @@
 pub mod Counts
 pub mod Days
-mod Rows
+pub mod Marks
 pub mod Answering
+mod Rows

@@ -1,6 +1,8 @@
 pub mod Places
-pub mod Boardings
+pub mod Journeys
 pub mod Prices
+pub mod Codes
+pub mod Lines
 pub mod Faults
 pub mod Answers
 pub mod Accepted

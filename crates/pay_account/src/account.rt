@@ -6,10 +6,13 @@ ghost use Rattle.pay_account.specs.Prices.{prices};
 ghost use Rattle.pay_account.specs.Answers.{IsAnswer};
 
 use crate::fares::{Fares, Priced, TapFault};
+use crate::journeys::journeys_of;
+use crate::lines::lines_on;
 use crate::places::is_known;
-use crate::prices::price;
+use crate::prices::{fares_on, price};
+use crate::shown::Shown;
 use pay_tables::Tables;
-use pay_taps::{Addition, Tap, TapSet, laws};
+use pay_taps::{Addition, Tap, TapSet, touches, touches_with};
 use std::alloc::{AllocError, Global};
 use std::marker::Model;
 
@@ -52,11 +55,8 @@ impl Account {
         requires { judged self.now.taps tap.now ≡ Ok Addition.Added }
         ensures { IfOk result (λ p. p ≡ prices tables.now (map.insert self.now.taps (number tap.now) tap.now) false tap.now.stamp.day) }
     {
-        laws::answers();
-        laws::one_more_tap();
-        let mut taps = self.taps.list(self.alloc)?;
-        taps.push(*tap)?;
-        price(self.alloc, tables, &taps, false, tap.stamp.day())
+        let touches = touches_with(self.alloc, &self.taps, tap)?;
+        price(self.alloc, tables, &touches, false, tap.stamp.day())
     }
 
     /// The prices of the taps that are there, for a repeat of one of the day.
@@ -64,8 +64,8 @@ impl Account {
         requires { IsDay day }
         ensures { IfOk result (λ p. p ≡ prices tables.now self.now.taps true day) }
     {
-        let taps = self.taps.list(self.alloc)?;
-        price(self.alloc, tables, &taps, true, day)
+        let touches = touches(self.alloc, &self.taps)?;
+        price(self.alloc, tables, &touches, true, day)
     }
 }
 
@@ -92,5 +92,18 @@ impl Fares for Account {
             self.taps.add(tap)?;
         }
         Ok(priced)
+    }
+
+    fn show(&self, tables: &Tables, day: u32) -> Result<Shown, AllocError> {
+        let touches = touches(self.alloc, &self.taps)?;
+        let journeys = journeys_of(self.alloc, tables, &touches)?;
+        let day_price = fares_on(tables, &journeys, day);
+        let lines = lines_on(self.alloc, tables, journeys, day)?;
+        Ok(Shown {
+            account: self.number,
+            day,
+            lines,
+            day_price,
+        })
     }
 }

@@ -1,8 +1,10 @@
-ghost use Rattle.std.specs.Prelude.{◌≡◌, ℕ};
+ghost use Rattle.std.specs.Prelude.{◌≡◌, ℕ, IfOk};
 ghost use Rattle.std.specs.FinMap as map;
 ghost use Rattle.pay_taps.specs.Taps.{Taps};
 ghost use Rattle.pay_account.specs.Answers.{IsAnswer, taps_after};
+ghost use Rattle.pay_account.specs.Lines.{shown};
 
+use crate::shown::Shown;
 use pay_money::Pence;
 use pay_tables::Tables;
 use pay_taps::{Tap, TapSetFault};
@@ -87,4 +89,8 @@ pub trait Fares: Drop {
         ensures same_account { account self.new ≡ account self.old }
         ensures answer { IsAnswer result tables.now (taps self.old) tap }
         ensures after { taps self.new ≡ taps_after result (taps self.old) tap };
+
+    /// Shows the journeys of a service day, counted from 1970-01-01, and its price.
+    fn show(&self, tables: &Tables, day: u32) -> Result<Shown, AllocError>
+        ensures { IfOk result (λ it. it ≡ shown tables.now (account self.now) (taps self.now) day) };
 }

@@ -2,15 +2,17 @@
 #![tactic(auto)]
 
 mod account;
-mod boarding;
 mod fares;
+mod journeys;
 pub mod laws;
+mod lines;
 mod places;
 mod prices;
+mod shown;
 
 pub use account::Account;
-pub use boarding::Boarding;
 pub use fares::{Fares, Priced, TapFault};
+pub use shown::{Line, LineKind, Lines, Shown};
 
 #[cfg(test)]
 mod tests;

@@ -1,0 +1,106 @@
+ghost use Rattle.std.specs.Prelude.{◌≡◌, ℕ, List, map, filter, IfOk, OnOk};
+ghost use Rattle.pay_taps.specs.Order.{in_order_by};
+ghost use Rattle.pay_links.specs.Journeys.{first_tap};
+ghost use Rattle.pay_account.specs.Journeys.{is_on};
+ghost use Rattle.pay_account.specs.Lines.{kind_of, from_of, to_of, line_of, lines_on};
+
+use crate::journeys::is_on;
+use crate::shown::{Line, LineKind, Lines};
+use pay_fares::fare;
+use pay_links::Journey;
+use pay_tables::Tables;
+use pay_taps::{Kind, laws};
+use std::alloc::{AllocError, Global};
+
+fn kind_of(journey: &Journey) -> LineKind
+    ensures { result ≡ kind_of journey.now }
+{
+    match journey {
+        Journey::Run(_) => LineKind::Rail,
+        Journey::Same(_) => LineKind::Same,
+        Journey::Lone(_) => LineKind::Lone,
+        Journey::Bus { .. } => LineKind::Bus,
+    }
+}
+
+fn from_of(journey: &Journey) -> u16
+    ensures { result ≡ from_of journey.now }
+{
+    match journey {
+        Journey::Run(run) => run.first().entry.place,
+        Journey::Same(leg) => leg.entry.place,
+        Journey::Lone(tap) if tap.kind == Kind::Out => 0,
+        Journey::Lone(tap) => tap.place,
+        Journey::Bus { tap, .. } => tap.place,
+    }
+}
+
+fn to_of(journey: &Journey) -> u16
+    ensures { result ≡ to_of journey.now }
+{
+    match journey {
+        Journey::Run(run) => run.last().exit.place,
+        Journey::Same(leg) => leg.exit.place,
+        Journey::Lone(tap) if tap.kind == Kind::Out => tap.place,
+        Journey::Lone(_) | Journey::Bus { .. } => 0,
+    }
+}
+
+/// A journey as a line.
+fn line_of(tables: &Tables, journey: &Journey) -> Line
+    ensures { result ≡ line_of tables.now journey.now }
+{
+    let stamp = journey.first_tap().stamp;
+    Line {
+        day: stamp.day(),
+        kind: kind_of(journey),
+        from: from_of(journey),
+        to: to_of(journey),
+        utc: stamp.utc(),
+        second: stamp.second(),
+        fare: fare(tables, journey),
+        band: None,
+    }
+}
+
+/// Leaves the journeys of a service day.
+fn keep_day(list: &mut Vec<Journey>, day: u32)
+    ensures { list.new.items ≡ filter (is_on day) list.old.items }
+{
+    list.retain(|journey| is_on(journey, day));
+}
+
+/// Puts journeys in the order of their first taps.
+fn sort_by_first_tap(list: &mut Vec<Journey>) -> Result<(), AllocError>
+    ensures { OnOk result (list.new.items ≡ in_order_by first_tap list.old.items) }
+{
+    laws::sorting::<Journey>();
+    list.sort_by_key(|journey| {
+        let touch = journey.first_tap();
+        (touch.stamp.utc(), touch.filled, touch.first, touch.second)
+    })
+}
+
+/// Each journey as a line.
+fn lines_of(alloc: Global, tables: &Tables, list: &[Journey]) -> Result<Vec<Line>, AllocError>
+    ensures { IfOk result (λ lines. lines.items ≡ map (line_of tables.now) list.now) }
+{
+    list.iter()
+        .map(|journey| line_of(tables, journey))
+        .collect(alloc)
+}
+
+/// The journeys of a service day as lines, in the order of their first taps, rail and bus together.
+pub fn lines_on(
+    alloc: Global,
+    tables: &Tables,
+    mut list: Vec<Journey>,
+    day: u32,
+) -> Result<Lines, AllocError>
+    ensures { IfOk result (λ lines. lines ≡ lines_on tables.now list.items day) }
+{
+    keep_day(&mut list, day);
+    sort_by_first_tap(&mut list)?;
+    let lines = lines_of(alloc, tables, &list)?;
+    Ok(Lines::from(lines))
+}
