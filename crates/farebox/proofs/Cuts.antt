@@ -6,7 +6,7 @@ use Rattle.farebox.specs.Commands.{command_of}
 use Rattle.farebox.specs.Spellings.{Spells}
 use Rattle.farebox.specs.Requests.{Line, asked, lines_of, rest_of, has_newline, request_of, request_of_rest, is_quit, through_quit, line_requests, requests_of, quits, unread}
 use Rattle.farebox.specs.declared.command.Command.{Command}
-use Rattle.farebox.specs.declared.command.Command.TheVariants.{Tap, NotYet, Quit}
+use Rattle.farebox.specs.declared.command.Command.TheVariants.{Tap, Show, NotYet, Quit}
 use Rattle.farebox.specs.declared.request.Request.{Request}
 use Rattle.farebox.specs.declared.request.Request.TheVariants as requests
 use Rattle.farebox.specs.declared.command.TapLine.{TapLine}
@@ -17,6 +17,7 @@ use Rattle.farebox.specs.Accounts.{taps_of}
 use Rattle.farebox.specs.Machine.{Machine, Step, refuse, is_instant, tap_of_line, refusal_of, step_answer, step_tap, step_line, step}
 use Rattle.pay_account.specs.Answers.{answer_to}
 use Rattle.pay_account.specs.declared.fares.Priced.{Priced}
+use Rattle.pay_account.specs.declared.shown.Shown.{Shown}
 use Rattle.pay_account.specs.declared.fares.TapFault.{TapFault}
 use Rattle.pay_day.specs.Day.{stamp_of}
 use Rattle.pay_taps.specs.declared.tap.Tap.{Tap as TapMade}
@@ -96,6 +97,7 @@ quit_line z e = at (nat_lt 128 (length z)) (command_of z) refl e
     at true o is f = cc
     at false None is f = cc
     at false (Some (Tap t)) is f = cc
+    at false (Some (Show account day)) is f = cc
     at false (Some NotYet) is f = cc
     at false (Some Quit) is f = is_spelled z Quit is
 
@@ -223,13 +225,14 @@ same_before_quit before x y e none = stops_at_quit before x e none ∙ sym (stop
 abbrev OnlyPricesDiffer : Machine → Step → Step → Type 0
 OnlyPricesDiffer m refused free = (refused.after ≡ m) × ((why : Refusal) → free.reply ≡ replies.No why → refused ≡ free)
     × ((priced : Priced) → free.reply ≡ replies.Priced priced → refused ≡ refuse m refusal.Memory) × (free.reply ≡ replies.Bye → refused ≡ free)
+    × ((shown : Shown) → free.reply ≡ replies.Shown shown → refused ≡ refuse m refusal.Memory)
 
 refusal_alike : (m : Machine) (why : Refusal) → OnlyPricesDiffer m (refuse m why) (refuse m why)
-refusal_alike m why = (refl, (λ w e. refl), (λ p e. absurd cc), (λ e. refl))
+refusal_alike m why = (refl, (λ w e. refl), (λ p e. absurd cc), (λ e. refl), (λ s e. absurd cc))
 
 tap_alike : (m : Machine) (tap : TapMade) (r : Result Priced TapFault) → OnlyPricesDiffer m (step_answer true m tap r) (step_answer false m tap r)
 tap_alike m tap (Err why) = refusal_alike m (refusal_of why)
-tap_alike m tap (Ok priced) = (refl, (λ w e. absurd cc), (λ p e. refl), (λ e. absurd cc))
+tap_alike m tap (Ok priced) = (refl, (λ w e. absurd cc), (λ p e. refl), (λ e. absurd cc), (λ s e. absurd cc))
 
 in_time_alike : (b : Bool) (m : Machine) (tap : TapMade) → OnlyPricesDiffer m (if b then step_tap true m tap else refuse m refusal.OutOfTime) (if b then step_tap false m tap else refuse m refusal.OutOfTime)
 in_time_alike true m tap = tap_alike m tap (answer_to m.tables (taps_of m.accounts tap.account) tap)
@@ -241,8 +244,9 @@ line_alike m line = in_time_alike (is_instant line.utc) m (tap_of_line line (sta
 step_alike : (m : Machine) (r : Request) → OnlyPricesDiffer m (step true m r) (step false m r)
 unfolding step
 step_alike m (requests.Command (Tap line)) = line_alike m line
+step_alike m (requests.Command (Show account day)) = (refl, (λ w e. absurd cc), (λ p e. absurd cc), (λ e. absurd cc), (λ s e. refl))
 step_alike m (requests.Command NotYet) = refusal_alike m refusal.NotYet
-step_alike m (requests.Command Quit) = (refl, (λ w e. absurd cc), (λ p e. absurd cc), (λ e. refl))
+step_alike m (requests.Command Quit) = (refl, (λ w e. absurd cc), (λ p e. absurd cc), (λ e. refl), (λ s e. absurd cc))
 step_alike m requests.BadLine = refusal_alike m refusal.BadLine
 step_alike m requests.LongLine = refusal_alike m refusal.LongLine
 
@@ -257,3 +261,6 @@ price_refused m r priced e = (step_alike m r).2 priced e
 
 pub bye_alike : (m : Machine) (r : Request) → (step false m r).reply ≡ replies.Bye → step true m r ≡ step false m r
 bye_alike m r e = (step_alike m r).3 e
+
+pub show_refused : (m : Machine) (r : Request) (shown : Shown) → (step false m r).reply ≡ replies.Shown shown → step true m r ≡ refuse m refusal.Memory
+show_refused m r shown e = (step_alike m r).4 shown e

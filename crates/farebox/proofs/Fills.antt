@@ -1,12 +1,16 @@
 -- What a fill of the reader's buffer brings to a session.
-use Rattle.std.proofs.Common.{◌≡◌, ◌≤◌, ℕ, ◌-◌, List, [], ◌++◌, length, drop, sym, ap, ◌∙◌, subst, refl, arith, append_assoc, append-nil, Some, None, Option, IfSome, length-append}
+use Rattle.std.proofs.Common.{◌≡◌, ◌≤◌, ℕ, ◌-◌, List, [], ◌++◌, length, drop, sym, ap, ◌∙◌, subst, refl, arith, append_assoc, append-nil, Some, None, Option, IfSome, Result, Ok, Err, IfOk, IfErr, length-append}
 use Rattle.std.proofs.Math.Seq.{drop-append_seam}
 use Rattle.std.proofs.KnownBytes.{starts_with_rest}
 use Rattle.std.specs.Io.{StartsWith}
 use Rattle.std.specs.Io.KnownBytes.{Keeps}
 use Rattle.std.specs.Io.BufRead.{DropsConsumable}
-use Rattle.farebox.specs.SessionSteps.{TakesAll, TakesToQuit, TakesToFault, BringsMore, BringsEnd, BringsQuit, LosesReader, LosesWriter}
+use Rattle.farebox.specs.SessionSteps.{TakesAll, TakesToQuit, TakesToFault, Brings, BringsMore, BringsEnd, BringsQuit, Loses, LosesReader, LosesWriter}
 use Rattle.farebox.specs.Machine.{Machine}
+use Rattle.farebox.specs.declared.session.Fill.{Fill}
+use Rattle.farebox.specs.declared.session.Fill.TheVariants.{More}
+use Rattle.farebox.specs.declared.session.SessionFault.{SessionFault}
+use Rattle.farebox.specs.declared.session.SessionFault.TheVariants.{Read}
 use Rattle.farebox.proofs.Steps.{Answers_none, Tells_none}
 
 -- ---- nothing is taken
@@ -31,6 +35,20 @@ pub loses_reader : (old new : Option (List ℕ)) (m : Machine) (line : List ℕ)
 loses_reader None new m line held n keeps = tt
 loses_reader (Some xs) None m line held n keeps = absurd keeps
 loses_reader (Some xs) (Some ys) m line held n keeps = record { unread = ap Some keeps; same = refl; all = TakesAll_nothing m line held n }
+
+-- a reader that was interrupted is asked again
+pub asked_again : (r : Result Fill SessionFault) (old new : Option (List ℕ)) (m : Machine) (line : List ℕ) (held : Option (List ℕ)) (n : ℕ) → Keeps old new
+    → IfOk r (λ fill. fill ≡ More) → IfOk r (λ fill. IfSome old (λ input. Brings fill m line input new m line held held n n))
+asked_again (Ok fill) old new m line held n keeps e =
+    subst (λ f. IfSome old (λ input. Brings f m line input new m line held held n n)) (sym e) (brings_nothing old new m line held n keeps)
+asked_again (Err fault) old new m line held n keeps e = tt
+
+-- a reader that failed otherwise ends the session
+pub gives_up : (r : Result Fill SessionFault) (old new : Option (List ℕ)) (m : Machine) (line : List ℕ) (held : Option (List ℕ)) (n : ℕ) → Keeps old new
+    → IfErr r (λ fault. fault ≡ Read n) → IfErr r (λ fault. IfSome old (λ input. Loses fault m line input new m line held held n))
+gives_up (Ok fill) old new m line held n keeps e = tt
+gives_up (Err fault) old new m line held n keeps e =
+    subst (λ f. IfSome old (λ input. Loses f m line input new m line held held n)) (sym e) (loses_reader old new m line held n keeps)
 
 pub brings_end : (old new : Option (List ℕ)) (m : Machine) (line : List ℕ) (held : Option (List ℕ)) (n : ℕ) → Keeps old new → IfSome old (λ input. input ≡ [])
     → IfSome old (λ input. BringsEnd m line input new m line held held n n)

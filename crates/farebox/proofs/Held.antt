@@ -134,17 +134,22 @@ opened es fs now tables tap a w priced v none bare answer after h =
 pub none_held : (m n : BTreeMap ℕ Accepted) (k : ℕ) → n ≡ m → None ≡ lookup (is_at (nat_cmp k)) m.entries → map.get (seen n.entries) k ≡ None
 none_held m n k e none = ap (λ (b : BTreeMap ℕ Accepted). map.get (seen b.entries) k) e ∙ get_seen_none m.entries k (sym none)
 
+-- what a held account has at its number, and what one that is not held has
+pub taps_held : (es : List (ℕ × Accepted)) (now : TapsByAccount) (account : ℕ) (a : Accepted) → seen es ≡ now → Some a ≡ lookup (is_at (nat_cmp account)) es → a.taps ≡ taps_of now account
+taps_held es now account a v e = sym (ap (λ s. taps_of s account) (sym v) ∙ taps_of_seen es account a (sym e))
+
+pub taps_not_held : (es : List (ℕ × Accepted)) (now : TapsByAccount) (account : ℕ) → seen es ≡ now → None ≡ lookup (is_at (nat_cmp account)) es → map.empty ≡ taps_of now account
+taps_not_held es now account v none = sym (ap (λ s. taps_of s account) (sym v) ∙ ap (λ o. unwrap_or o map.empty) (get_seen_none es account (sym none)))
+
 pub answer_of_none : (es : List (ℕ × Accepted)) (now : TapsByAccount) (tables : FareTables) (tap : Tap) (r : Result Priced TapFault) → seen es ≡ now → None ≡ lookup (is_at (nat_cmp tap.account)) es
     → IsAnswer r tables map.empty tap → IsAnswer r tables (taps_of now tap.account) tap
 answer_of_none es now tables tap r v none h =
-    let bare : map.empty ≡ taps_of now tap.account = sym (ap (λ s. taps_of s tap.account) (sym v) ∙ ap (λ o. unwrap_or o map.empty) (get_seen_none es tap.account (sym none))) in
-    subst (λ ts. IsAnswer r tables ts tap) bare h
+    subst (λ ts. IsAnswer r tables ts tap) (taps_not_held es now tap.account v none) h
 
 pub answer_of_held : (es : List (ℕ × Accepted)) (now : TapsByAccount) (tables : FareTables) (tap : Tap) (a : Accepted) (r : Result Priced TapFault) → seen es ≡ now → Some a ≡ lookup (is_at (nat_cmp tap.account)) es
     → IsAnswer r tables a.taps tap → IsAnswer r tables (taps_of now tap.account) tap
 answer_of_held es now tables tap a r v e h =
-    let held : a.taps ≡ taps_of now tap.account = sym (ap (λ s. taps_of s tap.account) (sym v) ∙ taps_of_seen es tap.account a (sym e)) in
-    subst (λ ts. IsAnswer r tables ts tap) held h
+    subst (λ ts. IsAnswer r tables ts tap) (taps_held es now tap.account a v e) h
 
 pub after_held : (es fs : List (ℕ × Accepted)) (now : TapsByAccount) (tap : Tap) (a w : Accepted) (r : Result Priced TapFault) → seen es ≡ now → Some a ≡ lookup (is_at (nat_cmp tap.account)) es
     → w.taps ≡ taps_after r a.taps tap → ((q : ℕ) → lookup (is_at (nat_cmp q)) fs ≡ cond (is_at (nat_cmp tap.account) q) (Some w) (lookup (is_at (nat_cmp q)) es)) → seen fs ≡ accounts_after r now tap

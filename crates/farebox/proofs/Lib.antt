@@ -12,6 +12,8 @@ pub mod Spaces
 pub mod Spelled
 pub mod Steps
 pub mod Takes
+pub mod Fronts
+pub mod Fields
 pub mod Told
 pub mod Visible
 pub mod Whole

@@ -9,12 +9,12 @@ use Rattle.pay_taps.specs.declared.tap.Kind.{Kind}
 use Rattle.pay_taps.specs.declared.tap.Kind.TheVariants.{In, Out, Bus}
 use Rattle.farebox.specs.declared.command.TapLine.{TapLine}
 use Rattle.farebox.specs.declared.command.Command.{Command}
-use Rattle.farebox.specs.declared.command.Command.TheVariants.{Tap, NotYet, Quit}
+use Rattle.farebox.specs.declared.command.Command.TheVariants.{Tap, Show, NotYet, Quit}
 use Rattle.farebox.specs.Fields.{words}
-use Rattle.farebox.specs.Commands.{tap_of}
-use Rattle.farebox.specs.Spellings.{IsTapLine, spelling_of_kind, spelling_of_tap, Spells, IsLine}
+use Rattle.farebox.specs.Commands.{tap_of, show_of}
+use Rattle.farebox.specs.Spellings.{IsTapLine, spelling_of_kind, spelling_of_tap, IsShow, spelling_of_show, Spells, IsLine}
 use Rattle.farebox.proofs.Visible.{AllVisible, text_joined}
-use Rattle.farebox.proofs.Spelled.{fields_of, tap_visible, tap_words, tap_again, is_read}
+use Rattle.farebox.proofs.Spelled.{fields_of, tap_visible, tap_words, tap_again, show_fields, show_visible, show_words, show_again, is_read}
 
 abbrev some : {A : Type 0} → A → Option A
 some x = Some x
@@ -33,8 +33,17 @@ one_tap a b f g e =
     let fields : fields_of a ≡ fields_of b = tails (codes "TAP") (codes "TAP") (fields_of a) (fields_of b) (sym (tap_words a f) ∙ ap words e ∙ tap_words b g) in
     some_is a b (sym (tap_again a f) ∙ ap tap_of fields ∙ tap_again b g)
 
+same_show : (account day x y : ℕ) → Show account day ≡ Show x y → (account ≡ x) × (day ≡ y)
+same_show account day x y e = (cc, cc)
+
+pub one_show : (account day x y : ℕ) → IsShow account day → IsShow x y → spelling_of_show account day ≡ spelling_of_show x y → (account ≡ x) × (day ≡ y)
+one_show account day x y f g e =
+    let fields : show_fields account day ≡ show_fields x y = tails (codes "SHOW") (codes "SHOW") (show_fields account day) (show_fields x y) (sym (show_words account day f) ∙ ap words e ∙ show_words x y g) in
+    same_show account day x y (some_is (Show account day) (Show x y) (sym (show_again account day f) ∙ ap show_of fields ∙ show_again x y g))
+
 pub one_line : (command : Command) (a b : List ℕ) → command ≢ NotYet → Spells a command → Spells b command → a ≡ b
-one_line (Tap tap) a b some f g = f.2 ∙ sym g.2
+one_line (Tap tap) a b some f g = f.1 ∙ sym g.1
+one_line (Show account day) a b some f g = f.1 ∙ sym g.1
 one_line NotYet a b some f g = absurd (some refl)
 one_line Quit a b some f g = f ∙ sym g
 
@@ -80,6 +89,22 @@ no_newline ws seen =
 
 pub tap_is_line : (tap : TapLine) → IsTapLine tap → IsLine (spelling_of_tap tap)
 tap_is_line tap fits = (tap_short tap fits, no_newline (codes "TAP" ∷ fields_of tap) (tap_visible tap fits))
+
+show_short : (account day : ℕ) → IsShow account day → length (spelling_of_show account day) ≤ 128
+show_short account day fits =
+    omega (
+      arith,
+      joined_length (codes "SHOW") (decimal account ++ (32 ∷ decimal day)),
+      joined_length (decimal account) (decimal day),
+      number_short account fits.0.1,
+      number_short day (omega (arith, fits.1)),
+    )
+
+pub show_is_line : (account day : ℕ) → IsShow account day → IsLine (spelling_of_show account day)
+show_is_line account day fits = (
+  show_short account day fits,
+  no_newline (codes "SHOW" ∷ show_fields account day) (show_visible account day fits),
+)
 
 pub quit_is_line : IsLine (codes "QUIT")
 quit_is_line = (omega arith, no_newline (codes "QUIT" ∷ []) (refl, tt))

@@ -1,6 +1,6 @@
 -- A line is read as a command just where it spells it.
 use Rattle.std.proofs.Common.{◌≡◌, ℕ, ◌≤◌, Bool, true, false, cond, ◌||◌, List, [], ◌∷◌, Option, Some, None, refl, sym, ap, ◌∙◌, subst, arith, inl, inr, ◌⊎◌, codes, drop}
-use Rattle.std.specs.Prelude.{decimal, ◌≢◌}
+use Rattle.std.specs.Prelude.{decimal}
 use Rattle.std.specs.Str.{bytes_eq}
 use Rattle.std.specs.List.{join_with_byte, position_or_len}
 use Rattle.std.proofs.lemmas.Bool.{or_cases}
@@ -11,12 +11,12 @@ use Rattle.pay_taps.specs.declared.tap.Kind.{Kind}
 use Rattle.pay_taps.specs.declared.tap.Kind.TheVariants.{In, Out, Bus}
 use Rattle.farebox.specs.declared.command.TapLine.{TapLine}
 use Rattle.farebox.specs.declared.command.Command.{Command}
-use Rattle.farebox.specs.declared.command.Command.TheVariants.{Tap, NotYet, Quit}
+use Rattle.farebox.specs.declared.command.Command.TheVariants.{Tap, Show, NotYet, Quit}
 use Rattle.farebox.specs.declared.command.Keyword.{Keyword}
 use Rattle.farebox.specs.declared.command.Keyword.TheVariants as keyword
 use Rattle.farebox.specs.Fields.{◌>>=◌, is_space, words, words_after, has_none, field}
-use Rattle.farebox.specs.Commands.{number_within, kind_of, tap_of, command_of_tap, keyword_of, command_for, command_of_words, command_of}
-use Rattle.farebox.specs.Spellings.{IsTapLine, spelling_of_kind, spelling_of_tap, first_word, IsUnserved, Spells}
+use Rattle.farebox.specs.Commands.{number_within, kind_of, tap_of, show_of, keyword_of, command_for, command_of_words, command_of}
+use Rattle.farebox.specs.Spellings.{IsTapLine, spelling_of_kind, spelling_of_tap, IsShow, spelling_of_show, first_word, IsUnserved, Spells}
 use Rattle.farebox.proofs.Spaces.{split_at_end}
 use Rattle.farebox.proofs.Numerals.{bind_some, within_again, within_is}
 use Rattle.farebox.proofs.Visible.{is_visible, decimal_visible, AllVisible, words_joined}
@@ -69,37 +69,42 @@ tap_again tap fits =
       kind_again tap.kind,
     ) refl
 
-pub tap_line_again : (tap : TapLine) → IsTapLine tap → command_of (spelling_of_tap tap) ≡ Some (command_of_tap tap)
+tap_line_again : (tap : TapLine) → IsTapLine tap → command_of (spelling_of_tap tap) ≡ Some (Tap tap)
 tap_line_again tap fits = ap command_of_words (tap_words tap fits) ∙ rw (tap_again tap fits) refl
+
+abbrev pub show_fields : ℕ → ℕ → List (List ℕ)
+show_fields account day = decimal account ∷ decimal day ∷ []
+
+pub show_visible : (account day : ℕ) → IsShow account day → AllVisible (codes "SHOW" ∷ show_fields account day)
+show_visible account day fits =
+    (refl, (decimal_visible account (omega (arith, fits.0)), (decimal_visible day (omega (arith, fits.1)), tt)))
+
+pub show_words : (account day : ℕ) → IsShow account day → words (spelling_of_show account day) ≡ codes "SHOW" ∷ show_fields account day
+show_words account day fits = words_joined (codes "SHOW") (show_fields account day) (show_visible account day fits)
+
+pub show_again : (account day : ℕ) → IsShow account day → show_of (show_fields account day) ≡ Some (Show account day)
+unfolding show_of
+show_again account day fits =
+    rw (
+      within_again 1 4_294_967_295 account fits.0.0 fits.0.1 (omega arith),
+      within_again 4 50_000 day fits.1.0 fits.1.1 (omega arith),
+    ) refl
+
+show_line_again : (account day : ℕ) → IsShow account day → command_of (spelling_of_show account day) ≡ Some (Show account day)
+show_line_again account day fits =
+    ap command_of_words (show_words account day fits) ∙ show_again account day fits
 
 unserved_again : (name : List ℕ) → IsUnserved name → keyword_of name ≡ Some keyword.Unserved
 unserved_again name h =
     elim h [
       | inl fix ↦ rw fix refl
-      | inr others ↦ elim others [
-        | inl due ↦ rw due refl
-        | inr last ↦ elim last [ inl show ↦ rw show refl | inr close ↦ rw close refl ]
-      ]
+      | inr others ↦ elim others [ inl due ↦ rw due refl | inr close ↦ rw close refl ]
     ]
-
-on_a_bus : (tap : TapLine) → tap.kind ≡ Bus → command_of_tap tap ≡ Tap tap
-on_a_bus tap e = rw e refl
-
-elsewhere_at : (tap : TapLine) (kind : Kind) → kind ≢ Bus → elim kind [ In ↦ NotYet | Out ↦ NotYet | Bus ↦ Tap tap ] ≡ NotYet
-elsewhere_at tap In other = refl
-elsewhere_at tap Out other = refl
-elsewhere_at tap Bus other = absurd (other refl)
-
-elsewhere : (tap : TapLine) → tap.kind ≢ Bus → command_of_tap tap ≡ NotYet
-elsewhere tap other = elsewhere_at tap tap.kind other
 
 pub is_read : (line : List ℕ) (command : Command) → Spells line command → command_of line ≡ Some command
-is_read line (Tap tap) h = ap command_of h.2 ∙ tap_line_again tap h.0 ∙ ap (λ (c : Command). Some c) (on_a_bus tap h.1)
-is_read line NotYet h =
-    elim h [
-      | inl unserved ↦ ap command_of_words (split_at_end line) ∙ rw (unserved_again (first_word line) unserved) refl
-      | inr t ↦ ap command_of t.3 ∙ tap_line_again t.0 t.1 ∙ ap (λ (c : Command). Some c) (elsewhere t.0 t.2)
-    ]
+is_read line (Tap tap) h = ap command_of h.1 ∙ tap_line_again tap h.0
+is_read line (Show account day) h = ap command_of h.1 ∙ show_line_again account day h.0
+is_read line NotYet h = ap command_of_words (split_at_end line) ∙ rw (unserved_again (first_word line) h) refl
 is_read line Quit h = ap command_of h
 
 -- ---- what is read is spelled
@@ -202,44 +207,71 @@ tap_is ws tap e =
     let spelled : ws ≡ fields_of read = fields_joined ws r.0 s.0 a.0 u.0 p.0 k.0 reader.0 seq.0 account.0 utc.0 place.0 (kind_is_next p.0.1 k.0 k.1) (none_left k.0.1 last.0) in
     read_as ws read tap fits spelled last.1
 
+-- a show that is read, step by step
+abbrev at_show_end : NumberAndRest → NumberAndRest → Option Command
+at_show_end account day = cond (has_none day.1) (Some (Show account.0 day.0)) None
+
+abbrev at_day : NumberAndRest → Option Command
+at_day account = field (number_within 4 50_000) account.1 >>= at_show_end account
+
+abbrev ShowRead : List (List ℕ) → Command → Type 0
+ShowRead ws command = (account : ℕ) × (day : ℕ) × IsShow account day × (ws ≡ show_fields account day) × (Show account day ≡ command)
+
+show_joined : (ws : List (List ℕ)) (account day : NumberAndRest) → ws ≡ decimal account.0 ∷ account.1 → account.1 ≡ decimal day.0 ∷ day.1 → day.1 ≡ [] → ws ≡ show_fields account.0 day.0
+show_joined ws account day a b c = rw (a, b, c) refl
+
+show_is : (ws : List (List ℕ)) (command : Command) → show_of ws ≡ Some command → ShowRead ws command
+unfolding show_of
+show_is ws command e =
+    let a = bind_some (field (number_within 1 4_294_967_295) ws) at_day command e in
+    let d = bind_some (field (number_within 4 50_000) a.0.1) (at_show_end a.0) command a.2 in
+    let last = cond_some (has_none d.0.1) (Show a.0.0 d.0.0) command d.2 in
+    let account = number_is_next 1 4_294_967_295 ws a.0 a.1 in
+    let day = number_is_next 4 50_000 a.0.1 d.0 d.1 in (
+      a.0.0,
+      d.0.0,
+      ((account.1, account.2), (day.1, day.2)),
+      show_joined ws a.0 d.0 account.0 day.0 (none_left d.0.1 last.0),
+      last.1,
+    )
+
 abbrev IsKeyword : List ℕ → Keyword → Type 0
 IsKeyword name keyword.Tap = name ≡ codes "TAP"
+IsKeyword name keyword.Show = name ≡ codes "SHOW"
 IsKeyword name keyword.Quit = name ≡ codes "QUIT"
 IsKeyword name keyword.Unserved = IsUnserved name
 
 abbrev unserved_test : List ℕ → Bool
-unserved_test name = bytes_eq name (codes "FIX") || bytes_eq name (codes "DUE") || bytes_eq name (codes "SHOW") || bytes_eq name (codes "CLOSE")
+unserved_test name = bytes_eq name (codes "FIX") || bytes_eq name (codes "DUE") || bytes_eq name (codes "CLOSE")
 
 passes_as : (name word : List ℕ) → bytes_eq name word ≡ true → name ≡ word
 passes_as name word e = (bytes_eq-Decides name word).0 e
 
 unserved_is : (name : List ℕ) → unserved_test name ≡ true → IsUnserved name
 unserved_is name e =
-    elim (or_cases (bytes_eq name (codes "FIX") || bytes_eq name (codes "DUE") || bytes_eq name (codes "SHOW")) (bytes_eq name (codes "CLOSE")) e) [
-      | inr close ↦ inr (inr (inr (passes_as name (codes "CLOSE") close)))
-      | inl three ↦ elim (or_cases (bytes_eq name (codes "FIX") || bytes_eq name (codes "DUE")) (bytes_eq name (codes "SHOW")) three) [
-        | inr show ↦ inr (inr (inl (passes_as name (codes "SHOW") show)))
-        | inl two ↦ elim (or_cases (bytes_eq name (codes "FIX")) (bytes_eq name (codes "DUE")) two) [
-          | inr due ↦ inr (inl (passes_as name (codes "DUE") due))
-          | inl fix ↦ inl (passes_as name (codes "FIX") fix)
-        ]
+    elim (or_cases (bytes_eq name (codes "FIX") || bytes_eq name (codes "DUE")) (bytes_eq name (codes "CLOSE")) e) [
+      | inr close ↦ inr (inr (passes_as name (codes "CLOSE") close))
+      | inl two ↦ elim (or_cases (bytes_eq name (codes "FIX")) (bytes_eq name (codes "DUE")) two) [
+        | inr due ↦ inr (inl (passes_as name (codes "DUE") due))
+        | inl fix ↦ inl (passes_as name (codes "FIX") fix)
       ]
     ]
+
+abbrev quit_or_unserved : List ℕ → Option Keyword
+quit_or_unserved name = cond (bytes_eq name (codes "QUIT")) (Some keyword.Quit) (cond (unserved_test name) (Some keyword.Unserved) None)
 
 keyword_is : (name : List ℕ) (k : Keyword) → keyword_of name ≡ Some k → IsKeyword name k
 keyword_is name k e =
-    elim (choice (bytes_eq name (codes "TAP")) (cond (bytes_eq name (codes "QUIT")) (Some keyword.Quit) (cond (unserved_test name) (Some keyword.Unserved) None)) keyword.Tap k e) [
+    elim (choice (bytes_eq name (codes "TAP")) (cond (bytes_eq name (codes "SHOW")) (Some keyword.Show) (quit_or_unserved name)) keyword.Tap k e) [
       | inl p ↦ subst (λ (q : Keyword). IsKeyword name q) p.1 (passes_as name (codes "TAP") p.0)
-      | inr others ↦ elim (choice (bytes_eq name (codes "QUIT")) (cond (unserved_test name) (Some keyword.Unserved) None) keyword.Quit k others) [
-        | inl p ↦ subst (λ (q : Keyword). IsKeyword name q) p.1 (passes_as name (codes "QUIT") p.0)
-        | inr last ↦ let p = cond_some (unserved_test name) keyword.Unserved k last in subst (λ (q : Keyword). IsKeyword name q) p.1 (unserved_is name p.0)
+      | inr others ↦ elim (choice (bytes_eq name (codes "SHOW")) (quit_or_unserved name) keyword.Show k others) [
+        | inl p ↦ subst (λ (q : Keyword). IsKeyword name q) p.1 (passes_as name (codes "SHOW") p.0)
+        | inr more ↦ elim (choice (bytes_eq name (codes "QUIT")) (cond (unserved_test name) (Some keyword.Unserved) None) keyword.Quit k more) [
+          | inl p ↦ subst (λ (q : Keyword). IsKeyword name q) p.1 (passes_as name (codes "QUIT") p.0)
+          | inr last ↦ let p = cond_some (unserved_test name) keyword.Unserved k last in subst (λ (q : Keyword). IsKeyword name q) p.1 (unserved_is name p.0)
+        ]
       ]
     ]
-
-spells_tap_at : (line : List ℕ) (tap : TapLine) → IsTapLine tap → line ≡ spelling_of_tap tap → (kind : Kind) → tap.kind ≡ kind → Spells line (elim kind [ In ↦ NotYet | Out ↦ NotYet | Bus ↦ Tap tap ])
-spells_tap_at line tap fits e In is = inr (tap, fits, (λ bus. absurd (cc (is, bus))), e)
-spells_tap_at line tap fits e Out is = inr (tap, fits, (λ bus. absurd (cc (is, bus))), e)
-spells_tap_at line tap fits e Bus is = (fits, is, e)
 
 -- a line is its words with one space between each two
 joined_again : (line first : List ℕ) (rest ws : List (List ℕ)) → words line ≡ first ∷ rest → rest ≡ ws → line ≡ join_with_byte 32 (first ∷ ws)
@@ -248,16 +280,22 @@ joined_again line first rest ws split e =
 
 spelled_after : (line : List ℕ) (rest : List (List ℕ)) (k : Keyword) (command : Command) → words line ≡ first_word line ∷ rest → IsKeyword (first_word line) k → command_for k rest ≡ Some command → Spells line command
 spelled_after line rest keyword.Tap command split name e =
-    let b = bind_some (tap_of rest) (λ tap. Some (command_of_tap tap)) command e in
+    let b = bind_some (tap_of rest) (λ tap. Some (Tap tap)) command e in
     let tap = b.0 in
     let t = tap_is rest tap b.1 in
     let whole : line ≡ spelling_of_tap tap = joined_again line (first_word line) rest (fields_of tap) split t.1 ∙ ap (λ (w : List ℕ). join_with_byte 32 (w ∷ fields_of tap)) name in
-    subst (λ (c : Command). Spells line c) (some_is (command_of_tap tap) command b.2) (spells_tap_at line tap t.0 whole tap.kind refl)
+    subst (λ (c : Command). Spells line c) (some_is (Tap tap) command b.2) (t.0, whole)
+spelled_after line rest keyword.Show command split name e =
+    let s = show_is rest command e in
+    let account = s.0 in
+    let day = s.1 in
+    let whole : line ≡ spelling_of_show account day = joined_again line (first_word line) rest (show_fields account day) split s.3 ∙ ap (λ (w : List ℕ). join_with_byte 32 (w ∷ show_fields account day)) name in
+    subst (λ (c : Command). Spells line c) s.4 (s.2, whole)
 spelled_after line rest keyword.Quit command split name e =
     let q = cond_some (has_none rest) Quit command e in
     subst (λ (c : Command). Spells line c) q.1 (joined_again line (first_word line) rest [] split (none_left rest q.0) ∙ name)
 spelled_after line rest keyword.Unserved command split name e =
-    subst (λ (c : Command). Spells line c) (some_is NotYet command e) (inl name)
+    subst (λ (c : Command). Spells line c) (some_is NotYet command e) name
 
 pub is_spelled : (line : List ℕ) (command : Command) → command_of line ≡ Some command → Spells line command
 is_spelled line command e =

@@ -5,7 +5,7 @@ use Rattle.pay_taps.specs.declared.tap.Kind.{Kind}
 use Rattle.pay_taps.specs.declared.tap.Kind.TheVariants.{In, Out, Bus}
 use Rattle.farebox.specs.declared.command.TapLine.{TapLine}
 use Rattle.farebox.specs.declared.command.Command.{Command}
-use Rattle.farebox.specs.declared.command.Command.TheVariants.{Tap, NotYet, Quit}
+use Rattle.farebox.specs.declared.command.Command.TheVariants.{Tap, Show, NotYet, Quit}
 use Rattle.farebox.specs.declared.command.Keyword.{Keyword}
 use Rattle.farebox.specs.declared.command.Keyword.TheVariants as keyword
 use Rattle.farebox.specs.Numbers.{number_of}
@@ -38,23 +38,28 @@ tap_of fields = do
       then Some (record { reader = reader.0; seq = seq.0; account = account.0; utc = utc.0; place = place.0; kind = kind.0 })
       else None
 
--- of the taps those on a bus are served
-abbrev pub command_of_tap : TapLine → Command
-command_of_tap tap = elim tap.kind [ In ↦ NotYet | Out ↦ NotYet | Bus ↦ Tap tap ]
+-- the account and the service day whose journeys are shown, each in its range, and no word behind them
+unfoldable pub show_of : List (List ℕ) → Option Command
+show_of fields = do
+  account ← field (number_within 1 4_294_967_295) fields
+  day ← field (number_within 4 50_000) account.1
+  if has_none day.1 then Some (Show account.0 day.0) else None
 
 -- the first word of a command
 abbrev pub keyword_of : List ℕ → Option Keyword
 keyword_of name =
     if bytes_eq name (codes "TAP") then Some keyword.Tap
+    else if bytes_eq name (codes "SHOW") then Some keyword.Show
     else if bytes_eq name (codes "QUIT") then Some keyword.Quit
-    else if bytes_eq name (codes "FIX") || bytes_eq name (codes "DUE") || bytes_eq name (codes "SHOW") || bytes_eq name (codes "CLOSE") then Some keyword.Unserved
+    else if bytes_eq name (codes "FIX") || bytes_eq name (codes "DUE") || bytes_eq name (codes "CLOSE") then Some keyword.Unserved
     else None
 
 -- the command of a keyword and the words behind it; of a command that is not served yet they may be any
 abbrev pub command_for : Keyword → List (List ℕ) → Option Command
 command_for keyword.Tap fields = do
   tap ← tap_of fields
-  Some (command_of_tap tap)
+  Some (Tap tap)
+command_for keyword.Show fields = show_of fields
 command_for keyword.Quit fields = if has_none fields then Some Quit else None
 command_for keyword.Unserved fields = Some NotYet
 
@@ -73,7 +78,7 @@ tap_on_a_bus : command_of (codes "TAP 1 1 7 1704697200 50 BUS") ≡ Some (Tap (r
 unfolding tap_of
 tap_on_a_bus = refl
 
-tap_at_a_station : command_of (codes "TAP 1 1 7 1704697200 10 IN") ≡ Some NotYet
+tap_at_a_station : command_of (codes "TAP 1 1 7 1704697200 10 IN") ≡ Some (Tap (record { reader = 1; seq = 1; account = 7; utc = 1_704_697_200; place = 10; kind = In }))
 unfolding tap_of
 tap_at_a_station = refl
 
@@ -107,6 +112,34 @@ tap_in_small_letters = refl
 tap_cut : command_of (codes "TAP 1 1 7 17046972") ≡ None
 unfolding tap_of
 tap_cut = refl
+
+show_of_a_day : command_of (codes "SHOW 7 19730") ≡ Some (Show 7 19_730)
+unfolding show_of
+show_of_a_day = refl
+
+show_of_day_3 : command_of (codes "SHOW 7 3") ≡ None
+unfolding show_of
+show_of_day_3 = refl
+
+show_of_day_50_001 : command_of (codes "SHOW 7 50001") ≡ None
+unfolding show_of
+show_of_day_50_001 = refl
+
+show_of_account_0 : command_of (codes "SHOW 0 19730") ≡ None
+unfolding show_of
+show_of_account_0 = refl
+
+show_with_a_leading_zero : command_of (codes "SHOW 7 019730") ≡ None
+unfolding show_of
+show_with_a_leading_zero = refl
+
+show_without_a_day : command_of (codes "SHOW 7") ≡ None
+unfolding show_of
+show_without_a_day = refl
+
+show_with_a_further_word : command_of (codes "SHOW 7 19730 1") ≡ None
+unfolding show_of
+show_with_a_further_word = refl
 
 quit : command_of (codes "QUIT") ≡ Some Quit
 quit = refl

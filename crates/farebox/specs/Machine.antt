@@ -6,6 +6,7 @@ use Rattle.pay_day.specs.Day.{Stamp, stamp_of}
 use Rattle.pay_tables.specs.FareTables.{FareTables}
 use Rattle.pay_taps.specs.declared.tap.Tap.{Tap}
 use Rattle.pay_account.specs.Answers.{answer_to}
+use Rattle.pay_account.specs.Lines.{shown}
 use Rattle.pay_account.specs.declared.fares.Priced.{Priced}
 use Rattle.pay_account.specs.declared.fares.TapFault.{TapFault}
 use Rattle.pay_account.specs.declared.fares.TapFault.TheVariants as fault
@@ -71,8 +72,14 @@ abbrev pub step_line : Bool → Machine → TapLine → Step
 step_line refused_memory m line =
     if is_instant line.utc then step_tap refused_memory m (tap_of_line line (stamp_of m.zone line.utc)) else refuse m refusal.OutOfTime
 
+-- the journeys of a day of an account are shown, and nothing changes
+abbrev pub step_show : Bool → Machine → ℕ → ℕ → Step
+step_show true m account day = refuse m refusal.Memory
+step_show false m account day = record { reply = replies.Shown (shown m.tables account (taps_of m.accounts account) day); after = m }
+
 abbrev pub step_command : Bool → Machine → Command → Step
 step_command refused_memory m (command.Tap line) = step_line refused_memory m line
+step_command refused_memory m (command.Show account day) = step_show refused_memory m account day
 step_command refused_memory m command.NotYet = refuse m refusal.NotYet
 step_command refused_memory m command.Quit = record { reply = replies.Bye; after = m }
 

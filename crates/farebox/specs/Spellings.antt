@@ -5,7 +5,7 @@ use Rattle.pay_taps.specs.declared.tap.Kind.{Kind}
 use Rattle.pay_taps.specs.declared.tap.Kind.TheVariants.{In, Out, Bus}
 use Rattle.farebox.specs.declared.command.TapLine.{TapLine}
 use Rattle.farebox.specs.declared.command.Command.{Command}
-use Rattle.farebox.specs.declared.command.Command.TheVariants.{Tap, NotYet, Quit}
+use Rattle.farebox.specs.declared.command.Command.TheVariants.{Tap, Show, NotYet, Quit}
 use Rattle.farebox.specs.Fields.{is_space}
 
 -- each number of a tap is in its range
@@ -26,19 +26,27 @@ abbrev pub spelling_of_tap : TapLine → List ℕ
 spelling_of_tap tap =
     join_with_byte 32 (codes "TAP" ∷ decimal tap.reader ∷ decimal tap.seq ∷ decimal tap.account ∷ decimal tap.utc ∷ decimal tap.place ∷ spelling_of_kind tap.kind ∷ [])
 
+-- the account and the day of a `SHOW` are in their ranges
+abbrev pub IsShow : ℕ → ℕ → Type 0
+IsShow account day = ((1 ≤ account) × (account ≤ 4_294_967_295)) × ((4 ≤ day) × (day ≤ 50_000))
+
+-- `SHOW account day`, with a space between each two words
+abbrev pub spelling_of_show : ℕ → ℕ → List ℕ
+spelling_of_show account day = join_with_byte 32 (codes "SHOW" ∷ decimal account ∷ decimal day ∷ [])
+
 -- the bytes up to the first space, or to the end
 abbrev pub first_word : List ℕ → List ℕ
 first_word line = before_first is_space line
 
 -- the first word of a command that is not served yet
 abbrev pub IsUnserved : List ℕ → Type 0
-IsUnserved word = (word ≡ codes "FIX") ⊎ ((word ≡ codes "DUE") ⊎ ((word ≡ codes "SHOW") ⊎ (word ≡ codes "CLOSE")))
+IsUnserved word = (word ≡ codes "FIX") ⊎ ((word ≡ codes "DUE") ⊎ (word ≡ codes "CLOSE"))
 
--- A line spells a tap on a bus, or a tap elsewhere, which is not served yet. Of the other commands that
--- are not served yet the first word is enough.
+-- what a line has to be to spell a command; of those that are not served yet the first word is enough
 abbrev pub Spells : List ℕ → Command → Type 0
-Spells line (Tap tap) = IsTapLine tap × (tap.kind ≡ Bus) × (line ≡ spelling_of_tap tap)
-Spells line NotYet = IsUnserved (first_word line) ⊎ ((tap : TapLine) × IsTapLine tap × (tap.kind ≢ Bus) × (line ≡ spelling_of_tap tap))
+Spells line (Tap tap) = IsTapLine tap × (line ≡ spelling_of_tap tap)
+Spells line (Show account day) = IsShow account day × (line ≡ spelling_of_show account day)
+Spells line NotYet = IsUnserved (first_word line)
 Spells line Quit = line ≡ codes "QUIT"
 
 -- what a session takes as one line, and as no longer than a line may be

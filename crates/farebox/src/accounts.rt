@@ -1,12 +1,13 @@
-ghost use Rattle.std.specs.Prelude.{◌≡◌};
+ghost use Rattle.std.specs.Prelude.{◌≡◌, IfOk};
 ghost use Rattle.std.specs.FinMap as map;
 ghost use Rattle.pay_account.specs.Answers.{IsAnswer};
+ghost use Rattle.pay_account.specs.Lines.{shown};
 ghost use Rattle.farebox.specs.Accounts.{taps_of, accounts_after};
 
-use pay_account::{Account, Fares, Priced, TapFault};
+use pay_account::{Account, Fares, Priced, Shown, TapFault};
 use pay_tables::Tables;
 use pay_taps::Tap;
-use std::alloc::Global;
+use std::alloc::{AllocError, Global};
 use std::collections::BTreeMap;
 use std::marker::Model;
 
@@ -66,6 +67,16 @@ impl Accounts {
         match self.accounts.insert(number, account) {
             Ok(_) => Ok(priced),
             Err(_) => Err(TapFault::Memory),
+        }
+    }
+
+    /// Shows a service day of an account. One without taps has no journeys.
+    pub fn show(&self, tables: &Tables, account: u32, day: u32) -> Result<Shown, AllocError>
+        ensures { IfOk result (λ it. it ≡ shown tables.now account (taps_of self.now account) day) }
+    {
+        match self.accounts.get(&account) {
+            Some(held) => held.show(tables, day),
+            None => Account::new(self.alloc, account).show(tables, day),
         }
     }
 }

@@ -2,7 +2,7 @@
 ghost use Rattle.std.specs.Prelude.{◌≡◌, ◌≤◌, ◌∷◌, Some, IfSome};
 ghost use Rattle.std.specs.List.{position_or_len};
 ghost use Rattle.farebox.specs.Fields.{is_space, words, words_after, has_none, Gives, field};
-ghost use Rattle.farebox.specs.Commands.{number_within, kind_of, tap_of, command_of_tap, keyword_of, command_for, command_of};
+ghost use Rattle.farebox.specs.Commands.{number_within, kind_of, tap_of, show_of, keyword_of, command_for, command_of};
 
 use crate::number::read_number;
 use pay_taps::Kind;
@@ -29,6 +29,8 @@ pub struct TapLine {
 pub enum Command {
     /// `TAP reader seq account utc place KIND`: a tap.
     Tap(TapLine),
+    /// `SHOW account day`: the journeys of a service day.
+    Show { account: u32, day: u32 },
     /// A command of the protocol that is not served yet.
     NotYet,
     /// `QUIT`: the end of the session.
@@ -39,8 +41,9 @@ pub enum Command {
 #[derive(Clone, Copy, Debug, PartialEq, Eq)]
 enum Keyword {
     Tap,
+    Show,
     Quit,
-    /// `FIX`, `DUE`, `SHOW` or `CLOSE`.
+    /// `FIX`, `DUE` or `CLOSE`.
     Unserved,
 }
 
@@ -59,20 +62,11 @@ fn command_after(keyword: Keyword, fields: &[u8]) -> Option<Command>
     ensures { result ≡ command_for keyword (words_after fields.now) }
 {
     match keyword {
-        Keyword::Tap => Some(tap_command(read_tap(fields)?)),
+        Keyword::Tap => Some(Command::Tap(read_tap(fields)?)),
+        Keyword::Show => read_show(fields),
         Keyword::Quit if is_end(fields) => Some(Command::Quit),
         Keyword::Quit => None,
         Keyword::Unserved => Some(Command::NotYet),
-    }
-}
-
-/// A tap is served on a bus alone as yet.
-fn tap_command(tap: TapLine) -> Command
-    ensures { result ≡ command_of_tap tap }
-{
-    match tap.kind {
-        Kind::Bus => Command::Tap(tap),
-        Kind::In | Kind::Out => Command::NotYet,
     }
 }
 
@@ -81,8 +75,9 @@ fn read_keyword(name: &[u8]) -> Option<Keyword>
 {
     match name {
         b"TAP" => Some(Keyword::Tap),
+        b"SHOW" => Some(Keyword::Show),
         b"QUIT" => Some(Keyword::Quit),
-        b"FIX" | b"DUE" | b"SHOW" | b"CLOSE" => Some(Keyword::Unserved),
+        b"FIX" | b"DUE" | b"CLOSE" => Some(Keyword::Unserved),
         _ => None,
     }
 }
@@ -109,6 +104,20 @@ fn read_tap(fields: &[u8]) -> Option<TapLine>
         place: place as u16,
         kind,
     })
+}
+
+/// The fields of a `SHOW`, to the end of the line.
+#[tactic(auto, unfolding(crate::specs::Commands::show_of))]
+fn read_show(fields: &[u8]) -> Option<Command>
+    ensures { result ≡ show_of (words_after fields.now) }
+{
+    let (account, rest) = number_field(fields, 1, 4_294_967_295)?;
+    let (day, rest) = number_field(rest, 4, 50_000)?;
+    if is_end(rest) {
+        Some(Command::Show { account, day })
+    } else {
+        None
+    }
 }
 
 /// The number in the next word, if it is in the range, and what follows.

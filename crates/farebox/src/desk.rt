@@ -1,5 +1,5 @@
 ghost use Rattle.std.specs.Prelude.{◌≡◌, Bool};
-ghost use Rattle.farebox.specs.Machine.{new_machine, step, step_command, step_line};
+ghost use Rattle.farebox.specs.Machine.{new_machine, step, step_command, step_line, step_show};
 
 use crate::accounts::Accounts;
 use crate::command::{Command, TapLine};
@@ -51,6 +51,7 @@ impl<'a> Desk<'a> {
     {
         match command {
             Command::Tap(line) => self.tap(line),
+            Command::Show { account, day } => self.show(account, day),
             Command::NotYet => Reply::No(Refusal::NotYet),
             Command::Quit => Reply::Bye,
         }
@@ -75,6 +76,15 @@ impl<'a> Desk<'a> {
         match self.accounts.tap(self.tables, tap) {
             Ok(priced) => Reply::Priced(priced),
             Err(fault) => Reply::No(Refusal::from(fault)),
+        }
+    }
+
+    fn show(&self, account: u32, day: u32) -> Reply
+        ensures { (refused_memory : Bool) × (step_show refused_memory (machine_of self.now) account day ≡ record { reply = result; after = machine_of self.now }) }
+    {
+        match self.accounts.show(self.tables, account, day) {
+            Ok(shown) => Reply::Shown(shown),
+            Err(_) => Reply::No(Refusal::Memory),
         }
     }
 }

@@ -3,6 +3,7 @@
 ghost use Rattle.std.specs.Prelude.{◌≡◌, ◌≢◌, ℕ, ◌<◌, ◌≤◌, true, false, List, [], ◌∷◌, ◌++◌, length, map, Some, codes, decimal};
 ghost use Rattle.std.specs.List.{AllByRecursion, flat_map};
 ghost use Rattle.pay_account.specs.declared.fares.Priced.{Priced};
+ghost use Rattle.pay_account.specs.declared.shown.Shown.{Shown};
 ghost use Rattle.farebox.specs.declared.command.TapLine.{TapLine};
 ghost use Rattle.farebox.specs.declared.command.Command.{Command};
 ghost use Rattle.farebox.specs.declared.command.Command.TheVariants.{NotYet, Quit};
@@ -14,10 +15,10 @@ ghost use Rattle.farebox.specs.declared.request.Request.{Request};
 ghost use Rattle.farebox.specs.declared.request.Request.TheVariants as requests;
 ghost use Rattle.farebox.specs.Numbers.{number_of};
 ghost use Rattle.farebox.specs.Commands.{command_of};
-ghost use Rattle.farebox.specs.Spellings.{IsTapLine, spelling_of_tap, Spells, IsLine};
+ghost use Rattle.farebox.specs.Spellings.{IsTapLine, spelling_of_tap, IsShow, spelling_of_show, Spells, IsLine};
 ghost use Rattle.farebox.specs.Requests.{Line, lines_of, rest_of, has_newline, request_of, line_requests, requests_of, quits, unread};
 ghost use Rattle.farebox.specs.Machine.{Machine, refuse, step};
-ghost use Rattle.farebox.specs.Replies.{spelling_of_reply, IsReply};
+ghost use Rattle.farebox.specs.Replies.{spelling_of_reply, told_of, IsReply};
 
 /// A number of a line has one spelling, its decimal digits, which is read as that number.
 pub fn one_numeral()
@@ -41,20 +42,23 @@ pub fn one_command()
         → Spells a command → Spells b command → a ≡ b }
     ensures tap { (a b : TapLine) → IsTapLine a → IsTapLine b
         → spelling_of_tap a ≡ spelling_of_tap b → a ≡ b }
+    ensures show { (account day x y : ℕ) → IsShow account day → IsShow x y
+        → spelling_of_show account day ≡ spelling_of_show x y → (account ≡ x) × (day ≡ y) }
 {}
 
 /// A spelling is one line: at most 128 bytes, none of them a newline.
 pub fn each_is_a_line()
     ensures tap { (tap : TapLine) → IsTapLine tap → IsLine (spelling_of_tap tap) }
+    ensures show { (account day : ℕ) → IsShow account day → IsLine (spelling_of_show account day) }
     ensures quit { IsLine (codes "QUIT") }
 {}
 
 /// Replies that follow one another are told apart, so a stream of replies is read in one way.
 pub fn one_reply()
     ensures first { (a b : Reply) (x y : List ℕ) → IsReply a → IsReply b
-        → spelling_of_reply a ++ x ≡ spelling_of_reply b ++ y → (a ≡ b) × (x ≡ y) }
+        → spelling_of_reply a ++ x ≡ spelling_of_reply b ++ y → (told_of a ≡ told_of b) × (x ≡ y) }
     ensures stream { (told others : List Reply) → AllByRecursion IsReply told → AllByRecursion IsReply others
-        → flat_map spelling_of_reply told ≡ flat_map spelling_of_reply others → told ≡ others }
+        → flat_map spelling_of_reply told ≡ flat_map spelling_of_reply others → map told_of told ≡ map told_of others }
 {}
 
 /// The lines and the rest are the input, cut at its newlines, and no other cutting is.
@@ -100,13 +104,15 @@ pub fn session_goes_on()
 {}
 
 /// Where memory for a request is refused, no tap is kept. What was to be refused, and `QUIT`, are answered as
-/// ever, and in place of a price comes the refusal for want of memory.
+/// ever, and in place of a price or a day comes the refusal for want of memory.
 pub fn memory_has_no_effect_on_refusals()
     ensures kept { (m : Machine) (r : Request) → (step true m r).after ≡ m }
     ensures refusal { (m : Machine) (r : Request) (why : Refusal)
         → (step false m r).reply ≡ replies.No why → step true m r ≡ step false m r }
     ensures price { (m : Machine) (r : Request) (priced : Priced)
         → (step false m r).reply ≡ replies.Priced priced → step true m r ≡ refuse m refusal.Memory }
+    ensures shown { (m : Machine) (r : Request) (shown : Shown)
+        → (step false m r).reply ≡ replies.Shown shown → step true m r ≡ refuse m refusal.Memory }
     ensures bye { (m : Machine) (r : Request)
         → (step false m r).reply ≡ replies.Bye → step true m r ≡ step false m r }
 {}

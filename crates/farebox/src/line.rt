@@ -1,6 +1,7 @@
 ghost use Rattle.std.specs.Prelude.{◌≡◌, ◌≤◌, [], ◌++◌, List, ℕ, take, length};
+ghost use Rattle.farebox.specs.Requests.{request_of};
 
-use crate::request::LINE_LIMIT;
+use crate::request::{LINE_LIMIT, Request, request_of};
 use arrayvec::ArrayVec;
 use std::marker::Model;
 
@@ -45,6 +46,21 @@ impl LineBuffer {
         ensures { self.new ≡ [] }
     {
         self.bytes.clear();
+    }
+
+    /// What the line asks for that ends with these bytes. A new line begins.
+    pub fn finish(&mut self, text: &[u8]) -> Request
+        ensures asked { result ≡ request_of (self.old ++ text.now) }
+        ensures line { self.new ≡ [] }
+    {
+        // A line that came whole is read where it lies.
+        if self.as_slice().is_empty() {
+            return request_of(text);
+        }
+        self.extend(text);
+        let request = request_of(self.as_slice());
+        self.clear();
+        request
     }
 
     /// The bytes so far.

@@ -1,5 +1,6 @@
-ghost use Rattle.std.specs.Prelude.{◌≡◌, ◌+◌, ◌<◌, ◌≤◌, ◌^◌, ◌++◌, ◌∷◌, [], List, ℕ, length, false, true, IfOk, IfErr, OnOk, OnErr, IfNone, IfSome, Some};
+ghost use Rattle.std.specs.Prelude.{◌≡◌, ◌↔◌, ◌+◌, ◌<◌, ◌≤◌, ◌^◌, ◌++◌, ◌∷◌, [], List, ℕ, length, false, true, IsOk, IfOk, IfErr, OnOk, OnErr, IfNone, IfSome, Some};
 ghost use Rattle.std.specs.Arc.{arc_value};
+ghost use Rattle.std.specs.IoError.{error_kind};
 ghost use Rattle.farebox.specs.Desk.{machine_of};
 ghost use Rattle.farebox.specs.Machine.{new_machine};
 ghost use Rattle.farebox.specs.Requests.{has_newline};
@@ -10,11 +11,11 @@ use crate::cut::cut;
 use crate::desk::Desk;
 use crate::line::LineBuffer;
 use crate::output;
-use crate::reply::render;
-use crate::request::{Request, request_of, request_of_rest};
+use crate::request::{Request, request_of_rest};
 use jiff::tz::TimeZone;
 use pay_tables::Tables;
 use std::alloc::Global;
+use std::io;
 use std::io::{BufRead, ErrorKind, Write};
 use std::sync::Arc;
 
@@ -47,6 +48,20 @@ enum Fill {
     Quit,
 }
 
+/// What a reader that showed no bytes comes to: where it was interrupted it is asked again, and all
+/// else is a fault.
+fn without_bytes(error: &io::Error, answered: u128) -> Result<Fill, SessionFault>
+    ensures interrupted { IsOk result ↔ (error_kind error.now ≡ ErrorKind.Interrupted) }
+    ensures again { IfOk result (λ fill. fill ≡ Fill.More) }
+    ensures failed { IfErr result (λ fault. fault ≡ SessionFault.Read answered) }
+{
+    if error.kind() == ErrorKind::Interrupted {
+        Ok(Fill::More)
+    } else {
+        Err(SessionFault::Read { answered })
+    }
+}
+
 /// A session under way.
 #[derive(Drop)]
 struct Session<'a> {
@@ -69,7 +84,7 @@ impl Session<'_> {
         ensures same { OnErr result (self.new.answered ≡ self.old.answered) }
     {
         let reply = self.desk.answer(request);
-        match output::send(writer, render(&reply).as_slice()) {
+        match output::send(writer, &reply) {
             Ok(()) => {
                 self.answered += 1;
                 Ok(())
@@ -94,9 +109,7 @@ impl Session<'_> {
         ensures fault { IfErr result (λ e. e ≡ SessionFault.Write self.new.answered) }
         ensures same { OnErr result (self.new.answered ≡ self.old.answered) }
     {
-        self.line.extend(text);
-        let request = request_of(self.line.as_slice());
-        self.line.clear();
+        let request = self.line.finish(text);
         self.answer(request, writer)?;
         Ok(request.is_quit())
     }
@@ -152,15 +165,7 @@ impl Session<'_> {
     {
         let shown = match reader.fill_buf() {
             Ok(shown) => shown,
-            Err(e) => {
-                return if e.kind() == ErrorKind::Interrupted {
-                    Ok(Fill::More)
-                } else {
-                    Err(SessionFault::Read {
-                        answered: self.answered,
-                    })
-                };
-            }
+            Err(error) => return without_bytes(&error, self.answered),
         };
         if shown.is_empty() {
             return Ok(Fill::End);

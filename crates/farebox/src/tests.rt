@@ -8,7 +8,7 @@ use std::io::{BufRead, Read, Write};
 use std::sync::Arc;
 use std::test::Fail;
 
-/// The fare file of the examples, whole: keys that bus taps do not need are met and left alone.
+/// The fare file of the examples, whole: keys that taps do not need are met and left alone.
 const FARES: &str =
     "# A sample fare file without caps: one bus route, five stations, three zones. The numbers are nobody's real fares.
 zones = 3
@@ -46,13 +46,45 @@ same_limit = 1800
 
 const LONDON: &str = "GMT0BST,M3.5.0/1,M10.5.0";
 
-/// Four bus taps, the last one late: 28 bytes a line.
+/// Four bus taps, the last one late, the day that they make, and the last one again.
 const LATE_TAP: &str =
-    "TAP 1 1 7 1704697200 50 BUS\nTAP 1 2 7 1704700200 50 BUS\nTAP 1 3 7 1704702200 50 BUS\nTAP 1 4 7 1704696200 50 BUS\n";
+    "TAP 1 1 7 1704697200 50 BUS\nTAP 1 2 7 1704700200 50 BUS\nTAP 1 3 7 1704702200 50 BUS\nTAP 1 4 7 1704696200 50 BUS\nSHOW 7 19730\nTAP 1 4 7 1704696200 50 BUS\n";
 
-/// Its replies: 17 bytes a line.
+/// Its replies.
 const LATE_TAP_REPLIES: &str =
-    "OK 19730 175 175\nOK 19730 175 175\nOK 19730 350 350\nOK 19730 350 350\n";
+    "OK 19730 175 175\nOK 19730 175 175\nOK 19730 350 350\nOK 19730 350 350\nSHOW 7 19730 4 350\nJNY BUS 50 0 1704696200 175\nJNY BUS 50 0 1704697200 0\nJNY BUS 50 0 1704700200 175\nJNY BUS 50 0 1704702200 0\nAGAIN 19730 350 350\n";
+
+/// Where its lines end, and where their replies do.
+static LATE_TAP_ENDS: [(usize, usize); 6] = [
+    (28, 17),
+    (56, 34),
+    (84, 51),
+    (112, 68),
+    (125, 195),
+    (153, 215),
+];
+
+/// How many lines of it end within so many bytes, where the last of them ends, and where its reply does.
+fn lines_within(given: usize) -> (u32, usize, usize) {
+    let mut within = (0u32, 0, 0);
+    for (line, reply) in LATE_TAP_ENDS {
+        if line <= given {
+            within = (within.0.wrapping_add(1), line, reply);
+        }
+    }
+    within
+}
+
+/// How many of its replies end within so many bytes.
+fn replies_within(room: usize) -> u32 {
+    let mut count = 0u32;
+    for (_, reply) in LATE_TAP_ENDS {
+        if reply <= room {
+            count = count.wrapping_add(1);
+        }
+    }
+    count
+}
 
 /// How often a session looks at its reader's buffer at the most.
 const MOST_FILLS: u64 = 16_777_216;
@@ -77,18 +109,20 @@ fn replies(alloc: Global, input: &[u8]) -> Result<(Done, Vec<u8>), Fail> {
     }
 }
 
-/// How many lines a text has.
-fn lines(text: &str) -> u128 {
+/// How many lines a text has that are not the journeys of a day: its replies.
+fn answers(text: &str) -> u128 {
     let mut count = 0u32;
+    let mut begins = true;
     for byte in text.as_bytes() {
-        if *byte == b'\n' {
+        if begins && *byte != b'J' {
             count = count.wrapping_add(1);
         }
+        begins = *byte == b'\n';
     }
     u128::from(count)
 }
 
-static ROWS: [(&str, &str); 16] = [
+static BUS_ROWS: [(&str, &str); 16] = [
     ("", ""),
     ("TAP 1 1 7 1704697200 50 BUS\n", "OK 19730 175 175\n"),
     // An hour after, and a second more.
@@ -100,6 +134,7 @@ static ROWS: [(&str, &str); 16] = [
         "TAP 1 1 7 1704697200 50 BUS\nTAP 1 2 7 1704700801 50 BUS\n",
         "OK 19730 175 175\nOK 19730 350 350\n",
     ),
+    // The day after a late tap, and the tap again.
     (LATE_TAP, LATE_TAP_REPLIES),
     // 04:29:59 on a Sunday, 04:30:00 for two accounts, and the first and the last instant.
     (
@@ -124,8 +159,8 @@ static ROWS: [(&str, &str); 16] = [
     ("QUIT", "NO 50 BadLine\n"),
     // What is not served yet.
     (
-        "TAP 1 1 7 1704697200 10 IN\nTAP 1 1 7 1704697200 10 OUT\nDUE 7 19730\nFIX\nSHOW\nCLOSE 1 2 3\n",
-        "NO 60 NotYet\nNO 60 NotYet\nNO 60 NotYet\nNO 60 NotYet\nNO 60 NotYet\nNO 60 NotYet\n",
+        "DUE 7 19730\nFIX\nCLOSE 1 2 3\n",
+        "NO 60 NotYet\nNO 60 NotYet\nNO 60 NotYet\n",
     ),
     // A repeat, other content under its number, and the repeat again.
     (
@@ -140,13 +175,172 @@ static ROWS: [(&str, &str); 16] = [
     ),
 ];
 
+static RAIL_ROWS: [(&str, &str); 21] = [
+    // A late tap on the way in makes a leg of a lone tap.
+    (
+        "TAP 1 1 7 1704699000 12 OUT\nTAP 1 2 7 1704697200 10 IN\n",
+        "OK 19730 860 860\nOK 19730 340 340\n",
+    ),
+    // Peak from 06:30:00 up to 09:30:00, and not on a holiday.
+    (
+        "TAP 1 1 7 1704695399 10 IN\nTAP 1 2 7 1704696599 12 OUT\n",
+        "OK 19730 860 860\nOK 19730 280 280\n",
+    ),
+    (
+        "TAP 1 1 7 1704695400 10 IN\nTAP 1 2 7 1704696600 12 OUT\n",
+        "OK 19730 860 860\nOK 19730 340 340\n",
+    ),
+    (
+        "TAP 1 1 7 1704706199 10 IN\nTAP 1 2 7 1704707399 12 OUT\n",
+        "OK 19730 860 860\nOK 19730 340 340\n",
+    ),
+    (
+        "TAP 1 1 7 1704706200 10 IN\nTAP 1 2 7 1704707400 12 OUT\n",
+        "OK 19730 860 860\nOK 19730 280 280\n",
+    ),
+    (
+        "TAP 1 1 7 1704092400 10 IN\nTAP 1 2 7 1704093600 12 OUT\n",
+        "OK 19723 860 860\nOK 19723 280 280\n",
+    ),
+    // The time allowed for two zones, and a second more.
+    (
+        "TAP 1 1 7 1704697200 10 IN\nTAP 1 2 7 1704703200 12 OUT\n",
+        "OK 19730 860 860\nOK 19730 340 340\n",
+    ),
+    (
+        "TAP 1 1 7 1704697200 10 IN\nTAP 1 2 7 1704703201 12 OUT\n",
+        "OK 19730 860 860\nOK 19730 1720 1720\n",
+    ),
+    // Out where one went in: free, at the fare of the station, and not a leg.
+    (
+        "TAP 1 1 7 1704697200 10 IN\nTAP 1 2 7 1704697320 10 OUT\n",
+        "OK 19730 860 860\nOK 19730 0 0\n",
+    ),
+    (
+        "TAP 1 1 7 1704697200 10 IN\nTAP 1 2 7 1704697321 10 OUT\n",
+        "OK 19730 860 860\nOK 19730 280 280\n",
+    ),
+    (
+        "TAP 1 1 7 1704697200 10 IN\nTAP 1 2 7 1704699000 10 OUT\n",
+        "OK 19730 860 860\nOK 19730 280 280\n",
+    ),
+    (
+        "TAP 1 1 7 1704697200 10 IN\nTAP 1 2 7 1704699001 10 OUT\n",
+        "OK 19730 860 860\nOK 19730 1720 1720\n",
+    ),
+    // Two legs, each of which is a journey.
+    (
+        "TAP 1 1 7 1704697200 14 IN\nTAP 1 2 7 1704698400 12 OUT\nTAP 1 3 7 1704699600 10 IN\nTAP 1 4 7 1704700200 11 OUT\n",
+        "OK 19730 860 860\nOK 19730 210 210\nOK 19730 1070 1070\nOK 19730 490 490\n",
+    ),
+    // Stations in two zones each.
+    (
+        "TAP 1 1 7 1704697200 11 IN\nTAP 1 2 7 1704698400 13 OUT\n",
+        "OK 19730 860 860\nOK 19730 200 200\n",
+    ),
+    // A journey across 04:30 is one of the day on which it began.
+    (
+        "TAP 1 1 7 1704688199 10 IN\nTAP 1 2 7 1704689100 12 OUT\nSHOW 7 19729\nSHOW 7 19730\n",
+        "OK 19729 860 860\nOK 19730 0 0\nSHOW 7 19729 1 280\nJNY RAIL 10 12 1704688199 280\nSHOW 7 19730 0 0\n",
+    ),
+    // Journeys of each kind, in the order of their first taps, whatever the order of the taps.
+    (
+        "TAP 1 1 7 1704702000 13 IN\nTAP 1 2 7 1704700800 14 OUT\nTAP 1 3 7 1704699121 11 OUT\nTAP 1 4 7 1704699000 11 IN\nTAP 1 5 7 1704697800 50 BUS\nTAP 1 6 7 1704698400 12 OUT\nTAP 1 7 7 1704697200 10 IN\nTAP 1 8 7 1704696200 50 BUS\nSHOW 7 19730\n",
+        "OK 19730 860 860\nOK 19730 1720 1720\nOK 19730 2580 2580\nOK 19730 1920 1920\nOK 19730 2095 2095\nOK 19730 2955 2955\nOK 19730 2435 2435\nOK 19730 2435 2435\nSHOW 7 19730 6 2435\nJNY BUS 50 0 1704696200 175\nJNY RAIL 10 12 1704697200 340\nJNY BUS 50 0 1704697800 0\nJNY SAME 11 11 1704699000 200\nJNY LONE 0 14 1704700800 860\nJNY LONE 13 0 1704702000 860\n",
+    ),
+    // At one instant the tap of the lesser reader comes first.
+    (
+        "TAP 2 1 7 1704697200 50 BUS\nTAP 1 9 7 1704697200 10 IN\nSHOW 7 19730\n",
+        "OK 19730 175 175\nOK 19730 1035 1035\nSHOW 7 19730 2 1035\nJNY LONE 10 0 1704697200 860\nJNY BUS 50 0 1704697200 175\n",
+    ),
+    // An account without taps, beside one that has some, and the days and accounts that there are.
+    (
+        "SHOW 7 19730\nTAP 1 1 7 1704697200 50 BUS\nSHOW 8 19730\nSHOW 7 19729\nSHOW 7 4\nSHOW 4294967295 50000\nSHOW 7 19730\nQUIT\n",
+        "SHOW 7 19730 0 0\nOK 19730 175 175\nSHOW 8 19730 0 0\nSHOW 7 19729 0 0\nSHOW 7 4 0 0\nSHOW 4294967295 50000 0 0\nSHOW 7 19730 1 175\nJNY BUS 50 0 1704697200 175\nBYE\n",
+    ),
+    // Spellings that are none of it.
+    (
+        "SHOW 7 3\nSHOW 7 50001\nSHOW 0 19730\nSHOW 4294967296 19730\nSHOW 7\nSHOW\n",
+        "NO 50 BadLine\nNO 50 BadLine\nNO 50 BadLine\nNO 50 BadLine\nNO 50 BadLine\nNO 50 BadLine\n",
+    ),
+    (
+        "SHOW 7 19730 \nSHOW 7 19730 1\nSHOW  7 19730\nSHOW 07 19730\nshow 7 19730\nSHOW 7 19730",
+        "NO 50 BadLine\nNO 50 BadLine\nNO 50 BadLine\nNO 50 BadLine\nNO 50 BadLine\nNO 50 BadLine\n",
+    ),
+    // A station's tap at a route, and the reverse. A refused tap is no journey.
+    (
+        "TAP 1 1 7 1704697200 50 IN\nTAP 1 1 7 1704697200 50 OUT\nTAP 1 1 7 1704697200 10 BUS\nTAP 1 1 7 604799 10 IN\nSHOW 7 19730\n",
+        "NO 15 UnknownPlace\nNO 15 UnknownPlace\nNO 15 UnknownPlace\nNO 1 OutOfTime\nSHOW 7 19730 0 0\n",
+    ),
+];
+
 #[test]
 fn answers_the_worked_rows(rt: HostRuntime) -> Result<(), Fail> {
-    for (input, output) in ROWS {
-        let (done, written) = replies(rt.alloc(), input.as_bytes())?;
-        assert_eq!(rt; written.as_slice(), output.as_bytes(), "at {input}");
-        assert_eq!(rt; done.answered, lines(output), "at {input}");
-        assert_eq!(rt; done.quit, output == "BYE\n", "at {input}");
+    for rows in [BUS_ROWS.as_slice(), RAIL_ROWS.as_slice()] {
+        for (input, output) in rows {
+            let (done, written) = replies(rt.alloc(), input.as_bytes())?;
+            assert_eq!(rt; written.as_slice(), output.as_bytes(), "at {input}");
+            assert_eq!(rt; done.answered, answers(output), "at {input}");
+            assert_eq!(rt; done.quit, output.ends_with("BYE\n"), "at {input}");
+        }
+    }
+    Ok(())
+}
+
+/// The taps of two legs.
+static TWO_LEGS: [&str; 4] = [
+    "TAP 1 1 7 1704697200 14 IN\n",
+    "TAP 1 2 7 1704698400 12 OUT\n",
+    "TAP 1 3 7 1704699601 10 IN\n",
+    "TAP 1 4 7 1704700200 11 OUT\n",
+];
+
+/// What they come to.
+const TWO_LEGS_SHOWN: &str =
+    "OK 19730 490 490\nSHOW 7 19730 2 490\nJNY RAIL 14 12 1704697200 210\nJNY RAIL 10 11 1704699601 280\n";
+
+static ORDERS: [[usize; 4]; 24] = [
+    [0, 1, 2, 3],
+    [0, 1, 3, 2],
+    [0, 2, 1, 3],
+    [0, 2, 3, 1],
+    [0, 3, 1, 2],
+    [0, 3, 2, 1],
+    [1, 0, 2, 3],
+    [1, 0, 3, 2],
+    [1, 2, 0, 3],
+    [1, 2, 3, 0],
+    [1, 3, 0, 2],
+    [1, 3, 2, 0],
+    [2, 0, 1, 3],
+    [2, 0, 3, 1],
+    [2, 1, 0, 3],
+    [2, 1, 3, 0],
+    [2, 3, 0, 1],
+    [2, 3, 1, 0],
+    [3, 0, 1, 2],
+    [3, 0, 2, 1],
+    [3, 1, 0, 2],
+    [3, 1, 2, 0],
+    [3, 2, 0, 1],
+    [3, 2, 1, 0],
+];
+
+#[test]
+fn shows_one_day_for_each_order_of_taps(rt: HostRuntime) -> Result<(), Fail> {
+    let alloc = rt.alloc();
+    for order in ORDERS {
+        let mut input = Vec::new(alloc);
+        for tap in order {
+            input.extend_from_slice(TWO_LEGS.get(tap).ok_or("no tap")?.as_bytes())?;
+        }
+        input.extend_from_slice(b"SHOW 7 19730\n")?;
+        let (done, written) = replies(alloc, &input)?;
+        assert_eq!(rt; done.answered, 5);
+        assert!(rt;
+            written.ends_with(TWO_LEGS_SHOWN.as_bytes()),
+            "at {order:?}"
+        );
     }
     Ok(())
 }
@@ -238,22 +432,19 @@ impl Write for Failing {
 #[test]
 fn stops_where_the_writer_fails(rt: HostRuntime) -> Result<(), Fail> {
     let alloc = rt.alloc();
-    for room in 0..69usize {
+    for room in 0..216usize {
         let mut reader = LATE_TAP.as_bytes();
         let mut writer = Failing::new(alloc, room, u32::MAX);
         let ended = serve(alloc, &mut reader, &mut writer)?;
-        let whole = (room / 17) as u128;
-        if room < 68 {
-            assert_eq!(rt;
-                ended,
-                Err(SessionFault::Write { answered: whole }),
-                "at {room}"
-            );
+        let whole = replies_within(room);
+        let answered = u128::from(whole);
+        if room < 215 {
+            assert_eq!(rt; ended, Err(SessionFault::Write { answered }), "at {room}");
         } else {
             assert_eq!(rt;
                 ended,
                 Ok(Done {
-                    answered: 4,
+                    answered: 6,
                     quit: false
                 })
             );
@@ -263,7 +454,7 @@ fn stops_where_the_writer_fails(rt: HostRuntime) -> Result<(), Fail> {
             held.as_slice(),
             LATE_TAP_REPLIES.as_bytes().get(..room).ok_or("long")?
         );
-        assert_eq!(rt; u128::from(flushed), whole, "at {room}");
+        assert_eq!(rt; flushed, whole, "at {room}");
     }
     Ok(())
 }
@@ -271,12 +462,20 @@ fn stops_where_the_writer_fails(rt: HostRuntime) -> Result<(), Fail> {
 #[test]
 fn stops_where_a_flush_fails(rt: HostRuntime) -> Result<(), Fail> {
     let alloc = rt.alloc();
-    for (flushes, held_bytes) in [(0, 17), (1, 34), (2, 51), (3, 68), (4, 68)] {
+    for (flushes, held_bytes) in [
+        (0, 17),
+        (1, 34),
+        (2, 51),
+        (3, 68),
+        (4, 195),
+        (5, 215),
+        (6, 215),
+    ] {
         let mut reader = LATE_TAP.as_bytes();
-        let mut writer = Failing::new(alloc, 68, flushes);
+        let mut writer = Failing::new(alloc, 215, flushes);
         let ended = serve(alloc, &mut reader, &mut writer)?;
         let answered = u128::from(flushes);
-        if flushes < 4 {
+        if flushes < 6 {
             assert_eq!(rt; ended, Err(SessionFault::Write { answered }));
         } else {
             assert_eq!(rt;
@@ -332,7 +531,7 @@ impl BufRead for Trickle<'_> {
     }
 }
 
-/// How a session ended over the first bytes of the four taps, and what it wrote.
+/// How a session ended over the first bytes of the taps and the day, and what it wrote.
 fn trickled(
     alloc: Global,
     given: usize,
@@ -352,26 +551,20 @@ fn trickled(
 #[test]
 fn stops_where_the_reader_fails(rt: HostRuntime) -> Result<(), Fail> {
     let alloc = rt.alloc();
-    for given in 0..113usize {
-        let whole = given / 28;
+    for given in 0..154usize {
+        let (whole, line_end, reply_end) = lines_within(given);
+        let mut answered = u128::from(whole);
         let mut expected = LATE_TAP_REPLIES
             .as_bytes()
-            .get(..17 * whole)
+            .get(..reply_end)
             .ok_or("long")?
             .to_vec(alloc)?;
         let (ended, written) = trickled(alloc, given, true)?;
-        assert_eq!(rt;
-            ended,
-            Err(SessionFault::Read {
-                answered: whole as u128
-            }),
-            "at {given}"
-        );
+        assert_eq!(rt; ended, Err(SessionFault::Read { answered }), "at {given}");
         assert_eq!(rt; written.as_slice(), expected.as_slice(), "at {given}");
 
         // The same bytes, and then the end of the input.
-        let mut answered = whole as u128;
-        if given % 28 != 0 {
+        if given != line_end {
             expected.extend_from_slice(b"NO 50 BadLine\n")?;
             answered += 1;
         }
@@ -400,19 +593,19 @@ fn goes_on_where_it_was_interrupted(rt: HostRuntime) -> Result<(), Fail> {
     };
     let mut writer = Failing {
         interrupted: true,
-        ..Failing::new(alloc, 68, 4)
+        ..Failing::new(alloc, 215, 6)
     };
     let ended = serve(alloc, &mut reader, &mut writer)?;
     assert_eq!(rt;
         ended,
         Ok(Done {
-            answered: 4,
+            answered: 6,
             quit: false
         })
     );
     let Failing { held, flushed, .. } = writer;
     assert_eq!(rt; held.as_slice(), LATE_TAP_REPLIES.as_bytes());
-    assert_eq!(rt; flushed, 4);
+    assert_eq!(rt; flushed, 6);
     Ok(())
 }
 

@@ -2,10 +2,11 @@ use Rattle.std.proofs.Common.{length, sym, subst}
 use Rattle.std.proofs.Math.Seq.{take-length}
 use Rattle.std.proofs.KnownBytes.{Appends-kept}
 use Rattle.std.specs.Io.KnownBytes.{Appends}
+use Rattle.farebox.specs.Replies.{spelling_of_reply}
 use Rattle.farebox.proofs.output.send.Goals as goal
 
 -- all that was taken is a front too
 pub returns-in-Err-clause-err : goal.returns-in-Err-clause-err
 returns-in-Err-clause-err g c =
-    let bytes = c.args.bytes.now in
-    (length bytes, subst (Appends _ _) (sym (take-length bytes)) (Appends-kept _ _ _ bytes c.in_ok-write_whole.ensures.ok c.in-Err.ensures.bytes))
+    let bytes = spelling_of_reply c.args.reply.now in
+    (length bytes, subst (Appends _ _) (sym (take-length bytes)) (Appends-kept _ _ _ bytes c.in_ok-write_reply.ensures.ok c.in-Err.ensures.bytes))

@@ -4,6 +4,9 @@ use Rattle.farebox.proofs.desk.Desk.serve.Goals as goal
 pub returns-in-Tap : goal.returns-in-Tap
 returns-in-Tap c = rw c.in-Tap.is c.tap.ensures
 
+pub returns-in-Show : goal.returns-in-Show
+returns-in-Show c = rw c.in-Show.is c.show.ensures
+
 pub returns-in-NotYet : goal.returns-in-NotYet
 returns-in-NotYet c = (false, rw c.in-NotYet.is refl)
 

@@ -1,7 +1,5 @@
-use Rattle.std.proofs.Common.{◌≡◌, ◌++◌, ap, ◌∙◌}
 use Rattle.std.proofs.lemmas.Result.{err_from_is_err_and}
-use Rattle.farebox.specs.Requests.{request_of}
-use Rattle.farebox.proofs.Pieces.{has_newline_both, request_kept}
+use Rattle.farebox.proofs.Pieces.{has_newline_both}
 use Rattle.farebox.proofs.Steps.{EndsLine_answered, TakesToFault_line}
 use Rattle.farebox.proofs.session.Session.end_line.Goals as goal
 
@@ -10,9 +8,7 @@ returns-clause-ok g c =
     let line = c.args.self.now.line in
     let text = c.args.text.now in
     let whole = has_newline_both line text c.requires.begun c.requires.text in
-    let asked : c.request_of-request.result ≡ request_of (line ++ text) =
-    c.request_of-request.ensures ∙ ap request_of (c.as_slice.ensures.value ∙ c.extend.ensures) ∙ request_kept (line ++ text) in
-    EndsLine_answered _ _ line text _ _ c.request_of-request.result c.is_quit.result whole asked c.is_quit.ensures c.in_ok-answer.ensures.ok
+    EndsLine_answered _ _ line text _ _ c.finish-request.result c.is_quit.result whole c.finish-request.ensures.asked c.is_quit.ensures c.in_ok-answer.ensures.ok
 
 pub returns-in_err-answer-clause-err : goal.returns-in_err-answer-clause-err
 returns-in_err-answer-clause-err g c =
@@ -20,6 +16,4 @@ returns-in_err-answer-clause-err g c =
     let line = c.args.self.now.line in
     let text = c.args.text.now in
     let whole = has_newline_both line text c.requires.begun c.requires.text in
-    let asked : c.request_of-request.result ≡ request_of (line ++ text) =
-    c.request_of-request.ensures ∙ ap request_of (c.as_slice.ensures.value ∙ c.extend.ensures) ∙ request_kept (line ++ text) in
-    rw p.1 (λ rest. TakesToFault_line _ line text rest _ _ _ c.request_of-request.result whole asked c.in_err-answer.ensures.err)
+    rw p.1 (λ rest. TakesToFault_line _ line text rest _ _ _ c.finish-request.result whole c.finish-request.ensures.asked c.in_err-answer.ensures.err)

@@ -1,14 +1,14 @@
 use Rattle.std.proofs.Common.{◌≡◌, ◌-◌, ◌≤◌, length, subst, sym, arith, eqb-true}
 use Rattle.std.proofs.lemmas.Result.{err_from_is_err_and}
 use Rattle.std.specs.Io.BufRead.{FillKeeps}
-use Rattle.farebox.proofs.Fills.{brings_nothing, loses_reader, brings_end, ended, consumed, brings_quit, loses_writer}
+use Rattle.farebox.proofs.Fills.{asked_again, gives_up, brings_end, ended, consumed, brings_quit, loses_writer}
 use Rattle.farebox.proofs.session.Session.turn.Goals as goal
 
-pub returns-then-eq-clause-brings : goal.returns-then-eq-clause-brings
-returns-then-eq-clause-brings g c = brings_nothing _ _ _ _ _ _ c.fill_buf.follows.holds-at-none.0
+pub returns-in-Err-clause-brings : goal.returns-in-Err-clause-brings
+returns-in-Err-clause-brings g c = asked_again c.without_bytes.result _ _ _ _ _ _ c.fill_buf.follows.holds-at-none.0 c.without_bytes.ensures.again
 
-pub returns-else-eq-clause-err : goal.returns-else-eq-clause-err
-returns-else-eq-clause-err g c = loses_reader _ _ _ _ _ _ c.fill_buf.follows.holds-at-none.0
+pub returns-in-Err-clause-err : goal.returns-in-Err-clause-err
+returns-in-Err-clause-err g c = gives_up c.without_bytes.result _ _ _ _ _ _ c.fill_buf.follows.holds-at-none.0 c.without_bytes.ensures.failed
 
 pub returns-then-is_empty-clause-brings : goal.returns-then-is_empty-clause-brings
 returns-then-is_empty-clause-brings g c =
