@@ -1,0 +1,83 @@
+"""The taps that are measured, in the order of their arrival. They are the same for the same seed."""
+
+import random
+from typing import Callable, NamedTuple
+
+from rules import A_DAY, ROUTE, STATIONS, Tap
+
+# Service day 19730 begins on Monday 2024-01-08 at 04:30:00.
+MONDAY, BEGINS, DAYS = 19730, 1704688200, 7
+LAST = BEGINS + DAYS * A_DAY - 1
+HOUR = 3_600
+
+# The first and last seconds of days and of peak times, after 04:30; and the longest times that a rule allows, and one more.
+EDGE_STARTS = (0, 7_199, 7_200, 17_999, 18_000, 41_399, 41_400, 52_199, 52_200, A_DAY - 1)
+EDGE_TIMES = [most + more for most in (120, 1_800, 3_600, 5_400, 6_000, 6_600) for more in (0, 1)]
+
+
+def numbers(draw, count):
+    """Different tap numbers, in ascending order."""
+    drawn = set()
+    while len(drawn) < count:
+        drawn.add((draw.randint(1, 8_000), draw.randint(0, 99_999_999)))
+    return sorted(drawn)
+
+
+def day_taps(draw, accounts):
+    """Bus taps at random instants of the Monday, in shuffled order."""
+    made = []
+    for account in range(1, accounts + 1):
+        made += [Tap(draw.randint(BEGINS, BEGINS + A_DAY - 1), *number, account, ROUTE, "BUS") for number in numbers(draw, DAY.taps_each)]
+    draw.shuffle(made)
+    return made
+
+
+def trip(draw):
+    """The touches of a trip: seconds after its start, place and kind."""
+    later = draw.choice(EDGE_TIMES) if draw.random() < 0.1 else draw.randint(60, 5_400)
+    first, last = draw.sample(sorted(STATIONS), 2)
+    kinds = {
+        ((0, first, "IN"), (later, last, "OUT")): 50,
+        ((0, first, "IN"), (later, first, "OUT")): 5,
+        ((0, first, "IN"),): 3,
+        ((0, first, "OUT"),): 2,
+        ((0, ROUTE, "BUS"),): 20,
+        ((0, ROUTE, "BUS"), (later, ROUTE, "BUS")): 20,
+    }
+    return draw.choices(list(kinds), kinds.values())[0]
+
+
+def trip_taps(draw, account, count):
+    """That many taps of an account's trips in the week."""
+    touches = []
+    while len(touches) < count:
+        start = draw.choice(EDGE_STARTS) if draw.random() < 0.1 else draw.randrange(A_DAY)
+        start += BEGINS + A_DAY * draw.randrange(DAYS)
+        touches += [(min(start + after, LAST), place, kind) for after, place, kind in trip(draw)]
+    return [Tap(utc, *number, account, place, kind) for number, (utc, place, kind) in zip(numbers(draw, count), touches)]
+
+
+def week_taps(draw, accounts):
+    """Bus and rail taps of the week in order of time, but a tenth of them arrive 1 to 12 hours late."""
+    made = [tap for account in range(1, accounts + 1) for tap in trip_taps(draw, account, WEEK.taps_each)]
+    late = [draw.randint(HOUR, 12 * HOUR) if draw.random() < 0.1 else 0 for _ in made]
+    return [tap for _, tap in sorted((tap.utc + by, tap) for tap, by in zip(made, late))]
+
+
+class Load(NamedTuple):
+    name: str
+    title: str
+    taps_each: int
+    arrivals: Callable
+    days_shown: range
+
+    def accounts(self, taps):
+        return taps // self.taps_each
+
+    def taps(self, seed, taps):
+        return self.arrivals(random.Random(seed), self.accounts(taps))
+
+
+DAY = Load("day", "a day of bus taps in shuffled order", 4, day_taps, range(0))
+WEEK = Load("week", "a week of bus and rail taps, a tenth of them late by hours", 20, week_taps, range(MONDAY, MONDAY + DAYS))
+LOADS = {load.name: load for load in (DAY, WEEK)}
