@@ -3,12 +3,15 @@ use Rattle.std.proofs.Common.{◌≡◌, ℕ, ℤ, ◌+◌, ◌-◌, pos, negsuc
 use Rattle.std.specs.Prelude.{ok_or, nat_le, nat_lt, ◌==◌, ◌&&◌, is_some}
 use Rattle.toml.specs.Data.{Data, Items, no_items, item, Members, get_member, as_integer, as_table, as_array}
 use Rattle.pay_tables.specs.declared.fault.FareFileFault.{FareFileFault}
-use Rattle.pay_tables.specs.declared.fault.FareFileFault.TheVariants.{NotToml, MissingKey, WrongType, OutOfRange, Duplicate, TooMany, BandsNotYet}
+use Rattle.pay_tables.specs.declared.fault.FareFileFault.TheVariants.{NotToml, MissingKey, WrongType, OutOfRange, Duplicate, UnknownPlace, TooMany, BandsNotYet}
+use Rattle.std.specs.Ordering.{nat_cmp}
+use Rattle.std.specs.FinMap.{FinMap}
+use Rattle.pay_tables.specs.declared.interchange.Interchange.{Interchange}
 use Rattle.pay_tables.specs.declared.place.Place.{Place}
 use Rattle.pay_tables.specs.declared.single.Single.{Single}
 use Rattle.pay_tables.specs.Fault.{◌>>=◌}
 use Rattle.pay_tables.specs.Keys.{needed, integer_in, integer_of, integer_at, table_of, table_at, array_of, array_at, items_len, items_of, items_or_none, items_at}
-use Rattle.pay_tables.specs.FareFile.{with_each, with_minutes, minutes_of, minutes_at, rules_of, single_of, with_single, singles_of, singles_at, has_single, has_each_single, has_holiday, with_holiday, holidays_at, station_of, route_of, is_taken, with_place, with_station, with_route, places_at, fare_file}
+use Rattle.pay_tables.specs.FareFile.{with_each, with_minutes, minutes_of, minutes_at, rules_of, single_of, with_single, singles_of, singles_at, has_single, has_each_single, has_holiday, with_holiday, holidays_at, station_of, route_of, is_taken, with_place, with_station, with_route, places_at, another_at, interchange_of, joins_stations, has_interchange, with_pair, with_interchange, interchanges_at, fare_file}
 
 abbrev other_fault : FareFileFault → Bool
 other_fault NotToml = false
@@ -129,6 +132,29 @@ places_at_other zones ms =
     then_other (items_at (codes "route") (1_024 - items_len station_items) ms) _ (items_at_other (codes "route") (1_024 - items_len station_items) ms) (λ route_items.
     then_other (with_each with_route stations route_items) _ (with_each_other with_route with_route_other stations route_items) (λ places. refl))))
 
+another_then : {A : Type 0} (number : ℕ) (key : List ℕ) (ms : Members) (f : ℕ → Result A FareFileFault) → ((n : ℕ) → other (f n) ≡ true) → other (another_at number key ms >>= f) ≡ true
+another_then number key ms f h =
+    then_other (another_at number key ms) f (integer_then key 1 65_535 ms _ (λ n. cond_other (number == n) (Err OutOfRange) (Ok n) refl refl)) h
+
+interchange_of_other : (d : Data) → other (interchange_of d) ≡ true
+interchange_of_other d =
+    then_other (table_of d) _ (ok_or_other (as_table d)) (λ ms.
+    integer_then (codes "a") 1 65_535 ms _ (λ a.
+    another_then a (codes "b") ms _ (λ b.
+    integer_then (codes "seconds") 1 7_200 ms _ (λ seconds. refl))))
+
+with_pair_other : (before : List Interchange) (pair : Interchange) → other (with_pair before pair) ≡ true
+with_pair_other before pair = cond_other (has_interchange before pair) (Err Duplicate) _ refl refl
+
+with_interchange_other : (places : FinMap nat_cmp Place) (before : List Interchange) (d : Data) → other (with_interchange places before d) ≡ true
+with_interchange_other places before d =
+    then_other (interchange_of d) _ (interchange_of_other d) (λ pair.
+    cond_other (joins_stations places pair) (with_pair before pair) (Err UnknownPlace) (with_pair_other before pair) refl)
+
+interchanges_at_other : (places : FinMap nat_cmp Place) (ms : Members) → other (interchanges_at places ms) ≡ true
+interchanges_at_other places ms =
+    then_other (items_at (codes "interchange") 256 ms) _ (items_at_other (codes "interchange") 256 ms) (with_each_other (with_interchange places) (with_interchange_other places) [])
+
 fare_file_other : (ms : Members) → other (fare_file ms) ≡ true
 fare_file_other ms =
     cond_other (is_some (get_member (codes "band") ms)) (Err BandsNotYet) _ refl
@@ -138,7 +164,8 @@ fare_file_other ms =
     (then_other (table_at (codes "rules") ms) rules_of (needed_other table_of (get_member (codes "rules") ms) (λ d. ok_or_other (as_table d))) rules_of_other) (λ rules.
     then_other (singles_at zones ms) _ (singles_at_other zones ms) (λ singles.
     then_other (holidays_at ms) _ (holidays_at_other ms) (λ holidays.
-    then_other (places_at zones ms) _ (places_at_other zones ms) (λ places. refl)))))))
+    then_other (places_at zones ms) _ (places_at_other zones ms) (λ places.
+    then_other (interchanges_at places ms) _ (interchanges_at_other places ms) (λ interchanges. refl))))))))
 
 refused_as_none : {X : Type 0} (r : Result X FareFileFault) → other r ≡ true → r ≡ Err NotToml → ⊥
 refused_as_none (Ok x) h e = absurd cc

@@ -6,3 +6,4 @@ pub mod Documents
 pub mod Ranges
 pub mod Placing
 pub mod Inclusive
+pub mod Rows

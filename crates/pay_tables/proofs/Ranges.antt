@@ -1,6 +1,6 @@
 -- What a fare file says is in its ranges, and each span has its single fare.
 use Rattle.std.proofs.Common.{◌≡◌, ℕ, ℤ, ◌+◌, ◌-◌, ◌≤◌, ◌<◌, pos, negsuc, zero, suc, min, Bool, true, false, cond, List, [], ◌∷◌, ◌++◌, length, length-append, Option, Some, None, Result, Ok, Err, refl, ap, ◌∙◌, codes, arith, inl, inr}
-use Rattle.std.specs.Prelude.{ok_or, nat_le, ◌==◌, ◌&&◌, ◌||◌, ◌⊎◌, is_some, All, IfOk, IfSome, IsSome}
+use Rattle.std.specs.Prelude.{◌≢◌, ok_or, nat_le, ◌==◌, ◌&&◌, ◌||◌, ◌⊎◌, is_some, All, IfOk, IfSome, IsSome}
 use Rattle.std.specs.List.{list_all, list_any, find, range_with_len}
 use Rattle.std.specs.Ordering.{nat_cmp}
 use Rattle.std.specs.Map.{lookup}
@@ -11,15 +11,16 @@ use Rattle.std.proofs.lemmas.List.Elements.{All-nil, All-cons, All-head, All-tai
 use Rattle.pay_tables.proofs.Numbers.{get-lookup}
 use Rattle.toml.specs.Data.{Data, Items, no_items, item, Members, get_member, as_integer}
 use Rattle.pay_tables.specs.declared.fault.FareFileFault.{FareFileFault}
-use Rattle.pay_tables.specs.declared.fault.FareFileFault.TheVariants.{WrongType, OutOfRange, Duplicate, MissingKey, BandsNotYet}
+use Rattle.pay_tables.specs.declared.fault.FareFileFault.TheVariants.{WrongType, OutOfRange, Duplicate, UnknownPlace, MissingKey, BandsNotYet}
+use Rattle.pay_tables.specs.declared.interchange.Interchange.{Interchange}
 use Rattle.pay_tables.specs.declared.place.Place.{Place}
 use Rattle.pay_tables.specs.declared.single.Single.{Single}
 use Rattle.pay_tables.specs.declared.zones.Span.{Span}
 use Rattle.pay_tables.specs.Fault.{◌>>=◌}
 use Rattle.pay_tables.specs.Keys.{needed, integer_in, integer_of, integer_at, table_of, table_at, array_at, items_len, items_at}
 use Rattle.pay_tables.specs.Spans.{IsSpan, same_span}
-use Rattle.pay_tables.specs.FareTables.{AreRules, IsSingle, IsPlace, IsFareTables}
-use Rattle.pay_tables.specs.FareFile.{with_each, with_minutes, minutes_of, minutes_at, rules_of, single_of, with_single, singles_of, singles_at, has_single, has_singles_from, has_each_single, holidays_at, station_of, route_of, is_taken, with_place, with_station, with_route, places_at, fare_file}
+use Rattle.pay_tables.specs.FareTables.{AreRules, IsSingle, IsPlace, IsInterchange, IsFareTables}
+use Rattle.pay_tables.specs.FareFile.{with_each, with_minutes, minutes_of, minutes_at, rules_of, single_of, with_single, singles_of, singles_at, has_single, has_singles_from, has_each_single, holidays_at, station_of, route_of, is_taken, with_place, with_station, with_route, places_at, another_at, interchange_of, joins_stations, has_interchange, with_pair, with_interchange, interchanges_at, fare_file}
 
 -- ---- steps
 
@@ -214,6 +215,42 @@ places_are zones z ms =
     IfOk_then P (ArePlaces zones) (route_of d) (with_place places) (route_is zones z d) (λ route h. with_place_keeps zones places route all h)) stations route_items s) (λ places all number.
     rw (get-lookup places number) (looked_up zones places number all)))))
 
+-- ---- interchanges
+
+-- the number of another place
+abbrev IsAnother : ℕ → ℕ → Type 0
+IsAnother number n = ((1 ≤ n) × (n ≤ 65_535)) × (number ≢ n)
+
+another_is : (number : ℕ) (key : List ℕ) (ms : Members) → IfOk (another_at number key ms) (IsAnother number)
+another_is number key ms = integer_then (IsAnother number) key 1 65_535 ms _ (λ n r. unless_same (number == n) n r (differ n))
+  where
+    differ : (n : ℕ) → (number == n) ≡ false → number ≢ n
+    differ n e = grind (arith, nat_tests)
+
+    unless_same : (b : Bool) (n : ℕ) → (1 ≤ n) × (n ≤ 65_535) → (b ≡ false → number ≢ n) → IfOk (cond b (Err OutOfRange) (Ok n)) (IsAnother number)
+    unless_same true n r h = tt
+    unless_same false n r h = (r, h refl)
+
+interchange_is : (d : Data) → IfOk (interchange_of d) IsInterchange
+interchange_is d =
+    IfOk_after IsInterchange (table_of d) _ (λ ms.
+    integer_then IsInterchange (codes "a") 1 65_535 ms _ (λ a r.
+    IfOk_then (IsAnother a) IsInterchange (another_at a (codes "b") ms) _ (another_is a (codes "b") ms) (λ b other.
+    integer_then IsInterchange (codes "seconds") 1 7_200 ms _ (λ seconds s.
+    record { a = r; b = other.0; apart = other.1; seconds = s }))))
+
+with_pair_keeps : (before : List Interchange) (pair : Interchange) → All IsInterchange before → IsInterchange pair → IfOk (with_pair before pair) (All IsInterchange)
+with_pair_keeps before pair all h =
+    IfOk_unless (All IsInterchange) (has_interchange before pair) (Ok (before ++ pair ∷ [])) Duplicate
+    (All-append IsInterchange before (pair ∷ []) all (All-cons IsInterchange pair [] h (All-nil IsInterchange)))
+
+interchanges_are : (places : FinMap nat_cmp Place) (ms : Members) → IfOk (interchanges_at places ms) (All IsInterchange)
+interchanges_are places ms =
+    IfOk_after (All IsInterchange) (items_at (codes "interchange") 256 ms) _ (λ items.
+    with_each_keeps (λ interchanges _. All IsInterchange interchanges) (with_interchange places) (λ before d ds all.
+    IfOk_then IsInterchange (All IsInterchange) (interchange_of d) _ (interchange_is d) (λ pair h.
+    IfOk_cond (All IsInterchange) (joins_stations places pair) (with_pair before pair) UnknownPlace (λ _. with_pair_keeps before pair all h))) [] items (All-nil IsInterchange))
+
 -- ---- the file
 
 pub fare_file_is : (ms : Members) → IfOk (fare_file ms) IsFareTables
@@ -225,6 +262,7 @@ fare_file_is ms =
     IfOk_then (AreSingles zones) IsFareTables (singles_at zones ms) _ (singles_are zones ms) (λ singles s.
     IfOk_after IsFareTables (holidays_at ms) _ (λ holidays.
     IfOk_then (λ places. (number : ℕ) → IfSome (get places number) (IsPlace zones)) IsFareTables (places_at zones ms) _ (places_are zones z.0 ms) (λ places p.
+    IfOk_then (All IsInterchange) IsFareTables (interchanges_at places ms) _ (interchanges_are places ms) (λ interchanges i.
     record {
       zones = z;
       minutes = omega (arith, m.1);
@@ -233,4 +271,5 @@ fare_file_is ms =
       singles = s.0;
       each_span = each_span singles zones s.1;
       places = p;
-    })))))))
+      interchanges = i;
+    }))))))))

@@ -1,19 +1,20 @@
 -- What a fare file says: its keys in order, and the first fault.
-use Rattle.std.specs.Prelude.{ℕ, ◌+◌, ◌-◌, ◌==◌, min, nat_eq, Bool, List, [], ◌∷◌, ◌++◌, Option, Some, None, Result, Ok, Err, codes, is_some, if◌then◌else◌}
+use Rattle.std.specs.Prelude.{ℕ, ◌+◌, ◌-◌, ◌==◌, ◌&&◌, min, nat_eq, Bool, true, false, List, [], ◌∷◌, ◌++◌, Option, Some, None, Result, Ok, Err, codes, is_some, if◌then◌else◌}
 use Rattle.std.specs.List.{list_all, list_any, range_with_len}
 use Rattle.std.specs.Ordering.{nat_cmp}
-use Rattle.std.specs.FinMap.{FinMap, from_entries}
+use Rattle.std.specs.FinMap.{FinMap, from_entries, get}
 use Rattle.toml.specs.Data.{Data, Items, no_items, item, Members, get_member}
 use Rattle.toml.specs.Parse.{parse_document}
 use Rattle.pay_tables.specs.declared.fault.FareFileFault.{FareFileFault}
-use Rattle.pay_tables.specs.declared.fault.FareFileFault.TheVariants.{NotToml, MissingKey, OutOfRange, Duplicate, BandsNotYet}
+use Rattle.pay_tables.specs.declared.fault.FareFileFault.TheVariants.{NotToml, MissingKey, OutOfRange, Duplicate, UnknownPlace, BandsNotYet}
+use Rattle.pay_tables.specs.declared.interchange.Interchange.{Interchange}
 use Rattle.pay_tables.specs.declared.place.Place.{Place}
 use Rattle.pay_tables.specs.declared.place.Place.TheVariants.{Station, Route}
 use Rattle.pay_tables.specs.declared.rules.Rules.{Rules}
 use Rattle.pay_tables.specs.declared.single.Single.{Single}
 use Rattle.pay_tables.specs.declared.zones.Span.{Span}
 use Rattle.pay_tables.specs.Fault.{◌>>=◌}
-use Rattle.pay_tables.specs.FareTables.{FareTables}
+use Rattle.pay_tables.specs.FareTables.{FareTables, is_between}
 use Rattle.pay_tables.specs.Keys.{array_at, integer_at, integer_of, items_at, items_len, table_of, table_at}
 use Rattle.pay_tables.specs.Spans.{same_span}
 
@@ -138,7 +139,51 @@ places_at zones ms = do
   places ← with_each with_route stations route_items
   Ok (from_entries places)
 
--- what a file says, where it is a document; interchanges are not read
+-- the number of another place
+abbrev pub another_at : ℕ → List ℕ → Members → Result ℕ FareFileFault
+another_at number key ms = do
+  other ← integer_at key 1 65_535 ms
+  if number == other then Err OutOfRange else Ok other
+
+-- an interchange: its two places, that are different, and its seconds
+abbrev pub interchange_of : Data → Result Interchange FareFileFault
+interchange_of d = do
+  ms ← table_of d
+  a ← integer_at (codes "a") 1 65_535 ms
+  b ← another_at a (codes "b") ms
+  seconds ← integer_at (codes "seconds") 1 7_200 ms
+  Ok (record { a = a; b = b; seconds = seconds })
+
+-- whether what stands at a number is a station
+abbrev pub is_station : Option Place → Bool
+is_station None = false
+is_station (Some (Station low high operator)) = true
+is_station (Some (Route operator)) = false
+
+abbrev pub is_station_at : FinMap nat_cmp Place → ℕ → Bool
+is_station_at places number = is_station (get places number)
+
+abbrev pub joins_stations : FinMap nat_cmp Place → Interchange → Bool
+joins_stations places pair = is_station_at places pair.a && is_station_at places pair.b
+
+-- whether two stations have an interchange, in either order
+abbrev pub has_interchange : List Interchange → Interchange → Bool
+has_interchange interchanges pair = list_any (is_between pair.a pair.b) interchanges
+
+-- one more interchange, between stations that have none
+abbrev pub with_pair : List Interchange → Interchange → Result (List Interchange) FareFileFault
+with_pair before pair = if has_interchange before pair then Err Duplicate else Ok (before ++ pair ∷ [])
+
+abbrev pub with_interchange : FinMap nat_cmp Place → List Interchange → Data → Result (List Interchange) FareFileFault
+with_interchange places before d = do
+  pair ← interchange_of d
+  if joins_stations places pair then with_pair before pair else Err UnknownPlace
+
+-- the interchanges between the stations of a file, up to 256
+abbrev pub interchanges_at : FinMap nat_cmp Place → Members → Result (List Interchange) FareFileFault
+interchanges_at places ms = items_at (codes "interchange") 256 ms >>= with_each (with_interchange places) []
+
+-- what a file says, where it is a document
 abbrev pub fare_file : Members → Result FareTables FareFileFault
 fare_file ms = if is_some (get_member (codes "band") ms) then Err BandsNotYet else do
   zones ← integer_at (codes "zones") 1 9 ms
@@ -147,7 +192,8 @@ fare_file ms = if is_some (get_member (codes "band") ms) then Err BandsNotYet el
   singles ← singles_at zones ms
   holidays ← holidays_at ms
   places ← places_at zones ms
-  Ok (record { zones = zones; minutes = minutes; rules = rules; singles = singles; holidays = holidays; places = places; interchanges = [] })
+  interchanges ← interchanges_at places ms
+  Ok (record { zones = zones; minutes = minutes; rules = rules; singles = singles; holidays = holidays; places = places; interchanges = interchanges })
 
 abbrev pub fare_document : Option Members → Result FareTables FareFileFault
 fare_document None = Err NotToml

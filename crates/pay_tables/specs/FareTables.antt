@@ -1,5 +1,5 @@
 -- What a fare file says, as contracts see it.
-use Rattle.std.specs.Prelude.{◌≡◌, ℕ, ◌+◌, ◌*◌, ◌-◌, ◌≤◌, ◌==◌, ◌&&◌, ◌||◌, nat_eq, Bool, if◌then◌else◌, List, length, All, slice_index, Option, Some, None, IfSome, IsSome, unwrap_or}
+use Rattle.std.specs.Prelude.{◌≡◌, ◌≢◌, ℕ, ◌+◌, ◌*◌, ◌-◌, ◌≤◌, ◌==◌, ◌&&◌, ◌||◌, nat_eq, Bool, if◌then◌else◌, List, length, All, slice_index, Option, Some, None, IfSome, IsSome, unwrap_or}
 use Rattle.std.specs.List.{list_any, find}
 use Rattle.std.specs.Ordering.{nat_cmp}
 use Rattle.std.specs.FinMap.{FinMap, get}
@@ -34,6 +34,13 @@ pub record IsSingle (zones : ℕ) (single : Single) : Type 0 where
   pub peak : single.peak ≤ 100_000
   pub off : single.off ≤ 100_000
 
+-- what an interchange may be: between two different places
+pub record IsInterchange (pair : Interchange) : Type 0 where
+  pub a : (1 ≤ pair.a) × (pair.a ≤ 65_535)
+  pub b : (1 ≤ pair.b) × (pair.b ≤ 65_535)
+  pub apart : pair.a ≢ pair.b
+  pub seconds : (1 ≤ pair.seconds) × (pair.seconds ≤ 7_200)
+
 -- what a fare file says
 pub record FareTables : Type 0 where
   -- how many fare zones there are
@@ -49,7 +56,7 @@ pub record FareTables : Type 0 where
 
 -- the station at a number; a number without a place, which no accepted tap has, counts as a station in zone 1
 abbrev pub station_at : FareTables → ℕ → Place
-station_at tables number = unwrap_or (get tables.places number) (Route 1)
+station_at tables number = unwrap_or (get tables.places number) (Station 1 1 1)
 
 -- the single fare of a span
 abbrev pub single_of_span : FareTables → Span → Option Single
@@ -91,3 +98,4 @@ pub record IsFareTables (t : FareTables) : Type 0 where
   pub singles : All (IsSingle t.zones) t.singles
   pub each_span : (span : Span) → IsSpan t.zones span → IsSome (single_of_span t span)
   pub places : (number : ℕ) → IfSome (get t.places number) (IsPlace t.zones)
+  pub interchanges : All IsInterchange t.interchanges

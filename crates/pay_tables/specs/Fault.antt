@@ -1,7 +1,7 @@
 -- The refusals of a fare file, and what it is to answer by a definition.
 use Rattle.std.specs.Prelude.{◌≡◌, ◌≢◌, ℕ, List, codes, Result, Ok, Err, MatchResult}
 use Rattle.pay_tables.specs.declared.fault.FareFileFault.{FareFileFault}
-use Rattle.pay_tables.specs.declared.fault.FareFileFault.TheVariants.{NotToml, MissingKey, WrongType, OutOfRange, Duplicate, TooMany, BandsNotYet, Memory}
+use Rattle.pay_tables.specs.declared.fault.FareFileFault.TheVariants.{NotToml, MissingKey, WrongType, OutOfRange, Duplicate, UnknownPlace, TooMany, BandsNotYet, Memory}
 
 -- the number that is printed for a refusal
 abbrev pub fault_number : FareFileFault → ℕ
@@ -10,6 +10,7 @@ fault_number MissingKey = 11
 fault_number WrongType = 12
 fault_number OutOfRange = 13
 fault_number Duplicate = 14
+fault_number UnknownPlace = 15
 fault_number TooMany = 16
 fault_number BandsNotYet = 61
 fault_number Memory = 90
@@ -21,6 +22,7 @@ fault_name MissingKey = codes "MissingKey"
 fault_name WrongType = codes "WrongType"
 fault_name OutOfRange = codes "OutOfRange"
 fault_name Duplicate = codes "Duplicate"
+fault_name UnknownPlace = codes "UnknownPlace"
 fault_name TooMany = codes "TooMany"
 fault_name BandsNotYet = codes "BandsNotYet"
 fault_name Memory = codes "Memory"

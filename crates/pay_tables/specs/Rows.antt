@@ -1,14 +1,15 @@
 -- Small fare files, worked by hand.
-use Rattle.std.specs.Prelude.{◌≡◌, ℕ, List, [], ◌∷◌, pos, negsuc, Ok, Err, codes, refl}
+use Rattle.std.specs.Prelude.{◌≡◌, ℕ, true, false, List, Some, None, [], ◌∷◌, pos, negsuc, Ok, Err, codes, refl}
 use Rattle.std.specs.FinMap.{from_entries}
 use Rattle.toml.specs.Data.{Data, string, integer, array, table, Items, no_items, item, Members, no_members, member}
 use Rattle.toml.proofs.OnLiterals.{toml_on_literals}
 use Rattle.pay_tables.specs.declared.fault.FareFileFault.TheVariants.{NotToml, MissingKey, WrongType, OutOfRange, Duplicate, TooMany, BandsNotYet}
+use Rattle.pay_tables.specs.declared.interchange.Interchange.{Interchange}
 use Rattle.pay_tables.specs.declared.place.Place.TheVariants.{Station, Route}
 use Rattle.pay_tables.specs.declared.single.Single.{Single}
 use Rattle.pay_tables.specs.FareTables.{FareTables}
 use Rattle.pay_tables.specs.Keys.{integer_at, items_at}
-use Rattle.pay_tables.specs.FareFile.{minutes_at, rules_of, singles_at, holidays_at, places_at, fare_file, fare_text}
+use Rattle.pay_tables.specs.FareFile.{minutes_at, rules_of, singles_at, holidays_at, places_at, interchange_of, is_station, with_pair, interchanges_at, fare_file, fare_text}
 
 -- ---- how the rows are written
 
@@ -276,6 +277,86 @@ operator_before_place = refl
 -- too many items come before the items
 three_at_most_two : items_at (codes "route") 2 (member (codes "route") (array (item (integer (pos 1)) (item (route 1 1) (one (route 2 1))))) no_members) ≡ Err TooMany
 three_at_most_two = refl
+
+-- ---- interchanges
+
+abbrev change : ℕ → ℕ → ℕ → Data
+change a b seconds = table (number (codes "a") a (number (codes "b") b (number (codes "seconds") seconds no_members)))
+
+abbrev between : ℕ → ℕ → ℕ → Interchange
+between a b seconds = record { a = a; b = b; seconds = seconds }
+
+an_interchange : interchange_of (change 10 12 1_200) ≡ Ok (between 10 12 1_200)
+an_interchange = refl
+
+-- each number at the ends of its range, and just outside
+from_first_to_last : interchange_of (change 1 65_535 1) ≡ Ok (between 1 65_535 1)
+from_first_to_last = refl
+
+from_last_to_first : interchange_of (change 65_535 1 7_200) ≡ Ok (between 65_535 1 7_200)
+from_last_to_first = refl
+
+from_no_place : interchange_of (change 0 12 1_200) ≡ Err OutOfRange
+from_no_place = refl
+
+from_beyond_the_places : interchange_of (change 65_536 12 1_200) ≡ Err OutOfRange
+from_beyond_the_places = refl
+
+to_no_place : interchange_of (change 10 0 1_200) ≡ Err OutOfRange
+to_no_place = refl
+
+to_beyond_the_places : interchange_of (change 10 65_536 1_200) ≡ Err OutOfRange
+to_beyond_the_places = refl
+
+to_itself : interchange_of (change 10 10 1_200) ≡ Err OutOfRange
+to_itself = refl
+
+in_no_time : interchange_of (change 10 12 0) ≡ Err OutOfRange
+in_no_time = refl
+
+in_too_long_a_time : interchange_of (change 10 12 7_201) ≡ Err OutOfRange
+in_too_long_a_time = refl
+
+interchange_that_is_no_table : interchange_of (integer (pos 1)) ≡ Err WrongType
+interchange_that_is_no_table = refl
+
+-- of two faults the first key's; that both places are one is a fault of the second
+a_before_b : interchange_of (table (number (codes "b") 0 no_members)) ≡ Err MissingKey
+a_before_b = refl
+
+b_before_seconds : interchange_of (table (number (codes "a") 10 (number (codes "seconds") 0 no_members))) ≡ Err MissingKey
+b_before_seconds = refl
+
+to_itself_before_seconds : interchange_of (table (number (codes "a") 10 (number (codes "b") 10 no_members))) ≡ Err OutOfRange
+to_itself_before_seconds = refl
+
+without_seconds : interchange_of (table (number (codes "a") 10 (number (codes "b") 12 no_members))) ≡ Err MissingKey
+without_seconds = refl
+
+-- two stations have one interchange, in either order
+same_stations : with_pair (between 10 12 1_200 ∷ []) (between 10 12 1_200) ≡ Err Duplicate
+same_stations = refl
+
+same_stations_back : with_pair (between 10 13 60 ∷ between 10 12 1_200 ∷ []) (between 12 10 600) ≡ Err Duplicate
+same_stations_back = refl
+
+one_other_station : with_pair (between 10 12 1_200 ∷ []) (between 12 13 600) ≡ Ok (between 10 12 1_200 ∷ between 12 13 600 ∷ [])
+one_other_station = refl
+
+nothing_there : is_station None ≡ false
+nothing_there = refl
+
+station_there : is_station (Some (Station 1 2 1)) ≡ true
+station_there = refl
+
+route_there : is_station (Some (Route 4)) ≡ false
+route_there = refl
+
+no_interchanges : interchanges_at (from_entries []) no_members ≡ Ok []
+no_interchanges = refl
+
+interchanges_that_are_no_array : interchanges_at (from_entries []) (number (codes "interchange") 1 no_members) ≡ Err WrongType
+interchanges_that_are_no_array = refl
 
 -- ---- texts
 

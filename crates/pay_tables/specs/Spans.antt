@@ -4,7 +4,7 @@ use Rattle.std.specs.List.{fold}
 use Rattle.pay_tables.specs.declared.place.Place.{Place}
 use Rattle.pay_tables.specs.declared.place.Place.TheVariants.{Station, Route}
 use Rattle.pay_tables.specs.declared.zones.Span.{Span}
-use Rattle.pay_tables.specs.declared.touched.Touched.{Touched}
+use Rattle.pay_tables.specs.declared.span_bounds.SpanBounds.{SpanBounds}
 
 -- the lower zone of a station, and the higher; a route, which no rail journey touches, counts as a station in zone 1
 abbrev pub low_of : Place → ℕ
@@ -16,24 +16,24 @@ high_of (Station low high operator) = high
 high_of (Route operator) = 1
 
 -- the least higher zone of stations, and the greatest lower one: of one station, and of one more
-abbrev pub touched_one : Place → Touched
-touched_one station = record { least_high = high_of station; greatest_low = low_of station }
+abbrev pub bounds_of_one : Place → SpanBounds
+bounds_of_one station = record { least_high = high_of station; greatest_low = low_of station }
 
-abbrev pub touched_also : Touched → Place → Touched
-touched_also touched station = record { least_high = min touched.least_high (high_of station); greatest_low = max touched.greatest_low (low_of station) }
+abbrev pub bounds_with : SpanBounds → Place → SpanBounds
+bounds_with bounds station = record { least_high = min bounds.least_high (high_of station); greatest_low = max bounds.greatest_low (low_of station) }
 
 -- and of all stations, of which there are some
-abbrev pub touched_by : List Place → Touched
-touched_by [] = record { least_high = 0; greatest_low = 0 }
-touched_by (station ∷ others) = fold touched_also (touched_one station) others
+abbrev pub bounds_of : List Place → SpanBounds
+bounds_of [] = record { least_high = 0; greatest_low = 0 }
+bounds_of (station ∷ others) = fold bounds_with (bounds_of_one station) others
 
 -- from the least higher zone to the greatest lower one, or that zone alone if the other is below it
-abbrev pub span_touched : Touched → Span
-span_touched touched = record { from = touched.least_high; to = max touched.least_high touched.greatest_low }
+abbrev pub span_of_bounds : SpanBounds → Span
+span_of_bounds bounds = record { from = bounds.least_high; to = max bounds.least_high bounds.greatest_low }
 
 -- the span of stations
 abbrev pub span_of : List Place → Span
-span_of stations = span_touched (touched_by stations)
+span_of stations = span_of_bounds (bounds_of stations)
 
 -- a span within so many zones
 pub record IsSpan (zones : ℕ) (span : Span) : Type 0 where
@@ -41,9 +41,9 @@ pub record IsSpan (zones : ℕ) (span : Span) : Type 0 where
   pub to : (span.from ≤ span.to) × (span.to ≤ zones)
 
 -- what stations within so many zones say of the span
-pub record IsTouched (zones : ℕ) (touched : Touched) : Type 0 where
-  pub least_high : (1 ≤ touched.least_high) × (touched.least_high ≤ zones)
-  pub greatest_low : touched.greatest_low ≤ zones
+pub record AreSpanBounds (zones : ℕ) (bounds : SpanBounds) : Type 0 where
+  pub least_high : (1 ≤ bounds.least_high) × (bounds.least_high ≤ zones)
+  pub greatest_low : bounds.greatest_low ≤ zones
 
 -- whether two spans are one
 abbrev pub same_span : Span → Span → Bool

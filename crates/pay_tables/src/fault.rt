@@ -12,10 +12,13 @@ pub enum FareFileFault {
     MissingKey,
     /// 12: a value has another form than its key wants: a text for an integer, say.
     WrongType,
-    /// 13: a number is outside its range, or the minutes are not one for each zone.
+    /// 13: a number is outside its range, the minutes are not one for each zone, or an interchange
+    /// is from a place to itself.
     OutOfRange,
-    /// 14: an item has the span, the day or the place of an earlier one.
+    /// 14: an item has the span, the day, the place or the two stations of an earlier one.
     Duplicate,
+    /// 15: an interchange names a place that is no station.
+    UnknownPlace,
     /// 16: an array has more items than its limit.
     TooMany,
     /// 61: the file has fare bands, which are not read yet.
@@ -38,6 +41,7 @@ impl FareFileFault {
             FareFileFault::WrongType => 12,
             FareFileFault::OutOfRange => 13,
             FareFileFault::Duplicate => 14,
+            FareFileFault::UnknownPlace => 15,
             FareFileFault::TooMany => 16,
             FareFileFault::BandsNotYet => 61,
             FareFileFault::Memory => 90,
@@ -54,6 +58,7 @@ impl FareFileFault {
             FareFileFault::WrongType => "WrongType",
             FareFileFault::OutOfRange => "OutOfRange",
             FareFileFault::Duplicate => "Duplicate",
+            FareFileFault::UnknownPlace => "UnknownPlace",
             FareFileFault::TooMany => "TooMany",
             FareFileFault::BandsNotYet => "BandsNotYet",
             FareFileFault::Memory => "Memory",

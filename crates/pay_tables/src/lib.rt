@@ -1,11 +1,12 @@
-//! The fare file: its zones, fares, rules, holidays and places, and the refusals of a file that is none.
-//! And the span of zones of the stations that a journey touches.
+//! The fare file: its zones, fares, rules, holidays, places and interchanges, and the refusals of a
+//! file that is none. And the span of zones of the stations that a journey touches.
 #![tactic(auto)]
 
 mod fares;
 mod fault;
 mod holidays;
 mod interchange;
+mod interchanges;
 mod keys;
 mod minutes;
 mod place;
@@ -13,9 +14,9 @@ mod places;
 mod routes;
 mod rules;
 mod single;
+mod span_bounds;
 mod stations;
 mod tables;
-mod touched;
 mod zones;
 
 pub use fault::FareFileFault;
@@ -23,8 +24,8 @@ pub use interchange::Interchange;
 pub use place::Place;
 pub use rules::Rules;
 pub use single::Single;
+pub use span_bounds::{SpanBounds, span};
 pub use tables::Tables;
-pub use touched::{Touched, span};
 pub use zones::Span;
 
 #[cfg(test)]

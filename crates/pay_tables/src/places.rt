@@ -2,7 +2,7 @@ ghost use Rattle.std.specs.Prelude.{◌≡◌, OnErr};
 ghost use Rattle.std.specs.FinMap as map;
 ghost use Rattle.toml.specs.View.{table_view};
 ghost use Rattle.pay_tables.specs.Fault.{GivesUnlessMemory};
-ghost use Rattle.pay_tables.specs.FareFile.{places_at};
+ghost use Rattle.pay_tables.specs.FareFile.{is_station_at, places_at};
 ghost use Rattle.pay_tables.specs.Placed.{put_place};
 
 use crate::fault::FareFileFault;
@@ -66,6 +66,13 @@ impl Places {
         ensures { result ≡ map.get self.now number }
     {
         self.numbers.get(&number).copied()
+    }
+
+    /// Whether a station stands at a number.
+    pub fn is_station(&self, number: u16) -> bool
+        ensures { result ≡ is_station_at self.now number }
+    {
+        matches!(self.get(number), Some(Place::Station { .. }))
     }
 
     /// Adds a place under a number that is not taken: `Duplicate` if it is. An `Err` changes nothing.

@@ -1,16 +1,18 @@
 ghost use Rattle.std.specs.Prelude.{◌≡◌, ◌≢◌, ◌≤◌, IfOk, IfErr, IfSome, None, Ok, Err, option_map};
 ghost use Rattle.std.specs.FinMap as map;
+ghost use Rattle.std.specs.List.{find};
 ghost use Rattle.toml.specs.Parse.{parse_document};
 ghost use Rattle.toml.specs.View.{table_view};
 ghost use Rattle.pay_tables.specs.Fault.{GivesUnlessMemory};
 ghost use Rattle.pay_tables.specs.FareFile.{fare_file, fare_text};
-ghost use Rattle.pay_tables.specs.FareTables.{AreRules, IsPlace, IsSingle, station_at, single_of_span, single_fare, allowed_seconds, is_holiday, interchange};
+ghost use Rattle.pay_tables.specs.FareTables.{AreRules, IsInterchange, IsPlace, IsSingle, is_between, station_at, single_of_span, single_fare, allowed_seconds, is_holiday, interchange};
 ghost use Rattle.pay_tables.specs.Spans.{IsSpan};
 
 use crate::fares::singles_at;
 use crate::fault::FareFileFault;
 use crate::holidays::holidays_at;
 use crate::interchange::Interchange;
+use crate::interchanges::interchanges_at;
 use crate::keys::{has_key, integer_at, table_at};
 use crate::minutes::minutes_at;
 use crate::place::Place;
@@ -93,6 +95,7 @@ impl Tables {
         let singles = singles_at(alloc, file, zones)?;
         let holidays = holidays_at(alloc, file)?;
         let places = Places::of(alloc, file, zones)?;
+        let interchanges = interchanges_at(alloc, file, &places)?;
         Ok(Tables {
             zones,
             minutes,
@@ -100,7 +103,7 @@ impl Tables {
             singles,
             holidays,
             places,
-            interchanges: Vec::new(alloc),
+            interchanges,
         })
     }
 
@@ -137,7 +140,11 @@ impl Tables {
         let _ = &self.zones;
         match self.place(number) {
             Some(place) => place,
-            None => Place::Route { operator: 1 },
+            None => Place::Station {
+                low: 1,
+                high: 1,
+                operator: 1,
+            },
         }
     }
 
@@ -182,9 +189,19 @@ impl Tables {
     /// How many seconds may pass between the exit at one station and the entry at another, in either
     /// order, if the file lists them.
     pub fn interchange(&self, a: u16, b: u16) -> Option<u32>
-        ensures { result ≡ interchange self.now a b }
+        ensures value { result ≡ interchange self.now a b }
+        ensures either_order { result ≡ interchange self.now b a }
+        ensures in_range { IfSome result (λ seconds. (1 ≤ seconds) × (seconds ≤ 7_200)) }
     {
-        let pair = self.interchanges.iter().find(|pair| pair.is_between(a, b))?;
+        let pair = self.interchange_between(a, b)?;
         Some(pair.seconds)
+    }
+
+    #[tactic(auto, using(crate::proofs::Singles::found_is))]
+    fn interchange_between(&self, a: u16, b: u16) -> Option<&Interchange>
+        ensures value { option_map (λ pair. pair.now) result ≡ find (is_between a b) self.now.interchanges }
+        ensures in_range { IfSome result (λ pair. IsInterchange pair.now) }
+    {
+        self.interchanges.iter().find(|pair| pair.is_between(a, b))
     }
 }

@@ -38,7 +38,8 @@ same_limit = 1800
 ";
 
 // The keys of a good file, in another order than that of the refusals.
-const GOOD: [(&str, &str); 7] = [
+const GOOD: [(&str, &str); 8] = [
+    ("interchange", "[]"),
     ("route", "[{ place = 50, operator = 4 }]"),
     (
         "station",
@@ -130,9 +131,17 @@ fn reads_the_sample(rt: HostRuntime) -> Result<(), Fail> {
     for (day, holiday) in [(19_722, false), (19_723, true), (19_724, false)] {
         assert_eq!(rt; tables.is_holiday(day), holiday);
     }
-    // Interchanges are not read yet.
-    assert_eq!(rt; tables.interchange(10, 12), None);
-    assert_eq!(rt; tables.interchange(12, 10), None);
+    for (a, b, seconds) in [
+        (10, 12, Some(1_200)),
+        (12, 10, Some(1_200)),
+        (10, 13, None),
+        (11, 12, None),
+        (10, 10, None),
+        (12, 12, None),
+        (0, 0, None),
+    ] {
+        assert_eq!(rt; tables.interchange(a, b), seconds, "{a} {b}");
+    }
     Ok(())
 }
 
@@ -214,8 +223,8 @@ fn spans_of_the_sample(rt: HostRuntime) -> Result<(), Fail> {
         assert_eq!(rt; span, Some(Span { from, to }), "{numbers:?}");
     }
     // 14 and 12 again, one after the other.
-    let touched = Touched::one(tables.station(14)).also(tables.station(12));
-    assert_eq!(rt; touched.span(), Span { from: 2, to: 3 });
+    let bounds = SpanBounds::one(tables.station(14)).also(tables.station(12));
+    assert_eq!(rt; bounds.span(), Span { from: 2, to: 3 });
     Ok(())
 }
 
@@ -251,6 +260,10 @@ fn bands_are_not_read_yet(rt: HostRuntime) -> Result<(), Fail> {
         refusal(rt.alloc(), "band = 1\nzones = 0\nrules = 1\nroute = 1\n"),
         Some(FareFileFault::BandsNotYet)
     );
+    assert_eq!(rt;
+        refusal(rt.alloc(), "band = 1\ninterchange = [{ b = 12 }]\n"),
+        Some(FareFileFault::BandsNotYet)
+    );
     // But not before the text is a document.
     assert_eq!(rt;
         refusal(rt.alloc(), "band = 1\nzones\n"),
@@ -269,6 +282,7 @@ fn keys_that_must_be_there(rt: HostRuntime) -> Result<(), Fail> {
         ("holidays", None),
         ("station", None),
         ("route", None),
+        ("interchange", None),
     ] {
         let text = good_but(rt.alloc(), &[(key, "")])?;
         assert_eq!(rt; refusal(rt.alloc(), text.as_str()), fault, "{key}");
@@ -753,6 +767,257 @@ fn too_many_places_before_any_is_looked_at(rt: HostRuntime) -> Result<(), Fail> 
     Ok(())
 }
 
+// Stations 10, 12 and 13; the file's route has number 50.
+const STATIONS: &str = "[{ place = 10, low = 1, high = 1, operator = 1 }, \
+     { place = 12, low = 2, high = 2, operator = 2 }, { place = 13, low = 2, high = 3, operator = 2 }]";
+
+#[test]
+fn refuses_interchanges(rt: HostRuntime) -> Result<(), Fail> {
+    for (interchanges, fault) in [
+        ("[]", None),
+        ("[{ a = 10, b = 12, seconds = 1 }]", None),
+        ("[{ seconds = 7200, b = 10, a = 12 }]", None),
+        ("1", Some(FareFileFault::WrongType)),
+        (
+            "{ a = 10, b = 12, seconds = 1200 }",
+            Some(FareFileFault::WrongType),
+        ),
+        ("[1]", Some(FareFileFault::WrongType)),
+        ("[{}]", Some(FareFileFault::MissingKey)),
+        (
+            "[{ b = 12, seconds = 1200 }]",
+            Some(FareFileFault::MissingKey),
+        ),
+        ("[{ a = '10' }]", Some(FareFileFault::WrongType)),
+        ("[{ a = 0 }]", Some(FareFileFault::OutOfRange)),
+        ("[{ a = 65536 }]", Some(FareFileFault::OutOfRange)),
+        ("[{ a = 65535 }]", Some(FareFileFault::MissingKey)),
+        (
+            "[{ a = 10, seconds = 1200 }]",
+            Some(FareFileFault::MissingKey),
+        ),
+        ("[{ a = 10, b = '12' }]", Some(FareFileFault::WrongType)),
+        ("[{ a = 10, b = 0 }]", Some(FareFileFault::OutOfRange)),
+        ("[{ a = 10, b = 65536 }]", Some(FareFileFault::OutOfRange)),
+        ("[{ a = 10, b = 65535 }]", Some(FareFileFault::MissingKey)),
+        (
+            "[{ a = 10, b = 12, seconds = 1200.0 }]",
+            Some(FareFileFault::WrongType),
+        ),
+        (
+            "[{ a = 10, b = 12, seconds = 0 }]",
+            Some(FareFileFault::OutOfRange),
+        ),
+        (
+            "[{ a = 10, b = 12, seconds = 7201 }]",
+            Some(FareFileFault::OutOfRange),
+        ),
+        (
+            "[{ a = 10, b = 10, seconds = 1200 }]",
+            Some(FareFileFault::OutOfRange),
+        ),
+        // No place, and a route.
+        (
+            "[{ a = 10, b = 99, seconds = 1200 }]",
+            Some(FareFileFault::UnknownPlace),
+        ),
+        (
+            "[{ a = 99, b = 10, seconds = 1200 }]",
+            Some(FareFileFault::UnknownPlace),
+        ),
+        (
+            "[{ a = 50, b = 10, seconds = 1200 }]",
+            Some(FareFileFault::UnknownPlace),
+        ),
+        (
+            "[{ a = 10, b = 50, seconds = 1200 }]",
+            Some(FareFileFault::UnknownPlace),
+        ),
+        // Of two faults the first one: in the order of the keys, and an item's own before its
+        // places are looked for.
+        ("[{ seconds = 0, b = 12 }]", Some(FareFileFault::MissingKey)),
+        (
+            "[{ b = 'x', a = 0, seconds = 1 }]",
+            Some(FareFileFault::OutOfRange),
+        ),
+        (
+            "[{ seconds = 'x', b = 0, a = 10 }]",
+            Some(FareFileFault::OutOfRange),
+        ),
+        // Both places the same is a fault of `b`.
+        ("[{ a = 10, b = 10 }]", Some(FareFileFault::OutOfRange)),
+        (
+            "[{ a = 10, b = 10, seconds = 'x' }]",
+            Some(FareFileFault::OutOfRange),
+        ),
+        (
+            "[{ a = 99, b = 99, seconds = 1200 }]",
+            Some(FareFileFault::OutOfRange),
+        ),
+        ("[{ a = 99, b = 10 }]", Some(FareFileFault::MissingKey)),
+        (
+            "[{ a = 10, b = 99, seconds = 7201 }]",
+            Some(FareFileFault::OutOfRange),
+        ),
+    ] {
+        let changes = [("station", STATIONS), ("interchange", interchanges)];
+        let text = good_but(rt.alloc(), &changes)?;
+        assert_eq!(rt; refusal(rt.alloc(), text.as_str()), fault, "{interchanges}");
+    }
+    Ok(())
+}
+
+#[test]
+fn one_interchange_between_two_stations(rt: HostRuntime) -> Result<(), Fail> {
+    let one = "{ a = 10, b = 12, seconds = 1200 }";
+    let back = "{ a = 12, b = 10, seconds = 60 }";
+    let onwards = "{ a = 12, b = 13, seconds = 1200 }";
+    let around = "{ a = 10, b = 13, seconds = 1200 }";
+    let unknown = "{ a = 10, b = 99, seconds = 1200 }";
+    for (items, fault) in [
+        ([one, onwards, around].as_slice(), None),
+        ([one, one].as_slice(), Some(FareFileFault::Duplicate)),
+        ([one, back].as_slice(), Some(FareFileFault::Duplicate)),
+        (
+            [around, one, onwards, back].as_slice(),
+            Some(FareFileFault::Duplicate),
+        ),
+        // An item's own faults before an earlier one between its stations is looked for, and an
+        // earlier item before a later one.
+        (
+            [one, "{ a = 12, b = 10 }"].as_slice(),
+            Some(FareFileFault::MissingKey),
+        ),
+        (
+            [one, "{ a = 12, b = 10, seconds = 0 }"].as_slice(),
+            Some(FareFileFault::OutOfRange),
+        ),
+        (
+            [one, unknown, back].as_slice(),
+            Some(FareFileFault::UnknownPlace),
+        ),
+        (
+            [one, back, unknown].as_slice(),
+            Some(FareFileFault::Duplicate),
+        ),
+        ([one, "1", back].as_slice(), Some(FareFileFault::WrongType)),
+        ([one, back, "1"].as_slice(), Some(FareFileFault::Duplicate)),
+        ([unknown, "1"].as_slice(), Some(FareFileFault::UnknownPlace)),
+    ] {
+        let mut interchange = String::from_str(rt.alloc(), "[")?;
+        for item in items {
+            write!(interchange, "{item}, ")?;
+        }
+        interchange.push_str("]")?;
+        let changes = [("station", STATIONS), ("interchange", interchange.as_str())];
+        let text = good_but(rt.alloc(), &changes)?;
+        assert_eq!(rt; refusal(rt.alloc(), text.as_str()), fault, "{items:?}");
+    }
+    Ok(())
+}
+
+#[test]
+fn reads_each_interchange(rt: HostRuntime) -> Result<(), Fail> {
+    let text = good_but(
+        rt.alloc(),
+        &[
+            ("station", STATIONS),
+            (
+                "interchange",
+                "[{ a = 13, b = 10, seconds = 1 }, { a = 10, b = 12, seconds = 7200 }, { a = 12, b = 13, seconds = 60 }]",
+            ),
+        ],
+    )?;
+    let tables = Tables::read(rt.alloc(), text.as_str())
+        .ok()
+        .ok_or("three interchanges are read")?;
+    for (a, b, seconds) in [(10, 13, 1), (10, 12, 7_200), (12, 13, 60)] {
+        assert_eq!(rt; tables.interchange(a, b), Some(seconds), "{a} {b}");
+        assert_eq!(rt; tables.interchange(b, a), Some(seconds), "{b} {a}");
+    }
+    assert_eq!(rt; tables.interchange(10, 50), None);
+    Ok(())
+}
+
+#[test]
+fn interchanges_are_between_stations_of_the_file(rt: HostRuntime) -> Result<(), Fail> {
+    for (stations, routes, fault) in [
+        (STATIONS, "[{ place = 50, operator = 4 }]", None),
+        (STATIONS, "[]", None),
+        (
+            "[]",
+            "[{ place = 50, operator = 4 }]",
+            Some(FareFileFault::UnknownPlace),
+        ),
+        (
+            "[{ place = 10, low = 1, high = 1, operator = 1 }]",
+            "[{ place = 12, operator = 4 }]",
+            Some(FareFileFault::UnknownPlace),
+        ),
+        (
+            "[]",
+            "[{ place = 10, operator = 4 }, { place = 12, operator = 4 }]",
+            Some(FareFileFault::UnknownPlace),
+        ),
+    ] {
+        let changes = [
+            ("station", stations),
+            ("route", routes),
+            ("interchange", "[{ a = 10, b = 12, seconds = 1200 }]"),
+        ];
+        let text = good_but(rt.alloc(), &changes)?;
+        assert_eq!(rt;
+            refusal(rt.alloc(), text.as_str()),
+            fault,
+            "{stations} {routes}"
+        );
+    }
+    Ok(())
+}
+
+#[test]
+fn at_most_256_interchanges(rt: HostRuntime) -> Result<(), Fail> {
+    // Each pair of 24 stations: 23 + 22 + .. + 1 = 276, of which 256 are taken.
+    let mut station = String::from_str(rt.alloc(), "[")?;
+    let mut good = String::from_str(rt.alloc(), "[")?;
+    let mut count = 0u32;
+    for a in 1..25u32 {
+        write!(station, "{{place={a},low=1,high=1,operator=1}},")?;
+        for b in 1..a {
+            if count < 256 {
+                write!(good, "{{a={a},b={b},seconds=60}},")?;
+                count += 1;
+            }
+        }
+    }
+    station.push_str("]")?;
+    let mut bad = String::from_str(rt.alloc(), "[")?;
+    for _ in 0..256u32 {
+        bad.push_str("1,")?;
+    }
+    for (items, more, fault) in [
+        (&good, "", None),
+        (&bad, "", Some(FareFileFault::WrongType)),
+        // One more, and no item is looked at.
+        (
+            &good,
+            "{a=24,b=23,seconds=60}",
+            Some(FareFileFault::TooMany),
+        ),
+        (&good, "1", Some(FareFileFault::TooMany)),
+        (&bad, "1", Some(FareFileFault::TooMany)),
+    ] {
+        let interchange = format!(in rt.alloc(); "{items}{more}]")?;
+        let changes = [
+            ("station", station.as_str()),
+            ("interchange", interchange.as_str()),
+        ];
+        let text = good_but(rt.alloc(), &changes)?;
+        assert_eq!(rt; refusal(rt.alloc(), text.as_str()), fault, "{interchange}");
+    }
+    Ok(())
+}
+
 #[test]
 fn of_two_faults_the_first_key(rt: HostRuntime) -> Result<(), Fail> {
     for (changes, fault) in [
@@ -789,6 +1054,32 @@ fn of_two_faults_the_first_key(rt: HostRuntime) -> Result<(), Fail> {
     Ok(())
 }
 
+#[test]
+fn interchanges_come_last(rt: HostRuntime) -> Result<(), Fail> {
+    for (changes, fault) in [
+        (
+            [("route", "[{ place = 0 }]"), ("interchange", "1")],
+            FareFileFault::OutOfRange,
+        ),
+        (
+            [("station", "1"), ("interchange", "[{}]")],
+            FareFileFault::WrongType,
+        ),
+        (
+            [("holidays", "[4, 4]"), ("interchange", "1")],
+            FareFileFault::Duplicate,
+        ),
+    ] {
+        let text = good_but(rt.alloc(), &changes)?;
+        assert_eq!(rt;
+            refusal(rt.alloc(), text.as_str()),
+            Some(fault),
+            "{changes:?}"
+        );
+    }
+    Ok(())
+}
+
 // `rt try --test --fail-alloc N` runs it with each allocation failing in turn.
 #[test]
 fn memory_is_the_only_other_refusal(rt: HostRuntime) {
@@ -800,8 +1091,13 @@ fn memory_is_the_only_other_refusal(rt: HostRuntime) {
 
 #[test]
 fn prints_a_refusal(rt: HostRuntime) -> Result<(), Fail> {
-    let fault = FareFileFault::OutOfRange;
-    let line = format!(in rt.alloc(); "{} {}", fault.number(), fault.name())?;
-    assert_eq!(rt; line.as_str(), "13 OutOfRange");
+    for (fault, printed) in [
+        (FareFileFault::OutOfRange, "13 OutOfRange"),
+        (FareFileFault::UnknownPlace, "15 UnknownPlace"),
+        (FareFileFault::TooMany, "16 TooMany"),
+    ] {
+        let line = format!(in rt.alloc(); "{} {}", fault.number(), fault.name())?;
+        assert_eq!(rt; line.as_str(), printed);
+    }
     Ok(())
 }

@@ -15,7 +15,7 @@ invariant_of-result c =
       singles = c.in_ok-singles.singles.items;
       holidays = c.in_ok-holidays.holidays.items;
       places = c.in_ok-places.places;
-      interchanges = c.new.result.items;
+      interchanges = c.in_ok-interchanges.interchanges.items;
     } in
     let given : fare_file (table_view c.args.file.now) ≡ Ok said = search rules in
     IfOk-at_ok IsFareTables given (fare_file_is (table_view c.args.file.now))

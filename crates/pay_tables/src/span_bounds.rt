@@ -1,13 +1,13 @@
 ghost use Rattle.std.specs.Prelude.{◌≡◌, ◌≤◌, ℕ, All, length};
 ghost use Rattle.pay_tables.specs.FareTables.{IsPlace};
-ghost use Rattle.pay_tables.specs.Spans.{IsSpan, IsTouched, low_of, high_of, touched_one, touched_also, touched_by, span_touched, span_of};
+ghost use Rattle.pay_tables.specs.Spans.{IsSpan, AreSpanBounds, low_of, high_of, bounds_of_one, bounds_with, bounds_of, span_of_bounds, span_of};
 
 use crate::place::Place;
 use crate::zones::Span;
 
-/// What stations touched so far say of the span.
+/// What bounds the span of the stations that a journey touches, of those so far.
 #[derive(Clone, Copy, Debug, PartialEq, Eq)]
-pub struct Touched {
+pub struct SpanBounds {
     /// The least of their higher zones.
     pub least_high: u8,
     /// The greatest of their lower zones.
@@ -24,17 +24,24 @@ impl Place {
             Place::Route { .. } => (1, 1),
         }
     }
+
+    /// The lower zone of a station. A route counts as a station in zone 1.
+    pub fn low(self) -> u8
+        ensures { result ≡ low_of self }
+    {
+        self.zones().0
+    }
 }
 
-impl Touched {
+impl SpanBounds {
     /// One station.
     #[tactic(auto, using(crate::proofs::Spans::one_within))]
-    pub fn one(station: Place) -> Touched
-        ensures value { result ≡ touched_one station }
-        ensures within { (zones : ℕ) → IsPlace zones station → IsTouched zones result }
+    pub fn one(station: Place) -> SpanBounds
+        ensures value { result ≡ bounds_of_one station }
+        ensures within { (zones : ℕ) → IsPlace zones station → AreSpanBounds zones result }
     {
         let (low, high) = station.zones();
-        Touched {
+        SpanBounds {
             least_high: high,
             greatest_low: low,
         }
@@ -42,12 +49,12 @@ impl Touched {
 
     /// One station more.
     #[tactic(auto, using(crate::proofs::Spans::also_within))]
-    pub fn also(self, station: Place) -> Touched
-        ensures value { result ≡ touched_also self station }
-        ensures within { (zones : ℕ) → IsTouched zones self → IsPlace zones station → IsTouched zones result }
+    pub fn also(self, station: Place) -> SpanBounds
+        ensures value { result ≡ bounds_with self station }
+        ensures within { (zones : ℕ) → AreSpanBounds zones self → IsPlace zones station → AreSpanBounds zones result }
     {
         let (low, high) = station.zones();
-        Touched {
+        SpanBounds {
             least_high: self.least_high.min(high),
             greatest_low: self.greatest_low.max(low),
         }
@@ -57,8 +64,8 @@ impl Touched {
     /// alone if the other is below it. A journey is given the narrowest span that its stations allow.
     #[tactic(auto, using(crate::proofs::Spans::span_within))]
     pub fn span(self) -> Span
-        ensures value { result ≡ span_touched self }
-        ensures within { (zones : ℕ) → IsTouched zones self → IsSpan zones result }
+        ensures value { result ≡ span_of_bounds self }
+        ensures within { (zones : ℕ) → AreSpanBounds zones self → IsSpan zones result }
     {
         Span {
             from: self.least_high,
@@ -68,14 +75,14 @@ impl Touched {
 }
 
 /// What stations say of the span together.
-fn touched_by(stations: &[Place]) -> Touched
+fn bounds_of(stations: &[Place]) -> SpanBounds
     requires { 1 ≤ length stations.now }
-    ensures { result ≡ touched_by stations.now }
+    ensures { result ≡ bounds_of stations.now }
 {
-    let first = Touched::one(stations[0]);
+    let first = SpanBounds::one(stations[0]);
     stations[1..]
         .iter()
-        .fold(first, |touched, station| touched.also(*station))
+        .fold(first, |bounds, station| bounds.also(*station))
 }
 
 /// The span of the stations that a journey touches.
@@ -84,5 +91,5 @@ pub fn span(stations: &[Place]) -> Span
     ensures value { result ≡ span_of stations.now }
     ensures within { (zones : ℕ) → All (IsPlace zones) stations.now → IsSpan zones result }
 {
-    touched_by(stations).span()
+    bounds_of(stations).span()
 }

@@ -1,0 +1,80 @@
+//! The interchanges.
+ghost use Rattle.std.specs.Prelude.{◌≡◌, ◌≤◌, IfOk};
+ghost use Rattle.toml.specs.View.{view, table_view};
+ghost use Rattle.pay_tables.specs.Fault.{GivesUnlessMemory};
+ghost use Rattle.pay_tables.specs.FareFile.{another_at, interchange_of, joins_stations, has_interchange, interchanges_at};
+
+use crate::fault::FareFileFault;
+use crate::interchange::Interchange;
+use crate::keys::{inner_table, integer_at, items_at};
+use crate::places::Places;
+use std::alloc::Global;
+use toml::{Table, Value};
+
+/// How many interchanges a fare file may list.
+const MOST_INTERCHANGES: usize = 256;
+
+/// The interchanges of a fare file, which are between its stations.
+pub fn interchanges_at(
+    alloc: Global,
+    file: &Table,
+    places: &Places,
+) -> Result<Vec<Interchange>, FareFileFault>
+    ensures { GivesUnlessMemory (λ interchanges. interchanges.items) result (interchanges_at places.now (table_view file.now)) }
+{
+    let items = items_at(file, "interchange", MOST_INTERCHANGES)?;
+    let mut interchanges = Vec::new(alloc);
+    for item in items {
+        let pair = interchange(item)?;
+        if !joins_stations(places, pair) {
+            return Err(FareFileFault::UnknownPlace);
+        }
+        if has_interchange(&interchanges, pair) {
+            return Err(FareFileFault::Duplicate);
+        }
+        interchanges.push(pair)?;
+    }
+    Ok(interchanges)
+}
+
+fn interchange(item: &Value) -> Result<Interchange, FareFileFault>
+    ensures { result ≡ interchange_of (view item.now) }
+{
+    let table = inner_table(item)?;
+    let a = integer_at(table, "a", 1, 65_535)?;
+    let b = another_at(table, "b", a)?;
+    let seconds = integer_at(table, "seconds", 1, 7_200)?;
+    Ok(Interchange {
+        a: a as u16,
+        b: b as u16,
+        seconds,
+    })
+}
+
+/// The number of a place at a key, which may not be a given one.
+fn another_at(table: &Table, key: &str, number: u32) -> Result<u32, FareFileFault>
+    ensures value { result ≡ another_at number key.now (table_view table.now) }
+    ensures range { IfOk result (λ n. (1 ≤ n) × (n ≤ 65_535)) }
+{
+    let other = integer_at(table, key, 1, 65_535)?;
+    if other == number {
+        return Err(FareFileFault::OutOfRange);
+    }
+    Ok(other)
+}
+
+/// Whether an interchange is between two stations.
+fn joins_stations(places: &Places, pair: Interchange) -> bool
+    ensures { result ≡ joins_stations places.now pair }
+{
+    places.is_station(pair.a) && places.is_station(pair.b)
+}
+
+/// Whether an interchange is there between the same two stations, in either order.
+fn has_interchange(interchanges: &[Interchange], pair: Interchange) -> bool
+    ensures { result ≡ has_interchange interchanges.now pair }
+{
+    interchanges
+        .iter()
+        .any(|other| other.is_between(pair.a, pair.b))
+}
