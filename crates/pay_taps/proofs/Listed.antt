@@ -4,17 +4,16 @@ use Rattle.std.specs.Ordering.{eq_by_cmp, ordering_reverse, ordering_index}
 use Rattle.std.specs.List.{insert}
 use Rattle.std.specs.List.Sorted.{IsBinarySearchResult, IsNonDecreasingBy, IsPartitionPoint}
 use Rattle.std.specs.FinMap as map
-use Rattle.std.specs.FinMap.{values, len, find, put, is_sorted, same_map, get-from_entries, get-insert, len-entries}
+use Rattle.std.specs.FinMap.{values, len, find, put, is_sorted, entries, entries_sorted, same_entries_map, same_map, get-from_entries, get-insert, len-entries}
 use Rattle.std.specs.FinMap.Entries.{below_all, by_order, is_sorted-put, find-put}
 use Rattle.std.proofs.lemmas.List.{length-map}
 use Rattle.std.proofs.lemmas.List.Edits.{length-insert}
 use Rattle.std.proofs.lemmas.List.Sorted.{searchable_from_sorted}
 use Rattle.pay_taps.specs.declared.tap.Tap.{Tap}
-use Rattle.pay_taps.specs.Listed.{numbered, set_of, IsListed}
-use Rattle.pay_taps.specs.declared.tap_set.Addition.TheVariants.{Added}
-use Rattle.pay_taps.specs.Taps.{Taps, IsTapSet, number, number_cmp, judged}
+use Rattle.pay_taps.specs.Listed.{numbered, set_of, IsListed, IsPlace}
+use Rattle.pay_taps.specs.Taps.{Taps, IsTapSet, number, number_cmp}
 use Rattle.pay_taps.proofs.Judgement.{added_iff}
-use Rattle.pay_taps.proofs.Numbers.{number_total, exact_numbers, entries_made}
+use Rattle.pay_taps.proofs.Numbers.{number_total, exact_numbers, entries_made, length_values, added}
 
 -- ---- the set of a list
 
@@ -118,49 +117,78 @@ put_between (x ∷ list) t (suc i) p =
 abbrev pub cmp_with : ℕ × ℕ → Tap → Ordering
 cmp_with q tap = number_cmp (number tap) q
 
-pub found : (list shown : List Tap) (q : ℕ × ℕ) (i : ℕ) (tap : Tap) → IsListed list → shown ≡ list → i < length shown → IsBinarySearchResult (cmp_with q) shown (Ok i) → tap ≡ get_or list i tap
-    → map.get (set_of list) q ≡ Some tap
-found list shown q i tap h e lt at is =
-    get-from_entries number_total (numbered list) q
+pub found : (list shown : List Tap) (taps : Taps) (q : ℕ × ℕ) (i : ℕ) (tap : Tap) → IsListed list → set_of list ≡ taps → shown ≡ list → i < length shown → IsBinarySearchResult (cmp_with q) shown (Ok i) → tap ≡ get_or list i tap
+    → map.get taps q ≡ Some tap
+found list shown taps q i tap h kept e lt at is =
+    ap (λ m. map.get m q) (sym kept) ∙ get-from_entries number_total (numbered list) q
     ∙ there list q i tap h.ascending (omega (arith, ap length e, lt)) (ap (λ (l : List Tap). number_cmp (number (get_or l i tap)) q) (sym e) ∙ at tap)
     ∙ ap Some (sym is)
 
-pub not_found : (list shown : List Tap) (q : ℕ × ℕ) (i : ℕ) → IsListed list → shown ≡ list → IsBinarySearchResult (cmp_with q) shown (Err i) → map.get (set_of list) q ≡ None
-not_found list shown q i h e between =
-    get-from_entries number_total (numbered list) q ∙ missing list q i (subst (λ l. IsBinarySearchResult (cmp_with q) l (Err i)) e between (searchable list q h.ascending))
+pub not_found : (list shown : List Tap) (taps : Taps) (q : ℕ × ℕ) (i : ℕ) → IsListed list → set_of list ≡ taps → shown ≡ list → IsBinarySearchResult (cmp_with q) shown (Err i) → map.get taps q ≡ None
+not_found list shown taps q i h kept e between =
+    ap (λ m. map.get m q) (sym kept) ∙ get-from_entries number_total (numbered list) q
+    ∙ missing list q i (subst (λ l. IsBinarySearchResult (cmp_with q) l (Err i)) e between (searchable list q h.ascending))
+
+-- a set has as many taps as its list
+pub count_of : (list : List Tap) (taps : Taps) → IsListed list → set_of list ≡ taps → len taps ≡ length list
+count_of list taps h kept = ap len (sym kept) ∙ set_len list h
 
 -- ---- a tap that is put at its position
 
-pub set_with : (list shown after : List Tap) (t : Tap) (i : ℕ) → IsListed list → shown ≡ list → IsBinarySearchResult (cmp_with (number t)) shown (Err i) → after ≡ insert list i t
-    → set_of after ≡ map.insert (set_of list) (number t) t
-set_with list shown after t i h e between put_at = same_map number_total exact_numbers _ _ (λ q.
-    get-from_entries number_total (numbered after) q
-    ∙ ap (find number_cmp q) (ap numbered put_at ∙ sym (put_between list t i (subst (λ l. IsBinarySearchResult (cmp_with (number t)) l (Err i)) e between (searchable list (number t) h.ascending))))
+put_found : (list shown : List Tap) (t : Tap) (i : ℕ) → IsListed list → shown ≡ list → IsBinarySearchResult (cmp_with (number t)) shown (Err i) → put number_cmp (number t) t (numbered list) ≡ numbered (insert list i t)
+put_found list shown t i h e between = put_between list t i (subst (λ l. IsBinarySearchResult (cmp_with (number t)) l (Err i)) e between (searchable list (number t) h.ascending))
+
+set_with : (list shown : List Tap) (t : Tap) (i : ℕ) → IsListed list → shown ≡ list → IsBinarySearchResult (cmp_with (number t)) shown (Err i) → set_of (insert list i t) ≡ map.insert (set_of list) (number t) t
+set_with list shown t i h e between = same_map number_total exact_numbers _ _ (λ q.
+    get-from_entries number_total (numbered (insert list i t)) q
+    ∙ ap (find number_cmp q) (sym (put_found list shown t i h e between))
     ∙ find-put number_cmp number_total q (number t) t (numbered list)
     ∙ sym (get-insert number_total (set_of list) (number t) t q ∙ ap (cond (eq_by_cmp number_cmp q (number t)) (Some t)) (get-from_entries number_total (numbered list) q)))
 
-pub listed_with : (list shown after : List Tap) (t : Tap) (i : ℕ) → IsListed list → shown ≡ list → IsBinarySearchResult (cmp_with (number t)) shown (Err i) → after ≡ insert list i t
-    → i ≤ length shown → length list < 16_384 → IsListed after
-listed_with list shown after t i h e between put_at le room = subst IsListed (sym put_at) (record {
-  ascending = subst (λ (es : List ((ℕ × ℕ) × Tap)). T (is_sorted number_cmp es)) (put_between list t i (subst (λ l. IsBinarySearchResult (cmp_with (number t)) l (Err i)) e between (searchable list (number t) h.ascending)))
-      (is_sorted-put number_cmp number_total (number t) t (numbered list) h.ascending);
+listed_with : (list shown : List Tap) (t : Tap) (i : ℕ) → IsListed list → shown ≡ list → IsBinarySearchResult (cmp_with (number t)) shown (Err i) → i ≤ length shown → length list < 16_384 → IsListed (insert list i t)
+listed_with list shown t i h e between le room = record {
+  ascending = subst (λ (es : List ((ℕ × ℕ) × Tap)). T (is_sorted number_cmp es)) (put_found list shown t i h e between) (is_sorted-put number_cmp number_total (number t) t (numbered list) h.ascending);
   within = omega (arith, length-insert list i t (omega (arith, le, ap length e)), room);
-})
+}
 
--- a tap that is added finds room
-pub room_for : (list : List Tap) (taps : Taps) (t : Tap) → IsListed list → set_of list ≡ taps → judged taps t ≡ Ok Added → length list < 16_384
-room_for list taps t h e is =
-    let room = ((added_iff t (map.get taps (number t)) (len taps)).0 is).1 in
-    omega (arith, room, set_len list h, ap len e)
+-- where no tap of its number is, and room, the position is the place of a further tap
+pub place_of : (list shown : List Tap) (taps : Taps) (t : Tap) (i : ℕ) → IsListed list → set_of list ≡ taps → shown ≡ list → i ≤ length shown → IsBinarySearchResult (cmp_with (number t)) shown (Err i)
+    → length list < 16_384 → IsPlace i taps t
+place_of list shown taps t i h kept e le between room =
+    let none = not_found list shown taps (number t) i h kept e between in
+    let count = count_of list taps h kept in
+    let more = listed_with list shown t i h e between le room in
+    record {
+      is_new = (added_iff t (map.get taps (number t)) (len taps)).1 (none, omega (arith, count, room));
+      within = omega (arith, count, ap length e, le);
+      grown = ap (λ m. values (map.insert m (number t) t)) (sym kept) ∙ ap values (sym (set_with list shown t i h e between)) ∙ set_values _ more
+          ∙ ap (λ l. insert l i t) (sym (set_values list h) ∙ ap values kept);
+    }
 
--- and no tap of its number
-pub is_new : (list shown : List Tap) (taps : Taps) (t : Tap) (i : ℕ) → IsListed list → set_of list ≡ taps → shown ≡ list → judged taps t ≡ Ok Added → i < length shown
-    → IsBinarySearchResult (cmp_with (number t)) shown (Ok i) → ⊥
-is_new list shown taps t i h e s is lt at =
-    let none = ((added_iff t (map.get taps (number t)) (len taps)).0 is).0 in
-    let held : i < length list = omega (arith, lt, ap length s) in
-    let there_is : map.get taps (number t) ≡ Some (get_or shown i t) =
-    ap (λ m. map.get m (number t)) (sym e) ∙ get-from_entries number_total (numbered list) (number t)
-    ∙ there list (number t) i t h.ascending held (ap (λ (l : List Tap). number_cmp (number (get_or l i t)) (number t)) (sym s) ∙ at t)
-    ∙ ap (λ (l : List Tap). Some (get_or l i t)) (sym s) in
-    absurd (cc)
+-- ---- the list of a set
+
+numbered_entries : (es : List ((ℕ × ℕ) × Tap)) → map number (map (λ (e : (ℕ × ℕ) × Tap). e.1) es) ≡ map (λ (e : (ℕ × ℕ) × Tap). e.0) es → numbered (map (λ (e : (ℕ × ℕ) × Tap). e.1) es) ≡ es
+numbered_entries [] own = refl
+numbered_entries (e ∷ es) own =
+    let here : number e.1 ≡ e.0 = cc in
+    let rest = numbered_entries es (cc) in
+    λ i. (here i, e.1) ∷ rest i
+
+listed_values : (taps : Taps) → IsTapSet taps → IsListed (values taps)
+listed_values taps set = record {
+  ascending = subst (λ (es : List ((ℕ × ℕ) × Tap)). T (is_sorted number_cmp es)) (sym (numbered_entries (entries taps) set.own_numbers)) (entries_sorted taps);
+  within = omega (arith, length_values taps, set.within);
+}
+
+set_of_values : (taps : Taps) → IsTapSet taps → set_of (values taps) ≡ taps
+set_of_values taps set =
+    let same : numbered (values taps) ≡ entries taps = numbered_entries (entries taps) set.own_numbers in
+    same_entries_map _ _ (entries_made _ (listed_values taps set).ascending ∙ same)
+
+-- a tap that is put at its place is in the set, and the list is in order
+pub put_in_place : (list after : List Tap) (taps : Taps) (t : Tap) (i : ℕ) → IsListed list → set_of list ≡ taps → IsPlace i taps t → after ≡ insert list i t
+    → (set_of after ≡ map.insert taps (number t) t) × IsListed after
+put_in_place list after taps t i h e place put_at =
+    let more : IsTapSet (map.insert taps (number t) t) = added taps t (subst IsTapSet e (set_of_listed list h)) place.is_new in
+    let is : values (map.insert taps (number t) t) ≡ after = place.grown ∙ ap (λ l. insert l i t) (ap values (sym e) ∙ set_values list h) ∙ sym put_at in
+    (ap set_of (sym is) ∙ set_of_values _ more, subst IsListed is (listed_values _ more))

@@ -9,14 +9,15 @@ use crate::tap::{Tap, Touch};
 use crate::tap_set::{Addition, TapSet};
 use std::alloc::{AllocError, Global};
 
-/// Accepted taps as effective ones, as they stand.
+/// Accepted taps as effective ones, as they stand. An `Err` is want of memory.
 pub fn touches_of(alloc: Global, taps: &[Tap]) -> Result<Vec<Touch>, AllocError>
     ensures { IfOk result (λ list. list.items ≡ each touch_of taps.now) }
 {
     taps.iter().map(|tap| Touch::from(*tap)).collect(alloc)
 }
 
-/// The effective taps of an account without corrections: its accepted taps, in order.
+/// The effective taps of an account without corrections: its accepted taps, in order. An `Err` is want
+/// of memory.
 pub fn touches(alloc: Global, taps: &TapSet) -> Result<Vec<Touch>, AllocError>
     ensures value { IfOk result (λ ordered. ordered.items ≡ touches taps.now) }
     ensures few { IfOk result (λ ordered. length ordered.items ≤ 16_384) }
@@ -24,11 +25,12 @@ pub fn touches(alloc: Global, taps: &TapSet) -> Result<Vec<Touch>, AllocError>
     sorted(touches_of(alloc, taps.as_slice())?)
 }
 
-/// The effective taps once a further tap is accepted, in order.
+/// Accepted taps and one more as effective ones, in order. Where it is a further tap, these are the
+/// effective taps once it is accepted. An `Err` is want of memory.
 pub fn touches_with(alloc: Global, taps: &TapSet, tap: &Tap) -> Result<Vec<Touch>, AllocError>
-    requires { judged taps.now tap.now ≡ Ok Addition.Added }
-    ensures value { IfOk result (λ ordered. ordered.items ≡ touches (map.insert taps.now (number tap.now) tap.now)) }
-    ensures few { IfOk result (λ ordered. length ordered.items ≤ 16_384) }
+    ensures all { IfOk result (λ ordered. ordered.items ≡ in_order (each touch_of (map.values taps.now ++ tap.now ∷ []))) }
+    ensures value { judged taps.now tap.now ≡ Ok Addition.Added → IfOk result (λ ordered. ordered.items ≡ touches (map.insert taps.now (number tap.now) tap.now)) }
+    ensures few { judged taps.now tap.now ≡ Ok Addition.Added → IfOk result (λ ordered. length ordered.items ≤ 16_384) }
 {
     laws::answers();
     laws::one_more_tap();

@@ -11,16 +11,16 @@ pub enum Kind {
     Bus,
 }
 
-/// A tap of an account. Its number is its reader's and the reader's count of taps (`reader`, `seq`).
+/// A tap of an account. Its number is the pair of its reader and that reader's sequence number.
 #[derive(Clone, Copy, Debug, PartialEq, Eq)]
 pub struct Tap {
-    /// The account that is charged.
+    /// The account that is charged, from 1.
     pub account: u32,
-    /// The reader that was touched.
+    /// The reader that was touched, from 1.
     pub reader: u16,
-    /// The reader's count of taps.
+    /// The reader's sequence number.
     pub seq: u32,
-    /// The station, or the route of a bus or a tram.
+    /// The station, or the route of a bus or a tram, from 1.
     pub place: u16,
     /// Where the tap was made.
     pub kind: Kind,

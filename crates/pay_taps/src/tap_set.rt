@@ -1,6 +1,7 @@
 ghost use Rattle.std.specs.Prelude.{◌≡◌, ◌≤◌, ◌↔◌, length, IsTrue, IfOk, IfSome};
 ghost use Rattle.std.specs.FinMap as map;
 ghost use Rattle.std.specs.List.Sorted.{IsBinarySearchResult, IsSearchInRange};
+ghost use Rattle.pay_taps.specs.Listed.{IsPlaceFor};
 ghost use Rattle.pay_taps.specs.Taps.{IsTapSet, number, number_cmp, judged, IsAnswer, taps_after};
 
 use crate::tap::Tap;
@@ -117,7 +118,7 @@ impl TapSet {
         self.taps.as_slice()
     }
 
-    /// The same taps, copied.
+    /// The same taps, copied. An `Err` is want of memory.
     pub fn list(&self, alloc: Global) -> Result<Vec<Tap>, AllocError>
         ensures all { IfOk result (λ taps. taps.items ≡ map.values self.now) }
         ensures tap_set { IsTapSet self.now }
@@ -125,15 +126,25 @@ impl TapSet {
         Vec::from_slice(alloc, self.as_slice())
     }
 
+    /// Where a further tap is to be inserted, or `None` for a repeat.
+    fn place_for(&self, tap: &Tap) -> Result<Option<usize>, TapSetFault>
+        ensures { IsPlaceFor result self.now tap.now }
+    {
+        match position(&self.taps, tap.reader, tap.seq) {
+            Ok(at) if self.taps[at] == *tap => Ok(None),
+            Ok(_) => Err(TapSetFault::Conflict),
+            Err(_) if self.taps.len() >= TAPS_OF_AN_ACCOUNT => Err(TapSetFault::AccountFull),
+            Err(at) => Ok(Some(at)),
+        }
+    }
+
     /// What `add` would answer where memory suffices. It takes none.
     pub fn judge(&self, tap: &Tap) -> Result<Addition, TapSetFault>
         ensures { result ≡ judged self.now tap.now }
     {
-        match self.get(tap.reader, tap.seq) {
-            Some(there) if there == *tap => Ok(Addition::Repeat),
-            Some(_) => Err(TapSetFault::Conflict),
-            None if self.len() >= TAPS_OF_AN_ACCOUNT => Err(TapSetFault::AccountFull),
-            None => Ok(Addition::Added),
+        match self.place_for(tap)? {
+            Some(_) => Ok(Addition::Added),
+            None => Ok(Addition::Repeat),
         }
     }
 
@@ -145,13 +156,10 @@ impl TapSet {
         ensures after { self.new ≡ taps_after result self.old tap }
         ensures tap_set { IsTapSet self.new }
     {
-        let addition = self.judge(&tap)?;
-        if addition == Addition::Added {
-            let Err(at) = position(&self.taps, tap.reader, tap.seq) else {
-                unreachable!()
-            };
-            self.taps.insert(at, tap)?;
-        }
-        Ok(addition)
+        let Some(at) = self.place_for(&tap)? else {
+            return Ok(Addition::Repeat);
+        };
+        self.taps.insert(at, tap)?;
+        Ok(Addition::Added)
     }
 }

@@ -114,6 +114,31 @@ fn touches_of_a_set(rt: HostRuntime) -> Result<(), Fail> {
     Ok(())
 }
 
+// The third tap comes between the two that are there. One that is there already comes once more.
+#[test]
+fn touches_of_a_set_and_one_more(rt: HostRuntime) -> Result<(), Fail> {
+    let all = [
+        bus_tap(&rt, 1, 1, SEVEN),
+        bus_tap(&rt, 1, 4, SEVEN - 1_000),
+        bus_tap(&rt, 1, 9, SEVEN - 500),
+    ];
+    let mut taps = TapSet::new(rt.alloc());
+    for tap in &all[..2] {
+        assert_eq!(rt; taps.add(*tap), Ok(Addition::Added));
+    }
+    let list = touches_of(rt.alloc(), &all)?;
+    let further = touches_with(rt.alloc(), &taps, &all[2])?;
+    assert_eq!(rt; further.len(), 3);
+    assert_eq!(rt;
+        (further[0], further[1], further[2]),
+        (list[1], list[2], list[0])
+    );
+    let again = touches_with(rt.alloc(), &taps, &all[1])?;
+    assert_eq!(rt; again.len(), 3);
+    assert_eq!(rt; (again[0], again[1], again[2]), (list[1], list[1], list[0]));
+    Ok(())
+}
+
 // 16,384 taps, a second apart.
 #[test]
 fn takes_no_more_than_an_account_may_have(rt: HostRuntime) -> Result<(), Fail> {

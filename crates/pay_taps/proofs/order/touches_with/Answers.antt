@@ -9,10 +9,10 @@ use Rattle.pay_taps.proofs.Numbers.{length_values}
 use Rattle.pay_taps.proofs.order.touches_with.Goals as goal
 
 pub returns-clause-few : goal.returns-clause-few
-returns-clause-few c =
+returns-clause-few c = λ is_added.
     let taps = c.args.taps.now in
     let tap = c.args.tap.now in
-    let room : len taps < 16_384 = ((added_iff tap (get taps (number tap)) (len taps)).0 c.requires).1 in
+    let room : len taps < 16_384 = ((added_iff tap (get taps (number tap)) (len taps)).0 is_added).1 in
     let count : length c.as_slice.result.now ≡ len taps = ap length c.as_slice.ensures.all ∙ length_values taps in
     let listed = c.as_slice.result.now ++ tap ∷ [] in
     let more : length listed ≡ len taps + 1 = omega (arith, length-append c.as_slice.result.now (tap ∷ []), count) in

@@ -1,5 +1,4 @@
-use Rattle.std.proofs.Common.{◌≡◌, ℕ, ◌∙◌, ap, sym, subst, IfSome}
-use Rattle.std.specs.FinMap as map
+use Rattle.std.proofs.Common.{◌≡◌, sym, subst, IfSome}
 use Rattle.pay_taps.proofs.Numbers.{own_number}
 use Rattle.pay_taps.proofs.Listed.{found, not_found, set_of_listed}
 use Rattle.pay_taps.specs.Taps.{number, IsTapSet}
@@ -7,14 +6,11 @@ use Rattle.pay_taps.proofs.tap_set.TapSet.get.Goals as goal
 
 pub returns-in-Ok-clause-value : goal.returns-in-Ok-clause-value
 returns-in-Ok-clause-value c =
-    let q : ℕ × ℕ = (c.args.reader, c.args.seq) in
-    let e = c.in-Ok.ensures in
-    sym (ap (λ m. map.get m q) (sym c.self.view_is) ∙ found c.self.inside.taps.items c.deref.result.now q c.in-Ok.at c.index.result.now c.self.invariant c.deref.ensures.value e.in_range e.position c.index.ensures)
+    sym (found c.self.inside.taps.items c.deref.result.now c.args.self.now (c.args.reader, c.args.seq) c.in-Ok.at c.index.result.now c.self.invariant c.self.view_is c.deref.ensures.value c.in-Ok.ensures.in_range c.in-Ok.ensures.position c.index.ensures)
 
 pub returns-in-Err-clause-value : goal.returns-in-Err-clause-value
 returns-in-Err-clause-value c =
-    let q : ℕ × ℕ = (c.args.reader, c.args.seq) in
-    sym (ap (λ m. map.get m q) (sym c.self.view_is) ∙ not_found c.self.inside.taps.items c.deref.result.now q c.in-Err.field-0 c.self.invariant c.deref.ensures.value c.in-Err.ensures.position)
+    sym (not_found c.self.inside.taps.items c.deref.result.now c.args.self.now (c.args.reader, c.args.seq) c.in-Err.field-0 c.self.invariant c.self.view_is c.deref.ensures.value c.in-Err.ensures.position)
 
 pub returns-in-Ok-clause-own_number : goal.returns-in-Ok-clause-own_number
 returns-in-Ok-clause-own_number c = subst (λ o. IfSome o (λ tap. number tap ≡ (c.args.reader, c.args.seq))) (sym (returns-in-Ok-clause-value c)) (own_number c.args.self.now _ (subst IsTapSet c.self.view_is (set_of_listed _ c.self.invariant)).own_numbers)
