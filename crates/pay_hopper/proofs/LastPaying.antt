@@ -5,18 +5,7 @@ use Rattle.std.proofs.lemmas.List.{append-nil, drop_all}
 use Rattle.pay_day.specs.Day.{Stamp}
 use Rattle.pay_taps.specs.declared.tap.Touch.{Touch}
 use Rattle.pay_hopper.specs.Hopper.{instants_of, pays_after, marks_after, paying_marks}
-
--- whether an instant is more than `hopper` seconds after the last paying one, if there is one
-abbrev pub pays_by_last : ℕ → Option Stamp → ℕ → Bool
-pays_by_last hopper None utc = true
-pays_by_last hopper (Some paid) utc = nat_lt (paid.utc + hopper) utc
-
--- which taps pay, by the last paying one before them
-abbrev pub marks_by_last : ℕ → Option Stamp → List Touch → List Bool
-marks_by_last hopper last [] = []
-marks_by_last hopper last (tap ∷ later) =
-    let pays = pays_by_last hopper last tap.stamp.utc in
-    pays ∷ marks_by_last hopper (if pays then Some tap.stamp else last) later
+use Rattle.pay_hopper.specs.LastPaid.{pays_by_last, last_paid_after, marks_by_last}
 
 -- a second test that follows from the first adds nothing
 and_same : (a b : Bool) → (a ≡ true → b ≡ true) → (a && b) ≡ a
@@ -40,22 +29,26 @@ step hopper paid last stamp true same h utc =
 step hopper paid last stamp false same h utc = same utc
 
 -- the marks by the last paying instant are those by all of them
-pub marks_by_last_is : (hopper : ℕ) (paid : List ℕ) (last : Option Stamp) (taps : List Touch) →
+marks_by_last_is : (hopper : ℕ) (paid : List ℕ) (last : Option Stamp) (taps : List Touch) →
     ((utc : ℕ) → pays_after hopper paid utc ≡ pays_by_last hopper last utc) →
     marks_by_last hopper last taps ≡ marks_after hopper paid (instants_of taps)
 marks_by_last_is hopper paid last [] same = refl
 marks_by_last_is hopper paid last (tap ∷ later) same =
     let pays = pays_by_last hopper last tap.stamp.utc in
-    let rest = marks_by_last_is hopper (if pays then tap.stamp.utc ∷ paid else paid) (if pays then Some tap.stamp else last) later
+    let rest = marks_by_last_is hopper (if pays then tap.stamp.utc ∷ paid else paid) (last_paid_after hopper last tap.stamp) later
     (step hopper paid last tap.stamp pays same refl) in
     rw (same tap.stamp.utc) (cc)
+
+-- before the first tap there is no paying one
+pub by_last : (hopper : ℕ) (taps : List Touch) → marks_by_last hopper None taps ≡ paying_marks hopper (instants_of taps)
+by_last hopper taps = marks_by_last_is hopper [] None taps (λ _. refl)
 
 -- past the last tap, the marks so far are all of them
 pub all_marked : (hopper : ℕ) (last : Option Stamp) (taps : List Touch) (marks : List Bool) (count : ℕ) →
     length taps ≤ count → marks_by_last hopper None taps ≡ marks ++ marks_by_last hopper last (drop count taps) →
     marks ≡ paying_marks hopper (instants_of taps)
 all_marked hopper last taps marks count past h =
-    let whole = marks_by_last_is hopper [] None taps (λ _. refl) in
+    let whole = by_last hopper taps in
     let none_left = drop_all count taps past in
     let e : marks ++ marks_by_last hopper last (drop count taps) ≡ marks = rw none_left (append-nil marks) in
     cc

@@ -1,1 +1,2 @@
 pub mod Hopper
+pub mod LastPaid

@@ -1,31 +1,42 @@
 ghost use Rattle.std.specs.Prelude.{◌≡◌, IfOk};
 ghost use Rattle.pay_hopper.specs.Hopper.{IsPayingSet, instants_of, paying_marks};
+ghost use Rattle.pay_hopper.specs.LastPaid.{pays_by_last};
 
 use pay_day::Moment;
 use pay_tables::Tables;
 use pay_taps::Touch;
 use std::alloc::{AllocError, Global};
 
+/// Whether a bus tap pays, where `last_paid` is the moment of the last one before it that paid, if any
+/// did: it pays when that moment is more than `hopper` seconds before it, or when there is none.
+///
+/// Asked of each bus tap of an account in their order, it gives the marks of `paying`.
+pub fn pays(tables: &Tables, last_paid: &Option<Moment>, tap: &Touch) -> bool
+    ensures { result ≡ pays_by_last tables.now.rules.hopper last_paid.now tap.now.stamp.utc }
+{
+    let hopper = u64::from(tables.rules().hopper);
+    match last_paid {
+        Some(paid) => tap.stamp.utc() > paid.utc() + hopper,
+        None => true,
+    }
+}
+
 /// Which of an account's bus taps pay: a mark for each tap, in the order of the taps.
 ///
 /// A bus tap pays just when no earlier paying one is at most `hopper` seconds before it; of two at
 /// one instant the second does not pay. Rail taps between do not matter, so `taps` are the bus taps
-/// alone, in their order. The time runs across the end of a service day.
+/// alone, in their order. The time runs across the end of a service day. An `Err` is want of memory.
 pub fn paying(alloc: Global, tables: &Tables, taps: &[Touch]) -> Result<Vec<bool>, AllocError>
     ensures described { IfOk result (λ marks. IsPayingSet tables.now.rules.hopper (instants_of taps.now) marks.items) }
     ensures computed { IfOk result (λ marks. marks.items ≡ paying_marks tables.now.rules.hopper (instants_of taps.now)) }
 {
-    let hopper = u64::from(tables.rules().hopper);
     let mut marks = Vec::with_capacity(alloc, taps.len())?;
-    let mut last: Option<Moment> = None;
+    let mut last_paid: Option<Moment> = None;
     for tap in taps {
-        let pays = match last {
-            Some(paid) => tap.stamp.utc() > paid.utc() + hopper,
-            None => true,
-        };
+        let pays = pays(tables, &last_paid, tap);
         marks.push(pays)?;
         if pays {
-            last = Some(tap.stamp);
+            last_paid = Some(tap.stamp);
         }
     }
     Ok(marks)
@@ -93,6 +104,28 @@ route = [{ place = 50, operator = 4 }]
         for (stamps, marks) in rows {
             let taps = bus_taps(alloc, stamps)?;
             assert_eq!(rt; paying(alloc, &tables, &taps)?.as_slice(), marks);
+        }
+        Ok(())
+    }
+
+    #[test]
+    fn the_first_pays_and_the_next_after_the_hour(rt: HostRuntime) -> Result<(), Fail> {
+        let alloc = rt.alloc();
+        let tables = Tables::read(alloc, FARES)?;
+        let seven = Moment::from_parts(1_704_697_200, 19_730, 25_200);
+        let rows = [
+            ((1_704_697_200, 19_730, 25_200), false),
+            ((1_704_697_201, 19_730, 25_201), false),
+            ((1_704_700_200, 19_730, 28_200), false),
+            ((1_704_700_800, 19_730, 28_800), false),
+            ((1_704_700_801, 19_730, 28_801), true),
+            ((1_704_702_200, 19_730, 30_200), true),
+        ];
+        for (stamp, mark) in rows {
+            let taps = bus_taps(alloc, &[stamp])?;
+            let tap = taps.first().ok_or("no tap")?;
+            assert!(rt; pays(&tables, &None, tap));
+            assert_eq!(rt; pays(&tables, &seven, tap), mark);
         }
         Ok(())
     }

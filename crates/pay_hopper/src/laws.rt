@@ -1,7 +1,9 @@
 //! What is true of the Hopper rule itself.
 
-ghost use Rattle.std.specs.Prelude.{◌≡◌, ℕ, Bool, List};
-ghost use Rattle.pay_hopper.specs.Hopper.{IsPayingSet, paying_marks};
+ghost use Rattle.std.specs.Prelude.{◌≡◌, ℕ, Bool, List, None};
+ghost use Rattle.pay_taps.specs.declared.tap.Touch.{Touch};
+ghost use Rattle.pay_hopper.specs.Hopper.{IsPayingSet, instants_of, paying_marks};
+ghost use Rattle.pay_hopper.specs.LastPaid.{marks_by_last};
 
 /// The rule speaks of paying taps to say which taps pay, and still there is one such set for any
 /// instants, and it can be computed.
@@ -9,4 +11,9 @@ pub fn one_set()
     ensures there { (hopper : ℕ) (utcs : List ℕ) → IsPayingSet hopper utcs (paying_marks hopper utcs) }
     ensures one { (hopper : ℕ) (utcs : List ℕ) (marks others : List Bool) →
         IsPayingSet hopper utcs marks → IsPayingSet hopper utcs others → marks ≡ others }
+{}
+
+/// Whoever goes over bus taps one by one, and remembers only the last that paid, finds that set.
+pub fn by_the_last()
+    ensures { (hopper : ℕ) (taps : List Touch) → marks_by_last hopper None taps ≡ paying_marks hopper (instants_of taps) }
 {}

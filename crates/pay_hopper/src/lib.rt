@@ -5,4 +5,4 @@
 mod hopper;
 pub mod laws;
 
-pub use hopper::paying;
+pub use hopper::{paying, pays};
