@@ -6,7 +6,7 @@ use Rattle.pay_tables.specs.FareTables.{FareTables}
 use Rattle.pay_pairs.specs.declared.parts.Leg.{Leg}
 use Rattle.pay_pairs.specs.declared.parts.RailPart.{RailPart}
 use Rattle.pay_pairs.specs.declared.parts.RailPart.TheVariants as part
-use Rattle.pay_links.specs.Legs.{Legs, joined, all_legs}
+use Rattle.pay_links.specs.LinkedLegs.{LinkedLegs, joined, all_legs}
 use Rattle.pay_links.specs.Journeys.{is_same, is_linked, alone, run_before, journeys, EachAndNext, IsRun, IsJourney, goes_on, parts_of_journey, parts_of, AreJourneys}
 use Rattle.pay_links.specs.declared.journey.Journey.{Journey}
 use Rattle.pay_links.specs.declared.journey.Journey.TheVariants as journey
@@ -46,14 +46,14 @@ Linked tables leg next = is_linked tables leg next ≡ true
 abbrev Ends : FareTables → Journey → Journey → Type 0
 Ends tables one next = goes_on tables one next ≡ false
 
-run_is : (tables : FareTables) (legs : Legs) → AllByRecursion Apart (all_legs legs) → IsChain (Linked tables) (all_legs legs) → IsRun tables legs
+run_is : (tables : FareTables) (legs : LinkedLegs) → AllByRecursion Apart (all_legs legs) → IsChain (Linked tables) (all_legs legs) → IsRun tables legs
 run_is tables legs apart linked = record {
   apart = All-from_recursion Apart (all_legs legs) apart;
   linked = each_from_chain (Linked tables) (all_legs legs) linked;
 }
 
 -- a leg that goes on into a run is of the run
-one_more : (tables : FareTables) (leg : Leg) (legs : Legs) → Apart leg → Linked tables leg legs.first → IsRun tables legs → IsRun tables (joined (alone leg) legs)
+one_more : (tables : FareTables) (leg : Leg) (legs : LinkedLegs) → Apart leg → Linked tables leg legs.first → IsRun tables legs → IsRun tables (joined (alone leg) legs)
 one_more tables leg legs a l r =
     run_is tables (joined (alone leg) legs) (a, recursion_from_All Apart (all_legs legs) r.apart) (l, chain_from_each (Linked tables) (all_legs legs) r.linked)
 
@@ -73,7 +73,7 @@ ends_before tables one [] h = tt
 ends_before tables one (next ∷ later) h = h next
 
 -- a run ends where its last leg's last run ends
-ends_too : (tables : FareTables) (leg : Leg) (legs : Legs) (list : List Journey) →
+ends_too : (tables : FareTables) (leg : Leg) (legs : LinkedLegs) (list : List Journey) →
     IsBefore (Ends tables) (journey.Run legs) list → IsBefore (Ends tables) (journey.Run (joined (alone leg) legs)) list
 ends_too tables leg legs [] b = tt
 ends_too tables leg legs (journey.Run next ∷ later) b = b
@@ -85,7 +85,7 @@ alone_is : (tables : FareTables) (leg : Leg) → Apart leg → IsRun tables (alo
 alone_is tables leg a = run_is tables (alone leg) (a, tt) (tt, tt)
 
 -- a leg before a run
-before_run : (tables : FareTables) (leg : Leg) (parts : List RailPart) (legs : Legs) (later : List Journey) (on : Bool) → Apart leg → is_linked tables leg legs.first ≡ on →
+before_run : (tables : FareTables) (leg : Leg) (parts : List RailPart) (legs : LinkedLegs) (later : List Journey) (on : Bool) → Apart leg → is_linked tables leg legs.first ≡ on →
     Divides tables parts (journey.Run legs ∷ later) →
     Divides tables (part.Leg leg ∷ parts) (if on then journey.Run (joined (alone leg) legs) ∷ later else journey.Run (alone leg) ∷ journey.Run legs ∷ later)
 before_run tables leg parts legs later true a l d = record {
@@ -127,7 +127,7 @@ journeys_are tables parts = let d = journeys_divide tables parts in record {
 -- ---- no other way
 
 -- a run that does not go on into the next journey stands by itself
-run_stands : (tables : FareTables) (legs : Legs) (later : List Journey) → IsBefore (Ends tables) (journey.Run legs) later → run_before tables legs later ≡ journey.Run legs ∷ later
+run_stands : (tables : FareTables) (legs : LinkedLegs) (later : List Journey) → IsBefore (Ends tables) (journey.Run legs) later → run_before tables legs later ≡ journey.Run legs ∷ later
 run_stands tables legs [] b = refl
 run_stands tables legs (journey.Run next ∷ later) b = rw b
 run_stands tables legs (journey.Same other ∷ later) b = refl

@@ -2,7 +2,7 @@
 use Rattle.std.proofs.Common.{◌≡◌, ℕ, suc, zero, ◌+◌, ◌-◌, List, [], ◌∷◌, length, slice_get, Option, Some, None, refl, arith}
 use Rattle.std.specs.Option.{unwrap_or, option_copied}
 use Rattle.pay_pairs.specs.declared.parts.Leg.{Leg}
-use Rattle.pay_links.specs.Legs.{last_behind}
+use Rattle.pay_links.specs.LinkedLegs.{last_behind}
 use denote.Bor.{Bor}
 
 -- legs behind another one end with the last of all

@@ -4,7 +4,7 @@ use Rattle.std.proofs.lemmas.List.{drop_all}
 use Rattle.pay_pairs.specs.declared.parts.RailPart.{RailPart}
 use Rattle.pay_tables.specs.FareTables.{FareTables, interchange}
 use Rattle.pay_pairs.specs.declared.parts.Leg.{Leg}
-use Rattle.pay_links.specs.Legs.{Legs, last_behind, last_leg, joined}
+use Rattle.pay_links.specs.LinkedLegs.{LinkedLegs, last_behind, last_leg, joined}
 use Rattle.pay_links.specs.Journeys.{is_same, is_in_time, is_linked, alone, run_before, leg_before, journeys}
 use Rattle.pay_links.specs.Current.{closed, open_before}
 use Rattle.pay_links.specs.declared.journey.Journey.{Journey}
@@ -26,14 +26,14 @@ linked_not_same tables leg next h =
     neither (is_same leg) (is_same next) (is_in_time leg.exit.stamp.utc next.entry.stamp.utc (interchange tables leg.exit.place next.entry.place)) h
 
 -- a leg that goes on from a run, and into the next run or not
-goes_on_before : (tables : FareTables) (run : Legs) (leg : Leg) (next : Legs) (later : List Journey) (on : Bool) →
+goes_on_before : (tables : FareTables) (run : LinkedLegs) (leg : Leg) (next : LinkedLegs) (later : List Journey) (on : Bool) →
     is_linked tables (last_leg run) leg ≡ true → is_linked tables leg next.first ≡ on →
     run_before tables run (run_before tables (alone leg) (journey.Run next ∷ later)) ≡ run_before tables (joined run (alone leg)) (journey.Run next ∷ later)
 goes_on_before tables run leg next later true h b = rw (last_joined run.first run.others leg, b) (rw h (rw append_assoc refl))
 goes_on_before tables run leg next later false h b = rw (last_joined run.first run.others leg, b) (rw h)
 
 -- a leg that goes on from a run is of the run
-pub run_goes_on : (tables : FareTables) (run : Legs) (leg : Leg) (later : List Journey) → is_linked tables (last_leg run) leg ≡ true →
+pub run_goes_on : (tables : FareTables) (run : LinkedLegs) (leg : Leg) (later : List Journey) → is_linked tables (last_leg run) leg ≡ true →
     run_before tables run (leg_before tables leg later) ≡ run_before tables (joined run (alone leg)) later
 run_goes_on tables run leg later h = let e = (linked_not_same tables (last_leg run) leg h).1 in rw e (goes_on_alone later)
   where
@@ -45,13 +45,13 @@ run_goes_on tables run leg later h = let e = (linked_not_same tables (last_leg r
     goes_on_alone (journey.Bus tap pays ∷ later) = rw h
 
 -- any other leg ends the run
-ends_before : (tables : FareTables) (run : Legs) (leg : Leg) (next : Legs) (later : List Journey) (on : Bool) →
+ends_before : (tables : FareTables) (run : LinkedLegs) (leg : Leg) (next : LinkedLegs) (later : List Journey) (on : Bool) →
     is_linked tables (last_leg run) leg ≡ false → is_linked tables leg next.first ≡ on →
     run_before tables run (run_before tables (alone leg) (journey.Run next ∷ later)) ≡ journey.Run run ∷ run_before tables (alone leg) (journey.Run next ∷ later)
 ends_before tables run leg next later true h b = rw b (rw h)
 ends_before tables run leg next later false h b = rw b (rw h)
 
-pub run_ends : (tables : FareTables) (run : Legs) (leg : Leg) (later : List Journey) → is_same leg ≡ false → is_linked tables (last_leg run) leg ≡ false →
+pub run_ends : (tables : FareTables) (run : LinkedLegs) (leg : Leg) (later : List Journey) → is_same leg ≡ false → is_linked tables (last_leg run) leg ≡ false →
     run_before tables run (leg_before tables leg later) ≡ journey.Run run ∷ run_before tables (alone leg) later
 run_ends tables run leg later s h = rw s (ends_alone later)
   where
@@ -63,12 +63,12 @@ run_ends tables run leg later s h = rw s (ends_alone later)
     ends_alone (journey.Bus tap pays ∷ later) = rw h
 
 -- with no part left, the run is closed
-closed_at_end : (tables : FareTables) (current : Option Legs) → open_before tables current [] ≡ closed current
+closed_at_end : (tables : FareTables) (current : Option LinkedLegs) → open_before tables current [] ≡ closed current
 closed_at_end tables None = refl
 closed_at_end tables (Some run) = refl
 
 -- past the last part, the journeys so far and the run that may go on are all of them
-pub all_read : (tables : FareTables) (parts : List RailPart) (done list : List Journey) (current : Option Legs) (count : ℕ) → length parts ≤ count →
+pub all_read : (tables : FareTables) (parts : List RailPart) (done list : List Journey) (current : Option LinkedLegs) (count : ℕ) → length parts ≤ count →
     done ++ open_before tables current (journeys tables (drop count parts)) ≡ journeys tables parts → list ≡ done ++ closed current → list ≡ journeys tables parts
 all_read tables parts done list current count past h l =
     let none_left = drop_all count parts past in

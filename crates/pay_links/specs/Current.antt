@@ -1,17 +1,17 @@
 -- A run that may go on, while the parts are read.
 use Rattle.std.specs.Prelude.{List, [], ◌∷◌, Option, Some, None}
 use Rattle.pay_tables.specs.FareTables.{FareTables}
-use Rattle.pay_links.specs.Legs.{Legs}
+use Rattle.pay_links.specs.LinkedLegs.{LinkedLegs}
 use Rattle.pay_links.specs.Journeys.{run_before}
 use Rattle.pay_links.specs.declared.journey.Journey.{Journey}
 use Rattle.pay_links.specs.declared.journey.Journey.TheVariants as journey
 
--- what it is, if no leg goes on from it
-abbrev pub closed : Option Legs → List Journey
+-- what it is, if no leg is linked with its last one
+abbrev pub closed : Option LinkedLegs → List Journey
 closed None = []
 closed (Some run) = journey.Run run ∷ []
 
 -- the journeys, if these are behind it
-abbrev pub open_before : FareTables → Option Legs → List Journey → List Journey
+abbrev pub open_before : FareTables → Option LinkedLegs → List Journey → List Journey
 open_before tables None later = later
 open_before tables (Some run) later = run_before tables run later

@@ -6,7 +6,7 @@ use Rattle.pay_taps.specs.declared.tap.Touch.{Touch}
 use Rattle.pay_pairs.specs.declared.parts.Leg.{Leg}
 use Rattle.pay_pairs.specs.declared.parts.RailPart.{RailPart}
 use Rattle.pay_pairs.specs.declared.parts.RailPart.TheVariants as part
-use Rattle.pay_links.specs.Legs.{Legs, all_legs, last_leg, joined}
+use Rattle.pay_links.specs.LinkedLegs.{LinkedLegs, all_legs, last_leg, joined}
 use Rattle.pay_links.specs.declared.journey.Journey.{Journey}
 use Rattle.pay_links.specs.declared.journey.Journey.TheVariants as journey
 
@@ -19,17 +19,17 @@ abbrev pub is_in_time : ℕ → ℕ → Option ℕ → Bool
 is_in_time earlier later None = false
 is_in_time earlier later (Some seconds) = nat_le later (earlier + seconds)
 
--- whether a leg goes on into the next one: neither is at one station, and from the one's exit to the other's entry an interchange is listed, and its time kept
+-- whether a leg is linked with the next one: neither is at one station, and from the one's exit to the other's entry an interchange is listed, and its time kept
 abbrev pub is_linked : FareTables → Leg → Leg → Bool
 is_linked tables leg next =
     not (is_same leg) && not (is_same next) && is_in_time leg.exit.stamp.utc next.entry.stamp.utc (interchange tables leg.exit.place next.entry.place)
 
 -- a leg by itself
-abbrev pub alone : Leg → Legs
+abbrev pub alone : Leg → LinkedLegs
 alone leg = record { first = leg; others = [] }
 
--- a run before journeys: it joins a run right behind it, if its last leg goes on into that one's first
-abbrev pub run_before : FareTables → Legs → List Journey → List Journey
+-- a run before journeys: it joins a run right behind it, if its last leg is linked with that one's first
+abbrev pub run_before : FareTables → LinkedLegs → List Journey → List Journey
 run_before tables run (journey.Run next ∷ later) =
     if is_linked tables (last_leg run) next.first then journey.Run (joined run next) ∷ later else journey.Run run ∷ journey.Run next ∷ later
 run_before tables run later = journey.Run run ∷ later
@@ -57,8 +57,8 @@ first_tap (journey.Bus tap pays) = tap
 abbrev pub EachAndNext : {A : Type 0} → (A → A → Type 0) → List A → Type 0
 EachAndNext {A} R items = (before after : List A) (one next : A) → items ≡ before ++ one ∷ next ∷ after → R one next
 
--- none of the legs ends where it began, and each goes on into the next one
-pub record IsRun (tables : FareTables) (legs : Legs) : Type 0 where
+-- none of the legs ends where it began, and each is linked with the next one
+pub record IsRun (tables : FareTables) (legs : LinkedLegs) : Type 0 where
   pub apart : All (λ leg. is_same leg ≡ false) (all_legs legs)
   pub linked : EachAndNext (λ leg next. is_linked tables leg next ≡ true) (all_legs legs)
 
@@ -69,7 +69,7 @@ IsJourney tables (journey.Same leg) = is_same leg ≡ true
 IsJourney tables (journey.Lone tap) = Unit {0}
 IsJourney tables (journey.Bus tap pays) = ⊥
 
--- whether a journey goes on into the next one: both are runs, and the last leg of the one goes on into the first of the other
+-- whether a journey goes on into the next one: both are runs, and the last leg of the one is linked with the first of the other
 abbrev pub goes_on : FareTables → Journey → Journey → Bool
 goes_on tables (journey.Run legs) (journey.Run next) = is_linked tables (last_leg legs) next.first
 goes_on tables one next = false

@@ -1,4 +1,4 @@
-pub mod Legs
+pub mod LinkedLegs
 pub mod Journeys
 pub mod Current
 pub mod Rows

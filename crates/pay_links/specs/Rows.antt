@@ -90,7 +90,7 @@ never_of_a_run : (tables : FareTables) →
     ≡ run (leg 14 1704697200 12 1704698400) [] ∷ journey.Same (leg 10 1704698460 10 1704698520) ∷ run (leg 12 1704699000 13 1704700200) [] ∷ []
 never_of_a_run tables = refl
 
--- three legs are one journey if the first goes on into the second and that into the third, and not else
+-- three legs are one journey if the first is linked with the second and that with the third, and not else
 all_three : (tables : FareTables) →
     journeys (listing (ten_twelve ∷ []) tables)
     (part.Leg (leg 14 1704697200 12 1704698400) ∷ part.Leg (leg 10 1704699600 12 1704700800) ∷ part.Leg (leg 10 1704702000 11 1704702600) ∷ [])

@@ -1,5 +1,5 @@
 ghost use Rattle.std.specs.Prelude.{◌≡◌, ◌∷◌, ◌++◌, [], OnOk, OnErr};
-ghost use Rattle.pay_links.specs.Legs.{last_leg};
+ghost use Rattle.pay_links.specs.LinkedLegs.{last_leg};
 ghost use Rattle.pay_links.specs.Journeys.{first_tap};
 
 use pay_pairs::Leg;
@@ -7,7 +7,7 @@ use pay_taps::Touch;
 use std::alloc::{AllocError, Global};
 use std::marker::Model;
 
-/// Legs of which each goes on into the next, one at least. In a contract it is the first of them and
+/// Legs of which each is linked with the next, one at least. In a contract it is the first of them and
 /// the others.
 #[derive(Drop)]
 pub struct Run {
@@ -16,9 +16,9 @@ pub struct Run {
 }
 
 impl Model for Run {
-    ghost use Rattle.pay_links.specs.Legs.{Legs, legs_code};
+    ghost use Rattle.pay_links.specs.LinkedLegs.{LinkedLegs, legs_code};
 
-    ghost Value = { Legs };
+    ghost Value = { LinkedLegs };
 
     ghost coded = { legs_code };
 
@@ -68,10 +68,10 @@ impl Run {
     }
 }
 
-/// What an account travels and pays for at once.
+/// What is charged as one.
 #[derive(Drop)]
 pub enum Journey {
-    /// Legs between stations, each of which goes on into the next.
+    /// Legs between stations, each of which is linked with the next.
     Run(Run),
     /// A leg that ends at the station where it began.
     Same(Leg),

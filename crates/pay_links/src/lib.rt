@@ -1,4 +1,4 @@
-//! Journeys: legs that go on into one another, and all that stands alone.
+//! Journeys by rail: runs of linked legs, legs at one station, and lone taps.
 #![tactic(auto)]
 
 mod journey;

@@ -15,7 +15,7 @@ fn is_same(leg: &Leg) -> bool
     leg.entry.place == leg.exit.place
 }
 
-/// Whether a leg goes on into the next one.
+/// Whether a leg is linked with the next one.
 fn is_linked(tables: &Tables, leg: &Leg, next: &Leg) -> bool
     ensures { result ≡ is_linked tables.now leg.now next.now }
 {
@@ -87,10 +87,10 @@ fn add(
 
 /// The journeys by rail of an account's legs and lone taps, in order.
 ///
-/// A leg goes on into the next one if from its exit to the other's entry an interchange is listed, in
+/// A leg is linked with the next one if from its exit to the other's entry an interchange is listed, in
 /// either order of the stations, and at most the interchange's seconds pass; a leg that ends at the
-/// station where it began goes on into none, and none into it. A journey is as many legs as go on into
-/// one another; a lone tap, and any other leg, is one by itself.
+/// station where it began is linked with none. A journey is as many legs as are linked, each with the
+/// next; a lone tap, and any other leg, is one by itself. An `Err` is want of memory.
 pub fn journeys(
     alloc: Global,
     tables: &Tables,

@@ -6,7 +6,7 @@ use pay_taps::{Kind, Touch};
 use std::alloc::Global;
 use std::test::Fail;
 
-/// Stations 10 to 14, and no interchange.
+/// Stations 10 to 14, and twenty minutes between 10 and 12.
 const FARES: &str = "
 zones = 3
 minutes = [90, 100, 110]
@@ -26,6 +26,7 @@ station = [
   { place = 13, low = 2, high = 3, operator = 2 },
   { place = 14, low = 3, high = 3, operator = 3 },
 ]
+interchange = [{ a = 10, b = 12, seconds = 1200 }]
 ";
 
 /// A leg by the station and the seconds after seven of its taps, or a tap alone.
@@ -85,20 +86,102 @@ fn short(journey: &Journey) -> (&'static str, usize, u32, u32) {
 }
 
 #[test]
-fn where_none_is_listed_each_leg_is_by_itself(rt: HostRuntime) -> Result<(), Fail> {
+fn a_journey_is_as_many_legs_as_are_linked(rt: HostRuntime) -> Result<(), Fail> {
     let alloc = rt.alloc();
     let tables = Tables::read(alloc, FARES)?;
-    let rows: [(&[Part], &[(&'static str, usize, u32, u32)]); 6] = [
+    let rows: [(&[Part], &[(&'static str, usize, u32, u32)]); 15] = [
         (&[], &[]),
         (&[Between((10, 0), (12, 1200))], &[("run", 1, 0, 1200)]),
         (&[Between((10, 0), (10, 120))], &[("same", 1, 0, 120)]),
         (&[Alone(13, 60)], &[("lone", 0, 60, 60)]),
+        // The time of the interchange, and a second more.
         (
             &[
                 Between((14, 0), (12, 1200)),
                 Between((10, 2400), (11, 3000)),
             ],
-            &[("run", 1, 0, 1200), ("run", 1, 2400, 3000)],
+            &[("run", 2, 0, 3000)],
+        ),
+        (
+            &[
+                Between((14, 0), (12, 1200)),
+                Between((10, 2401), (11, 3000)),
+            ],
+            &[("run", 1, 0, 1200), ("run", 1, 2401, 3000)],
+        ),
+        // The other way round.
+        (
+            &[
+                Between((14, 0), (10, 1200)),
+                Between((12, 2400), (13, 3000)),
+            ],
+            &[("run", 2, 0, 3000)],
+        ),
+        // No interchange is listed from 12 to 11, nor from 12 to 12.
+        (
+            &[
+                Between((14, 0), (12, 1200)),
+                Between((11, 1260), (10, 3000)),
+            ],
+            &[("run", 1, 0, 1200), ("run", 1, 1260, 3000)],
+        ),
+        (
+            &[
+                Between((14, 0), (12, 1200)),
+                Between((12, 1260), (11, 3000)),
+            ],
+            &[("run", 1, 0, 1200), ("run", 1, 1260, 3000)],
+        ),
+        // Three legs: all of them, the first two, and the last two.
+        (
+            &[
+                Between((14, 0), (12, 1200)),
+                Between((10, 2400), (12, 3600)),
+                Between((10, 4800), (11, 5400)),
+            ],
+            &[("run", 3, 0, 5400)],
+        ),
+        (
+            &[
+                Between((14, 0), (12, 1200)),
+                Between((10, 2400), (12, 3600)),
+                Between((10, 4801), (11, 5400)),
+            ],
+            &[("run", 2, 0, 3600), ("run", 1, 4801, 5400)],
+        ),
+        (
+            &[
+                Between((14, 0), (12, 1200)),
+                Between((10, 2401), (12, 3600)),
+                Between((10, 4800), (11, 5400)),
+            ],
+            &[("run", 1, 0, 1200), ("run", 2, 2401, 5400)],
+        ),
+        // A lone tap parts two legs, and so does a leg from a station back to it.
+        (
+            &[
+                Between((14, 0), (12, 1200)),
+                Alone(13, 1260),
+                Between((10, 2400), (11, 3000)),
+            ],
+            &[
+                ("run", 1, 0, 1200),
+                ("lone", 0, 1260, 1260),
+                ("run", 1, 2400, 3000),
+            ],
+        ),
+        // Such a leg is linked with none, though each pair is listed and its time kept.
+        (
+            &[
+                Between((14, 0), (12, 1200)),
+                Between((10, 1260), (10, 1320)),
+                Between((12, 1800), (13, 2400)),
+            ],
+            &[
+                ("run", 1, 0, 1200),
+                ("same", 1, 1260, 1320),
+                ("run", 1, 1800, 2400),
+            ],
         ),
         (
             &[

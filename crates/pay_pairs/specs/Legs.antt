@@ -10,15 +10,15 @@ use Rattle.pay_pairs.specs.declared.parts.RailPart.{RailPart}
 use Rattle.pay_pairs.specs.declared.parts.RailPart.TheVariants as part
 
 -- how many seconds may pass between the two taps of a leg: at one station `same_limit`, and between two stations the allowed time of their span
-abbrev pub seconds_between : FareTables → Touch → Touch → ℕ
-seconds_between tables entry exit =
+abbrev pub allowed_seconds_between : FareTables → Touch → Touch → ℕ
+allowed_seconds_between tables entry exit =
     if entry.place == exit.place then tables.rules.same_limit
     else allowed_seconds tables (span_of (station_at tables entry.place ∷ station_at tables exit.place ∷ []))
 
 -- whether a tap and the next one are a leg: one on the way in and one on the way out, not too much later
 abbrev pub is_leg : FareTables → Touch → Touch → Bool
 is_leg tables entry exit =
-    same_kind entry.kind In && same_kind exit.kind Out && nat_le exit.stamp.utc (entry.stamp.utc + seconds_between tables entry exit)
+    same_kind entry.kind In && same_kind exit.kind Out && nat_le exit.stamp.utc (entry.stamp.utc + allowed_seconds_between tables entry exit)
 
 abbrev pub leg : Touch → Touch → RailPart
 leg entry exit = part.Leg (record { entry = entry; exit = exit })

@@ -1,5 +1,5 @@
 ghost use Rattle.std.specs.Prelude.{◌≡◌, IfOk};
-ghost use Rattle.pay_pairs.specs.Legs.{seconds_between, is_leg, legs, AreParts};
+ghost use Rattle.pay_pairs.specs.Legs.{allowed_seconds_between, is_leg, legs, AreParts};
 
 use pay_tables::{Tables, span};
 use pay_taps::{Kind, Touch};
@@ -24,8 +24,8 @@ pub enum RailPart {
 }
 
 /// How many seconds may pass between two taps that are a leg.
-fn seconds_between(tables: &Tables, entry: &Touch, exit: &Touch) -> u32
-    ensures { result ≡ seconds_between tables.now entry.now exit.now }
+fn allowed_seconds_between(tables: &Tables, entry: &Touch, exit: &Touch) -> u32
+    ensures { result ≡ allowed_seconds_between tables.now entry.now exit.now }
 {
     if entry.place == exit.place {
         return tables.rules().same_limit;
@@ -40,14 +40,16 @@ fn is_leg(tables: &Tables, entry: &Touch, exit: &Touch) -> bool
 {
     entry.kind == Kind::In
         && exit.kind == Kind::Out
-        && exit.stamp.utc() <= entry.stamp.utc() + u64::from(seconds_between(tables, entry, exit))
+        && exit.stamp.utc()
+            <= entry.stamp.utc() + u64::from(allowed_seconds_between(tables, entry, exit))
 }
 
 /// The legs and the lone taps of an account's rail taps, in order.
 ///
 /// Of the rail taps in their order, neighbours are a leg if they are a tap on the way in and one on the
 /// way out, at most so many seconds apart: at one and the same station `same_limit`, and at two
-/// stations the allowed time of their span. Every other rail tap is a lone one.
+/// stations the allowed time of their span. Every other rail tap is a lone one. An `Err` is want of
+/// memory.
 pub fn legs(alloc: Global, tables: &Tables, taps: &[Touch]) -> Result<Vec<RailPart>, AllocError>
     ensures described { IfOk result (λ parts. AreParts tables.now taps.now parts.items) }
     ensures computed { IfOk result (λ parts. parts.items ≡ legs tables.now taps.now) }

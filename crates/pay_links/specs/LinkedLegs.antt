@@ -4,13 +4,13 @@ use Rattle.std.specs.Coded.{Coded, code_by, coded×, coded_list}
 use Rattle.pay_pairs.specs.declared.parts.Leg.{Leg}
 use Rattle.pay_pairs.specs.contracts.parts.Leg as leg
 
--- legs of which each goes on into the next
-pub record Legs : Type 0 where
+-- legs of which each is linked with the next
+pub record LinkedLegs : Type 0 where
   pub first : Leg
   pub others : List Leg
 
 -- all of them, in order
-abbrev pub all_legs : Legs → List Leg
+abbrev pub all_legs : LinkedLegs → List Leg
 all_legs legs = legs.first ∷ legs.others
 
 -- the last of legs that begin so
@@ -19,12 +19,12 @@ last_behind leg [] = leg
 last_behind leg (next ∷ later) = last_behind next later
 
 -- the last of them
-abbrev pub last_leg : Legs → Leg
+abbrev pub last_leg : LinkedLegs → Leg
 last_leg legs = last_behind legs.first legs.others
 
 -- legs and the ones that go on from them
-abbrev pub joined : Legs → Legs → Legs
+abbrev pub joined : LinkedLegs → LinkedLegs → LinkedLegs
 joined legs later = record { first = legs.first; others = legs.others ++ all_legs later }
 
-abbrev pub legs_code : Coded Legs
+abbrev pub legs_code : Coded LinkedLegs
 legs_code = code_by (Leg × List Leg) (coded× leg.the_row.coded (coded_list leg.the_row.coded)) (λ l. (l.first, l.others)) (λ p. record { first = p.0; others = p.1 }) (λ _. refl)
