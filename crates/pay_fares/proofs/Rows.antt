@@ -115,6 +115,109 @@ into_the_morning = refl
 out_of_the_morning : is_peak sample (run (leg 14 12 19_730 34_199 600) (leg 10 11 19_730 35_400 600 ∷ [])) ≡ true
 out_of_the_morning = refl
 
+-- ---- the evening exception
+
+-- between two stations in 20 minutes, on Monday, 2024-01-08
+abbrev one_leg_at : ℕ → ℕ → ℕ → Journey
+one_leg_at second from to = run (leg from to 19_730 second 1_200) []
+
+-- two legs: 20 minutes between two stations, and 20 minutes later another 10 between two more
+abbrev two_legs_at : ℕ → ℕ → ℕ → ℕ → ℕ → Journey
+two_legs_at second from to on_from on_to = run (leg from to 19_730 second 1_200) (leg on_from on_to 19_730 (second + 2_400) 600 ∷ [])
+
+-- at 17:00 into zone 1, and out of it; the morning has no exception
+into_zone_one : fare sample (one_leg_at 61_200 12 10) ≡ 280
+into_zone_one = rw (at_12, at_10) refl
+
+out_of_zone_one : fare sample (one_leg_at 61_200 10 12) ≡ 340
+out_of_zone_one = rw (at_12, at_10) refl
+
+in_the_morning : fare sample (one_leg_at 28_800 12 10) ≡ 340
+in_the_morning = rw (at_12, at_10) refl
+
+-- 15:59:59 and 16:00:00, 18:59:59 and 19:00:00
+into_before_the_evening : fare sample (one_leg_at 57_599 12 10) ≡ 280
+into_before_the_evening = rw (at_12, at_10) refl
+
+into_first_of_the_evening : fare sample (one_leg_at 57_600 12 10) ≡ 280
+into_first_of_the_evening = rw (at_12, at_10) refl
+
+into_last_of_the_evening : fare sample (one_leg_at 68_399 12 10) ≡ 280
+into_last_of_the_evening = rw (at_12, at_10) refl
+
+into_after_the_evening : fare sample (one_leg_at 68_400 12 10) ≡ 280
+into_after_the_evening = rw (at_12, at_10) refl
+
+-- within zone 1, from a station that is also in zone 2
+from_the_edge : fare sample (one_leg_at 61_200 11 10) ≡ 280
+from_the_edge = rw (at_11, at_10) refl
+
+-- to a station that is also in zone 1, by a span that does not begin there
+to_the_edge : fare sample (one_leg_at 61_200 13 11) ≡ 200
+to_the_edge = rw (at_13, at_11) refl
+
+to_the_edge_from_afar : fare sample (one_leg_at 61_200 14 11) ≡ 210
+to_the_edge_from_afar = rw (at_14, at_11) refl
+
+-- and by one that does, as a station between is in zone 1 alone
+to_the_edge_through_zone_one : fare sample (two_legs_at 61_200 14 12 10 11) ≡ 300
+to_the_edge_through_zone_one = rw (at_14, at_12, at_10, at_11) refl
+
+-- that run again, from 07:00, 15:59:59, 16:00:00, 18:59:59 and 19:00:00
+through_in_the_morning : fare sample (two_legs_at 25_200 14 12 10 11) ≡ 370
+through_in_the_morning = rw (at_14, at_12, at_10, at_11) refl
+
+through_before_the_evening : fare sample (two_legs_at 57_599 14 12 10 11) ≡ 300
+through_before_the_evening = rw (at_14, at_12, at_10, at_11) refl
+
+through_first_of_the_evening : fare sample (two_legs_at 57_600 14 12 10 11) ≡ 300
+through_first_of_the_evening = rw (at_14, at_12, at_10, at_11) refl
+
+through_last_of_the_evening : fare sample (two_legs_at 68_399 14 12 10 11) ≡ 300
+through_last_of_the_evening = rw (at_14, at_12, at_10, at_11) refl
+
+through_after_the_evening : fare sample (two_legs_at 68_400 14 12 10 11) ≡ 300
+through_after_the_evening = rw (at_14, at_12, at_10, at_11) refl
+
+-- into zone 1 and out again: the first leg alone would be excepted
+in_and_out : fare sample (two_legs_at 61_200 12 10 12 14) ≡ 370
+in_and_out = rw (at_12, at_10, at_14) refl
+
+-- from zone 1 and in again: the second leg alone would be excepted
+out_and_in : fare sample (two_legs_at 61_200 11 10 12 10) ≡ 340
+out_and_in = rw (at_11, at_10, at_12) refl
+
+-- and one whose second leg has a span that does not begin at zone 1
+out_and_in_to_the_edge : fare sample (two_legs_at 61_200 11 10 12 11) ≡ 340
+out_and_in_to_the_edge = rw (at_11, at_10, at_12) refl
+
+-- the second leg begins in zone 1, and the last station is outside; from 15:59:59 it is off-peak by the clock, and from 18:59:59 peak
+through_zone_one : fare sample (two_legs_at 61_200 14 12 10 12) ≡ 370
+through_zone_one = rw (at_14, at_12, at_10) refl
+
+through_zone_one_before_the_evening : fare sample (two_legs_at 57_599 14 12 10 12) ≡ 300
+through_zone_one_before_the_evening = rw (at_14, at_12, at_10) refl
+
+through_zone_one_last_of_the_evening : fare sample (two_legs_at 68_399 14 12 10 12) ≡ 370
+through_zone_one_last_of_the_evening = rw (at_14, at_12, at_10) refl
+
+-- a third leg that ends in zone 1 again
+three_legs : fare sample (run (leg 14 12 19_730 61_200 1_200) (leg 10 12 19_730 63_600 600 ∷ leg 10 11 19_730 65_400 600 ∷ [])) ≡ 300
+three_legs = rw (at_14, at_12, at_10, at_11) refl
+
+-- on Saturday, 2024-01-13, and on the public holiday, at 17:00
+into_on_saturday : fare sample (run (leg 12 10 19_735 61_200 1_200) []) ≡ 280
+into_on_saturday = rw (at_12, at_10) refl
+
+out_on_saturday : fare sample (run (leg 10 12 19_735 61_200 1_200) []) ≡ 280
+out_on_saturday = rw (at_12, at_10) refl
+
+into_on_a_holiday : fare sample (run (leg 12 10 19_723 61_200 1_200) []) ≡ 280
+into_on_a_holiday = rw (at_12, at_10) refl
+
+out_on_a_holiday : fare sample (run (leg 10 12 19_723 61_200 1_200) []) ≡ 280
+out_on_a_holiday = rw (at_12, at_10) refl
+
 -- ---- the span of all stations
 
 -- at 07:00 on 2024-01-08, in 10 minutes

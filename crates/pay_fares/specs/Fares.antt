@@ -1,23 +1,12 @@
 -- What a journey costs by itself.
-use Rattle.std.specs.Prelude.{ℕ, ◌+◌, nat_le, Bool, if◌then◌else◌, List, [], ◌∷◌}
-use Rattle.std.specs.List.{flat_map}
-use Rattle.pay_tables.specs.declared.place.Place.{Place}
-use Rattle.pay_tables.specs.declared.zones.Span.{Span}
+use Rattle.std.specs.Prelude.{ℕ, ◌+◌, nat_le, Bool, if◌then◌else◌, [], ◌∷◌}
 use Rattle.pay_tables.specs.FareTables.{FareTables, station_at, single_fare}
 use Rattle.pay_tables.specs.Spans.{span_of}
 use Rattle.pay_pairs.specs.declared.parts.Leg.{Leg}
-use Rattle.pay_links.specs.Legs.{Legs, all_legs}
 use Rattle.pay_links.specs.declared.journey.Journey.{Journey}
 use Rattle.pay_links.specs.declared.journey.Journey.TheVariants.{Run, Same, Lone, Bus}
+use Rattle.pay_fares.specs.Runs.{span_of_legs}
 use Rattle.pay_fares.specs.Peak.{is_peak}
-
--- the stations of a leg: the one of the way in and the one of the way out
-abbrev pub stations_of : FareTables → Leg → List Place
-stations_of tables leg = station_at tables leg.entry.place ∷ station_at tables leg.exit.place ∷ []
-
--- the span of all stations of legs
-abbrev pub span_of_legs : FareTables → Legs → Span
-span_of_legs tables legs = span_of (flat_map (stations_of tables) (all_legs legs))
 
 -- whether a leg that ends where it began is free: it takes no more than so many seconds
 abbrev pub is_free : FareTables → Leg → Bool

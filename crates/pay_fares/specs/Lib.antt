@@ -1,2 +1,3 @@
+pub mod Runs
 pub mod Peak
 pub mod Fares

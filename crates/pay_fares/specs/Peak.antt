@@ -1,9 +1,13 @@
 -- When a journey is peak.
-use Rattle.std.specs.Prelude.{◌≡◌, ℕ, ◌+◌, ◌%◌, ◌&&◌, ◌||◌, not, nat_le, nat_lt, Bool, true, false, refl}
+use Rattle.std.specs.Prelude.{◌≡◌, ℕ, ◌+◌, ◌%◌, ◌==◌, ◌&&◌, ◌||◌, not, nat_le, nat_lt, Bool, true, false, refl}
 use Rattle.pay_day.specs.Day.{Stamp}
 use Rattle.pay_tables.specs.FareTables.{FareTables, is_holiday}
+use Rattle.pay_tables.specs.Spans.{low_of}
+use Rattle.pay_links.specs.LinkedLegs.{LinkedLegs}
 use Rattle.pay_links.specs.declared.journey.Journey.{Journey}
+use Rattle.pay_links.specs.declared.journey.Journey.TheVariants.{Run, Same, Lone, Bus}
 use Rattle.pay_links.specs.Journeys.{first_tap}
+use Rattle.pay_fares.specs.Runs.{span_of_legs, first_station, last_station}
 
 -- Monday to Friday: day 0 was a Thursday
 abbrev pub is_weekday : ℕ → Bool
@@ -21,9 +25,22 @@ is_evening second = nat_le 57_600 second && nat_lt second 68_400
 abbrev pub is_peak_time : FareTables → Stamp → Bool
 is_peak_time tables stamp = is_weekday stamp.day && not (is_holiday tables stamp.day) && (is_morning stamp.second || is_evening stamp.second)
 
--- a journey is peak if its first tap is at a peak time
+-- whether a run of legs goes into zone 1: its span begins there, its first station is outside, and its last one is not
+abbrev pub is_into_zone_one : FareTables → LinkedLegs → Bool
+is_into_zone_one tables legs =
+    (span_of_legs tables legs).from == 1 && nat_lt 1 (low_of (first_station tables legs)) && low_of (last_station tables legs) == 1
+
+-- The evening exception: a run that starts in the evening and goes into zone 1 is off-peak all the same. It is said of runs alone: a leg that ends
+-- where it began, a lone tap and a boarding have one station or none, so that none of them comes into zone 1 from outside.
+abbrev pub is_excepted : FareTables → Journey → Bool
+is_excepted tables (Run legs) = is_evening legs.first.entry.stamp.second && is_into_zone_one tables legs
+is_excepted tables (Same leg) = false
+is_excepted tables (Lone tap) = false
+is_excepted tables (Bus tap pays) = false
+
+-- a journey is peak if its first tap is at a peak time, and the evening exception is not for it
 abbrev pub is_peak : FareTables → Journey → Bool
-is_peak tables journey = is_peak_time tables (first_tap journey).stamp
+is_peak tables journey = is_peak_time tables (first_tap journey).stamp && not (is_excepted tables journey)
 
 -- ---- worked rows: a Sunday, 2024-01-07, and the days behind it
 

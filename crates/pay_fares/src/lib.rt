@@ -4,6 +4,7 @@
 mod fares;
 pub mod laws;
 mod peak;
+mod runs;
 
 pub use fares::fare;
 pub use peak::is_peak;
