@@ -1,12 +1,10 @@
 -- How many taps, touches and boardings there are.
-use Rattle.std.proofs.Common.{◌≡◌, ℕ, suc, ◌≤◌, ◌+◌, Bool, true, false, if◌then◌else◌, not, List, [], ◌∷◌, length, ap, map, filter, refl, sym, ◌∙◌, arith}
+use Rattle.std.proofs.Common.{◌≡◌, ℕ, suc, ◌≤◌, ◌+◌, Bool, true, false, if◌then◌else◌, not, List, [], ◌∷◌, ◌++◌, length, length-append, ap, map, filter, refl, arith}
 use Rattle.std.specs.List.{zip}
-use Rattle.std.specs.FinMap.{len, values, entries, len-entries}
 use Rattle.std.proofs.lemmas.List.Filters.{length-filter_both}
 use Rattle.std.proofs.lemmas.Slice.Zip.{length-zip}
 use Rattle.std.proofs.lemmas.List.{length-map}
 use Rattle.pay_taps.specs.declared.tap.Touch.{Touch}
-use Rattle.pay_taps.specs.Taps.{Taps}
 use Rattle.pay_tables.specs.FareTables.{FareTables}
 use Rattle.pay_pairs.specs.declared.parts.Leg.{Leg}
 use Rattle.pay_pairs.specs.declared.parts.RailPart.{RailPart}
@@ -14,15 +12,10 @@ use Rattle.pay_pairs.specs.declared.parts.RailPart.TheVariants as part
 use Rattle.pay_pairs.specs.Legs.{taps_of}
 use Rattle.pay_links.specs.declared.journey.Journey.{Journey}
 use Rattle.pay_links.specs.declared.journey.Journey.TheVariants as journey
-use Rattle.pay_links.specs.Legs.{Legs, joined, last_leg}
+use Rattle.pay_links.specs.LinkedLegs.{LinkedLegs, joined, last_leg}
 use Rattle.pay_links.specs.Journeys.{is_same, is_linked, alone, run_before, leg_before, journeys}
-use Rattle.pay_account.specs.Journeys.{is_bus, is_rail, boarding}
-
-pub length-taps : (taps : Taps) → length (values taps) ≡ len taps
-length-taps taps = length-map (entries taps) (λ e. e.1) ∙ sym (len-entries taps)
-
-pub few_buses : (touches : List Touch) → length (filter is_bus touches) ≤ length touches
-few_buses touches = omega (arith, length-filter_both is_bus (λ t. not (is_bus t)) (λ _. refl) touches)
+use Rattle.pay_hopper.specs.Hopper.{instants_of, paying_marks}
+use Rattle.pay_account.specs.Journeys.{is_bus, is_rail, boarding, boardings}
 
 pub few_boardings : (buses : List Touch) (marks : List Bool) → length (map boarding (zip buses marks)) ≤ length buses
 few_boardings buses marks = omega (arith, length-map (zip buses marks) boarding, length-zip buses marks)
@@ -37,7 +30,7 @@ either : (b : Bool) (xs ys : List Journey) (n : ℕ) → length xs ≤ n → len
 either true xs ys n h k = h
 either false xs ys n h k = k
 
-run_more : (tables : FareTables) (run : Legs) (list : List Journey) → length (run_before tables run list) ≤ length list + 1
+run_more : (tables : FareTables) (run : LinkedLegs) (list : List Journey) → length (run_before tables run list) ≤ length list + 1
 run_more tables run [] = omega arith
 run_more tables run (journey.Run next ∷ later) =
     either (is_linked tables (last_leg run) next.first) (journey.Run (joined run next) ∷ later) (journey.Run run ∷ journey.Run next ∷ later) (suc (length later) + 1) (omega arith) (omega arith)
@@ -61,3 +54,10 @@ few_rail tables taps parts all = omega (arith, few_journeys tables parts, few_pa
 -- a touch is by rail or on a bus
 pub both_kinds : (touches : List Touch) → length (filter is_rail touches) + length (filter is_bus touches) ≡ length touches
 both_kinds touches = omega (arith, length-filter_both is_bus (λ t. not (is_bus t)) (λ _. refl) touches)
+
+-- and so all journeys are no more than the touches
+pub few_in_all : (tables : FareTables) (touches : List Touch) (list rail : List Journey) → list ≡ rail ++ boardings tables touches → length rail ≤ length (filter is_rail touches)
+    → length list ≤ length touches
+few_in_all tables touches list rail all few =
+    let buses = filter is_bus touches in
+    omega (arith, ap length all, length-append rail (boardings tables touches), few_boardings buses (paying_marks tables.rules.hopper (instants_of buses)), few, both_kinds touches)

@@ -1,14 +1,72 @@
--- One day more.
-use Rattle.std.proofs.Common.{◌≡◌, ℕ, suc, zero, ◌+◌, List, [], ◌∷◌, ◌++◌, sum_by, ap, ◌∙◌, arith}
+-- The fares of the days of a range.
+use Rattle.std.proofs.Common.{◌≡◌, ◌≤◌, ◌-◌, ℕ, suc, zero, ◌+◌, ◌==◌, Bool, true, false, ◌&&◌, if◌then◌else◌, nat_le, nat_lt, List, [], ◌∷◌, length, take, filter, sum_by, refl, sym, ap, ◌∙◌, arith}
 use Rattle.std.specs.List.{range_with_len}
-use Rattle.std.proofs.lemmas.List.Sums.{sum_by_push}
+use Rattle.std.proofs.lemmas.List.{take_all}
+use Rattle.std.proofs.lemmas.List.Sums.{sum_by-cons}
+use Rattle.pay_day.specs.Day.{IsDay, monday}
+use Rattle.pay_tables.specs.FareTables.{FareTables}
+use Rattle.pay_links.specs.declared.journey.Journey.{Journey}
+use Rattle.pay_links.specs.Journeys.{first_tap}
+use Rattle.pay_fares.specs.Fares.{fare}
+use Rattle.pay_account.specs.Journeys.{is_on}
+use Rattle.pay_account.specs.Prices.{fares_on, fares_through}
 
-range_more : (from n day : ℕ) → from + n ≡ day → range_with_len from (suc n) ≡ range_with_len from n ++ day ∷ []
-range_more from zero day e = let same : from ≡ day = omega arith in cc
-range_more from (suc n) day e = ap (λ (days : List ℕ). from ∷ days) (range_more (from + 1) n day (omega arith))
+-- whether a journey is of one of n days
+abbrev pub is_within : ℕ → ℕ → Journey → Bool
+is_within from n journey = nat_le from (first_tap journey).stamp.day && nat_lt (first_tap journey).stamp.day (from + n)
 
-pub one_day_more : (price : ℕ → ℕ) (from n m day : ℕ) → from + n ≡ day → m ≡ n + 1 → sum_by price (range_with_len from m) ≡ sum_by price (range_with_len from n) + price day
-one_day_more price from n m day e more =
-    let next : m ≡ suc n = omega arith in
-    ap (λ (count : ℕ). sum_by price (range_with_len from count)) next ∙ ap (λ (days : List ℕ). sum_by price days) (range_more from n day e)
-    ∙ sum_by_push price (range_with_len from n) day
+-- the fares of the journeys that pass a test
+abbrev pub fares_of : FareTables → (Journey → Bool) → List Journey → ℕ
+fares_of tables counts list = sum_by (fare tables) (filter counts list)
+
+kept : (tables : FareTables) (b : Bool) (journey : Journey) (list : List Journey) → sum_by (fare tables) (if b then journey ∷ list else list) ≡ (if b then fare tables journey else 0) + sum_by (fare tables) list
+kept tables true journey list = sum_by-cons (fare tables) journey list
+kept tables false journey list = omega arith
+
+-- each day is the first of the days or one of the others
+once : (pence day from n : ℕ) → (if day == from then pence else 0) + (if nat_le (from + 1) day && nat_lt day (from + 1 + n) then pence else 0) ≡ (if nat_le from day && nat_lt day (from + suc n) then pence else 0)
+once pence day from n = grind arith
+
+never : (pence day from : ℕ) → (if nat_le from day && nat_lt day (from + 0) then pence else 0) ≡ 0
+never pence day from = grind arith
+
+no_days : (tables : FareTables) (from : ℕ) (list : List Journey) → fares_of tables (is_within from 0) list ≡ 0
+no_days tables from [] = refl
+no_days tables from (journey ∷ list) = omega (
+  arith,
+  kept tables (is_within from 0 journey) journey (filter (is_within from 0) list),
+  never (fare tables journey) (first_tap journey).stamp.day from,
+  no_days tables from list,
+)
+
+first_day : (tables : FareTables) (from n : ℕ) (list : List Journey) → fares_on tables list from + fares_of tables (is_within (from + 1) n) list ≡ fares_of tables (is_within from (suc n)) list
+first_day tables from n [] = refl
+first_day tables from n (journey ∷ list) = omega (
+  arith,
+  kept tables (is_on from journey) journey (filter (is_on from) list),
+  kept tables (is_within (from + 1) n journey) journey (filter (is_within (from + 1) n) list),
+  kept tables (is_within from (suc n) journey) journey (filter (is_within from (suc n)) list),
+  once (fare tables journey) (first_tap journey).stamp.day from n,
+  first_day tables from n list,
+)
+
+-- what the days cost, one by one, is what the journeys of all of them cost
+fares_of_days : (tables : FareTables) (list : List Journey) (from n : ℕ) → sum_by (fares_on tables list) (range_with_len from n) ≡ fares_of tables (is_within from n) list
+fares_of_days tables list from zero = omega (arith, no_days tables from list)
+fares_of_days tables list from (suc n) = omega (
+  arith,
+  sum_by-cons (fares_on tables list) from (range_with_len (from + 1) n),
+  fares_of_days tables list (from + 1) n,
+  first_day tables from n list,
+)
+
+-- a week has seven days; this is for a loop that has met all journeys
+pub fares_of_week : (tables : FareTables) (list : List Journey) (day met sum : ℕ) → IsDay day → length list ≤ met → sum ≡ fares_of tables (is_within (monday day) 7) (take met list)
+    → sum ≡ fares_through tables list (monday day + 6)
+fares_of_week tables list day met sum is_day all same =
+    let first : monday (monday day + 6) ≡ monday day = omega (arith, is_day) in
+    let count : monday day + 6 + 1 - monday day ≡ 7 = omega arith in
+    same ∙ ap (fares_of tables (is_within (monday day) 7)) (take_all met list all)
+    ∙ sym (ap (λ (from : ℕ). sum_by (fares_on tables list) (range_with_len from (monday day + 6 + 1 - from))) first
+    ∙ ap (λ (n : ℕ). sum_by (fares_on tables list) (range_with_len (monday day) n)) count
+    ∙ fares_of_days tables list (monday day) 7)

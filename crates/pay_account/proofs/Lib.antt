@@ -1,5 +1,5 @@
 pub mod Counts
 pub mod Days
-pub mod Marks
+pub mod Boardings
 pub mod Answering
 mod Rows

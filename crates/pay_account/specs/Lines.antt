@@ -4,7 +4,7 @@ use Rattle.pay_tables.specs.FareTables.{FareTables}
 use Rattle.pay_taps.specs.declared.tap.Kind.TheVariants.{Out}
 use Rattle.pay_taps.specs.Taps.{Taps, same_kind}
 use Rattle.pay_taps.specs.Order.{touches, in_order_by}
-use Rattle.pay_links.specs.Legs.{last_leg}
+use Rattle.pay_links.specs.LinkedLegs.{last_leg}
 use Rattle.pay_links.specs.declared.journey.Journey.{Journey}
 use Rattle.pay_links.specs.declared.journey.Journey.TheVariants.{Run, Same, Lone, Bus}
 use Rattle.pay_links.specs.Journeys.{first_tap}

@@ -90,7 +90,8 @@ pub trait Fares: Drop {
         ensures answer { IsAnswer result tables.now (taps self.old) tap }
         ensures after { taps self.new ≡ taps_after result (taps self.old) tap };
 
-    /// Shows the journeys of a service day, counted from 1970-01-01, and its price.
+    /// Shows the journeys of a service day, counted from 1970-01-01, and its price. An `Err` is want of
+    /// memory.
     fn show(&self, tables: &Tables, day: u32) -> Result<Shown, AllocError>
         ensures { IfOk result (λ it. it ≡ shown tables.now (account self.now) (taps self.now) day) };
 }

@@ -1,8 +1,9 @@
-ghost use Rattle.std.specs.Prelude.{◌≡◌, ◌≤◌, ◌++◌, filter, length, map, IfOk, OnOk};
-ghost use Rattle.std.specs.List.{zip};
-ghost use Rattle.pay_account.specs.Journeys.{boarding, is_bus, is_rail, rail_journeys, journeys_of, is_on};
+ghost use Rattle.std.specs.Prelude.{◌≡◌, ◌≤◌, ◌++◌, filter, length, IfOk, OnOk};
+ghost use Rattle.pay_links.specs.Journeys.{first_tap};
+ghost use Rattle.pay_account.specs.Journeys.{boardings, is_bus, is_rail, rail_journeys, journeys_of, is_on};
 
-use pay_hopper::paying;
+use pay_day::Moment;
+use pay_hopper::{laws, pays};
 use pay_links::{Journey, journeys};
 use pay_pairs::legs;
 use pay_tables::Tables;
@@ -27,17 +28,6 @@ fn rail_touches(alloc: Global, touches: &[Touch]) -> Result<Vec<Touch>, AllocErr
         .collect(alloc)
 }
 
-/// The touches on buses and trams.
-fn bus_touches(alloc: Global, touches: &[Touch]) -> Result<Vec<Touch>, AllocError>
-    ensures { IfOk result (λ list. list.items ≡ filter is_bus touches.now) }
-{
-    touches
-        .iter()
-        .copied()
-        .filter(|touch| is_bus(touch))
-        .collect(alloc)
-}
-
 /// The journeys by rail that touches in order make.
 fn rail_journeys(
     alloc: Global,
@@ -52,23 +42,32 @@ fn rail_journeys(
     journeys(alloc, tables, &parts)
 }
 
-/// Adds each touch on a bus or a tram as a boarding, with its mark.
-fn add_boardings(list: &mut Vec<Journey>, buses: &[Touch], marks: &[bool]) -> Result<(), AllocError>
-    requires { length marks.now ≡ length buses.now }
-    ensures { OnOk result (list.new.items ≡ list.old.items ++ map boarding (zip buses.now marks.now)) }
+/// Adds each touch on a bus or a tram as a boarding, with whether it pays.
+fn add_boardings(
+    list: &mut Vec<Journey>,
+    tables: &Tables,
+    touches: &[Touch],
+) -> Result<(), AllocError>
+    ensures { OnOk result (list.new.items ≡ list.old.items ++ boardings tables.now touches.now) }
 {
-    list.reserve(buses.len())?;
-    for i in 0..buses.len() {
-        list.push(Journey::Bus {
-            tap: buses[i],
-            pays: marks[i],
-        })?;
+    laws::by_the_last();
+    list.reserve(touches.len())?;
+    let mut last_paid: Option<Moment> = None;
+    for touch in touches {
+        if is_bus(touch) {
+            let pays = pays(tables, &last_paid, touch);
+            list.push(Journey::Bus { tap: *touch, pays })?;
+            if pays {
+                last_paid = Some(touch.stamp);
+            }
+        }
     }
     Ok(())
 }
 
 /// All journeys that touches in order make: those by rail, and then the boardings, each with whether it
 /// pays.
+#[tactic(auto, using(crate::proofs::Counts::few_in_all))]
 pub fn journeys_of(
     alloc: Global,
     tables: &Tables,
@@ -78,15 +77,20 @@ pub fn journeys_of(
     ensures no_more { IfOk result (λ list. length list.items ≤ length touches.now) }
 {
     let mut list = rail_journeys(alloc, tables, touches)?;
-    let buses = bus_touches(alloc, touches)?;
-    let marks = paying(alloc, tables, &buses)?;
-    add_boardings(&mut list, &buses, &marks)?;
+    add_boardings(&mut list, tables, touches)?;
     Ok(list)
 }
 
-/// Whether a journey belongs to a service day: that of its first tap.
+/// The service day that a journey belongs to: that of its first tap.
+pub fn day_of(journey: &Journey) -> u32
+    ensures { result ≡ (first_tap journey.now).stamp.day }
+{
+    journey.first_tap().stamp.day()
+}
+
+/// Whether a journey belongs to a service day.
 pub fn is_on(journey: &Journey, day: u32) -> bool
     ensures { result ≡ is_on day journey.now }
 {
-    journey.first_tap().stamp.day() == day
+    day_of(journey) == day
 }

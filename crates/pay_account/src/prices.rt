@@ -1,9 +1,9 @@
-ghost use Rattle.std.specs.Prelude.{◌≡◌, ◌≤◌, length, IfOk};
-ghost use Rattle.pay_day.specs.Day.{IsDay};
+ghost use Rattle.std.specs.Prelude.{◌≡◌, ◌≤◌, ◌+◌, length, IfOk};
+ghost use Rattle.pay_day.specs.Day.{IsDay, monday};
 ghost use Rattle.pay_account.specs.Prices.{fares_on, fares_through, prices_of_touches};
 
 use crate::fares::Priced;
-use crate::journeys::{is_on, journeys_of};
+use crate::journeys::{day_of, is_on, journeys_of};
 use pay_day::monday;
 use pay_fares::fare;
 use pay_links::Journey;
@@ -25,12 +25,46 @@ pub fn price(
     ensures { IfOk result (λ p. p ≡ prices_of_touches tables.now touches.now again day) }
 {
     let journeys = journeys_of(alloc, tables, touches)?;
+    let sums = sums_of(tables, &journeys, day);
     Ok(Priced {
         again,
         day,
-        day_price: fares_on(tables, &journeys, day),
-        week_price: fares_through(tables, &journeys, monday(day) + 6),
+        day_price: sums.day,
+        week_price: sums.week,
     })
+}
+
+/// The fares of the journeys of a service day, and of its week through Sunday.
+#[derive(Clone, Copy)]
+struct Sums {
+    day: Pence,
+    week: Pence,
+}
+
+/// The sums of the fares of the journeys of a service day and of its week.
+#[tactic(auto, using(crate::proofs::Days::fares_of_week))]
+fn sums_of(tables: &Tables, journeys: &[Journey], day: u32) -> Sums
+    requires few { length journeys.now ≤ 16_384 }
+    requires is_day { IsDay day }
+    ensures day { result.day ≡ fares_on tables.now journeys.now day }
+    ensures week { result.week ≡ fares_through tables.now journeys.now (monday day + 6) }
+{
+    let monday = monday(day);
+    let mut sums = Sums {
+        day: Pence::ZERO,
+        week: Pence::ZERO,
+    };
+    for journey in journeys {
+        let its_day = day_of(journey);
+        if (monday..monday + 7).contains(&its_day) {
+            let fare = fare(tables, journey);
+            sums.week = sums.week + fare;
+            if its_day == day {
+                sums.day = sums.day + fare;
+            }
+        }
+    }
+    sums
 }
 
 /// The sum of the fares of the journeys of a service day.
@@ -44,19 +78,6 @@ pub fn fares_on(tables: &Tables, journeys: &[Journey], day: u32) -> Pence
         if is_on(journey, day) {
             sum = sum + fare(tables, journey);
         }
-    }
-    sum
-}
-
-/// The sum of the fares of the journeys from the Monday of a day's week through that day.
-fn fares_through(tables: &Tables, journeys: &[Journey], through: u32) -> Pence
-    requires few { length journeys.now ≤ 16_384 }
-    requires is_day { (4 ≤ through) × (through ≤ 50_006) }
-    ensures { result ≡ fares_through tables.now journeys.now through }
-{
-    let mut sum = Pence::ZERO;
-    for day in monday(through)..through + 1 {
-        sum = sum + fares_on(tables, journeys, day);
     }
     sum
 }

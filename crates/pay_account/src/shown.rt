@@ -6,7 +6,7 @@ use std::marker::Model;
 /// What a journey was.
 #[derive(Clone, Copy, Debug, PartialEq, Eq)]
 pub enum LineKind {
-    /// Legs between stations, each of which goes on into the next.
+    /// Legs between stations, each of which is linked with the next.
     Rail,
     /// A leg that ends at the station where it began.
     Same,

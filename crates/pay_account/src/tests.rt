@@ -45,10 +45,10 @@ same_limit = 1800
 ";
 
 /// A tap's seq, instant, place and kind.
-type Touched = (u32, u64, u16, Kind);
+type TapRow = (u32, u64, u16, Kind);
 
 /// A tap, and its service day, the price of that day and the price of its week.
-type Answered = (Touched, u32, u64, u64);
+type Answered = (TapRow, u32, u64, u64);
 
 /// A line: what it was, where it began and ended, the instant of its first tap, and its fare.
 type Listed = (LineKind, u16, u16, u64, u64);
@@ -100,7 +100,7 @@ fn answer<F: Fares>(
     rt: &impl Abort,
     account: &mut F,
     tables: &Tables,
-    (seq, utc, place, kind): Touched,
+    (seq, utc, place, kind): TapRow,
 ) -> Result<Priced, TapFault> {
     let tap = Tap {
         account: account.number(),
@@ -260,12 +260,55 @@ fn prices_rail(rt: HostRuntime) -> Result<(), Fail> {
                 lone,
                 ((2, 1_704_699_001, 10, Kind::Out), 19_730, 1_720, 1_720),
             ],
-            // Legs that nothing joins.
+            // At the end of an interchange's time two legs are one journey, and a second later they are two.
             &[
                 ((1, 1_704_697_200, 14, Kind::In), 19_730, 860, 860),
                 ((2, 1_704_698_400, 12, Kind::Out), 19_730, 210, 210),
                 ((3, 1_704_699_600, 10, Kind::In), 19_730, 1_070, 1_070),
+                ((4, 1_704_700_200, 11, Kind::Out), 19_730, 370, 370),
+            ],
+            &[
+                ((1, 1_704_697_200, 14, Kind::In), 19_730, 860, 860),
+                ((2, 1_704_698_400, 12, Kind::Out), 19_730, 210, 210),
+                ((3, 1_704_699_601, 10, Kind::In), 19_730, 1_070, 1_070),
                 ((4, 1_704_700_200, 11, Kind::Out), 19_730, 490, 490),
+            ],
+            // A boarding between two such legs changes nothing in that, and a lone tap between them parts them.
+            &[
+                ((1, 1_704_697_200, 14, Kind::In), 19_730, 860, 860),
+                ((2, 1_704_698_400, 12, Kind::Out), 19_730, 210, 210),
+                ((3, 1_704_699_000, 50, Kind::Bus), 19_730, 385, 385),
+                ((4, 1_704_699_600, 10, Kind::In), 19_730, 1_245, 1_245),
+                ((5, 1_704_700_200, 11, Kind::Out), 19_730, 545, 545),
+            ],
+            &[
+                ((1, 1_704_697_200, 14, Kind::In), 19_730, 860, 860),
+                ((2, 1_704_698_400, 12, Kind::Out), 19_730, 210, 210),
+                ((3, 1_704_699_000, 13, Kind::In), 19_730, 1_070, 1_070),
+                ((4, 1_704_699_600, 10, Kind::In), 19_730, 1_930, 1_930),
+                ((5, 1_704_700_200, 11, Kind::Out), 19_730, 1_350, 1_350),
+            ],
+            // At 17:00: into zone 1 at the off-peak fare; the same taps as two journeys, each at its peak fare;
+            // a single leg into zone 1, and one out of it.
+            &[
+                ((1, 1_704_733_200, 14, Kind::In), 19_730, 860, 860),
+                ((2, 1_704_734_400, 12, Kind::Out), 19_730, 210, 210),
+                ((3, 1_704_735_600, 10, Kind::In), 19_730, 1_070, 1_070),
+                ((4, 1_704_736_200, 11, Kind::Out), 19_730, 300, 300),
+            ],
+            &[
+                ((1, 1_704_733_200, 14, Kind::In), 19_730, 860, 860),
+                ((2, 1_704_734_400, 12, Kind::Out), 19_730, 210, 210),
+                ((3, 1_704_735_601, 10, Kind::In), 19_730, 1_070, 1_070),
+                ((4, 1_704_736_200, 11, Kind::Out), 19_730, 490, 490),
+            ],
+            &[
+                ((1, 1_704_733_200, 12, Kind::In), 19_730, 860, 860),
+                ((2, 1_704_734_400, 10, Kind::Out), 19_730, 280, 280),
+            ],
+            &[
+                ((1, 1_704_733_200, 10, Kind::In), 19_730, 860, 860),
+                ((2, 1_704_734_400, 12, Kind::Out), 19_730, 340, 340),
             ],
             // Stations in two zones each.
             &[
@@ -307,7 +350,7 @@ fn shows_days(rt: HostRuntime) -> Result<(), Fail> {
     let alloc = rt.alloc();
     let tables = read(alloc)?;
     // The taps of an account, and what it shows of service days: the lines, and the price.
-    let rows: [(&[Touched], &[(u32, &[Listed], u64)]); 5] = [
+    let rows: [(&[TapRow], &[(u32, &[Listed], u64)]); 6] = [
         (&[], &[(19_730, &[], 0)]),
         // The second and the fourth in order are free.
         (
@@ -363,6 +406,16 @@ fn shows_days(rt: HostRuntime) -> Result<(), Fail> {
                 ],
                 2_775,
             )],
+        ),
+        // Two legs that an interchange joins are one journey.
+        (
+            &[
+                (1, 1_704_697_200, 14, Kind::In),
+                (2, 1_704_698_400, 12, Kind::Out),
+                (3, 1_704_699_600, 10, Kind::In),
+                (4, 1_704_700_200, 11, Kind::Out),
+            ],
+            &[(19_730, &[(LineKind::Rail, 14, 11, 1_704_697_200, 370)], 370)],
         ),
         // From 04:20 to 05:50 on Tuesday: the journey belongs to Monday.
         (
@@ -476,7 +529,7 @@ fn refuses_and_keeps_nothing(rt: HostRuntime) -> Result<(), Fail> {
     }
     let bus = (1, 1_704_697_200, 50, Kind::Bus);
     let rail = (2, 1_704_697_200, 10, Kind::In);
-    let rows: [(Touched, Result<Priced, TapFault>); 8] = [
+    let rows: [(TapRow, Result<Priced, TapFault>); 8] = [
         (bus, priced(false, 19_730, 175, 175)),
         (bus, priced(true, 19_730, 175, 175)),
         (rail, priced(false, 19_730, 1_035, 1_035)),

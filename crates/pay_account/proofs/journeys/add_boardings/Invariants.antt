@@ -1,7 +1,8 @@
-use Rattle.std.proofs.Common.{◌≡◌, ◌++◌, map, take}
-use Rattle.std.specs.List.{zip}
-use Rattle.pay_account.specs.Journeys.{boarding}
+use Rattle.std.proofs.Common.{◌≡◌, ◌++◌, drop, None}
+use Rattle.pay_account.proofs.Boardings.{boardings_by_last}
 use Rattle.pay_account.proofs.journeys.add_boardings.Given as goal
 
-abbrev pub invariant-loop-i : goal.invariant-loop-i
-invariant-loop-i l = l.list.items ≡ l.fn.list.items ++ map boarding (zip (take l.i l.buses) (take l.i l.marks))
+abbrev pub invariant-loop-touch : goal.invariant-loop-touch
+invariant-loop-touch l =
+    l.fn.list.items ++ boardings_by_last l.tables.rules.hopper None l.touches
+    ≡ l.list.items ++ boardings_by_last l.tables.rules.hopper l.last_paid (drop l.touch-index l.touches)

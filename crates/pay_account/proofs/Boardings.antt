@@ -1,0 +1,12 @@
+-- Boardings, one touch after the other.
+use Rattle.std.proofs.Common.{ℕ, List, map, filter, Option}
+use Rattle.std.specs.List.{zip}
+use Rattle.pay_day.specs.Day.{Stamp}
+use Rattle.pay_taps.specs.declared.tap.Touch.{Touch}
+use Rattle.pay_hopper.specs.LastPaid.{marks_by_last}
+use Rattle.pay_links.specs.declared.journey.Journey.{Journey}
+use Rattle.pay_account.specs.Journeys.{is_bus, boarding}
+
+-- the boardings of touches, where `last` is the moment of the last one before them that paid
+abbrev pub boardings_by_last : ℕ → Option Stamp → List Touch → List Journey
+boardings_by_last hopper last touches = let buses = filter is_bus touches in map boarding (zip buses (marks_by_last hopper last buses))
