@@ -3,7 +3,8 @@ use Rattle.std.proofs.Common.{◌≡◌, ℕ, zero, suc, ◌+◌, ◌-◌, ◌*�
 use Rattle.std.specs.Char.{is_ascii_digit}
 use Rattle.std.specs.Str.{all_ascii_digits}
 use Rattle.std.specs.Str.Parse.{AllDigits, digits_value}
-use Rattle.std.proofs.lemmas.Str.Parse.{IsNumeralModel, numerals_by_value, tells_all_ascii_digits, digits_value-take-le}
+use Rattle.std.proofs.lemmas.Str.Parse.{IsNumeralModel, numerals_by_value, tells_digits, tells_all_ascii_digits, digits_value_short, digits_value-take-le}
+use Rattle.std.proofs.lemmas.List.{length-take-le}
 use Rattle.std.proofs.lemmas.Str.{digit_value_digit}
 use Rattle.std.proofs.lemmas.Int.Digits.{digits_value_more}
 use Rattle.std.proofs.lemmas.Bool.{le-leb, lt-leb}
@@ -43,3 +44,7 @@ whole word digits small =
 pub one_digit : (word : List ℕ) (i value : ℕ) → i < length word → (48 ≤ get_or word i 0) × (get_or word i 0 ≤ 57) → value ≡ digits_value 10 (take i word) → value * 10 + (get_or word i 0 - 48) ≡ digits_value 10 (take (i + 1) word)
 one_digit word i value lt digit e =
     omega (arith, e, digits_value_more 10 word i lt, digit_value_digit (get_or word i 0) digit, digit)
+
+-- ten digits are less than 10^10
+pub ten_digits : (word : List ℕ) (i : ℕ) → i ≤ length word → i ≤ 10 → AllDigits 10 (take i word) → digits_value 10 (take i word) < 10_000_000_000
+ten_digits word i within few digits = digits_value_short (numerals_by_value (AllDigits 10) tells_digits) (take i word) 10 digits (omega (arith, length-take-le i word within, few))

@@ -1,5 +1,6 @@
 pub mod Cuts
 pub mod Digits
+pub mod FirstNumbers
 pub mod Fills
 pub mod Held
 pub mod LineLengths

@@ -15,6 +15,11 @@ abbrev pub words_after : List ℕ → List (List ℕ)
 words_after [] = []
 words_after (space ∷ line) = words line
 
+-- a word ends where nothing follows it, or a space
+abbrev pub ends_word : List ℕ → Bool
+ends_word [] = true
+ends_word (next ∷ more) = is_space next
+
 -- no words, not even an empty one
 abbrev pub has_none : List (List ℕ) → Bool
 has_none [] = true

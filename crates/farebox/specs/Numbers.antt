@@ -1,5 +1,5 @@
 -- The numbers of a line.
-use Rattle.std.specs.Prelude.{◌≡◌, ℕ, ◌==◌, nat_le, Bool, false, ◌&&◌, List, [], ◌∷◌, Option, Some, None, if◌then◌else◌, codes, refl}
+use Rattle.std.specs.Prelude.{◌≡◌, ℕ, ◌==◌, nat_le, Bool, false, not, ◌&&◌, List, [], ◌∷◌, Option, Some, None, if◌then◌else◌, codes, refl}
 use Rattle.std.specs.Str.{all_ascii_digits}
 use Rattle.std.specs.Str.Parse.{digits_value}
 
@@ -13,6 +13,11 @@ abbrev pub has_leading_zero : List ℕ → Bool
 has_leading_zero [] = false
 has_leading_zero (first ∷ []) = false
 has_leading_zero (first ∷ second ∷ more) = first == 48
+
+-- some bytes, and no zero before another
+abbrev pub is_plain : List ℕ → Bool
+is_plain [] = false
+is_plain (first ∷ more) = not (has_leading_zero (first ∷ more))
 
 -- the number that a word spells: digits, without a leading zero
 abbrev pub number_of : List ℕ → Option ℕ

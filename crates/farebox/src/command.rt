@@ -1,5 +1,5 @@
 //! Commands as lines.
-ghost use Rattle.std.specs.Prelude.{◌≡◌, ◌≤◌, ◌∷◌, Some, IfSome};
+ghost use Rattle.std.specs.Prelude.{◌≡◌, ◌≤◌, ◌∷◌, [], Some, IfSome, IfNone};
 ghost use Rattle.std.specs.List.{position_or_len};
 ghost use Rattle.farebox.specs.Fields.{is_space, words, words_after, has_none, Gives, field};
 ghost use Rattle.farebox.specs.Commands.{number_within, kind_of, tap_of, show_of, keyword_of, command_for, command_of};
@@ -18,7 +18,7 @@ pub struct TapLine {
     pub account: u32,
     /// Seconds of the Unix clock.
     pub utc: u64,
-    /// The station or bus route, from 1.
+    /// The station, or the route of a bus or a tram, from 1.
     pub place: u16,
     /// `IN`, `OUT` or `BUS`.
     pub kind: Kind,
@@ -126,8 +126,7 @@ fn number_field(fields: &[u8], low: u32, high: u32) -> Option<(u32, &[u8])>
         (field (number_within low high) (words_after fields.now)) }
     ensures in_range { IfSome result (λ x. x.0 ≤ high) }
 {
-    let (word, rest) = next_word(fields)?;
-    let number = read_number(word)?;
+    let (number, rest) = read_number(after_space(fields)?)?;
     if number < low || number > high {
         return None;
     }
@@ -159,9 +158,17 @@ fn next_word(fields: &[u8]) -> Option<(&[u8], &[u8])>
     ensures { Gives (λ x. (x.0.now, words_after x.1.now)) result
         (field Some (words_after fields.now)) }
 {
+    Some(split_word(after_space(fields)?))
+}
+
+/// The words behind the space that stands first.
+fn after_space(fields: &[u8]) -> Option<&[u8]>
+    ensures some { IfSome result (λ line. words_after fields.now ≡ words line.now) }
+    ensures none { IfNone result (words_after fields.now ≡ []) }
+{
     match fields {
         [] => None,
-        [_, line @ ..] => Some(split_word(line)),
+        [_, line @ ..] => Some(line),
     }
 }
 

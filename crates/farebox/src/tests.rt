@@ -8,7 +8,7 @@ use std::io::{BufRead, Read, Write};
 use std::sync::Arc;
 use std::test::Fail;
 
-/// The fare file of the examples, whole: keys that taps do not need are met and left alone.
+/// The fare file of the examples.
 const FARES: &str =
     "# A sample fare file without caps: one bus route, five stations, three zones. The numbers are nobody's real fares.
 zones = 3
@@ -175,7 +175,7 @@ static BUS_ROWS: [(&str, &str); 16] = [
     ),
 ];
 
-static RAIL_ROWS: [(&str, &str); 21] = [
+static RAIL_ROWS: [(&str, &str); 27] = [
     // A late tap on the way in makes a leg of a lone tap.
     (
         "TAP 1 1 7 1704699000 12 OUT\nTAP 1 2 7 1704697200 10 IN\n",
@@ -228,9 +228,36 @@ static RAIL_ROWS: [(&str, &str); 21] = [
         "TAP 1 1 7 1704697200 10 IN\nTAP 1 2 7 1704699001 10 OUT\n",
         "OK 19730 860 860\nOK 19730 1720 1720\n",
     ),
-    // Two legs, each of which is a journey.
+    // Two legs, and between them the time of the interchange from 12 to 10, and a second more.
     (
-        "TAP 1 1 7 1704697200 14 IN\nTAP 1 2 7 1704698400 12 OUT\nTAP 1 3 7 1704699600 10 IN\nTAP 1 4 7 1704700200 11 OUT\n",
+        "TAP 1 1 7 1704697200 14 IN\nTAP 1 2 7 1704698400 12 OUT\nTAP 1 3 7 1704699600 10 IN\nTAP 1 4 7 1704700200 11 OUT\nSHOW 7 19730\n",
+        "OK 19730 860 860\nOK 19730 210 210\nOK 19730 1070 1070\nOK 19730 370 370\nSHOW 7 19730 1 370\nJNY RAIL 14 11 1704697200 370\n",
+    ),
+    (
+        "TAP 1 1 7 1704697200 14 IN\nTAP 1 2 7 1704698400 12 OUT\nTAP 1 3 7 1704699601 10 IN\nTAP 1 4 7 1704700200 11 OUT\nSHOW 7 19730\n",
+        "OK 19730 860 860\nOK 19730 210 210\nOK 19730 1070 1070\nOK 19730 490 490\nSHOW 7 19730 2 490\nJNY RAIL 14 12 1704697200 210\nJNY RAIL 10 11 1704699601 280\n",
+    ),
+    // A tap between them that comes late parts them: the journey of 370 becomes one of 210, one of 860 and one of 280.
+    (
+        "TAP 1 1 7 1704697200 14 IN\nTAP 1 2 7 1704698400 12 OUT\nTAP 1 3 7 1704699600 10 IN\nTAP 1 4 7 1704700200 11 OUT\nTAP 1 5 7 1704699000 13 OUT\n",
+        "OK 19730 860 860\nOK 19730 210 210\nOK 19730 1070 1070\nOK 19730 370 370\nOK 19730 1350 1350\n",
+    ),
+    // From 12 into zone 1 at 17:00, and out of it.
+    (
+        "TAP 1 1 7 1704733200 12 IN\nTAP 1 2 7 1704734400 10 OUT\n",
+        "OK 19730 860 860\nOK 19730 280 280\n",
+    ),
+    (
+        "TAP 1 1 7 1704733200 10 IN\nTAP 1 2 7 1704734400 12 OUT\n",
+        "OK 19730 860 860\nOK 19730 340 340\n",
+    ),
+    // The two legs at 17:00: together from zone 3 into zone 1, and each by itself.
+    (
+        "TAP 1 1 7 1704733200 14 IN\nTAP 1 2 7 1704734400 12 OUT\nTAP 1 3 7 1704735600 10 IN\nTAP 1 4 7 1704736200 11 OUT\n",
+        "OK 19730 860 860\nOK 19730 210 210\nOK 19730 1070 1070\nOK 19730 300 300\n",
+    ),
+    (
+        "TAP 1 1 7 1704733200 14 IN\nTAP 1 2 7 1704734400 12 OUT\nTAP 1 3 7 1704735601 10 IN\nTAP 1 4 7 1704736200 11 OUT\n",
         "OK 19730 860 860\nOK 19730 210 210\nOK 19730 1070 1070\nOK 19730 490 490\n",
     ),
     // Stations in two zones each.
@@ -287,61 +314,64 @@ fn answers_the_worked_rows(rt: HostRuntime) -> Result<(), Fail> {
     Ok(())
 }
 
-/// The taps of two legs.
-static TWO_LEGS: [&str; 4] = [
+/// The taps of three legs, of which each is linked with the next.
+static THREE_LEGS: [&str; 6] = [
     "TAP 1 1 7 1704697200 14 IN\n",
     "TAP 1 2 7 1704698400 12 OUT\n",
-    "TAP 1 3 7 1704699601 10 IN\n",
-    "TAP 1 4 7 1704700200 11 OUT\n",
+    "TAP 1 3 7 1704699600 10 IN\n",
+    "TAP 1 4 7 1704700800 12 OUT\n",
+    "TAP 1 5 7 1704702000 10 IN\n",
+    "TAP 1 6 7 1704702600 11 OUT\n",
 ];
 
-/// What they come to.
-const TWO_LEGS_SHOWN: &str =
-    "OK 19730 490 490\nSHOW 7 19730 2 490\nJNY RAIL 14 12 1704697200 210\nJNY RAIL 10 11 1704699601 280\n";
+/// What they come to: one journey of zones 1 to 3, which begins in the morning.
+const THREE_LEGS_SHOWN: &str =
+    "OK 19730 370 370\nSHOW 7 19730 1 370\nJNY RAIL 14 11 1704697200 370\n";
 
-static ORDERS: [[usize; 4]; 24] = [
-    [0, 1, 2, 3],
-    [0, 1, 3, 2],
-    [0, 2, 1, 3],
-    [0, 2, 3, 1],
-    [0, 3, 1, 2],
-    [0, 3, 2, 1],
-    [1, 0, 2, 3],
-    [1, 0, 3, 2],
-    [1, 2, 0, 3],
-    [1, 2, 3, 0],
-    [1, 3, 0, 2],
-    [1, 3, 2, 0],
-    [2, 0, 1, 3],
-    [2, 0, 3, 1],
-    [2, 1, 0, 3],
-    [2, 1, 3, 0],
-    [2, 3, 0, 1],
-    [2, 3, 1, 0],
-    [3, 0, 1, 2],
-    [3, 0, 2, 1],
-    [3, 1, 0, 2],
-    [3, 1, 2, 0],
-    [3, 2, 0, 1],
-    [3, 2, 1, 0],
-];
+/// Six choices among six lines, in the `n`th of 46,656 ways.
+fn choices(n: usize) -> [usize; 6] {
+    [
+        n % 6,
+        n / 6 % 6,
+        n / 36 % 6,
+        n / 216 % 6,
+        n / 1_296 % 6,
+        n / 7_776 % 6,
+    ]
+}
+
+/// Whether each of the six is chosen, and so each once.
+fn are_all(choices: &[usize; 6]) -> bool {
+    for line in 0..6 {
+        if !choices.contains(&line) {
+            return false;
+        }
+    }
+    true
+}
 
 #[test]
 fn shows_one_day_for_each_order_of_taps(rt: HostRuntime) -> Result<(), Fail> {
     let alloc = rt.alloc();
-    for order in ORDERS {
-        let mut input = Vec::new(alloc);
-        for tap in order {
-            input.extend_from_slice(TWO_LEGS.get(tap).ok_or("no tap")?.as_bytes())?;
+    let mut orders = 0u32;
+    for n in 0..46_656 {
+        let order = choices(n);
+        if are_all(&order) {
+            let mut input = Vec::new(alloc);
+            for tap in order {
+                input.extend_from_slice(THREE_LEGS.get(tap).ok_or("no tap")?.as_bytes())?;
+            }
+            input.extend_from_slice(b"SHOW 7 19730\n")?;
+            let (done, written) = replies(alloc, &input)?;
+            assert_eq!(rt; done.answered, 7);
+            assert!(rt;
+                written.ends_with(THREE_LEGS_SHOWN.as_bytes()),
+                "at {order:?}"
+            );
+            orders = orders.wrapping_add(1);
         }
-        input.extend_from_slice(b"SHOW 7 19730\n")?;
-        let (done, written) = replies(alloc, &input)?;
-        assert_eq!(rt; done.answered, 5);
-        assert!(rt;
-            written.ends_with(TWO_LEGS_SHOWN.as_bytes()),
-            "at {order:?}"
-        );
     }
+    assert_eq!(rt; orders, 720);
     Ok(())
 }
 
