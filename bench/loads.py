@@ -13,6 +13,7 @@ HOUR = 3_600
 # The first and last seconds of days and of peak times, after 04:30; and the longest times that a rule allows, and one more.
 EDGE_STARTS = (0, 7_199, 7_200, 17_999, 18_000, 41_399, 41_400, 52_199, 52_200, A_DAY - 1)
 EDGE_TIMES = [most + more for most in (120, 1_800, 3_600, 5_400, 6_000, 6_600) for more in (0, 1)]
+EDGE_CHANGES = (1_200, 1_201)
 
 
 def numbers(draw, count):
@@ -36,8 +37,13 @@ def trip(draw):
     """The touches of a trip: seconds after its start, place and kind."""
     later = draw.choice(EDGE_TIMES) if draw.random() < 0.1 else draw.randint(60, 5_400)
     first, last = draw.sample(sorted(STATIONS), 2)
+    out, again = draw.sample((10, 12), 2)
+    change = draw.choice(EDGE_CHANGES) if draw.random() < 0.1 else draw.randint(60, 1_500)
+    there, on = ((0, first, "IN"), (later, out, "OUT")), later + change
     kinds = {
-        ((0, first, "IN"), (later, last, "OUT")): 50,
+        ((0, first, "IN"), (later, last, "OUT")): 35,
+        (*there, (on, again, "IN"), (on + later, last, "OUT")): 10,
+        (*there, (on, again, "IN"), (on + 600, out, "OUT"), (on + 600 + change, again, "IN"), (on + 1_200 + change, last, "OUT")): 5,
         ((0, first, "IN"), (later, first, "OUT")): 5,
         ((0, first, "IN"),): 3,
         ((0, first, "OUT"),): 2,
