@@ -4,5 +4,7 @@
 
 mod hopper;
 pub mod laws;
+#[cfg(test)]
+mod tests;
 
 pub use hopper::{paying, pays};
