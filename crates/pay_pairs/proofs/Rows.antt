@@ -1,10 +1,10 @@
 -- Worked rows of legs, at stations 10 to 14 in zones 1, 1 and 2, 2, 2 and 3, 3.
 use Rattle.std.proofs.Common.{◌≡◌, ℕ, ◌+◌, true, false, List, [], ◌∷◌, refl}
-use Rattle.std.specs.FinMap.{from_entries}
+use Rattle.std.specs.Cmp.{nat_cmp_total}
+use Rattle.std.specs.FinMap.{from_entries, get-from_entries}
 use Rattle.pay_tables.specs.FareTables.{FareTables}
 use Rattle.pay_tables.specs.declared.place.Place.{Place}
 use Rattle.pay_tables.specs.declared.place.Place.TheVariants.{Station}
-use Rattle.pay_tables.proofs.Numbers.{get-lookup}
 use Rattle.pay_taps.specs.declared.tap.Kind.TheVariants.{In, Out}
 use Rattle.pay_taps.specs.declared.tap.Touch.{Touch}
 use Rattle.pay_pairs.specs.declared.parts.RailPart.{RailPart}
@@ -38,24 +38,24 @@ alone tap = part.Lone tap
 
 -- two zones allow 100 minutes
 in_two_zones : is_leg sample (entry 10 0) (exit 12 6_000) ≡ true
-in_two_zones = rw (get-lookup stations 10, get-lookup stations 12) refl
+in_two_zones = rw (get-from_entries nat_cmp_total stations 10, get-from_entries nat_cmp_total stations 12) refl
 
 over_two_zones : is_leg sample (entry 10 0) (exit 12 6_001) ≡ false
-over_two_zones = rw (get-lookup stations 10, get-lookup stations 12) refl
+over_two_zones = rw (get-from_entries nat_cmp_total stations 10, get-from_entries nat_cmp_total stations 12) refl
 
 -- three allow 110
 in_three_zones : is_leg sample (entry 14 0) (exit 10 6_600) ≡ true
-in_three_zones = rw (get-lookup stations 14, get-lookup stations 10) refl
+in_three_zones = rw (get-from_entries nat_cmp_total stations 14, get-from_entries nat_cmp_total stations 10) refl
 
 over_three_zones : is_leg sample (entry 14 0) (exit 10 6_601) ≡ false
-over_three_zones = rw (get-lookup stations 14, get-lookup stations 10) refl
+over_three_zones = rw (get-from_entries nat_cmp_total stations 14, get-from_entries nat_cmp_total stations 10) refl
 
 -- and one allows 90
 in_one_zone : is_leg sample (entry 10 0) (exit 11 5_400) ≡ true
-in_one_zone = rw (get-lookup stations 10, get-lookup stations 11) refl
+in_one_zone = rw (get-from_entries nat_cmp_total stations 10, get-from_entries nat_cmp_total stations 11) refl
 
 over_one_zone : is_leg sample (entry 10 0) (exit 11 5_401) ≡ false
-over_one_zone = rw (get-lookup stations 10, get-lookup stations 11) refl
+over_one_zone = rw (get-from_entries nat_cmp_total stations 10, get-from_entries nat_cmp_total stations 11) refl
 
 -- one station allows 30 minutes
 at_one_station : is_leg sample (entry 10 0) (exit 10 1_800) ≡ true
@@ -66,10 +66,10 @@ over_at_one_station = refl
 
 -- two stations that touch one zone are two stations
 between_edges : is_leg sample (entry 11 0) (exit 13 5_400) ≡ true
-between_edges = rw (get-lookup stations 11, get-lookup stations 13) refl
+between_edges = rw (get-from_entries nat_cmp_total stations 11, get-from_entries nat_cmp_total stations 13) refl
 
 over_between_edges : is_leg sample (entry 11 0) (exit 13 5_401) ≡ false
-over_between_edges = rw (get-lookup stations 11, get-lookup stations 13) refl
+over_between_edges = rw (get-from_entries nat_cmp_total stations 11, get-from_entries nat_cmp_total stations 13) refl
 
 -- a leg takes no time at the least
 at_once : is_leg sample (entry 10 0) (exit 10 0) ≡ true
@@ -91,15 +91,15 @@ out_twice = refl
 
 there_and_back :
     legs sample (entry 10 0 ∷ exit 12 1_200 ∷ entry 12 1_260 ∷ exit 10 7_260 ∷ []) ≡ leg (entry 10 0) (exit 12 1_200) ∷ leg (entry 12 1_260) (exit 10 7_260) ∷ []
-there_and_back = rw (get-lookup stations 10, get-lookup stations 12) refl
+there_and_back = rw (get-from_entries nat_cmp_total stations 10, get-from_entries nat_cmp_total stations 12) refl
 
 -- an exit that comes too late is alone, and so is its entry
 too_late : legs sample (entry 10 0 ∷ exit 12 6_001 ∷ []) ≡ alone (entry 10 0) ∷ alone (exit 12 6_001) ∷ []
-too_late = rw (get-lookup stations 10, get-lookup stations 12) refl
+too_late = rw (get-from_entries nat_cmp_total stations 10, get-from_entries nat_cmp_total stations 12) refl
 
 -- and no leg is made across it
 across : legs sample (entry 10 0 ∷ exit 12 6_001 ∷ exit 10 6_002 ∷ []) ≡ alone (entry 10 0) ∷ alone (exit 12 6_001) ∷ alone (exit 10 6_002) ∷ []
-across = rw (get-lookup stations 10, get-lookup stations 12) refl
+across = rw (get-from_entries nat_cmp_total stations 10, get-from_entries nat_cmp_total stations 12) refl
 
 one_tap : legs sample (exit 10 0 ∷ []) ≡ alone (exit 10 0) ∷ []
 one_tap = refl

@@ -7,7 +7,7 @@ use Rattle.pay_tables.specs.declared.fault.FareFileFault.TheVariants.{NotToml, M
 use Rattle.pay_tables.specs.declared.interchange.Interchange.{Interchange}
 use Rattle.pay_tables.specs.declared.place.Place.TheVariants.{Station, Route}
 use Rattle.pay_tables.specs.declared.single.Single.{Single}
-use Rattle.pay_tables.specs.FareTables.{FareTables}
+use Rattle.pay_tables.specs.FareTables.{FareTables, interchange}
 use Rattle.pay_tables.specs.Keys.{integer_at, items_at}
 use Rattle.pay_tables.specs.FareFile.{minutes_at, rules_of, singles_at, holidays_at, places_at, interchange_of, is_station, with_pair, interchanges_at, fare_file, fare_text}
 
@@ -50,7 +50,7 @@ file zones minutes r singles holidays stations routes =
 abbrev says : ℕ → ℕ → ℕ → ℕ → Single
 says from to peak off = record { span = record { from = from; to = to }; peak = peak; off = off }
 
--- ---- the sample
+-- ---- the sample, without its interchange
 
 abbrev sample_rules : Members
 sample_rules = rules 175 860 3_600 120 1_800
@@ -357,6 +357,30 @@ no_interchanges = refl
 
 interchanges_that_are_no_array : interchanges_at (from_entries []) (number (codes "interchange") 1 no_members) ≡ Err WrongType
 interchanges_that_are_no_array = refl
+
+-- how long a listed one may last, asked for in either order
+abbrev with_interchanges : FareTables
+with_interchanges = record {
+  zones = 1;
+  minutes = 90 ∷ [];
+  rules = record { bus = 175; maximum = 860; hopper = 3_600; same_free = 120; same_limit = 1_800 };
+  singles = [];
+  holidays = [];
+  places = from_entries [];
+  interchanges = between 10 12 1_200 ∷ between 14 12 600 ∷ [];
+}
+
+as_listed : interchange with_interchanges 10 12 ≡ Some 1_200
+as_listed = refl
+
+the_other_way : interchange with_interchanges 12 10 ≡ Some 1_200
+the_other_way = refl
+
+second_of_two : interchange with_interchanges 12 14 ≡ Some 600
+second_of_two = refl
+
+not_listed : interchange with_interchanges 10 14 ≡ None
+not_listed = refl
 
 -- ---- texts
 
