@@ -7,7 +7,8 @@ use std::marker::Model;
 /// 1970-01-01), and the local second of the day.
 #[derive(Clone, Copy, Debug, PartialEq, Eq)]
 pub struct Moment {
-    utc: u64,
+    // Instants fit into 32 bits, and each stored tap has one.
+    utc: u32,
     day: u32,
     second: u32,
 }
@@ -35,7 +36,11 @@ impl Moment {
         requires { IsStamp (record { utc = utc; day = day; second = second }) }
         ensures { result ≡ record { utc = utc; day = day; second = second } }
     {
-        Moment { utc, day, second }
+        Moment {
+            utc: utc as u32,
+            day,
+            second,
+        }
     }
 
     /// A moment of these numbers, if each is in its range: `utc` from 604,800 to 4,102,444,799, `day`
@@ -58,7 +63,7 @@ impl Moment {
         ensures value { result ≡ self.utc }
         ensures in_range { IsInstant result }
     {
-        self.utc
+        u64::from(self.utc)
     }
 
     /// The service day, counted from 1970-01-01.
