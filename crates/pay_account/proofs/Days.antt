@@ -1,15 +1,19 @@
 -- The fares of the days of a range.
-use Rattle.std.proofs.Common.{◌≡◌, ◌≤◌, ◌-◌, ℕ, suc, zero, ◌+◌, ◌==◌, Bool, true, false, ◌&&◌, if◌then◌else◌, nat_le, nat_lt, List, [], ◌∷◌, length, take, filter, sum_by, refl, sym, ap, ◌∙◌, arith}
-use Rattle.std.specs.List.{range_with_len}
-use Rattle.std.proofs.lemmas.List.{take_all}
+use Rattle.std.proofs.Common.{◌≡◌, ◌≤◌, ◌-◌, ℕ, suc, zero, ◌+◌, ◌==◌, Bool, true, false, ◌&&◌, if◌then◌else◌, nat_le, nat_lt, List, [], ◌∷◌, length, take, drop, filter, map, Option, None, sum_by, refl, sym, ap, ◌∙◌, arith}
+use Rattle.std.specs.List.{range_with_len, zip}
+use Rattle.std.proofs.lemmas.List.{take_all, drop_all}
 use Rattle.std.proofs.lemmas.List.Sums.{sum_by-cons}
-use Rattle.pay_day.specs.Day.{IsDay, monday}
+use Rattle.pay_day.specs.Day.{IsDay, Stamp, monday}
+use Rattle.pay_taps.specs.declared.tap.Touch.{Touch}
+use Rattle.pay_hopper.specs.Hopper.{instants_of, paying_marks}
+use Rattle.pay_hopper.specs.LastPaid.{marks_by_last}
 use Rattle.pay_tables.specs.FareTables.{FareTables}
 use Rattle.pay_links.specs.declared.journey.Journey.{Journey}
 use Rattle.pay_links.specs.Journeys.{first_tap}
 use Rattle.pay_fares.specs.Fares.{fare}
-use Rattle.pay_account.specs.Journeys.{is_on}
+use Rattle.pay_account.specs.Journeys.{is_bus, is_on, boarding, boardings}
 use Rattle.pay_account.specs.Prices.{fares_on, fares_through}
+use Rattle.pay_account.proofs.Boardings.{boardings_by_last}
 
 -- whether a journey is of one of n days
 abbrev pub is_within : ℕ → ℕ → Journey → Bool
@@ -60,13 +64,32 @@ fares_of_days tables list from (suc n) = omega (
   first_day tables from n list,
 )
 
--- a week has seven days; this is for a loop that has met all journeys
-pub fares_of_week : (tables : FareTables) (list : List Journey) (day met sum : ℕ) → IsDay day → length list ≤ met → sum ≡ fares_of tables (is_within (monday day) 7) (take met list)
-    → sum ≡ fares_through tables list (monday day + 6)
-fares_of_week tables list day met sum is_day all same =
+-- a week has seven days
+of_week : (tables : FareTables) (list : List Journey) (day : ℕ) → IsDay day → fares_through tables list (monday day + 6) ≡ fares_of tables (is_within (monday day) 7) list
+of_week tables list day is_day =
     let first : monday (monday day + 6) ≡ monday day = omega (arith, is_day) in
     let count : monday day + 6 + 1 - monday day ≡ 7 = omega arith in
-    same ∙ ap (fares_of tables (is_within (monday day) 7)) (take_all met list all)
-    ∙ sym (ap (λ (from : ℕ). sum_by (fares_on tables list) (range_with_len from (monday day + 6 + 1 - from))) first
+    ap (λ (from : ℕ). sum_by (fares_on tables list) (range_with_len from (monday day + 6 + 1 - from))) first
     ∙ ap (λ (n : ℕ). sum_by (fares_on tables list) (range_with_len (monday day) n)) count
-    ∙ fares_of_days tables list (monday day) 7)
+    ∙ fares_of_days tables list (monday day) 7
+
+-- for a loop that has met all journeys
+pub fares_of_week : (tables : FareTables) (list : List Journey) (day met sum : ℕ) → IsDay day → length list ≤ met → sum ≡ fares_of tables (is_within (monday day) 7) (take met list)
+    → sum ≡ fares_through tables list (monday day + 6)
+fares_of_week tables list day met sum is_day all same = same ∙ ap (fares_of tables (is_within (monday day) 7)) (take_all met list all) ∙ sym (of_week tables list day is_day)
+
+-- and for one that has met all boardings
+pub boardings_of_week : (tables : FareTables) (touches : List Touch) (last : Option Stamp) (day met sum : ℕ) → IsDay day → length touches ≤ met
+    → ((hopper : ℕ) (taps : List Touch) → marks_by_last hopper None taps ≡ paying_marks hopper (instants_of taps))
+    → fares_of tables (is_within (monday day) 7) (boardings_by_last tables.rules.hopper None touches)
+    ≡ sum + fares_of tables (is_within (monday day) 7) (boardings_by_last tables.rules.hopper last (drop met touches))
+    → sum ≡ fares_through tables (boardings tables touches) (monday day + 6)
+boardings_of_week tables touches last day met sum is_day all marks same =
+    let week : List Journey → ℕ = fares_of tables (is_within (monday day) 7) in
+    omega (
+      arith,
+      same,
+      ap (λ (left : List Touch). week (boardings_by_last tables.rules.hopper last left)) (drop_all met touches all),
+      ap (λ (marks : List Bool). week (map boarding (zip (filter is_bus touches) marks))) (marks tables.rules.hopper (filter is_bus touches)),
+      of_week tables (boardings tables touches) day is_day,
+    )

@@ -1,4 +1,5 @@
-ghost use Rattle.std.specs.Prelude.{◌≡◌, ◌≤◌, ◌++◌, filter, length, IfOk, OnOk};
+ghost use Rattle.std.specs.Prelude.{◌≡◌, ◌≤◌, ◌++◌, filter, length, if◌then◌else◌, Some, None, IfOk, OnOk};
+ghost use Rattle.pay_hopper.specs.LastPaid.{pays_by_last, last_paid_after};
 ghost use Rattle.pay_links.specs.Journeys.{first_tap};
 ghost use Rattle.pay_account.specs.Journeys.{boardings, is_bus, is_rail, rail_journeys, journeys_of, is_on};
 
@@ -29,7 +30,7 @@ fn rail_touches(alloc: Global, touches: &[Touch]) -> Result<Vec<Touch>, AllocErr
 }
 
 /// The journeys by rail that touches in order make.
-fn rail_journeys(
+pub fn rail_journeys(
     alloc: Global,
     tables: &Tables,
     touches: &[Touch],
@@ -42,6 +43,23 @@ fn rail_journeys(
     journeys(alloc, tables, &parts)
 }
 
+/// A touch on a bus or a tram as a boarding, with whether it pays, and `None` for one at a station.
+/// `last_paid` is the moment of the last boarding before it that paid, and becomes its own where it
+/// pays.
+pub fn boarding(tables: &Tables, last_paid: &mut Option<Moment>, touch: &Touch) -> Option<Journey>
+    ensures value { result ≡ (if is_bus touch.now then Some (Journey.Bus touch.now (pays_by_last tables.now.rules.hopper last_paid.old touch.now.stamp.utc)) else None) }
+    ensures after { last_paid.new ≡ (if is_bus touch.now then last_paid_after tables.now.rules.hopper last_paid.old touch.now.stamp else last_paid.old) }
+{
+    if !is_bus(touch) {
+        return None;
+    }
+    let pays = pays(tables, last_paid, touch);
+    if pays {
+        *last_paid = Some(touch.stamp);
+    }
+    Some(Journey::Bus { tap: *touch, pays })
+}
+
 /// Adds each touch on a bus or a tram as a boarding, with whether it pays.
 fn add_boardings(
     list: &mut Vec<Journey>,
@@ -52,14 +70,10 @@ fn add_boardings(
 {
     laws::by_the_last();
     list.reserve(touches.len())?;
-    let mut last_paid: Option<Moment> = None;
+    let mut last_paid = None;
     for touch in touches {
-        if is_bus(touch) {
-            let pays = pays(tables, &last_paid, touch);
-            list.push(Journey::Bus { tap: *touch, pays })?;
-            if pays {
-                last_paid = Some(touch.stamp);
-            }
+        if let Some(journey) = boarding(tables, &mut last_paid, touch) {
+            list.push(journey)?;
         }
     }
     Ok(())

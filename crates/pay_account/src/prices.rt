@@ -1,11 +1,16 @@
-ghost use Rattle.std.specs.Prelude.{◌≡◌, ◌≤◌, ◌+◌, length, IfOk};
+ghost use Rattle.std.specs.Prelude.{◌≡◌, ◌≤◌, ◌+◌, ◌==◌, length, if◌then◌else◌, ◌&&◌, nat_le, nat_lt, IfOk};
+ghost use Rattle.pay_links.specs.Journeys.{first_tap};
 ghost use Rattle.pay_day.specs.Day.{IsDay, monday};
+ghost use Rattle.pay_fares.specs.Fares.{fare};
+ghost use Rattle.pay_hopper.specs.LastPaid.{pays_by_last, last_paid_after};
+ghost use Rattle.pay_account.specs.Journeys.{boardings, is_bus, is_on};
 ghost use Rattle.pay_account.specs.Prices.{fares_on, fares_through, prices_of_touches};
 
 use crate::fares::Priced;
-use crate::journeys::{day_of, is_on, journeys_of};
-use pay_day::monday;
+use crate::journeys::{boarding, day_of, is_on, rail_journeys};
+use pay_day::{Moment, monday};
 use pay_fares::fare;
+use pay_hopper::laws;
 use pay_links::Journey;
 use pay_money::Pence;
 use pay_tables::Tables;
@@ -13,6 +18,7 @@ use pay_taps::Touch;
 use std::alloc::{AllocError, Global};
 
 /// The price of a service day and of its week through Sunday, of these touches in order.
+#[tactic(auto, using(crate::proofs::Counts::both_kinds))]
 pub fn price(
     alloc: Global,
     tables: &Tables,
@@ -24,13 +30,14 @@ pub fn price(
     requires is_day { IsDay day }
     ensures { IfOk result (λ p. p ≡ prices_of_touches tables.now touches.now again day) }
 {
-    let journeys = journeys_of(alloc, tables, touches)?;
-    let sums = sums_of(tables, &journeys, day);
+    let rail = rail_journeys(alloc, tables, touches)?;
+    let by_rail = sums_of(tables, &rail, day);
+    let by_bus = sums_of_boardings(tables, touches, day);
     Ok(Priced {
         again,
         day,
-        day_price: sums.day,
-        week_price: sums.week,
+        day_price: by_rail.day + by_bus.day,
+        week_price: by_rail.week + by_bus.week,
     })
 }
 
@@ -41,6 +48,59 @@ struct Sums {
     week: Pence,
 }
 
+impl Sums {
+    /// Without journeys.
+    const NONE: Sums = Sums {
+        day: Pence::ZERO,
+        week: Pence::ZERO,
+    };
+
+    /// Adds the fare of a journey, where it is of the week of `day`, and where it is of that day.
+    fn add(&mut self, tables: &Tables, journey: &Journey, day: u32)
+        requires is_day { IsDay day }
+        requires few_on { self.old.day ≤ 1_638_300_000 }
+        requires few_in_week { self.old.week ≤ 1_638_300_000 }
+        ensures day { self.new.day ≡ self.old.day + (if is_on day journey.now then fare tables.now journey.now else 0) }
+        ensures week { self.new.week ≡ self.old.week + (if nat_le (monday day) (first_tap journey.now).stamp.day && nat_lt (first_tap journey.now).stamp.day (monday day + 7) then fare tables.now journey.now else 0) }
+        ensures day_in_range { self.new.day ≤ self.old.day + 100_000 }
+        ensures week_in_range { self.new.week ≤ self.old.week + 100_000 }
+    {
+        let monday = monday(day);
+        let its_day = day_of(journey);
+        if (monday..monday + 7).contains(&its_day) {
+            let fare = fare(tables, journey);
+            self.week = self.week + fare;
+            if its_day == day {
+                self.day = self.day + fare;
+            }
+        }
+    }
+
+    /// Adds the fare of a touch on a bus or a tram, where `last_paid` is as for `boarding`.
+    fn add_boarding(
+        &mut self,
+        tables: &Tables,
+        last_paid: &mut Option<Moment>,
+        touch: &Touch,
+        day: u32,
+    )
+        requires is_day { IsDay day }
+        requires few_on { self.old.day ≤ 1_638_300_000 }
+        requires few_in_week { self.old.week ≤ 1_638_300_000 }
+        ensures last_paid { last_paid.new ≡ (if is_bus touch.now then last_paid_after tables.now.rules.hopper last_paid.old touch.now.stamp else last_paid.old) }
+        ensures day { self.new.day ≡ self.old.day + (if is_bus touch.now && touch.now.stamp.day == day
+            then fare tables.now (Journey.Bus touch.now (pays_by_last tables.now.rules.hopper last_paid.old touch.now.stamp.utc)) else 0) }
+        ensures week { self.new.week ≡ self.old.week + (if is_bus touch.now && (nat_le (monday day) touch.now.stamp.day && nat_lt touch.now.stamp.day (monday day + 7))
+            then fare tables.now (Journey.Bus touch.now (pays_by_last tables.now.rules.hopper last_paid.old touch.now.stamp.utc)) else 0) }
+        ensures day_in_range { self.new.day ≤ self.old.day + 100_000 }
+        ensures week_in_range { self.new.week ≤ self.old.week + 100_000 }
+    {
+        if let Some(journey) = boarding(tables, last_paid, touch) {
+            self.add(tables, &journey, day);
+        }
+    }
+}
+
 /// The sums of the fares of the journeys of a service day and of its week.
 #[tactic(auto, using(crate::proofs::Days::fares_of_week))]
 fn sums_of(tables: &Tables, journeys: &[Journey], day: u32) -> Sums
@@ -48,21 +108,30 @@ fn sums_of(tables: &Tables, journeys: &[Journey], day: u32) -> Sums
     requires is_day { IsDay day }
     ensures day { result.day ≡ fares_on tables.now journeys.now day }
     ensures week { result.week ≡ fares_through tables.now journeys.now (monday day + 6) }
+    ensures day_in_range { result.day ≤ 1_638_400_000 }
+    ensures week_in_range { result.week ≤ 1_638_400_000 }
 {
-    let monday = monday(day);
-    let mut sums = Sums {
-        day: Pence::ZERO,
-        week: Pence::ZERO,
-    };
+    let mut sums = Sums::NONE;
     for journey in journeys {
-        let its_day = day_of(journey);
-        if (monday..monday + 7).contains(&its_day) {
-            let fare = fare(tables, journey);
-            sums.week = sums.week + fare;
-            if its_day == day {
-                sums.day = sums.day + fare;
-            }
-        }
+        sums.add(tables, journey, day);
+    }
+    sums
+}
+
+/// The sums of the fares of the boardings among touches in order.
+fn sums_of_boardings(tables: &Tables, touches: &[Touch], day: u32) -> Sums
+    requires few { length touches.now ≤ 16_384 }
+    requires is_day { IsDay day }
+    ensures day { result.day ≡ fares_on tables.now (boardings tables.now touches.now) day }
+    ensures week { result.week ≡ fares_through tables.now (boardings tables.now touches.now) (monday day + 6) }
+    ensures day_in_range { result.day ≤ 1_638_400_000 }
+    ensures week_in_range { result.week ≤ 1_638_400_000 }
+{
+    laws::by_the_last();
+    let mut sums = Sums::NONE;
+    let mut last_paid = None;
+    for touch in touches {
+        sums.add_boarding(tables, &mut last_paid, touch, day);
     }
     sums
 }
