@@ -24,8 +24,8 @@ fn rail_touches(alloc: Global, touches: &[Touch]) -> Result<Vec<Touch>, AllocErr
 {
     touches
         .iter()
-        .copied()
         .filter(|touch| !is_bus(touch))
+        .copied()
         .collect(alloc)
 }
 
