@@ -1,8 +1,8 @@
-ghost use Rattle.std.specs.Prelude.{◌≡◌, ◌≤◌, ◌+◌, ◌==◌, length, if◌then◌else◌, ◌&&◌, nat_le, nat_lt, IfOk};
-ghost use Rattle.pay_links.specs.Journeys.{first_tap};
+ghost use Rattle.std.specs.Prelude.{◌≡◌, ◌≤◌, ◌+◌, ◌==◌, ◌&&◌, if◌then◌else◌, nat_le, nat_lt, length, IfOk};
 ghost use Rattle.pay_day.specs.Day.{IsDay, monday};
-ghost use Rattle.pay_fares.specs.Fares.{fare};
 ghost use Rattle.pay_hopper.specs.LastPaid.{pays_by_last, last_paid_after};
+ghost use Rattle.pay_links.specs.Journeys.{first_tap};
+ghost use Rattle.pay_fares.specs.Fares.{fare};
 ghost use Rattle.pay_account.specs.Journeys.{boardings, is_bus, is_on};
 ghost use Rattle.pay_account.specs.Prices.{fares_on, fares_through, prices_of_touches};
 
@@ -61,7 +61,8 @@ impl Sums {
         requires few_on { self.old.day ≤ 1_638_300_000 }
         requires few_in_week { self.old.week ≤ 1_638_300_000 }
         ensures day { self.new.day ≡ self.old.day + (if is_on day journey.now then fare tables.now journey.now else 0) }
-        ensures week { self.new.week ≡ self.old.week + (if nat_le (monday day) (first_tap journey.now).stamp.day && nat_lt (first_tap journey.now).stamp.day (monday day + 7) then fare tables.now journey.now else 0) }
+        ensures week { self.new.week ≡ self.old.week + (if nat_le (monday day) (first_tap journey.now).stamp.day && nat_lt (first_tap journey.now).stamp.day (monday day + 7)
+            then fare tables.now journey.now else 0) }
         ensures day_in_range { self.new.day ≤ self.old.day + 100_000 }
         ensures week_in_range { self.new.week ≤ self.old.week + 100_000 }
     {
