@@ -2,19 +2,20 @@
 use Rattle.std.proofs.Common.{◌≡◌, ℕ, ◌<◌, ◌≤◌, Bool, true, false, ◌||◌, cond, nat_lt, eqb, List, [], ◌∷◌, ◌++◌, map, length, Option, Some, None, Result, Ok, Err, if◌then◌else◌, sym, ap, ◌∙◌, subst, refl, arith, le-ltb, lt-ltb, append_assoc, append-nil, eqb-true, codes}
 use Rattle.std.specs.Prelude.{◌≢◌}
 use Rattle.std.specs.List.{list_any, AllByRecursion, flat_map}
-use Rattle.farebox.specs.Commands.{command_of}
-use Rattle.farebox.specs.Spellings.{Spells}
+use Rattle.pay_wire.specs.Commands.{command_of}
+use Rattle.pay_wire.specs.Spellings.{Spells}
 use Rattle.farebox.specs.Requests.{Line, asked, lines_of, rest_of, has_newline, request_of, request_of_rest, is_quit, through_quit, line_requests, requests_of, quits, unread}
-use Rattle.farebox.specs.declared.command.Command.{Command}
-use Rattle.farebox.specs.declared.command.Command.TheVariants.{Tap, Show, NotYet, Quit}
+use Rattle.pay_wire.specs.declared.command.Command.{Command}
+use Rattle.pay_wire.specs.declared.command.Command.TheVariants.{Tap, Show, NotYet, Quit}
 use Rattle.farebox.specs.declared.request.Request.{Request}
 use Rattle.farebox.specs.declared.request.Request.TheVariants as requests
-use Rattle.farebox.specs.declared.command.TapLine.{TapLine}
-use Rattle.farebox.specs.declared.refusal.Refusal.{Refusal}
-use Rattle.farebox.specs.declared.refusal.Refusal.TheVariants as refusal
-use Rattle.farebox.specs.declared.reply.Reply.TheVariants as replies
+use Rattle.pay_wire.specs.declared.command.TapLine.{TapLine}
+use Rattle.pay_wire.specs.declared.refusal.Refusal.{Refusal}
+use Rattle.pay_wire.specs.declared.refusal.Refusal.TheVariants as refusal
+use Rattle.pay_wire.specs.declared.reply.Reply.TheVariants as replies
+use Rattle.pay_wire.specs.Refusals.{refusal_of}
 use Rattle.farebox.specs.Accounts.{taps_of}
-use Rattle.farebox.specs.Machine.{Machine, Step, refuse, is_instant, tap_of_line, refusal_of, step_answer, step_tap, step_line, step}
+use Rattle.farebox.specs.Machine.{Machine, Step, refuse, is_instant, tap_of_line, step_answer, step_tap, step_line, step}
 use Rattle.pay_account.specs.Answers.{answer_to}
 use Rattle.pay_account.specs.declared.fares.Priced.{Priced}
 use Rattle.pay_account.specs.declared.shown.Shown.{Shown}
@@ -22,7 +23,6 @@ use Rattle.pay_account.specs.declared.fares.TapFault.{TapFault}
 use Rattle.pay_day.specs.Day.{stamp_of}
 use Rattle.pay_taps.specs.declared.tap.Tap.{Tap as TapMade}
 use Rattle.farebox.proofs.Pieces.{false_or, lines_of_line, lines_of_part, rest_of_line, rest_of_part, has_newline_both, line_requests_line, line_requests_part, unread_line, unread_part}
-use Rattle.farebox.proofs.Spelled.{is_read, is_spelled}
 
 -- what holds of a text that no newline ends, and of a line in front of what it holds of, holds of each input
 by_lines_from : (P : List ℕ → Type 0) → ((p : List ℕ) → has_newline p ≡ false → P p) → ((z more : List ℕ) → has_newline z ≡ false → P more → P (z ++ 10 ∷ more))
@@ -89,9 +89,13 @@ only_cutting input rest texts all none e =
 
 -- ---- what a line asks for
 
-pub quit_line : (z : List ℕ) → is_quit (request_of z) ≡ true → z ≡ codes "QUIT"
+-- what is read of a line is what the line spells
+abbrev pub ReadAsSpelled : Type 0
+ReadAsSpelled = (line : List ℕ) (command : Command) → command_of line ≡ Some command → Spells line command
+
+pub quit_line : ReadAsSpelled → (z : List ℕ) → is_quit (request_of z) ≡ true → z ≡ codes "QUIT"
 unfolding request_of
-quit_line z e = at (nat_lt 128 (length z)) (command_of z) refl e
+quit_line spelled z e = at (nat_lt 128 (length z)) (command_of z) refl e
   where
     at : (b : Bool) (o : Option Command) → command_of z ≡ o → is_quit (cond b requests.LongLine (asked o)) ≡ true → z ≡ codes "QUIT"
     at true o is f = cc
@@ -99,30 +103,30 @@ quit_line z e = at (nat_lt 128 (length z)) (command_of z) refl e
     at false (Some (Tap t)) is f = cc
     at false (Some (Show account day)) is f = cc
     at false (Some NotYet) is f = cc
-    at false (Some Quit) is f = is_spelled z Quit is
+    at false (Some Quit) is f = spelled z Quit is
 
 quit_asks : request_of (codes "QUIT") ≡ requests.Command Quit
 unfolding request_of
-quit_asks = ap asked (is_read (codes "QUIT") Quit refl)
+quit_asks = refl
 
-other_line : (z : List ℕ) → z ≢ codes "QUIT" → is_quit (request_of z) ≡ false
-other_line z other = at (is_quit (request_of z)) refl
+other_line : ReadAsSpelled → (z : List ℕ) → z ≢ codes "QUIT" → is_quit (request_of z) ≡ false
+other_line spelled z other = at (is_quit (request_of z)) refl
   where
     at : (b : Bool) → is_quit (request_of z) ≡ b → is_quit (request_of z) ≡ false
-    at true e = absurd (other (quit_line z e))
+    at true e = absurd (other (quit_line spelled z e))
     at false e = e
 
 too_long : (z : List ℕ) → 128 < length z → request_of z ≡ requests.LongLine
 unfolding request_of
 too_long z long = ap (λ b. cond b requests.LongLine (asked (command_of z))) (lt-ltb 128 (length z) long)
 
-no_command : (z : List ℕ) → length z ≤ 128 → ((command : Command) → Spells z command → ⊥) → request_of z ≡ requests.BadLine
+no_command : ReadAsSpelled → (z : List ℕ) → length z ≤ 128 → ((command : Command) → Spells z command → ⊥) → request_of z ≡ requests.BadLine
 unfolding request_of
-no_command z short none = ap (λ b. cond b requests.LongLine (asked (command_of z))) (le-ltb 128 (length z) short) ∙ at (command_of z) refl
+no_command spelled z short none = ap (λ b. cond b requests.LongLine (asked (command_of z))) (le-ltb 128 (length z) short) ∙ at (command_of z) refl
   where
     at : (o : Option Command) → command_of z ≡ o → asked o ≡ requests.BadLine
     at None is = refl
-    at (Some command) is = absurd (none command (is_spelled z command is))
+    at (Some command) is = absurd (none command (spelled z command is))
 
 -- ---- behind QUIT
 
@@ -135,13 +139,13 @@ quits_line z more h = ap (list_any is_quit) (line_requests_line z more h)
 abbrev Front : List ℕ → Type 0
 Front input = (before : List ℕ) × (input ≡ before ++ (codes "QUIT\n" ++ unread input)) × (quits before ≡ false) × (rest_of before ≡ [])
 
-front_of_line : (z more : List ℕ) → has_newline z ≡ false → (quits more ≡ true → Front more) → quits (z ++ 10 ∷ more) ≡ true → Front (z ++ 10 ∷ more)
-front_of_line z more h fronts e = at (is_quit (request_of z)) refl
+front_of_line : ReadAsSpelled → (z more : List ℕ) → has_newline z ≡ false → (quits more ≡ true → Front more) → quits (z ++ 10 ∷ more) ≡ true → Front (z ++ 10 ∷ more)
+front_of_line spelled z more h fronts e = at (is_quit (request_of z)) refl
   where
     at : (b : Bool) → is_quit (request_of z) ≡ b → Front (z ++ 10 ∷ more)
     at true q =
         let left : unread (z ++ 10 ∷ more) ≡ more = unread_line z more h ∙ ap (λ c. cond c more (unread more)) q in
-        ([], ap (λ l. l ++ 10 ∷ more) (quit_line z q) ∙ ap (λ l. codes "QUIT\n" ++ l) (sym left), refl, refl)
+        ([], ap (λ l. l ++ 10 ∷ more) (quit_line spelled z q) ∙ ap (λ l. codes "QUIT\n" ++ l) (sym left), refl, refl)
     at false q =
         let left : unread (z ++ 10 ∷ more) ≡ unread more = unread_line z more h ∙ ap (λ c. cond c more (unread more)) q in
         let f = fronts (sym (quits_line z more h ∙ ap (λ c. c || quits more) q) ∙ e) in (
@@ -151,9 +155,9 @@ front_of_line z more h fronts e = at (is_quit (request_of z)) refl
           rest_of_line z f.0 ∙ f.3,
         )
 
-pub front_of : (input : List ℕ) → quits input ≡ true → (before : List ℕ) × (input ≡ before ++ codes "QUIT\n" ++ unread input) × (quits before ≡ false) × (rest_of before ≡ [])
-front_of input e =
-    let f = by_lines (λ input. quits input ≡ true → Front input) (λ p h e. absurd (cc (quits_part p h, e))) front_of_line input e in
+pub front_of : ReadAsSpelled → (input : List ℕ) → quits input ≡ true → (before : List ℕ) × (input ≡ before ++ codes "QUIT\n" ++ unread input) × (quits before ≡ false) × (rest_of before ≡ [])
+front_of spelled input e =
+    let f = by_lines (λ input. quits input ≡ true → Front input) (λ p h e. absurd (cc (quits_part p h, e))) (front_of_line spelled) input e in
     (f.0, f.1 ∙ sym (append_assoc f.0 (codes "QUIT\n") (unread input)), f.2, f.3)
 
 pub none_unread : (input : List ℕ) → quits input ≡ false → unread input ≡ []
@@ -171,18 +175,18 @@ requests_line z more h =
     ap (λ rs. through_quit (rs ++ request_of_rest (rest_of (z ++ 10 ∷ more)))) (line_requests_line z more h)
     ∙ ap (λ l. through_quit ((request_of z ∷ line_requests more) ++ request_of_rest l)) (rest_of_line z more)
 
-pub goes_on : (line more : List ℕ) → has_newline line ≡ false → line ≢ codes "QUIT" → requests_of (line ++ codes "\n" ++ more) ≡ request_of line ∷ requests_of more
-goes_on line more h other =
-    ap requests_of (append_assoc line (codes "\n") more) ∙ requests_line line more h ∙ ap (λ c. cond c (request_of line ∷ []) (request_of line ∷ requests_of more)) (other_line line other)
+pub goes_on : ReadAsSpelled → (line more : List ℕ) → has_newline line ≡ false → line ≢ codes "QUIT" → requests_of (line ++ codes "\n" ++ more) ≡ request_of line ∷ requests_of more
+goes_on spelled line more h other =
+    ap requests_of (append_assoc line (codes "\n") more) ∙ requests_line line more h ∙ ap (λ c. cond c (request_of line ∷ []) (request_of line ∷ requests_of more)) (other_line spelled line other)
 
-pub bad_goes_on : (line more : List ℕ) → has_newline line ≡ false → length line ≤ 128 → ((command : Command) → Spells line command → ⊥) → requests_of (line ++ codes "\n" ++ more) ≡ requests.BadLine ∷ requests_of more
-bad_goes_on line more h short none =
-    goes_on line more h (none Quit) ∙ ap (λ r. r ∷ requests_of more) (no_command line short none)
+pub bad_goes_on : ReadAsSpelled → (line more : List ℕ) → has_newline line ≡ false → length line ≤ 128 → ((command : Command) → Spells line command → ⊥) → requests_of (line ++ codes "\n" ++ more) ≡ requests.BadLine ∷ requests_of more
+bad_goes_on spelled line more h short none =
+    goes_on spelled line more h (none Quit) ∙ ap (λ r. r ∷ requests_of more) (no_command spelled line short none)
 
-pub long_goes_on : (line more : List ℕ) → has_newline line ≡ false → 128 < length line → requests_of (line ++ codes "\n" ++ more) ≡ requests.LongLine ∷ requests_of more
-long_goes_on line more h long =
+pub long_goes_on : ReadAsSpelled → (line more : List ℕ) → has_newline line ≡ false → 128 < length line → requests_of (line ++ codes "\n" ++ more) ≡ requests.LongLine ∷ requests_of more
+long_goes_on spelled line more h long =
     let other : line ≢ codes "QUIT" = λ e. absurd (omega (arith, long, ap length e)) in
-    goes_on line more h other ∙ ap (λ r. r ∷ requests_of more) (too_long line long)
+    goes_on spelled line more h other ∙ ap (λ r. r ∷ requests_of more) (too_long line long)
 
 abbrev Stops : List ℕ → List ℕ → Type 0
 Stops x before = quits before ≡ false → rest_of before ≡ []

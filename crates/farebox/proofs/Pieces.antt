@@ -3,7 +3,7 @@ use Rattle.std.proofs.Common.{◌≡◌, ℕ, ◌<◌, Bool, true, false, ◌||�
 use Rattle.std.specs.Prelude.{◌⊎◌}
 use Rattle.std.proofs.lemmas.List.Folds.{list_any-append}
 use Rattle.std.proofs.lemmas.Bool.{cases_lt}
-use Rattle.farebox.specs.Commands.{command_of}
+use Rattle.pay_wire.specs.Commands.{command_of}
 use Rattle.farebox.specs.Requests.{Line, asked, onto_first, lines_of, rest_of, has_newline, request_of, request_of_rest, line_requests, after_quit, unread, is_quit}
 use Rattle.farebox.specs.declared.request.Request.TheVariants as requests
 

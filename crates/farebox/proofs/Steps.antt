@@ -5,13 +5,13 @@ use Rattle.std.proofs.lemmas.List.Folds.{list_any-append}
 use Rattle.std.proofs.lemmas.Grind.{flat_map-append}
 use Rattle.std.proofs.KnownBytes.{Appends-nil, Appends-trans}
 use Rattle.std.specs.Io.KnownBytes.{Appends}
-use Rattle.farebox.specs.Output.{AppendsFront}
-use Rattle.farebox.specs.Replies.{spelling_of_reply}
+use Rattle.pay_wire.specs.Output.{AppendsFront}
+use Rattle.pay_wire.specs.Replies.{spelling_of_reply}
 use Rattle.farebox.specs.Requests.{has_newline, is_quit, line_requests, quits, request_of, request_of_rest, rest_of, through_quit, unread}
 use Rattle.farebox.specs.Run.{run, Outcome, text_of, reply_then}
 use Rattle.farebox.specs.SessionSteps.{Answers, Quits, Breaks, Tells, EndsLine, Replies, Falters, TakesAll, TakesToQuit, TakesToFault}
 use Rattle.farebox.specs.Machine.{Machine, Step, step}
-use Rattle.farebox.specs.declared.reply.Reply.{Reply}
+use Rattle.pay_wire.specs.declared.reply.Reply.{Reply}
 use Rattle.farebox.specs.declared.request.Request.{Request}
 use Rattle.farebox.proofs.Pieces.{false_or, kept_alike, line_requests_line, unread_line, rest_of_line, has_newline_both, has_newline_kept}
 

@@ -7,7 +7,7 @@ use Rattle.farebox.specs.Run.{run, Outcome, text_of}
 use Rattle.farebox.specs.Session.{Ends, StopsReading, StopsWriting, FailsSo}
 use Rattle.farebox.specs.SessionSteps.{Tells, TakesAll, BringsMore, BringsEnd, BringsQuit, LosesReader, LosesWriter, EndsRest, FaltersAtRest, Brings, Loses}
 use Rattle.farebox.specs.Machine.{Machine, step}
-use Rattle.farebox.specs.declared.reply.Reply.{Reply}
+use Rattle.pay_wire.specs.declared.reply.Reply.{Reply}
 use Rattle.farebox.specs.declared.request.Request.{Request}
 use Rattle.farebox.specs.declared.request.Request.TheVariants as requests
 use Rattle.farebox.specs.declared.session.Done.{Done}

@@ -1,16 +1,10 @@
 pub mod Accounts
 pub mod CommandLine
-pub mod Commands
 pub mod Desk
 pub mod Faults
-pub mod Fields
 pub mod Machine
-pub mod Numbers
-pub mod Output
 pub mod ProgramWords
-pub mod Replies
 pub mod Requests
 pub mod Run
 pub mod Session
 pub mod SessionSteps
-pub mod Spellings

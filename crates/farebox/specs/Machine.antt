@@ -9,15 +9,15 @@ use Rattle.pay_account.specs.Answers.{answer_to}
 use Rattle.pay_account.specs.Lines.{shown}
 use Rattle.pay_account.specs.declared.fares.Priced.{Priced}
 use Rattle.pay_account.specs.declared.fares.TapFault.{TapFault}
-use Rattle.pay_account.specs.declared.fares.TapFault.TheVariants as fault
 use Rattle.farebox.specs.Accounts.{TapsByAccount, taps_of, accounts_after}
-use Rattle.farebox.specs.declared.command.Command.{Command}
-use Rattle.farebox.specs.declared.command.Command.TheVariants as command
-use Rattle.farebox.specs.declared.command.TapLine.{TapLine}
-use Rattle.farebox.specs.declared.refusal.Refusal.{Refusal}
-use Rattle.farebox.specs.declared.refusal.Refusal.TheVariants as refusal
-use Rattle.farebox.specs.declared.reply.Reply.{Reply}
-use Rattle.farebox.specs.declared.reply.Reply.TheVariants as replies
+use Rattle.pay_wire.specs.declared.command.Command.{Command}
+use Rattle.pay_wire.specs.declared.command.Command.TheVariants as command
+use Rattle.pay_wire.specs.declared.command.TapLine.{TapLine}
+use Rattle.pay_wire.specs.declared.refusal.Refusal.{Refusal}
+use Rattle.pay_wire.specs.declared.refusal.Refusal.TheVariants as refusal
+use Rattle.pay_wire.specs.Refusals.{refusal_of}
+use Rattle.pay_wire.specs.declared.reply.Reply.{Reply}
+use Rattle.pay_wire.specs.declared.reply.Reply.TheVariants as replies
 use Rattle.farebox.specs.declared.request.Request.{Request}
 use Rattle.farebox.specs.declared.request.Request.TheVariants as request
 
@@ -48,13 +48,6 @@ is_instant utc = nat_le 604_800 utc && nat_le utc 4_102_444_799
 abbrev pub tap_of_line : TapLine → Stamp → Tap
 tap_of_line line stamp =
     record { account = line.account; reader = line.reader; seq = line.seq; stamp = stamp; place = line.place; kind = line.kind }
-
--- the refusal of an account, as one of a line
-abbrev pub refusal_of : TapFault → Refusal
-refusal_of fault.UnknownPlace = refusal.UnknownPlace
-refusal_of fault.Conflict = refusal.Conflict
-refusal_of fault.AccountFull = refusal.AccountFull
-refusal_of fault.Memory = refusal.Memory
 
 -- an accepted tap is kept; a refusal changes nothing, and neither does want of memory
 abbrev pub step_answer : Bool → Machine → Tap → Result Priced TapFault → Step

@@ -1,9 +1,9 @@
 -- What the input asks for: its lines in order, up to the first QUIT.
 use Rattle.std.specs.Prelude.{ℕ, Bool, true, false, nat_lt, ◌==◌, List, [], ◌∷◌, ◌++◌, map, length, Option, Some, None, if◌then◌else◌}
 use Rattle.std.specs.List.{list_any}
-use Rattle.farebox.specs.Commands.{command_of}
-use Rattle.farebox.specs.declared.command.Command.{Command}
-use Rattle.farebox.specs.declared.command.Command.TheVariants.{Quit}
+use Rattle.pay_wire.specs.Commands.{command_of}
+use Rattle.pay_wire.specs.declared.command.Command.{Command}
+use Rattle.pay_wire.specs.declared.command.Command.TheVariants.{Quit}
 use Rattle.farebox.specs.declared.request.Request.{Request}
 use Rattle.farebox.specs.declared.request.Request.TheVariants as requests
 

@@ -1,9 +1,9 @@
 -- A whole run: what is written for the bytes that are read.
 use Rattle.std.specs.Prelude.{ℕ, Bool, false, List, [], ◌∷◌}
 use Rattle.std.specs.List.{flat_map}
-use Rattle.farebox.specs.Replies.{spelling_of_reply}
+use Rattle.pay_wire.specs.Replies.{spelling_of_reply}
 use Rattle.farebox.specs.Machine.{Machine, step}
-use Rattle.farebox.specs.declared.reply.Reply.{Reply}
+use Rattle.pay_wire.specs.declared.reply.Reply.{Reply}
 use Rattle.farebox.specs.declared.request.Request.{Request}
 
 -- the replies to a list of requests, and the machine after them

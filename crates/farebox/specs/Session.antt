@@ -1,12 +1,12 @@
 -- How a session of lines may end, and what was then written.
 use Rattle.std.specs.Prelude.{◌≡◌, ℕ, Bool, false, List, ◌∷◌, ◌++◌, length, Option, Some}
 use Rattle.std.specs.Io.KnownBytes.{Appends}
-use Rattle.farebox.specs.Output.{AppendsFront}
-use Rattle.farebox.specs.Replies.{spelling_of_reply}
+use Rattle.pay_wire.specs.Output.{AppendsFront}
+use Rattle.pay_wire.specs.Replies.{spelling_of_reply}
 use Rattle.farebox.specs.Requests.{line_requests, quits, requests_of, unread}
 use Rattle.farebox.specs.Run.{run, text_of}
 use Rattle.farebox.specs.Machine.{Machine}
-use Rattle.farebox.specs.declared.reply.Reply.{Reply}
+use Rattle.pay_wire.specs.declared.reply.Reply.{Reply}
 use Rattle.farebox.specs.declared.session.SessionFault.{SessionFault}
 use Rattle.farebox.specs.declared.session.SessionFault.TheVariants.{Read, Write}
 

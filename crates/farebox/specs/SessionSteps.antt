@@ -2,12 +2,12 @@
 use Rattle.std.specs.Prelude.{◌≡◌, ℕ, ◌+◌, Bool, true, false, List, [], ◌∷◌, ◌++◌, length, Option, Some}
 use Rattle.std.specs.List.{list_any}
 use Rattle.std.specs.Io.KnownBytes.{Appends}
-use Rattle.farebox.specs.Output.{AppendsFront}
-use Rattle.farebox.specs.Replies.{spelling_of_reply}
+use Rattle.pay_wire.specs.Output.{AppendsFront}
+use Rattle.pay_wire.specs.Replies.{spelling_of_reply}
 use Rattle.farebox.specs.Requests.{is_quit, line_requests, quits, request_of_rest, rest_of, through_quit, unread}
 use Rattle.farebox.specs.Run.{run, text_of}
 use Rattle.farebox.specs.Machine.{Machine, step}
-use Rattle.farebox.specs.declared.reply.Reply.{Reply}
+use Rattle.pay_wire.specs.declared.reply.Reply.{Reply}
 use Rattle.farebox.specs.declared.request.Request.{Request}
 use Rattle.farebox.specs.declared.session.Fill.{Fill}
 use Rattle.farebox.specs.declared.session.Fill.TheVariants.{More, End, Quit}

@@ -2,15 +2,12 @@ ghost use Rattle.std.specs.Prelude.{◌≡◌, Bool};
 ghost use Rattle.farebox.specs.Machine.{new_machine, step, step_command, step_line, step_show};
 
 use crate::accounts::Accounts;
-use crate::command::{Command, TapLine};
-use crate::refusal::Refusal;
-use crate::reply::Reply;
 use crate::request::Request;
 use jiff::tz::TimeZone;
-use pay_account::TapFault;
 use pay_day::{StampFault, stamp};
 use pay_tables::Tables;
 use pay_taps::Tap;
+use pay_wire::{Command, Refusal, Reply, TapLine};
 use std::alloc::Global;
 
 /// What answers requests: a zone, a fare file, and the accounts.
@@ -85,22 +82,6 @@ impl<'a> Desk<'a> {
         match self.accounts.show(self.tables, account, day) {
             Ok(shown) => Reply::Shown(shown),
             Err(_) => Reply::No(Refusal::Memory),
-        }
-    }
-}
-
-impl From<TapFault> for Refusal {
-    ghost use Rattle.std.specs.Prelude.{◌≡◌};
-    ghost use Rattle.farebox.specs.Machine.{refusal_of};
-
-    ghost from_gives = { λ fault refusal. refusal ≡ refusal_of fault };
-
-    fn from(fault: TapFault) -> Refusal {
-        match fault {
-            TapFault::UnknownPlace => Refusal::UnknownPlace,
-            TapFault::Conflict => Refusal::Conflict,
-            TapFault::AccountFull => Refusal::AccountFull,
-            TapFault::Memory => Refusal::Memory,
         }
     }
 }

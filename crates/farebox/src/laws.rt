@@ -1,65 +1,20 @@
-//! Laws of the lines: what the definitions mean by which the input is cut, commands are read, requests answered
-//! and replies written.
-ghost use Rattle.std.specs.Prelude.{◌≡◌, ◌≢◌, ℕ, ◌<◌, ◌≤◌, true, false, List, [], ◌∷◌, ◌++◌, length, map, Some, codes, decimal};
+//! Laws of the lines: what the definitions mean by which the input is cut and requests are answered.
+ghost use Rattle.std.specs.Prelude.{◌≡◌, ◌≢◌, ℕ, ◌<◌, ◌≤◌, true, false, List, [], ◌∷◌, ◌++◌, length, map, codes};
 ghost use Rattle.std.specs.List.{AllByRecursion, flat_map};
 ghost use Rattle.pay_account.specs.declared.fares.Priced.{Priced};
 ghost use Rattle.pay_account.specs.declared.shown.Shown.{Shown};
-ghost use Rattle.farebox.specs.declared.command.TapLine.{TapLine};
-ghost use Rattle.farebox.specs.declared.command.Command.{Command};
-ghost use Rattle.farebox.specs.declared.command.Command.TheVariants.{NotYet, Quit};
-ghost use Rattle.farebox.specs.declared.refusal.Refusal.{Refusal};
-ghost use Rattle.farebox.specs.declared.refusal.Refusal.TheVariants as refusal;
-ghost use Rattle.farebox.specs.declared.reply.Reply.{Reply};
-ghost use Rattle.farebox.specs.declared.reply.Reply.TheVariants as replies;
+ghost use Rattle.pay_wire.specs.declared.command.Command.{Command};
+ghost use Rattle.pay_wire.specs.declared.command.Command.TheVariants.{Quit};
+ghost use Rattle.pay_wire.specs.declared.refusal.Refusal.{Refusal};
+ghost use Rattle.pay_wire.specs.declared.refusal.Refusal.TheVariants as refusal;
+ghost use Rattle.pay_wire.specs.declared.reply.Reply.TheVariants as replies;
+ghost use Rattle.pay_wire.specs.Spellings.{Spells};
 ghost use Rattle.farebox.specs.declared.request.Request.{Request};
 ghost use Rattle.farebox.specs.declared.request.Request.TheVariants as requests;
-ghost use Rattle.farebox.specs.Numbers.{number_of};
-ghost use Rattle.farebox.specs.Commands.{command_of};
-ghost use Rattle.farebox.specs.Spellings.{IsTapLine, spelling_of_tap, IsShow, spelling_of_show, Spells, IsLine};
 ghost use Rattle.farebox.specs.Requests.{Line, lines_of, rest_of, has_newline, request_of, line_requests, requests_of, quits, unread};
 ghost use Rattle.farebox.specs.Machine.{Machine, refuse, step};
-ghost use Rattle.farebox.specs.Replies.{spelling_of_reply, told_of, IsReply};
 
-/// A number of a line has one spelling, its decimal digits, which is read as that number.
-pub fn one_numeral()
-    ensures read { (n : ℕ) → n ≤ 4_294_967_295 → number_of (decimal n) ≡ Some n }
-    ensures spelled { (word : List ℕ) (n : ℕ) → number_of word ≡ Some n
-        → (word ≡ decimal n) × (n ≤ 4_294_967_295) }
-{}
-
-/// What a line spells is what is read of it, and nothing else is read.
-pub fn read_as_spelled()
-    ensures read { (line : List ℕ) (command : Command) → Spells line command
-        → command_of line ≡ Some command }
-    ensures spelled { (line : List ℕ) (command : Command) → command_of line ≡ Some command
-        → Spells line command }
-{}
-
-/// No line spells two commands, and each command that is served has one spelling.
-pub fn one_command()
-    ensures command { (line : List ℕ) (a b : Command) → Spells line a → Spells line b → a ≡ b }
-    ensures line { (command : Command) (a b : List ℕ) → command ≢ NotYet
-        → Spells a command → Spells b command → a ≡ b }
-    ensures tap { (a b : TapLine) → IsTapLine a → IsTapLine b
-        → spelling_of_tap a ≡ spelling_of_tap b → a ≡ b }
-    ensures show { (account day x y : ℕ) → IsShow account day → IsShow x y
-        → spelling_of_show account day ≡ spelling_of_show x y → (account ≡ x) × (day ≡ y) }
-{}
-
-/// A spelling is one line: at most 128 bytes, none of them a newline.
-pub fn each_is_a_line()
-    ensures tap { (tap : TapLine) → IsTapLine tap → IsLine (spelling_of_tap tap) }
-    ensures show { (account day : ℕ) → IsShow account day → IsLine (spelling_of_show account day) }
-    ensures quit { IsLine (codes "QUIT") }
-{}
-
-/// Replies that follow one another are told apart, so a stream of replies is read in one way.
-pub fn one_reply()
-    ensures first { (a b : Reply) (x y : List ℕ) → IsReply a → IsReply b
-        → spelling_of_reply a ++ x ≡ spelling_of_reply b ++ y → (told_of a ≡ told_of b) × (x ≡ y) }
-    ensures stream { (told others : List Reply) → AllByRecursion IsReply told → AllByRecursion IsReply others
-        → flat_map spelling_of_reply told ≡ flat_map spelling_of_reply others → map told_of told ≡ map told_of others }
-{}
+use pay_wire::laws;
 
 /// The lines and the rest are the input, cut at its newlines, and no other cutting is.
 pub fn cut_at_newlines()
@@ -80,7 +35,9 @@ pub fn unread_behind_quit()
         → (before : List ℕ) × (input ≡ before ++ codes "QUIT\n" ++ unread input)
         × (quits before ≡ false) × (rest_of before ≡ []) }
     ensures none { (input : List ℕ) → quits input ≡ false → unread input ≡ [] }
-{}
+{
+    laws::read_as_spelled();
+}
 
 /// What stands behind the first `QUIT` asks for nothing, whatever it is, and stays unread.
 pub fn nothing_after_quit()
@@ -101,7 +58,9 @@ pub fn session_goes_on()
         → requests_of (line ++ codes "\n" ++ more) ≡ requests.BadLine ∷ requests_of more }
     ensures long { (line more : List ℕ) → has_newline line ≡ false → 128 < length line
         → requests_of (line ++ codes "\n" ++ more) ≡ requests.LongLine ∷ requests_of more }
-{}
+{
+    laws::read_as_spelled();
+}
 
 /// Where memory for a request is refused, no tap is kept. What was to be refused, and `QUIT`, are answered as
 /// ever, and in place of a price or a day comes the refusal for want of memory.

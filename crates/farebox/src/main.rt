@@ -2,16 +2,11 @@
 #![tactic(auto)]
 
 mod accounts;
-mod command;
 mod cut;
 mod desk;
 pub mod laws;
 mod line;
-mod number;
-mod output;
 mod program;
-mod refusal;
-mod reply;
 mod request;
 mod session;
 #[cfg(test)]

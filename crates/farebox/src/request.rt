@@ -1,7 +1,7 @@
 ghost use Rattle.std.specs.Prelude.{◌≡◌, ◌<◌, ◌∷◌, [], length};
 ghost use Rattle.farebox.specs.Requests.{request_of, request_of_rest, is_quit};
 
-use crate::command::{Command, read_command};
+use pay_wire::{Command, read_command};
 
 /// What a piece of the input asks for: a command, or nothing that is one.
 #[derive(Clone, Copy, Debug, PartialEq, Eq)]

@@ -10,10 +10,10 @@ ghost use Rattle.farebox.specs.SessionSteps.{Replies, Falters, EndsLine, TakesAl
 use crate::cut::cut;
 use crate::desk::Desk;
 use crate::line::LineBuffer;
-use crate::output;
 use crate::request::{Request, request_of_rest};
 use jiff::tz::TimeZone;
 use pay_tables::Tables;
+use pay_wire::send;
 use std::alloc::Global;
 use std::io;
 use std::io::{BufRead, ErrorKind, Write};
@@ -84,7 +84,7 @@ impl Session<'_> {
         ensures same { OnErr result (self.new.answered ≡ self.old.answered) }
     {
         let reply = self.desk.answer(request);
-        match output::send(writer, &reply) {
+        match send(writer, &reply) {
             Ok(()) => {
                 self.answered += 1;
                 Ok(())

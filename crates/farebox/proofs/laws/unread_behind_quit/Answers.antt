@@ -2,4 +2,4 @@ use Rattle.farebox.proofs.Cuts.{front_of, none_unread}
 use Rattle.farebox.proofs.laws.unread_behind_quit.Goals as goal
 
 pub returns : goal.returns
-returns c = record { behind = front_of; none = none_unread }
+returns c = record { behind = front_of c.read_as_spelled.ensures.spelled; none = none_unread }

@@ -1,5 +1,0 @@
-use Rattle.farebox.proofs.Told.{one_reply, one_stream}
-use Rattle.farebox.proofs.laws.one_reply.Goals as goal
-
-pub returns : goal.returns
-returns c = record { first = one_reply; stream = one_stream }

@@ -1,5 +1,0 @@
-use Rattle.farebox.proofs.Spelled.{is_read, is_spelled}
-use Rattle.farebox.proofs.laws.read_as_spelled.Goals as goal
-
-pub returns : goal.returns
-returns c = record { read = is_read; spelled = is_spelled }

@@ -1,0 +1,11 @@
+pub mod Digits
+pub mod Fields
+pub mod FirstNumbers
+pub mod Fronts
+pub mod LineLengths
+pub mod Numerals
+pub mod Spaces
+pub mod Spelled
+pub mod Takes
+pub mod Told
+pub mod Visible

@@ -1,0 +1,110 @@
+-- No line spells two commands, and each spelling is one line.
+use Rattle.std.proofs.Common.{◌≡◌, ℕ, ◌+◌, ◌≤◌, List, [], ◌∷◌, ◌++◌, length, Option, Some, refl, sym, ap, ◌∙◌, arith, codes}
+use Rattle.std.specs.Prelude.{decimal, ◌≢◌, All}
+use Rattle.std.specs.List.{join_with_byte}
+use Rattle.std.proofs.lemmas.Fmt.{length-decimal-le}
+use Rattle.std.proofs.lemmas.List.{length-append}
+use Rattle.std.proofs.lemmas.List.Elements.{All-from_recursion, All-weaker}
+use Rattle.pay_taps.specs.declared.tap.Kind.{Kind}
+use Rattle.pay_taps.specs.declared.tap.Kind.TheVariants.{In, Out, Bus}
+use Rattle.pay_wire.specs.declared.command.TapLine.{TapLine}
+use Rattle.pay_wire.specs.declared.command.Command.{Command}
+use Rattle.pay_wire.specs.declared.command.Command.TheVariants.{Tap, Show, NotYet, Quit}
+use Rattle.pay_wire.specs.Fields.{words}
+use Rattle.pay_wire.specs.Commands.{tap_of, show_of}
+use Rattle.pay_wire.specs.Spellings.{IsTapLine, spelling_of_kind, spelling_of_tap, IsShow, spelling_of_show, Spells, IsLine}
+use Rattle.pay_wire.proofs.Visible.{AllVisible, text_joined}
+use Rattle.pay_wire.proofs.Spelled.{fields_of, tap_visible, tap_words, tap_again, show_fields, show_visible, show_words, show_again, is_read}
+
+abbrev some : {A : Type 0} → A → Option A
+some x = Some x
+
+some_is : {A : Type 0} (x y : A) → some x ≡ some y → x ≡ y
+some_is x y e = cc
+
+tails : {A : Type 0} (x y : A) (xs ys : List A) → (x ∷ xs) ≡ (y ∷ ys) → xs ≡ ys
+tails x y xs ys e = cc
+
+pub one_command : (line : List ℕ) (a b : Command) → Spells line a → Spells line b → a ≡ b
+one_command line a b f g = some_is a b (sym (is_read line a f) ∙ is_read line b g)
+
+pub one_tap : (a b : TapLine) → IsTapLine a → IsTapLine b → spelling_of_tap a ≡ spelling_of_tap b → a ≡ b
+one_tap a b f g e =
+    let fields : fields_of a ≡ fields_of b = tails (codes "TAP") (codes "TAP") (fields_of a) (fields_of b) (sym (tap_words a f) ∙ ap words e ∙ tap_words b g) in
+    some_is a b (sym (tap_again a f) ∙ ap tap_of fields ∙ tap_again b g)
+
+same_show : (account day x y : ℕ) → Show account day ≡ Show x y → (account ≡ x) × (day ≡ y)
+same_show account day x y e = (cc, cc)
+
+pub one_show : (account day x y : ℕ) → IsShow account day → IsShow x y → spelling_of_show account day ≡ spelling_of_show x y → (account ≡ x) × (day ≡ y)
+one_show account day x y f g e =
+    let fields : show_fields account day ≡ show_fields x y = tails (codes "SHOW") (codes "SHOW") (show_fields account day) (show_fields x y) (sym (show_words account day f) ∙ ap words e ∙ show_words x y g) in
+    same_show account day x y (some_is (Show account day) (Show x y) (sym (show_again account day f) ∙ ap show_of fields ∙ show_again x y g))
+
+pub one_line : (command : Command) (a b : List ℕ) → command ≢ NotYet → Spells a command → Spells b command → a ≡ b
+one_line (Tap tap) a b some f g = f.1 ∙ sym g.1
+one_line (Show account day) a b some f g = f.1 ∙ sym g.1
+one_line NotYet a b some f g = absurd (some refl)
+one_line Quit a b some f g = f ∙ sym g
+
+kind_short : (kind : Kind) → length (spelling_of_kind kind) ≤ 3
+kind_short In = omega arith
+kind_short Out = omega arith
+kind_short Bus = omega arith
+
+joined_length : (a b : List ℕ) → length (a ++ (32 ∷ b)) ≡ length a + (1 + length b)
+joined_length a b = omega (arith, length-append a (32 ∷ b))
+
+number_short : (n : ℕ) → n ≤ 4_294_967_295 → length (decimal n) ≤ 10
+number_short n small = length-decimal-le 10 n (omega arith) (omega arith) (omega arith)
+
+tap_short : (tap : TapLine) → IsTapLine tap → length (spelling_of_tap tap) ≤ 128
+tap_short tap fits =
+    let place = spelling_of_kind tap.kind in
+    let utc = decimal tap.place ++ (32 ∷ place) in
+    let account = decimal tap.utc ++ (32 ∷ utc) in
+    let seq = decimal tap.account ++ (32 ∷ account) in
+    let reader = decimal tap.seq ++ (32 ∷ seq) in
+    let all = decimal tap.reader ++ (32 ∷ reader) in
+    omega (
+      arith,
+      joined_length (codes "TAP") all,
+      joined_length (decimal tap.reader) reader,
+      joined_length (decimal tap.seq) seq,
+      joined_length (decimal tap.account) account,
+      joined_length (decimal tap.utc) utc,
+      joined_length (decimal tap.place) place,
+      kind_short tap.kind,
+      number_short tap.reader (omega (arith, fits.reader)),
+      number_short tap.seq fits.seq,
+      number_short tap.account fits.account.1,
+      number_short tap.utc fits.utc,
+      number_short tap.place (omega (arith, fits.place)),
+    )
+
+-- no byte of such words is below a space
+no_newline : (ws : List (List ℕ)) → AllVisible ws → All (λ byte. byte ≢ 10) (join_with_byte 32 ws)
+no_newline ws seen =
+    All-weaker (λ b. 32 ≤ b) (λ b. b ≢ 10) (λ b above e. absurd (omega arith)) (join_with_byte 32 ws) (All-from_recursion (λ b. 32 ≤ b) (join_with_byte 32 ws) (text_joined ws seen))
+
+pub tap_is_line : (tap : TapLine) → IsTapLine tap → IsLine (spelling_of_tap tap)
+tap_is_line tap fits = (tap_short tap fits, no_newline (codes "TAP" ∷ fields_of tap) (tap_visible tap fits))
+
+show_short : (account day : ℕ) → IsShow account day → length (spelling_of_show account day) ≤ 128
+show_short account day fits =
+    omega (
+      arith,
+      joined_length (codes "SHOW") (decimal account ++ (32 ∷ decimal day)),
+      joined_length (decimal account) (decimal day),
+      number_short account fits.0.1,
+      number_short day (omega (arith, fits.1)),
+    )
+
+pub show_is_line : (account day : ℕ) → IsShow account day → IsLine (spelling_of_show account day)
+show_is_line account day fits = (
+  show_short account day fits,
+  no_newline (codes "SHOW" ∷ show_fields account day) (show_visible account day fits),
+)
+
+pub quit_is_line : IsLine (codes "QUIT")
+quit_is_line = (omega arith, no_newline (codes "QUIT" ∷ []) (refl, tt))

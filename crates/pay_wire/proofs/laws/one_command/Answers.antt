@@ -1,0 +1,5 @@
+use Rattle.pay_wire.proofs.LineLengths.{one_command, one_tap, one_show, one_line}
+use Rattle.pay_wire.proofs.laws.one_command.Goals as goal
+
+pub returns : goal.returns
+returns c = record { command = one_command; line = one_line; tap = one_tap; show = one_show }

@@ -1,0 +1,12 @@
+-- What an account refuses, as a line is told.
+use Rattle.pay_account.specs.declared.fares.TapFault.{TapFault}
+use Rattle.pay_account.specs.declared.fares.TapFault.TheVariants as fault
+use Rattle.pay_wire.specs.declared.refusal.Refusal.{Refusal}
+use Rattle.pay_wire.specs.declared.refusal.Refusal.TheVariants as refusal
+
+-- the refusal of an account, as one of a line
+abbrev pub refusal_of : TapFault → Refusal
+refusal_of fault.UnknownPlace = refusal.UnknownPlace
+refusal_of fault.Conflict = refusal.Conflict
+refusal_of fault.AccountFull = refusal.AccountFull
+refusal_of fault.Memory = refusal.Memory

@@ -1,0 +1,138 @@
+-- The replies as lines.
+use Rattle.std.specs.Prelude.{◌≡◌, ℕ, ◌<◌, ◌^◌, true, false, List, [], ◌∷◌, ◌++◌, length, map, None, if◌then◌else◌, codes, refl, decimal}
+use Rattle.std.specs.Fmt.{digits}
+use Rattle.std.specs.List.{join_with_byte, flat_map, AllByRecursion}
+use Rattle.pay_wire.specs.declared.refusal.Refusal.{Refusal}
+use Rattle.pay_wire.specs.declared.refusal.Refusal.TheVariants.{OutOfTime, UnknownPlace, Conflict, AccountFull, BadLine, LongLine, NotYet, Memory}
+use Rattle.pay_account.specs.declared.fares.Priced.{Priced}
+use Rattle.pay_account.specs.declared.shown.Line.{Line}
+use Rattle.pay_account.specs.declared.shown.LineKind.{LineKind}
+use Rattle.pay_account.specs.declared.shown.LineKind.TheVariants as kind
+use Rattle.pay_account.specs.declared.shown.Shown.{Shown}
+use Rattle.pay_wire.specs.declared.reply.Reply.{Reply}
+use Rattle.pay_wire.specs.declared.reply.Reply.TheVariants as replies
+
+-- the number of a refusal, which stays its own
+abbrev pub refusal_number : Refusal → ℕ
+refusal_number OutOfTime = 1
+refusal_number UnknownPlace = 15
+refusal_number Conflict = 20
+refusal_number AccountFull = 21
+refusal_number BadLine = 50
+refusal_number LongLine = 51
+refusal_number NotYet = 60
+refusal_number Memory = 90
+
+-- the name of a refusal
+abbrev pub refusal_name : Refusal → List ℕ
+refusal_name OutOfTime = codes "OutOfTime"
+refusal_name UnknownPlace = codes "UnknownPlace"
+refusal_name Conflict = codes "Conflict"
+refusal_name AccountFull = codes "AccountFull"
+refusal_name BadLine = codes "BadLine"
+refusal_name LongLine = codes "LongLine"
+refusal_name NotYet = codes "NotYet"
+refusal_name Memory = codes "Memory"
+
+-- a tap was accepted, or had been before; the day, and the prices with it
+abbrev pub words_of_priced : Priced → List (List ℕ)
+words_of_priced p =
+    (if p.again then codes "AGAIN" else codes "OK") ∷ decimal p.day ∷ decimal p.day_price ∷ decimal p.week_price ∷ []
+
+-- a refusal is told by its number and its name
+abbrev pub words_of_refusal : Refusal → List (List ℕ)
+words_of_refusal r = codes "NO" ∷ decimal (refusal_number r) ∷ refusal_name r ∷ []
+
+-- what a journey was, in capital letters
+abbrev pub word_of_kind : LineKind → List ℕ
+word_of_kind kind.Rail = codes "RAIL"
+word_of_kind kind.Same = codes "SAME"
+word_of_kind kind.Lone = codes "LONE"
+word_of_kind kind.Bus = codes "BUS"
+
+-- a journey: what it was, from where to where, the instant of its first tap, and its fare
+abbrev pub words_of_journey : Line → List (List ℕ)
+words_of_journey l = codes "JNY" ∷ word_of_kind l.kind ∷ decimal l.from ∷ decimal l.to ∷ decimal l.utc ∷ decimal l.fare ∷ []
+
+-- a day that is shown: the account, the day, how many journeys it has, and its price
+abbrev pub words_of_shown : Shown → List (List ℕ)
+words_of_shown s = codes "SHOW" ∷ decimal s.account ∷ decimal s.day ∷ decimal (length s.lines) ∷ decimal s.day_price ∷ []
+
+-- the words of the first line of a reply, in order
+abbrev pub words_of_reply : Reply → List (List ℕ)
+words_of_reply (replies.Priced p) = words_of_priced p
+words_of_reply (replies.Shown s) = words_of_shown s
+words_of_reply (replies.No r) = words_of_refusal r
+words_of_reply replies.Bye = codes "BYE" ∷ []
+
+-- words as a line: a space between each two, and the newline at the end
+abbrev pub line_of : List (List ℕ) → List ℕ
+line_of ws = join_with_byte 32 ws ++ codes "\n"
+
+-- the journeys that are told behind the first line
+abbrev pub journeys_of_reply : Reply → List Line
+journeys_of_reply (replies.Shown s) = s.lines
+journeys_of_reply _ = []
+
+-- journeys, a line for each
+abbrev pub text_of_journeys : List Line → List ℕ
+text_of_journeys = flat_map (λ l. line_of (words_of_journey l))
+
+-- the lines of a reply, newlines included
+abbrev pub spelling_of_reply : Reply → List ℕ
+spelling_of_reply reply = line_of (words_of_reply reply) ++ text_of_journeys (journeys_of_reply reply)
+
+-- what the line of a journey tells: its day stands in the first line, and its local second and a band nowhere
+abbrev pub told_of_journey : Line → Line
+told_of_journey l = record { day = 0; kind = l.kind; from = l.from; to = l.to; utc = l.utc; second = 0; fare = l.fare; band = None }
+
+-- what the lines of a reply tell
+abbrev pub told_of : Reply → Reply
+told_of (replies.Shown s) = replies.Shown (record { account = s.account; day = s.day; lines = map told_of_journey s.lines; day_price = s.day_price })
+told_of reply = reply
+
+-- the numbers of a journey are those of its type
+abbrev pub IsToldJourney : Line → Type 0
+IsToldJourney l = (l.from < 2 ^ 16) × (l.to < 2 ^ 16) × (l.utc < 2 ^ 64) × (l.fare < 2 ^ 64)
+
+-- the numbers of a reply are those of its types
+abbrev pub IsReply : Reply → Type 0
+IsReply (replies.Priced p) = (p.day < 2 ^ 32) × (p.day_price < 2 ^ 64) × (p.week_price < 2 ^ 64)
+IsReply (replies.Shown s) = (s.account < 2 ^ 32) × (s.day < 2 ^ 32) × (length s.lines < 2 ^ 64) × (s.day_price < 2 ^ 64) × AllByRecursion IsToldJourney s.lines
+IsReply (replies.No r) = Unit {0}
+IsReply replies.Bye = Unit {0}
+
+accepted_tap : spelling_of_reply (replies.Priced (record { again = false; day = 19_730; day_price = 175; week_price = 350 })) ≡ codes "OK 19730 175 350\n"
+unfolding digits
+accepted_tap = refl
+
+accepted_before : spelling_of_reply (replies.Priced (record { again = true; day = 6; day_price = 0; week_price = 175 })) ≡ codes "AGAIN 6 0 175\n"
+unfolding digits
+accepted_before = refl
+
+-- an account's day of one boarding
+shown_day : spelling_of_reply (replies.Shown (record {
+  account = 7;
+  day = 19_730;
+  lines = record { day = 19_730; kind = kind.Bus; from = 50; to = 0; utc = 1_704_696_200; second = 24_200; fare = 175; band = None } ∷ [];
+  day_price = 350;
+})) ≡ codes "SHOW 7 19730 1 350\nJNY BUS 50 0 1704696200 175\n"
+unfolding digits
+shown_day = refl
+
+-- a day without journeys
+empty_day : spelling_of_reply (replies.Shown (record { account = 7; day = 19_730; lines = []; day_price = 0 })) ≡ codes "SHOW 7 19730 0 0\n"
+unfolding digits
+empty_day = refl
+
+not_served : spelling_of_reply (replies.No NotYet) ≡ codes "NO 60 NotYet\n"
+unfolding digits
+not_served = refl
+
+no_such_place : spelling_of_reply (replies.No UnknownPlace) ≡ codes "NO 15 UnknownPlace\n"
+unfolding digits
+no_such_place = refl
+
+out_of_time : spelling_of_reply (replies.No OutOfTime) ≡ codes "NO 1 OutOfTime\n"
+unfolding digits
+out_of_time = refl

@@ -1,0 +1,54 @@
+-- What the lines of the commands are, one line for each.
+use Rattle.std.specs.Prelude.{◌≡◌, ℕ, ◌≤◌, ◌≢◌, ◌⊎◌, List, [], ◌∷◌, length, All, codes, decimal}
+use Rattle.std.specs.List.{before_first, join_with_byte}
+use Rattle.pay_taps.specs.declared.tap.Kind.{Kind}
+use Rattle.pay_taps.specs.declared.tap.Kind.TheVariants.{In, Out, Bus}
+use Rattle.pay_wire.specs.declared.command.TapLine.{TapLine}
+use Rattle.pay_wire.specs.declared.command.Command.{Command}
+use Rattle.pay_wire.specs.declared.command.Command.TheVariants.{Tap, Show, NotYet, Quit}
+use Rattle.pay_wire.specs.Fields.{is_space}
+
+-- each number of a tap is in its range
+pub record IsTapLine (tap : TapLine) : Type 0 where
+  pub reader : (1 ≤ tap.reader) × (tap.reader ≤ 65_535)
+  pub seq : tap.seq ≤ 4_294_967_295
+  pub account : (1 ≤ tap.account) × (tap.account ≤ 4_294_967_295)
+  pub utc : tap.utc ≤ 4_294_967_295
+  pub place : (1 ≤ tap.place) × (tap.place ≤ 65_535)
+
+abbrev pub spelling_of_kind : Kind → List ℕ
+spelling_of_kind In = codes "IN"
+spelling_of_kind Out = codes "OUT"
+spelling_of_kind Bus = codes "BUS"
+
+-- `TAP reader seq account utc place KIND`, with a space between each two words
+abbrev pub spelling_of_tap : TapLine → List ℕ
+spelling_of_tap tap =
+    join_with_byte 32 (codes "TAP" ∷ decimal tap.reader ∷ decimal tap.seq ∷ decimal tap.account ∷ decimal tap.utc ∷ decimal tap.place ∷ spelling_of_kind tap.kind ∷ [])
+
+-- the account and the day of a `SHOW` are in their ranges
+abbrev pub IsShow : ℕ → ℕ → Type 0
+IsShow account day = ((1 ≤ account) × (account ≤ 4_294_967_295)) × ((4 ≤ day) × (day ≤ 50_000))
+
+-- `SHOW account day`, with a space between each two words
+abbrev pub spelling_of_show : ℕ → ℕ → List ℕ
+spelling_of_show account day = join_with_byte 32 (codes "SHOW" ∷ decimal account ∷ decimal day ∷ [])
+
+-- the bytes up to the first space, or to the end
+abbrev pub first_word : List ℕ → List ℕ
+first_word line = before_first is_space line
+
+-- the first word of a command that is not served yet
+abbrev pub IsUnserved : List ℕ → Type 0
+IsUnserved word = (word ≡ codes "FIX") ⊎ ((word ≡ codes "DUE") ⊎ (word ≡ codes "CLOSE"))
+
+-- what a line has to be to spell a command; of those that are not served yet the first word is enough
+abbrev pub Spells : List ℕ → Command → Type 0
+Spells line (Tap tap) = IsTapLine tap × (line ≡ spelling_of_tap tap)
+Spells line (Show account day) = IsShow account day × (line ≡ spelling_of_show account day)
+Spells line NotYet = IsUnserved (first_word line)
+Spells line Quit = line ≡ codes "QUIT"
+
+-- what a session takes as one line, and as no longer than a line may be
+abbrev pub IsLine : List ℕ → Type 0
+IsLine line = (length line ≤ 128) × All (λ byte. byte ≢ 10) line

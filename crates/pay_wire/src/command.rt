@@ -1,0 +1,199 @@
+//! Commands as lines.
+ghost use Rattle.std.specs.Prelude.{◌≡◌, ◌≤◌, ◌∷◌, [], Some, IfSome, IfNone};
+ghost use Rattle.std.specs.List.{position_or_len};
+ghost use Rattle.pay_wire.specs.Fields.{is_space, words, words_after, has_none, Gives, field};
+ghost use Rattle.pay_wire.specs.Commands.{number_within, kind_of, tap_of, show_of, keyword_of, command_for, command_of};
+
+use crate::number::read_number;
+use pay_taps::Kind;
+
+/// A tap as a line spells it. Its `utc` may lie outside of the instants that are taken.
+#[derive(Clone, Copy, Debug, PartialEq, Eq)]
+pub struct TapLine {
+    /// The reader that was tapped, from 1.
+    pub reader: u16,
+    /// The tap's number among those of the reader.
+    pub seq: u32,
+    /// The account that pays, from 1.
+    pub account: u32,
+    /// Seconds of the Unix clock.
+    pub utc: u64,
+    /// The station, or the route of a bus or a tram, from 1.
+    pub place: u16,
+    /// `IN`, `OUT` or `BUS`.
+    pub kind: Kind,
+}
+
+/// What a line asks for.
+#[derive(Clone, Copy, Debug, PartialEq, Eq)]
+pub enum Command {
+    /// `TAP reader seq account utc place KIND`: a tap.
+    Tap(TapLine),
+    /// `SHOW account day`: the journeys of a service day.
+    Show { account: u32, day: u32 },
+    /// A command of the protocol that is not served yet.
+    NotYet,
+    /// `QUIT`: the end of the session.
+    Quit,
+}
+
+/// The first word of a command.
+#[derive(Clone, Copy, Debug, PartialEq, Eq)]
+enum Keyword {
+    Tap,
+    Show,
+    Quit,
+    /// `FIX`, `DUE` or `CLOSE`.
+    Unserved,
+}
+
+/// The command that a line spells, without its newline. `None` is a bad line: words stand with one
+/// space between them and none at either end, numbers are as `read_number` takes them, and each is in
+/// the range that the command names.
+pub fn read_command(line: &[u8]) -> Option<Command>
+    ensures { result ≡ command_of line.now }
+{
+    let (name, fields) = split_word(line);
+    command_after(read_keyword(name)?, fields)
+}
+
+/// The command of a keyword and the fields behind it.
+fn command_after(keyword: Keyword, fields: &[u8]) -> Option<Command>
+    ensures { result ≡ command_for keyword (words_after fields.now) }
+{
+    match keyword {
+        Keyword::Tap => Some(Command::Tap(read_tap(fields)?)),
+        Keyword::Show => read_show(fields),
+        Keyword::Quit if is_end(fields) => Some(Command::Quit),
+        Keyword::Quit => None,
+        Keyword::Unserved => Some(Command::NotYet),
+    }
+}
+
+fn read_keyword(name: &[u8]) -> Option<Keyword>
+    ensures { result ≡ keyword_of name.now }
+{
+    match name {
+        b"TAP" => Some(Keyword::Tap),
+        b"SHOW" => Some(Keyword::Show),
+        b"QUIT" => Some(Keyword::Quit),
+        b"FIX" | b"DUE" | b"CLOSE" => Some(Keyword::Unserved),
+        _ => None,
+    }
+}
+
+/// The fields of a tap, to the end of the line.
+#[tactic(auto, unfolding(crate::specs::Commands::tap_of))]
+fn read_tap(fields: &[u8]) -> Option<TapLine>
+    ensures { result ≡ tap_of (words_after fields.now) }
+{
+    let (reader, rest) = number_field(fields, 1, 65_535)?;
+    let (seq, rest) = number_field(rest, 0, 4_294_967_295)?;
+    let (account, rest) = number_field(rest, 1, 4_294_967_295)?;
+    let (utc, rest) = number_field(rest, 0, 4_294_967_295)?;
+    let (place, rest) = number_field(rest, 1, 65_535)?;
+    let (kind, rest) = kind_field(rest)?;
+    if !is_end(rest) {
+        return None;
+    }
+    Some(TapLine {
+        reader: reader as u16,
+        seq,
+        account,
+        utc: u64::from(utc),
+        place: place as u16,
+        kind,
+    })
+}
+
+/// The fields of a `SHOW`, to the end of the line.
+#[tactic(auto, unfolding(crate::specs::Commands::show_of))]
+fn read_show(fields: &[u8]) -> Option<Command>
+    ensures { result ≡ show_of (words_after fields.now) }
+{
+    let (account, rest) = number_field(fields, 1, 4_294_967_295)?;
+    let (day, rest) = number_field(rest, 4, 50_000)?;
+    if is_end(rest) {
+        Some(Command::Show { account, day })
+    } else {
+        None
+    }
+}
+
+/// The number in the next word, if it is in the range, and what follows.
+fn number_field(fields: &[u8], low: u32, high: u32) -> Option<(u32, &[u8])>
+    ensures field { Gives (λ x. (x.0, words_after x.1.now)) result
+        (field (number_within low high) (words_after fields.now)) }
+    ensures in_range { IfSome result (λ x. x.0 ≤ high) }
+{
+    let (number, rest) = read_number(after_space(fields)?)?;
+    if number < low || number > high {
+        return None;
+    }
+    Some((number, rest))
+}
+
+/// The kind of a tap in the next word, and what follows.
+fn kind_field(fields: &[u8]) -> Option<(Kind, &[u8])>
+    ensures { Gives (λ x. (x.0, words_after x.1.now)) result
+        (field kind_of (words_after fields.now)) }
+{
+    let (word, rest) = next_word(fields)?;
+    Some((read_kind(word)?, rest))
+}
+
+fn read_kind(word: &[u8]) -> Option<Kind>
+    ensures { result ≡ kind_of word.now }
+{
+    match word {
+        b"IN" => Some(Kind::In),
+        b"OUT" => Some(Kind::Out),
+        b"BUS" => Some(Kind::Bus),
+        _ => None,
+    }
+}
+
+/// The word behind the space that stands first, and what follows it.
+fn next_word(fields: &[u8]) -> Option<(&[u8], &[u8])>
+    ensures { Gives (λ x. (x.0.now, words_after x.1.now)) result
+        (field Some (words_after fields.now)) }
+{
+    Some(split_word(after_space(fields)?))
+}
+
+/// The words behind the space that stands first.
+fn after_space(fields: &[u8]) -> Option<&[u8]>
+    ensures some { IfSome result (λ line. words_after fields.now ≡ words line.now) }
+    ensures none { IfNone result (words_after fields.now ≡ []) }
+{
+    match fields {
+        [] => None,
+        [_, line @ ..] => Some(line),
+    }
+}
+
+/// No word follows.
+fn is_end(fields: &[u8]) -> bool
+    ensures { result ≡ has_none (words_after fields.now) }
+{
+    fields.is_empty()
+}
+
+/// The first word of a line, and the rest from the space behind it on.
+fn split_word(line: &[u8]) -> (&[u8], &[u8])
+    ensures { words line.now ≡ result.0.now ∷ words_after result.1.now }
+{
+    line.split_at(word_end(line))
+}
+
+/// Where the first space stands, or the length.
+fn word_end(line: &[u8]) -> usize
+    ensures { result ≡ position_or_len is_space line.now }
+{
+    for (i, byte) in line.iter().enumerate() {
+        if *byte == b' ' {
+            return i;
+        }
+    }
+    line.len()
+}

@@ -1,0 +1,52 @@
+//! Laws of the spelling: how commands and numbers are read, and how replies are told apart.
+ghost use Rattle.std.specs.Prelude.{◌≡◌, ◌≢◌, ℕ, ◌≤◌, List, ◌++◌, map, Some, codes, decimal};
+ghost use Rattle.std.specs.List.{AllByRecursion, flat_map};
+ghost use Rattle.pay_wire.specs.declared.command.TapLine.{TapLine};
+ghost use Rattle.pay_wire.specs.declared.command.Command.{Command};
+ghost use Rattle.pay_wire.specs.declared.command.Command.TheVariants.{NotYet};
+ghost use Rattle.pay_wire.specs.declared.reply.Reply.{Reply};
+ghost use Rattle.pay_wire.specs.Numbers.{number_of};
+ghost use Rattle.pay_wire.specs.Commands.{command_of};
+ghost use Rattle.pay_wire.specs.Spellings.{IsTapLine, spelling_of_tap, IsShow, spelling_of_show, Spells, IsLine};
+ghost use Rattle.pay_wire.specs.Replies.{spelling_of_reply, told_of, IsReply};
+
+/// A number of a line has one spelling, its decimal digits, which is read as that number.
+pub fn one_numeral()
+    ensures read { (n : ℕ) → n ≤ 4_294_967_295 → number_of (decimal n) ≡ Some n }
+    ensures spelled { (word : List ℕ) (n : ℕ) → number_of word ≡ Some n
+        → (word ≡ decimal n) × (n ≤ 4_294_967_295) }
+{}
+
+/// What a line spells is what is read of it, and nothing else is read.
+pub fn read_as_spelled()
+    ensures read { (line : List ℕ) (command : Command) → Spells line command
+        → command_of line ≡ Some command }
+    ensures spelled { (line : List ℕ) (command : Command) → command_of line ≡ Some command
+        → Spells line command }
+{}
+
+/// No line spells two commands, and each command that is served has one spelling.
+pub fn one_command()
+    ensures command { (line : List ℕ) (a b : Command) → Spells line a → Spells line b → a ≡ b }
+    ensures line { (command : Command) (a b : List ℕ) → command ≢ NotYet
+        → Spells a command → Spells b command → a ≡ b }
+    ensures tap { (a b : TapLine) → IsTapLine a → IsTapLine b
+        → spelling_of_tap a ≡ spelling_of_tap b → a ≡ b }
+    ensures show { (account day x y : ℕ) → IsShow account day → IsShow x y
+        → spelling_of_show account day ≡ spelling_of_show x y → (account ≡ x) × (day ≡ y) }
+{}
+
+/// A spelling is one line: at most 128 bytes, none of them a newline.
+pub fn each_is_a_line()
+    ensures tap { (tap : TapLine) → IsTapLine tap → IsLine (spelling_of_tap tap) }
+    ensures show { (account day : ℕ) → IsShow account day → IsLine (spelling_of_show account day) }
+    ensures quit { IsLine (codes "QUIT") }
+{}
+
+/// Replies that follow one another are told apart, so a stream of replies is read in one way.
+pub fn one_reply()
+    ensures first { (a b : Reply) (x y : List ℕ) → IsReply a → IsReply b
+        → spelling_of_reply a ++ x ≡ spelling_of_reply b ++ y → (told_of a ≡ told_of b) × (x ≡ y) }
+    ensures stream { (told others : List Reply) → AllByRecursion IsReply told → AllByRecursion IsReply others
+        → flat_map spelling_of_reply told ≡ flat_map spelling_of_reply others → map told_of told ≡ map told_of others }
+{}

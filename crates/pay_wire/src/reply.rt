@@ -1,0 +1,162 @@
+//! Replies as lines.
+ghost use Rattle.std.specs.Prelude.{◌≡◌, ◌+◌, ◌++◌, ◌∷◌, [], ◌≤◌, ◌<◌, length, codes, decimal};
+ghost use Rattle.arrayvec.specs.ArrayVec.{array_vec_len};
+ghost use Rattle.pay_wire.specs.Replies.{line_of, words_of_priced, words_of_shown, words_of_refusal, words_of_reply, word_of_kind, words_of_journey, journeys_of_reply};
+
+use crate::refusal::Refusal;
+use arrayvec::ArrayVec;
+use itoa::Buffer;
+use pay_account::{Line, LineKind, Priced, Shown};
+
+/// No line of a reply is longer, its newline among its bytes.
+pub const REPLY_BYTES: usize = 96;
+
+/// No number of 64 bits has more digits.
+const NUMBER_BYTES: usize = 20;
+
+/// A line of a reply.
+pub type ReplyLine = ArrayVec<u8, REPLY_BYTES>;
+
+/// The answer to a line.
+#[derive(Drop)]
+pub enum Reply {
+    /// A tap was accepted.
+    Priced(Priced),
+    /// The journeys of a service day.
+    Shown(Shown),
+    /// The line was refused.
+    No(Refusal),
+    /// The session ends.
+    Bye,
+}
+
+impl Reply {
+    /// The journeys that are told behind the first line.
+    pub fn journeys(&self) -> &[Line]
+        ensures { result.now ≡ journeys_of_reply self.now }
+    {
+        match self {
+            Reply::Shown(shown) => shown.lines.as_slice(),
+            Reply::Priced(_) | Reply::No(_) | Reply::Bye => &[],
+        }
+    }
+}
+
+/// The first line of a reply, newline included.
+pub fn first_line(reply: &Reply) -> ReplyLine
+    ensures { result.items ≡ line_of (words_of_reply reply.now) }
+{
+    match reply {
+        Reply::Priced(priced) => render_priced(priced),
+        Reply::Shown(shown) => render_shown(shown),
+        Reply::No(refusal) => render_refusal(*refusal),
+        Reply::Bye => started(b"BYE\n"),
+    }
+}
+
+/// The line of a journey, newline included.
+pub fn journey_line(journey: &Line) -> ReplyLine
+    ensures { result.items ≡ line_of (words_of_journey journey.now) }
+{
+    let mut line = started(b"JNY ");
+    put(&mut line, kind_word(journey.kind));
+    put_field(&mut line, u64::from(journey.from));
+    put_field(&mut line, u64::from(journey.to));
+    put_field(&mut line, journey.utc);
+    put_field(&mut line, journey.fare.pence());
+    put(&mut line, b"\n");
+    line
+}
+
+fn kind_word(kind: LineKind) -> &'static [u8]
+    ensures word { result.now ≡ word_of_kind kind }
+    ensures short { length result.now ≤ 4 }
+{
+    match kind {
+        LineKind::Rail => b"RAIL",
+        LineKind::Same => b"SAME",
+        LineKind::Lone => b"LONE",
+        LineKind::Bus => b"BUS",
+    }
+}
+
+fn render_shown(shown: &Shown) -> ReplyLine
+    ensures { result.items ≡ line_of (words_of_shown shown.now) }
+{
+    let mut line = started(b"SHOW");
+    put_field(&mut line, u64::from(shown.account));
+    put_field(&mut line, u64::from(shown.day));
+    put_field(&mut line, shown.lines.as_slice().len() as u64);
+    put_field(&mut line, shown.day_price.pence());
+    put(&mut line, b"\n");
+    line
+}
+
+fn render_priced(priced: &Priced) -> ReplyLine
+    ensures { result.items ≡ line_of (words_of_priced priced.now) }
+{
+    let mut line = if priced.again {
+        started(b"AGAIN ")
+    } else {
+        started(b"OK ")
+    };
+    put_number(&mut line, u64::from(priced.day));
+    put(&mut line, b" ");
+    put_number(&mut line, priced.day_price.pence());
+    put(&mut line, b" ");
+    put_number(&mut line, priced.week_price.pence());
+    put(&mut line, b"\n");
+    line
+}
+
+fn render_refusal(refusal: Refusal) -> ReplyLine
+    ensures { result.items ≡ line_of (words_of_refusal refusal) }
+{
+    let mut line = started(b"NO ");
+    put_number(&mut line, u64::from(refusal.number()));
+    put(&mut line, b" ");
+    put(&mut line, refusal.name().as_bytes());
+    put(&mut line, b"\n");
+    line
+}
+
+/// A line that begins so.
+fn started(text: &[u8]) -> ReplyLine
+    requires { length text.now ≤ REPLY_BYTES }
+    ensures { result.items ≡ text.now }
+{
+    let mut line = ArrayVec::new();
+    put(&mut line, text);
+    line
+}
+
+/// Puts a number at the end of a line, in decimal.
+fn put_number(line: &mut ReplyLine, number: u64)
+    requires { array_vec_len line.old + NUMBER_BYTES ≤ REPLY_BYTES }
+    ensures items { line.new.items ≡ line.old.items ++ decimal number }
+    ensures len { array_vec_len line.new ≤ array_vec_len line.old + NUMBER_BYTES }
+{
+    let mut buffer = Buffer::new();
+    put(line, buffer.format(number).as_bytes());
+}
+
+/// Puts a space and a number at the end of a line.
+fn put_field(line: &mut ReplyLine, number: u64)
+    requires { array_vec_len line.old + 1 + NUMBER_BYTES ≤ REPLY_BYTES }
+    ensures items { line.new.items ≡ line.old.items ++ 32 ∷ decimal number }
+    ensures len { array_vec_len line.new ≤ array_vec_len line.old + 1 + NUMBER_BYTES }
+{
+    put(line, b" ");
+    put_number(line, number);
+}
+
+/// Puts bytes at the end of a line.
+fn put(line: &mut ReplyLine, text: &[u8])
+    requires { array_vec_len line.old + length text.now ≤ REPLY_BYTES }
+    ensures items { line.new.items ≡ line.old.items ++ text.now }
+    ensures len { array_vec_len line.new ≡ array_vec_len line.old + length text.now }
+{
+    if line.try_extend_from_slice(text).is_err() {
+        unreachable!();
+    }
+}
