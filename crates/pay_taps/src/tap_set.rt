@@ -4,8 +4,11 @@ ghost use Rattle.std.specs.List.Sorted.{IsBinarySearchResult, IsSearchInRange};
 ghost use Rattle.pay_taps.specs.Listed.{IsPlaceFor};
 ghost use Rattle.pay_taps.specs.Taps.{IsTapSet, number, number_cmp, judged, IsAnswer, taps_after};
 
-use crate::tap::Tap;
+use crate::tap::{Kind, Tap};
+use pay_day::Moment;
+use smallvec::SmallVec;
 use std::alloc::{AllocError, AllocFailed, Global};
+use std::default::MadeWith;
 use std::marker::Model;
 
 /// How many taps an account may have.
@@ -46,8 +49,8 @@ impl<T: Drop> From<AllocFailed<T>> for TapSetFault {
 /// tap, of at most `TAPS_OF_AN_ACCOUNT` taps.
 #[derive(Drop)]
 pub struct TapSet {
-    // In ascending order of their numbers: the few taps of an account lie side by side.
-    taps: Vec<Tap>,
+    // In ascending order of their numbers. The first few lie in the set itself.
+    taps: SmallVec<Tap, 4>,
 }
 
 impl Model for TapSet {
@@ -66,6 +69,23 @@ impl Model for TapSet {
     ghost invariant = { λ set. IsListed set.taps.items };
 }
 
+// What lies in a set's own places while they hold no tap.
+impl MadeWith<Global> for Tap {
+    fn made_with(_: Global) -> Tap {
+        let Some(stamp) = Moment::from_parts(604_800, 4, 0) else {
+            unreachable!()
+        };
+        Tap {
+            account: 0,
+            reader: 0,
+            seq: 0,
+            place: 0,
+            kind: Kind::Bus,
+            stamp,
+        }
+    }
+}
+
 /// Where the tap of a number stands in taps by ascending numbers, or else where it would stand.
 fn position(taps: &[Tap], reader: u16, seq: u32) -> Result<usize, usize>
     ensures in_range { IsSearchInRange result (length taps.now) }
@@ -80,7 +100,7 @@ impl TapSet {
         ensures { result ≡ map.empty }
     {
         TapSet {
-            taps: Vec::new(alloc),
+            taps: SmallVec::new(alloc),
         }
     }
 
@@ -104,8 +124,9 @@ impl TapSet {
         ensures value { result ≡ map.get self.now (reader, seq) }
         ensures own_number { IfSome result (λ tap. number tap ≡ (reader, seq)) }
     {
-        match position(&self.taps, reader, seq) {
-            Ok(at) => Some(self.taps[at]),
+        let taps = self.taps.as_slice();
+        match position(taps, reader, seq) {
+            Ok(at) => Some(taps[at]),
             Err(_) => None,
         }
     }
@@ -130,10 +151,11 @@ impl TapSet {
     fn place_for(&self, tap: &Tap) -> Result<Option<usize>, TapSetFault>
         ensures { IsPlaceFor result self.now tap.now }
     {
-        match position(&self.taps, tap.reader, tap.seq) {
-            Ok(at) if self.taps[at] == *tap => Ok(None),
+        let taps = self.taps.as_slice();
+        match position(taps, tap.reader, tap.seq) {
+            Ok(at) if taps[at] == *tap => Ok(None),
             Ok(_) => Err(TapSetFault::Conflict),
-            Err(_) if self.taps.len() >= TAPS_OF_AN_ACCOUNT => Err(TapSetFault::AccountFull),
+            Err(_) if taps.len() >= TAPS_OF_AN_ACCOUNT => Err(TapSetFault::AccountFull),
             Err(at) => Ok(Some(at)),
         }
     }

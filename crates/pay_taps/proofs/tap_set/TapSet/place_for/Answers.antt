@@ -9,27 +9,27 @@ pub returns-in-Ok : goal.returns-in-Ok
 returns-in-Ok c =
     let taps = c.args.self.now in
     let tap = c.args.tap.now in
-    let there = found c.self.inside.taps.items c.deref.result.now taps (number tap) c.in-Ok.at c.index.result.now c.self.invariant c.self.view_is c.deref.ensures.value c.in-Ok.ensures.in_range c.in-Ok.ensures.position c.index.ensures in
-    let same : c.index.result.now ≡ tap = search rules in
+    let there = found c.self.inside.taps.items c.as_slice-taps.result.now taps (number tap) c.in-Ok.at c.index-taps-at.result c.self.invariant c.self.view_is c.as_slice-taps.ensures c.in-Ok.ensures.in_range c.in-Ok.ensures.position (search rules) in
+    let same : c.index-taps-at.result ≡ tap = search rules in
     (repeat_iff tap (get taps (number tap)) (len taps)).1 (there ∙ ap Some same)
 
 pub returns-in-Ok-2 : goal.returns-in-Ok-2
 returns-in-Ok-2 c =
     let taps = c.args.self.now in
     let tap = c.args.tap.now in
-    let there = found c.self.inside.taps.items c.deref.result.now taps (number tap) c.in-Ok.at c.index.result.now c.self.invariant c.self.view_is c.deref.ensures.value c.in-Ok.ensures.in_range c.in-Ok.ensures.position c.index.ensures in
-    let other : c.index.result.now ≢ tap = search rules in
-    (conflict_iff tap (get taps (number tap)) (len taps)).1 (c.index.result.now, there, other)
+    let there = found c.self.inside.taps.items c.as_slice-taps.result.now taps (number tap) c.in-Ok.at c.index-taps-at.result c.self.invariant c.self.view_is c.as_slice-taps.ensures c.in-Ok.ensures.in_range c.in-Ok.ensures.position (search rules) in
+    let other : c.index-taps-at.result ≢ tap = search rules in
+    (conflict_iff tap (get taps (number tap)) (len taps)).1 (c.index-taps-at.result, there, other)
 
 pub returns-in-Err : goal.returns-in-Err
 returns-in-Err c =
     let taps = c.args.self.now in
     let tap = c.args.tap.now in
-    let none = not_found c.self.inside.taps.items c.deref.result.now taps (number tap) c.in-Err.field-0 c.self.invariant c.self.view_is c.deref.ensures.value c.in-Err.ensures.position in
+    let none = not_found c.self.inside.taps.items c.as_slice-taps.result.now taps (number tap) c.in-Err.field-0 c.self.invariant c.self.view_is c.as_slice-taps.ensures c.in-Err.ensures.position in
     let full : 16_384 ≤ length c.self.inside.taps.items = search rules in
     (full_iff tap (get taps (number tap)) (len taps)).1 (none, omega (arith, full, count_of _ taps c.self.invariant c.self.view_is))
 
 pub returns-in-Err-2 : goal.returns-in-Err-2
 returns-in-Err-2 c =
     let room : length c.self.inside.taps.items < 16_384 = search rules in
-    place_of c.self.inside.taps.items c.deref.result.now c.args.self.now c.args.tap.now c.in-Err.field-0 c.self.invariant c.self.view_is c.deref.ensures.value c.in-Err.ensures.in_range c.in-Err.ensures.position room
+    place_of c.self.inside.taps.items c.as_slice-taps.result.now c.args.self.now c.args.tap.now c.in-Err.field-0 c.self.invariant c.self.view_is c.as_slice-taps.ensures c.in-Err.ensures.in_range c.in-Err.ensures.position room
