@@ -84,12 +84,12 @@ pub boardings_of_week : (tables : FareTables) (touches : List Touch) (last : Opt
     → fares_of tables (is_within (monday day) 7) (boardings_by_last tables.rules.hopper None touches)
     ≡ sum + fares_of tables (is_within (monday day) 7) (boardings_by_last tables.rules.hopper last (drop met touches))
     → sum ≡ fares_through tables (boardings tables touches) (monday day + 6)
-boardings_of_week tables touches last day met sum is_day all marks same =
+boardings_of_week tables touches last day met sum is_day all by_last same =
     let week : List Journey → ℕ = fares_of tables (is_within (monday day) 7) in
     omega (
       arith,
       same,
       ap (λ (left : List Touch). week (boardings_by_last tables.rules.hopper last left)) (drop_all met touches all),
-      ap (λ (marks : List Bool). week (map boarding (zip (filter is_bus touches) marks))) (marks tables.rules.hopper (filter is_bus touches)),
+      ap (λ (marks : List Bool). week (map boarding (zip (filter is_bus touches) marks))) (by_last tables.rules.hopper (filter is_bus touches)),
       of_week tables (boardings tables touches) day is_day,
     )

@@ -1,11 +1,13 @@
 -- The journeys that touches in order make.
-use Rattle.std.specs.Prelude.{ℕ, ◌++◌, ◌==◌, not, Bool, List, map, filter}
+use Rattle.std.specs.Prelude.{ℕ, ◌+◌, ◌++◌, ◌==◌, ◌&&◌, nat_le, nat_lt, not, Bool, Option, List, map, filter}
 use Rattle.std.specs.List.{zip}
+use Rattle.pay_day.specs.Day.{Stamp, monday}
 use Rattle.pay_tables.specs.FareTables.{FareTables}
 use Rattle.pay_taps.specs.declared.tap.Kind.TheVariants.{Bus}
 use Rattle.pay_taps.specs.declared.tap.Touch.{Touch}
 use Rattle.pay_taps.specs.Taps.{same_kind}
 use Rattle.pay_hopper.specs.Hopper.{instants_of, paying_marks}
+use Rattle.pay_hopper.specs.LastPaid.{pays_by_last}
 use Rattle.pay_pairs.specs.Legs.{legs}
 use Rattle.pay_links.specs.declared.journey.Journey.{Journey}
 use Rattle.pay_links.specs.declared.journey.Journey.TheVariants as journey
@@ -30,6 +32,10 @@ boarding marked = journey.Bus marked.0 marked.1
 abbrev pub boardings : FareTables → List Touch → List Journey
 boardings tables touches = let buses = filter is_bus touches in map boarding (zip buses (paying_marks tables.rules.hopper (instants_of buses)))
 
+-- a touch as a boarding, where `last` is the moment of the last boarding before it that paid
+abbrev pub next_boarding : ℕ → Option Stamp → Touch → Journey
+next_boarding hopper last touch = journey.Bus touch (pays_by_last hopper last touch.stamp.utc)
+
 -- all journeys: those by rail, and then the boardings
 abbrev pub journeys_of : FareTables → List Touch → List Journey
 journeys_of tables touches = rail_journeys tables touches ++ boardings tables touches
@@ -37,3 +43,7 @@ journeys_of tables touches = rail_journeys tables touches ++ boardings tables to
 -- a journey belongs to the service day of its first tap
 abbrev pub is_on : ℕ → Journey → Bool
 is_on day journey = (first_tap journey).stamp.day == day
+
+-- and to the week of that day, of Monday through Sunday
+abbrev pub is_in_week : ℕ → Journey → Bool
+is_in_week day journey = nat_le (monday day) (first_tap journey).stamp.day && nat_lt (first_tap journey).stamp.day (monday day + 7)

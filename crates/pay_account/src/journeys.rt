@@ -1,7 +1,7 @@
 ghost use Rattle.std.specs.Prelude.{◌≡◌, ◌≤◌, ◌++◌, filter, length, if◌then◌else◌, Some, None, IfOk, OnOk};
-ghost use Rattle.pay_hopper.specs.LastPaid.{pays_by_last, last_paid_after};
+ghost use Rattle.pay_hopper.specs.LastPaid.{last_paid_after};
 ghost use Rattle.pay_links.specs.Journeys.{first_tap};
-ghost use Rattle.pay_account.specs.Journeys.{boardings, is_bus, is_rail, rail_journeys, journeys_of, is_on};
+ghost use Rattle.pay_account.specs.Journeys.{boardings, next_boarding, is_bus, is_rail, rail_journeys, journeys_of, is_on};
 
 use pay_day::Moment;
 use pay_hopper::{laws, pays};
@@ -46,8 +46,12 @@ pub fn rail_journeys(
 /// A touch on a bus or a tram as a boarding, with whether it pays, and `None` for one at a station.
 /// `last_paid` is the moment of the last boarding before it that paid, and becomes its own where it
 /// pays.
-pub fn boarding(tables: &Tables, last_paid: &mut Option<Moment>, touch: &Touch) -> Option<Journey>
-    ensures value { result ≡ (if is_bus touch.now then Some (Journey.Bus touch.now (pays_by_last tables.now.rules.hopper last_paid.old touch.now.stamp.utc)) else None) }
+pub fn next_boarding(
+    tables: &Tables,
+    last_paid: &mut Option<Moment>,
+    touch: &Touch,
+) -> Option<Journey>
+    ensures value { result ≡ (if is_bus touch.now then Some (next_boarding tables.now.rules.hopper last_paid.old touch.now) else None) }
     ensures after { last_paid.new ≡ (if is_bus touch.now then last_paid_after tables.now.rules.hopper last_paid.old touch.now.stamp else last_paid.old) }
 {
     if !is_bus(touch) {
@@ -72,7 +76,7 @@ fn add_boardings(
     list.reserve(touches.len())?;
     let mut last_paid = None;
     for touch in touches {
-        if let Some(journey) = boarding(tables, &mut last_paid, touch) {
+        if let Some(journey) = next_boarding(tables, &mut last_paid, touch) {
             list.push(journey)?;
         }
     }

@@ -1,13 +1,12 @@
-ghost use Rattle.std.specs.Prelude.{◌≡◌, ◌≤◌, ◌+◌, ◌==◌, ◌&&◌, if◌then◌else◌, nat_le, nat_lt, length, IfOk};
+ghost use Rattle.std.specs.Prelude.{◌≡◌, ◌≤◌, ◌+◌, ◌&&◌, if◌then◌else◌, length, IfOk};
 ghost use Rattle.pay_day.specs.Day.{IsDay, monday};
-ghost use Rattle.pay_hopper.specs.LastPaid.{pays_by_last, last_paid_after};
-ghost use Rattle.pay_links.specs.Journeys.{first_tap};
+ghost use Rattle.pay_hopper.specs.LastPaid.{last_paid_after};
 ghost use Rattle.pay_fares.specs.Fares.{fare};
-ghost use Rattle.pay_account.specs.Journeys.{boardings, is_bus, is_on};
+ghost use Rattle.pay_account.specs.Journeys.{boardings, next_boarding, is_bus, is_in_week, is_on};
 ghost use Rattle.pay_account.specs.Prices.{fares_on, fares_through, prices_of_touches};
 
 use crate::fares::Priced;
-use crate::journeys::{boarding, day_of, is_on, rail_journeys};
+use crate::journeys::{day_of, is_on, next_boarding, rail_journeys};
 use pay_day::{Moment, monday};
 use pay_fares::fare;
 use pay_hopper::laws;
@@ -49,8 +48,8 @@ struct Sums {
 }
 
 impl Sums {
-    /// Without journeys.
-    const NONE: Sums = Sums {
+    /// Those of no journeys.
+    const ZERO: Sums = Sums {
         day: Pence::ZERO,
         week: Pence::ZERO,
     };
@@ -61,8 +60,7 @@ impl Sums {
         requires few_on { self.old.day ≤ 1_638_300_000 }
         requires few_in_week { self.old.week ≤ 1_638_300_000 }
         ensures day { self.new.day ≡ self.old.day + (if is_on day journey.now then fare tables.now journey.now else 0) }
-        ensures week { self.new.week ≡ self.old.week + (if nat_le (monday day) (first_tap journey.now).stamp.day && nat_lt (first_tap journey.now).stamp.day (monday day + 7)
-            then fare tables.now journey.now else 0) }
+        ensures week { self.new.week ≡ self.old.week + (if is_in_week day journey.now then fare tables.now journey.now else 0) }
         ensures day_in_range { self.new.day ≤ self.old.day + 100_000 }
         ensures week_in_range { self.new.week ≤ self.old.week + 100_000 }
     {
@@ -77,7 +75,8 @@ impl Sums {
         }
     }
 
-    /// Adds the fare of a touch on a bus or a tram, where `last_paid` is as for `boarding`.
+    /// Adds the fare of a touch on a bus or a tram, where `last_paid` is as for `next_boarding`. A touch
+    /// at a station adds nothing.
     fn add_boarding(
         &mut self,
         tables: &Tables,
@@ -89,14 +88,14 @@ impl Sums {
         requires few_on { self.old.day ≤ 1_638_300_000 }
         requires few_in_week { self.old.week ≤ 1_638_300_000 }
         ensures last_paid { last_paid.new ≡ (if is_bus touch.now then last_paid_after tables.now.rules.hopper last_paid.old touch.now.stamp else last_paid.old) }
-        ensures day { self.new.day ≡ self.old.day + (if is_bus touch.now && touch.now.stamp.day == day
-            then fare tables.now (Journey.Bus touch.now (pays_by_last tables.now.rules.hopper last_paid.old touch.now.stamp.utc)) else 0) }
-        ensures week { self.new.week ≡ self.old.week + (if is_bus touch.now && (nat_le (monday day) touch.now.stamp.day && nat_lt touch.now.stamp.day (monday day + 7))
-            then fare tables.now (Journey.Bus touch.now (pays_by_last tables.now.rules.hopper last_paid.old touch.now.stamp.utc)) else 0) }
+        ensures day { self.new.day ≡ self.old.day + (if is_bus touch.now && is_on day (next_boarding tables.now.rules.hopper last_paid.old touch.now)
+            then fare tables.now (next_boarding tables.now.rules.hopper last_paid.old touch.now) else 0) }
+        ensures week { self.new.week ≡ self.old.week + (if is_bus touch.now && is_in_week day (next_boarding tables.now.rules.hopper last_paid.old touch.now)
+            then fare tables.now (next_boarding tables.now.rules.hopper last_paid.old touch.now) else 0) }
         ensures day_in_range { self.new.day ≤ self.old.day + 100_000 }
         ensures week_in_range { self.new.week ≤ self.old.week + 100_000 }
     {
-        if let Some(journey) = boarding(tables, last_paid, touch) {
+        if let Some(journey) = next_boarding(tables, last_paid, touch) {
             self.add(tables, &journey, day);
         }
     }
@@ -112,14 +111,14 @@ fn sums_of(tables: &Tables, journeys: &[Journey], day: u32) -> Sums
     ensures day_in_range { result.day ≤ 1_638_400_000 }
     ensures week_in_range { result.week ≤ 1_638_400_000 }
 {
-    let mut sums = Sums::NONE;
+    let mut sums = Sums::ZERO;
     for journey in journeys {
         sums.add(tables, journey, day);
     }
     sums
 }
 
-/// The sums of the fares of the boardings among touches in order.
+/// The sums of the fares of the boardings of a service day and of its week, among touches in order.
 fn sums_of_boardings(tables: &Tables, touches: &[Touch], day: u32) -> Sums
     requires few { length touches.now ≤ 16_384 }
     requires is_day { IsDay day }
@@ -129,7 +128,7 @@ fn sums_of_boardings(tables: &Tables, touches: &[Touch], day: u32) -> Sums
     ensures week_in_range { result.week ≤ 1_638_400_000 }
 {
     laws::by_the_last();
-    let mut sums = Sums::NONE;
+    let mut sums = Sums::ZERO;
     let mut last_paid = None;
     for touch in touches {
         sums.add_boarding(tables, &mut last_paid, touch, day);

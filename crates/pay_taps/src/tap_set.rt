@@ -14,6 +14,10 @@ use std::marker::Model;
 /// How many taps an account may have.
 pub const TAPS_OF_AN_ACCOUNT: usize = 16_384;
 
+/// Up to so many taps lie in the set itself, which spares most accounts of a day a list in memory of
+/// their own. With one more, all of them lie in such a list.
+const TAPS_IN_THE_SET: usize = 4;
+
 /// What a tap that is not refused does to a set.
 #[derive(Clone, Copy, Debug, PartialEq, Eq)]
 pub enum Addition {
@@ -49,8 +53,8 @@ impl<T: Drop> From<AllocFailed<T>> for TapSetFault {
 /// tap, of at most `TAPS_OF_AN_ACCOUNT` taps.
 #[derive(Drop)]
 pub struct TapSet {
-    // In ascending order of their numbers. The first few lie in the set itself.
-    taps: SmallVec<Tap, 4>,
+    // In ascending order of their numbers.
+    taps: SmallVec<Tap, TAPS_IN_THE_SET>,
 }
 
 impl Model for TapSet {
@@ -69,7 +73,7 @@ impl Model for TapSet {
     ghost invariant = { λ set. IsListed set.taps.items };
 }
 
-// What lies in a set's own places while they hold no tap.
+// What lies in a set's own places while they hold no tap. No tap of a set is this one.
 impl MadeWith<Global> for Tap {
     fn made_with(_: Global) -> Tap {
         let Some(stamp) = Moment::from_parts(604_800, 4, 0) else {

@@ -71,6 +71,28 @@ fn lists_by_reader_then_seq(rt: HostRuntime) -> Result<(), Fail> {
 }
 
 #[test]
+fn keeps_its_taps_when_they_outgrow_the_set(rt: HostRuntime) -> Result<(), Fail> {
+    let at_seven = |seq: u32| bus_tap(&rt, 1, seq, SEVEN);
+    let mut taps = TapSet::new(rt.alloc());
+    for (count, seq) in [(1, 30), (2, 10), (3, 40), (4, 20), (5, 25), (6, 5)] {
+        assert_eq!(rt; taps.add(at_seven(seq)), Ok(Addition::Added));
+        assert_eq!(rt; taps.add(at_seven(seq)), Ok(Addition::Repeat));
+        let other = bus_tap(&rt, 1, 30, SEVEN + 1);
+        assert_eq!(rt; taps.add(other), Err(TapSetFault::Conflict));
+        assert_eq!(rt; taps.len(), count);
+        assert_eq!(rt; taps.get(1, 30), Some(at_seven(30)));
+        assert_eq!(rt; taps.get(1, seq), Some(at_seven(seq)));
+        assert_eq!(rt; taps.get(1, 50), None);
+    }
+    let seqs = [5, 10, 20, 25, 30, 40];
+    assert_eq!(rt; taps.len(), seqs.len());
+    for (tap, seq) in taps.as_slice().iter().zip(&seqs) {
+        assert_eq!(rt; tap.seq, *seq);
+    }
+    Ok(())
+}
+
+#[test]
 fn orders_touches(rt: HostRuntime) -> Result<(), Fail> {
     let filled = |staff: u16, seq: u32, utc: u64| Touch {
         filled: true,
