@@ -1,8 +1,12 @@
 use super::*;
+use crate::number::read_number;
+use crate::reply::journey_line;
 use pay_account::{Line, LineKind, Lines, Priced, Shown, TapFault};
 use pay_money::Pence;
 use pay_taps::Kind;
 use std::alloc::Global;
+use std::io;
+use std::io::Write;
 use std::test::Fail;
 
 /// A tap of account 7 by reader 1.
@@ -19,7 +23,7 @@ fn tap(seq: u32, utc: u64, place: u16, kind: Kind) -> Command {
 
 #[test]
 fn reads_commands(rt: HostRuntime) {
-    let rows: [(&str, Option<Command>); 9] = [
+    let rows: [(&str, Option<Command>); 15] = [
         (
             "TAP 1 1 7 1704697200 50 BUS",
             Some(tap(1, 1_704_697_200, 50, Kind::Bus)),
@@ -32,6 +36,11 @@ fn reads_commands(rt: HostRuntime) {
             "TAP 1 3 7 1704705600 12 OUT",
             Some(tap(3, 1_704_705_600, 12, Kind::Out)),
         ),
+        (
+            "TAP 1 1 7 1704697200 65535 BUS",
+            Some(tap(1, 1_704_697_200, 65_535, Kind::Bus)),
+        ),
+        ("TAP 1 1 7 1704697200 65536 BUS", None),
         ("TAP 01 2 7 1704697200 50 BUS", None),
         (
             "SHOW 7 19730",
@@ -41,7 +50,17 @@ fn reads_commands(rt: HostRuntime) {
             }),
         ),
         ("SHOW 7 3", None),
+        (
+            "SHOW 7 50000",
+            Some(Command::Show {
+                account: 7,
+                day: 50_000,
+            }),
+        ),
+        ("SHOW 7 50001", None),
+        ("FIX", Some(Command::NotYet)),
         ("DUE 7 19730", Some(Command::NotYet)),
+        ("CLOSE 1 2 3", Some(Command::NotYet)),
         ("QUIT", Some(Command::Quit)),
         ("QUIT ", None),
     ];
@@ -79,7 +98,7 @@ fn journey(kind: LineKind, from: u16, to: u16, utc: u64, second: u32, fare: u64)
     }
 }
 
-/// The price of a tap on that day.
+/// The answer to a tap of 2024-01-08.
 fn priced(again: bool) -> Reply {
     Reply::Priced(Priced {
         again,
@@ -88,6 +107,10 @@ fn priced(again: bool) -> Reply {
         week_price: Pence::new(350),
     })
 }
+
+/// The reply with a boarding and a journey by rail.
+const SHOWN: &str =
+    "SHOW 7 19730 2 515\nJNY BUS 50 0 1704697200 175\nJNY RAIL 10 12 1704704400 340\n";
 
 /// A boarding and a journey by rail.
 fn shown(alloc: Global) -> Result<Reply, Fail> {
@@ -127,27 +150,120 @@ fn spells_journeys(rt: HostRuntime) {
     }
 }
 
+/// A day without journeys.
+fn empty_day(alloc: Global) -> Reply {
+    Reply::Shown(Shown {
+        account: 7,
+        day: 19_730,
+        lines: Lines::from(Vec::new(alloc)),
+        day_price: Pence::ZERO,
+    })
+}
+
+/// The answer to a tap of day 50,000 at the greatest prices.
+fn dearest() -> Reply {
+    Reply::Priced(Priced {
+        again: true,
+        day: 50_000,
+        day_price: Pence::new(u64::MAX),
+        week_price: Pence::new(u64::MAX),
+    })
+}
+
 #[test]
 fn sends_replies(rt: HostRuntime) -> Result<(), Fail> {
     let alloc = rt.alloc();
     let rows = [
-        (priced(false), "OK 19730 175 350\n", ""),
-        (priced(true), "AGAIN 19730 175 350\n", ""),
+        (priced(false), "OK 19730 175 350\n"),
+        (priced(true), "AGAIN 19730 175 350\n"),
         (
-            shown(alloc)?,
-            "SHOW 7 19730 2 515\n",
-            "JNY BUS 50 0 1704697200 175\nJNY RAIL 10 12 1704704400 340\n",
+            dearest(),
+            "AGAIN 50000 18446744073709551615 18446744073709551615\n",
         ),
-        (Reply::No(Refusal::LongLine), "NO 51 LongLine\n", ""),
-        (Reply::Bye, "BYE\n", ""),
+        (shown(alloc)?, SHOWN),
+        (empty_day(alloc), "SHOW 7 19730 0 0\n"),
+        (Reply::No(Refusal::LongLine), "NO 51 LongLine\n"),
+        (Reply::Bye, "BYE\n"),
     ];
-    for (reply, first, journeys) in &rows {
-        assert_eq!(rt; first_line(reply).as_slice(), first.as_bytes());
+    for (reply, wanted) in &rows {
         let mut written = Vec::new(alloc);
         assert!(rt; send(&mut written, reply).is_ok());
-        assert!(rt; written.as_slice().starts_with(first.as_bytes()));
-        assert!(rt; written.as_slice().ends_with(journeys.as_bytes()));
-        assert_eq!(rt; written.len(), first.len() + journeys.len());
+        assert_eq!(rt; written.as_slice(), wanted.as_bytes());
+    }
+    Ok(())
+}
+
+/// Takes so many bytes, at most five at a call, and then fails, or takes nothing. Each second call is
+/// interrupted. Its flush may fail.
+#[derive(Drop)]
+struct Failing {
+    room: usize,
+    takes_nothing: bool,
+    flushes: bool,
+    calls: u32,
+    flushed: bool,
+    held: Vec<u8>,
+}
+
+impl Failing {
+    fn new(alloc: Global, room: usize, takes_nothing: bool, flushes: bool) -> Failing {
+        Failing {
+            room,
+            takes_nothing,
+            flushes,
+            calls: 0,
+            flushed: false,
+            held: Vec::new(alloc),
+        }
+    }
+}
+
+impl Write for Failing {
+    fn write(&mut self, buf: &[u8]) -> io::Result<usize> {
+        self.calls = self.calls.wrapping_add(1);
+        if self.calls % 2 == 0 {
+            return Err(io::Error::from(io::ErrorKind::Interrupted));
+        }
+        let n = self.room.min(5).min(buf.len());
+        if n == 0 && !self.takes_nothing {
+            return Err(io::Error::from(io::ErrorKind::Other));
+        }
+        self.held.extend_from_slice(&buf[..n])?;
+        self.room -= n;
+        Ok(n)
+    }
+
+    fn flush(&mut self) -> io::Result<()> {
+        if !self.flushes {
+            return Err(io::Error::from(io::ErrorKind::Other));
+        }
+        self.flushed = true;
+        Ok(())
+    }
+}
+
+#[test]
+fn stops_where_the_writer_fails(rt: HostRuntime) -> Result<(), Fail> {
+    let alloc = rt.alloc();
+    let reply = shown(alloc)?;
+    let rows = [
+        // It fails in the second line, or takes nothing there.
+        (30, false, true, Err(WriteFailed)),
+        (30, true, true, Err(WriteFailed)),
+        // All 77 bytes are taken, and its flush fails, or does not.
+        (77, false, false, Err(WriteFailed)),
+        (77, false, true, Ok(())),
+    ];
+    for (room, takes_nothing, flushes, wanted) in rows {
+        let mut writer = Failing::new(alloc, room, takes_nothing, flushes);
+        let sent = send(&mut writer, &reply);
+        assert_eq!(rt; sent, wanted, "at {room}");
+        let Failing { held, flushed, .. } = writer;
+        assert_eq!(rt;
+            held.as_slice(),
+            SHOWN.as_bytes().get(..room).ok_or("long")?
+        );
+        assert_eq!(rt; flushed, sent.is_ok(), "at {room}");
     }
     Ok(())
 }
