@@ -22,10 +22,10 @@ no_space (c ∷ cs) zero k digits lt e = absurd (omega (arith, lt))
 no_space (c ∷ cs) (suc end) zero digits lt e = absurd (omega (arith, digit_from_value c digits.0, e))
 no_space (c ∷ cs) (suc end) (suc k) digits lt e = no_space cs end k digits.1 (omega (arith, lt)) e
 
-abbrev pub word_end : List ℕ → ℕ
+abbrev word_end : List ℕ → ℕ
 word_end line = position_or_len is_space line
 
-abbrev pub first_word : List ℕ → List ℕ
+abbrev first_word : List ℕ → List ℕ
 first_word line = take (word_end line) line
 
 space_there : (line : List ℕ) → word_end line < length line → get_or line (word_end line) 0 ≡ 32
@@ -87,7 +87,7 @@ ends_there [] = refl
 ends_there (c ∷ cs) = ends_at_byte (is_space c) c cs (word_end cs) refl (ends_there cs)
 
 -- the digits that stand first are the first word
-pub first_is : (line : List ℕ) (end : ℕ) → end ≤ length line → AllDigits 10 (take end line) → ends_word (drop end line) ≡ true → end ≡ word_end line
+first_is : (line : List ℕ) (end : ℕ) → end ≤ length line → AllDigits 10 (take end line) → ends_word (drop end line) ≡ true → end ≡ word_end line
 first_is line end within digits e = first_space line end within (λ k lt. no_space line end k digits lt) (ends line end e)
 
 -- a first word of digits, in the form of a number

@@ -1,6 +1,6 @@
 -- A front of what a writer was to take piece by piece.
-use Rattle.std.proofs.Common.{◌≡◌, ℕ, suc, ◌+◌, ◌≤◌, ◌<◌, min, List, ◌∷◌, ◌++◌, Option, Result, Ok, Err, OnErr, length, take, drop, get_or, sym, ap, subst, ◌∙◌, arith}
-use Rattle.std.proofs.Math.Seq.{take-append-add, drop-cons}
+use Rattle.std.proofs.Common.{◌≡◌, ℕ, suc, ◌+◌, ◌-◌, ◌≤◌, ◌<◌, min, List, ◌∷◌, ◌++◌, Option, Result, Ok, Err, OnErr, length, take, drop, get_or, sym, ap, subst, ◌∙◌, length-drop, arith}
+use Rattle.std.proofs.Math.Seq.{take-length, take-add, take-append-add, drop-cons}
 use Rattle.std.proofs.lemmas.List.{take_min, take-append-le, take-append-drop}
 use Rattle.std.proofs.KnownBytes.{Appends-trans}
 use Rattle.std.specs.Io.KnownBytes.{Appends}
@@ -9,8 +9,14 @@ use Rattle.pay_account.specs.declared.shown.Line.{Line}
 use Rattle.pay_wire.specs.Output.{AppendsFront}
 use Rattle.pay_wire.specs.Replies.{line_of, words_of_journey, text_of_journeys}
 
+-- a front of the bytes and then a front of the others are a front of the bytes
+pub Appends_fronts : (a b c : Option (List ℕ)) (i n : ℕ) (bytes : List ℕ) → Appends a b (take i bytes) → Appends b c (take n (take (length bytes - i) (drop i bytes))) → Appends a c (take (i + n) bytes)
+Appends_fronts a b c i n bytes p q =
+    let others : take (length bytes - i) (drop i bytes) ≡ drop i bytes = ap (λ k. take k (drop i bytes)) (sym (length-drop i bytes)) ∙ take-length (drop i bytes) in
+    subst (Appends a c) (sym (take-add i n bytes)) (Appends-trans a b c _ _ p (subst (λ l. Appends b c (take n l)) others q))
+
 -- a piece that was taken whole, and then a front of what is behind it
-pub front_then : (old mid new : Option (List ℕ)) (a b : List ℕ) → Appends old mid a → AppendsFront mid new b → AppendsFront old new (a ++ b)
+front_then : (old mid new : Option (List ℕ)) (a b : List ℕ) → Appends old mid a → AppendsFront mid new b → AppendsFront old new (a ++ b)
 front_then old mid new a b whole (n, front) =
     (length a + n, subst (Appends old new) (sym (take-append-add a b n)) (Appends-trans old mid new a (take n b) whole front))
 

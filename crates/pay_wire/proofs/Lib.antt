@@ -6,6 +6,5 @@ pub mod LineLengths
 pub mod Numerals
 pub mod Spaces
 pub mod Spelled
-pub mod Takes
 pub mod Told
 pub mod Visible

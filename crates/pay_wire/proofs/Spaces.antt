@@ -26,7 +26,7 @@ split_at_end [] = refl
 split_at_end (c ∷ cs) = split_at_byte (is_space c) c cs (position_or_len is_space cs) (split_at_end cs)
 
 -- a line has a word, if only the empty one
-pub has_first : (line : List ℕ) → has_none (words line) ≡ false
+has_first : (line : List ℕ) → has_none (words line) ≡ false
 has_first line = rw (split_at_end line) refl
 
 -- no bytes follow just where no word follows

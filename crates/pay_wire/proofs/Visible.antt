@@ -31,7 +31,7 @@ last_piece c low (b ∷ bs) seen =
     let above : 32 < b = ltb-true 32 b p.0 in
     rw (ne_eqb b c (λ e. absurd (omega arith)), last_piece c low bs p.1) refl
 
-pub first_piece : (c : ℕ) → c ≤ 32 → (word rest : List ℕ) → is_visible word ≡ true → pieces c (word ++ c ∷ rest) ≡ word ∷ pieces c rest
+first_piece : (c : ℕ) → c ≤ 32 → (word rest : List ℕ) → is_visible word ≡ true → pieces c (word ++ c ∷ rest) ≡ word ∷ pieces c rest
 first_piece c low [] rest seen = rw (eq-eqb c c refl) refl
 first_piece c low (b ∷ bs) rest seen =
     let p = and_parts _ _ seen in

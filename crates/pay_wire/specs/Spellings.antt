@@ -49,6 +49,6 @@ Spells line (Show account day) = IsShow account day × (line ≡ spelling_of_sho
 Spells line NotYet = IsUnserved (first_word line)
 Spells line Quit = line ≡ codes "QUIT"
 
--- what a session takes as one line, and as no longer than a line may be
+-- one line, and no longer than a line may be
 abbrev pub IsLine : List ℕ → Type 0
 IsLine line = (length line ≤ 128) × All (λ byte. byte ≢ 10) line

@@ -1,4 +1,5 @@
-//! Laws of the spelling: how commands and numbers are read, and how replies are told apart.
+//! Laws of the spelling: how commands and numbers are read, and how replies are told apart. Each law is the
+//! contract of a function that does nothing: a caller whose proof needs a law calls its function.
 ghost use Rattle.std.specs.Prelude.{◌≡◌, ◌≢◌, ℕ, ◌≤◌, List, ◌++◌, map, Some, codes, decimal};
 ghost use Rattle.std.specs.List.{AllByRecursion, flat_map};
 ghost use Rattle.pay_wire.specs.declared.command.TapLine.{TapLine};

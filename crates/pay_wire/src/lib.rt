@@ -11,7 +11,6 @@ mod reply;
 mod tests;
 
 pub use command::{Command, TapLine, read_command};
-pub use number::read_number;
 pub use output::{WriteFailed, send};
 pub use refusal::Refusal;
-pub use reply::{REPLY_BYTES, Reply, ReplyLine, first_line, journey_line};
+pub use reply::Reply;

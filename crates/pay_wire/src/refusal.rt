@@ -1,4 +1,4 @@
-//! Refusals by number and name.
+//! Refusals by number and name, and those of an account among them.
 ghost use Rattle.std.specs.Prelude.{◌≡◌, ◌≤◌, length};
 ghost use Rattle.pay_wire.specs.Replies.{refusal_number, refusal_name};
 

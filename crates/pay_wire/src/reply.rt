@@ -1,5 +1,5 @@
 //! Replies as lines.
-ghost use Rattle.std.specs.Prelude.{◌≡◌, ◌+◌, ◌++◌, ◌∷◌, [], ◌≤◌, ◌<◌, length, codes, decimal};
+ghost use Rattle.std.specs.Prelude.{◌≡◌, ◌+◌, ◌++◌, ◌∷◌, [], ◌≤◌, ◌<◌, length, decimal};
 ghost use Rattle.arrayvec.specs.ArrayVec.{array_vec_len};
 ghost use Rattle.pay_wire.specs.Replies.{line_of, words_of_priced, words_of_shown, words_of_refusal, words_of_reply, word_of_kind, words_of_journey, journeys_of_reply};
 

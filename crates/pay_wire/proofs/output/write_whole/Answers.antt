@@ -1,6 +1,6 @@
 use Rattle.std.proofs.Common.{arith}
 use Rattle.std.proofs.lemmas.Grind.{common_steps}
-use Rattle.pay_wire.proofs.Takes.{Appends_fronts}
+use Rattle.pay_wire.proofs.Fronts.{Appends_fronts}
 use Rattle.pay_wire.proofs.output.write_whole.Goals as goal
 
 pub loop-preserved : goal.loop-preserved
