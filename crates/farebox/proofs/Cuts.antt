@@ -89,11 +89,12 @@ only_cutting input rest texts all none e =
 
 -- ---- what a line asks for
 
--- what is read of a line is what the line spells
-abbrev pub ReadAsSpelled : Type 0
+-- what is read of a line is what the line spells: the law of pay_wire, taken as a premise, since another crate's
+-- proofs are not named here
+abbrev ReadAsSpelled : Type 0
 ReadAsSpelled = (line : List ℕ) (command : Command) → command_of line ≡ Some command → Spells line command
 
-pub quit_line : ReadAsSpelled → (z : List ℕ) → is_quit (request_of z) ≡ true → z ≡ codes "QUIT"
+quit_line : ReadAsSpelled → (z : List ℕ) → is_quit (request_of z) ≡ true → z ≡ codes "QUIT"
 unfolding request_of
 quit_line spelled z e = at (nat_lt 128 (length z)) (command_of z) refl e
   where

@@ -18,7 +18,7 @@ use Rattle.farebox.proofs.Steps.{Answers_none, Tells_none}
 TakesAll_nothing : (m : Machine) (line : List ℕ) (held : Option (List ℕ)) (n : ℕ) → TakesAll m line m line held held n n
 TakesAll_nothing m line held n = record { told = []; answers = Answers_none m line; tells = Tells_none held n }
 
-pub brings_nothing : (old new : Option (List ℕ)) (m : Machine) (line : List ℕ) (held : Option (List ℕ)) (n : ℕ) → Keeps old new
+brings_nothing : (old new : Option (List ℕ)) (m : Machine) (line : List ℕ) (held : Option (List ℕ)) (n : ℕ) → Keeps old new
     → IfSome old (λ input. BringsMore m line input new m line held held n n)
 brings_nothing None new m line held n keeps = tt
 brings_nothing (Some xs) None m line held n keeps = absurd keeps
@@ -30,7 +30,7 @@ brings_nothing (Some xs) (Some ys) m line held n keeps = record {
   all = subst (λ l. TakesAll m l m line held held n n) (sym (append-nil line)) (TakesAll_nothing m line held n);
 }
 
-pub loses_reader : (old new : Option (List ℕ)) (m : Machine) (line : List ℕ) (held : Option (List ℕ)) (n : ℕ) → Keeps old new
+loses_reader : (old new : Option (List ℕ)) (m : Machine) (line : List ℕ) (held : Option (List ℕ)) (n : ℕ) → Keeps old new
     → IfSome old (λ input. LosesReader m line input new m line held held n n)
 loses_reader None new m line held n keeps = tt
 loses_reader (Some xs) None m line held n keeps = absurd keeps
@@ -77,17 +77,6 @@ consumed (Some xs) (Some ys) new limit shown amount within keeps shows drops = d
 
 drop_front : (xs ys : List ℕ) (n : ℕ) → n ≡ length xs → drop n (xs ++ ys) ≡ ys
 drop_front xs ys n e = ap (λ k. drop k (xs ++ ys)) e ∙ drop-append_seam xs ys
-
-pub brings_more : (old new : Option (List ℕ)) (shown : List ℕ) (a b : Machine) (line left : List ℕ) (h i : Option (List ℕ)) (m n : ℕ) → IfSome old (λ xs. StartsWith xs shown)
-    → IfSome old (λ xs. new ≡ Some (drop (length shown) xs)) → TakesAll a (line ++ shown) b left h i m n → IfSome old (λ input. BringsMore a line input new b left h i m n)
-brings_more None new shown a b line left h i m n front drops all = tt
-brings_more (Some xs) new shown a b line left h i m n front drops all = record {
-  bytes = shown;
-  rest = drop (length shown) xs;
-  parts = starts_with_rest xs shown front;
-  unread = drops;
-  all = all;
-}
 
 some_quit : (a : Machine) (line shown : List ℕ) (o : Option ℕ) (left : ℕ) (h i : Option (List ℕ)) (m n : ℕ) → o ≡ Some left → IfSome o (λ k. TakesToQuit a line shown k h i m n) → TakesToQuit a line shown left h i m n
 some_quit a line shown o left h i m n e q = let P : Option ℕ → Type 0 = λ o. IfSome o (λ k. TakesToQuit a line shown k h i m n) in subst P e q

@@ -22,7 +22,7 @@ use Rattle.pay_taps.specs.declared.tap_set.Addition.TheVariants.{Added}
 use Rattle.pay_taps.specs.declared.tap_set.TapSetFault.TheVariants.{AccountFull}
 use Rattle.pay_taps.specs.Taps.{Taps, number, number_cmp, judged, answer_to as set_answer}
 use Rattle.pay_taps.specs.declared.tap.Tap.{Tap}
-use Rattle.farebox.specs.Accounts.{TapsByAccount, taps_of, accounts_after, seen, IsOwn}
+use Rattle.farebox.specs.Accounts.{TapsByAccount, taps_of, accounts_after, seen}
 
 find_lookup : {X : Type 0} (es : List (ℕ × X)) (q : ℕ) → find nat_cmp q es ≡ lookup (is_at (nat_cmp q)) es
 find_lookup [] q = refl
@@ -74,14 +74,6 @@ seen_same es fs n a w h e same = same_map nat_cmp_total nat_cmp-IsAntisymmetric 
     at q false p = refl
 
 -- ---- a tap that is handed to its account
-
--- an account that is written at its number stays there
-pub own_written : (es fs : List (ℕ × Accepted)) (n : ℕ) (w : Accepted) → IsOwn es → w.account ≡ n → ((q : ℕ) → lookup (is_at (nat_cmp q)) fs ≡ cond (is_at (nat_cmp n) q) (Some w) (lookup (is_at (nat_cmp q)) es)) → IsOwn fs
-own_written es fs n w own mine h q a e = at (is_at (nat_cmp n) q) refl (sym (h q) ∙ e)
-  where
-    at : (b : Bool) → is_at (nat_cmp n) q ≡ b → cond b (Some w) (lookup (is_at (nat_cmp q)) es) ≡ Some a → a.account ≡ q
-    at true p f = let is : w ≡ a = cc in ap (λ (a : Accepted). a.account) (sym is) ∙ mine ∙ nat_cmp-IsAntisymmetric n q (equal (nat_cmp n q) p)
-    at false p f = own q a f
 
 -- the accounts after a tap, where its account was there
 pub seen_after : (r : Result Priced TapFault) (es fs : List (ℕ × Accepted)) (tap : Tap) (a w : Accepted)

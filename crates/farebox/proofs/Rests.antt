@@ -5,15 +5,7 @@ use Rattle.farebox.specs.Run.{run}
 use Rattle.farebox.specs.SessionSteps.{Replies, EndsRest, Tells}
 use Rattle.farebox.specs.Machine.{Machine, Step}
 use Rattle.farebox.specs.declared.request.Request.{Request}
-use Rattle.farebox.proofs.Steps.{Tells_none, Tells_one}
-
-pub EndsRest_none : (m : Machine) (line : List ℕ) (held : Option (List ℕ)) (n : ℕ) → line ≡ [] → EndsRest m line held held n n
-EndsRest_none m line held n e = record {
-  marks = [];
-  told = [];
-  replies = ap (λ l. (run [] m (request_of_rest l)).replies) e;
-  tells = Tells_none held n;
-}
+use Rattle.farebox.proofs.Steps.{Tells_one}
 
 pub EndsRest_one : (a b : Machine) (line : List ℕ) (r : Request) (h i : Option (List ℕ)) (m n : ℕ) → request_of_rest line ≡ r ∷ [] → Replies a r b h i → n ≡ m + 1 → EndsRest a line h i m n
 EndsRest_one a b line r h i m n asked p counted = record {

@@ -10,7 +10,7 @@ use Rattle.clap.specs.declared.builder.action.ArgAction.TheVariants.{Set}
 use Rattle.clap.specs.declared.builder.range.ValueRange.{ValueRange}
 use Rattle.clap.specs.declared.builder.value_parser.ValueParser.TheVariants as vp
 use Rattle.clap.specs.declared.error.kind.ErrorKind.TheVariants.{DisplayHelp, InvalidSubcommand, UnknownArgument}
-use Rattle.farebox.specs.ProgramWords.{Asked, Given, Word, all_given, given, given_by, word_kind, run_asked, with_value, values, refused, run, help_asked, help_named, usage}
+use Rattle.farebox.specs.ProgramWords.{Asked, Word, all_given, given, given_by, word_kind, run_asked, with_value, run, help_asked, help_named, usage}
 use Rattle.farebox.specs.ProgramWords as words
 use Rattle.clap.specs.declared.parser.matches.ValueSource.TheVariants.{CommandLine}
 use Rattle.farebox.specs.CommandLine.{required_word}

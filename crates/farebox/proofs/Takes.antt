@@ -1,4 +1,4 @@
--- Fronts of lists.
+-- What fits of some bytes behind others, and what holds where a call succeeds.
 use Rattle.std.proofs.Common.{◌≡◌, ℕ, ◌+◌, ◌-◌, ◌≤◌, min, List, ◌++◌, Result, Ok, Err, IsOk, OnOk, length, take, sym, ap, ◌∙◌, arith}
 use Rattle.std.proofs.Math.Seq.{take-append-add}
 use Rattle.std.proofs.lemmas.List.{take_min}

@@ -7,7 +7,7 @@ use Rattle.clap.specs.Simple.{Shape}
 use Rattle.clap.specs.Kinds.{Kinds, or_else}
 use Rattle.clap.specs.Faults.{check_fault, defaults_fault, settle_fault, step_fault, word_fault, turn_fault, walk_fault}
 use Rattle.clap.specs.declared.error.kind.ErrorKind.TheVariants.{DisplayHelp}
-use Rattle.farebox.specs.ProgramWords.{Asked, Given, Word, all_given, given, given_by, word_kind, run_asked, with_value, values, refused, run, help_asked, help_named, usage}
+use Rattle.farebox.specs.ProgramWords.{Word}
 use Rattle.farebox.specs.ProgramWords as words
 use Rattle.farebox.proofs.WordKinds.{Reads, Refuses, help_filled}
 

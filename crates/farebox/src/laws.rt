@@ -1,4 +1,5 @@
-//! Laws of the lines: what the definitions mean by which the input is cut and requests are answered.
+//! Laws of the lines: what the definitions mean by which the input is cut and requests are answered. Each law
+//! is the contract of a function that does nothing: a caller whose proof needs a law calls its function.
 ghost use Rattle.std.specs.Prelude.{◌≡◌, ◌≢◌, ℕ, ◌<◌, ◌≤◌, true, false, List, [], ◌∷◌, ◌++◌, length, map, codes};
 ghost use Rattle.std.specs.List.{AllByRecursion, flat_map};
 ghost use Rattle.pay_account.specs.declared.fares.Priced.{Priced};
@@ -13,8 +14,6 @@ ghost use Rattle.farebox.specs.declared.request.Request.{Request};
 ghost use Rattle.farebox.specs.declared.request.Request.TheVariants as requests;
 ghost use Rattle.farebox.specs.Requests.{Line, lines_of, rest_of, has_newline, request_of, line_requests, requests_of, quits, unread};
 ghost use Rattle.farebox.specs.Machine.{Machine, refuse, step};
-
-use pay_wire::laws;
 
 /// The lines and the rest are the input, cut at its newlines, and no other cutting is.
 pub fn cut_at_newlines()
@@ -36,7 +35,7 @@ pub fn unread_behind_quit()
         × (quits before ≡ false) × (rest_of before ≡ []) }
     ensures none { (input : List ℕ) → quits input ≡ false → unread input ≡ [] }
 {
-    laws::read_as_spelled();
+    pay_wire::laws::read_as_spelled();
 }
 
 /// What stands behind the first `QUIT` asks for nothing, whatever it is, and stays unread.
@@ -59,7 +58,7 @@ pub fn session_goes_on()
     ensures long { (line more : List ℕ) → has_newline line ≡ false → 128 < length line
         → requests_of (line ++ codes "\n" ++ more) ≡ requests.LongLine ∷ requests_of more }
 {
-    laws::read_as_spelled();
+    pay_wire::laws::read_as_spelled();
 }
 
 /// Where memory for a request is refused, no tap is kept. What was to be refused, and `QUIT`, are answered as
