@@ -4,19 +4,20 @@ use Rattle.std.specs.Prelude.{◌≢◌}
 use Rattle.std.specs.List.{list_any, AllByRecursion, flat_map}
 use Rattle.pay_wire.specs.Commands.{command_of}
 use Rattle.pay_wire.specs.Spellings.{Spells}
-use Rattle.farebox.specs.Requests.{Line, asked, lines_of, rest_of, has_newline, request_of, request_of_rest, is_quit, through_quit, line_requests, requests_of, quits, unread}
+use Rattle.farebox.specs.Requests.{InputLine, asked, input_lines, rest_of, has_newline, request_of, request_of_rest, is_quit, through_quit, line_requests, requests_of, quits, unread}
 use Rattle.pay_wire.specs.declared.command.Command.{Command}
 use Rattle.pay_wire.specs.declared.command.Command.TheVariants.{Tap, Show, NotYet, Quit}
 use Rattle.farebox.specs.declared.request.Request.{Request}
 use Rattle.farebox.specs.declared.request.Request.TheVariants as requests
-use Rattle.pay_wire.specs.declared.command.TapLine.{TapLine}
+use Rattle.pay_wire.specs.declared.command.SpelledTap.{SpelledTap}
 use Rattle.pay_wire.specs.declared.refusal.Refusal.{Refusal}
 use Rattle.pay_wire.specs.declared.refusal.Refusal.TheVariants as refusal
 use Rattle.pay_wire.specs.declared.reply.Reply.TheVariants as replies
 use Rattle.pay_wire.specs.Refusals.{refusal_of}
 use Rattle.farebox.specs.Accounts.{taps_of}
-use Rattle.farebox.specs.Machine.{Machine, Step, refuse, is_instant, tap_of_line, step_answer, step_tap, step_line, step}
-use Rattle.pay_account.specs.Answers.{answer_to}
+use Rattle.farebox.specs.Machine.{Machine, Step, refuse, tap_of_spelled, step_answer, step_tap, step_spelled_tap, step}
+use Rattle.pay_day.specs.Day.{is_instant}
+use Rattle.pay_account.specs.TapResults.{tap_result}
 use Rattle.pay_account.specs.declared.fares.Priced.{Priced}
 use Rattle.pay_account.specs.declared.shown.Shown.{Shown}
 use Rattle.pay_account.specs.declared.fares.TapFault.{TapFault}
@@ -42,27 +43,27 @@ by_lines P part line input = by_lines_from P part line input [] refl
 abbrev ended : List ℕ → List ℕ
 ended t = t ++ codes "\n"
 
-abbrev ended_line : Line → List ℕ
+abbrev ended_line : InputLine → List ℕ
 ended_line l = l.text ++ codes "\n"
 
 -- a line with its newline, before what is behind it
 joined : (z x y : List ℕ) → ((z ++ codes "\n") ++ x) ++ y ≡ z ++ 10 ∷ (x ++ y)
 joined z x y = append_assoc (z ++ codes "\n") x y ∙ append_assoc z (codes "\n") (x ++ y)
 
-pub whole_again : (input : List ℕ) → flat_map (λ (l : Line). l.text ++ codes "\n") (lines_of input) ++ rest_of input ≡ input
+pub whole_again : (input : List ℕ) → flat_map (λ (l : InputLine). l.text ++ codes "\n") (input_lines input) ++ rest_of input ≡ input
 whole_again = by_lines
-    (λ input. flat_map ended_line (lines_of input) ++ rest_of input ≡ input)
+    (λ input. flat_map ended_line (input_lines input) ++ rest_of input ≡ input)
     (λ p h. ap (λ ls. flat_map ended_line ls ++ rest_of p) (lines_of_part p h) ∙ rest_of_part p h)
     (λ z more h again.
     ap (λ ls. flat_map ended_line ls ++ rest_of (z ++ 10 ∷ more)) (lines_of_line z more h)
-    ∙ ap (λ r. (ended z ++ flat_map ended_line (lines_of more)) ++ r) (rest_of_line z more)
-    ∙ joined z (flat_map ended_line (lines_of more)) (rest_of more) ∙ ap (λ l. z ++ 10 ∷ l) again)
+    ∙ ap (λ r. (ended z ++ flat_map ended_line (input_lines more)) ++ r) (rest_of_line z more)
+    ∙ joined z (flat_map ended_line (input_lines more)) (rest_of more) ∙ ap (λ l. z ++ 10 ∷ l) again)
 
-pub lines_are_whole : (input : List ℕ) → AllByRecursion (λ (l : Line). has_newline l.text ≡ false) (lines_of input)
+pub lines_are_whole : (input : List ℕ) → AllByRecursion (λ (l : InputLine). has_newline l.text ≡ false) (input_lines input)
 lines_are_whole = by_lines
-    (λ input. AllByRecursion (λ (l : Line). has_newline l.text ≡ false) (lines_of input))
-    (λ p h. subst (AllByRecursion (λ (l : Line). has_newline l.text ≡ false)) (sym (lines_of_part p h)) tt)
-    (λ z more h all. subst (AllByRecursion (λ (l : Line). has_newline l.text ≡ false)) (sym (lines_of_line z more h)) (h, all))
+    (λ input. AllByRecursion (λ (l : InputLine). has_newline l.text ≡ false) (input_lines input))
+    (λ p h. subst (AllByRecursion (λ (l : InputLine). has_newline l.text ≡ false)) (sym (lines_of_part p h)) tt)
+    (λ z more h all. subst (AllByRecursion (λ (l : InputLine). has_newline l.text ≡ false)) (sym (lines_of_line z more h)) (h, all))
 
 pub rest_is_no_line : (input : List ℕ) → has_newline (rest_of input) ≡ false
 rest_is_no_line = by_lines
@@ -71,21 +72,21 @@ rest_is_no_line = by_lines
     (λ z more h none. ap has_newline (rest_of_line z more) ∙ none)
 
 only_of : (texts : List (List ℕ)) (rest : List ℕ) → AllByRecursion (λ (t : List ℕ). has_newline t ≡ false) texts → has_newline rest ≡ false
-    → (map (λ (l : Line). l.text) (lines_of (flat_map ended texts ++ rest)) ≡ texts) × (rest_of (flat_map ended texts ++ rest) ≡ rest)
-only_of [] rest all none = (ap (map (λ (l : Line). l.text)) (lines_of_part rest none), rest_of_part rest none)
+    → (map (λ (l : InputLine). l.text) (input_lines (flat_map ended texts ++ rest)) ≡ texts) × (rest_of (flat_map ended texts ++ rest) ≡ rest)
+only_of [] rest all none = (ap (map (λ (l : InputLine). l.text)) (lines_of_part rest none), rest_of_part rest none)
 only_of (t ∷ texts) rest all none =
     let behind = flat_map ended texts ++ rest in
     let again = only_of texts rest all.1 none in
     let is = joined t (flat_map ended texts) rest in (
-      ap (λ i. map (λ (l : Line). l.text) (lines_of i)) is ∙ ap (map (λ (l : Line). l.text)) (lines_of_line t behind all.0) ∙ ap (λ ts. t ∷ ts) again.0,
+      ap (λ i. map (λ (l : InputLine). l.text) (input_lines i)) is ∙ ap (map (λ (l : InputLine). l.text)) (lines_of_line t behind all.0) ∙ ap (λ ts. t ∷ ts) again.0,
       ap rest_of is ∙ rest_of_line t behind ∙ again.1,
     )
 
 pub only_cutting : (input rest : List ℕ) (texts : List (List ℕ)) → AllByRecursion (λ (t : List ℕ). has_newline t ≡ false) texts → has_newline rest ≡ false → input ≡ flat_map (λ (t : List ℕ). t ++ codes "\n") texts ++ rest
-    → (map (λ (l : Line). l.text) (lines_of input) ≡ texts) × (rest_of input ≡ rest)
+    → (map (λ (l : InputLine). l.text) (input_lines input) ≡ texts) × (rest_of input ≡ rest)
 only_cutting input rest texts all none e =
     let again = only_of texts rest all none in
-    (ap (λ i. map (λ (l : Line). l.text) (lines_of i)) e ∙ again.0, ap rest_of e ∙ again.1)
+    (ap (λ i. map (λ (l : InputLine). l.text) (input_lines i)) e ∙ again.0, ap rest_of e ∙ again.1)
 
 -- ---- what a line asks for
 
@@ -240,11 +241,11 @@ tap_alike m tap (Err why) = refusal_alike m (refusal_of why)
 tap_alike m tap (Ok priced) = (refl, (λ w e. absurd cc), (λ p e. refl), (λ e. absurd cc), (λ s e. absurd cc))
 
 in_time_alike : (b : Bool) (m : Machine) (tap : TapMade) → OnlyPricesDiffer m (if b then step_tap true m tap else refuse m refusal.OutOfTime) (if b then step_tap false m tap else refuse m refusal.OutOfTime)
-in_time_alike true m tap = tap_alike m tap (answer_to m.tables (taps_of m.accounts tap.account) tap)
+in_time_alike true m tap = tap_alike m tap (tap_result m.tables (taps_of m.accounts tap.account) tap)
 in_time_alike false m tap = refusal_alike m refusal.OutOfTime
 
-line_alike : (m : Machine) (line : TapLine) → OnlyPricesDiffer m (step_line true m line) (step_line false m line)
-line_alike m line = in_time_alike (is_instant line.utc) m (tap_of_line line (stamp_of m.zone line.utc))
+line_alike : (m : Machine) (line : SpelledTap) → OnlyPricesDiffer m (step_spelled_tap true m line) (step_spelled_tap false m line)
+line_alike m line = in_time_alike (is_instant line.utc) m (tap_of_spelled line (stamp_of m.zone line.utc))
 
 step_alike : (m : Machine) (r : Request) → OnlyPricesDiffer m (step true m r) (step false m r)
 unfolding step

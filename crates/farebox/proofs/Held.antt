@@ -11,7 +11,7 @@ use Rattle.std.specs.declared.cmp.Ordering.TheVariants.{Less, Equal, Greater}
 use Rattle.std.specs.Cmp.{nat_cmp_total, eq_by_cmp_equiv}
 use Rattle.std.proofs.lemmas.Map.Made.{lookup-map_values}
 use Rattle.pay_account.specs.Accepted.{Accepted}
-use Rattle.pay_account.specs.Answers.{IsAnswer, answer_to, answered, taps_after}
+use Rattle.pay_account.specs.TapResults.{IsTapResult, tap_result, addition_result, taps_after}
 use Rattle.pay_account.specs.Places.{is_known}
 use Rattle.pay_account.specs.Prices.{prices}
 use Rattle.pay_tables.specs.FareTables.{FareTables}
@@ -20,7 +20,7 @@ use Rattle.pay_account.specs.declared.fares.TapFault.{TapFault}
 use Rattle.pay_account.specs.declared.fares.TapFault.TheVariants.{UnknownPlace}
 use Rattle.pay_taps.specs.declared.tap_set.Addition.TheVariants.{Added}
 use Rattle.pay_taps.specs.declared.tap_set.TapSetFault.TheVariants.{AccountFull}
-use Rattle.pay_taps.specs.Taps.{Taps, number, number_cmp, judged, answer_to as set_answer}
+use Rattle.pay_taps.specs.Taps.{Taps, number, number_cmp, judged, judgement as set_answer}
 use Rattle.pay_taps.specs.declared.tap.Tap.{Tap}
 use Rattle.farebox.specs.Accounts.{TapsByAccount, taps_of, accounts_after, seen}
 
@@ -95,13 +95,13 @@ seen_after (Ok priced) es fs tap a w h e same = by_again priced.again refl
         ∙ ap (λ b. if b then seen es else map.insert (seen es) tap.account (taps_after (Ok priced) (taps_of (seen es) tap.account) tap)) (sym p)
 
 -- the first tap of an account is no repeat
-pub first_is_new : (tables : FareTables) (tap : Tap) (priced : Priced) → Ok priced ≡ answer_to tables map.empty tap → priced.again ≡ false
-first_is_new tables tap priced e = by_place (is_known tables tap) (e ∙ ap (λ j. if is_known tables tap then answered tables map.empty tap j else Err UnknownPlace) added)
+pub first_is_new : (tables : FareTables) (tap : Tap) (priced : Priced) → Ok priced ≡ tap_result tables map.empty tap → priced.again ≡ false
+first_is_new tables tap priced e = by_place (is_known tables tap) (e ∙ ap (λ j. if is_known tables tap then addition_result tables map.empty tap j else Err UnknownPlace) added)
   where
     added : judged map.empty tap ≡ Ok Added
     added = ap (λ o. set_answer tap o (map.len (map.empty {X = Tap} {R = number_cmp}))) (get-empty number_cmp (number tap)) ∙ ap (λ n. if nat_le 16_384 n then Err AccountFull else Ok Added) (len-empty number_cmp Tap)
 
-    by_place : (b : Bool) → Ok priced ≡ (if b then answered tables map.empty tap (Ok Added) else Err UnknownPlace) → priced.again ≡ false
+    by_place : (b : Bool) → Ok priced ≡ (if b then addition_result tables map.empty tap (Ok Added) else Err UnknownPlace) → priced.again ≡ false
     by_place true f = let same : priced ≡ prices tables (map.insert map.empty (number tap) tap) false tap.stamp.day = cc in ap (λ (p : Priced). p.again) same
     by_place false f = cc
 
@@ -117,10 +117,10 @@ seen_opened es fs tap w priced h none new same =
 -- ---- as the functions ask for it
 
 pub opened : (es fs : List (ℕ × Accepted)) (now : TapsByAccount) (tables : FareTables) (tap : Tap) (a w : Accepted) (priced : Priced) → seen es ≡ now → map.get now tap.account ≡ None → a.taps ≡ map.empty
-    → Ok priced ≡ answer_to tables a.taps tap → w.taps ≡ taps_after (Ok priced) a.taps tap → ((q : ℕ) → lookup (is_at (nat_cmp q)) fs ≡ cond (is_at (nat_cmp tap.account) q) (Some w) (lookup (is_at (nat_cmp q)) es))
+    → Ok priced ≡ tap_result tables a.taps tap → w.taps ≡ taps_after (Ok priced) a.taps tap → ((q : ℕ) → lookup (is_at (nat_cmp q)) fs ≡ cond (is_at (nat_cmp tap.account) q) (Some w) (lookup (is_at (nat_cmp q)) es))
     → seen fs ≡ accounts_after (Ok priced) now tap
 opened es fs now tables tap a w priced v none bare answer after h =
-    seen_opened es fs tap w priced h (ap (λ s. map.get s tap.account) v ∙ none) (first_is_new tables tap priced (answer ∙ ap (λ ts. answer_to tables ts tap) bare)) (after ∙ ap (λ ts. taps_after (Ok priced) ts tap) bare)
+    seen_opened es fs tap w priced h (ap (λ s. map.get s tap.account) v ∙ none) (first_is_new tables tap priced (answer ∙ ap (λ ts. tap_result tables ts tap) bare)) (after ∙ ap (λ ts. taps_after (Ok priced) ts tap) bare)
     ∙ ap (λ s. accounts_after (Ok priced) s tap) v
 
 pub none_held : (m n : BTreeMap ℕ Accepted) (k : ℕ) → n ≡ m → None ≡ lookup (is_at (nat_cmp k)) m.entries → map.get (seen n.entries) k ≡ None
@@ -134,14 +134,14 @@ pub taps_not_held : (es : List (ℕ × Accepted)) (now : TapsByAccount) (account
 taps_not_held es now account v none = sym (ap (λ s. taps_of s account) (sym v) ∙ ap (λ o. unwrap_or o map.empty) (get_seen_none es account (sym none)))
 
 pub answer_of_none : (es : List (ℕ × Accepted)) (now : TapsByAccount) (tables : FareTables) (tap : Tap) (r : Result Priced TapFault) → seen es ≡ now → None ≡ lookup (is_at (nat_cmp tap.account)) es
-    → IsAnswer r tables map.empty tap → IsAnswer r tables (taps_of now tap.account) tap
+    → IsTapResult r tables map.empty tap → IsTapResult r tables (taps_of now tap.account) tap
 answer_of_none es now tables tap r v none h =
-    subst (λ ts. IsAnswer r tables ts tap) (taps_not_held es now tap.account v none) h
+    subst (λ ts. IsTapResult r tables ts tap) (taps_not_held es now tap.account v none) h
 
 pub answer_of_held : (es : List (ℕ × Accepted)) (now : TapsByAccount) (tables : FareTables) (tap : Tap) (a : Accepted) (r : Result Priced TapFault) → seen es ≡ now → Some a ≡ lookup (is_at (nat_cmp tap.account)) es
-    → IsAnswer r tables a.taps tap → IsAnswer r tables (taps_of now tap.account) tap
+    → IsTapResult r tables a.taps tap → IsTapResult r tables (taps_of now tap.account) tap
 answer_of_held es now tables tap a r v e h =
-    subst (λ ts. IsAnswer r tables ts tap) (taps_held es now tap.account a v e) h
+    subst (λ ts. IsTapResult r tables ts tap) (taps_held es now tap.account a v e) h
 
 pub after_held : (es fs : List (ℕ × Accepted)) (now : TapsByAccount) (tap : Tap) (a w : Accepted) (r : Result Priced TapFault) → seen es ≡ now → Some a ≡ lookup (is_at (nat_cmp tap.account)) es
     → w.taps ≡ taps_after r a.taps tap → ((q : ℕ) → lookup (is_at (nat_cmp q)) fs ≡ cond (is_at (nat_cmp tap.account) q) (Some w) (lookup (is_at (nat_cmp q)) es)) → seen fs ≡ accounts_after r now tap

@@ -4,10 +4,6 @@ pub mod Held
 pub mod Newlines
 pub mod Pieces
 pub mod Rests
-pub mod RunLevel
 pub mod Steps
 pub mod Takes
 pub mod Whole
-pub mod WordKinds
-pub mod WordLevels
-pub mod WordsAsked

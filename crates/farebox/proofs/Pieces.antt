@@ -4,7 +4,7 @@ use Rattle.std.specs.Prelude.{◌⊎◌}
 use Rattle.std.proofs.lemmas.List.Folds.{list_any-append}
 use Rattle.std.proofs.lemmas.Bool.{cases_lt}
 use Rattle.pay_wire.specs.Commands.{command_of}
-use Rattle.farebox.specs.Requests.{Line, asked, onto_first, lines_of, rest_of, has_newline, request_of, request_of_rest, line_requests, after_quit, unread, is_quit}
+use Rattle.farebox.specs.Requests.{InputLine, asked, onto_first, input_lines, rest_of, has_newline, request_of, request_of_rest, line_requests, after_quit, unread, is_quit}
 use Rattle.farebox.specs.declared.request.Request.TheVariants as requests
 
 pub false_or : (a b : Bool) → (a || b) ≡ false → (a ≡ false) × (b ≡ false)
@@ -15,18 +15,18 @@ false_or true b h = (h, absurd_from h)
 false_or false b h = (refl, h)
 
 -- the first line, and the lines after it
-pub lines_of_line : (p more : List ℕ) → has_newline p ≡ false → lines_of (p ++ 10 ∷ more) ≡ record { text = p; after = more } ∷ lines_of more
+pub lines_of_line : (p more : List ℕ) → has_newline p ≡ false → input_lines (p ++ 10 ∷ more) ≡ record { text = p; after = more } ∷ input_lines more
 lines_of_line [] more h = refl
 lines_of_line (b ∷ p) more h =
     let both = false_or (eqb b 10) (has_newline p) h in
-    ap (λ c. cond c (record { text = []; after = p ++ 10 ∷ more } ∷ lines_of (p ++ 10 ∷ more)) (onto_first b (lines_of (p ++ 10 ∷ more)))) both.0
+    ap (λ c. cond c (record { text = []; after = p ++ 10 ∷ more } ∷ input_lines (p ++ 10 ∷ more)) (onto_first b (input_lines (p ++ 10 ∷ more)))) both.0
     ∙ ap (onto_first b) (lines_of_line p more both.1)
 
-pub lines_of_part : (p : List ℕ) → has_newline p ≡ false → lines_of p ≡ []
+pub lines_of_part : (p : List ℕ) → has_newline p ≡ false → input_lines p ≡ []
 lines_of_part [] h = refl
 lines_of_part (b ∷ p) h =
     let both = false_or (eqb b 10) (has_newline p) h in
-    ap (λ c. cond c (record { text = []; after = p } ∷ lines_of p) (onto_first b (lines_of p))) both.0
+    ap (λ c. cond c (record { text = []; after = p } ∷ input_lines p) (onto_first b (input_lines p))) both.0
     ∙ ap (onto_first b) (lines_of_part p both.1)
 
 pub has_newline_line : (p more : List ℕ) → has_newline (p ++ 10 ∷ more) ≡ true
@@ -104,10 +104,10 @@ pub record Alike (p q : List ℕ) : Type 0 where
 
 -- a line at the front of an input
 pub line_requests_line : (p more : List ℕ) → has_newline p ≡ false → line_requests (p ++ 10 ∷ more) ≡ request_of p ∷ line_requests more
-line_requests_line p more h = ap (map (λ (l : Line). request_of l.text)) (lines_of_line p more h)
+line_requests_line p more h = ap (map (λ (l : InputLine). request_of l.text)) (lines_of_line p more h)
 
 pub line_requests_part : (p : List ℕ) → has_newline p ≡ false → line_requests p ≡ []
-line_requests_part p h = ap (map (λ (l : Line). request_of l.text)) (lines_of_part p h)
+line_requests_part p h = ap (map (λ (l : InputLine). request_of l.text)) (lines_of_part p h)
 
 pub unread_line : (p more : List ℕ) → has_newline p ≡ false → unread (p ++ 10 ∷ more) ≡ cond (is_quit (request_of p)) more (unread more)
 unread_line p more h = ap after_quit (lines_of_line p more h)

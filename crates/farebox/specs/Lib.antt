@@ -1,9 +1,7 @@
 pub mod Accounts
-pub mod CommandLine
 pub mod Desk
 pub mod Faults
 pub mod Machine
-pub mod ProgramWords
 pub mod Requests
 pub mod Run
 pub mod Session

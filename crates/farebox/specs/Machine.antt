@@ -1,18 +1,18 @@
 -- The machine that answers: it keeps the accepted taps of each account, and prices them from scratch.
-use Rattle.std.specs.Prelude.{ℕ, Bool, true, false, ◌&&◌, nat_le, Result, Ok, Err, if◌then◌else◌}
+use Rattle.std.specs.Prelude.{ℕ, Bool, true, false, Result, Ok, Err, if◌then◌else◌}
 use Rattle.jiff.specs.declared.tz.timezone.TimeZone.{TimeZone}
 use Rattle.std.specs.FinMap as map
-use Rattle.pay_day.specs.Day.{Stamp, stamp_of}
+use Rattle.pay_day.specs.Day.{Stamp, is_instant, stamp_of}
 use Rattle.pay_tables.specs.FareTables.{FareTables}
 use Rattle.pay_taps.specs.declared.tap.Tap.{Tap}
-use Rattle.pay_account.specs.Answers.{answer_to}
+use Rattle.pay_account.specs.TapResults.{tap_result}
 use Rattle.pay_account.specs.Lines.{shown}
 use Rattle.pay_account.specs.declared.fares.Priced.{Priced}
 use Rattle.pay_account.specs.declared.fares.TapFault.{TapFault}
 use Rattle.farebox.specs.Accounts.{TapsByAccount, taps_of, accounts_after}
 use Rattle.pay_wire.specs.declared.command.Command.{Command}
 use Rattle.pay_wire.specs.declared.command.Command.TheVariants as command
-use Rattle.pay_wire.specs.declared.command.TapLine.{TapLine}
+use Rattle.pay_wire.specs.declared.command.SpelledTap.{SpelledTap}
 use Rattle.pay_wire.specs.declared.refusal.Refusal.{Refusal}
 use Rattle.pay_wire.specs.declared.refusal.Refusal.TheVariants as refusal
 use Rattle.pay_wire.specs.Refusals.{refusal_of}
@@ -40,13 +40,9 @@ pub record Step : Type 0 where
 abbrev pub refuse : Machine → Refusal → Step
 refuse m why = record { reply = replies.No why; after = m }
 
--- the instants that are taken
-abbrev pub is_instant : ℕ → Bool
-is_instant utc = nat_le 604_800 utc && nat_le utc 4_102_444_799
-
 -- the tap that a line spells, with where its instant falls
-abbrev pub tap_of_line : TapLine → Stamp → Tap
-tap_of_line line stamp =
+abbrev pub tap_of_spelled : SpelledTap → Stamp → Tap
+tap_of_spelled line stamp =
     record { account = line.account; reader = line.reader; seq = line.seq; stamp = stamp; place = line.place; kind = line.kind }
 
 -- an accepted tap is kept; a refusal changes nothing, and neither does want of memory
@@ -58,12 +54,12 @@ step_answer false m tap (Ok priced) =
 
 -- a tap is answered by its own account
 abbrev pub step_tap : Bool → Machine → Tap → Step
-step_tap refused_memory m tap = step_answer refused_memory m tap (answer_to m.tables (taps_of m.accounts tap.account) tap)
+step_tap refused_memory m tap = step_answer refused_memory m tap (tap_result m.tables (taps_of m.accounts tap.account) tap)
 
 -- an instant out of range comes before all that an account answers
-abbrev pub step_line : Bool → Machine → TapLine → Step
-step_line refused_memory m line =
-    if is_instant line.utc then step_tap refused_memory m (tap_of_line line (stamp_of m.zone line.utc)) else refuse m refusal.OutOfTime
+abbrev pub step_spelled_tap : Bool → Machine → SpelledTap → Step
+step_spelled_tap refused_memory m line =
+    if is_instant line.utc then step_tap refused_memory m (tap_of_spelled line (stamp_of m.zone line.utc)) else refuse m refusal.OutOfTime
 
 -- the journeys of a day of an account are shown, and nothing changes
 abbrev pub step_show : Bool → Machine → ℕ → ℕ → Step
@@ -71,7 +67,7 @@ step_show true m account day = refuse m refusal.Memory
 step_show false m account day = record { reply = replies.Shown (shown m.tables account (taps_of m.accounts account) day); after = m }
 
 abbrev pub step_command : Bool → Machine → Command → Step
-step_command refused_memory m (command.Tap line) = step_line refused_memory m line
+step_command refused_memory m (command.Tap line) = step_spelled_tap refused_memory m line
 step_command refused_memory m (command.Show account day) = step_show refused_memory m account day
 step_command refused_memory m command.NotYet = refuse m refusal.NotYet
 step_command refused_memory m command.Quit = record { reply = replies.Bye; after = m }

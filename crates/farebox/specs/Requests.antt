@@ -8,19 +8,19 @@ use Rattle.farebox.specs.declared.request.Request.{Request}
 use Rattle.farebox.specs.declared.request.Request.TheVariants as requests
 
 -- a line of the input, without its newline, and the bytes after that newline
-pub record Line : Type 0 where
+pub record InputLine : Type 0 where
   pub text : List ℕ
   pub after : List ℕ
 
 -- the first line with a byte more at its front
-abbrev pub onto_first : ℕ → List Line → List Line
+abbrev pub onto_first : ℕ → List InputLine → List InputLine
 onto_first b [] = []
 onto_first b (l ∷ ls) = record { text = b ∷ l.text; after = l.after } ∷ ls
 
 -- the lines of the input, which newlines end
-abbrev pub lines_of : List ℕ → List Line
-lines_of [] = []
-lines_of (b ∷ bs) = if b == 10 then record { text = []; after = bs } ∷ lines_of bs else onto_first b (lines_of bs)
+abbrev pub input_lines : List ℕ → List InputLine
+input_lines [] = []
+input_lines (b ∷ bs) = if b == 10 then record { text = []; after = bs } ∷ input_lines bs else onto_first b (input_lines bs)
 
 -- whether a newline, byte 10, is there
 abbrev pub has_newline : List ℕ → Bool
@@ -62,7 +62,7 @@ through_quit (r ∷ rs) = if is_quit r then r ∷ [] else r ∷ through_quit rs
 
 -- what the lines ask for
 abbrev pub line_requests : List ℕ → List Request
-line_requests input = map (λ (l : Line). request_of l.text) (lines_of input)
+line_requests input = map (λ (l : InputLine). request_of l.text) (input_lines input)
 
 -- what the input asks for
 abbrev pub requests_of : List ℕ → List Request
@@ -73,10 +73,10 @@ abbrev pub quits : List ℕ → Bool
 quits input = list_any is_quit (line_requests input)
 
 -- the bytes after the first line that asks to quit, or none
-abbrev pub after_quit : List Line → List ℕ
+abbrev pub after_quit : List InputLine → List ℕ
 after_quit [] = []
 after_quit (l ∷ ls) = if is_quit (request_of l.text) then l.after else after_quit ls
 
 -- what is left unread
 abbrev pub unread : List ℕ → List ℕ
-unread input = after_quit (lines_of input)
+unread input = after_quit (input_lines input)

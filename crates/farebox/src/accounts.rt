@@ -1,6 +1,6 @@
 ghost use Rattle.std.specs.Prelude.{◌≡◌, IfOk};
 ghost use Rattle.std.specs.FinMap as map;
-ghost use Rattle.pay_account.specs.Answers.{IsAnswer};
+ghost use Rattle.pay_account.specs.TapResults.{IsTapResult};
 ghost use Rattle.pay_account.specs.Lines.{shown};
 ghost use Rattle.farebox.specs.Accounts.{taps_of, accounts_after};
 
@@ -45,7 +45,7 @@ impl Accounts {
     /// Hands a tap to its account, which is opened by its first accepted tap: a refused tap leaves no
     /// account behind.
     pub fn tap(&mut self, tables: &Tables, tap: Tap) -> Result<Priced, TapFault>
-        ensures answer { IsAnswer result tables.now (taps_of self.old tap.account) tap }
+        ensures answer { IsTapResult result tables.now (taps_of self.old tap.account) tap }
         ensures after { self.new ≡ accounts_after result self.old tap }
     {
         match self.accounts.get_mut(&tap.account) {
@@ -57,7 +57,7 @@ impl Accounts {
     /// Hands a tap to a new account, and keeps the account if the tap is accepted.
     fn open(&mut self, tables: &Tables, tap: Tap) -> Result<Priced, TapFault>
         requires { map.get self.old tap.account ≡ None }
-        ensures answer { IsAnswer result tables.now map.empty tap }
+        ensures answer { IsTapResult result tables.now map.empty tap }
         ensures after { self.new ≡ accounts_after result self.old tap }
     {
         let alloc = self.alloc;

@@ -1,5 +1,5 @@
 ghost use Rattle.std.specs.Prelude.{◌≡◌, Bool};
-ghost use Rattle.farebox.specs.Machine.{new_machine, step, step_command, step_line, step_show};
+ghost use Rattle.farebox.specs.Machine.{new_machine, step, step_command, step_spelled_tap, step_show};
 
 use crate::accounts::Accounts;
 use crate::request::Request;
@@ -7,7 +7,7 @@ use jiff::tz::TimeZone;
 use pay_day::{StampFault, stamp};
 use pay_tables::Tables;
 use pay_taps::Tap;
-use pay_wire::{Command, Refusal, Reply, TapLine};
+use pay_wire::{Command, Refusal, Reply, SpelledTap};
 use std::alloc::Global;
 
 /// What answers requests: a zone, a fare file, and the accounts.
@@ -54,8 +54,8 @@ impl<'a> Desk<'a> {
         }
     }
 
-    fn tap(&mut self, line: TapLine) -> Reply
-        ensures { (refused_memory : Bool) × (step_line refused_memory (machine_of self.old) line ≡ record { reply = result; after = machine_of self.new }) }
+    fn tap(&mut self, line: SpelledTap) -> Reply
+        ensures { (refused_memory : Bool) × (step_spelled_tap refused_memory (machine_of self.old) line ≡ record { reply = result; after = machine_of self.new }) }
     {
         let stamp = match stamp(self.zone, line.utc) {
             Ok(stamp) => stamp,

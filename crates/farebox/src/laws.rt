@@ -12,20 +12,20 @@ ghost use Rattle.pay_wire.specs.declared.reply.Reply.TheVariants as replies;
 ghost use Rattle.pay_wire.specs.Spellings.{Spells};
 ghost use Rattle.farebox.specs.declared.request.Request.{Request};
 ghost use Rattle.farebox.specs.declared.request.Request.TheVariants as requests;
-ghost use Rattle.farebox.specs.Requests.{Line, lines_of, rest_of, has_newline, request_of, line_requests, requests_of, quits, unread};
+ghost use Rattle.farebox.specs.Requests.{InputLine, input_lines, rest_of, has_newline, request_of, line_requests, requests_of, quits, unread};
 ghost use Rattle.farebox.specs.Machine.{Machine, refuse, step};
 
 /// The lines and the rest are the input, cut at its newlines, and no other cutting is.
 pub fn cut_at_newlines()
     ensures whole { (input : List ℕ)
-        → flat_map (λ (l : Line). l.text ++ codes "\n") (lines_of input) ++ rest_of input ≡ input }
+        → flat_map (λ (l : InputLine). l.text ++ codes "\n") (input_lines input) ++ rest_of input ≡ input }
     ensures lines { (input : List ℕ)
-        → AllByRecursion (λ (l : Line). has_newline l.text ≡ false) (lines_of input) }
+        → AllByRecursion (λ (l : InputLine). has_newline l.text ≡ false) (input_lines input) }
     ensures rest { (input : List ℕ) → has_newline (rest_of input) ≡ false }
     ensures only { (input rest : List ℕ) (texts : List (List ℕ))
         → AllByRecursion (λ (t : List ℕ). has_newline t ≡ false) texts → has_newline rest ≡ false
         → input ≡ flat_map (λ (t : List ℕ). t ++ codes "\n") texts ++ rest
-        → (map (λ (l : Line). l.text) (lines_of input) ≡ texts) × (rest_of input ≡ rest) }
+        → (map (λ (l : InputLine). l.text) (input_lines input) ≡ texts) × (rest_of input ≡ rest) }
 {}
 
 /// What is left unread is what stands behind the first line that is `QUIT`, or nothing where no line is.

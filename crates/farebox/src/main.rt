@@ -11,7 +11,6 @@ mod request;
 mod session;
 #[cfg(test)]
 mod tests;
-mod words;
 
 use std::process::ExitCode;
 

@@ -5,9 +5,9 @@ ghost use Rattle.farebox.specs.Faults.{IsRefusal, IsWantOfMemory, status_of, str
 ghost use Rattle.pay_tables.specs.Fault.{fault_number, fault_name};
 
 use crate::session::{SessionFault, run_lines};
-use crate::words::{Job, RunWords, WordsFault, read_words};
 use jiff::tz::TimeZone;
 use pay_tables::{FareFileFault, Tables};
+use pay_words::{Job, RunWords, WordsFault, read_words};
 use std::alloc::AllocError;
 use std::io::{BufReader, ErrorKind};
 use std::rt::{Env, Files};

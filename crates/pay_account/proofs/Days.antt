@@ -10,7 +10,7 @@ use Rattle.pay_hopper.specs.LastPaid.{marks_by_last}
 use Rattle.pay_tables.specs.FareTables.{FareTables}
 use Rattle.pay_links.specs.declared.journey.Journey.{Journey}
 use Rattle.pay_links.specs.Journeys.{first_tap}
-use Rattle.pay_fares.specs.Fares.{fare}
+use Rattle.pay_fares.specs.JourneyFares.{fare}
 use Rattle.pay_account.specs.Journeys.{is_bus, is_on, boarding, boardings}
 use Rattle.pay_account.specs.Prices.{fares_on, fares_through}
 use Rattle.pay_account.proofs.Boardings.{boardings_by_last}

@@ -1,5 +1,5 @@
 pub mod Counts
 pub mod Days
 pub mod Boardings
-pub mod Answering
+pub mod TapResults
 mod Rows

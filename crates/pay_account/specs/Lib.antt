@@ -4,5 +4,5 @@ pub mod Prices
 pub mod Codes
 pub mod Lines
 pub mod Faults
-pub mod Answers
+pub mod TapResults
 pub mod Accepted

@@ -8,7 +8,7 @@ use Rattle.pay_links.specs.LinkedLegs.{last_leg}
 use Rattle.pay_links.specs.declared.journey.Journey.{Journey}
 use Rattle.pay_links.specs.declared.journey.Journey.TheVariants.{Run, Same, Lone, Bus}
 use Rattle.pay_links.specs.Journeys.{first_tap}
-use Rattle.pay_fares.specs.Fares.{fare}
+use Rattle.pay_fares.specs.JourneyFares.{fare}
 use Rattle.pay_account.specs.declared.shown.Line.{Line}
 use Rattle.pay_account.specs.declared.shown.LineKind.{LineKind}
 use Rattle.pay_account.specs.declared.shown.LineKind.TheVariants as kind
@@ -16,11 +16,11 @@ use Rattle.pay_account.specs.declared.shown.Shown.{Shown}
 use Rattle.pay_account.specs.Journeys.{journeys_of, is_on}
 use Rattle.pay_account.specs.Prices.{day_price}
 
-abbrev pub kind_of : Journey → LineKind
-kind_of (Run legs) = kind.Rail
-kind_of (Same leg) = kind.Same
-kind_of (Lone tap) = kind.Lone
-kind_of (Bus tap pays) = kind.Bus
+abbrev pub line_kind : Journey → LineKind
+line_kind (Run legs) = kind.Rail
+line_kind (Same leg) = kind.Same
+line_kind (Lone tap) = kind.Lone
+line_kind (Bus tap pays) = kind.Bus
 
 -- the place where a journey begins: none is known where a tap on the way out is alone
 abbrev pub from_of : Journey → ℕ
@@ -37,10 +37,10 @@ to_of (Lone tap) = if same_kind tap.kind Out then tap.place else 0
 to_of (Bus tap pays) = 0
 
 -- a journey as a line; no band is known
-abbrev pub line_of : FareTables → Journey → Line
-line_of tables journey = record {
+abbrev pub line_of_journey : FareTables → Journey → Line
+line_of_journey tables journey = record {
   day = (first_tap journey).stamp.day;
-  kind = kind_of journey;
+  kind = line_kind journey;
   from = from_of journey;
   to = to_of journey;
   utc = (first_tap journey).stamp.utc;
@@ -51,7 +51,7 @@ line_of tables journey = record {
 
 -- the journeys of a service day in the order of their first taps, rail and bus together
 abbrev pub lines_on : FareTables → List Journey → ℕ → List Line
-lines_on tables list day = map (line_of tables) (in_order_by first_tap (filter (is_on day) list))
+lines_on tables list day = map (line_of_journey tables) (in_order_by first_tap (filter (is_on day) list))
 
 -- what an account shows of a service day: its lines, and its price
 abbrev pub shown : FareTables → ℕ → Taps → ℕ → Shown

@@ -7,7 +7,7 @@ use Rattle.pay_taps.specs.declared.tap.Touch.{Touch}
 use Rattle.pay_taps.specs.Taps.{Taps}
 use Rattle.pay_taps.specs.Order.{touches}
 use Rattle.pay_links.specs.declared.journey.Journey.{Journey}
-use Rattle.pay_fares.specs.Fares.{fare}
+use Rattle.pay_fares.specs.JourneyFares.{fare}
 use Rattle.pay_account.specs.declared.fares.Priced.{Priced}
 use Rattle.pay_account.specs.Journeys.{journeys_of, is_on}
 

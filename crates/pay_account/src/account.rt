@@ -3,7 +3,7 @@ ghost use Rattle.std.specs.FinMap as map;
 ghost use Rattle.pay_day.specs.Day.{IsDay};
 ghost use Rattle.pay_taps.specs.Taps.{judged, number};
 ghost use Rattle.pay_account.specs.Prices.{prices};
-ghost use Rattle.pay_account.specs.Answers.{IsAnswer};
+ghost use Rattle.pay_account.specs.TapResults.{IsTapResult};
 
 use crate::fares::{Fares, Priced, TapFault};
 use crate::journeys::journeys_of;
@@ -37,8 +37,8 @@ impl Model for Account {
 
 impl Account {
     /// What `tap` answers. The account stays as it is.
-    fn answer(&self, tables: &Tables, tap: &Tap) -> Result<Priced, TapFault>
-        ensures { IsAnswer result tables.now self.now.taps tap.now }
+    fn priced(&self, tables: &Tables, tap: &Tap) -> Result<Priced, TapFault>
+        ensures { IsTapResult result tables.now self.now.taps tap.now }
     {
         if !is_known(tables, tap) {
             return Err(TapFault::UnknownPlace);
@@ -87,7 +87,7 @@ impl Fares for Account {
     }
 
     fn tap(&mut self, tables: &Tables, tap: Tap) -> Result<Priced, TapFault> {
-        let priced = self.answer(tables, &tap)?;
+        let priced = self.priced(tables, &tap)?;
         if !priced.again {
             self.taps.add(tap)?;
         }

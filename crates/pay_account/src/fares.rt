@@ -1,7 +1,7 @@
 ghost use Rattle.std.specs.Prelude.{◌≡◌, ℕ, IfOk};
 ghost use Rattle.std.specs.FinMap as map;
 ghost use Rattle.pay_taps.specs.Taps.{Taps};
-ghost use Rattle.pay_account.specs.Answers.{IsAnswer, taps_after};
+ghost use Rattle.pay_account.specs.TapResults.{IsTapResult, taps_after};
 ghost use Rattle.pay_account.specs.Lines.{shown};
 
 use crate::shown::Shown;
@@ -64,7 +64,7 @@ impl From<TapSetFault> for TapFault {
 }
 
 /// An account that prices its taps. It means its number and the set of its accepted taps, and all
-/// its answers are of these and the fare file.
+/// its results are of these and the fare file.
 pub trait Fares: Drop {
     /// The number of the account.
     ghost account: { Self → ℕ };
@@ -87,7 +87,7 @@ pub trait Fares: Drop {
     fn tap(&mut self, tables: &Tables, tap: Tap) -> Result<Priced, TapFault>
         requires own { tap.account ≡ account self.old }
         ensures same_account { account self.new ≡ account self.old }
-        ensures answer { IsAnswer result tables.now (taps self.old) tap }
+        ensures answer { IsTapResult result tables.now (taps self.old) tap }
         ensures after { taps self.new ≡ taps_after result (taps self.old) tap };
 
     /// Shows the journeys of a service day, counted from 1970-01-01, and its price. An `Err` is want of

@@ -4,7 +4,7 @@ ghost use Rattle.pay_links.specs.Journeys.{first_tap};
 ghost use Rattle.pay_account.specs.Journeys.{boardings, next_boarding, is_bus, is_rail, rail_journeys, journeys_of, is_on};
 
 use pay_day::Moment;
-use pay_hopper::{laws, pays};
+use pay_hopper::pays;
 use pay_links::{Journey, journeys};
 use pay_pairs::legs;
 use pay_tables::Tables;
@@ -72,7 +72,7 @@ fn add_boardings(
 ) -> Result<(), AllocError>
     ensures { OnOk result (list.new.items ≡ list.old.items ++ boardings tables.now touches.now) }
 {
-    laws::by_the_last();
+    pay_hopper::laws::by_the_last();
     list.reserve(touches.len())?;
     let mut last_paid = None;
     for touch in touches {

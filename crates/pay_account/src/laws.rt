@@ -3,39 +3,39 @@
 ghost use Rattle.std.specs.Prelude.{◌≡◌, ◌≢◌, ◌↔◌, ◌≤◌, true, false};
 ghost use Rattle.std.specs.FinMap as map;
 ghost use Rattle.pay_tables.specs.FareTables.{FareTables};
+ghost use Rattle.pay_taps.specs.declared.limits.TheConstants.{MOST_TAPS};
 ghost use Rattle.pay_taps.specs.declared.tap.Tap.{Tap};
 ghost use Rattle.pay_taps.specs.Taps.{Taps, number};
 ghost use Rattle.pay_account.specs.declared.fares.Priced.{Priced};
 ghost use Rattle.pay_account.specs.Places.{is_known};
-ghost use Rattle.pay_account.specs.Answers.{answer_to, taps_after};
+ghost use Rattle.pay_account.specs.TapResults.{tap_result, taps_after};
 
 use crate::fares::TapFault;
-use pay_taps::laws;
 
 /// When each refusal comes. Of several that there are, the first here is given.
 pub fn refusals()
     // The fare file has no place there of the tap's sort.
-    ensures unknown_place { (tables : FareTables) (taps : Taps) (tap : Tap) → (answer_to tables taps tap ≡ Err TapFault.UnknownPlace)
+    ensures unknown_place { (tables : FareTables) (taps : Taps) (tap : Tap) → (tap_result tables taps tap ≡ Err TapFault.UnknownPlace)
         ↔ (is_known tables tap ≡ false) }
 
     // Another tap of its number is there.
-    ensures conflict { (tables : FareTables) (taps : Taps) (tap : Tap) → (answer_to tables taps tap ≡ Err TapFault.Conflict)
+    ensures conflict { (tables : FareTables) (taps : Taps) (tap : Tap) → (tap_result tables taps tap ≡ Err TapFault.Conflict)
         ↔ ((is_known tables tap ≡ true) × ((other : Tap) × (map.get taps (number tap) ≡ Some other) × (other ≢ tap))) }
 
     // None of its number is there, and there is no room.
-    ensures full { (tables : FareTables) (taps : Taps) (tap : Tap) → (answer_to tables taps tap ≡ Err TapFault.AccountFull)
-        ↔ ((is_known tables tap ≡ true) × (map.get taps (number tap) ≡ None) × (16_384 ≤ map.len taps)) }
-    ensures never_memory { (tables : FareTables) (taps : Taps) (tap : Tap) → answer_to tables taps tap ≢ Err TapFault.Memory }
+    ensures full { (tables : FareTables) (taps : Taps) (tap : Tap) → (tap_result tables taps tap ≡ Err TapFault.AccountFull)
+        ↔ ((is_known tables tap ≡ true) × (map.get taps (number tap) ≡ None) × (MOST_TAPS ≤ map.len taps)) }
+    ensures never_memory { (tables : FareTables) (taps : Taps) (tap : Tap) → tap_result tables taps tap ≢ Err TapFault.Memory }
 {
-    laws::answers();
+    pay_taps::laws::judgements();
 }
 
 /// A tap that was accepted may be sent again: it is answered by the same prices, and changes nothing.
 pub fn repeats()
-    ensures same_prices { (tables : FareTables) (taps : Taps) (tap : Tap) (priced : Priced) → answer_to tables taps tap ≡ Ok priced
-        → answer_to tables (taps_after (Ok priced) taps tap) tap ≡ Ok (record priced { again = true }) }
-    ensures same_taps { (tables : FareTables) (taps : Taps) (tap : Tap) (priced : Priced) → answer_to tables taps tap ≡ Ok priced
+    ensures same_prices { (tables : FareTables) (taps : Taps) (tap : Tap) (priced : Priced) → tap_result tables taps tap ≡ Ok priced
+        → tap_result tables (taps_after (Ok priced) taps tap) tap ≡ Ok (record priced { again = true }) }
+    ensures same_taps { (tables : FareTables) (taps : Taps) (tap : Tap) (priced : Priced) → tap_result tables taps tap ≡ Ok priced
         → taps_after (Ok (record priced { again = true })) (taps_after (Ok priced) taps tap) tap ≡ taps_after (Ok priced) taps tap }
 {
-    laws::answers();
+    pay_taps::laws::judgements();
 }

@@ -2,18 +2,18 @@ ghost use Rattle.std.specs.Prelude.{◌≡◌, ℕ, List, map, filter, IfOk, OnO
 ghost use Rattle.pay_taps.specs.Order.{in_order_by};
 ghost use Rattle.pay_links.specs.Journeys.{first_tap};
 ghost use Rattle.pay_account.specs.Journeys.{is_on};
-ghost use Rattle.pay_account.specs.Lines.{kind_of, from_of, to_of, line_of, lines_on};
+ghost use Rattle.pay_account.specs.Lines.{line_kind, from_of, to_of, line_of_journey, lines_on};
 
 use crate::journeys::is_on;
 use crate::shown::{Line, LineKind, Lines};
 use pay_fares::fare;
 use pay_links::Journey;
 use pay_tables::Tables;
-use pay_taps::{Kind, laws};
+use pay_taps::Kind;
 use std::alloc::{AllocError, Global};
 
-fn kind_of(journey: &Journey) -> LineKind
-    ensures { result ≡ kind_of journey.now }
+fn line_kind(journey: &Journey) -> LineKind
+    ensures { result ≡ line_kind journey.now }
 {
     match journey {
         Journey::Run(_) => LineKind::Rail,
@@ -47,13 +47,13 @@ fn to_of(journey: &Journey) -> u16
 }
 
 /// A journey as a line.
-fn line_of(tables: &Tables, journey: &Journey) -> Line
-    ensures { result ≡ line_of tables.now journey.now }
+fn line_of_journey(tables: &Tables, journey: &Journey) -> Line
+    ensures { result ≡ line_of_journey tables.now journey.now }
 {
     let stamp = journey.first_tap().stamp;
     Line {
         day: stamp.day(),
-        kind: kind_of(journey),
+        kind: line_kind(journey),
         from: from_of(journey),
         to: to_of(journey),
         utc: stamp.utc(),
@@ -74,7 +74,7 @@ fn keep_day(list: &mut Vec<Journey>, day: u32)
 fn sort_by_first_tap(list: &mut Vec<Journey>) -> Result<(), AllocError>
     ensures { OnOk result (list.new.items ≡ in_order_by first_tap list.old.items) }
 {
-    laws::sorting::<Journey>();
+    pay_taps::laws::sorting::<Journey>();
     list.sort_by_key(|journey| {
         let touch = journey.first_tap();
         (touch.stamp.utc(), touch.filled, touch.first, touch.second)
@@ -82,11 +82,15 @@ fn sort_by_first_tap(list: &mut Vec<Journey>) -> Result<(), AllocError>
 }
 
 /// Each journey as a line.
-fn lines_of(alloc: Global, tables: &Tables, list: &[Journey]) -> Result<Vec<Line>, AllocError>
-    ensures { IfOk result (λ lines. lines.items ≡ map (line_of tables.now) list.now) }
+fn lines_of_journeys(
+    alloc: Global,
+    tables: &Tables,
+    list: &[Journey],
+) -> Result<Vec<Line>, AllocError>
+    ensures { IfOk result (λ lines. lines.items ≡ map (line_of_journey tables.now) list.now) }
 {
     list.iter()
-        .map(|journey| line_of(tables, journey))
+        .map(|journey| line_of_journey(tables, journey))
         .collect(alloc)
 }
 
@@ -101,6 +105,6 @@ pub fn lines_on(
 {
     keep_day(&mut list, day);
     sort_by_first_tap(&mut list)?;
-    let lines = lines_of(alloc, tables, &list)?;
+    let lines = lines_of_journeys(alloc, tables, &list)?;
     Ok(Lines::from(lines))
 }

@@ -1,7 +1,8 @@
 ghost use Rattle.std.specs.Prelude.{◌≡◌, ◌≤◌, ◌+◌, ◌&&◌, if◌then◌else◌, length, IfOk};
 ghost use Rattle.pay_day.specs.Day.{IsDay, monday};
 ghost use Rattle.pay_hopper.specs.LastPaid.{last_paid_after};
-ghost use Rattle.pay_fares.specs.Fares.{fare};
+ghost use Rattle.pay_taps.specs.declared.limits.TheConstants.{MOST_TAPS};
+ghost use Rattle.pay_fares.specs.JourneyFares.{fare};
 ghost use Rattle.pay_account.specs.Journeys.{boardings, next_boarding, is_bus, is_in_week, is_on};
 ghost use Rattle.pay_account.specs.Prices.{fares_on, fares_through, prices_of_touches};
 
@@ -9,7 +10,6 @@ use crate::fares::Priced;
 use crate::journeys::{day_of, is_on, next_boarding, rail_journeys};
 use pay_day::{Moment, monday};
 use pay_fares::fare;
-use pay_hopper::laws;
 use pay_links::Journey;
 use pay_money::Pence;
 use pay_tables::Tables;
@@ -25,7 +25,7 @@ pub fn price(
     again: bool,
     day: u32,
 ) -> Result<Priced, AllocError>
-    requires few { length touches.now ≤ 16_384 }
+    requires few { length touches.now ≤ MOST_TAPS }
     requires is_day { IsDay day }
     ensures { IfOk result (λ p. p ≡ prices_of_touches tables.now touches.now again day) }
 {
@@ -104,7 +104,7 @@ impl Sums {
 /// The sums of the fares of the journeys of a service day and of its week.
 #[tactic(auto, using(crate::proofs::Days::fares_of_week))]
 fn sums_of(tables: &Tables, journeys: &[Journey], day: u32) -> Sums
-    requires few { length journeys.now ≤ 16_384 }
+    requires few { length journeys.now ≤ MOST_TAPS }
     requires is_day { IsDay day }
     ensures day { result.day ≡ fares_on tables.now journeys.now day }
     ensures week { result.week ≡ fares_through tables.now journeys.now (monday day + 6) }
@@ -120,14 +120,14 @@ fn sums_of(tables: &Tables, journeys: &[Journey], day: u32) -> Sums
 
 /// The sums of the fares of the boardings of a service day and of its week, among touches in order.
 fn sums_of_boardings(tables: &Tables, touches: &[Touch], day: u32) -> Sums
-    requires few { length touches.now ≤ 16_384 }
+    requires few { length touches.now ≤ MOST_TAPS }
     requires is_day { IsDay day }
     ensures day { result.day ≡ fares_on tables.now (boardings tables.now touches.now) day }
     ensures week { result.week ≡ fares_through tables.now (boardings tables.now touches.now) (monday day + 6) }
     ensures day_in_range { result.day ≤ 1_638_400_000 }
     ensures week_in_range { result.week ≤ 1_638_400_000 }
 {
-    laws::by_the_last();
+    pay_hopper::laws::by_the_last();
     let mut sums = Sums::ZERO;
     let mut last_paid = None;
     for touch in touches {
@@ -138,7 +138,7 @@ fn sums_of_boardings(tables: &Tables, touches: &[Touch], day: u32) -> Sums
 
 /// The sum of the fares of the journeys of a service day.
 pub fn fares_on(tables: &Tables, journeys: &[Journey], day: u32) -> Pence
-    requires { length journeys.now ≤ 16_384 }
+    requires { length journeys.now ≤ MOST_TAPS }
     ensures value { result ≡ fares_on tables.now journeys.now day }
     ensures in_range { result ≤ 1_638_400_000 }
 {

@@ -1,8 +1,9 @@
 -- What a service day is.
-use Rattle.std.specs.Prelude.{◌≡◌, ℕ, ◌+◌, ◌-◌, ◌%◌, ◌<◌, ◌≤◌, ℤ, pos, ◌+ℤ◌, ◌-ℤ◌, if◌then◌else◌, nat_lt, unsigned_abs, refl}
+use Rattle.std.specs.Prelude.{◌≡◌, ◌&&◌, nat_le, Bool, ℕ, ◌+◌, ◌-◌, ◌%◌, ◌<◌, ◌≤◌, ℤ, pos, ◌+ℤ◌, ◌-ℤ◌, if◌then◌else◌, nat_lt, unsigned_abs, refl}
 use Rattle.std.specs.Int.{int_div_euclid, int_rem_euclid}
 use Rattle.jiff.specs.Words.{plain_zone, nanos_of_seconds, offset_at}
 use Rattle.jiff.specs.declared.tz.timezone.TimeZone.{TimeZone}
+use Rattle.pay_day.specs.declared.limits.TheConstants.{FIRST_INSTANT, LAST_INSTANT, FIRST_DAY, LAST_DAY, SECONDS_PER_DAY, SERVICE_DAY_START}
 
 -- an instant as it is kept: seconds of the Unix clock, the service day, and the local second of the day
 pub record Stamp : Type 0 where
@@ -12,17 +13,21 @@ pub record Stamp : Type 0 where
 
 -- instants are taken from 1970-01-08 to the end of 2099
 abbrev pub IsInstant : ℕ → Type 0
-IsInstant utc = (604_800 ≤ utc) × (utc ≤ 4_102_444_799)
+IsInstant utc = (FIRST_INSTANT ≤ utc) × (utc ≤ LAST_INSTANT)
+
+-- whether an instant is one of these
+abbrev pub is_instant : ℕ → Bool
+is_instant utc = nat_le FIRST_INSTANT utc && nat_le utc LAST_INSTANT
 
 -- days are counted from 1970-01-01
 abbrev pub IsDay : ℕ → Type 0
-IsDay day = (4 ≤ day) × (day ≤ 50_000)
+IsDay day = (FIRST_DAY ≤ day) × (day ≤ LAST_DAY)
 
 -- each number of a stamp is in its range
 pub record IsStamp (s : Stamp) : Type 0 where
   pub utc : IsInstant s.utc
   pub day : IsDay s.day
-  pub second : s.second < 86_400
+  pub second : s.second < SECONDS_PER_DAY
 
 -- seconds from 1970-01-01 00:00:00 to what the zone's clock shows at the instant
 unfoldable pub local_seconds : TimeZone → ℕ → ℤ
@@ -30,16 +35,16 @@ local_seconds zone utc = pos utc +ℤ offset_at (plain_zone zone) (nanos_of_seco
 
 -- the date that the zone's calendar shows, counted from 1970-01-01
 unfoldable pub local_date : TimeZone → ℕ → ℤ
-local_date zone utc = int_div_euclid (local_seconds zone utc) (pos 86_400)
+local_date zone utc = int_div_euclid (local_seconds zone utc) (pos SECONDS_PER_DAY)
 
 -- the second of that date, from 0 at midnight
 unfoldable pub local_second : TimeZone → ℕ → ℕ
-local_second zone utc = unsigned_abs (int_rem_euclid (local_seconds zone utc) (pos 86_400))
+local_second zone utc = unsigned_abs (int_rem_euclid (local_seconds zone utc) (pos SECONDS_PER_DAY))
 
 -- the service day: the local date, less one day before 04:30
 unfoldable pub service_day : TimeZone → ℕ → ℤ
 service_day zone utc =
-    if nat_lt (local_second zone utc) 16_200 then local_date zone utc -ℤ pos 1
+    if nat_lt (local_second zone utc) SERVICE_DAY_START then local_date zone utc -ℤ pos 1
     else local_date zone utc
 
 -- the instant, its service day and its local second

@@ -1,6 +1,8 @@
 ghost use Rattle.std.specs.Prelude.{◌≡◌, ◌<◌, ◌≤◌, ◌↔◌, IsSome, IfSome};
 ghost use Rattle.pay_day.specs.Day.{Stamp, IsStamp, IsInstant, IsDay};
+ghost use Rattle.pay_day.specs.declared.limits.TheConstants.{SECONDS_PER_DAY};
 
+use crate::limits::{FIRST_DAY, FIRST_INSTANT, LAST_DAY, LAST_INSTANT, SECONDS_PER_DAY};
 use std::marker::Model;
 
 /// An instant and where it falls: seconds of the Unix clock, the service day (counted from
@@ -26,12 +28,6 @@ impl Model for Moment {
 }
 
 impl Moment {
-    /// 1970-01-08 00:00:00 UTC.
-    pub(crate) const FIRST_INSTANT: u64 = 604_800;
-
-    /// 2099-12-31 23:59:59 UTC.
-    pub(crate) const LAST_INSTANT: u64 = 4_102_444_799;
-
     pub(crate) fn new(utc: u64, day: u32, second: u32) -> Moment
         requires { IsStamp (record { utc = utc; day = day; second = second }) }
         ensures { result ≡ record { utc = utc; day = day; second = second } }
@@ -49,9 +45,9 @@ impl Moment {
         ensures in_range { IsSome result ↔ IsStamp (record { utc = utc; day = day; second = second }) }
         ensures parts { IfSome result (λ m. m ≡ record { utc = utc; day = day; second = second }) }
     {
-        let is_instant = Moment::FIRST_INSTANT <= utc && utc <= Moment::LAST_INSTANT;
-        let is_day = 4 <= day && day <= 50_000;
-        if is_instant && is_day && second < 86_400 {
+        let is_instant = FIRST_INSTANT <= utc && utc <= LAST_INSTANT;
+        let is_day = FIRST_DAY <= day && day <= LAST_DAY;
+        if is_instant && is_day && second < SECONDS_PER_DAY {
             Some(Moment::new(utc, day, second))
         } else {
             None
@@ -77,7 +73,7 @@ impl Moment {
     /// The local second of the day.
     pub fn second(self) -> u32
         ensures value { result ≡ self.second }
-        ensures in_range { result < 86_400 }
+        ensures in_range { result < SECONDS_PER_DAY }
     {
         self.second
     }

@@ -1,14 +1,11 @@
 ghost use Rattle.std.specs.Prelude.{◌≡◌, ◌+◌, ◌≤◌, ◌↔◌, pos, IsOk, IfOk, IfErr};
 ghost use Rattle.pay_day.specs.Day.{IsInstant, local_seconds, stamp_of};
+ghost use Rattle.pay_day.specs.declared.limits.TheConstants.{FIRST_INSTANT, LAST_INSTANT};
 
 use crate::Moment;
+use crate::limits::{FIRST_INSTANT, LAST_INSTANT, SECONDS_PER_DAY, SERVICE_DAY_START};
 use jiff::Timestamp;
 use jiff::tz::TimeZone;
-
-const SECONDS_PER_DAY: u64 = 86_400;
-
-/// 04:30, when a service day begins.
-const SERVICE_START: u64 = 16_200;
 
 /// Why an instant has no stamp.
 #[derive(Clone, Copy, Debug, PartialEq, Eq)]
@@ -24,8 +21,8 @@ pub enum StampFault {
 fn local_clock(zone: &TimeZone<'_>, utc: u64) -> u64
     requires { IsInstant utc }
     ensures value { pos result ≡ local_seconds zone.now utc }
-    ensures not_far_before { 604_800 ≤ result + 93_599 }
-    ensures not_far_after { result ≤ 4_102_444_799 + 93_599 }
+    ensures not_far_before { FIRST_INSTANT ≤ result + 93_599 }
+    ensures not_far_after { result ≤ LAST_INSTANT + 93_599 }
 {
     let Ok(instant) = Timestamp::from_second(utc as i64) else {
         unreachable!()
@@ -43,13 +40,13 @@ pub fn stamp(zone: &TimeZone<'_>, utc: u64) -> Result<Moment, StampFault>
     ensures value { IfOk result (λ m. m ≡ stamp_of zone.now utc) }
     ensures refused { IfErr result (λ e. e ≡ StampFault.OutOfTime) }
 {
-    if utc < Moment::FIRST_INSTANT || utc > Moment::LAST_INSTANT {
+    if utc < FIRST_INSTANT || utc > LAST_INSTANT {
         return Err(StampFault::OutOfTime);
     }
     let local = local_clock(zone, utc);
-    let date = local / SECONDS_PER_DAY;
-    let second = local % SECONDS_PER_DAY;
-    let day = if second < SERVICE_START {
+    let date = local / u64::from(SECONDS_PER_DAY);
+    let second = local % u64::from(SECONDS_PER_DAY);
+    let day = if second < u64::from(SERVICE_DAY_START) {
         date - 1
     } else {
         date

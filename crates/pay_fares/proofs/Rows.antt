@@ -13,7 +13,7 @@ use Rattle.pay_pairs.specs.declared.parts.Leg.{Leg}
 use Rattle.pay_links.specs.declared.journey.Journey.{Journey}
 use Rattle.pay_links.specs.declared.journey.Journey.TheVariants as journey
 use Rattle.pay_fares.specs.Peak.{is_peak}
-use Rattle.pay_fares.specs.Fares.{fare}
+use Rattle.pay_fares.specs.JourneyFares.{fare}
 
 abbrev single : ℕ → ℕ → ℕ → ℕ → Single
 single from to peak off = record { span = record { from = from; to = to }; peak = peak; off = off }

@@ -1,3 +1,3 @@
 pub mod Runs
 pub mod Peak
-pub mod Fares
+pub mod JourneyFares

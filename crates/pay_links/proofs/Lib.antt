@@ -1,3 +1,3 @@
-pub mod Last
+pub mod LastLeg
 pub mod Runs
 pub mod Divisions

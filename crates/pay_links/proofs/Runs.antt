@@ -6,7 +6,7 @@ use Rattle.pay_tables.specs.FareTables.{FareTables, interchange}
 use Rattle.pay_pairs.specs.declared.parts.Leg.{Leg}
 use Rattle.pay_links.specs.LinkedLegs.{LinkedLegs, last_behind, last_leg, joined}
 use Rattle.pay_links.specs.Journeys.{is_same, is_in_time, is_linked, alone, run_before, leg_before, journeys}
-use Rattle.pay_links.specs.Current.{closed, open_before}
+use Rattle.pay_links.specs.OpenRun.{closed, open_before}
 use Rattle.pay_links.specs.declared.journey.Journey.{Journey}
 use Rattle.pay_links.specs.declared.journey.Journey.TheVariants as journey
 

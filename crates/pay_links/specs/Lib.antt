@@ -1,4 +1,4 @@
 pub mod LinkedLegs
 pub mod Journeys
-pub mod Current
+pub mod OpenRun
 pub mod Rows

@@ -60,7 +60,7 @@ impl Run {
     }
 
     /// The last leg.
-    #[tactic(auto, using(crate::proofs::Last::last_is))]
+    #[tactic(auto, using(crate::proofs::LastLeg::last_is))]
     pub fn last(&self) -> &Leg
         ensures { result.now ≡ last_leg self.now }
     {

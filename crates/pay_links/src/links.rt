@@ -1,7 +1,7 @@
 ghost use Rattle.std.specs.Prelude.{◌≡◌, ◌∷◌, ◌++◌, false, IfOk, OnOk, List};
 ghost use Rattle.pay_pairs.specs.declared.parts.RailPart.{RailPart};
 ghost use Rattle.pay_links.specs.Journeys.{is_same, is_linked, journeys, run_before, leg_before, AreJourneys};
-ghost use Rattle.pay_links.specs.Current.{open_before, closed};
+ghost use Rattle.pay_links.specs.OpenRun.{open_before, closed};
 
 use crate::journey::{Journey, Run};
 use pay_pairs::{Leg, RailPart};

@@ -1,7 +1,7 @@
-pub mod Numbers
+pub mod NumberMaps
 pub mod Items
 pub mod Spans
-pub mod Singles
+pub mod FoundItems
 pub mod Documents
 pub mod Ranges
 pub mod Placing

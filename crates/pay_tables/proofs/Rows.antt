@@ -10,7 +10,7 @@ use Rattle.pay_tables.specs.declared.interchange.Interchange.{Interchange}
 use Rattle.pay_tables.specs.declared.place.Place.{Place}
 use Rattle.pay_tables.specs.declared.place.Place.TheVariants.{Station, Route}
 use Rattle.pay_tables.specs.FareFile.{is_station, is_station_at, with_interchange, interchanges_at}
-use Rattle.pay_tables.proofs.Numbers.{get-lookup}
+use Rattle.pay_tables.proofs.NumberMaps.{get-lookup}
 
 -- stations 10, 12 and 13, and route 50
 abbrev entries : List (ℕ × Place)

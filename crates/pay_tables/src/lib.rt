@@ -2,7 +2,6 @@
 //! file that is none. And the span of zones of the stations that a journey touches.
 #![tactic(auto)]
 
-mod fares;
 mod fault;
 mod holidays;
 mod interchange;
@@ -14,6 +13,7 @@ mod places;
 mod routes;
 mod rules;
 mod single;
+mod singles;
 mod span_bounds;
 mod stations;
 mod tables;

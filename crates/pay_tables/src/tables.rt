@@ -8,7 +8,6 @@ ghost use Rattle.pay_tables.specs.FareFile.{fare_file, fare_text};
 ghost use Rattle.pay_tables.specs.FareTables.{AreRules, IsInterchange, IsPlace, IsSingle, is_between, station_at, single_of_span, single_fare, allowed_seconds, is_holiday, interchange};
 ghost use Rattle.pay_tables.specs.Spans.{IsSpan};
 
-use crate::fares::singles_at;
 use crate::fault::FareFileFault;
 use crate::holidays::holidays_at;
 use crate::interchange::Interchange;
@@ -19,6 +18,7 @@ use crate::place::Place;
 use crate::places::Places;
 use crate::rules::Rules;
 use crate::single::Single;
+use crate::singles::singles_at;
 use crate::zones::Span;
 use pay_money::Pence;
 use std::alloc::Global;
@@ -162,7 +162,7 @@ impl Tables {
         }
     }
 
-    #[tactic(auto, using(crate::proofs::Singles::found_is))]
+    #[tactic(auto, using(crate::proofs::FoundItems::found_is))]
     fn single_of_span(&self, span: Span) -> Option<&Single>
         ensures value { option_map (λ single. single.now) result ≡ single_of_span self.now span }
         ensures in_range { IfSome result (λ single. IsSingle self.now.zones single.now) }
@@ -197,7 +197,7 @@ impl Tables {
         Some(pair.seconds)
     }
 
-    #[tactic(auto, using(crate::proofs::Singles::found_is))]
+    #[tactic(auto, using(crate::proofs::FoundItems::found_is))]
     fn interchange_between(&self, a: u16, b: u16) -> Option<&Interchange>
         ensures value { option_map (λ pair. pair.now) result ≡ find (is_between a b) self.now.interchanges }
         ensures in_range { IfSome result (λ pair. IsInterchange pair.now) }

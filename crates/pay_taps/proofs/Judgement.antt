@@ -7,7 +7,7 @@ use Rattle.pay_taps.specs.declared.tap.Kind.TheVariants.{In, Out, Bus}
 use Rattle.pay_taps.specs.declared.tap.Tap.{Tap}
 use Rattle.pay_taps.specs.declared.tap_set.Addition.TheVariants.{Added, Repeat}
 use Rattle.pay_taps.specs.declared.tap_set.TapSetFault.TheVariants.{Conflict, AccountFull, Memory}
-use Rattle.pay_taps.specs.Taps.{same_kind, same_stamp, same_tap, answer_to}
+use Rattle.pay_taps.specs.Taps.{same_kind, same_stamp, same_tap, judgement}
 
 kind_from_same : (a b : Kind) → same_kind a b ≡ true → a ≡ b
 kind_from_same In In e = refl
@@ -104,12 +104,12 @@ no_room true count p e = leb-true 16_384 count p
 no_room false count p e = absurd (cc)
 
 -- a repeat is what stands there
-pub repeat_iff : (t : Tap) (there : Option Tap) (count : ℕ) → (answer_to t there count ≡ Ok Repeat) ↔ (there ≡ Some t)
+pub repeat_iff : (t : Tap) (there : Option Tap) (count : ℕ) → (judgement t there count ≡ Ok Repeat) ↔ (there ≡ Some t)
 repeat_iff t (Some x) count = (repeat_found t x (same_tap x t) refl, λ e. let same : x ≡ t = cc in ap (λ b. if b then Ok Repeat else Err Conflict) (same_from_tap x t same))
 repeat_iff t None count = (λ e. absurd (new_not_repeat (nat_le 16_384 count) e), λ e. absurd (cc))
 
 -- a conflict has other content
-pub conflict_iff : (t : Tap) (there : Option Tap) (count : ℕ) → (answer_to t there count ≡ Err Conflict) ↔ ((other : Tap) × (there ≡ Some other) × (other ≢ t))
+pub conflict_iff : (t : Tap) (there : Option Tap) (count : ℕ) → (judgement t there count ≡ Err Conflict) ↔ ((other : Tap) × (there ≡ Some other) × (other ≢ t))
 conflict_iff t (Some x) count = (
   λ e. (x, refl, conflict_found t x (same_tap x t) refl e),
   λ h. let same : x ≡ h.0 = cc (h.1) in conflict_given t x (same_tap x t) refl (λ is. h.2 (sym same ∙ is)),
@@ -117,15 +117,15 @@ conflict_iff t (Some x) count = (
 conflict_iff t None count = (λ e. absurd (new_not_conflict (nat_le 16_384 count) e), λ h. absurd (cc (h.1)))
 
 -- a tap is added where there is none and there is room
-pub added_iff : (t : Tap) (there : Option Tap) (count : ℕ) → (answer_to t there count ≡ Ok Added) ↔ ((there ≡ None) × (count < 16_384))
+pub added_iff : (t : Tap) (there : Option Tap) (count : ℕ) → (judgement t there count ≡ Ok Added) ↔ ((there ≡ None) × (count < 16_384))
 added_iff t (Some x) count = (λ e. absurd (there_not_added (same_tap x t) e), λ h. absurd (cc (h.0)))
 added_iff t None count = (λ e. (refl, room_left (nat_le 16_384 count) count refl e), λ h. ap (λ b. if b then Err AccountFull else Ok Added) (lt-leb 16_384 count h.1))
 
 -- a full account takes no further tap
-pub full_iff : (t : Tap) (there : Option Tap) (count : ℕ) → (answer_to t there count ≡ Err AccountFull) ↔ ((there ≡ None) × (16_384 ≤ count))
+pub full_iff : (t : Tap) (there : Option Tap) (count : ℕ) → (judgement t there count ≡ Err AccountFull) ↔ ((there ≡ None) × (16_384 ≤ count))
 full_iff t (Some x) count = (λ e. absurd (there_not_full (same_tap x t) e), λ h. absurd (cc (h.0)))
 full_iff t None count = (λ e. (refl, no_room (nat_le 16_384 count) count refl e), λ h. ap (λ b. if b then Err AccountFull else Ok Added) (le-leb 16_384 count h.1))
 
-pub never_memory : (t : Tap) (there : Option Tap) (count : ℕ) → answer_to t there count ≢ Err Memory
+pub never_memory : (t : Tap) (there : Option Tap) (count : ℕ) → judgement t there count ≢ Err Memory
 never_memory t (Some x) count e = there_not_memory (same_tap x t) e
 never_memory t None count e = new_not_memory (nat_le 16_384 count) e

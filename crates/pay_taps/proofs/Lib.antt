@@ -1,5 +1,5 @@
 pub mod Sorting
 pub mod Judgement
-pub mod Numbers
+pub mod NumberOrder
 pub mod TouchOrder
-mod Listed
+mod TapList

@@ -17,7 +17,7 @@ use Rattle.pay_taps.specs.declared.tap.Touch.{Touch}
 use Rattle.pay_taps.specs.Taps.{Taps, number, number_cmp}
 use Rattle.pay_taps.specs.Order.{touch_of, touch_cmp, comes_before, put_in, in_order, same_number, HaveOwnNumbers, touches}
 use Rattle.pay_taps.proofs.Sorting.{NoTies, one_arrangement, both_false}
-use Rattle.pay_taps.proofs.Numbers.{number_total, own_numbers-insert}
+use Rattle.pay_taps.proofs.NumberOrder.{number_total, own_numbers-insert}
 
 pub touches_total : IsTotalOrder touch_cmp
 touches_total = then_total (then_total (then_total (on_total (λ t. t.stamp.utc) nat_cmp_total) (on_total (λ t. t.filled) bool_cmp_total)) (on_total (λ t. t.first) nat_cmp_total)) (on_total (λ t. t.second) nat_cmp_total)

@@ -1,3 +1,3 @@
 pub mod Taps
 pub mod Order
-pub mod Listed
+pub mod TapList

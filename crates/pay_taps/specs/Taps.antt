@@ -4,6 +4,7 @@ use Rattle.std.specs.declared.cmp.Ordering.{Ordering}
 use Rattle.std.specs.Ordering.{nat_cmp, ordering_then}
 use Rattle.std.specs.FinMap.{FinMap, get, len, insert, keys, values}
 use Rattle.pay_day.specs.Day.{Stamp}
+use Rattle.pay_taps.specs.declared.limits.TheConstants.{MOST_TAPS}
 use Rattle.pay_taps.specs.declared.tap.Kind.{Kind}
 use Rattle.pay_taps.specs.declared.tap.Kind.TheVariants.{In, Out, Bus}
 use Rattle.pay_taps.specs.declared.tap.Tap.{Tap}
@@ -27,7 +28,7 @@ Taps = FinMap number_cmp Tap
 -- each tap stands at its own number, and there are no more than an account may have
 pub record IsTapSet (taps : Taps) : Type 0 where
   pub own_numbers : map number (values taps) ≡ keys taps
-  pub within : len taps ≤ 16_384
+  pub within : len taps ≤ MOST_TAPS
 
 -- whether two kinds are one
 abbrev pub same_kind : Kind → Kind → Bool
@@ -46,23 +47,23 @@ same_tap a b = a.account == b.account && a.reader == b.reader && a.seq == b.seq 
 
 -- the answer to a tap, by what stands at its number and how many taps there are:
 -- the same content is a repeat, other content a conflict, and a further tap fits below the limit
-abbrev pub answer_to : Tap → Option Tap → ℕ → Result Addition TapSetFault
-answer_to tap (Some there) count = if same_tap there tap then Ok Repeat else Err Conflict
-answer_to tap None count = if nat_le 16_384 count then Err AccountFull else Ok Added
+abbrev pub judgement : Tap → Option Tap → ℕ → Result Addition TapSetFault
+judgement tap (Some there) count = if same_tap there tap then Ok Repeat else Err Conflict
+judgement tap None count = if nat_le MOST_TAPS count then Err AccountFull else Ok Added
 
 -- the answer of a set of taps to one tap
 abbrev pub judged : Taps → Tap → Result Addition TapSetFault
-judged taps tap = answer_to tap (get taps (number tap)) (len taps)
+judged taps tap = judgement tap (get taps (number tap)) (len taps)
 
 -- an answer is as judged, or want of memory where the tap would be added
-abbrev pub IsAnswer : Result Addition TapSetFault → Taps → Tap → Type 0
-IsAnswer (Err Memory) taps tap = judged taps tap ≡ Ok Added
-IsAnswer answer taps tap = judged taps tap ≡ answer
+abbrev pub IsJudged : Result Addition TapSetFault → Taps → Tap → Type 0
+IsJudged (Err Memory) taps tap = judged taps tap ≡ Ok Added
+IsJudged answer taps tap = judged taps tap ≡ answer
 
 -- what an answer leaves: an added tap stands at its number, and all else is as it was
-abbrev pub taps_after : Result Addition TapSetFault → Taps → Tap → Taps
-taps_after (Ok Added) taps tap = insert taps (number tap) tap
-taps_after _ taps tap = taps
+abbrev pub set_after : Result Addition TapSetFault → Taps → Tap → Taps
+set_after (Ok Added) taps tap = insert taps (number tap) tap
+set_after _ taps tap = taps
 
 -- ---- worked rows: a bus tap at 07:00 on 2024-01-08, and the same number as a tap at a station
 
@@ -72,30 +73,30 @@ bus_tap = record { account = 7; reader = 1; seq = 1; stamp = record { utc = 1_70
 rail_tap : Tap
 rail_tap = record { account = 7; reader = 1; seq = 1; stamp = record { utc = 1_704_697_200; day = 19730; second = 25_200 }; place = 10; kind = In }
 
-first_tap : answer_to bus_tap None 0 ≡ Ok Added
+first_tap : judgement bus_tap None 0 ≡ Ok Added
 first_tap = refl
 
 -- the same line twice
-same_again : answer_to bus_tap (Some bus_tap) 1 ≡ Ok Repeat
+same_again : judgement bus_tap (Some bus_tap) 1 ≡ Ok Repeat
 unfolding bus_tap
 same_again = refl
 
 -- other content under its number
-other_content : answer_to rail_tap (Some bus_tap) 1 ≡ Err Conflict
+other_content : judgement rail_tap (Some bus_tap) 1 ≡ Err Conflict
 unfolding bus_tap rail_tap
 other_content = refl
 
 -- a full account takes no further tap, and knows those that it has
-one_place_left : answer_to bus_tap None 16_383 ≡ Ok Added
+one_place_left : judgement bus_tap None 16_383 ≡ Ok Added
 one_place_left = refl
 
-no_place_left : answer_to bus_tap None 16_384 ≡ Err AccountFull
+no_place_left : judgement bus_tap None 16_384 ≡ Err AccountFull
 no_place_left = refl
 
-again_at_full : answer_to bus_tap (Some bus_tap) 16_384 ≡ Ok Repeat
+again_at_full : judgement bus_tap (Some bus_tap) 16_384 ≡ Ok Repeat
 unfolding bus_tap
 again_at_full = refl
 
-conflict_at_full : answer_to rail_tap (Some bus_tap) 16_384 ≡ Err Conflict
+conflict_at_full : judgement rail_tap (Some bus_tap) 16_384 ≡ Err Conflict
 unfolding bus_tap rail_tap
 conflict_at_full = refl

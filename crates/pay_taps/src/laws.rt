@@ -4,6 +4,7 @@ ghost use Rattle.std.specs.Prelude.{◌≡◌, ◌≢◌, ◌↔◌, ◌<◌, �
 ghost use Rattle.std.specs.Prelude.{map as each};
 ghost use Rattle.std.specs.FinMap as map;
 ghost use Rattle.std.specs.List.Sorted.{IsStable};
+ghost use Rattle.pay_taps.specs.declared.limits.TheConstants.{MOST_TAPS};
 ghost use Rattle.pay_taps.specs.declared.tap.Tap.{Tap};
 ghost use Rattle.pay_taps.specs.declared.tap.Touch.{Touch};
 ghost use Rattle.pay_taps.specs.Taps.{Taps, IsTapSet, number, judged};
@@ -12,10 +13,10 @@ ghost use Rattle.pay_taps.specs.Order.{touch_of, touch_cmp, cmp_by, touches, put
 use crate::tap_set::{Addition, TapSetFault};
 
 /// What each answer to a tap means.
-pub fn answers()
+pub fn judgements()
     // There is none of its number, and there is room.
     ensures added { (taps : Taps) (tap : Tap) → (judged taps tap ≡ Ok Addition.Added)
-        ↔ ((map.get taps (number tap) ≡ None) × (map.len taps < 16_384)) }
+        ↔ ((map.get taps (number tap) ≡ None) × (map.len taps < MOST_TAPS)) }
 
     // The very same tap is there.
     ensures repeat { (taps : Taps) (tap : Tap) → (judged taps tap ≡ Ok Addition.Repeat)
@@ -27,7 +28,7 @@ pub fn answers()
 
     // There is none of its number, and no room.
     ensures full { (taps : Taps) (tap : Tap) → (judged taps tap ≡ Err TapSetFault.AccountFull)
-        ↔ ((map.get taps (number tap) ≡ None) × (16_384 ≤ map.len taps)) }
+        ↔ ((map.get taps (number tap) ≡ None) × (MOST_TAPS ≤ map.len taps)) }
     ensures never_memory { (taps : Taps) (tap : Tap) → judged taps tap ≢ Err TapSetFault.Memory }
 {}
 

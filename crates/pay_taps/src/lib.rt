@@ -2,6 +2,7 @@
 #![tactic(auto)]
 
 pub mod laws;
+pub mod limits;
 mod order;
 mod tap;
 mod tap_set;
@@ -10,4 +11,4 @@ mod tests;
 
 pub use order::{sort_touches, touches, touches_of, touches_with};
 pub use tap::{Kind, Tap, Touch};
-pub use tap_set::{Addition, TAPS_OF_AN_ACCOUNT, TapSet, TapSetFault};
+pub use tap_set::{Addition, TapSet, TapSetFault};

@@ -3,6 +3,7 @@ ghost use Rattle.std.specs.Prelude.{map as each};
 ghost use Rattle.std.specs.FinMap as map;
 ghost use Rattle.pay_taps.specs.Order.{touch_of, touches, in_order, IsInOrder};
 ghost use Rattle.pay_taps.specs.Taps.{judged, number};
+ghost use Rattle.pay_taps.specs.declared.limits.TheConstants.{MOST_TAPS};
 
 use crate::laws;
 use crate::tap::{Tap, Touch};
@@ -20,7 +21,7 @@ pub fn touches_of(alloc: Global, taps: &[Tap]) -> Result<Vec<Touch>, AllocError>
 /// of memory.
 pub fn touches(alloc: Global, taps: &TapSet) -> Result<Vec<Touch>, AllocError>
     ensures value { IfOk result (λ ordered. ordered.items ≡ touches taps.now) }
-    ensures few { IfOk result (λ ordered. length ordered.items ≤ 16_384) }
+    ensures few { IfOk result (λ ordered. length ordered.items ≤ MOST_TAPS) }
 {
     sorted(touches_of(alloc, taps.as_slice())?)
 }
@@ -30,9 +31,9 @@ pub fn touches(alloc: Global, taps: &TapSet) -> Result<Vec<Touch>, AllocError>
 pub fn touches_with(alloc: Global, taps: &TapSet, tap: &Tap) -> Result<Vec<Touch>, AllocError>
     ensures all { IfOk result (λ ordered. ordered.items ≡ in_order (each touch_of (map.values taps.now ++ tap.now ∷ []))) }
     ensures value { judged taps.now tap.now ≡ Ok Addition.Added → IfOk result (λ ordered. ordered.items ≡ touches (map.insert taps.now (number tap.now) tap.now)) }
-    ensures few { judged taps.now tap.now ≡ Ok Addition.Added → IfOk result (λ ordered. length ordered.items ≤ 16_384) }
+    ensures few { judged taps.now tap.now ≡ Ok Addition.Added → IfOk result (λ ordered. length ordered.items ≤ MOST_TAPS) }
 {
-    laws::answers();
+    laws::judgements();
     laws::one_more_tap();
     sorted(one_more(alloc, taps.as_slice(), tap)?)
 }

@@ -1,9 +1,10 @@
 ghost use Rattle.std.specs.Prelude.{◌≡◌, ◌≤◌, ◌↔◌, length, IsTrue, IfOk, IfSome};
 ghost use Rattle.std.specs.FinMap as map;
 ghost use Rattle.std.specs.List.Sorted.{IsBinarySearchResult, IsSearchInRange};
-ghost use Rattle.pay_taps.specs.Listed.{IsPlaceFor};
-ghost use Rattle.pay_taps.specs.Taps.{IsTapSet, number, number_cmp, judged, IsAnswer, taps_after};
+ghost use Rattle.pay_taps.specs.TapList.{IsPlaceFor};
+ghost use Rattle.pay_taps.specs.Taps.{IsTapSet, number, number_cmp, judged, IsJudged, set_after};
 
+use crate::limits::MOST_TAPS;
 use crate::tap::{Kind, Tap};
 use pay_day::Moment;
 use smallvec::SmallVec;
@@ -11,11 +12,8 @@ use std::alloc::{AllocError, AllocFailed, Global};
 use std::default::MadeWith;
 use std::marker::Model;
 
-/// How many taps an account may have.
-pub const TAPS_OF_AN_ACCOUNT: usize = 16_384;
-
-/// Up to so many taps lie in the set itself, which spares most accounts of a day a list in memory of
-/// their own. With one more, all of them lie in such a list.
+/// Up to so many taps lie in the set itself, which spares an account of few taps a list in memory of
+/// its own. With one more, all of them lie in such a list.
 const TAPS_IN_THE_SET: usize = 4;
 
 /// What a tap that is not refused does to a set.
@@ -50,7 +48,7 @@ impl<T: Drop> From<AllocFailed<T>> for TapSetFault {
 }
 
 /// The accepted taps of an account. In a contract it is the finite map from each tap's number to the
-/// tap, of at most `TAPS_OF_AN_ACCOUNT` taps.
+/// tap, of at most `MOST_TAPS` taps.
 #[derive(Drop)]
 pub struct TapSet {
     // In ascending order of their numbers.
@@ -62,7 +60,7 @@ impl Model for TapSet {
     ghost use Rattle.std.specs.Coded.{coded×, coded_ℕ};
     ghost use Rattle.pay_taps.specs.contracts.tap.Tap as tap;
     ghost use Rattle.pay_taps.specs.Taps.{Taps};
-    ghost use Rattle.pay_taps.specs.Listed.{set_of, IsListed};
+    ghost use Rattle.pay_taps.specs.TapList.{set_of, IsTapList};
 
     ghost Value = { Taps };
 
@@ -70,7 +68,7 @@ impl Model for TapSet {
 
     ghost view = { λ set. set_of set.taps.items };
 
-    ghost invariant = { λ set. IsListed set.taps.items };
+    ghost invariant = { λ set. IsTapList set.taps.items };
 }
 
 // What lies in a set's own places while they hold no tap. No tap of a set is this one.
@@ -159,7 +157,7 @@ impl TapSet {
         match position(taps, tap.reader, tap.seq) {
             Ok(at) if taps[at] == *tap => Ok(None),
             Ok(_) => Err(TapSetFault::Conflict),
-            Err(_) if taps.len() >= TAPS_OF_AN_ACCOUNT => Err(TapSetFault::AccountFull),
+            Err(_) if taps.len() >= MOST_TAPS => Err(TapSetFault::AccountFull),
             Err(at) => Ok(Some(at)),
         }
     }
@@ -178,8 +176,8 @@ impl TapSet {
     /// there is `Conflict`, then a further tap of a full set is `AccountFull`; `Memory` comes last, only
     /// where the tap would be added.
     pub fn add(&mut self, tap: Tap) -> Result<Addition, TapSetFault>
-        ensures answer { IsAnswer result self.old tap }
-        ensures after { self.new ≡ taps_after result self.old tap }
+        ensures answer { IsJudged result self.old tap }
+        ensures after { self.new ≡ set_after result self.old tap }
         ensures tap_set { IsTapSet self.new }
     {
         let Some(at) = self.place_for(&tap)? else {

@@ -1,3 +1,4 @@
+use crate::limits::MOST_TAPS;
 use crate::*;
 use pay_day::Moment;
 use std::process::Abort;
@@ -179,7 +180,7 @@ fn takes_no_more_than_an_account_may_have(rt: HostRuntime) -> Result<(), Fail> {
         taps.add(bus_tap(&rt, 1, 1, SEVEN + 1)),
         Err(TapSetFault::Conflict)
     );
-    assert_eq!(rt; taps.len(), TAPS_OF_AN_ACCOUNT);
+    assert_eq!(rt; taps.len(), MOST_TAPS);
     assert_eq!(rt; taps.get(1, 16_385), None);
     assert_eq!(rt; touches(rt.alloc(), &taps)?.len(), 16_384);
     Ok(())

@@ -7,7 +7,7 @@ use Rattle.std.specs.Io.KnownBytes.{Appends}
 use Rattle.std.proofs.lemmas.Grind.{flat_map-append}
 use Rattle.pay_account.specs.declared.shown.Line.{Line}
 use Rattle.pay_wire.specs.Output.{AppendsFront}
-use Rattle.pay_wire.specs.Replies.{line_of, words_of_journey, text_of_journeys}
+use Rattle.pay_wire.specs.Replies.{line_of_words, words_of_journey, text_of_journeys}
 
 -- a front of the bytes and then a front of the others are a front of the bytes
 pub Appends_fronts : (a b c : Option (List ℕ)) (i n : ℕ) (bytes : List ℕ) → Appends a b (take i bytes) → Appends b c (take n (take (length bytes - i) (drop i bytes))) → Appends a c (take (i + n) bytes)
@@ -32,18 +32,18 @@ on_err (Ok x) h = tt
 on_err (Err e) h = h
 
 -- the journeys before one, that one, and those behind it
-journeys_at : (js : List Line) (i : ℕ) (l : Line) → i < length js → l ≡ get_or js i l → text_of_journeys js ≡ text_of_journeys (take i js) ++ (line_of (words_of_journey l) ++ text_of_journeys (drop (suc i) js))
+journeys_at : (js : List Line) (i : ℕ) (l : Line) → i < length js → l ≡ get_or js i l → text_of_journeys js ≡ text_of_journeys (take i js) ++ (line_of_words (words_of_journey l) ++ text_of_journeys (drop (suc i) js))
 journeys_at js i l low is =
-    ap text_of_journeys (sym (take-append-drop i js)) ∙ flat_map-append (λ (j : Line). line_of (words_of_journey j)) (take i js) (drop i js)
+    ap text_of_journeys (sym (take-append-drop i js)) ∙ flat_map-append (λ (j : Line). line_of_words (words_of_journey j)) (take i js) (drop i js)
     ∙ ap (λ r. text_of_journeys (take i js) ++ text_of_journeys r) (drop-cons js i l low ∙ ap (λ (x : Line). x ∷ drop (suc i) js) (sym is))
 
 -- the lines of the first journeys, and then a front of the next one's
 pub front_of_journeys : (old mid new : Option (List ℕ)) (js : List Line) (i : ℕ) (l : Line) → i < length js → l ≡ get_or js i l
-    → Appends old mid (text_of_journeys (take i js)) → AppendsFront mid new (line_of (words_of_journey l)) → AppendsFront old new (text_of_journeys js)
+    → Appends old mid (text_of_journeys (take i js)) → AppendsFront mid new (line_of_words (words_of_journey l)) → AppendsFront old new (text_of_journeys js)
 front_of_journeys old mid new js i l low is whole front =
     subst (AppendsFront old new) (sym (journeys_at js i l low is))
-    (front_then old mid new (text_of_journeys (take i js)) (line_of (words_of_journey l) ++ text_of_journeys (drop (suc i) js)) whole
-    (front_more mid new (line_of (words_of_journey l)) (text_of_journeys (drop (suc i) js)) front))
+    (front_then old mid new (text_of_journeys (take i js)) (line_of_words (words_of_journey l) ++ text_of_journeys (drop (suc i) js)) whole
+    (front_more mid new (line_of_words (words_of_journey l)) (text_of_journeys (drop (suc i) js)) front))
 
 -- a first line that was taken whole, and then a front of the journeys behind it
 pub front_behind : (old mid new : Option (List ℕ)) (a : List ℕ) (js told : List Line) → js ≡ told → Appends old mid a → AppendsFront mid new (text_of_journeys js) → AppendsFront old new (a ++ text_of_journeys told)

@@ -6,5 +6,5 @@ pub mod LineLengths
 pub mod Numerals
 pub mod Spaces
 pub mod Spelled
-pub mod Told
+pub mod ReplyStreams
 pub mod Visible

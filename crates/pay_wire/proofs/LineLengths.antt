@@ -7,12 +7,12 @@ use Rattle.std.proofs.lemmas.List.{length-append}
 use Rattle.std.proofs.lemmas.List.Elements.{All-from_recursion, All-weaker}
 use Rattle.pay_taps.specs.declared.tap.Kind.{Kind}
 use Rattle.pay_taps.specs.declared.tap.Kind.TheVariants.{In, Out, Bus}
-use Rattle.pay_wire.specs.declared.command.TapLine.{TapLine}
+use Rattle.pay_wire.specs.declared.command.SpelledTap.{SpelledTap}
 use Rattle.pay_wire.specs.declared.command.Command.{Command}
 use Rattle.pay_wire.specs.declared.command.Command.TheVariants.{Tap, Show, NotYet, Quit}
 use Rattle.pay_wire.specs.Fields.{words}
 use Rattle.pay_wire.specs.Commands.{tap_of, show_of}
-use Rattle.pay_wire.specs.Spellings.{IsTapLine, spelling_of_kind, spelling_of_tap, IsShow, spelling_of_show, Spells, IsLine}
+use Rattle.pay_wire.specs.Spellings.{IsSpelledTap, spelling_of_kind, spelling_of_tap, IsShow, spelling_of_show, Spells, IsLine}
 use Rattle.pay_wire.proofs.Visible.{AllVisible, text_joined}
 use Rattle.pay_wire.proofs.Spelled.{fields_of, tap_visible, tap_words, tap_again, show_fields, show_visible, show_words, show_again, is_read}
 
@@ -28,7 +28,7 @@ tails x y xs ys e = cc
 pub one_command : (line : List ℕ) (a b : Command) → Spells line a → Spells line b → a ≡ b
 one_command line a b f g = some_is a b (sym (is_read line a f) ∙ is_read line b g)
 
-pub one_tap : (a b : TapLine) → IsTapLine a → IsTapLine b → spelling_of_tap a ≡ spelling_of_tap b → a ≡ b
+pub one_tap : (a b : SpelledTap) → IsSpelledTap a → IsSpelledTap b → spelling_of_tap a ≡ spelling_of_tap b → a ≡ b
 one_tap a b f g e =
     let fields : fields_of a ≡ fields_of b = tails (codes "TAP") (codes "TAP") (fields_of a) (fields_of b) (sym (tap_words a f) ∙ ap words e ∙ tap_words b g) in
     some_is a b (sym (tap_again a f) ∙ ap tap_of fields ∙ tap_again b g)
@@ -58,7 +58,7 @@ joined_length a b = omega (arith, length-append a (32 ∷ b))
 number_short : (n : ℕ) → n ≤ 4_294_967_295 → length (decimal n) ≤ 10
 number_short n small = length-decimal-le 10 n (omega arith) (omega arith) (omega arith)
 
-tap_short : (tap : TapLine) → IsTapLine tap → length (spelling_of_tap tap) ≤ 128
+tap_short : (tap : SpelledTap) → IsSpelledTap tap → length (spelling_of_tap tap) ≤ 128
 tap_short tap fits =
     let place = spelling_of_kind tap.kind in
     let utc = decimal tap.place ++ (32 ∷ place) in
@@ -87,7 +87,7 @@ no_newline : (ws : List (List ℕ)) → AllVisible ws → All (λ byte. byte ≢
 no_newline ws seen =
     All-weaker (λ b. 32 ≤ b) (λ b. b ≢ 10) (λ b above e. absurd (omega arith)) (join_with_byte 32 ws) (All-from_recursion (λ b. 32 ≤ b) (join_with_byte 32 ws) (text_joined ws seen))
 
-pub tap_is_line : (tap : TapLine) → IsTapLine tap → IsLine (spelling_of_tap tap)
+pub tap_is_line : (tap : SpelledTap) → IsSpelledTap tap → IsLine (spelling_of_tap tap)
 tap_is_line tap fits = (tap_short tap fits, no_newline (codes "TAP" ∷ fields_of tap) (tap_visible tap fits))
 
 show_short : (account day : ℕ) → IsShow account day → length (spelling_of_show account day) ≤ 128

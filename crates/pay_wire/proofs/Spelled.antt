@@ -9,21 +9,21 @@ use Rattle.std.proofs.lemmas.List.Splits.{join_with_byte-slice_split}
 use Rattle.std.proofs.lemmas.Slice.Eq.{bytes_eq-Decides}
 use Rattle.pay_taps.specs.declared.tap.Kind.{Kind}
 use Rattle.pay_taps.specs.declared.tap.Kind.TheVariants.{In, Out, Bus}
-use Rattle.pay_wire.specs.declared.command.TapLine.{TapLine}
+use Rattle.pay_wire.specs.declared.command.SpelledTap.{SpelledTap}
 use Rattle.pay_wire.specs.declared.command.Command.{Command}
 use Rattle.pay_wire.specs.declared.command.Command.TheVariants.{Tap, Show, NotYet, Quit}
 use Rattle.pay_wire.specs.declared.command.Keyword.{Keyword}
 use Rattle.pay_wire.specs.declared.command.Keyword.TheVariants as keyword
 use Rattle.pay_wire.specs.Fields.{◌>>=◌, is_space, words, words_after, has_none, field}
-use Rattle.pay_wire.specs.Commands.{number_within, kind_of, tap_of, show_of, keyword_of, command_for, command_of_words, command_of}
-use Rattle.pay_wire.specs.Spellings.{IsTapLine, spelling_of_kind, spelling_of_tap, IsShow, spelling_of_show, first_word, IsUnserved, Spells}
+use Rattle.pay_wire.specs.Commands.{number_within, kind_of_word, tap_of, show_of, keyword_of, command_for, command_of_words, command_of}
+use Rattle.pay_wire.specs.Spellings.{IsSpelledTap, spelling_of_kind, spelling_of_tap, IsShow, spelling_of_show, first_word, IsUnserved, Spells}
 use Rattle.pay_wire.proofs.Spaces.{split_at_end}
 use Rattle.pay_wire.proofs.Numerals.{bind_some, within_again, within_is}
 use Rattle.pay_wire.proofs.Visible.{is_visible, decimal_visible, AllVisible, words_joined}
 
 -- ---- what is spelled is read
 
-kind_again : (kind : Kind) → kind_of (spelling_of_kind kind) ≡ Some kind
+kind_again : (kind : Kind) → kind_of_word (spelling_of_kind kind) ≡ Some kind
 kind_again In = refl
 kind_again Out = refl
 kind_again Bus = refl
@@ -33,10 +33,10 @@ kind_visible In = refl
 kind_visible Out = refl
 kind_visible Bus = refl
 
-abbrev pub fields_of : TapLine → List (List ℕ)
+abbrev pub fields_of : SpelledTap → List (List ℕ)
 fields_of tap = decimal tap.reader ∷ decimal tap.seq ∷ decimal tap.account ∷ decimal tap.utc ∷ decimal tap.place ∷ spelling_of_kind tap.kind ∷ []
 
-pub tap_visible : (tap : TapLine) → IsTapLine tap → AllVisible (codes "TAP" ∷ fields_of tap)
+pub tap_visible : (tap : SpelledTap) → IsSpelledTap tap → AllVisible (codes "TAP" ∷ fields_of tap)
 tap_visible tap fits = (
   refl,
   (
@@ -54,10 +54,10 @@ tap_visible tap fits = (
   ),
 )
 
-pub tap_words : (tap : TapLine) → IsTapLine tap → words (spelling_of_tap tap) ≡ codes "TAP" ∷ fields_of tap
+pub tap_words : (tap : SpelledTap) → IsSpelledTap tap → words (spelling_of_tap tap) ≡ codes "TAP" ∷ fields_of tap
 tap_words tap fits = words_joined (codes "TAP") (fields_of tap) (tap_visible tap fits)
 
-pub tap_again : (tap : TapLine) → IsTapLine tap → tap_of (fields_of tap) ≡ Some tap
+pub tap_again : (tap : SpelledTap) → IsSpelledTap tap → tap_of (fields_of tap) ≡ Some tap
 unfolding tap_of
 tap_again tap fits =
     rw (
@@ -69,7 +69,7 @@ tap_again tap fits =
       kind_again tap.kind,
     ) refl
 
-tap_line_again : (tap : TapLine) → IsTapLine tap → command_of (spelling_of_tap tap) ≡ Some (Tap tap)
+tap_line_again : (tap : SpelledTap) → IsSpelledTap tap → command_of (spelling_of_tap tap) ≡ Some (Tap tap)
 tap_line_again tap fits = ap command_of_words (tap_words tap fits) ∙ rw (tap_again tap fits) refl
 
 abbrev pub show_fields : ℕ → ℕ → List (List ℕ)
@@ -136,7 +136,7 @@ number_is_next low high ws x e =
 same_kind : (word : List ℕ) (a kind : Kind) → (bytes_eq word (spelling_of_kind a) ≡ true) × (a ≡ kind) → word ≡ spelling_of_kind kind
 same_kind word a kind h = (bytes_eq-Decides word (spelling_of_kind a)).0 h.0 ∙ ap spelling_of_kind h.1
 
-kind_is : (word : List ℕ) (kind : Kind) → kind_of word ≡ Some kind → word ≡ spelling_of_kind kind
+kind_is : (word : List ℕ) (kind : Kind) → kind_of_word word ≡ Some kind → word ≡ spelling_of_kind kind
 kind_is word kind e =
     elim (choice (bytes_eq word (codes "IN")) (cond (bytes_eq word (codes "OUT")) (Some Out) (cond (bytes_eq word (codes "BUS")) (Some Bus) None)) In kind e) [
       | inl p ↦ same_kind word In kind p
@@ -146,9 +146,9 @@ kind_is word kind e =
       ]
     ]
 
-kind_is_next : (ws : List (List ℕ)) (x : Kind × List (List ℕ)) → field kind_of ws ≡ Some x → ws ≡ spelling_of_kind x.0 ∷ x.1
+kind_is_next : (ws : List (List ℕ)) (x : Kind × List (List ℕ)) → field kind_of_word ws ≡ Some x → ws ≡ spelling_of_kind x.0 ∷ x.1
 kind_is_next ws x e =
-    let f = field_is kind_of ws x e in
+    let f = field_is kind_of_word ws x e in
     f.1 ∙ ap (λ (w : List ℕ). w ∷ x.1) (kind_is f.0 x.0 f.2)
 
 none_left : (ws : List (List ℕ)) → has_none ws ≡ true → ws ≡ []
@@ -159,23 +159,23 @@ none_left (w ∷ ws) e = absurd cc
 abbrev NumberAndRest : Type 0
 NumberAndRest = ℕ × List (List ℕ)
 
-abbrev at_end : NumberAndRest → NumberAndRest → NumberAndRest → NumberAndRest → NumberAndRest → Kind × List (List ℕ) → Option TapLine
+abbrev at_end : NumberAndRest → NumberAndRest → NumberAndRest → NumberAndRest → NumberAndRest → Kind × List (List ℕ) → Option SpelledTap
 at_end reader seq account utc place kind =
     cond (has_none kind.1) (Some (record { reader = reader.0; seq = seq.0; account = account.0; utc = utc.0; place = place.0; kind = kind.0 })) None
 
-abbrev at_kind : NumberAndRest → NumberAndRest → NumberAndRest → NumberAndRest → NumberAndRest → Option TapLine
-at_kind reader seq account utc place = field kind_of place.1 >>= at_end reader seq account utc place
+abbrev at_kind : NumberAndRest → NumberAndRest → NumberAndRest → NumberAndRest → NumberAndRest → Option SpelledTap
+at_kind reader seq account utc place = field kind_of_word place.1 >>= at_end reader seq account utc place
 
-abbrev at_place : NumberAndRest → NumberAndRest → NumberAndRest → NumberAndRest → Option TapLine
+abbrev at_place : NumberAndRest → NumberAndRest → NumberAndRest → NumberAndRest → Option SpelledTap
 at_place reader seq account utc = field (number_within 1 65_535) utc.1 >>= at_kind reader seq account utc
 
-abbrev at_utc : NumberAndRest → NumberAndRest → NumberAndRest → Option TapLine
+abbrev at_utc : NumberAndRest → NumberAndRest → NumberAndRest → Option SpelledTap
 at_utc reader seq account = field (number_within 0 4_294_967_295) account.1 >>= at_place reader seq account
 
-abbrev at_account : NumberAndRest → NumberAndRest → Option TapLine
+abbrev at_account : NumberAndRest → NumberAndRest → Option SpelledTap
 at_account reader seq = field (number_within 1 4_294_967_295) seq.1 >>= at_utc reader seq
 
-abbrev at_seq : NumberAndRest → Option TapLine
+abbrev at_seq : NumberAndRest → Option SpelledTap
 at_seq reader = field (number_within 0 4_294_967_295) reader.1 >>= at_account reader
 
 fields_joined : (ws : List (List ℕ)) (reader seq account utc place : NumberAndRest) (kind : Kind × List (List ℕ))
@@ -184,10 +184,10 @@ fields_joined : (ws : List (List ℕ)) (reader seq account utc place : NumberAnd
     → ws ≡ fields_of (record { reader = reader.0; seq = seq.0; account = account.0; utc = utc.0; place = place.0; kind = kind.0 })
 fields_joined ws reader seq account utc place kind a b c d e f g = rw (a, b, c, d, e, f, g) refl
 
-read_as : (ws : List (List ℕ)) (read tap : TapLine) → IsTapLine read → ws ≡ fields_of read → read ≡ tap → IsTapLine tap × (ws ≡ fields_of tap)
-read_as ws read tap fits spelled e = subst (λ (t : TapLine). IsTapLine t × (ws ≡ fields_of t)) e (fits, spelled)
+read_as : (ws : List (List ℕ)) (read tap : SpelledTap) → IsSpelledTap read → ws ≡ fields_of read → read ≡ tap → IsSpelledTap tap × (ws ≡ fields_of tap)
+read_as ws read tap fits spelled e = subst (λ (t : SpelledTap). IsSpelledTap t × (ws ≡ fields_of t)) e (fits, spelled)
 
-tap_is : (ws : List (List ℕ)) (tap : TapLine) → tap_of ws ≡ Some tap → IsTapLine tap × (ws ≡ fields_of tap)
+tap_is : (ws : List (List ℕ)) (tap : SpelledTap) → tap_of ws ≡ Some tap → IsSpelledTap tap × (ws ≡ fields_of tap)
 unfolding tap_of
 tap_is ws tap e =
     let r = bind_some (field (number_within 1 65_535) ws) at_seq tap e in
@@ -195,15 +195,15 @@ tap_is ws tap e =
     let a = bind_some (field (number_within 1 4_294_967_295) s.0.1) (at_utc r.0 s.0) tap s.2 in
     let u = bind_some (field (number_within 0 4_294_967_295) a.0.1) (at_place r.0 s.0 a.0) tap a.2 in
     let p = bind_some (field (number_within 1 65_535) u.0.1) (at_kind r.0 s.0 a.0 u.0) tap u.2 in
-    let k = bind_some (field kind_of p.0.1) (at_end r.0 s.0 a.0 u.0 p.0) tap p.2 in
-    let read : TapLine = record { reader = r.0.0; seq = s.0.0; account = a.0.0; utc = u.0.0; place = p.0.0; kind = k.0.0 } in
+    let k = bind_some (field kind_of_word p.0.1) (at_end r.0 s.0 a.0 u.0 p.0) tap p.2 in
+    let read : SpelledTap = record { reader = r.0.0; seq = s.0.0; account = a.0.0; utc = u.0.0; place = p.0.0; kind = k.0.0 } in
     let last = cond_some (has_none k.0.1) read tap k.2 in
     let reader = number_is_next 1 65_535 ws r.0 r.1 in
     let seq = number_is_next 0 4_294_967_295 r.0.1 s.0 s.1 in
     let account = number_is_next 1 4_294_967_295 s.0.1 a.0 a.1 in
     let utc = number_is_next 0 4_294_967_295 a.0.1 u.0 u.1 in
     let place = number_is_next 1 65_535 u.0.1 p.0 p.1 in
-    let fits : IsTapLine read = record { reader = (reader.1, reader.2); seq = seq.2; account = (account.1, account.2); utc = utc.2; place = (place.1, place.2) } in
+    let fits : IsSpelledTap read = record { reader = (reader.1, reader.2); seq = seq.2; account = (account.1, account.2); utc = utc.2; place = (place.1, place.2) } in
     let spelled : ws ≡ fields_of read = fields_joined ws r.0 s.0 a.0 u.0 p.0 k.0 reader.0 seq.0 account.0 utc.0 place.0 (kind_is_next p.0.1 k.0 k.1) (none_left k.0.1 last.0) in
     read_as ws read tap fits spelled last.1
 

@@ -3,7 +3,7 @@ use Rattle.std.specs.Prelude.{◌≡◌, ℕ, nat_le, ◌&&◌, ◌||◌, List, 
 use Rattle.std.specs.Str.{bytes_eq}
 use Rattle.pay_taps.specs.declared.tap.Kind.{Kind}
 use Rattle.pay_taps.specs.declared.tap.Kind.TheVariants.{In, Out, Bus}
-use Rattle.pay_wire.specs.declared.command.TapLine.{TapLine}
+use Rattle.pay_wire.specs.declared.command.SpelledTap.{SpelledTap}
 use Rattle.pay_wire.specs.declared.command.Command.{Command}
 use Rattle.pay_wire.specs.declared.command.Command.TheVariants.{Tap, Show, NotYet, Quit}
 use Rattle.pay_wire.specs.declared.command.Keyword.{Keyword}
@@ -18,22 +18,22 @@ number_within low high word = do
   if nat_le low number && nat_le number high then Some number else None
 
 -- the kind of a tap, in capital letters
-abbrev pub kind_of : List ℕ → Option Kind
-kind_of word =
+abbrev pub kind_of_word : List ℕ → Option Kind
+kind_of_word word =
     if bytes_eq word (codes "IN") then Some In
     else if bytes_eq word (codes "OUT") then Some Out
     else if bytes_eq word (codes "BUS") then Some Bus
     else None
 
 -- the fields of a tap, each in its range, and no word behind them
-unfoldable pub tap_of : List (List ℕ) → Option TapLine
+unfoldable pub tap_of : List (List ℕ) → Option SpelledTap
 tap_of fields = do
   reader ← field (number_within 1 65_535) fields
   seq ← field (number_within 0 4_294_967_295) reader.1
   account ← field (number_within 1 4_294_967_295) seq.1
   utc ← field (number_within 0 4_294_967_295) account.1
   place ← field (number_within 1 65_535) utc.1
-  kind ← field kind_of place.1
+  kind ← field kind_of_word place.1
   if has_none kind.1
       then Some (record { reader = reader.0; seq = seq.0; account = account.0; utc = utc.0; place = place.0; kind = kind.0 })
       else None

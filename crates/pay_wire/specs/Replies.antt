@@ -66,8 +66,8 @@ words_of_reply (replies.No r) = words_of_refusal r
 words_of_reply replies.Bye = codes "BYE" ∷ []
 
 -- words as a line: a space between each two, and the newline at the end
-abbrev pub line_of : List (List ℕ) → List ℕ
-line_of ws = join_with_byte 32 ws ++ codes "\n"
+abbrev pub line_of_words : List (List ℕ) → List ℕ
+line_of_words ws = join_with_byte 32 ws ++ codes "\n"
 
 -- the journeys that are told behind the first line
 abbrev pub journeys_of_reply : Reply → List Line
@@ -76,11 +76,11 @@ journeys_of_reply _ = []
 
 -- journeys, a line for each
 abbrev pub text_of_journeys : List Line → List ℕ
-text_of_journeys = flat_map (λ l. line_of (words_of_journey l))
+text_of_journeys = flat_map (λ l. line_of_words (words_of_journey l))
 
 -- the lines of a reply, newlines included
 abbrev pub spelling_of_reply : Reply → List ℕ
-spelling_of_reply reply = line_of (words_of_reply reply) ++ text_of_journeys (journeys_of_reply reply)
+spelling_of_reply reply = line_of_words (words_of_reply reply) ++ text_of_journeys (journeys_of_reply reply)
 
 -- what the line of a journey tells: its day stands in the first line, and its local second and a band nowhere
 abbrev pub told_of_journey : Line → Line

@@ -3,13 +3,13 @@ use Rattle.std.specs.Prelude.{◌≡◌, ℕ, ◌≤◌, ◌≢◌, ◌⊎◌, L
 use Rattle.std.specs.List.{before_first, join_with_byte}
 use Rattle.pay_taps.specs.declared.tap.Kind.{Kind}
 use Rattle.pay_taps.specs.declared.tap.Kind.TheVariants.{In, Out, Bus}
-use Rattle.pay_wire.specs.declared.command.TapLine.{TapLine}
+use Rattle.pay_wire.specs.declared.command.SpelledTap.{SpelledTap}
 use Rattle.pay_wire.specs.declared.command.Command.{Command}
 use Rattle.pay_wire.specs.declared.command.Command.TheVariants.{Tap, Show, NotYet, Quit}
 use Rattle.pay_wire.specs.Fields.{is_space}
 
 -- each number of a tap is in its range
-pub record IsTapLine (tap : TapLine) : Type 0 where
+pub record IsSpelledTap (tap : SpelledTap) : Type 0 where
   pub reader : (1 ≤ tap.reader) × (tap.reader ≤ 65_535)
   pub seq : tap.seq ≤ 4_294_967_295
   pub account : (1 ≤ tap.account) × (tap.account ≤ 4_294_967_295)
@@ -22,7 +22,7 @@ spelling_of_kind Out = codes "OUT"
 spelling_of_kind Bus = codes "BUS"
 
 -- `TAP reader seq account utc place KIND`, with a space between each two words
-abbrev pub spelling_of_tap : TapLine → List ℕ
+abbrev pub spelling_of_tap : SpelledTap → List ℕ
 spelling_of_tap tap =
     join_with_byte 32 (codes "TAP" ∷ decimal tap.reader ∷ decimal tap.seq ∷ decimal tap.account ∷ decimal tap.utc ∷ decimal tap.place ∷ spelling_of_kind tap.kind ∷ [])
 
@@ -44,7 +44,7 @@ IsUnserved word = (word ≡ codes "FIX") ⊎ ((word ≡ codes "DUE") ⊎ (word �
 
 -- what a line has to be to spell a command; of those that are not served yet the first word is enough
 abbrev pub Spells : List ℕ → Command → Type 0
-Spells line (Tap tap) = IsTapLine tap × (line ≡ spelling_of_tap tap)
+Spells line (Tap tap) = IsSpelledTap tap × (line ≡ spelling_of_tap tap)
 Spells line (Show account day) = IsShow account day × (line ≡ spelling_of_show account day)
 Spells line NotYet = IsUnserved (first_word line)
 Spells line Quit = line ≡ codes "QUIT"

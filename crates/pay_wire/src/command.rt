@@ -2,14 +2,14 @@
 ghost use Rattle.std.specs.Prelude.{◌≡◌, ◌≤◌, ◌∷◌, [], Some, IfSome, IfNone};
 ghost use Rattle.std.specs.List.{position_or_len};
 ghost use Rattle.pay_wire.specs.Fields.{is_space, words, words_after, has_none, Gives, field};
-ghost use Rattle.pay_wire.specs.Commands.{number_within, kind_of, tap_of, show_of, keyword_of, command_for, command_of};
+ghost use Rattle.pay_wire.specs.Commands.{number_within, kind_of_word, tap_of, show_of, keyword_of, command_for, command_of};
 
 use crate::number::read_number;
 use pay_taps::Kind;
 
 /// A tap as a line spells it. Its `utc` may lie outside of the instants that are taken.
 #[derive(Clone, Copy, Debug, PartialEq, Eq)]
-pub struct TapLine {
+pub struct SpelledTap {
     /// The reader that was tapped, from 1.
     pub reader: u16,
     /// The tap's number among those of the reader.
@@ -28,7 +28,7 @@ pub struct TapLine {
 #[derive(Clone, Copy, Debug, PartialEq, Eq)]
 pub enum Command {
     /// `TAP reader seq account utc place KIND`: a tap.
-    Tap(TapLine),
+    Tap(SpelledTap),
     /// `SHOW account day`: the journeys of a service day.
     Show { account: u32, day: u32 },
     /// A command of the protocol that is not served yet.
@@ -84,7 +84,7 @@ fn read_keyword(name: &[u8]) -> Option<Keyword>
 
 /// The fields of a tap, to the end of the line.
 #[tactic(auto, unfolding(crate::specs::Commands::tap_of))]
-fn read_tap(fields: &[u8]) -> Option<TapLine>
+fn read_tap(fields: &[u8]) -> Option<SpelledTap>
     ensures { result ≡ tap_of (words_after fields.now) }
 {
     let (reader, rest) = number_field(fields, 1, 65_535)?;
@@ -96,7 +96,7 @@ fn read_tap(fields: &[u8]) -> Option<TapLine>
     if !is_end(rest) {
         return None;
     }
-    Some(TapLine {
+    Some(SpelledTap {
         reader: reader as u16,
         seq,
         account,
@@ -136,14 +136,14 @@ fn number_field(fields: &[u8], low: u32, high: u32) -> Option<(u32, &[u8])>
 /// The kind of a tap in the next word, and what follows.
 fn kind_field(fields: &[u8]) -> Option<(Kind, &[u8])>
     ensures { Gives (λ x. (x.0, words_after x.1.now)) result
-        (field kind_of (words_after fields.now)) }
+        (field kind_of_word (words_after fields.now)) }
 {
     let (word, rest) = next_word(fields)?;
     Some((read_kind(word)?, rest))
 }
 
 fn read_kind(word: &[u8]) -> Option<Kind>
-    ensures { result ≡ kind_of word.now }
+    ensures { result ≡ kind_of_word word.now }
 {
     match word {
         b"IN" => Some(Kind::In),

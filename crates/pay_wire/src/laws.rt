@@ -2,13 +2,13 @@
 //! contract of a function that does nothing: a caller whose proof needs a law calls its function.
 ghost use Rattle.std.specs.Prelude.{◌≡◌, ◌≢◌, ℕ, ◌≤◌, List, ◌++◌, map, Some, codes, decimal};
 ghost use Rattle.std.specs.List.{AllByRecursion, flat_map};
-ghost use Rattle.pay_wire.specs.declared.command.TapLine.{TapLine};
+ghost use Rattle.pay_wire.specs.declared.command.SpelledTap.{SpelledTap};
 ghost use Rattle.pay_wire.specs.declared.command.Command.{Command};
 ghost use Rattle.pay_wire.specs.declared.command.Command.TheVariants.{NotYet};
 ghost use Rattle.pay_wire.specs.declared.reply.Reply.{Reply};
 ghost use Rattle.pay_wire.specs.Numbers.{number_of};
 ghost use Rattle.pay_wire.specs.Commands.{command_of};
-ghost use Rattle.pay_wire.specs.Spellings.{IsTapLine, spelling_of_tap, IsShow, spelling_of_show, Spells, IsLine};
+ghost use Rattle.pay_wire.specs.Spellings.{IsSpelledTap, spelling_of_tap, IsShow, spelling_of_show, Spells, IsLine};
 ghost use Rattle.pay_wire.specs.Replies.{spelling_of_reply, told_of, IsReply};
 
 /// A number of a line has one spelling, its decimal digits, which is read as that number.
@@ -31,7 +31,7 @@ pub fn one_command()
     ensures command { (line : List ℕ) (a b : Command) → Spells line a → Spells line b → a ≡ b }
     ensures line { (command : Command) (a b : List ℕ) → command ≢ NotYet
         → Spells a command → Spells b command → a ≡ b }
-    ensures tap { (a b : TapLine) → IsTapLine a → IsTapLine b
+    ensures tap { (a b : SpelledTap) → IsSpelledTap a → IsSpelledTap b
         → spelling_of_tap a ≡ spelling_of_tap b → a ≡ b }
     ensures show { (account day x y : ℕ) → IsShow account day → IsShow x y
         → spelling_of_show account day ≡ spelling_of_show x y → (account ≡ x) × (day ≡ y) }
@@ -39,7 +39,7 @@ pub fn one_command()
 
 /// A spelling is one line: at most 128 bytes, none of them a newline.
 pub fn each_is_a_line()
-    ensures tap { (tap : TapLine) → IsTapLine tap → IsLine (spelling_of_tap tap) }
+    ensures tap { (tap : SpelledTap) → IsSpelledTap tap → IsLine (spelling_of_tap tap) }
     ensures show { (account day : ℕ) → IsShow account day → IsLine (spelling_of_show account day) }
     ensures quit { IsLine (codes "QUIT") }
 {}

@@ -10,7 +10,7 @@ mod reply;
 #[cfg(test)]
 mod tests;
 
-pub use command::{Command, TapLine, read_command};
+pub use command::{Command, SpelledTap, read_command};
 pub use output::{WriteFailed, send};
 pub use refusal::Refusal;
 pub use reply::Reply;

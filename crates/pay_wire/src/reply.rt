@@ -1,7 +1,7 @@
 //! Replies as lines.
 ghost use Rattle.std.specs.Prelude.{◌≡◌, ◌+◌, ◌++◌, ◌∷◌, [], ◌≤◌, ◌<◌, length, decimal};
 ghost use Rattle.arrayvec.specs.ArrayVec.{array_vec_len};
-ghost use Rattle.pay_wire.specs.Replies.{line_of, words_of_priced, words_of_shown, words_of_refusal, words_of_reply, word_of_kind, words_of_journey, journeys_of_reply};
+ghost use Rattle.pay_wire.specs.Replies.{line_of_words, words_of_priced, words_of_shown, words_of_refusal, words_of_reply, word_of_kind, words_of_journey, journeys_of_reply};
 
 use crate::refusal::Refusal;
 use arrayvec::ArrayVec;
@@ -15,7 +15,7 @@ pub const REPLY_BYTES: usize = 96;
 const NUMBER_BYTES: usize = 20;
 
 /// A line of a reply.
-pub type ReplyLine = ArrayVec<u8, REPLY_BYTES>;
+pub type SpelledLine = ArrayVec<u8, REPLY_BYTES>;
 
 /// The answer to a line.
 #[derive(Drop)]
@@ -43,8 +43,8 @@ impl Reply {
 }
 
 /// The first line of a reply, newline included.
-pub fn first_line(reply: &Reply) -> ReplyLine
-    ensures { result.items ≡ line_of (words_of_reply reply.now) }
+pub fn first_line(reply: &Reply) -> SpelledLine
+    ensures { result.items ≡ line_of_words (words_of_reply reply.now) }
 {
     match reply {
         Reply::Priced(priced) => render_priced(priced),
@@ -55,8 +55,8 @@ pub fn first_line(reply: &Reply) -> ReplyLine
 }
 
 /// The line of a journey, newline included.
-pub fn journey_line(journey: &Line) -> ReplyLine
-    ensures { result.items ≡ line_of (words_of_journey journey.now) }
+pub fn journey_line(journey: &Line) -> SpelledLine
+    ensures { result.items ≡ line_of_words (words_of_journey journey.now) }
 {
     let mut line = started(b"JNY ");
     put(&mut line, kind_word(journey.kind));
@@ -80,8 +80,8 @@ fn kind_word(kind: LineKind) -> &'static [u8]
     }
 }
 
-fn render_shown(shown: &Shown) -> ReplyLine
-    ensures { result.items ≡ line_of (words_of_shown shown.now) }
+fn render_shown(shown: &Shown) -> SpelledLine
+    ensures { result.items ≡ line_of_words (words_of_shown shown.now) }
 {
     let mut line = started(b"SHOW");
     put_field(&mut line, u64::from(shown.account));
@@ -92,8 +92,8 @@ fn render_shown(shown: &Shown) -> ReplyLine
     line
 }
 
-fn render_priced(priced: &Priced) -> ReplyLine
-    ensures { result.items ≡ line_of (words_of_priced priced.now) }
+fn render_priced(priced: &Priced) -> SpelledLine
+    ensures { result.items ≡ line_of_words (words_of_priced priced.now) }
 {
     let mut line = if priced.again {
         started(b"AGAIN ")
@@ -109,8 +109,8 @@ fn render_priced(priced: &Priced) -> ReplyLine
     line
 }
 
-fn render_refusal(refusal: Refusal) -> ReplyLine
-    ensures { result.items ≡ line_of (words_of_refusal refusal) }
+fn render_refusal(refusal: Refusal) -> SpelledLine
+    ensures { result.items ≡ line_of_words (words_of_refusal refusal) }
 {
     let mut line = started(b"NO ");
     put_number(&mut line, u64::from(refusal.number()));
@@ -121,7 +121,7 @@ fn render_refusal(refusal: Refusal) -> ReplyLine
 }
 
 /// A line that begins so.
-fn started(text: &[u8]) -> ReplyLine
+fn started(text: &[u8]) -> SpelledLine
     requires { length text.now ≤ REPLY_BYTES }
     ensures { result.items ≡ text.now }
 {
@@ -131,7 +131,7 @@ fn started(text: &[u8]) -> ReplyLine
 }
 
 /// Puts a number at the end of a line, in decimal.
-fn put_number(line: &mut ReplyLine, number: u64)
+fn put_number(line: &mut SpelledLine, number: u64)
     requires { array_vec_len line.old + NUMBER_BYTES ≤ REPLY_BYTES }
     ensures items { line.new.items ≡ line.old.items ++ decimal number }
     ensures len { array_vec_len line.new ≤ array_vec_len line.old + NUMBER_BYTES }
@@ -141,7 +141,7 @@ fn put_number(line: &mut ReplyLine, number: u64)
 }
 
 /// Puts a space and a number at the end of a line.
-fn put_field(line: &mut ReplyLine, number: u64)
+fn put_field(line: &mut SpelledLine, number: u64)
     requires { array_vec_len line.old + 1 + NUMBER_BYTES ≤ REPLY_BYTES }
     ensures items { line.new.items ≡ line.old.items ++ 32 ∷ decimal number }
     ensures len { array_vec_len line.new ≤ array_vec_len line.old + 1 + NUMBER_BYTES }
@@ -151,7 +151,7 @@ fn put_field(line: &mut ReplyLine, number: u64)
 }
 
 /// Puts bytes at the end of a line.
-fn put(line: &mut ReplyLine, text: &[u8])
+fn put(line: &mut SpelledLine, text: &[u8])
     requires { array_vec_len line.old + length text.now ≤ REPLY_BYTES }
     ensures items { line.new.items ≡ line.old.items ++ text.now }
     ensures len { array_vec_len line.new ≡ array_vec_len line.old + length text.now }

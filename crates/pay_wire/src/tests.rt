@@ -11,7 +11,7 @@ use std::test::Fail;
 
 /// A tap of account 7 by reader 1.
 fn tap(seq: u32, utc: u64, place: u16, kind: Kind) -> Command {
-    Command::Tap(TapLine {
+    Command::Tap(SpelledTap {
         reader: 1,
         seq,
         account: 7,

@@ -1,7 +1,7 @@
 use super::{Fault, run_session};
 use crate::session::SessionFault;
-use crate::words::RunWords;
 use pay_tables::FareFileFault;
+use pay_words::RunWords;
 use std::alloc::AllocError;
 use std::test::Fail;
 

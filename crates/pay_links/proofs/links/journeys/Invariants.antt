@@ -1,6 +1,6 @@
 use Rattle.std.proofs.Common.{◌≡◌, ◌++◌, drop}
 use Rattle.pay_links.specs.Journeys.{journeys}
-use Rattle.pay_links.specs.Current.{open_before}
+use Rattle.pay_links.specs.OpenRun.{open_before}
 use Rattle.pay_links.proofs.links.journeys.Given as goal
 
 abbrev pub invariant-loop-part : goal.invariant-loop-part

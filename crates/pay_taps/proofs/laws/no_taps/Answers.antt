@@ -1,5 +1,5 @@
 use Rattle.std.proofs.Common.{[], refl, ap}
-use Rattle.pay_taps.proofs.Numbers.{none_made, nothing_made}
+use Rattle.pay_taps.proofs.NumberOrder.{none_made, nothing_made}
 use Rattle.pay_taps.proofs.TouchOrder.{touches_among}
 use Rattle.pay_taps.proofs.laws.no_taps.Goals as goal
 

@@ -1,4 +1,4 @@
-use Rattle.pay_taps.proofs.Numbers.{added}
+use Rattle.pay_taps.proofs.NumberOrder.{added}
 use Rattle.pay_taps.proofs.TouchOrder.{one_more, touches_behind, touches_with}
 use Rattle.pay_taps.proofs.laws.one_more_tap.Goals as goal
 

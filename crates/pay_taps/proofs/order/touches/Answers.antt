@@ -3,7 +3,7 @@ use Rattle.std.proofs.lemmas.List.{length-map}
 use Rattle.std.proofs.lemmas.Result.{IfOk-weaker}
 use Rattle.std.specs.FinMap.{len}
 use Rattle.pay_taps.specs.Order.{touch_of}
-use Rattle.pay_taps.proofs.Numbers.{length_values}
+use Rattle.pay_taps.proofs.NumberOrder.{length_values}
 use Rattle.pay_taps.proofs.order.touches.Goals as goal
 
 pub returns-clause-few : goal.returns-clause-few

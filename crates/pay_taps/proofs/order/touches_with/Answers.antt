@@ -5,7 +5,7 @@ use Rattle.std.specs.FinMap.{get, len}
 use Rattle.pay_taps.specs.Order.{touch_of}
 use Rattle.pay_taps.specs.Taps.{number}
 use Rattle.pay_taps.proofs.Judgement.{added_iff}
-use Rattle.pay_taps.proofs.Numbers.{length_values}
+use Rattle.pay_taps.proofs.NumberOrder.{length_values}
 use Rattle.pay_taps.proofs.order.touches_with.Goals as goal
 
 pub returns-clause-few : goal.returns-clause-few

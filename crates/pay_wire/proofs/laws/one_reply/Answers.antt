@@ -1,4 +1,4 @@
-use Rattle.pay_wire.proofs.Told.{one_reply, one_stream}
+use Rattle.pay_wire.proofs.ReplyStreams.{one_reply, one_stream}
 use Rattle.pay_wire.proofs.laws.one_reply.Goals as goal
 
 pub returns : goal.returns

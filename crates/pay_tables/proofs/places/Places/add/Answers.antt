@@ -1,6 +1,6 @@
 use Rattle.std.proofs.Common.{◌≡◌, is_some, ap, sym, ◌∙◌, true, false}
 use Rattle.std.specs.FinMap as map
-use Rattle.pay_tables.proofs.Numbers.{get-lookup, from_entries-updated}
+use Rattle.pay_tables.proofs.NumberMaps.{get-lookup, from_entries-updated}
 use Rattle.pay_tables.proofs.places.Places.add.Goals as goal
 
 pub returns-then-contains_key-clause-added : goal.returns-then-contains_key-clause-added

@@ -1,6 +1,6 @@
 use Rattle.std.proofs.Common.{ap, sym, ◌∙◌}
 use Rattle.std.specs.FinMap as map
-use Rattle.pay_tables.proofs.Numbers.{get-lookup}
+use Rattle.pay_tables.proofs.NumberMaps.{get-lookup}
 use Rattle.pay_tables.proofs.places.Places.get.Goals as goal
 
 pub returns : goal.returns

@@ -1,7 +1,7 @@
 use Rattle.std.proofs.Common.{subst, rules, arith}
-use Rattle.pay_taps.specs.Listed.{IsPlace}
+use Rattle.pay_taps.specs.TapList.{IsPlace}
 use Rattle.pay_taps.specs.Taps.{IsTapSet}
-use Rattle.pay_taps.proofs.Listed.{set_of_listed, count_of, put_in_place}
+use Rattle.pay_taps.proofs.TapList.{set_of_listed, count_of, put_in_place}
 use Rattle.pay_taps.proofs.tap_set.TapSet.add.Goals as goal
 
 pub returns-in_err-at-clause-tap_set : goal.returns-in_err-at-clause-tap_set

@@ -1,7 +1,7 @@
 use Rattle.std.proofs.Common.{◌∙◌, ap, sym, subst}
 use Rattle.std.specs.FinMap as map
 use Rattle.pay_taps.specs.Taps.{IsTapSet}
-use Rattle.pay_taps.proofs.Listed.{set_values, set_of_listed}
+use Rattle.pay_taps.proofs.TapList.{set_values, set_of_listed}
 use Rattle.pay_taps.proofs.tap_set.TapSet.as_slice.Goals as goal
 
 pub returns-clause-all : goal.returns-clause-all

@@ -1,6 +1,6 @@
 use Rattle.std.proofs.Common.{◌≡◌, sym, subst, IfSome, rules}
-use Rattle.pay_taps.proofs.Numbers.{own_number}
-use Rattle.pay_taps.proofs.Listed.{found, not_found, set_of_listed}
+use Rattle.pay_taps.proofs.NumberOrder.{own_number}
+use Rattle.pay_taps.proofs.TapList.{found, not_found, set_of_listed}
 use Rattle.pay_taps.specs.Taps.{number, IsTapSet}
 use Rattle.pay_taps.proofs.tap_set.TapSet.get.Goals as goal
 

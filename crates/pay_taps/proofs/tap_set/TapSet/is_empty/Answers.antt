@@ -1,4 +1,4 @@
-use Rattle.pay_taps.proofs.Numbers.{is_nothing}
+use Rattle.pay_taps.proofs.NumberOrder.{is_nothing}
 use Rattle.pay_taps.proofs.tap_set.TapSet.is_empty.Goals as goal
 
 pub returns : goal.returns

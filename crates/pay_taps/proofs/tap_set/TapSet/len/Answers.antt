@@ -1,5 +1,5 @@
 use Rattle.std.proofs.Common.{◌∙◌, ap, length}
-use Rattle.pay_taps.proofs.Numbers.{length_values}
+use Rattle.pay_taps.proofs.NumberOrder.{length_values}
 use Rattle.pay_taps.proofs.tap_set.TapSet.len.Goals as goal
 
 pub returns-clause-value : goal.returns-clause-value

@@ -2,7 +2,7 @@ use Rattle.std.proofs.Common.{◌≡◌, ◌≢◌, ◌≤◌, ◌<◌, ◌∙�
 use Rattle.std.specs.FinMap.{get, len}
 use Rattle.pay_taps.specs.Taps.{number}
 use Rattle.pay_taps.proofs.Judgement.{repeat_iff, conflict_iff, full_iff}
-use Rattle.pay_taps.proofs.Listed.{found, not_found, count_of, place_of}
+use Rattle.pay_taps.proofs.TapList.{found, not_found, count_of, place_of}
 use Rattle.pay_taps.proofs.tap_set.TapSet.place_for.Goals as goal
 
 pub returns-in-Ok : goal.returns-in-Ok

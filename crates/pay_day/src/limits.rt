@@ -1,0 +1,19 @@
+//! The instants and days that are taken, and when a service day begins.
+
+/// The first instant that is taken, in seconds of the Unix clock: 1970-01-08 00:00:00 UTC.
+pub const FIRST_INSTANT: u64 = 604_800;
+
+/// The last one: 2099-12-31 23:59:59 UTC.
+pub const LAST_INSTANT: u64 = 4_102_444_799;
+
+/// The first service day, counted from 1970-01-01: a Monday.
+pub const FIRST_DAY: u32 = 4;
+
+/// The last one that a number of a day may name.
+pub const LAST_DAY: u32 = 50_000;
+
+/// How many seconds a day of the calendar has.
+pub const SECONDS_PER_DAY: u32 = 86_400;
+
+/// The local second at which a service day begins: 04:30:00.
+pub const SERVICE_DAY_START: u32 = 16_200;

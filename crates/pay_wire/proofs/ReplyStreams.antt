@@ -1,0 +1,297 @@
+-- Replies that follow one another are told apart.
+use Rattle.std.proofs.Common.{◌≡◌, ℕ, ◌<◌, ◌≤◌, Bool, true, false, List, [], ◌∷◌, ◌++◌, map, length, None, refl, sym, ap, ◌∙◌, append_assoc, arith, codes}
+use Rattle.std.specs.Prelude.{decimal, ◌==◌, ◌≢◌, if◌then◌else◌}
+use Rattle.std.specs.List.{join_with_byte, AllByRecursion, flat_map}
+use Rattle.std.proofs.lemmas.Bool.{ne_eqb}
+use Rattle.std.proofs.lemmas.Fmt.{decimal_injective}
+use Rattle.std.proofs.lemmas.List.{length-append}
+use Rattle.std.proofs.lemmas.List.Splits.{join_with_byte-slice_split}
+use Rattle.pay_wire.specs.declared.refusal.Refusal.{Refusal}
+use Rattle.pay_wire.specs.declared.refusal.Refusal.TheVariants.{OutOfTime, UnknownPlace, Conflict, AccountFull, BadLine, LongLine, NotYet, Memory}
+use Rattle.pay_account.specs.declared.fares.Priced.{Priced}
+use Rattle.pay_wire.specs.declared.reply.Reply.{Reply}
+use Rattle.pay_wire.specs.declared.reply.Reply.TheVariants as replies
+use Rattle.pay_wire.specs.Fields.{words}
+use Rattle.pay_wire.specs.Replies.{refusal_number, refusal_name, line_of_words, word_of_kind, words_of_journey, words_of_reply, journeys_of_reply, text_of_journeys, spelling_of_reply, told_of_journey, told_of, IsToldJourney, IsReply}
+use Rattle.pay_account.specs.declared.shown.Line.{Line}
+use Rattle.pay_account.specs.declared.shown.LineKind.{LineKind}
+use Rattle.pay_account.specs.declared.shown.LineKind.TheVariants as kind
+use Rattle.pay_wire.proofs.Visible.{is_visible, decimal_visible, AllVisible, IsText, words_joined, text_joined, pieces}
+
+-- ---- one reply
+
+name_visible : (r : Refusal) → is_visible (refusal_name r) ≡ true
+name_visible OutOfTime = refl
+name_visible UnknownPlace = refl
+name_visible Conflict = refl
+name_visible AccountFull = refl
+name_visible BadLine = refl
+name_visible LongLine = refl
+name_visible NotYet = refl
+name_visible Memory = refl
+
+number_small : (r : Refusal) → refusal_number r < 100
+number_small OutOfTime = omega arith
+number_small UnknownPlace = omega arith
+number_small Conflict = omega arith
+number_small AccountFull = omega arith
+number_small BadLine = omega arith
+number_small LongLine = omega arith
+number_small NotYet = omega arith
+number_small Memory = omega arith
+
+opening_visible : (again : Bool) → is_visible (if again then codes "AGAIN" else codes "OK") ≡ true
+opening_visible true = refl
+opening_visible false = refl
+
+reply_visible : (r : Reply) → IsReply r → AllVisible (words_of_reply r)
+reply_visible (replies.Priced p) fits =
+    (opening_visible p.again, (decimal_visible p.day (omega (arith, fits.0)), (decimal_visible p.day_price (omega (arith, fits.1)), (decimal_visible p.week_price (omega (arith, fits.2)), tt))))
+reply_visible (replies.Shown s) fits =
+    (refl, (decimal_visible s.account (omega (arith, fits.0)), (decimal_visible s.day (omega (arith, fits.1)), (decimal_visible (length s.lines) (omega (arith, fits.2)), (decimal_visible s.day_price (omega (arith, fits.3)), tt)))))
+reply_visible (replies.No r) fits = (refl, (decimal_visible (refusal_number r) (omega (arith, number_small r)), (name_visible r, tt)))
+reply_visible replies.Bye fits = (refl, tt)
+
+-- the words of a reply are those of its line
+reply_words : (r : Reply) → IsReply r → words (join_with_byte 32 (words_of_reply r)) ≡ words_of_reply r
+reply_words (replies.Priced p) fits = words_joined (if p.again then codes "AGAIN" else codes "OK") (decimal p.day ∷ decimal p.day_price ∷ decimal p.week_price ∷ []) (reply_visible (replies.Priced p) fits)
+reply_words (replies.Shown s) fits = words_joined (codes "SHOW") (decimal s.account ∷ decimal s.day ∷ decimal (length s.lines) ∷ decimal s.day_price ∷ []) (reply_visible (replies.Shown s) fits)
+reply_words (replies.No r) fits = words_joined (codes "NO") (decimal (refusal_number r) ∷ refusal_name r ∷ []) (reply_visible (replies.No r) fits)
+reply_words replies.Bye fits = refl
+
+-- ---- the words tell the reply
+
+refusal_at : ℕ → Refusal
+refusal_at n =
+    if n == 1 then OutOfTime else if n == 15 then UnknownPlace else if n == 20 then Conflict else if n == 21 then AccountFull
+    else if n == 50 then BadLine else if n == 51 then LongLine else if n == 60 then NotYet else Memory
+
+refusal_again : (r : Refusal) → refusal_at (refusal_number r) ≡ r
+unfolding refusal_at
+refusal_again OutOfTime = refl
+refusal_again UnknownPlace = refl
+refusal_again Conflict = refl
+refusal_again AccountFull = refl
+refusal_again BadLine = refl
+refusal_again LongLine = refl
+refusal_again NotYet = refl
+refusal_again Memory = refl
+
+one_number : (r s : Refusal) → refusal_number r ≡ refusal_number s → r ≡ s
+one_number r s e = sym (refusal_again r) ∙ ap refusal_at e ∙ refusal_again s
+
+one_opening : (a b : Bool) → (if a then codes "AGAIN" else codes "OK") ≡ (if b then codes "AGAIN" else codes "OK") → a ≡ b
+one_opening true true e = refl
+one_opening true false e = absurd cc
+one_opening false true e = absurd cc
+one_opening false false e = refl
+
+not_priced : {A : Type 0} (a : Bool) (n : ℕ) (bytes : List ℕ) → (if a then codes "AGAIN" else codes "OK") ≡ n ∷ bytes → n ≢ 65 → n ≢ 79 → A
+not_priced true n bytes e x y = absurd (x cc)
+not_priced false n bytes e x y = absurd (y cc)
+
+heads : {A : Type 0} (x y : A) (xs ys : List A) → (x ∷ xs) ≡ (y ∷ ys) → (x ≡ y) × (xs ≡ ys)
+heads x y xs ys e = (cc, cc)
+
+abbrev priced : Bool → ℕ → ℕ → ℕ → Priced
+priced again day day_price week_price = record { again = again; day = day; day_price = day_price; week_price = week_price }
+
+same_fields : (a b : Bool) (d e x y w z : ℕ) → a ≡ b → d ≡ e → x ≡ y → w ≡ z → priced a d x w ≡ priced b e y z
+same_fields a b d e x y w z p q r s = rw (p, q, r, s) refl
+
+one_priced : (p q : Priced) → p.again ≡ q.again → p.day ≡ q.day → p.day_price ≡ q.day_price → p.week_price ≡ q.week_price → p ≡ q
+one_priced p q a d e f = same_fields p.again q.again p.day q.day p.day_price q.day_price p.week_price q.week_price a d e f
+
+-- what the first line tells of two replies that have the same
+abbrev Alike : Reply → Reply → Type 0
+Alike (replies.Shown s) (replies.Shown t) = (s.account ≡ t.account) × (s.day ≡ t.day) × (length s.lines ≡ length t.lines) × (s.day_price ≡ t.day_price)
+Alike a b = a ≡ b
+
+one_from_words : (r s : Reply) → IsReply r → IsReply s → words_of_reply r ≡ words_of_reply s → Alike r s
+one_from_words (replies.Priced p) (replies.Priced q) f g e =
+    let a = heads _ _ _ _ e in
+    let d = heads _ _ _ _ a.1 in
+    let x = heads _ _ _ _ d.1 in
+    let w = heads _ _ _ _ x.1 in
+    ap (λ (t : Priced). replies.Priced t) (one_priced p q (one_opening p.again q.again a.0)
+    (decimal_injective p.day q.day (omega (arith, f.0)) (omega (arith, g.0)) d.0)
+    (decimal_injective p.day_price q.day_price f.1 g.1 x.0)
+    (decimal_injective p.week_price q.week_price f.2 g.2 w.0))
+one_from_words (replies.Priced p) (replies.Shown t) f g e = not_priced p.again 83 _ (heads _ _ _ _ e).0 (λ h. absurd (omega (arith, h))) (λ h. absurd (omega (arith, h)))
+one_from_words (replies.Priced p) (replies.No s) f g e = not_priced p.again 78 _ (heads _ _ _ _ e).0 (λ h. absurd (omega (arith, h))) (λ h. absurd (omega (arith, h)))
+one_from_words (replies.Priced p) replies.Bye f g e = not_priced p.again 66 _ (heads _ _ _ _ e).0 (λ h. absurd (omega (arith, h))) (λ h. absurd (omega (arith, h)))
+one_from_words (replies.Shown s) (replies.Priced q) f g e = not_priced q.again 83 _ (sym (heads _ _ _ _ e).0) (λ h. absurd (omega (arith, h))) (λ h. absurd (omega (arith, h)))
+one_from_words (replies.Shown s) (replies.Shown t) f g e =
+    let a = heads _ _ _ _ (heads _ _ _ _ e).1 in
+    let d = heads _ _ _ _ a.1 in
+    let n = heads _ _ _ _ d.1 in
+    let x = heads _ _ _ _ n.1 in (
+      decimal_injective s.account t.account (omega (arith, f.0)) (omega (arith, g.0)) a.0,
+      decimal_injective s.day t.day (omega (arith, f.1)) (omega (arith, g.1)) d.0,
+      decimal_injective (length s.lines) (length t.lines) f.2 g.2 n.0,
+      decimal_injective s.day_price t.day_price f.3 g.3 x.0,
+    )
+one_from_words (replies.Shown s) (replies.No t) f g e = absurd cc
+one_from_words (replies.Shown s) replies.Bye f g e = absurd cc
+one_from_words (replies.No r) (replies.Priced q) f g e = not_priced q.again 78 _ (sym (heads _ _ _ _ e).0) (λ h. absurd (omega (arith, h))) (λ h. absurd (omega (arith, h)))
+one_from_words (replies.No r) (replies.Shown t) f g e = absurd cc
+one_from_words (replies.No r) (replies.No s) f g e =
+    let n = heads _ _ _ _ (heads _ _ _ _ e).1 in
+    ap (λ (t : Refusal). replies.No t) (one_number r s (decimal_injective (refusal_number r) (refusal_number s) (omega (arith, number_small r)) (omega (arith, number_small s)) n.0))
+one_from_words (replies.No r) replies.Bye f g e = absurd cc
+one_from_words replies.Bye (replies.Priced q) f g e = not_priced q.again 66 _ (sym (heads _ _ _ _ e).0) (λ h. absurd (omega (arith, h))) (λ h. absurd (omega (arith, h)))
+one_from_words replies.Bye (replies.Shown t) f g e = absurd cc
+one_from_words replies.Bye (replies.No s) f g e = absurd cc
+one_from_words replies.Bye replies.Bye f g e = refl
+
+-- ---- the words tell the journey
+
+kind_visible : (k : LineKind) → is_visible (word_of_kind k) ≡ true
+kind_visible kind.Rail = refl
+kind_visible kind.Same = refl
+kind_visible kind.Lone = refl
+kind_visible kind.Bus = refl
+
+-- a kind by the first letter of its word
+kind_from : List ℕ → LineKind
+kind_from [] = kind.Bus
+kind_from (letter ∷ letters) = if letter == 82 then kind.Rail else if letter == 83 then kind.Same else if letter == 76 then kind.Lone else kind.Bus
+
+kind_again : (k : LineKind) → kind_from (word_of_kind k) ≡ k
+unfolding kind_from
+kind_again kind.Rail = refl
+kind_again kind.Same = refl
+kind_again kind.Lone = refl
+kind_again kind.Bus = refl
+
+one_kind : (k l : LineKind) → word_of_kind k ≡ word_of_kind l → k ≡ l
+one_kind k l e = sym (kind_again k) ∙ ap kind_from e ∙ kind_again l
+
+journey_visible : (l : Line) → IsToldJourney l → AllVisible (words_of_journey l)
+journey_visible l fits = (
+  refl,
+  (
+    kind_visible l.kind,
+    (
+      decimal_visible l.from (omega (arith, fits.0)),
+      (decimal_visible l.to (omega (arith, fits.1)), (decimal_visible l.utc (omega (arith, fits.2)), (decimal_visible l.fare (omega (arith, fits.3)), tt))),
+    ),
+  ),
+)
+
+journey_words : (l : Line) → IsToldJourney l → words (join_with_byte 32 (words_of_journey l)) ≡ words_of_journey l
+journey_words l fits = words_joined (codes "JNY") (word_of_kind l.kind ∷ decimal l.from ∷ decimal l.to ∷ decimal l.utc ∷ decimal l.fare ∷ []) (journey_visible l fits)
+
+abbrev journey : LineKind → ℕ → ℕ → ℕ → ℕ → Line
+journey k from to utc fare = record { day = 0; kind = k; from = from; to = to; utc = utc; second = 0; fare = fare; band = None }
+
+same_journey : (k l : LineKind) (a b c d e f g h : ℕ) → k ≡ l → a ≡ b → c ≡ d → e ≡ f → g ≡ h → journey k a c e g ≡ journey l b d f h
+same_journey k l a b c d e f g h p q r s t = rw (p, q, r, s, t) refl
+
+one_journey : (l m : Line) → IsToldJourney l → IsToldJourney m → words_of_journey l ≡ words_of_journey m → told_of_journey l ≡ told_of_journey m
+one_journey l m f g e =
+    let k = heads _ _ _ _ (heads _ _ _ _ e).1 in
+    let a = heads _ _ _ _ k.1 in
+    let b = heads _ _ _ _ a.1 in
+    let u = heads _ _ _ _ b.1 in
+    let p = heads _ _ _ _ u.1 in
+    same_journey l.kind m.kind l.from m.from l.to m.to l.utc m.utc l.fare m.fare (one_kind l.kind m.kind k.0)
+    (decimal_injective l.from m.from (omega (arith, f.0)) (omega (arith, g.0)) a.0)
+    (decimal_injective l.to m.to (omega (arith, f.1)) (omega (arith, g.1)) b.0)
+    (decimal_injective l.utc m.utc f.2 g.2 u.0)
+    (decimal_injective l.fare m.fare f.3 g.3 p.0)
+
+-- ---- one line after another
+
+text_cut : (text rest : List ℕ) → IsText text → pieces 10 (text ++ 10 ∷ rest) ≡ text ∷ pieces 10 rest
+text_cut [] rest h = refl
+text_cut (b ∷ bs) rest h =
+    let above : 32 ≤ b = h.0 in
+    rw (ne_eqb b 10 (λ e. absurd (omega arith)), text_cut bs rest h.1) refl
+
+line_cut : (ws : List (List ℕ)) (x : List ℕ) → AllVisible ws → pieces 10 (line_of_words ws ++ x) ≡ join_with_byte 32 ws ∷ pieces 10 x
+line_cut ws x seen = ap (pieces 10) (append_assoc (join_with_byte 32 ws) (codes "\n") x) ∙ text_cut (join_with_byte 32 ws) x (text_joined ws seen)
+
+one_rest : (x y : List ℕ) → pieces 10 x ≡ pieces 10 y → x ≡ y
+one_rest x y e = sym (join_with_byte-slice_split 10 x) ∙ ap (join_with_byte 10) e ∙ join_with_byte-slice_split 10 y
+
+-- lines are told apart, and so is what follows them
+lines_apart : (ws vs : List (List ℕ)) (x y : List ℕ) → AllVisible ws → AllVisible vs → words (join_with_byte 32 ws) ≡ ws → words (join_with_byte 32 vs) ≡ vs
+    → line_of_words ws ++ x ≡ line_of_words vs ++ y → (ws ≡ vs) × (x ≡ y)
+lines_apart ws vs x y f g again others e =
+    let h = heads (join_with_byte 32 ws) (join_with_byte 32 vs) (pieces 10 x) (pieces 10 y) (sym (line_cut ws x f) ∙ ap (pieces 10) e ∙ line_cut vs y g) in
+    (sym again ∙ ap words h.0 ∙ others, one_rest x y h.1)
+
+-- as many journeys, a line for each
+one_journeys : (js ks : List Line) (x y : List ℕ) → length js ≡ length ks → AllByRecursion IsToldJourney js → AllByRecursion IsToldJourney ks
+    → text_of_journeys js ++ x ≡ text_of_journeys ks ++ y → (map told_of_journey js ≡ map told_of_journey ks) × (x ≡ y)
+one_journeys [] [] x y n f g e = (refl, e)
+one_journeys [] (k ∷ ks) x y n f g e = absurd (omega (arith, n))
+one_journeys (j ∷ js) [] x y n f g e = absurd (omega (arith, n))
+one_journeys (j ∷ js) (k ∷ ks) x y n f g e =
+    let left = append_assoc (line_of_words (words_of_journey j)) (text_of_journeys js) x in
+    let right = append_assoc (line_of_words (words_of_journey k)) (text_of_journeys ks) y in
+    let h = lines_apart (words_of_journey j) (words_of_journey k) (text_of_journeys js ++ x) (text_of_journeys ks ++ y) (journey_visible j f.0) (journey_visible k g.0) (journey_words j f.0) (journey_words k g.0)
+    (sym left ∙ e ∙ right) in
+    let rest = one_journeys js ks x y (omega (arith, n)) f.1 g.1 h.1 in
+    (λ i. one_journey j k f.0 g.0 h.0 i ∷ rest.0 i, rest.1)
+
+-- ---- one reply after another
+
+abbrev shown_as : ℕ → ℕ → List Line → ℕ → Reply
+shown_as account day lines price = replies.Shown (record { account = account; day = day; lines = lines; day_price = price })
+
+same_shown : (a b d e p q : ℕ) (js ks : List Line) → a ≡ b → d ≡ e → js ≡ ks → p ≡ q → shown_as a d js p ≡ shown_as b e ks q
+same_shown a b d e p q js ks f g h k = rw (f, g, h, k) refl
+
+-- replies whose first lines are alike, and what follows these lines
+told_alike : (a b : Reply) (x y : List ℕ) → IsReply a → IsReply b → Alike a b → text_of_journeys (journeys_of_reply a) ++ x ≡ text_of_journeys (journeys_of_reply b) ++ y
+    → (told_of a ≡ told_of b) × (x ≡ y)
+told_alike (replies.Shown s) (replies.Shown t) x y f g same e =
+    let js = one_journeys s.lines t.lines x y same.2 f.4 g.4 e in
+    (same_shown s.account t.account s.day t.day s.day_price t.day_price (map told_of_journey s.lines) (map told_of_journey t.lines) same.0 same.1 js.0 same.3, js.1)
+told_alike (replies.Shown s) (replies.Priced q) x y f g same e = absurd cc
+told_alike (replies.Shown s) (replies.No r) x y f g same e = absurd cc
+told_alike (replies.Shown s) replies.Bye x y f g same e = absurd cc
+told_alike (replies.Priced p) (replies.Shown t) x y f g same e = absurd cc
+told_alike (replies.Priced p) (replies.Priced q) x y f g same e = (same, e)
+told_alike (replies.Priced p) (replies.No r) x y f g same e = absurd cc
+told_alike (replies.Priced p) replies.Bye x y f g same e = absurd cc
+told_alike (replies.No r) (replies.Shown t) x y f g same e = absurd cc
+told_alike (replies.No r) (replies.Priced q) x y f g same e = absurd cc
+told_alike (replies.No r) (replies.No s) x y f g same e = (same, e)
+told_alike (replies.No r) replies.Bye x y f g same e = absurd cc
+told_alike replies.Bye (replies.Shown t) x y f g same e = absurd cc
+told_alike replies.Bye (replies.Priced q) x y f g same e = absurd cc
+told_alike replies.Bye (replies.No r) x y f g same e = absurd cc
+told_alike replies.Bye replies.Bye x y f g same e = (same, e)
+
+pub one_reply : (a b : Reply) (x y : List ℕ) → IsReply a → IsReply b → spelling_of_reply a ++ x ≡ spelling_of_reply b ++ y → (told_of a ≡ told_of b) × (x ≡ y)
+one_reply a b x y f g e =
+    let left = append_assoc (line_of_words (words_of_reply a)) (text_of_journeys (journeys_of_reply a)) x in
+    let right = append_assoc (line_of_words (words_of_reply b)) (text_of_journeys (journeys_of_reply b)) y in
+    let h = lines_apart (words_of_reply a) (words_of_reply b) (text_of_journeys (journeys_of_reply a) ++ x) (text_of_journeys (journeys_of_reply b) ++ y)
+    (reply_visible a f) (reply_visible b g) (reply_words a f) (reply_words b g) (sym left ∙ e ∙ right) in
+    told_alike a b x y f g (one_from_words a b f g h.0) h.1
+
+-- a stream that has a reply is not empty
+not_the_end : {A : Type 0} (r : Reply) (x : List ℕ) → spelling_of_reply r ++ x ≡ [] → A
+not_the_end r x e =
+    let none : length (spelling_of_reply r ++ x) ≡ 0 = ap length e in
+    absurd (omega (
+      arith,
+      none,
+      length-append (spelling_of_reply r) x,
+      length-append (line_of_words (words_of_reply r)) (text_of_journeys (journeys_of_reply r)),
+      length-append (join_with_byte 32 (words_of_reply r)) (codes "\n"),
+    ))
+
+pub one_stream : (told others : List Reply) → AllByRecursion IsReply told → AllByRecursion IsReply others → flat_map spelling_of_reply told ≡ flat_map spelling_of_reply others
+    → map told_of told ≡ map told_of others
+one_stream [] [] f g e = refl
+one_stream [] (b ∷ bs) f g e = not_the_end b (flat_map spelling_of_reply bs) (sym e)
+one_stream (a ∷ rest) [] f g e = not_the_end a (flat_map spelling_of_reply rest) e
+one_stream (a ∷ rest) (b ∷ bs) f g e =
+    let h = one_reply a b (flat_map spelling_of_reply rest) (flat_map spelling_of_reply bs) f.0 g.0 e in
+    let others = one_stream rest bs f.1 g.1 h.1 in
+    λ i. h.0 i ∷ others i

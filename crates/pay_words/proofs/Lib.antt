@@ -1,0 +1,4 @@
+pub mod WordsAfterRun
+pub mod WordKinds
+pub mod WordLevels
+pub mod WordsAsked

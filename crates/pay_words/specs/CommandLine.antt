@@ -1,0 +1,46 @@
+-- What the command line takes, as `clap` has it, and what its answers come to.
+use Rattle.std.specs.Prelude.{◌≡◌, ⊤, true, codes, List, Option, Some, option_map}
+use Rattle.clap.specs.Words.{App, Row, Rule, Text, first_of, new_app, new_rule, subcommand_rows_of}
+use Rattle.clap.specs.Words.{with_rule, with_subcommand}
+use Rattle.clap.specs.Simple.{on_top}
+use Rattle.clap.specs.declared.error.kind.ErrorKind.{ErrorKind}
+use Rattle.clap.specs.declared.error.kind.ErrorKind.TheVariants.{DisplayHelp, OutOfMemory}
+use Rattle.clap.specs.declared.parser.matches.ArgMatches.{ArgMatches}
+use Rattle.pay_words.specs.declared.words.WordsFault.{WordsFault}
+use Rattle.pay_words.specs.declared.words.WordsFault.TheVariants.{Help, Usage, Memory}
+
+-- a word that has to be there
+abbrev pub required_word : Text → Rule
+required_word name = record (new_rule name) { required = true }
+
+-- `run FARES ZONE`
+abbrev pub run_app : App
+run_app = with_rule (with_rule (new_app (codes "run")) (required_word (codes "FARES")))
+    (required_word (codes "ZONE"))
+
+-- the program, which wants one of its programs named
+abbrev pub farebox_app : App
+farebox_app = with_subcommand
+    (on_top (λ top. record top { subcommand_required = true }) (new_app (codes "farebox")))
+    run_app.top
+
+-- the subcommand that the matches have, with its values
+abbrev pub values_in : Text × List Row → Text × Option Text × Option Text
+values_in p = (p.0, first_of (codes "FARES") p.1, first_of (codes "ZONE") p.1)
+
+-- the matches are those of `run` with these values
+abbrev pub GivesRun : ArgMatches → Text → Text → Type 0
+GivesRun m fares zone =
+    option_map values_in (subcommand_rows_of m) ≡ Some (codes "run", Some fares, Some zone)
+
+-- help was asked for, or memory was refused
+abbrev pub IsHelpOrMemory : WordsFault → Type 0
+IsHelpOrMemory (Help text) = ⊤
+IsHelpOrMemory Usage = ⊥
+IsHelpOrMemory Memory = ⊤
+
+-- the fault that an error of this kind is
+abbrev pub IsFaultOfKind : ErrorKind → WordsFault → Type 0
+IsFaultOfKind DisplayHelp fault = IsHelpOrMemory fault
+IsFaultOfKind OutOfMemory fault = fault ≡ Memory
+IsFaultOfKind _ fault = fault ≡ Usage

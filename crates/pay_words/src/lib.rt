@@ -1,0 +1,6 @@
+//! The words that the program is started with, and the job that they ask for.
+#![tactic(auto)]
+
+mod words;
+
+pub use words::{Job, RunWords, WordsFault, read_words};

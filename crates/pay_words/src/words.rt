@@ -1,0 +1,138 @@
+//! The words that the program is started with, and the job that they ask for.
+ghost use Rattle.std.specs.Prelude.{◌≡◌, ◌≢◌, [], ◌∷◌, false, codes, drop, slice_index};
+ghost use Rattle.std.specs.Prelude.{IfOk, IfErr, IsOkAnd, MatchResult};
+ghost use Rattle.clap.specs.Walk.{texts};
+ghost use Rattle.clap.specs.Words.{app_of, first_value, found_of, kind_of};
+ghost use Rattle.clap.specs.declared.builder.command.Command.TheViews.{out-Command as fields_of};
+ghost use Rattle.pay_words.specs.CommandLine.{GivesRun, IsFaultOfKind, IsHelpOrMemory};
+ghost use Rattle.pay_words.specs.CommandLine.{farebox_app, run_app};
+ghost use Rattle.pay_words.specs.ProgramWords.{IsFaultOf, Text, asked, job_asked, job_words};
+ghost use Rattle.pay_words.specs.ProgramWords.{run as run_asked, without_dashes};
+ghost use Rattle.pay_words.specs.declared.words.WordsFault.TheVariants.{Memory};
+
+use clap::error::ErrorKind;
+use clap::{Arg, ArgMatches, Command, Error};
+use std::alloc::{AllocError, Global};
+
+/// The job that the words ask for, with its values.
+#[derive(Clone, Copy, Debug, PartialEq, Eq)]
+pub enum Job<'a> {
+    /// `run FARES ZONE`: one session, from standard input to standard output.
+    Run(RunWords<'a>),
+}
+
+/// The values of `run FARES ZONE`.
+#[derive(Clone, Copy, Debug, PartialEq, Eq)]
+pub struct RunWords<'a> {
+    /// The path of the fare file.
+    pub fares: &'a str,
+    /// The text of the time zone, a POSIX rule.
+    pub zone: &'a str,
+}
+
+/// Why the words give no job.
+#[derive(Debug, Drop)]
+pub enum WordsFault {
+    /// The words ask for help, and this is its text.
+    Help(String),
+    /// The words name no program, or are not those that the program takes.
+    Usage,
+    /// Memory for reading the words was refused.
+    Memory,
+}
+
+impl From<AllocError> for WordsFault {
+    ghost from_gives = { λ _ fault. fault ≡ Memory };
+
+    fn from(_error: AllocError) -> WordsFault {
+        WordsFault::Memory
+    }
+}
+
+/// Reads the words of the process, of which the first is the program's own name.
+///
+/// A word that begins with a hyphen and goes on is an option, and help is the only one; `--` says
+/// that each word after it is a value.
+pub fn read_words<'a>(alloc: Global, words: &'a [&'a str]) -> Result<Job<'a>, WordsFault>
+    ensures job { IfOk result (λ job. asked (texts words.entry.now) ≡ job_asked job) }
+    ensures refused { IfErr result (IsFaultOf (asked (texts words.entry.now))) }
+
+    // But for the program's own name and a `--`, the words are the job's, in order.
+    ensures words { IfOk result (λ job.
+        without_dashes (drop 1 (texts words.entry.now)) ≡ job_words job) }
+
+    // Two words with no hyphen (45) before them are the values of `run`.
+    ensures run { (name fares zone : Text)
+        → texts words.entry.now ≡ name ∷ codes "run" ∷ fares ∷ zone ∷ []
+        → slice_index fares 0 ≢ 45 → slice_index zone 0 ≢ 45
+        → MatchResult result (λ job. job_asked job ≡ run_asked fares zone)
+        (λ fault. fault ≡ Memory) }
+{
+    let command = farebox_command(alloc)?;
+    match command.try_get_matches_from(words) {
+        Ok(matches) => job_of(&matches),
+        Err(error) => Err(fault_of(alloc, &error)),
+    }
+}
+
+fn farebox_command<'a>(alloc: Global) -> Result<Command<'a>, AllocError>
+    ensures { IfOk result (λ command. app_of command ≡ farebox_app) }
+{
+    let run = run_command(alloc)?;
+    Command::new(alloc, "farebox")
+        .subcommand_required(true)
+        .subcommand(run)
+}
+
+fn run_command<'a>(alloc: Global) -> Result<Command<'a>, AllocError>
+    ensures app { IfOk result (λ command. app_of command ≡ run_app) }
+    ensures local { IfOk result (λ command. (fields_of command).has_globals ≡ false) }
+{
+    let fares = Arg::new(alloc, "FARES").required(true);
+    let zone = Arg::new(alloc, "ZONE").required(true);
+    Command::new(alloc, "run").arg(fares)?.arg(zone)
+}
+
+fn job_of<'a>(matches: &ArgMatches<'a>) -> Result<Job<'a>, WordsFault>
+    ensures { (fares zone : Text) → GivesRun matches.now fares zone
+        → IsOkAnd result (λ job. job_asked job ≡ run_asked fares zone) }
+{
+    match matches.subcommand() {
+        Some(("run", run)) => run_job(run),
+        _ => Err(WordsFault::Usage),
+    }
+}
+
+fn run_job<'a>(run: &ArgMatches<'a>) -> Result<Job<'a>, WordsFault>
+    ensures { (fares zone : Text)
+        → first_value (found_of run.now) (codes "FARES") ≡ Some fares
+        → first_value (found_of run.now) (codes "ZONE") ≡ Some zone
+        → IsOkAnd result (λ job. job_asked job ≡ run_asked fares zone) }
+{
+    match (run.get_str("FARES"), run.get_str("ZONE")) {
+        (Some(fares), Some(zone)) => Ok(Job::Run(RunWords { fares, zone })),
+        _ => Err(WordsFault::Usage),
+    }
+}
+
+fn fault_of(alloc: Global, error: &Error) -> WordsFault
+    ensures { IsFaultOfKind (kind_of error.now) result }
+{
+    match error.kind() {
+        ErrorKind::DisplayHelp => help_fault(alloc, error),
+        ErrorKind::OutOfMemory => WordsFault::Memory,
+        _ => WordsFault::Usage,
+    }
+}
+
+fn help_fault(alloc: Global, error: &Error) -> WordsFault
+    ensures { IsHelpOrMemory result }
+{
+    match format!(in alloc; "{error}") {
+        Ok(text) => WordsFault::Help(text),
+        Err(_) => WordsFault::Memory,
+    }
+}
+
+#[cfg(test)]
+mod tests;
