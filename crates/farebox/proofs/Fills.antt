@@ -1,65 +1,41 @@
 -- What a fill of the reader's buffer brings to a session.
-use Rattle.std.proofs.Common.{◌≡◌, ◌≤◌, ℕ, ◌-◌, List, [], ◌++◌, length, drop, sym, ap, ◌∙◌, subst, refl, arith, append_assoc, append-nil, Some, None, Option, IfSome, Result, Ok, Err, IfOk, IfErr, length-append}
+use Rattle.std.proofs.Common.{◌≡◌, ◌≤◌, ℕ, ◌-◌, List, [], ◌++◌, length, drop, sym, ap, ◌∙◌, subst, refl, arith, append_assoc, append-nil, Some, None, Option, IfSome, length-append}
 use Rattle.std.proofs.Math.Seq.{drop-append_seam}
 use Rattle.std.proofs.KnownBytes.{starts_with_rest}
 use Rattle.std.specs.Io.{StartsWith}
 use Rattle.std.specs.Io.KnownBytes.{Keeps}
 use Rattle.std.specs.Io.BufRead.{DropsConsumable}
-use Rattle.farebox.specs.SessionSteps.{TakesAll, TakesToQuit, TakesToFault, Brings, BringsMore, BringsEnd, BringsQuit, Loses, LosesReader, LosesWriter}
-use Rattle.farebox.specs.Machine.{Machine}
-use Rattle.farebox.specs.declared.session.Fill.{Fill}
-use Rattle.farebox.specs.declared.session.Fill.TheVariants.{More}
-use Rattle.farebox.specs.declared.session.SessionFault.{SessionFault}
-use Rattle.farebox.specs.declared.session.SessionFault.TheVariants.{Read}
-use Rattle.farebox.proofs.Steps.{Answers_none, Tells_none}
+use Rattle.farebox.specs.SessionSteps.{Position, facing, with_ahead, Advances, Breaks, TakesToQuit, BringsMore, BringsEnd, BringsQuit, Loses, LosesReader, LosesWriter}
+use Rattle.farebox.specs.Stops.{IsFailure, IsWriteFailure}
+use Rattle.farebox.specs.declared.stop.Stop.{Stop}
+use Rattle.farebox.specs.declared.stop.Stop.TheVariants.{Read, NoMoreFills, Write}
+use Rattle.farebox.proofs.SessionSteps.{Advances_none}
 
 -- ---- nothing is taken
 
-TakesAll_nothing : (m : Machine) (line : List ℕ) (held : Option (List ℕ)) (n : ℕ) → TakesAll m line m line held held n n
-TakesAll_nothing m line held n = record { told = []; answers = Answers_none m line; tells = Tells_none held n }
-
-brings_nothing : (old new : Option (List ℕ)) (m : Machine) (line : List ℕ) (held : Option (List ℕ)) (n : ℕ) → Keeps old new
-    → IfSome old (λ input. BringsMore m line input new m line held held n n)
-brings_nothing None new m line held n keeps = tt
-brings_nothing (Some xs) None m line held n keeps = absurd keeps
-brings_nothing (Some xs) (Some ys) m line held n keeps = record {
+-- a reader that was interrupted, and is asked again
+pub brings_nothing : (old new : Option (List ℕ)) (p : Position) → Keeps old new → IfSome old (λ input. BringsMore p input new p)
+brings_nothing None new p keeps = tt
+brings_nothing (Some xs) None p keeps = absurd keeps
+brings_nothing (Some xs) (Some ys) p keeps = record {
   bytes = [];
   rest = xs;
   parts = refl;
   unread = ap Some keeps;
-  all = subst (λ l. TakesAll m l m line held held n n) (sym (append-nil line)) (TakesAll_nothing m line held n);
+  advances = subst (λ l. Advances (with_ahead p l) p) (sym (append-nil p.ahead)) (Advances_none p);
 }
 
-loses_reader : (old new : Option (List ℕ)) (m : Machine) (line : List ℕ) (held : Option (List ℕ)) (n : ℕ) → Keeps old new
-    → IfSome old (λ input. LosesReader m line input new m line held held n n)
-loses_reader None new m line held n keeps = tt
-loses_reader (Some xs) None m line held n keeps = absurd keeps
-loses_reader (Some xs) (Some ys) m line held n keeps = record { unread = ap Some keeps; same = refl; all = TakesAll_nothing m line held n }
-
--- a reader that was interrupted is asked again
-pub asked_again : (r : Result Fill SessionFault) (old new : Option (List ℕ)) (m : Machine) (line : List ℕ) (held : Option (List ℕ)) (n : ℕ) → Keeps old new
-    → IfOk r (λ fill. fill ≡ More) → IfOk r (λ fill. IfSome old (λ input. Brings fill m line input new m line held held n n))
-asked_again (Ok fill) old new m line held n keeps e =
-    subst (λ f. IfSome old (λ input. Brings f m line input new m line held held n n)) (sym e) (brings_nothing old new m line held n keeps)
-asked_again (Err fault) old new m line held n keeps e = tt
-
--- a reader that failed otherwise ends the session
-pub gives_up : (r : Result Fill SessionFault) (old new : Option (List ℕ)) (m : Machine) (line : List ℕ) (held : Option (List ℕ)) (n : ℕ) → Keeps old new
-    → IfErr r (λ fault. fault ≡ Read n) → IfErr r (λ fault. IfSome old (λ input. Loses fault m line input new m line held held n))
-gives_up (Ok fill) old new m line held n keeps e = tt
-gives_up (Err fault) old new m line held n keeps e =
-    subst (λ f. IfSome old (λ input. Loses f m line input new m line held held n)) (sym e) (loses_reader old new m line held n keeps)
-
-pub brings_end : (old new : Option (List ℕ)) (m : Machine) (line : List ℕ) (held : Option (List ℕ)) (n : ℕ) → Keeps old new → IfSome old (λ input. input ≡ [])
-    → IfSome old (λ input. BringsEnd m line input new m line held held n n)
-brings_end None new m line held n keeps none = tt
-brings_end (Some xs) None m line held n keeps none = absurd keeps
-brings_end (Some xs) (Some ys) m line held n keeps none = record { none = none; unread = ap Some (keeps ∙ none); all = TakesAll_nothing m line held n }
+-- a reader that failed
+pub loses_reader : (old new : Option (List ℕ)) (p : Position) → Keeps old new → IfSome old (λ input. LosesReader p input new p)
+loses_reader None new p keeps = tt
+loses_reader (Some xs) None p keeps = absurd keeps
+loses_reader (Some xs) (Some ys) p keeps = record { unread = ap Some keeps; same = refl }
 
 -- a reader that shows nothing is at its end
-pub ended : (old : Option (List ℕ)) (shown : ℕ) → IfSome old (λ xs. shown ≡ 0 → xs ≡ []) → shown ≡ 0 → IfSome old (λ xs. xs ≡ [])
-ended None shown h e = tt
-ended (Some xs) shown h e = h e
+pub brings_end : (old new : Option (List ℕ)) (shown : ℕ) (p : Position) → Keeps old new → IfSome old (λ xs. shown ≡ 0 → xs ≡ []) → shown ≡ 0 → IfSome old (λ input. BringsEnd p input new p)
+brings_end None new shown p keeps h none = tt
+brings_end (Some xs) None shown p keeps h none = absurd keeps
+brings_end (Some xs) (Some ys) shown p keeps h none = record { none = h none; unread = ap Some (keeps ∙ h none); same = refl }
 
 -- ---- bytes that were shown
 
@@ -78,34 +54,40 @@ consumed (Some xs) (Some ys) new limit shown amount within keeps shows drops = d
 drop_front : (xs ys : List ℕ) (n : ℕ) → n ≡ length xs → drop n (xs ++ ys) ≡ ys
 drop_front xs ys n e = ap (λ k. drop k (xs ++ ys)) e ∙ drop-append_seam xs ys
 
-some_quit : (a : Machine) (line shown : List ℕ) (o : Option ℕ) (left : ℕ) (h i : Option (List ℕ)) (m n : ℕ) → o ≡ Some left → IfSome o (λ k. TakesToQuit a line shown k h i m n) → TakesToQuit a line shown left h i m n
-some_quit a line shown o left h i m n e q = let P : Option ℕ → Type 0 = λ o. IfSome o (λ k. TakesToQuit a line shown k h i m n) in subst P e q
+some_quit : (p q : Position) (shown : List ℕ) (o : Option ℕ) (left : ℕ) → o ≡ Some left → IfSome o (λ k. TakesToQuit p shown k q) → TakesToQuit p shown left q
+some_quit p q shown o left e f = let P : Option ℕ → Type 0 = λ o. IfSome o (λ k. TakesToQuit p shown k q) in subst P e f
 
-pub brings_quit : (old new : Option (List ℕ)) (shown : List ℕ) (o : Option ℕ) (left : ℕ) (a : Machine) (line : List ℕ) (h i : Option (List ℕ)) (m n : ℕ) → IfSome old (λ xs. StartsWith xs shown)
-    → IfSome old (λ xs. new ≡ Some (drop (length shown - left) xs)) → o ≡ Some left → IfSome o (λ k. TakesToQuit a line shown k h i m n) → IfSome old (λ input. BringsQuit a line input new h i m n)
-brings_quit None new shown o left a line h i m n front drops e qs = tt
-brings_quit (Some xs) new shown o left a line h i m n front drops e qs =
-    let q = some_quit a line shown o left h i m n e qs in
+pub brings_quit : (old new : Option (List ℕ)) (shown : List ℕ) (o : Option ℕ) (left : ℕ) (p q : Position) → IfSome old (λ xs. StartsWith xs shown)
+    → IfSome old (λ xs. new ≡ Some (drop (length shown - left) xs)) → o ≡ Some left → IfSome o (λ k. TakesToQuit p shown k q) → IfSome old (λ input. BringsQuit p input new q)
+brings_quit None new shown o left p q front drops e fs = tt
+brings_quit (Some xs) new shown o left p q front drops e fs =
+    let f = some_quit p q shown o left e fs in
     let more = drop (length shown) xs in
     let parts : xs ≡ shown ++ more = starts_with_rest xs shown front in
-    let size : length shown - left ≡ length q.front = omega (arith, ap length q.parts, length-append q.front q.rest, q.size) in
+    let size : length shown - left ≡ length f.front = omega (arith, ap length f.parts, length-append f.front f.rest, f.size) in
     record {
       bytes = shown;
+      rest = f.rest;
       more = more;
-      rest = q.rest;
       parts = parts;
-      unread = drops ∙ ap Some (ap (drop (length shown - left)) (parts ∙ ap (λ l. l ++ more) q.parts ∙ append_assoc q.front q.rest more) ∙ drop_front q.front (q.rest ++ more) _ size);
-      told = q.told;
-      quits = q.quits;
-      tells = q.tells;
+      unread = drops ∙ ap Some (ap (drop (length shown - left)) (parts ∙ ap (λ l. l ++ more) f.parts ∙ append_assoc f.front f.rest more) ∙ drop_front f.front (f.rest ++ more) _ size);
+      quits = f.quits;
     }
 
-pub loses_writer : (old : Option (List ℕ)) (shown : List ℕ) (a : Machine) (line : List ℕ) (h i : Option (List ℕ)) (m n : ℕ) → IfSome old (λ xs. StartsWith xs shown)
-    → TakesToFault a (line ++ shown) h i m n → IfSome old (λ input. LosesWriter a line input h i m n)
-loses_writer None shown a line h i m n front fault = tt
-loses_writer (Some xs) shown a line h i m n front fault = record {
+pub failed : (stop : Stop) → IsWriteFailure stop → IsFailure stop
+failed (Read kind) f = absurd f
+failed NoMoreFills f = absurd f
+failed (Write failure) f = f
+
+-- a reply to a line of what was shown could not be written
+pub loses_writer : (stop : Stop) (old new : Option (List ℕ)) (shown : List ℕ) (p q : Position) → IsWriteFailure stop → IfSome old (λ xs. StartsWith xs shown) → Breaks (facing p shown) q
+    → IfSome old (λ input. Loses stop p input new q)
+loses_writer (Read kind) old new shown p q failed front breaks = absurd failed
+loses_writer NoMoreFills old new shown p q failed front breaks = absurd failed
+loses_writer (Write failure) None new shown p q failed front breaks = tt
+loses_writer (Write failure) (Some xs) new shown p q failed front breaks = record {
   bytes = shown;
   more = drop (length shown) xs;
   parts = starts_with_rest xs shown front;
-  fault = fault;
+  breaks = breaks;
 }

@@ -1,9 +1,10 @@
-pub mod Cuts
+pub mod AccountMaps
+pub mod BegunLines
 pub mod Fills
-pub mod Held
+pub mod InputLines
+pub mod InputPieces
 pub mod Newlines
-pub mod Pieces
-pub mod Rests
-pub mod Steps
-pub mod Takes
-pub mod Whole
+pub mod Runs
+pub mod SessionSteps
+pub mod UnendedLine
+pub mod WholeSession

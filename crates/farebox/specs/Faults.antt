@@ -1,7 +1,10 @@
 -- How the program ends where it fails: its status, and the refusal that a fault is.
-use Rattle.std.specs.Prelude.{◌≡◌, ℕ, List, codes}
-use Rattle.farebox.specs.declared.program.Fault.{Fault}
-use Rattle.farebox.specs.declared.program.Fault.TheVariants.{Usage, Input, Output, Refused}
+use Rattle.std.specs.Prelude.{◌≡◌, ℕ, List, String, codes, Result, Ok, Err}
+use Rattle.std.specs.declared.alloc.Global.{Global}
+use Rattle.pay_words.specs.declared.words.WordsFault.{WordsFault}
+use Rattle.pay_words.specs.declared.words.WordsFault.TheVariants as words
+use Rattle.farebox.specs.declared.fault.Fault.{Fault}
+use Rattle.farebox.specs.declared.fault.Fault.TheVariants.{Usage, Input, Output, Refused}
 use Rattle.farebox.specs.declared.session.SessionFault.{SessionFault}
 use Rattle.farebox.specs.declared.session.SessionFault.TheVariants.{Read, Write}
 
@@ -23,3 +26,11 @@ IsRefusal _ n text = ⊥
 -- want of memory
 abbrev pub IsWantOfMemory : Fault → Type 0
 IsWantOfMemory fault = IsRefusal fault 90 (codes "Memory")
+
+-- What comes of words that give no job: a text that they ask for, or a fault.
+abbrev pub IsTextOrFault : WordsFault → Result (String Global) Fault → Type 0
+IsTextOrFault (words.Help text) result = result ≡ Ok text
+IsTextOrFault (words.Version text) result = result ≡ Ok text
+IsTextOrFault words.Usage result = result ≡ Err Usage
+IsTextOrFault words.Memory (Ok text) = ⊥
+IsTextOrFault words.Memory (Err fault) = IsWantOfMemory fault

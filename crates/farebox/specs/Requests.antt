@@ -1,6 +1,7 @@
 -- What the input asks for: its lines in order, up to the first QUIT.
-use Rattle.std.specs.Prelude.{ℕ, Bool, true, false, nat_lt, ◌==◌, List, [], ◌∷◌, ◌++◌, map, length, Option, Some, None, if◌then◌else◌}
+use Rattle.std.specs.Prelude.{ℕ, ◌+◌, Bool, true, false, nat_lt, ◌==◌, List, [], ◌∷◌, ◌++◌, map, length, take, Option, Some, None, if◌then◌else◌}
 use Rattle.std.specs.List.{list_any}
+use Rattle.pay_wire.specs.declared.limits.TheConstants.{MOST_LINE_BYTES}
 use Rattle.pay_wire.specs.Commands.{command_of}
 use Rattle.pay_wire.specs.declared.command.Command.{Command}
 use Rattle.pay_wire.specs.declared.command.Command.TheVariants.{Quit}
@@ -36,14 +37,18 @@ abbrev pub asked : Option Command → Request
 asked (Some c) = requests.Command c
 asked None = requests.BadLine
 
--- a line of more than 128 bytes is too long, whatever it says
+-- a line of more bytes than a line may have is too long, whatever it says
 unfoldable pub request_of : List ℕ → Request
-request_of line = if nat_lt 128 (length line) then requests.LongLine else asked (command_of line)
+request_of line = if nat_lt MOST_LINE_BYTES (length line) then requests.LongLine else asked (command_of line)
+
+-- what is kept of a line that is not whole yet: one byte more than a line may have, so that a line which is too long shows
+abbrev pub kept_of : List ℕ → List ℕ
+kept_of line = take (MOST_LINE_BYTES + 1) line
 
 -- what no newline ends is no command: a number that is cut could be another number
 abbrev pub request_of_rest : List ℕ → List Request
 request_of_rest [] = []
-request_of_rest (b ∷ bs) = (if nat_lt 128 (length (b ∷ bs)) then requests.LongLine else requests.BadLine) ∷ []
+request_of_rest (b ∷ bs) = (if nat_lt MOST_LINE_BYTES (length (b ∷ bs)) then requests.LongLine else requests.BadLine) ∷ []
 
 -- whether a command ends the session
 abbrev pub asks_to_quit : Command → Bool

@@ -1,26 +1,56 @@
--- A whole run: what is written for the bytes that are read.
-use Rattle.std.specs.Prelude.{ℕ, Bool, false, List, [], ◌∷◌}
-use Rattle.std.specs.List.{flat_map}
-use Rattle.pay_wire.specs.Replies.{spelling_of_reply}
-use Rattle.farebox.specs.Machine.{Machine, step}
-use Rattle.pay_wire.specs.declared.reply.Reply.{Reply}
-use Rattle.farebox.specs.declared.request.Request.{Request}
+-- How the job run ends, by the text of its fare file, the text of its zone, and its input.
+use Rattle.std.specs.Prelude.{◌≡◌, ◌⊎◌, ℕ, Bool, List, Result, Ok, Err, Option, None, IfSome}
+use Rattle.std.specs.FinMap as map
+use Rattle.jiff.specs.Placed.{IsPosixZone}
+use Rattle.jiff.specs.ZoneView.{plain_zone}
+use Rattle.jiff.specs.Words.{read_whole}
+use Rattle.pay_tables.specs.FareFile.{fare_text}
+use Rattle.pay_tables.specs.FareTables.{FareTables}
+use Rattle.pay_tables.specs.Fault.{fault_number, fault_name}
+use Rattle.pay_tables.specs.declared.fault.FareFileFault.{FareFileFault}
+use Rattle.farebox.specs.Faults.{IsRefusal, IsWantOfMemory}
+use Rattle.farebox.specs.Machine.{Machine}
+use Rattle.farebox.specs.Session.{Ends, FailsSo}
+use Rattle.farebox.specs.declared.fault.Fault.{Fault}
+use Rattle.farebox.specs.declared.fault.Fault.TheVariants.{Usage, CannotReadFares, BadZone, Input, Output, Refused}
+use Rattle.farebox.specs.declared.session.SessionFault.{SessionFault}
+use Rattle.farebox.specs.declared.session.SessionFault.TheVariants.{Read, Write}
 
--- the replies to a list of requests, and the machine after them
-pub record Outcome : Type 0 where
-  pub replies : List Reply
-  pub after : Machine
+-- a machine that has accepted nothing, with the fare file that the first text says, and the zone of the second, a POSIX rule
+pub record Begins (fares zone : List ℕ) (m : Machine) : Type 0 where
+  pub says : fare_text fares ≡ Ok m.tables
+  pub rule : IsPosixZone zone (plain_zone m.zone)
+  pub new : m.accounts ≡ map.empty
 
--- a reply before those of an outcome
-abbrev pub reply_then : Reply → Outcome → Outcome
-reply_then r o = record { replies = r ∷ o.replies; after = o.after }
+-- The job ended by itself: the session of such a machine did.
+pub record RunEnds (fares zone : List ℕ) (remaining left held written : Option (List ℕ)) (answered : ℕ) (quit : Bool) : Type 0 where
+  pub machine : Machine
+  pub begins : Begins fares zone machine
+  pub ends : IfSome remaining (λ input. Ends machine input left held written answered quit)
 
--- A mark says of each request whether it was refused for memory; past the marks none was.
-abbrev pub run : List Bool → Machine → List Request → Outcome
-run marks m [] = record { replies = []; after = m }
-run [] m (r ∷ rs) = reply_then (step false m r).reply (run [] (step false m r).after rs)
-run (mark ∷ marks) m (r ∷ rs) = reply_then (step mark m r).reply (run marks (step mark m r).after rs)
+-- the session of such a machine was broken off
+pub record SessionFails (fault : SessionFault) (fares zone : List ℕ) (remaining left held written : Option (List ℕ)) : Type 0 where
+  pub machine : Machine
+  pub begins : Begins fares zone machine
+  pub fails : IfSome remaining (λ input. FailsSo fault machine input left held written)
 
--- what is written for replies
-abbrev pub text_of : List Reply → List ℕ
-text_of = flat_map spelling_of_reply
+-- a refusal of the fare file, or want of memory
+abbrev pub IsRefused : Fault → List ℕ → Type 0
+IsRefused fault fares = IsWantOfMemory fault ⊎ ((why : FareFileFault) × (fare_text fares ≡ Err why) × IsRefusal fault (fault_number why) (fault_name why))
+
+-- a fare file that is read, and a zone that is no POSIX rule
+abbrev pub IsBadZone : List ℕ → List ℕ → Type 0
+IsBadZone fares zone = (tables : FareTables) × (fare_text fares ≡ Ok tables) × (read_whole zone ≡ None)
+
+-- nothing was read, and nothing was written
+abbrev pub IsUntouched : Option (List ℕ) → Option (List ℕ) → Option (List ℕ) → Option (List ℕ) → Type 0
+IsUntouched remaining left held written = (left ≡ remaining) × (written ≡ held)
+
+-- how the job failed, by its fault
+abbrev pub RunFails : Fault → List ℕ → List ℕ → Option (List ℕ) → Option (List ℕ) → Option (List ℕ) → Option (List ℕ) → Type 0
+RunFails (Refused number name) fares zone remaining left held written = IsRefused (Refused number name) fares × IsUntouched remaining left held written
+RunFails BadZone fares zone remaining left held written = IsBadZone fares zone × IsUntouched remaining left held written
+RunFails Input fares zone remaining left held written = (answered : ℕ) × SessionFails (Read answered) fares zone remaining left held written
+RunFails Output fares zone remaining left held written = (answered : ℕ) × SessionFails (Write answered) fares zone remaining left held written
+RunFails Usage fares zone remaining left held written = ⊥
+RunFails CannotReadFares fares zone remaining left held written = ⊥

@@ -4,7 +4,7 @@ use Rattle.std.specs.Io.KnownBytes.{Appends}
 use Rattle.pay_wire.specs.Output.{AppendsFront}
 use Rattle.pay_wire.specs.Replies.{spelling_of_reply}
 use Rattle.farebox.specs.Requests.{line_requests, quits, requests_of, unread}
-use Rattle.farebox.specs.Run.{run, text_of}
+use Rattle.farebox.specs.Outcomes.{outcome, text_of}
 use Rattle.farebox.specs.Machine.{Machine}
 use Rattle.pay_wire.specs.declared.reply.Reply.{Reply}
 use Rattle.farebox.specs.declared.session.SessionFault.{SessionFault}
@@ -14,8 +14,8 @@ use Rattle.farebox.specs.declared.session.SessionFault.TheVariants.{Read, Write}
 pub record Ends (m : Machine) (input : List ℕ) (left held new : Option (List ℕ)) (answered : ℕ) (quit : Bool) : Type 0 where
   -- of each request, whether it was refused for memory
   pub marks : List Bool
-  pub written : Appends held new (text_of (run marks m (requests_of input)).replies)
-  pub counted : answered ≡ length (run marks m (requests_of input)).replies
+  pub written : Appends held new (text_of (outcome marks m (requests_of input)).replies)
+  pub counted : answered ≡ length (outcome marks m (requests_of input)).replies
   pub ended : quit ≡ quits input
   pub unread : left ≡ Some (unread input)
 
@@ -27,8 +27,8 @@ pub record StopsReading (m : Machine) (input : List ℕ) (left held new : Option
   pub unread : left ≡ Some back
   pub goes_on : quits front ≡ false
   pub marks : List Bool
-  pub written : Appends held new (text_of (run marks m (line_requests front)).replies)
-  pub counted : answered ≡ length (run marks m (line_requests front)).replies
+  pub written : Appends held new (text_of (outcome marks m (line_requests front)).replies)
+  pub counted : answered ≡ length (outcome marks m (line_requests front)).replies
 
 -- The writer failed: the first replies were written whole, and of the next one no more than a front.
 pub record StopsWriting (m : Machine) (input : List ℕ) (held new : Option (List ℕ)) (answered : ℕ) : Type 0 where
@@ -36,7 +36,7 @@ pub record StopsWriting (m : Machine) (input : List ℕ) (held new : Option (Lis
   pub told : List Reply
   pub next : Reply
   pub others : List Reply
-  pub replies : (run marks m (requests_of input)).replies ≡ told ++ next ∷ others
+  pub replies : (outcome marks m (requests_of input)).replies ≡ told ++ next ∷ others
   pub whole : Option (List ℕ)
   pub written : Appends held whole (text_of told)
   pub broken : AppendsFront whole new (spelling_of_reply next)

@@ -1,152 +1,171 @@
--- What the steps of a session do: a line, the bytes of one fill, a fill, the rest. Each says it for whatever comes behind.
+-- What the steps of a session do, each from one position to another: a line, the bytes of one fill, a fill, the rest. Each
+-- says it for whatever comes behind.
 use Rattle.std.specs.Prelude.{◌≡◌, ℕ, ◌+◌, Bool, true, false, List, [], ◌∷◌, ◌++◌, length, Option, Some}
 use Rattle.std.specs.List.{list_any}
 use Rattle.std.specs.Io.KnownBytes.{Appends}
 use Rattle.pay_wire.specs.Output.{AppendsFront}
 use Rattle.pay_wire.specs.Replies.{spelling_of_reply}
+use Rattle.farebox.specs.Desk.{machine_of}
 use Rattle.farebox.specs.Requests.{is_quit, line_requests, quits, request_of_rest, rest_of, through_quit, unread}
-use Rattle.farebox.specs.Run.{run, text_of}
+use Rattle.farebox.specs.Outcomes.{outcome, text_of}
 use Rattle.farebox.specs.Machine.{Machine, step}
 use Rattle.pay_wire.specs.declared.reply.Reply.{Reply}
 use Rattle.farebox.specs.declared.request.Request.{Request}
 use Rattle.farebox.specs.declared.session.Fill.{Fill}
 use Rattle.farebox.specs.declared.session.Fill.TheVariants.{More, End, Quit}
-use Rattle.farebox.specs.declared.session.SessionFault.{SessionFault}
-use Rattle.farebox.specs.declared.session.SessionFault.TheVariants.{Read, Write}
+use Rattle.farebox.specs.declared.session.Session.{Session}
+use Rattle.farebox.specs.declared.stop.Stop.{Stop}
+use Rattle.farebox.specs.declared.stop.Stop.TheVariants.{Read, NoMoreFills, Write}
 
--- From a machine and the bytes ahead these replies were given; the machine after them has these bytes left ahead.
-pub record Answers (old : Machine) (ahead : List ℕ) (told : List Reply) (new : Machine) (left : List ℕ) : Type 0 where
+-- where a session stands: its machine, the bytes that were taken and not answered, what was written, and its count of replies
+pub record Position : Type 0 where
+  pub machine : Machine
+  pub ahead : List ℕ
+  pub written : Option (List ℕ)
+  pub answered : ℕ
+
+-- where a session stands whose writer holds this
+abbrev pub at : Session → Option (List ℕ) → Position
+at s written = record { machine = machine_of s.desk; ahead = s.line; written = written; answered = s.answered }
+
+-- the same with these bytes ahead
+abbrev pub with_ahead : Position → List ℕ → Position
+with_ahead p bytes = record { machine = p.machine; ahead = bytes; written = p.written; answered = p.answered }
+
+-- the same with more bytes ahead
+abbrev pub facing : Position → List ℕ → Position
+facing p bytes = with_ahead p (p.ahead ++ bytes)
+
+-- Some requests were answered, and none was QUIT.
+pub record Advances (before after : Position) : Type 0 where
   pub done : List Request
   pub marks : List Bool
-  pub requests : (after : List ℕ) → line_requests (ahead ++ after) ≡ done ++ line_requests (left ++ after)
-  pub rest : (after : List ℕ) → request_of_rest (rest_of (ahead ++ after)) ≡ request_of_rest (rest_of (left ++ after))
-  pub unread : (after : List ℕ) → unread (ahead ++ after) ≡ unread (left ++ after)
+  pub replies : List Reply
+  pub requests : (more : List ℕ) → line_requests (before.ahead ++ more) ≡ done ++ line_requests (after.ahead ++ more)
+  pub rest : (more : List ℕ) → request_of_rest (rest_of (before.ahead ++ more)) ≡ request_of_rest (rest_of (after.ahead ++ more))
+  pub unread : (more : List ℕ) → unread (before.ahead ++ more) ≡ unread (after.ahead ++ more)
   pub goes_on : list_any is_quit done ≡ false
   pub marked : length marks ≡ length done
-  pub outcome : run marks old done ≡ record { replies = told; after = new }
+  pub gives : outcome marks before.machine done ≡ record { replies = replies; after = after.machine }
+  pub written : Appends before.written after.written (text_of replies)
+  pub counted : after.answered ≡ before.answered + length replies
 
--- The same where the last of the lines asked to quit: the bytes behind it are left.
-pub record Quits (old : Machine) (ahead : List ℕ) (told : List Reply) (left : List ℕ) : Type 0 where
+-- Some requests were answered, and the last was QUIT: the bytes behind it are ahead.
+pub record Quits (before after : Position) : Type 0 where
   pub done : List Request
   pub marks : List Bool
-  pub requests : (after : List ℕ) (rest : List Request) → through_quit (line_requests (ahead ++ after) ++ rest) ≡ done
-  pub quits : (after : List ℕ) → quits (ahead ++ after) ≡ true
-  pub unread : (after : List ℕ) → unread (ahead ++ after) ≡ left ++ after
-  pub replies : (run marks old done).replies ≡ told
+  pub replies : List Reply
+  pub requests : (more : List ℕ) (rest : List Request) → through_quit (line_requests (before.ahead ++ more) ++ rest) ≡ done
+  pub quits : (more : List ℕ) → quits (before.ahead ++ more) ≡ true
+  pub unread : (more : List ℕ) → unread (before.ahead ++ more) ≡ after.ahead ++ more
+  pub gives : outcome marks before.machine done ≡ record { replies = replies; after = after.machine }
+  pub written : Appends before.written after.written (text_of replies)
+  pub counted : after.answered ≡ before.answered + length replies
 
--- The same where the reply to the next line could not be written.
-pub record Breaks (old : Machine) (ahead : List ℕ) (told : List Reply) (next : Reply) : Type 0 where
+-- Some requests were answered, and the reply to the next one could not be written whole.
+pub record Breaks (before after : Position) : Type 0 where
   pub done : List Request
   pub marks : List Bool
-  pub requests : (after : List ℕ) (rest : List Request) → (others : List Request) × (through_quit (line_requests (ahead ++ after) ++ rest) ≡ done ++ others)
+  pub replies : List Reply
+  pub next : Reply
+  pub requests : (more : List ℕ) (rest : List Request) → (others : List Request) × (through_quit (line_requests (before.ahead ++ more) ++ rest) ≡ done ++ others)
   pub marked : length marks ≡ length done
-  pub replies : (run marks old done).replies ≡ told ++ next ∷ []
+  pub gives : (outcome marks before.machine done).replies ≡ replies ++ next ∷ []
+  pub between : Option (List ℕ)
+  pub written : Appends before.written between (text_of replies)
+  pub broken : AppendsFront between after.written (spelling_of_reply next)
+  pub counted : after.answered ≡ before.answered + length replies
 
--- replies were written, and counted
-pub record Tells (held new : Option (List ℕ)) (before after : ℕ) (told : List Reply) : Type 0 where
-  pub written : Appends held new (text_of told)
-  pub counted : after ≡ before + length told
+-- ---- a request
 
--- one reply was written
-pub record Replies (old : Machine) (request : Request) (new : Machine) (held taken : Option (List ℕ)) : Type 0 where
+-- its reply was written
+pub record Replies (request : Request) (before after : Position) : Type 0 where
   pub mark : Bool
   pub reply : Reply
-  pub step : step mark old request ≡ record { reply = reply; after = new }
-  pub written : Appends held taken (spelling_of_reply reply)
+  pub step : step mark before.machine request ≡ record { reply = reply; after = after.machine }
+  pub written : Appends before.written after.written (spelling_of_reply reply)
+  pub counted : after.answered ≡ before.answered + 1
 
--- one reply was not written, or in part
-pub record Falters (old : Machine) (request : Request) (held taken : Option (List ℕ)) : Type 0 where
+-- its reply was not written, or in part
+pub record Falters (request : Request) (before after : Position) : Type 0 where
   pub mark : Bool
-  pub broken : AppendsFront held taken (spelling_of_reply (step mark old request).reply)
+  pub broken : AppendsFront before.written after.written (spelling_of_reply (step mark before.machine request).reply)
+  pub counted : after.answered ≡ before.answered
 
--- the line that began so and went on so was answered
-pub record EndsLine (old : Machine) (begun text : List ℕ) (new : Machine) (held taken : Option (List ℕ)) (quit : Bool) : Type 0 where
-  pub reply : Reply
-  pub written : Appends held taken (spelling_of_reply reply)
-  pub going : (rest : List ℕ) → quit ≡ false → Answers old (begun ++ (text ++ 10 ∷ rest)) (reply ∷ []) new rest
-  pub quits : (rest : List ℕ) → quit ≡ true → Quits old (begun ++ (text ++ 10 ∷ rest)) (reply ∷ []) rest
+-- ---- a line, and the bytes of one fill
 
--- all the bytes were taken, and no line asked to quit
-pub record TakesAll (old : Machine) (ahead : List ℕ) (new : Machine) (left : List ℕ) (held taken : Option (List ℕ)) (before after : ℕ) : Type 0 where
-  pub told : List Reply
-  pub answers : Answers old ahead told new left
-  pub tells : Tells held taken before after told
+-- the line that goes on so was answered
+pub record EndsLine (before : Position) (text : List ℕ) (after : Position) (quit : Bool) : Type 0 where
+  pub going : (rest : List ℕ) → quit ≡ false → Advances (facing before (text ++ 10 ∷ rest)) (with_ahead after rest)
+  pub quits : (rest : List ℕ) → quit ≡ true → Quits (facing before (text ++ 10 ∷ rest)) (with_ahead after rest)
 
 -- a line asked to quit, and so many bytes behind it were left
-pub record TakesToQuit (old : Machine) (begun bytes : List ℕ) (left : ℕ) (held taken : Option (List ℕ)) (before after : ℕ) : Type 0 where
+pub record TakesToQuit (before : Position) (bytes : List ℕ) (left : ℕ) (after : Position) : Type 0 where
   pub front : List ℕ
   pub rest : List ℕ
   pub parts : bytes ≡ front ++ rest
   pub size : left ≡ length rest
-  pub told : List Reply
-  pub quits : Quits old (begun ++ bytes) told rest
-  pub tells : Tells held taken before after told
+  pub quits : Quits (facing before bytes) (with_ahead after rest)
 
--- a reply could not be written
-pub record TakesToFault (old : Machine) (ahead : List ℕ) (held taken : Option (List ℕ)) (before after : ℕ) : Type 0 where
-  pub told : List Reply
-  pub next : Reply
-  pub breaks : Breaks old ahead told next
-  pub between : Option (List ℕ)
-  pub tells : Tells held between before after told
-  pub broken : AppendsFront between taken (spelling_of_reply next)
+-- ---- a fill, of the bytes that the reader had
 
--- what one fill brought: bytes that were taken whole
-pub record BringsMore (old : Machine) (line input : List ℕ) (remaining : Option (List ℕ)) (new : Machine) (left : List ℕ) (held taken : Option (List ℕ)) (before after : ℕ) : Type 0 where
+-- bytes, which were taken whole
+pub record BringsMore (before : Position) (input : List ℕ) (remaining : Option (List ℕ)) (after : Position) : Type 0 where
   pub bytes : List ℕ
   pub rest : List ℕ
   pub parts : input ≡ bytes ++ rest
   pub unread : remaining ≡ Some rest
-  pub all : TakesAll old (line ++ bytes) new left held taken before after
+  pub advances : Advances (facing before bytes) after
 
--- the end of the input: nothing is done
-pub record BringsEnd (old : Machine) (line input : List ℕ) (remaining : Option (List ℕ)) (new : Machine) (left : List ℕ) (held taken : Option (List ℕ)) (before after : ℕ) : Type 0 where
+-- the end of the input
+pub record BringsEnd (before : Position) (input : List ℕ) (remaining : Option (List ℕ)) (after : Position) : Type 0 where
   pub none : input ≡ []
   pub unread : remaining ≡ Some []
-  pub all : TakesAll old line new left held taken before after
+  pub same : after ≡ before
 
 -- a line that asked to quit, and the bytes behind it
-pub record BringsQuit (old : Machine) (line input : List ℕ) (remaining : Option (List ℕ)) (held taken : Option (List ℕ)) (before after : ℕ) : Type 0 where
+pub record BringsQuit (before : Position) (input : List ℕ) (remaining : Option (List ℕ)) (after : Position) : Type 0 where
   pub bytes : List ℕ
-  pub more : List ℕ
   pub rest : List ℕ
+  pub more : List ℕ
   pub parts : input ≡ bytes ++ more
   pub unread : remaining ≡ Some (rest ++ more)
-  pub told : List Reply
-  pub quits : Quits old (line ++ bytes) told rest
-  pub tells : Tells held taken before after told
+  pub quits : Quits (facing before bytes) (with_ahead after rest)
 
--- what one fill brought
-abbrev pub Brings : Fill → Machine → List ℕ → List ℕ → Option (List ℕ) → Machine → List ℕ → Option (List ℕ) → Option (List ℕ) → ℕ → ℕ → Type 0
-Brings More old line input remaining new left held taken before after = BringsMore old line input remaining new left held taken before after
-Brings End old line input remaining new left held taken before after = BringsEnd old line input remaining new left held taken before after
-Brings Quit old line input remaining new left held taken before after = BringsQuit old line input remaining held taken before after
+abbrev pub Brings : Fill → Position → List ℕ → Option (List ℕ) → Position → Type 0
+Brings More = BringsMore
+Brings End = BringsEnd
+Brings Quit = BringsQuit
 
 -- a reader that failed left all as it was
-pub record LosesReader (old : Machine) (line input : List ℕ) (remaining : Option (List ℕ)) (new : Machine) (left : List ℕ) (held taken : Option (List ℕ)) (before after : ℕ) : Type 0 where
+pub record LosesReader (before : Position) (input : List ℕ) (remaining : Option (List ℕ)) (after : Position) : Type 0 where
   pub unread : remaining ≡ Some input
-  pub same : left ≡ line
-  pub all : TakesAll old line new left held taken before after
+  pub same : after ≡ before
 
 -- a reply to a line of the bytes that were shown could not be written
-pub record LosesWriter (old : Machine) (line input : List ℕ) (held taken : Option (List ℕ)) (before after : ℕ) : Type 0 where
+pub record LosesWriter (before : Position) (input : List ℕ) (after : Position) : Type 0 where
   pub bytes : List ℕ
   pub more : List ℕ
   pub parts : input ≡ bytes ++ more
-  pub fault : TakesToFault old (line ++ bytes) held taken before after
+  pub breaks : Breaks (facing before bytes) after
 
-abbrev pub Loses : SessionFault → Machine → List ℕ → List ℕ → Option (List ℕ) → Machine → List ℕ → Option (List ℕ) → Option (List ℕ) → ℕ → Type 0
-Loses (Read answered) old line input remaining new left held taken before = LosesReader old line input remaining new left held taken before answered
-Loses (Write answered) old line input remaining new left held taken before = LosesWriter old line input held taken before answered
+abbrev pub Loses : Stop → Position → List ℕ → Option (List ℕ) → Position → Type 0
+Loses (Read kind) before input remaining after = LosesReader before input remaining after
+Loses NoMoreFills before input remaining after = ⊥
+Loses (Write failure) before input remaining after = LosesWriter before input after
 
--- what no newline ended was answered
-pub record EndsRest (old : Machine) (line : List ℕ) (held taken : Option (List ℕ)) (before after : ℕ) : Type 0 where
+-- ---- what no newline ended
+
+-- it was answered
+pub record EndsRest (before after : Position) : Type 0 where
   pub marks : List Bool
-  pub told : List Reply
-  pub replies : (run marks old (request_of_rest line)).replies ≡ told
-  pub tells : Tells held taken before after told
+  pub replies : List Reply
+  pub gives : (outcome marks before.machine (request_of_rest before.ahead)).replies ≡ replies
+  pub written : Appends before.written after.written (text_of replies)
+  pub counted : after.answered ≡ before.answered + length replies
 
-pub record FaltersAtRest (old : Machine) (line : List ℕ) (held taken : Option (List ℕ)) : Type 0 where
+-- it was not answered, or in part
+pub record FaltersAtRest (before after : Position) : Type 0 where
   pub request : Request
-  pub asked : request_of_rest line ≡ request ∷ []
-  pub falters : Falters old request held taken
+  pub asked : request_of_rest before.ahead ≡ request ∷ []
+  pub falters : Falters request before after

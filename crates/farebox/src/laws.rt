@@ -9,6 +9,7 @@ ghost use Rattle.pay_wire.specs.declared.command.Command.TheVariants.{Quit};
 ghost use Rattle.pay_wire.specs.declared.refusal.Refusal.{Refusal};
 ghost use Rattle.pay_wire.specs.declared.refusal.Refusal.TheVariants as refusal;
 ghost use Rattle.pay_wire.specs.declared.reply.Reply.TheVariants as replies;
+ghost use Rattle.pay_wire.specs.declared.limits.TheConstants.{MOST_LINE_BYTES};
 ghost use Rattle.pay_wire.specs.Spellings.{Spells};
 ghost use Rattle.farebox.specs.declared.request.Request.{Request};
 ghost use Rattle.farebox.specs.declared.request.Request.TheVariants as requests;
@@ -52,10 +53,10 @@ pub fn nothing_after_quit()
 pub fn session_goes_on()
     ensures line { (line more : List ℕ) → has_newline line ≡ false → line ≢ codes "QUIT"
         → requests_of (line ++ codes "\n" ++ more) ≡ request_of line ∷ requests_of more }
-    ensures bad { (line more : List ℕ) → has_newline line ≡ false → length line ≤ 128
+    ensures bad { (line more : List ℕ) → has_newline line ≡ false → length line ≤ MOST_LINE_BYTES
         → ((command : Command) → Spells line command → ⊥)
         → requests_of (line ++ codes "\n" ++ more) ≡ requests.BadLine ∷ requests_of more }
-    ensures long { (line more : List ℕ) → has_newline line ≡ false → 128 < length line
+    ensures long { (line more : List ℕ) → has_newline line ≡ false → MOST_LINE_BYTES < length line
         → requests_of (line ++ codes "\n" ++ more) ≡ requests.LongLine ∷ requests_of more }
 {
     pay_wire::laws::read_as_spelled();

@@ -2,20 +2,24 @@
 #![tactic(auto)]
 
 mod accounts;
+mod begun_line;
 mod cut;
 mod desk;
+mod fault;
 pub mod laws;
-mod line;
+pub mod limits;
 mod program;
 mod request;
+mod run;
 mod session;
+mod stop;
 #[cfg(test)]
 mod tests;
 
 use std::process::ExitCode;
 
 fn main(rt: HostRuntime) -> ExitCode {
-    match program::run(&rt) {
+    match program::execute(&rt) {
         Ok(()) => ExitCode::SUCCESS,
         Err(fault) => {
             let _ = eprintln!(rt; "{fault}");

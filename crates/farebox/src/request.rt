@@ -1,6 +1,7 @@
 ghost use Rattle.std.specs.Prelude.{◌≡◌, ◌<◌, ◌∷◌, [], length};
 ghost use Rattle.farebox.specs.Requests.{request_of, request_of_rest, is_quit};
 
+use pay_wire::limits::MOST_LINE_BYTES;
 use pay_wire::{Command, read_command};
 
 /// What a piece of the input asks for: a command, or nothing that is one.
@@ -14,15 +15,12 @@ pub enum Request {
     LongLine,
 }
 
-/// The most bytes that a line may have, without its newline.
-pub const LINE_LIMIT: usize = 128;
-
 /// What a line asks for, which is given without its newline.
 #[tactic(auto, unfolding(crate::specs::Requests::request_of))]
 pub fn request_of(line: &[u8]) -> Request
     ensures { result ≡ request_of line.now }
 {
-    if line.len() > LINE_LIMIT {
+    if line.len() > MOST_LINE_BYTES {
         return Request::LongLine;
     }
     match read_command(line) {
@@ -37,7 +35,7 @@ pub fn request_of_rest(rest: &[u8]) -> Request
     requires { 0 < length rest.now }
     ensures { request_of_rest rest.now ≡ result ∷ [] }
 {
-    if rest.len() > LINE_LIMIT {
+    if rest.len() > MOST_LINE_BYTES {
         Request::LongLine
     } else {
         Request::BadLine

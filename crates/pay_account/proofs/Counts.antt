@@ -12,9 +12,8 @@ use Rattle.pay_pairs.specs.declared.parts.RailPart.TheVariants as part
 use Rattle.pay_pairs.specs.Legs.{taps_of}
 use Rattle.pay_links.specs.declared.journey.Journey.{Journey}
 use Rattle.pay_links.specs.declared.journey.Journey.TheVariants as journey
-use Rattle.pay_links.specs.LinkedLegs.{LinkedLegs, joined, last_leg}
-use Rattle.pay_links.specs.Journeys.{is_same, is_linked, alone, run_before, leg_before, journeys}
-use Rattle.pay_hopper.specs.Hopper.{instants_of, paying_marks}
+use Rattle.pay_links.specs.Words.{LinkedLegs, joined, last_leg, is_same, is_linked, alone, run_before, leg_before, journeys}
+use Rattle.pay_hopper.specs.Words.{instants_of, paying_marks}
 use Rattle.pay_account.specs.Journeys.{is_bus, is_rail, boarding, boardings}
 
 pub few_boardings : (buses : List Touch) (marks : List Bool) → length (map boarding (zip buses marks)) ≤ length buses

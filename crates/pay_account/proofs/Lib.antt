@@ -1,5 +1,5 @@
 pub mod Counts
-pub mod Days
+pub mod FaresOfDays
 pub mod Boardings
 pub mod TapResults
 mod Rows

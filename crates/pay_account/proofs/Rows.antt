@@ -10,7 +10,7 @@ use Rattle.pay_tables.specs.declared.single.Single.{Single}
 use Rattle.pay_taps.specs.declared.tap.Kind.{Kind}
 use Rattle.pay_taps.specs.declared.tap.Kind.TheVariants.{In, Out, Bus}
 use Rattle.pay_taps.specs.declared.tap.Touch.{Touch}
-use Rattle.pay_taps.specs.Order.{in_order}
+use Rattle.pay_taps.specs.Words.{in_order}
 use Rattle.pay_account.specs.declared.fares.Priced.{Priced}
 use Rattle.pay_account.specs.declared.shown.Line.{Line}
 use Rattle.pay_account.specs.declared.shown.LineKind.{LineKind}
@@ -23,7 +23,7 @@ use Rattle.pay_account.specs.Lines.{lines_on}
 abbrev single : ℕ → ℕ → ℕ → ℕ → Single
 single from to peak off = record { span = record { from = from; to = to }; peak = peak; off = off }
 
--- three zones, a bus fare of 175 pence, a maximum fare of 860, and an hour of Hopper
+-- three zones, a bus fare of 175 pence, a maximum fare of 860, an hour of Hopper, and 20 minutes between stations 10 and 12
 abbrev tables_with : FinMap nat_cmp Place → FareTables
 tables_with places = record {
   zones = 3;
@@ -32,7 +32,7 @@ tables_with places = record {
   singles = single 1 1 280 270 ∷ single 1 2 340 280 ∷ single 1 3 370 300 ∷ single 2 2 200 190 ∷ single 2 3 210 195 ∷ single 3 3 200 180 ∷ [];
   holidays = 19_723 ∷ [];
   places = places;
-  interchanges = [];
+  interchanges = record { a = 10; b = 12; seconds = 1_200 } ∷ [];
 }
 
 -- a map of places does not compute, so the rows whose legs need no station have none
@@ -47,8 +47,12 @@ record AreStations (places : FinMap nat_cmp Place) : Type 0 where
   at_13 : get places 13 ≡ Some (Station 2 3 2)
   at_14 : get places 14 ≡ Some (Station 3 3 3)
 
+-- at 07:00 by the clock, or at another local second
+abbrev touch_at : ℕ → ℕ → ℕ → ℕ → ℕ → Kind → Touch
+touch_at second seq utc day place kind = record { filled = false; first = 1; second = seq; stamp = record { utc = utc; day = day; second = second }; place = place; kind = kind }
+
 abbrev touch : ℕ → ℕ → ℕ → ℕ → Kind → Touch
-touch seq utc day place kind = record { filled = false; first = 1; second = seq; stamp = record { utc = utc; day = day; second = 25_200 }; place = place; kind = kind }
+touch seq utc day place kind = touch_at 25_200 seq utc day place kind
 
 -- taps of Monday 2024-01-08, whose 07:00 is 1704697200
 abbrev bus : ℕ → ℕ → Touch
@@ -164,9 +168,17 @@ same_station_of_two_zones places s = simp s.at_11
 stations_of_two_zones : Costs (enter 1 1_704_697_200 11 ∷ leave 2 1_704_698_400 13 ∷ []) 19_730 200
 stations_of_two_zones places s = simp (s.at_11, s.at_13)
 
--- two legs
+-- two legs of spans 2-3 and 1, since a second too many passes between them; within the 20 minutes they are one journey, of span 1-3
 two_legs : Costs (enter 1 1_704_697_200 14 ∷ leave 2 1_704_698_400 12 ∷ enter 3 1_704_699_601 10 ∷ leave 4 1_704_700_200 11 ∷ []) 19_730 490
 two_legs places s = simp (s.at_10, s.at_11, s.at_12, s.at_14)
+
+two_linked_legs : Costs (enter 1 1_704_697_200 14 ∷ leave 2 1_704_698_400 12 ∷ enter 3 1_704_699_600 10 ∷ leave 4 1_704_700_200 11 ∷ []) 19_730 370
+two_linked_legs places s = simp (s.at_10, s.at_11, s.at_12, s.at_14)
+
+-- the same from 17:00, 17:20, 17:40 and 17:50: such a journey into zone 1 is off-peak
+linked_in_the_evening : Costs (touch_at 61_200 1 1_704_733_200 19_730 14 In ∷ touch_at 62_400 2 1_704_734_400 19_730 12 Out
+    ∷ touch_at 63_600 3 1_704_735_600 19_730 10 In ∷ touch_at 64_200 4 1_704_736_200 19_730 11 Out ∷ []) 19_730 300
+linked_in_the_evening places s = simp (s.at_10, s.at_11, s.at_12, s.at_14)
 
 -- ---- lines
 

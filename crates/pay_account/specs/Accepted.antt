@@ -3,7 +3,7 @@ use Rattle.std.specs.Prelude.{ℕ, refl}
 use Rattle.std.specs.FinMap as map
 use Rattle.std.specs.Coded.{Coded, code_by, coded×, coded_ℕ}
 use Rattle.pay_taps.specs.contracts.tap.Tap as tap
-use Rattle.pay_taps.specs.Taps.{Taps}
+use Rattle.pay_taps.specs.Words.{Taps}
 
 -- the number of an account and its accepted taps
 pub record Accepted : Type 0 where

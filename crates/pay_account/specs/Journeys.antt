@@ -1,17 +1,16 @@
 -- The journeys that touches in order make.
-use Rattle.std.specs.Prelude.{ℕ, ◌+◌, ◌++◌, ◌==◌, ◌&&◌, nat_le, nat_lt, not, Bool, Option, List, map, filter}
+use Rattle.std.specs.Prelude.{ℕ, ◌++◌, ◌==◌, not, Bool, Option, List, map, filter}
 use Rattle.std.specs.List.{zip}
-use Rattle.pay_day.specs.Day.{Stamp, monday}
+use Rattle.pay_day.specs.Day.{Stamp, is_in_week_of}
 use Rattle.pay_tables.specs.FareTables.{FareTables}
 use Rattle.pay_taps.specs.declared.tap.Kind.TheVariants.{Bus}
 use Rattle.pay_taps.specs.declared.tap.Touch.{Touch}
-use Rattle.pay_taps.specs.Taps.{same_kind}
-use Rattle.pay_hopper.specs.Hopper.{instants_of, paying_marks}
-use Rattle.pay_hopper.specs.LastPaid.{pays_by_last}
+use Rattle.pay_taps.specs.Words.{same_kind}
+use Rattle.pay_hopper.specs.Words.{instants_of, paying_marks, pays_by_last}
 use Rattle.pay_pairs.specs.Legs.{legs}
 use Rattle.pay_links.specs.declared.journey.Journey.{Journey}
 use Rattle.pay_links.specs.declared.journey.Journey.TheVariants as journey
-use Rattle.pay_links.specs.Journeys.{journeys, first_tap}
+use Rattle.pay_links.specs.Words.{journeys, first_tap}
 
 -- whether a touch was made on a bus or a tram, and not at a station
 abbrev pub is_bus : Touch → Bool
@@ -46,4 +45,4 @@ is_on day journey = (first_tap journey).stamp.day == day
 
 -- and to the week of that day, of Monday through Sunday
 abbrev pub is_in_week : ℕ → Journey → Bool
-is_in_week day journey = nat_le (monday day) (first_tap journey).stamp.day && nat_lt (first_tap journey).stamp.day (monday day + 7)
+is_in_week day journey = is_in_week_of day (first_tap journey).stamp.day

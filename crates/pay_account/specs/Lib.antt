@@ -1,8 +1,9 @@
 pub mod Places
 pub mod Journeys
 pub mod Prices
-pub mod Codes
+pub mod LinesCode
 pub mod Lines
-pub mod Faults
+pub mod TapFaults
 pub mod TapResults
 pub mod Accepted
+pub mod Words

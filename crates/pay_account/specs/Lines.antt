@@ -2,12 +2,10 @@
 use Rattle.std.specs.Prelude.{ℕ, if◌then◌else◌, List, map, filter, None}
 use Rattle.pay_tables.specs.FareTables.{FareTables}
 use Rattle.pay_taps.specs.declared.tap.Kind.TheVariants.{Out}
-use Rattle.pay_taps.specs.Taps.{Taps, same_kind}
-use Rattle.pay_taps.specs.Order.{touches, in_order_by}
-use Rattle.pay_links.specs.LinkedLegs.{last_leg}
+use Rattle.pay_taps.specs.Words.{Taps, same_kind, touches, in_order_by}
+use Rattle.pay_links.specs.Words.{last_leg, first_tap}
 use Rattle.pay_links.specs.declared.journey.Journey.{Journey}
 use Rattle.pay_links.specs.declared.journey.Journey.TheVariants.{Run, Same, Lone, Bus}
-use Rattle.pay_links.specs.Journeys.{first_tap}
 use Rattle.pay_fares.specs.JourneyFares.{fare}
 use Rattle.pay_account.specs.declared.shown.Line.{Line}
 use Rattle.pay_account.specs.declared.shown.LineKind.{LineKind}

@@ -1,11 +1,10 @@
 -- What a day costs, and a week.
 use Rattle.std.specs.Prelude.{◌≡◌, ℕ, ◌+◌, ◌-◌, Bool, List, [], ◌∷◌, filter, sum_by, refl}
 use Rattle.std.specs.List.{range_with_len}
-use Rattle.pay_day.specs.Day.{monday}
+use Rattle.pay_day.specs.Day.{monday, sunday}
 use Rattle.pay_tables.specs.FareTables.{FareTables}
 use Rattle.pay_taps.specs.declared.tap.Touch.{Touch}
-use Rattle.pay_taps.specs.Taps.{Taps}
-use Rattle.pay_taps.specs.Order.{touches}
+use Rattle.pay_taps.specs.Words.{Taps, touches}
 use Rattle.pay_links.specs.declared.journey.Journey.{Journey}
 use Rattle.pay_fares.specs.JourneyFares.{fare}
 use Rattle.pay_account.specs.declared.fares.Priced.{Priced}
@@ -33,7 +32,7 @@ prices_of_touches tables list again day = record {
   again = again;
   day = day;
   day_price = fares_on tables (journeys_of tables list) day;
-  week_price = fares_through tables (journeys_of tables list) (monday day + 6);
+  week_price = fares_through tables (journeys_of tables list) (sunday day);
 }
 
 -- and of taps

@@ -6,13 +6,13 @@ use Rattle.pay_taps.specs.declared.tap.Tap.{Tap}
 use Rattle.pay_taps.specs.declared.tap_set.Addition.{Addition}
 use Rattle.pay_taps.specs.declared.tap_set.Addition.TheVariants.{Added, Repeat}
 use Rattle.pay_taps.specs.declared.tap_set.TapSetFault.{TapSetFault}
-use Rattle.pay_taps.specs.Taps.{Taps, number, judged}
+use Rattle.pay_taps.specs.Words.{Taps, number, judged}
 use Rattle.pay_account.specs.declared.fares.Priced.{Priced}
 use Rattle.pay_account.specs.declared.fares.TapFault.{TapFault}
 use Rattle.pay_account.specs.declared.fares.TapFault.TheVariants.{UnknownPlace, Memory}
 use Rattle.pay_account.specs.Places.{is_known}
 use Rattle.pay_account.specs.Prices.{prices}
-use Rattle.pay_account.specs.Faults.{tap_fault}
+use Rattle.pay_account.specs.TapFaults.{tap_fault}
 
 -- a further tap is priced among the others, and a repeat as things are
 abbrev pub addition_result : FareTables → Taps → Tap → Result Addition TapSetFault → Result Priced TapFault

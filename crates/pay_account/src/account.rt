@@ -1,7 +1,7 @@
 ghost use Rattle.std.specs.Prelude.{◌≡◌, true, false, Ok, IfOk};
 ghost use Rattle.std.specs.FinMap as map;
 ghost use Rattle.pay_day.specs.Day.{IsDay};
-ghost use Rattle.pay_taps.specs.Taps.{judged, number};
+ghost use Rattle.pay_taps.specs.Words.{judged, number};
 ghost use Rattle.pay_account.specs.Prices.{prices};
 ghost use Rattle.pay_account.specs.TapResults.{IsTapResult};
 
@@ -36,7 +36,7 @@ impl Model for Account {
 }
 
 impl Account {
-    /// What `tap` answers. The account stays as it is.
+    /// The result of `tap`. The account stays as it is.
     fn priced(&self, tables: &Tables, tap: &Tap) -> Result<Priced, TapFault>
         ensures { IsTapResult result tables.now self.now.taps tap.now }
     {

@@ -1,6 +1,6 @@
 ghost use Rattle.std.specs.Prelude.{◌≡◌, ℕ, IfOk};
 ghost use Rattle.std.specs.FinMap as map;
-ghost use Rattle.pay_taps.specs.Taps.{Taps};
+ghost use Rattle.pay_taps.specs.Words.{Taps};
 ghost use Rattle.pay_account.specs.TapResults.{IsTapResult, taps_after};
 ghost use Rattle.pay_account.specs.Lines.{shown};
 
@@ -50,7 +50,7 @@ impl From<AllocError> for TapFault {
 
 impl From<TapSetFault> for TapFault {
     ghost use Rattle.std.specs.Prelude.{◌≡◌};
-    ghost use Rattle.pay_account.specs.Faults.{tap_fault};
+    ghost use Rattle.pay_account.specs.TapFaults.{tap_fault};
 
     ghost from_gives = { λ of fault. fault ≡ tap_fault of };
 

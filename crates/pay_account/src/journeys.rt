@@ -1,6 +1,6 @@
 ghost use Rattle.std.specs.Prelude.{◌≡◌, ◌≤◌, ◌++◌, filter, length, if◌then◌else◌, Some, None, IfOk, OnOk};
-ghost use Rattle.pay_hopper.specs.LastPaid.{last_paid_after};
-ghost use Rattle.pay_links.specs.Journeys.{first_tap};
+ghost use Rattle.pay_hopper.specs.Words.{last_paid_after};
+ghost use Rattle.pay_links.specs.Words.{first_tap};
 ghost use Rattle.pay_account.specs.Journeys.{boardings, next_boarding, is_bus, is_rail, rail_journeys, journeys_of, is_on};
 
 use pay_day::Moment;

@@ -1,11 +1,11 @@
-//! What the answers to a tap mean. Each law is the contract of a function that does nothing: a caller
+//! What the results of a tap mean. Each law is the contract of a function that does nothing: a caller
 //! whose proof needs a law calls its function.
 ghost use Rattle.std.specs.Prelude.{◌≡◌, ◌≢◌, ◌↔◌, ◌≤◌, true, false};
 ghost use Rattle.std.specs.FinMap as map;
 ghost use Rattle.pay_tables.specs.FareTables.{FareTables};
 ghost use Rattle.pay_taps.specs.declared.limits.TheConstants.{MOST_TAPS};
 ghost use Rattle.pay_taps.specs.declared.tap.Tap.{Tap};
-ghost use Rattle.pay_taps.specs.Taps.{Taps, number};
+ghost use Rattle.pay_taps.specs.Words.{Taps, number};
 ghost use Rattle.pay_account.specs.declared.fares.Priced.{Priced};
 ghost use Rattle.pay_account.specs.Places.{is_known};
 ghost use Rattle.pay_account.specs.TapResults.{tap_result, taps_after};
@@ -30,7 +30,7 @@ pub fn refusals()
     pay_taps::laws::judgements();
 }
 
-/// A tap that was accepted may be sent again: it is answered by the same prices, and changes nothing.
+/// A tap that was accepted may be sent again: it is given the same prices, and changes nothing.
 pub fn repeats()
     ensures same_prices { (tables : FareTables) (taps : Taps) (tap : Tap) (priced : Priced) → tap_result tables taps tap ≡ Ok priced
         → tap_result tables (taps_after (Ok priced) taps tap) tap ≡ Ok (record priced { again = true }) }

@@ -5,6 +5,7 @@ mod account;
 mod fares;
 mod journeys;
 pub mod laws;
+pub mod limits;
 mod lines;
 mod places;
 mod prices;

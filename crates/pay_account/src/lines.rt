@@ -1,6 +1,6 @@
 ghost use Rattle.std.specs.Prelude.{◌≡◌, ℕ, List, map, filter, IfOk, OnOk};
-ghost use Rattle.pay_taps.specs.Order.{in_order_by};
-ghost use Rattle.pay_links.specs.Journeys.{first_tap};
+ghost use Rattle.pay_taps.specs.Words.{in_order_by};
+ghost use Rattle.pay_links.specs.Words.{first_tap};
 ghost use Rattle.pay_account.specs.Journeys.{is_on};
 ghost use Rattle.pay_account.specs.Lines.{line_kind, from_of, to_of, line_of_journey, lines_on};
 

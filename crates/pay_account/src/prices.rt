@@ -1,14 +1,16 @@
 ghost use Rattle.std.specs.Prelude.{◌≡◌, ◌≤◌, ◌+◌, ◌&&◌, if◌then◌else◌, length, IfOk};
-ghost use Rattle.pay_day.specs.Day.{IsDay, monday};
-ghost use Rattle.pay_hopper.specs.LastPaid.{last_paid_after};
+ghost use Rattle.pay_day.specs.Day.{IsDay, sunday};
+ghost use Rattle.pay_hopper.specs.Words.{last_paid_after};
+ghost use Rattle.pay_tables.specs.declared.limits.TheConstants.{MOST_FARE};
 ghost use Rattle.pay_taps.specs.declared.limits.TheConstants.{MOST_TAPS};
 ghost use Rattle.pay_fares.specs.JourneyFares.{fare};
+ghost use Rattle.pay_account.specs.declared.limits.TheConstants.{MOST_PRICE};
 ghost use Rattle.pay_account.specs.Journeys.{boardings, next_boarding, is_bus, is_in_week, is_on};
 ghost use Rattle.pay_account.specs.Prices.{fares_on, fares_through, prices_of_touches};
 
 use crate::fares::Priced;
 use crate::journeys::{day_of, is_on, next_boarding, rail_journeys};
-use pay_day::{Moment, monday};
+use pay_day::{Moment, is_in_week_of};
 use pay_fares::fare;
 use pay_links::Journey;
 use pay_money::Pence;
@@ -57,16 +59,15 @@ impl Sums {
     /// Adds the fare of a journey, where it is of the week of `day`, and where it is of that day.
     fn add(&mut self, tables: &Tables, journey: &Journey, day: u32)
         requires is_day { IsDay day }
-        requires few_on { self.old.day ≤ 1_638_300_000 }
-        requires few_in_week { self.old.week ≤ 1_638_300_000 }
+        requires few_on { self.old.day + MOST_FARE ≤ MOST_PRICE }
+        requires few_in_week { self.old.week + MOST_FARE ≤ MOST_PRICE }
         ensures day { self.new.day ≡ self.old.day + (if is_on day journey.now then fare tables.now journey.now else 0) }
         ensures week { self.new.week ≡ self.old.week + (if is_in_week day journey.now then fare tables.now journey.now else 0) }
-        ensures day_in_range { self.new.day ≤ self.old.day + 100_000 }
-        ensures week_in_range { self.new.week ≤ self.old.week + 100_000 }
+        ensures day_in_range { self.new.day ≤ self.old.day + MOST_FARE }
+        ensures week_in_range { self.new.week ≤ self.old.week + MOST_FARE }
     {
-        let monday = monday(day);
         let its_day = day_of(journey);
-        if (monday..monday + 7).contains(&its_day) {
+        if is_in_week_of(day, its_day) {
             let fare = fare(tables, journey);
             self.week = self.week + fare;
             if its_day == day {
@@ -85,15 +86,15 @@ impl Sums {
         day: u32,
     )
         requires is_day { IsDay day }
-        requires few_on { self.old.day ≤ 1_638_300_000 }
-        requires few_in_week { self.old.week ≤ 1_638_300_000 }
+        requires few_on { self.old.day + MOST_FARE ≤ MOST_PRICE }
+        requires few_in_week { self.old.week + MOST_FARE ≤ MOST_PRICE }
         ensures last_paid { last_paid.new ≡ (if is_bus touch.now then last_paid_after tables.now.rules.hopper last_paid.old touch.now.stamp else last_paid.old) }
         ensures day { self.new.day ≡ self.old.day + (if is_bus touch.now && is_on day (next_boarding tables.now.rules.hopper last_paid.old touch.now)
             then fare tables.now (next_boarding tables.now.rules.hopper last_paid.old touch.now) else 0) }
         ensures week { self.new.week ≡ self.old.week + (if is_bus touch.now && is_in_week day (next_boarding tables.now.rules.hopper last_paid.old touch.now)
             then fare tables.now (next_boarding tables.now.rules.hopper last_paid.old touch.now) else 0) }
-        ensures day_in_range { self.new.day ≤ self.old.day + 100_000 }
-        ensures week_in_range { self.new.week ≤ self.old.week + 100_000 }
+        ensures day_in_range { self.new.day ≤ self.old.day + MOST_FARE }
+        ensures week_in_range { self.new.week ≤ self.old.week + MOST_FARE }
     {
         if let Some(journey) = next_boarding(tables, last_paid, touch) {
             self.add(tables, &journey, day);
@@ -102,14 +103,14 @@ impl Sums {
 }
 
 /// The sums of the fares of the journeys of a service day and of its week.
-#[tactic(auto, using(crate::proofs::Days::fares_of_week))]
+#[tactic(auto, using(crate::proofs::FaresOfDays::fares_of_week))]
 fn sums_of(tables: &Tables, journeys: &[Journey], day: u32) -> Sums
     requires few { length journeys.now ≤ MOST_TAPS }
     requires is_day { IsDay day }
     ensures day { result.day ≡ fares_on tables.now journeys.now day }
-    ensures week { result.week ≡ fares_through tables.now journeys.now (monday day + 6) }
-    ensures day_in_range { result.day ≤ 1_638_400_000 }
-    ensures week_in_range { result.week ≤ 1_638_400_000 }
+    ensures week { result.week ≡ fares_through tables.now journeys.now (sunday day) }
+    ensures day_in_range { result.day ≤ MOST_PRICE }
+    ensures week_in_range { result.week ≤ MOST_PRICE }
 {
     let mut sums = Sums::ZERO;
     for journey in journeys {
@@ -123,9 +124,9 @@ fn sums_of_boardings(tables: &Tables, touches: &[Touch], day: u32) -> Sums
     requires few { length touches.now ≤ MOST_TAPS }
     requires is_day { IsDay day }
     ensures day { result.day ≡ fares_on tables.now (boardings tables.now touches.now) day }
-    ensures week { result.week ≡ fares_through tables.now (boardings tables.now touches.now) (monday day + 6) }
-    ensures day_in_range { result.day ≤ 1_638_400_000 }
-    ensures week_in_range { result.week ≤ 1_638_400_000 }
+    ensures week { result.week ≡ fares_through tables.now (boardings tables.now touches.now) (sunday day) }
+    ensures day_in_range { result.day ≤ MOST_PRICE }
+    ensures week_in_range { result.week ≤ MOST_PRICE }
 {
     pay_hopper::laws::by_the_last();
     let mut sums = Sums::ZERO;
@@ -140,7 +141,7 @@ fn sums_of_boardings(tables: &Tables, touches: &[Touch], day: u32) -> Sums
 pub fn fares_on(tables: &Tables, journeys: &[Journey], day: u32) -> Pence
     requires { length journeys.now ≤ MOST_TAPS }
     ensures value { result ≡ fares_on tables.now journeys.now day }
-    ensures in_range { result ≤ 1_638_400_000 }
+    ensures in_range { result ≤ MOST_PRICE }
 {
     let mut sum = Pence::ZERO;
     for journey in journeys {

@@ -46,7 +46,7 @@ pub struct Lines {
 impl Model for Lines {
     ghost use Rattle.std.specs.Prelude.{List};
     ghost use Rattle.pay_account.specs.declared.shown.Line.{Line};
-    ghost use Rattle.pay_account.specs.Codes.{lines_code};
+    ghost use Rattle.pay_account.specs.LinesCode.{lines_code};
 
     ghost Value = { List Line };
 

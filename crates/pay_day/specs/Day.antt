@@ -1,9 +1,9 @@
 -- What a service day is.
-use Rattle.std.specs.Prelude.{◌≡◌, ◌&&◌, nat_le, Bool, ℕ, ◌+◌, ◌-◌, ◌%◌, ◌<◌, ◌≤◌, ℤ, pos, ◌+ℤ◌, ◌-ℤ◌, if◌then◌else◌, nat_lt, unsigned_abs, refl}
+use Rattle.std.specs.Prelude.{◌≡◌, ◌&&◌, nat_le, Bool, true, false, ℕ, ◌+◌, ◌-◌, ◌%◌, ◌<◌, ◌≤◌, ℤ, pos, ◌+ℤ◌, ◌-ℤ◌, if◌then◌else◌, nat_lt, unsigned_abs, refl}
 use Rattle.std.specs.Int.{int_div_euclid, int_rem_euclid}
 use Rattle.jiff.specs.Words.{plain_zone, nanos_of_seconds, offset_at}
 use Rattle.jiff.specs.declared.tz.timezone.TimeZone.{TimeZone}
-use Rattle.pay_day.specs.declared.limits.TheConstants.{FIRST_INSTANT, LAST_INSTANT, FIRST_DAY, LAST_DAY, SECONDS_PER_DAY, SERVICE_DAY_START}
+use Rattle.pay_day.specs.declared.limits.TheConstants.{FIRST_INSTANT, LAST_INSTANT, FIRST_DAY, LAST_DAY, SECONDS_PER_DAY, SERVICE_DAY_START, DAYS_PER_WEEK}
 
 -- an instant as it is kept: seconds of the Unix clock, the service day, and the local second of the day
 pub record Stamp : Type 0 where
@@ -55,9 +55,20 @@ stamp_of zone utc = record {
   second = local_second zone utc;
 }
 
--- the Monday of a day's week: day 0 was a Thursday
+-- the day of the week, from 0 on a Monday to 6 on a Sunday: day 0 was a Thursday
+abbrev pub day_of_week : ℕ → ℕ
+day_of_week day = (day + 3) % DAYS_PER_WEEK
+
+-- the Monday of a day's week, and its Sunday
 abbrev pub monday : ℕ → ℕ
-monday day = day - (day + 3) % 7
+monday day = day - day_of_week day
+
+abbrev pub sunday : ℕ → ℕ
+sunday day = monday day + (DAYS_PER_WEEK - 1)
+
+-- whether another day is of a day's week, from that Monday through that Sunday
+abbrev pub is_in_week_of : ℕ → ℕ → Bool
+is_in_week_of day other = nat_le (monday day) other && nat_lt other (monday day + DAYS_PER_WEEK)
 
 -- 2024-01-08 is a Monday, and so is the week's first day of the Sunday after it
 monday_of_a_monday : monday 19730 ≡ 19730
@@ -68,3 +79,23 @@ monday_of_a_sunday = refl
 
 monday_of_the_sunday_before : monday 19729 ≡ 19723
 monday_of_the_sunday_before = refl
+
+-- the Sunday of that week is 2024-01-14
+sunday_of_a_monday : sunday 19730 ≡ 19736
+sunday_of_a_monday = refl
+
+sunday_of_a_sunday : sunday 19736 ≡ 19736
+sunday_of_a_sunday = refl
+
+-- of the week of Wednesday, 2024-01-10, are its Monday and its Sunday, and not the days beside them
+before_the_week : is_in_week_of 19732 19729 ≡ false
+before_the_week = refl
+
+first_of_the_week : is_in_week_of 19732 19730 ≡ true
+first_of_the_week = refl
+
+last_of_the_week : is_in_week_of 19732 19736 ≡ true
+last_of_the_week = refl
+
+after_the_week : is_in_week_of 19732 19737 ≡ false
+after_the_week = refl

@@ -1,4 +1,4 @@
-//! Service days: the day that an instant belongs to, and the Monday of a day's week.
+//! Service days: the day that an instant belongs to, and the week of a day.
 #![tactic(auto)]
 
 pub mod laws;
@@ -9,7 +9,7 @@ mod week;
 
 pub use moment::Moment;
 pub use service::{StampFault, stamp};
-pub use week::monday;
+pub use week::{day_of_week, is_in_week_of, monday};
 
 #[cfg(test)]
 mod tests;

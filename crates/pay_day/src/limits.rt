@@ -1,4 +1,4 @@
-//! The instants and days that are taken, and when a service day begins.
+//! The instants and days that are taken, when a service day begins, and the days of a week.
 
 /// The first instant that is taken, in seconds of the Unix clock: 1970-01-08 00:00:00 UTC.
 pub const FIRST_INSTANT: u64 = 604_800;
@@ -17,3 +17,9 @@ pub const SECONDS_PER_DAY: u32 = 86_400;
 
 /// The local second at which a service day begins: 04:30:00.
 pub const SERVICE_DAY_START: u32 = 16_200;
+
+/// How many days a week has.
+pub const DAYS_PER_WEEK: u32 = 7;
+
+/// Saturday, where a week's days are counted from 0 on its Monday: those before it are weekdays.
+pub const SATURDAY: u32 = 5;

@@ -32,7 +32,7 @@ fn local_clock(zone: &TimeZone<'_>, utc: u64) -> u64
 }
 
 /// The instant with its service day and its local second in the zone, for `utc` seconds of the Unix
-/// clock. A service day runs from 04:30 to 04:30 by the zone's clock, and has the date on which it
+/// clock. A service day lasts from 04:30 to 04:30 by the zone's clock, and has the date on which it
 /// begins.
 #[tactic(auto, unfolding(crate::specs::Day::service_day, crate::specs::Day::local_date, crate::specs::Day::local_second))]
 pub fn stamp(zone: &TimeZone<'_>, utc: u64) -> Result<Moment, StampFault>

@@ -92,18 +92,29 @@ fn moments_from_parts(rt: HostRuntime) {
 }
 
 #[test]
-fn mondays(rt: HostRuntime) {
+fn weeks(rt: HostRuntime) {
     // Day 50,000 is Wed 2106-11-24, of the week of Mon 2106-11-22
-    for (day, want) in [
-        (4, 4),
-        (10, 4),
-        (11, 11),
-        (19_729, 19_723),
-        (19_730, 19_730),
-        (19_736, 19_730),
-        (50_000, 49_998),
-        (50_004, 49_998),
+    for (day, number, want) in [
+        (4, 0, 4),
+        (10, 6, 4),
+        (11, 0, 11),
+        (19_729, 6, 19_723),
+        (19_730, 0, 19_730),
+        (19_736, 6, 19_730),
+        (50_000, 2, 49_998),
+        (50_004, 6, 49_998),
     ] {
+        assert_eq!(rt; day_of_week(day), number, "of {day}");
         assert_eq!(rt; monday(day), want, "of {day}");
+    }
+    // Wed 2024-01-10, and the days beside its week and at its ends
+    for (other, want) in [
+        (0, false),
+        (19_729, false),
+        (19_730, true),
+        (19_736, true),
+        (19_737, false),
+    ] {
+        assert_eq!(rt; is_in_week_of(19_732, other), want, "of {other}");
     }
 }

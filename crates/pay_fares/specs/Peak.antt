@@ -1,25 +1,26 @@
 -- When a journey is peak.
-use Rattle.std.specs.Prelude.{◌≡◌, ℕ, ◌+◌, ◌%◌, ◌==◌, ◌&&◌, ◌||◌, not, nat_le, nat_lt, Bool, true, false, refl}
-use Rattle.pay_day.specs.Day.{Stamp}
+use Rattle.std.specs.Prelude.{◌≡◌, ℕ, ◌==◌, ◌&&◌, ◌||◌, not, nat_le, nat_lt, Bool, true, false, refl}
+use Rattle.pay_day.specs.Day.{Stamp, day_of_week}
+use Rattle.pay_day.specs.declared.limits.TheConstants.{SATURDAY}
 use Rattle.pay_tables.specs.FareTables.{FareTables, is_holiday}
 use Rattle.pay_tables.specs.Spans.{low_of}
-use Rattle.pay_links.specs.LinkedLegs.{LinkedLegs}
+use Rattle.pay_links.specs.Words.{LinkedLegs, first_tap}
 use Rattle.pay_links.specs.declared.journey.Journey.{Journey}
 use Rattle.pay_links.specs.declared.journey.Journey.TheVariants.{Run, Same, Lone, Bus}
-use Rattle.pay_links.specs.Journeys.{first_tap}
+use Rattle.pay_fares.specs.declared.limits.TheConstants.{MORNING_PEAK_START, MORNING_PEAK_END, EVENING_PEAK_START, EVENING_PEAK_END}
 use Rattle.pay_fares.specs.Runs.{span_of_legs, first_station, last_station}
 
--- Monday to Friday: day 0 was a Thursday
+-- Monday to Friday
 abbrev pub is_weekday : ℕ → Bool
-is_weekday day = nat_lt ((day + 3) % 7) 5
+is_weekday day = nat_lt (day_of_week day) SATURDAY
 
 -- the local seconds from 06:30:00 up to, and without, 09:30:00
 abbrev pub is_morning : ℕ → Bool
-is_morning second = nat_le 23_400 second && nat_lt second 34_200
+is_morning second = nat_le MORNING_PEAK_START second && nat_lt second MORNING_PEAK_END
 
 -- and from 16:00:00 up to, and without, 19:00:00
 abbrev pub is_evening : ℕ → Bool
-is_evening second = nat_le 57_600 second && nat_lt second 68_400
+is_evening second = nat_le EVENING_PEAK_START second && nat_lt second EVENING_PEAK_END
 
 -- whether an instant is at a peak time: in the morning or the evening of a weekday that is no public holiday
 abbrev pub is_peak_time : FareTables → Stamp → Bool

@@ -1,4 +1,5 @@
 ghost use Rattle.std.specs.Prelude.{◌≡◌, ◌≤◌};
+ghost use Rattle.pay_tables.specs.declared.limits.TheConstants.{MOST_FARE};
 ghost use Rattle.pay_fares.specs.JourneyFares.{is_free, fare};
 
 use crate::peak::is_peak;
@@ -23,7 +24,7 @@ fn is_free(tables: &Tables, leg: &Leg) -> bool
 /// pays, and else nothing.
 pub fn fare(tables: &Tables, journey: &Journey) -> Pence
     ensures value { result ≡ fare tables.now journey.now }
-    ensures in_range { result ≤ 100_000 }
+    ensures in_range { result ≤ MOST_FARE }
 {
     match journey {
         Journey::Run(run) => tables.single(span_of_run(tables, run), is_peak(tables, journey)),

@@ -3,6 +3,7 @@
 
 mod journey_fares;
 pub mod laws;
+pub mod limits;
 mod peak;
 mod runs;
 

@@ -1,30 +1,32 @@
 ghost use Rattle.std.specs.Prelude.{◌≡◌};
 ghost use Rattle.pay_fares.specs.Peak.{is_weekday, is_morning, is_evening, is_peak_time, is_into_zone_one, is_excepted, is_peak};
 
+use crate::limits::{EVENING_PEAK_END, EVENING_PEAK_START, MORNING_PEAK_END, MORNING_PEAK_START};
 use crate::runs::span_of_run;
-use pay_day::Moment;
+use pay_day::limits::SATURDAY;
+use pay_day::{Moment, day_of_week};
 use pay_links::{Journey, Run};
 use pay_tables::Tables;
 
-/// Whether the service day of a moment is one of Monday to Friday. Day 0 was a Thursday.
+/// Whether the service day of a moment is one of Monday to Friday.
 fn is_weekday(stamp: Moment) -> bool
     ensures { result ≡ is_weekday stamp.day }
 {
-    (stamp.day() + 3) % 7 < 5
+    day_of_week(stamp.day()) < SATURDAY
 }
 
 /// Whether a local second is from 06:30:00 up to but not including 09:30:00.
 fn is_morning(second: u32) -> bool
     ensures { result ≡ is_morning second }
 {
-    (23_400..34_200).contains(&second)
+    (MORNING_PEAK_START..MORNING_PEAK_END).contains(&second)
 }
 
 /// Whether a local second is from 16:00:00 up to but not including 19:00:00.
 fn is_evening(second: u32) -> bool
     ensures { result ≡ is_evening second }
 {
-    (57_600..68_400).contains(&second)
+    (EVENING_PEAK_START..EVENING_PEAK_END).contains(&second)
 }
 
 /// Whether a moment is at a peak time.

@@ -1,38 +1,16 @@
+//! By the sample fare file: three zones, with a station in each and one between each two, an interchange
+//! of twenty minutes between 10 and 12, and a public holiday on Monday, 2024-01-01.
+
 use crate::*;
 use pay_day::Moment;
 use pay_links::{Journey, journeys};
 use pay_pairs::legs;
 use pay_tables::Tables;
+use pay_tables::sample::BUS_FARES;
 use pay_taps::{Kind, Touch};
 use std::alloc::Global;
 use std::process::Abort;
 use std::test::Fail;
-
-/// Three zones, with a station in each and one between each two, an interchange of twenty minutes
-/// between 10 and 12, and a public holiday on Monday, 2024-01-01.
-const FARES: &str = "
-zones = 3
-minutes = [90, 100, 110]
-rules = { bus = 175, maximum = 860, hopper = 3600, same_free = 120, same_limit = 1800 }
-single = [
-  { from = 1, to = 1, peak = 280, off = 270 },
-  { from = 1, to = 2, peak = 340, off = 280 },
-  { from = 1, to = 3, peak = 370, off = 300 },
-  { from = 2, to = 2, peak = 200, off = 190 },
-  { from = 2, to = 3, peak = 210, off = 195 },
-  { from = 3, to = 3, peak = 200, off = 180 },
-]
-holidays = [19723]
-station = [
-  { place = 10, low = 1, high = 1, operator = 1 },
-  { place = 11, low = 1, high = 2, operator = 1 },
-  { place = 12, low = 2, high = 2, operator = 2 },
-  { place = 13, low = 2, high = 3, operator = 2 },
-  { place = 14, low = 3, high = 3, operator = 3 },
-]
-route = [{ place = 50, operator = 4 }]
-interchange = [{ a = 10, b = 12, seconds = 1200 }]
-";
 
 /// Monday, 2024-01-08.
 const MONDAY: u32 = 19_730;
@@ -74,7 +52,7 @@ fn rail_prices(
 #[test]
 fn is_peak_by_the_first_tap(rt: HostRuntime) -> Result<(), Fail> {
     let alloc = rt.alloc();
-    let tables = Tables::read(alloc, FARES)?;
+    let tables = Tables::read(alloc, BUS_FARES)?;
     for (day, second, price) in [
         // 06:29:59, 06:30:00, 09:29:59 and 09:30:00
         (MONDAY, 23_399, (false, 280)),
@@ -111,7 +89,7 @@ fn is_peak_by_the_first_tap(rt: HostRuntime) -> Result<(), Fail> {
 #[test]
 fn is_off_peak_into_zone_one_in_the_evening(rt: HostRuntime) -> Result<(), Fail> {
     let alloc = rt.alloc();
-    let tables = Tables::read(alloc, FARES)?;
+    let tables = Tables::read(alloc, BUS_FARES)?;
     for (from, to, day, second, price) in [
         // 17:00, into zone 1 and out of it
         (12, 10, MONDAY, 61_200, (false, 280)),
@@ -172,7 +150,7 @@ fn prices_of_legs(
 #[test]
 fn is_judged_by_the_whole_run(rt: HostRuntime) -> Result<(), Fail> {
     let alloc = rt.alloc();
-    let tables = Tables::read(alloc, FARES)?;
+    let tables = Tables::read(alloc, BUS_FARES)?;
     let rows: [(&[(u16, u16, u32)], (bool, u64)); 16] = [
         // 17:00 and 07:00: the span begins at zone 1 by a station between.
         (&[(14, 12, 61_200), (10, 11, 63_000)], (false, 300)),
@@ -214,7 +192,7 @@ fn is_judged_by_the_whole_run(rt: HostRuntime) -> Result<(), Fail> {
 fn has_no_exception_at_one_station(rt: HostRuntime) -> Result<(), Fail> {
     use Kind::{In, Out};
     let alloc = rt.alloc();
-    let tables = Tables::read(alloc, FARES)?;
+    let tables = Tables::read(alloc, BUS_FARES)?;
     let rows: [(&[(u16, Kind, u32)], u64); 5] = [
         (&[(12, In, 0), (12, Out, 121)], 200),
         (&[(10, In, 0), (10, Out, 121)], 280),
@@ -239,7 +217,7 @@ fn has_no_exception_at_one_station(rt: HostRuntime) -> Result<(), Fail> {
 fn fares_of_rail_journeys(rt: HostRuntime) -> Result<(), Fail> {
     use Kind::{In, Out};
     let alloc = rt.alloc();
-    let tables = Tables::read(alloc, FARES)?;
+    let tables = Tables::read(alloc, BUS_FARES)?;
     let rows: [(&[(u16, Kind, u32)], &[u64]); 15] = [
         (&[], &[]),
         // The allowed time of two zones, and a second more.
@@ -294,7 +272,7 @@ fn fares_of_rail_journeys(rt: HostRuntime) -> Result<(), Fail> {
 
 #[test]
 fn fares_of_boardings(rt: HostRuntime) -> Result<(), Fail> {
-    let tables = Tables::read(rt.alloc(), FARES)?;
+    let tables = Tables::read(rt.alloc(), BUS_FARES)?;
     for (second, pays, peak, pence) in [
         (25_200, true, true, 175),
         (25_200, false, true, 0),

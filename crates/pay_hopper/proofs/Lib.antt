@@ -1,2 +1,2 @@
 pub mod LastPaying
-pub mod Sets
+pub mod PayingSets

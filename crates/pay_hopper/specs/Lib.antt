@@ -1,2 +1,3 @@
 pub mod Hopper
 pub mod LastPaid
+pub mod Words

@@ -1,18 +1,12 @@
+//! By the sample fare file, whose Hopper time is 3,600 seconds.
+
 use super::*;
 use pay_day::Moment;
 use pay_tables::Tables;
+use pay_tables::sample::BUS_FARES;
 use pay_taps::{Kind, Touch};
 use std::alloc::Global;
 use std::test::Fail;
-
-/// A fare file with a Hopper time of 3,600 seconds.
-const FARES: &str = "
-zones = 1
-minutes = [90]
-rules = { bus = 175, maximum = 860, hopper = 3600, same_free = 120, same_limit = 1800 }
-single = [{ from = 1, to = 1, peak = 280, off = 270 }]
-route = [{ place = 50, operator = 4 }]
-";
 
 /// Bus taps, each by its instant, its service day and its local second.
 fn bus_taps(alloc: Global, stamps: &[(u64, u32, u32)]) -> Result<Vec<Touch>, Fail> {
@@ -33,7 +27,7 @@ fn bus_taps(alloc: Global, stamps: &[(u64, u32, u32)]) -> Result<Vec<Touch>, Fai
 #[test]
 fn pays_by_the_last_paying_tap(rt: HostRuntime) -> Result<(), Fail> {
     let alloc = rt.alloc();
-    let tables = Tables::read(alloc, FARES)?;
+    let tables = Tables::read(alloc, BUS_FARES)?;
     let before_seven = (1_704_696_200, 19_730, 24_200);
     let seven = (1_704_697_200, 19_730, 25_200);
     let ten_to_eight = (1_704_700_200, 19_730, 28_200);
@@ -68,7 +62,7 @@ fn pays_by_the_last_paying_tap(rt: HostRuntime) -> Result<(), Fail> {
 #[test]
 fn the_first_pays_and_the_next_after_the_hour(rt: HostRuntime) -> Result<(), Fail> {
     let alloc = rt.alloc();
-    let tables = Tables::read(alloc, FARES)?;
+    let tables = Tables::read(alloc, BUS_FARES)?;
     let seven = Moment::from_parts(1_704_697_200, 19_730, 25_200);
     let rows = [
         ((1_704_697_200, 19_730, 25_200), false),

@@ -1,3 +1,3 @@
 pub mod LastLeg
-pub mod Runs
+pub mod OpenRun
 pub mod Divisions

@@ -2,3 +2,4 @@ pub mod LinkedLegs
 pub mod Journeys
 pub mod OpenRun
 pub mod Rows
+pub mod Words

@@ -38,8 +38,8 @@ fn close(done: &mut Vec<Journey>, current: Option<Run>) -> Result<(), AllocError
     Ok(())
 }
 
-/// Adds a leg that ends at another station than it began at, and answers the run that may go on.
-#[tactic(auto, using(crate::proofs::Runs::run_goes_on, crate::proofs::Runs::run_ends))]
+/// Adds a leg that ends at another station than it began at, and returns the run that may go on.
+#[tactic(auto, using(crate::proofs::OpenRun::run_goes_on, crate::proofs::OpenRun::run_ends))]
 fn add_leg(
     alloc: Global,
     tables: &Tables,
@@ -62,7 +62,7 @@ fn add_leg(
     Ok(Run::new(alloc, leg))
 }
 
-/// Adds the next part, and answers the run that may go on.
+/// Adds the next part, and returns the run that may go on.
 fn add(
     alloc: Global,
     tables: &Tables,

@@ -1,33 +1,13 @@
+//! By the sample fare file: stations 10 to 14, and twenty minutes between 10 and 12.
+
 use super::*;
 use pay_day::Moment;
 use pay_pairs::{Leg, RailPart};
 use pay_tables::Tables;
+use pay_tables::sample::BUS_FARES;
 use pay_taps::{Kind, Touch};
 use std::alloc::Global;
 use std::test::Fail;
-
-/// Stations 10 to 14, and twenty minutes between 10 and 12.
-const FARES: &str = "
-zones = 3
-minutes = [90, 100, 110]
-rules = { bus = 175, maximum = 860, hopper = 3600, same_free = 120, same_limit = 1800 }
-single = [
-  { from = 1, to = 1, peak = 280, off = 270 },
-  { from = 1, to = 2, peak = 340, off = 280 },
-  { from = 1, to = 3, peak = 370, off = 300 },
-  { from = 2, to = 2, peak = 200, off = 190 },
-  { from = 2, to = 3, peak = 210, off = 195 },
-  { from = 3, to = 3, peak = 200, off = 180 },
-]
-station = [
-  { place = 10, low = 1, high = 1, operator = 1 },
-  { place = 11, low = 1, high = 2, operator = 1 },
-  { place = 12, low = 2, high = 2, operator = 2 },
-  { place = 13, low = 2, high = 3, operator = 2 },
-  { place = 14, low = 3, high = 3, operator = 3 },
-]
-interchange = [{ a = 10, b = 12, seconds = 1200 }]
-";
 
 /// A leg by the station and the seconds after seven of its taps, or a tap alone.
 enum Part {
@@ -88,7 +68,7 @@ fn short(journey: &Journey) -> (&'static str, usize, u32, u32) {
 #[test]
 fn a_journey_is_as_many_legs_as_are_linked(rt: HostRuntime) -> Result<(), Fail> {
     let alloc = rt.alloc();
-    let tables = Tables::read(alloc, FARES)?;
+    let tables = Tables::read(alloc, BUS_FARES)?;
     let rows: [(&[Part], &[(&'static str, usize, u32, u32)]); 15] = [
         (&[], &[]),
         (&[Between((10, 0), (12, 1200))], &[("run", 1, 0, 1200)]),

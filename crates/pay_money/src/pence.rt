@@ -36,6 +36,8 @@ impl Pence {
     }
 }
 
+const _: () = prove!(Pence::ZERO.pence == 0);
+
 /// The sum, which has to fit in 64 bits.
 impl Add for Pence {
     type Output = Pence;

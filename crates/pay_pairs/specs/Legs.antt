@@ -5,7 +5,7 @@ use Rattle.pay_tables.specs.FareTables.{FareTables, station_at, allowed_seconds}
 use Rattle.pay_tables.specs.Spans.{span_of}
 use Rattle.pay_taps.specs.declared.tap.Kind.TheVariants.{In, Out}
 use Rattle.pay_taps.specs.declared.tap.Touch.{Touch}
-use Rattle.pay_taps.specs.Taps.{same_kind}
+use Rattle.pay_taps.specs.Words.{same_kind}
 use Rattle.pay_pairs.specs.declared.parts.RailPart.{RailPart}
 use Rattle.pay_pairs.specs.declared.parts.RailPart.TheVariants as part
 

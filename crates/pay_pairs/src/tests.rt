@@ -1,31 +1,12 @@
+//! By the sample fare file: stations 10 to 14 in the zones 1, 1 and 2, 2, 2 and 3, 3.
+
 use super::*;
 use pay_day::Moment;
 use pay_tables::Tables;
+use pay_tables::sample::BUS_FARES;
 use pay_taps::{Kind, Touch};
 use std::alloc::Global;
 use std::test::Fail;
-
-/// Stations 10 to 14 in the zones 1, 1 and 2, 2, 2 and 3, 3.
-const FARES: &str = "
-zones = 3
-minutes = [90, 100, 110]
-rules = { bus = 175, maximum = 860, hopper = 3600, same_free = 120, same_limit = 1800 }
-single = [
-  { from = 1, to = 1, peak = 280, off = 270 },
-  { from = 1, to = 2, peak = 340, off = 280 },
-  { from = 1, to = 3, peak = 370, off = 300 },
-  { from = 2, to = 2, peak = 200, off = 190 },
-  { from = 2, to = 3, peak = 210, off = 195 },
-  { from = 3, to = 3, peak = 200, off = 180 },
-]
-station = [
-  { place = 10, low = 1, high = 1, operator = 1 },
-  { place = 11, low = 1, high = 2, operator = 1 },
-  { place = 12, low = 2, high = 2, operator = 2 },
-  { place = 13, low = 2, high = 3, operator = 2 },
-  { place = 14, low = 3, high = 3, operator = 3 },
-]
-";
 
 /// A part that is expected, each tap of it by its station and its seconds after seven.
 enum Expected {
@@ -89,7 +70,7 @@ fn taps_of(alloc: Global, parts: &[RailPart]) -> Result<Vec<Touch>, Fail> {
 #[test]
 fn parts_taps_into_legs(rt: HostRuntime) -> Result<(), Fail> {
     let alloc = rt.alloc();
-    let tables = Tables::read(alloc, FARES)?;
+    let tables = Tables::read(alloc, BUS_FARES)?;
     let rows: [&[Expected]; 19] = [
         &[],
         &[LoneIn(10, 0)],

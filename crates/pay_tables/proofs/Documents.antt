@@ -2,16 +2,18 @@
 use Rattle.std.proofs.Common.{◌≡◌, ℕ, ℤ, ◌+◌, ◌-◌, pos, negsuc, min, Bool, true, false, cond, List, [], Option, Some, None, Result, Ok, Err, refl, sym, ap, ◌∙◌, codes}
 use Rattle.std.specs.Prelude.{ok_or, nat_le, nat_lt, ◌==◌, ◌&&◌, is_some}
 use Rattle.toml.specs.Data.{Data, Items, no_items, item, Members, get_member, as_integer, as_table, as_array}
+use Rattle.pay_day.specs.declared.limits.TheConstants.{FIRST_DAY, LAST_DAY}
+use Rattle.pay_tables.specs.declared.limits.TheConstants.{MOST_ZONES, MOST_MINUTES, MOST_FARE, MOST_HOPPER_SECONDS, MOST_SAME_SECONDS, MOST_INTERCHANGE_SECONDS, MOST_PLACE, MOST_OPERATORS, MOST_HOLIDAYS, MOST_PLACES, MOST_INTERCHANGES}
 use Rattle.pay_tables.specs.declared.fault.FareFileFault.{FareFileFault}
 use Rattle.pay_tables.specs.declared.fault.FareFileFault.TheVariants.{NotToml, MissingKey, WrongType, OutOfRange, Duplicate, UnknownPlace, TooMany, BandsNotYet}
 use Rattle.std.specs.Ordering.{nat_cmp}
-use Rattle.std.specs.FinMap.{FinMap}
+use Rattle.std.specs.FinMap.{FinMap, contains_key, empty}
 use Rattle.pay_tables.specs.declared.interchange.Interchange.{Interchange}
 use Rattle.pay_tables.specs.declared.place.Place.{Place}
 use Rattle.pay_tables.specs.declared.single.Single.{Single}
 use Rattle.pay_tables.specs.Fault.{◌>>=◌}
 use Rattle.pay_tables.specs.Keys.{needed, integer_in, integer_of, integer_at, table_of, table_at, array_of, array_at, items_len, items_of, items_or_none, items_at}
-use Rattle.pay_tables.specs.FareFile.{with_each, with_minutes, minutes_of, minutes_at, rules_of, single_of, with_single, singles_of, singles_at, has_single, has_each_single, has_holiday, with_holiday, holidays_at, station_of, route_of, is_taken, with_place, with_station, with_route, places_at, another_at, interchange_of, joins_stations, has_interchange, with_pair, with_interchange, interchanges_at, fare_file}
+use Rattle.pay_tables.specs.FareFile.{with_each, with_minutes, minutes_items_at, minutes_at, rules_of, single_of, another_single, with_single, singles_at, has_single, has_each_single, has_holiday, another_holiday, with_holiday, holidays_at, station_of, route_of, unless_taken, with_place, with_station, with_route, places_at, another_at, interchange_of, joins_stations, has_interchange, unless_joined, another_interchange, with_interchange, interchanges_at, zones_at, fare_file}
 
 abbrev other_fault : FareFileFault → Bool
 other_fault NotToml = false
@@ -67,105 +69,112 @@ items_at_other key most ms = items_or_none_other most (get_member key ms)
 
 minutes_at_other : (zones : ℕ) (ms : Members) → other (minutes_at zones ms) ≡ true
 minutes_at_other zones ms =
-    then_other (array_at (codes "minutes") ms) (minutes_of zones) (array_at_other (codes "minutes") ms) (λ items.
-    cond_other (items_len items == zones) _ (Err OutOfRange)
-    (with_each_other with_minutes (λ before d. then_other (integer_of 1 1_440 d) _ (integer_of_other 1 1_440 d) (λ n. refl)) [] items) refl)
+    then_other (minutes_items_at zones ms) (with_each with_minutes [])
+    (then_other (array_at (codes "minutes") ms) _ (array_at_other (codes "minutes") ms) (λ items. cond_other (items_len items == zones) (Ok items) (Err OutOfRange) refl refl))
+    (with_each_other with_minutes (λ before d. then_other (integer_of 1 MOST_MINUTES d) _ (integer_of_other 1 MOST_MINUTES d) (λ n. refl)) [])
 
 rules_of_other : (ms : Members) → other (rules_of ms) ≡ true
 rules_of_other ms =
-    integer_then (codes "bus") 0 100_000 ms _ (λ bus.
-    integer_then (codes "maximum") 0 100_000 ms _ (λ maximum.
-    integer_then (codes "hopper") 1 7_200 ms _ (λ hopper.
-    integer_then (codes "same_free") 0 7_200 ms _ (λ same_free.
-    integer_then (codes "same_limit") same_free 7_200 ms _ (λ same_limit. refl)))))
+    integer_then (codes "bus") 0 MOST_FARE ms _ (λ bus.
+    integer_then (codes "maximum") 0 MOST_FARE ms _ (λ maximum.
+    integer_then (codes "hopper") 1 MOST_HOPPER_SECONDS ms _ (λ hopper.
+    integer_then (codes "same_free") 0 MOST_SAME_SECONDS ms _ (λ same_free.
+    integer_then (codes "same_limit") same_free MOST_SAME_SECONDS ms _ (λ same_limit. refl)))))
 
 single_of_other : (zones : ℕ) (d : Data) → other (single_of zones d) ≡ true
 single_of_other zones d =
     then_other (table_of d) _ (ok_or_other (as_table d)) (λ ms.
     integer_then (codes "from") 1 zones ms _ (λ from.
     integer_then (codes "to") from zones ms _ (λ to.
-    integer_then (codes "peak") 0 100_000 ms _ (λ peak.
-    integer_then (codes "off") 0 100_000 ms _ (λ off. refl)))))
+    integer_then (codes "peak") 0 MOST_FARE ms _ (λ peak.
+    integer_then (codes "off") 0 MOST_FARE ms _ (λ off. refl)))))
 
 with_single_other : (zones : ℕ) (before : List Single) (d : Data) → other (with_single zones before d) ≡ true
-with_single_other zones before d = then_other (single_of zones d) _ (single_of_other zones d) (λ single. cond_other (has_single before single.span) (Err Duplicate) _ refl refl)
+with_single_other zones before d =
+    then_other (another_single zones before d) _
+    (then_other (single_of zones d) _ (single_of_other zones d) (λ single. cond_other (has_single before single.span) (Err Duplicate) (Ok single) refl refl)) (λ single. refl)
 
 singles_at_other : (zones : ℕ) (ms : Members) → other (singles_at zones ms) ≡ true
 singles_at_other zones ms =
-    then_other (array_at (codes "single") ms) (singles_of zones) (array_at_other (codes "single") ms) (λ items.
+    then_other (array_at (codes "single") ms) _ (array_at_other (codes "single") ms) (λ items.
     then_other (with_each (with_single zones) [] items) _ (with_each_other (with_single zones) (with_single_other zones) [] items) (λ singles.
     cond_other (has_each_single singles zones) (Ok singles) (Err MissingKey) refl refl))
 
 with_holiday_other : (before : List ℕ) (d : Data) → other (with_holiday before d) ≡ true
-with_holiday_other before d = then_other (integer_of 4 50_000 d) _ (integer_of_other 4 50_000 d) (λ day. cond_other (has_holiday before day) (Err Duplicate) _ refl refl)
+with_holiday_other before d =
+    then_other (another_holiday before d) _
+    (then_other (integer_of FIRST_DAY LAST_DAY d) _ (integer_of_other FIRST_DAY LAST_DAY d) (λ day. cond_other (has_holiday before day) (Err Duplicate) (Ok day) refl refl)) (λ day. refl)
 
 holidays_at_other : (ms : Members) → other (holidays_at ms) ≡ true
-holidays_at_other ms = then_other (items_at (codes "holidays") 64 ms) _ (items_at_other (codes "holidays") 64 ms) (with_each_other with_holiday with_holiday_other [])
+holidays_at_other ms = then_other (items_at (codes "holidays") MOST_HOLIDAYS ms) _ (items_at_other (codes "holidays") MOST_HOLIDAYS ms) (with_each_other with_holiday with_holiday_other [])
 
 station_of_other : (zones : ℕ) (d : Data) → other (station_of zones d) ≡ true
 station_of_other zones d =
     then_other (table_of d) _ (ok_or_other (as_table d)) (λ ms.
-    integer_then (codes "place") 1 65_535 ms _ (λ place.
+    integer_then (codes "place") 1 MOST_PLACE ms _ (λ place.
     integer_then (codes "low") 1 zones ms _ (λ low.
     integer_then (codes "high") low (min (low + 1) zones) ms _ (λ high.
-    integer_then (codes "operator") 1 16 ms _ (λ operator. refl)))))
+    integer_then (codes "operator") 1 MOST_OPERATORS ms _ (λ operator. refl)))))
 
 route_of_other : (d : Data) → other (route_of d) ≡ true
 route_of_other d =
     then_other (table_of d) _ (ok_or_other (as_table d)) (λ ms.
-    integer_then (codes "place") 1 65_535 ms _ (λ place.
-    integer_then (codes "operator") 1 16 ms _ (λ operator. refl)))
+    integer_then (codes "place") 1 MOST_PLACE ms _ (λ place.
+    integer_then (codes "operator") 1 MOST_OPERATORS ms _ (λ operator. refl)))
 
-with_place_other : (places : List (ℕ × Place)) (place : ℕ × Place) → other (with_place places place) ≡ true
-with_place_other places place = cond_other (is_taken places place.0) (Err Duplicate) _ refl refl
+with_place_other : (places : FinMap nat_cmp Place) (place : ℕ × Place) → other (with_place places place) ≡ true
+with_place_other places place =
+    then_other (unless_taken places place) _ (cond_other (contains_key places place.0) (Err Duplicate) (Ok place) refl refl) (λ free. refl)
 
-with_station_other : (zones : ℕ) (places : List (ℕ × Place)) (d : Data) → other (with_station zones places d) ≡ true
+with_station_other : (zones : ℕ) (places : FinMap nat_cmp Place) (d : Data) → other (with_station zones places d) ≡ true
 with_station_other zones places d = then_other (station_of zones d) _ (station_of_other zones d) (with_place_other places)
 
-with_route_other : (places : List (ℕ × Place)) (d : Data) → other (with_route places d) ≡ true
+with_route_other : (places : FinMap nat_cmp Place) (d : Data) → other (with_route places d) ≡ true
 with_route_other places d = then_other (route_of d) _ (route_of_other d) (with_place_other places)
 
 places_at_other : (zones : ℕ) (ms : Members) → other (places_at zones ms) ≡ true
 places_at_other zones ms =
-    then_other (items_at (codes "station") 1_024 ms) _ (items_at_other (codes "station") 1_024 ms) (λ station_items.
-    then_other (with_each (with_station zones) [] station_items) _ (with_each_other (with_station zones) (with_station_other zones) [] station_items) (λ stations.
-    then_other (items_at (codes "route") (1_024 - items_len station_items) ms) _ (items_at_other (codes "route") (1_024 - items_len station_items) ms) (λ route_items.
-    then_other (with_each with_route stations route_items) _ (with_each_other with_route with_route_other stations route_items) (λ places. refl))))
+    then_other (items_at (codes "station") MOST_PLACES ms) _ (items_at_other (codes "station") MOST_PLACES ms) (λ station_items.
+    then_other (with_each (with_station zones) empty station_items) _ (with_each_other (with_station zones) (with_station_other zones) empty station_items) (λ stations.
+    then_other (items_at (codes "route") (MOST_PLACES - items_len station_items) ms) _ (items_at_other (codes "route") (MOST_PLACES - items_len station_items) ms)
+    (with_each_other with_route with_route_other stations)))
 
 another_then : {A : Type 0} (number : ℕ) (key : List ℕ) (ms : Members) (f : ℕ → Result A FareFileFault) → ((n : ℕ) → other (f n) ≡ true) → other (another_at number key ms >>= f) ≡ true
 another_then number key ms f h =
-    then_other (another_at number key ms) f (integer_then key 1 65_535 ms _ (λ n. cond_other (number == n) (Err OutOfRange) (Ok n) refl refl)) h
+    then_other (another_at number key ms) f (integer_then key 1 MOST_PLACE ms _ (λ n. cond_other (number == n) (Err OutOfRange) (Ok n) refl refl)) h
 
 interchange_of_other : (d : Data) → other (interchange_of d) ≡ true
 interchange_of_other d =
     then_other (table_of d) _ (ok_or_other (as_table d)) (λ ms.
-    integer_then (codes "a") 1 65_535 ms _ (λ a.
+    integer_then (codes "a") 1 MOST_PLACE ms _ (λ a.
     another_then a (codes "b") ms _ (λ b.
-    integer_then (codes "seconds") 1 7_200 ms _ (λ seconds. refl))))
+    integer_then (codes "seconds") 1 MOST_INTERCHANGE_SECONDS ms _ (λ seconds. refl))))
 
-with_pair_other : (before : List Interchange) (pair : Interchange) → other (with_pair before pair) ≡ true
-with_pair_other before pair = cond_other (has_interchange before pair) (Err Duplicate) _ refl refl
+unless_joined_other : (before : List Interchange) (pair : Interchange) → other (unless_joined before pair) ≡ true
+unless_joined_other before pair = cond_other (has_interchange before pair) (Err Duplicate) (Ok pair) refl refl
 
 with_interchange_other : (places : FinMap nat_cmp Place) (before : List Interchange) (d : Data) → other (with_interchange places before d) ≡ true
 with_interchange_other places before d =
-    then_other (interchange_of d) _ (interchange_of_other d) (λ pair.
-    cond_other (joins_stations places pair) (with_pair before pair) (Err UnknownPlace) (with_pair_other before pair) refl)
+    then_other (another_interchange places before d) _
+    (then_other (interchange_of d) _ (interchange_of_other d) (λ pair.
+    cond_other (joins_stations places pair) (unless_joined before pair) (Err UnknownPlace) (unless_joined_other before pair) refl)) (λ pair. refl)
 
 interchanges_at_other : (places : FinMap nat_cmp Place) (ms : Members) → other (interchanges_at places ms) ≡ true
 interchanges_at_other places ms =
-    then_other (items_at (codes "interchange") 256 ms) _ (items_at_other (codes "interchange") 256 ms) (with_each_other (with_interchange places) (with_interchange_other places) [])
+    then_other (items_at (codes "interchange") MOST_INTERCHANGES ms) _ (items_at_other (codes "interchange") MOST_INTERCHANGES ms) (with_each_other (with_interchange places) (with_interchange_other places) [])
 
 fare_file_other : (ms : Members) → other (fare_file ms) ≡ true
 fare_file_other ms =
-    cond_other (is_some (get_member (codes "band") ms)) (Err BandsNotYet) _ refl
-    (integer_then (codes "zones") 1 9 ms _ (λ zones.
+    then_other (zones_at ms) _
+    (cond_other (is_some (get_member (codes "band") ms)) (Err BandsNotYet) _ refl
+    (needed_other (integer_of 1 MOST_ZONES) (get_member (codes "zones") ms) (integer_of_other 1 MOST_ZONES))) (λ zones.
     then_other (minutes_at zones ms) _ (minutes_at_other zones ms) (λ minutes.
     then_other (table_at (codes "rules") ms >>= rules_of) _
     (then_other (table_at (codes "rules") ms) rules_of (needed_other table_of (get_member (codes "rules") ms) (λ d. ok_or_other (as_table d))) rules_of_other) (λ rules.
     then_other (singles_at zones ms) _ (singles_at_other zones ms) (λ singles.
     then_other (holidays_at ms) _ (holidays_at_other ms) (λ holidays.
     then_other (places_at zones ms) _ (places_at_other zones ms) (λ places.
-    then_other (interchanges_at places ms) _ (interchanges_at_other places ms) (λ interchanges. refl))))))))
+    then_other (interchanges_at places ms) _ (interchanges_at_other places ms) (λ interchanges. refl)))))))
 
 refused_as_none : {X : Type 0} (r : Result X FareFileFault) → other r ≡ true → r ≡ Err NotToml → ⊥
 refused_as_none (Ok x) h e = absurd cc

@@ -4,6 +4,4 @@ pub mod Spans
 pub mod FoundItems
 pub mod Documents
 pub mod Ranges
-pub mod Placing
 pub mod Inclusive
-pub mod Rows

@@ -2,17 +2,15 @@
 use Rattle.std.proofs.Common.{◌≡◌, ℕ, ℤ, ◌+◌, ◌-◌, ◌≤◌, ◌<◌, pos, negsuc, zero, suc, min, Bool, true, false, cond, List, [], ◌∷◌, ◌++◌, length, length-append, Option, Some, None, Result, Ok, Err, refl, ap, ◌∙◌, codes, arith, inl, inr}
 use Rattle.std.specs.Prelude.{◌≢◌, ok_or, nat_le, ◌==◌, ◌&&◌, ◌||◌, ◌⊎◌, is_some, All, IfOk, IfSome, IsSome}
 use Rattle.std.specs.List.{list_all, list_any, find, range_with_len}
-use Rattle.std.specs.Ordering.{nat_cmp}
-use Rattle.std.specs.Map.{lookup}
-use Rattle.std.specs.BTreeMap.{is_at}
-use Rattle.std.specs.FinMap.{FinMap, get}
+use Rattle.std.specs.Ordering.{nat_cmp, eq_by_cmp}
+use Rattle.std.specs.Cmp.{nat_cmp_total}
+use Rattle.std.specs.FinMap.{FinMap, get, empty, contains_key, get-empty, get-insert}
 use Rattle.std.proofs.lemmas.Bool.Decides.{nat_tests}
-use Rattle.std.proofs.lemmas.List.Elements.{All-nil, All-cons, All-head, All-tail, All-append}
-use Rattle.pay_tables.proofs.NumberMaps.{get-lookup}
+use Rattle.std.proofs.lemmas.List.Elements.{All-nil, All-cons, All-append}
 use Rattle.toml.specs.Data.{Data, Items, no_items, item, Members, get_member, as_integer}
+use Rattle.pay_tables.specs.declared.limits.TheConstants.{MOST_ZONES, MOST_MINUTES, MOST_FARE, MOST_HOPPER_SECONDS, MOST_SAME_SECONDS, MOST_INTERCHANGE_SECONDS, MOST_PLACE, MOST_OPERATORS, MOST_PLACES, MOST_INTERCHANGES}
 use Rattle.pay_tables.specs.declared.fault.FareFileFault.{FareFileFault}
 use Rattle.pay_tables.specs.declared.fault.FareFileFault.TheVariants.{WrongType, OutOfRange, Duplicate, UnknownPlace, MissingKey, BandsNotYet}
-use Rattle.pay_tables.specs.declared.interchange.Interchange.{Interchange}
 use Rattle.pay_tables.specs.declared.place.Place.{Place}
 use Rattle.pay_tables.specs.declared.single.Single.{Single}
 use Rattle.pay_tables.specs.declared.zones.Span.{Span}
@@ -20,7 +18,7 @@ use Rattle.pay_tables.specs.Fault.{◌>>=◌}
 use Rattle.pay_tables.specs.Keys.{needed, integer_in, integer_of, integer_at, table_of, table_at, array_at, items_len, items_at}
 use Rattle.pay_tables.specs.Spans.{IsSpan, same_span}
 use Rattle.pay_tables.specs.FareTables.{AreRules, IsSingle, IsPlace, IsInterchange, IsFareTables}
-use Rattle.pay_tables.specs.FareFile.{with_each, with_minutes, minutes_of, minutes_at, rules_of, single_of, with_single, singles_of, singles_at, has_single, has_singles_from, has_each_single, holidays_at, station_of, route_of, is_taken, with_place, with_station, with_route, places_at, another_at, interchange_of, joins_stations, has_interchange, with_pair, with_interchange, interchanges_at, fare_file}
+use Rattle.pay_tables.specs.FareFile.{with_each, with_minutes, minutes_items_at, minutes_at, rules_of, single_of, another_single, with_single, singles_at, has_single, has_singles_from, has_each_single, holidays_at, station_of, route_of, unless_taken, with_place, with_station, with_route, places_at, another_at, interchange_of, joins_stations, has_interchange, unless_joined, another_interchange, with_interchange, interchanges_at, zones_at, fare_file}
 
 -- ---- steps
 
@@ -70,7 +68,7 @@ integer_then Q key least most ms f h = IfOk_then (λ n. (least ≤ n) × (n ≤ 
 -- ---- minutes
 
 abbrev IsMinutes : ℕ → Type 0
-IsMinutes n = (1 ≤ n) × (n ≤ 1_440)
+IsMinutes n = (1 ≤ n) × (n ≤ MOST_MINUTES)
 
 -- so many numbers in their range, with those that are to come
 abbrev AreMinutes : ℕ → List ℕ → Items → Type 0
@@ -78,27 +76,27 @@ AreMinutes zones ns ds = All IsMinutes ns × (length ns + items_len ds ≡ zones
 
 with_minutes_keeps : (zones : ℕ) (ns : List ℕ) (d : Data) (ds : Items) → AreMinutes zones ns (item d ds) → IfOk (with_minutes ns d) (λ more. AreMinutes zones more ds)
 with_minutes_keeps zones ns d ds h =
-    IfOk_then IsMinutes (λ more. AreMinutes zones more ds) (integer_of 1 1_440 d) (λ n. Ok (ns ++ n ∷ [])) (integer_of_range 1 1_440 d)
+    IfOk_then IsMinutes (λ more. AreMinutes zones more ds) (integer_of 1 MOST_MINUTES d) (λ n. Ok (ns ++ n ∷ [])) (integer_of_range 1 MOST_MINUTES d)
     (λ n r. (All-append IsMinutes ns (n ∷ []) h.0 (All-cons IsMinutes n [] r (All-nil IsMinutes)), omega (arith, h.1, length-append ns (n ∷ []))))
 
 minutes_are : (zones : ℕ) (ms : Members) → IfOk (minutes_at zones ms) (λ ns. AreMinutes zones ns no_items)
 minutes_are zones ms =
-    IfOk_after (λ ns. AreMinutes zones ns no_items) (array_at (codes "minutes") ms) (minutes_of zones) (λ items.
-    IfOk_cond (λ ns. AreMinutes zones ns no_items) (items_len items == zones) (with_each with_minutes [] items) OutOfRange (λ e.
-    with_each_keeps (AreMinutes zones) with_minutes (with_minutes_keeps zones) [] items (All-nil IsMinutes, counted items e)))
+    IfOk_then (λ items. items_len items ≡ zones) (λ ns. AreMinutes zones ns no_items) (minutes_items_at zones ms) (with_each with_minutes [])
+    (IfOk_after (λ items. items_len items ≡ zones) (array_at (codes "minutes") ms) _ (λ items. IfOk_cond (λ items. items_len items ≡ zones) (items_len items == zones) (Ok items) OutOfRange (counted items))) (λ items e.
+    with_each_keeps (AreMinutes zones) with_minutes (with_minutes_keeps zones) [] items (All-nil IsMinutes, omega (arith, e)))
   where
-    counted : (items : Items) → (items_len items == zones) ≡ true → 0 + items_len items ≡ zones
+    counted : (items : Items) → (items_len items == zones) ≡ true → items_len items ≡ zones
     counted items e = grind (arith, nat_tests)
 
 -- ---- rules
 
 rules_are : (ms : Members) → IfOk (rules_of ms) AreRules
 rules_are ms =
-    integer_then AreRules (codes "bus") 0 100_000 ms _ (λ bus b.
-    integer_then AreRules (codes "maximum") 0 100_000 ms _ (λ maximum m.
-    integer_then AreRules (codes "hopper") 1 7_200 ms _ (λ hopper h.
-    integer_then AreRules (codes "same_free") 0 7_200 ms _ (λ same_free f.
-    integer_then AreRules (codes "same_limit") same_free 7_200 ms _ (λ same_limit l.
+    integer_then AreRules (codes "bus") 0 MOST_FARE ms _ (λ bus b.
+    integer_then AreRules (codes "maximum") 0 MOST_FARE ms _ (λ maximum m.
+    integer_then AreRules (codes "hopper") 1 MOST_HOPPER_SECONDS ms _ (λ hopper h.
+    integer_then AreRules (codes "same_free") 0 MOST_SAME_SECONDS ms _ (λ same_free f.
+    integer_then AreRules (codes "same_limit") same_free MOST_SAME_SECONDS ms _ (λ same_limit l.
     record { bus = b.1; maximum = m.1; hopper = h; same_free = l.0; same_limit = l.1 })))))
 
 -- ---- single fares
@@ -108,15 +106,15 @@ single_is zones d =
     IfOk_after (IsSingle zones) (table_of d) _ (λ ms.
     integer_then (IsSingle zones) (codes "from") 1 zones ms _ (λ from a.
     integer_then (IsSingle zones) (codes "to") from zones ms _ (λ to b.
-    integer_then (IsSingle zones) (codes "peak") 0 100_000 ms _ (λ peak p.
-    integer_then (IsSingle zones) (codes "off") 0 100_000 ms _ (λ off o.
+    integer_then (IsSingle zones) (codes "peak") 0 MOST_FARE ms _ (λ peak p.
+    integer_then (IsSingle zones) (codes "off") 0 MOST_FARE ms _ (λ off o.
     record { span = record { from = a.0; to = b }; peak = p.1; off = o.1 })))))
 
 with_single_keeps : (zones : ℕ) (before : List Single) (d : Data) (ds : Items) → All (IsSingle zones) before → IfOk (with_single zones before d) (All (IsSingle zones))
 with_single_keeps zones before d ds h =
-    IfOk_then (IsSingle zones) (All (IsSingle zones)) (single_of zones d) _ (single_is zones d) (λ single s.
-    IfOk_unless (All (IsSingle zones)) (has_single before single.span) (Ok (before ++ single ∷ [])) Duplicate
-    (All-append (IsSingle zones) before (single ∷ []) h (All-cons (IsSingle zones) single [] s (All-nil (IsSingle zones)))))
+    IfOk_then (IsSingle zones) (All (IsSingle zones)) (another_single zones before d) _
+    (IfOk_then (IsSingle zones) (IsSingle zones) (single_of zones d) _ (single_is zones d) (λ single s. IfOk_unless (IsSingle zones) (has_single before single.span) (Ok single) Duplicate s)) (λ single s.
+    All-append (IsSingle zones) before (single ∷ []) h (All-cons (IsSingle zones) single [] s (All-nil (IsSingle zones))))
 
 -- single fares within the zones, one for each span
 abbrev AreSingles : ℕ → List Single → Type 0
@@ -124,7 +122,7 @@ AreSingles zones singles = All (IsSingle zones) singles × (has_each_single sing
 
 singles_are : (zones : ℕ) (ms : Members) → IfOk (singles_at zones ms) (AreSingles zones)
 singles_are zones ms =
-    IfOk_after (AreSingles zones) (array_at (codes "single") ms) (singles_of zones) (λ items.
+    IfOk_after (AreSingles zones) (array_at (codes "single") ms) _ (λ items.
     IfOk_then (All (IsSingle zones)) (AreSingles zones) (with_each (with_single zones) [] items) _
     (with_each_keeps (λ singles _. All (IsSingle zones) singles) (with_single zones) (with_single_keeps zones) [] items (All-nil (IsSingle zones))) (λ singles h.
     IfOk_cond (AreSingles zones) (has_each_single singles zones) (Ok singles) MissingKey (λ e. (h, e))))
@@ -164,20 +162,17 @@ each_span singles zones h span within =
 -- ---- places
 
 -- places that may stand
-abbrev ArePlaces : ℕ → List (ℕ × Place) → Type 0
-ArePlaces zones places = All (λ place. IsPlace zones place.1) places
+abbrev ArePlaces : ℕ → FinMap nat_cmp Place → Type 0
+ArePlaces zones places = (number : ℕ) → IfSome (get places number) (IsPlace zones)
 
-with_place_keeps : (zones : ℕ) (places : List (ℕ × Place)) (place : ℕ × Place) → ArePlaces zones places → IsPlace zones place.1 → IfOk (with_place places place) (ArePlaces zones)
+empty_are : (zones : ℕ) → ArePlaces zones empty
+empty_are zones number = rw (get-empty nat_cmp number) tt
+
+with_place_keeps : (zones : ℕ) (places : FinMap nat_cmp Place) (place : ℕ × Place) → ArePlaces zones places → IsPlace zones place.1 → IfOk (with_place places place) (ArePlaces zones)
 with_place_keeps zones places place all h =
     let P : ℕ × Place → Type 0 = λ p. IsPlace zones p.1 in
-    IfOk_unless (ArePlaces zones) (is_taken places place.0) (Ok (places ++ place ∷ [])) Duplicate (All-append P places (place ∷ []) all (All-cons P place [] h (All-nil P)))
-
--- what a map of them has at a number may stand
-looked_up : (zones : ℕ) (places : List (ℕ × Place)) (number : ℕ) → ArePlaces zones places → IfSome (lookup (is_at (nat_cmp number)) places) (IsPlace zones)
-looked_up zones [] number all = tt
-looked_up zones (p ∷ ps) number all =
-    let P : ℕ × Place → Type 0 = λ q. IsPlace zones q.1 in
-    either zones (is_at (nat_cmp number) p.0) p.1 (lookup (is_at (nat_cmp number)) ps) (All-head P p ps all) (looked_up zones ps number (All-tail P p ps all))
+    IfOk_then P (ArePlaces zones) (unless_taken places place) _ (IfOk_unless P (contains_key places place.0) (Ok place) Duplicate h) (λ free f number.
+    rw (get-insert nat_cmp_total places free.0 free.1 number) (either zones (eq_by_cmp nat_cmp number free.0) free.1 (get places number) f (all number)))
   where
     either : (zones : ℕ) (b : Bool) (place : Place) (other : Option Place) → IsPlace zones place → IfSome other (IsPlace zones) → IfSome (cond b (Some place) other) (IsPlace zones)
     either zones true place other h others = h
@@ -187,81 +182,75 @@ station_is : (zones : ℕ) (d : Data) → IfOk (station_of zones d) (λ p. IsPla
 station_is zones d =
     let P : ℕ × Place → Type 0 = λ p. IsPlace zones p.1 in
     IfOk_after P (table_of d) _ (λ ms.
-    integer_then P (codes "place") 1 65_535 ms _ (λ place n.
+    integer_then P (codes "place") 1 MOST_PLACE ms _ (λ place n.
     integer_then P (codes "low") 1 zones ms _ (λ low l.
     integer_then P (codes "high") low (min (low + 1) zones) ms _ (λ high h.
-    integer_then P (codes "operator") 1 16 ms _ (λ operator o.
+    integer_then P (codes "operator") 1 MOST_OPERATORS ms _ (λ operator o.
     (l.0, h.0, omega (arith, h.1), omega (arith, h.1), o))))))
 
 route_is : (zones : ℕ) → 1 ≤ zones → (d : Data) → IfOk (route_of d) (λ p. IsPlace zones p.1)
 route_is zones z d =
     let P : ℕ × Place → Type 0 = λ p. IsPlace zones p.1 in
     IfOk_after P (table_of d) _ (λ ms.
-    integer_then P (codes "place") 1 65_535 ms _ (λ place n.
-    integer_then P (codes "operator") 1 16 ms _ (λ operator o.
+    integer_then P (codes "place") 1 MOST_PLACE ms _ (λ place n.
+    integer_then P (codes "operator") 1 MOST_OPERATORS ms _ (λ operator o.
     (z, o))))
 
-places_are : (zones : ℕ) → 1 ≤ zones → (ms : Members) → IfOk (places_at zones ms) (λ places. (number : ℕ) → IfSome (get places number) (IsPlace zones))
+places_are : (zones : ℕ) → 1 ≤ zones → (ms : Members) → IfOk (places_at zones ms) (ArePlaces zones)
 places_are zones z ms =
     let P : ℕ × Place → Type 0 = λ p. IsPlace zones p.1 in
-    let Q : FinMap nat_cmp Place → Type 0 = λ places. (number : ℕ) → IfSome (get places number) (IsPlace zones) in
-    IfOk_after Q (items_at (codes "station") 1_024 ms) _ (λ station_items.
-    IfOk_then (ArePlaces zones) Q (with_each (with_station zones) [] station_items) _
+    IfOk_after (ArePlaces zones) (items_at (codes "station") MOST_PLACES ms) _ (λ station_items.
+    IfOk_then (ArePlaces zones) (ArePlaces zones) (with_each (with_station zones) empty station_items) _
     (with_each_keeps (λ places _. ArePlaces zones places) (with_station zones) (λ places d ds all.
-    IfOk_then P (ArePlaces zones) (station_of zones d) (with_place places) (station_is zones d) (λ station h. with_place_keeps zones places station all h)) [] station_items (All-nil P)) (λ stations s.
-    IfOk_after Q (items_at (codes "route") (1_024 - items_len station_items) ms) _ (λ route_items.
-    IfOk_then (ArePlaces zones) Q (with_each with_route stations route_items) _
-    (with_each_keeps (λ places _. ArePlaces zones places) with_route (λ places d ds all.
-    IfOk_then P (ArePlaces zones) (route_of d) (with_place places) (route_is zones z d) (λ route h. with_place_keeps zones places route all h)) stations route_items s) (λ places all number.
-    rw (get-lookup places number) (looked_up zones places number all)))))
+    IfOk_then P (ArePlaces zones) (station_of zones d) (with_place places) (station_is zones d) (λ station h. with_place_keeps zones places station all h)) empty station_items (empty_are zones)) (λ stations s.
+    IfOk_after (ArePlaces zones) (items_at (codes "route") (MOST_PLACES - items_len station_items) ms) _ (λ route_items.
+    with_each_keeps (λ places _. ArePlaces zones places) with_route (λ places d ds all.
+    IfOk_then P (ArePlaces zones) (route_of d) (with_place places) (route_is zones z d) (λ route h. with_place_keeps zones places route all h)) stations route_items s)))
 
 -- ---- interchanges
 
 -- the number of another place
 abbrev IsAnother : ℕ → ℕ → Type 0
-IsAnother number n = ((1 ≤ n) × (n ≤ 65_535)) × (number ≢ n)
+IsAnother number n = ((1 ≤ n) × (n ≤ MOST_PLACE)) × (number ≢ n)
 
 another_is : (number : ℕ) (key : List ℕ) (ms : Members) → IfOk (another_at number key ms) (IsAnother number)
-another_is number key ms = integer_then (IsAnother number) key 1 65_535 ms _ (λ n r. unless_same (number == n) n r (differ n))
+another_is number key ms = integer_then (IsAnother number) key 1 MOST_PLACE ms _ (λ n r. unless_same (number == n) n r (differ n))
   where
     differ : (n : ℕ) → (number == n) ≡ false → number ≢ n
     differ n e = grind (arith, nat_tests)
 
-    unless_same : (b : Bool) (n : ℕ) → (1 ≤ n) × (n ≤ 65_535) → (b ≡ false → number ≢ n) → IfOk (cond b (Err OutOfRange) (Ok n)) (IsAnother number)
+    unless_same : (b : Bool) (n : ℕ) → (1 ≤ n) × (n ≤ MOST_PLACE) → (b ≡ false → number ≢ n) → IfOk (cond b (Err OutOfRange) (Ok n)) (IsAnother number)
     unless_same true n r h = tt
     unless_same false n r h = (r, h refl)
 
 interchange_is : (d : Data) → IfOk (interchange_of d) IsInterchange
 interchange_is d =
     IfOk_after IsInterchange (table_of d) _ (λ ms.
-    integer_then IsInterchange (codes "a") 1 65_535 ms _ (λ a r.
+    integer_then IsInterchange (codes "a") 1 MOST_PLACE ms _ (λ a r.
     IfOk_then (IsAnother a) IsInterchange (another_at a (codes "b") ms) _ (another_is a (codes "b") ms) (λ b other.
-    integer_then IsInterchange (codes "seconds") 1 7_200 ms _ (λ seconds s.
+    integer_then IsInterchange (codes "seconds") 1 MOST_INTERCHANGE_SECONDS ms _ (λ seconds s.
     record { a = r; b = other.0; apart = other.1; seconds = s }))))
-
-with_pair_keeps : (before : List Interchange) (pair : Interchange) → All IsInterchange before → IsInterchange pair → IfOk (with_pair before pair) (All IsInterchange)
-with_pair_keeps before pair all h =
-    IfOk_unless (All IsInterchange) (has_interchange before pair) (Ok (before ++ pair ∷ [])) Duplicate
-    (All-append IsInterchange before (pair ∷ []) all (All-cons IsInterchange pair [] h (All-nil IsInterchange)))
 
 interchanges_are : (places : FinMap nat_cmp Place) (ms : Members) → IfOk (interchanges_at places ms) (All IsInterchange)
 interchanges_are places ms =
-    IfOk_after (All IsInterchange) (items_at (codes "interchange") 256 ms) _ (λ items.
+    IfOk_after (All IsInterchange) (items_at (codes "interchange") MOST_INTERCHANGES ms) _ (λ items.
     with_each_keeps (λ interchanges _. All IsInterchange interchanges) (with_interchange places) (λ before d ds all.
-    IfOk_then IsInterchange (All IsInterchange) (interchange_of d) _ (interchange_is d) (λ pair h.
-    IfOk_cond (All IsInterchange) (joins_stations places pair) (with_pair before pair) UnknownPlace (λ _. with_pair_keeps before pair all h))) [] items (All-nil IsInterchange))
+    IfOk_then IsInterchange (All IsInterchange) (another_interchange places before d) _
+    (IfOk_then IsInterchange IsInterchange (interchange_of d) _ (interchange_is d) (λ pair h.
+    IfOk_cond IsInterchange (joins_stations places pair) (unless_joined before pair) UnknownPlace (λ _. IfOk_unless IsInterchange (has_interchange before pair) (Ok pair) Duplicate h))) (λ pair h.
+    All-append IsInterchange before (pair ∷ []) all (All-cons IsInterchange pair [] h (All-nil IsInterchange)))) [] items (All-nil IsInterchange))
 
 -- ---- the file
 
 pub fare_file_is : (ms : Members) → IfOk (fare_file ms) IsFareTables
 fare_file_is ms =
-    IfOk_unless IsFareTables (is_some (get_member (codes "band") ms)) _ BandsNotYet
-    (integer_then IsFareTables (codes "zones") 1 9 ms _ (λ zones z.
+    IfOk_then (λ n. (1 ≤ n) × (n ≤ MOST_ZONES)) IsFareTables (zones_at ms) _
+    (IfOk_unless (λ n. (1 ≤ n) × (n ≤ MOST_ZONES)) (is_some (get_member (codes "band") ms)) _ BandsNotYet (needed_integer 1 MOST_ZONES (get_member (codes "zones") ms))) (λ zones z.
     IfOk_then (λ ns. AreMinutes zones ns no_items) IsFareTables (minutes_at zones ms) _ (minutes_are zones ms) (λ minutes m.
     IfOk_then AreRules IsFareTables (table_at (codes "rules") ms >>= rules_of) _ (IfOk_after AreRules (table_at (codes "rules") ms) rules_of rules_are) (λ rules r.
     IfOk_then (AreSingles zones) IsFareTables (singles_at zones ms) _ (singles_are zones ms) (λ singles s.
     IfOk_after IsFareTables (holidays_at ms) _ (λ holidays.
-    IfOk_then (λ places. (number : ℕ) → IfSome (get places number) (IsPlace zones)) IsFareTables (places_at zones ms) _ (places_are zones z.0 ms) (λ places p.
+    IfOk_then (ArePlaces zones) IsFareTables (places_at zones ms) _ (places_are zones z.0 ms) (λ places p.
     IfOk_then (All IsInterchange) IsFareTables (interchanges_at places ms) _ (interchanges_are places ms) (λ interchanges i.
     record {
       zones = z;
@@ -272,4 +261,4 @@ fare_file_is ms =
       each_span = each_span singles zones s.1;
       places = p;
       interchanges = i;
-    }))))))))
+    })))))))

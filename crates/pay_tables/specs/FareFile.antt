@@ -2,9 +2,11 @@
 use Rattle.std.specs.Prelude.{ℕ, ◌+◌, ◌-◌, ◌==◌, ◌&&◌, min, nat_eq, Bool, true, false, List, [], ◌∷◌, ◌++◌, Option, Some, None, Result, Ok, Err, codes, is_some, if◌then◌else◌}
 use Rattle.std.specs.List.{list_all, list_any, range_with_len}
 use Rattle.std.specs.Ordering.{nat_cmp}
-use Rattle.std.specs.FinMap.{FinMap, from_entries, get}
+use Rattle.std.specs.FinMap.{FinMap, contains_key, empty, get, insert}
 use Rattle.toml.specs.Data.{Data, Items, no_items, item, Members, get_member}
 use Rattle.toml.specs.Parse.{parse_document}
+use Rattle.pay_day.specs.declared.limits.TheConstants.{FIRST_DAY, LAST_DAY}
+use Rattle.pay_tables.specs.declared.limits.TheConstants.{MOST_ZONES, MOST_MINUTES, MOST_FARE, MOST_HOPPER_SECONDS, MOST_SAME_SECONDS, MOST_INTERCHANGE_SECONDS, MOST_PLACE, MOST_OPERATORS, MOST_HOLIDAYS, MOST_PLACES, MOST_INTERCHANGES}
 use Rattle.pay_tables.specs.declared.fault.FareFileFault.{FareFileFault}
 use Rattle.pay_tables.specs.declared.fault.FareFileFault.TheVariants.{NotToml, MissingKey, OutOfRange, Duplicate, UnknownPlace, BandsNotYet}
 use Rattle.pay_tables.specs.declared.interchange.Interchange.{Interchange}
@@ -28,24 +30,26 @@ with_each with_one before (item d ds) = do
 -- one more number of minutes
 abbrev pub with_minutes : List ℕ → Data → Result (List ℕ) FareFileFault
 with_minutes before d = do
-  n ← integer_of 1 1_440 d
+  n ← integer_of 1 MOST_MINUTES d
   Ok (before ++ n ∷ [])
 
 -- the minutes that a leg may last, one number for each count of zones
-abbrev pub minutes_of : ℕ → Items → Result (List ℕ) FareFileFault
-minutes_of zones items = if items_len items == zones then with_each with_minutes [] items else Err OutOfRange
+abbrev pub minutes_items_at : ℕ → Members → Result Items FareFileFault
+minutes_items_at zones ms = do
+  items ← array_at (codes "minutes") ms
+  if items_len items == zones then Ok items else Err OutOfRange
 
 abbrev pub minutes_at : ℕ → Members → Result (List ℕ) FareFileFault
-minutes_at zones ms = array_at (codes "minutes") ms >>= minutes_of zones
+minutes_at zones ms = minutes_items_at zones ms >>= with_each with_minutes []
 
--- the rules: prices up to 100,000 pence, times up to 7,200 seconds, and no time of a free leg at one station above the limit of such a leg
+-- the rules; the time of a free leg at one station is not above the limit of such a leg
 abbrev pub rules_of : Members → Result Rules FareFileFault
 rules_of ms = do
-  bus ← integer_at (codes "bus") 0 100_000 ms
-  maximum ← integer_at (codes "maximum") 0 100_000 ms
-  hopper ← integer_at (codes "hopper") 1 7_200 ms
-  same_free ← integer_at (codes "same_free") 0 7_200 ms
-  same_limit ← integer_at (codes "same_limit") same_free 7_200 ms
+  bus ← integer_at (codes "bus") 0 MOST_FARE ms
+  maximum ← integer_at (codes "maximum") 0 MOST_FARE ms
+  hopper ← integer_at (codes "hopper") 1 MOST_HOPPER_SECONDS ms
+  same_free ← integer_at (codes "same_free") 0 MOST_SAME_SECONDS ms
+  same_limit ← integer_at (codes "same_limit") same_free MOST_SAME_SECONDS ms
   Ok (record { bus = bus; maximum = maximum; hopper = hopper; same_free = same_free; same_limit = same_limit })
 
 -- a single fare: its span, and its two prices
@@ -54,8 +58,8 @@ single_of zones d = do
   ms ← table_of d
   from ← integer_at (codes "from") 1 zones ms
   to ← integer_at (codes "to") from zones ms
-  peak ← integer_at (codes "peak") 0 100_000 ms
-  off ← integer_at (codes "off") 0 100_000 ms
+  peak ← integer_at (codes "peak") 0 MOST_FARE ms
+  off ← integer_at (codes "off") 0 MOST_FARE ms
   Ok (record { span = record { from = from; to = to }; peak = peak; off = off })
 
 -- whether a span has a single fare
@@ -70,88 +74,99 @@ abbrev pub has_each_single : List Single → ℕ → Bool
 has_each_single singles zones = list_all (has_singles_from singles zones) (range_with_len 1 zones)
 
 -- one more single fare, of a span that has none
+abbrev pub another_single : ℕ → List Single → Data → Result Single FareFileFault
+another_single zones before d = do
+  single ← single_of zones d
+  if has_single before single.span then Err Duplicate else Ok single
+
 abbrev pub with_single : ℕ → List Single → Data → Result (List Single) FareFileFault
 with_single zones before d = do
-  single ← single_of zones d
-  if has_single before single.span then Err Duplicate else Ok (before ++ single ∷ [])
+  single ← another_single zones before d
+  Ok (before ++ single ∷ [])
 
 -- the single fares: one for each span within the zones
-abbrev pub singles_of : ℕ → Items → Result (List Single) FareFileFault
-singles_of zones items = do
-  singles ← with_each (with_single zones) [] items
-  if has_each_single singles zones then Ok singles else Err MissingKey
+abbrev pub complete : ℕ → List Single → Result (List Single) FareFileFault
+complete zones singles = if has_each_single singles zones then Ok singles else Err MissingKey
 
 abbrev pub singles_at : ℕ → Members → Result (List Single) FareFileFault
-singles_at zones ms = array_at (codes "single") ms >>= singles_of zones
+singles_at zones ms = do
+  items ← array_at (codes "single") ms
+  singles ← with_each (with_single zones) [] items
+  complete zones singles
 
 -- whether a day is among the holidays
 abbrev pub has_holiday : List ℕ → ℕ → Bool
 has_holiday holidays day = list_any (nat_eq day) holidays
 
 -- one more public holiday, that is not among them
+abbrev pub another_holiday : List ℕ → Data → Result ℕ FareFileFault
+another_holiday before d = do
+  day ← integer_of FIRST_DAY LAST_DAY d
+  if has_holiday before day then Err Duplicate else Ok day
+
 abbrev pub with_holiday : List ℕ → Data → Result (List ℕ) FareFileFault
 with_holiday before d = do
-  day ← integer_of 4 50_000 d
-  if has_holiday before day then Err Duplicate else Ok (before ++ day ∷ [])
+  day ← another_holiday before d
+  Ok (before ++ day ∷ [])
 
--- the public holidays, up to 64
+-- the public holidays
 abbrev pub holidays_at : Members → Result (List ℕ) FareFileFault
-holidays_at ms = items_at (codes "holidays") 64 ms >>= with_each with_holiday []
+holidays_at ms = items_at (codes "holidays") MOST_HOLIDAYS ms >>= with_each with_holiday []
 
 -- a station: its place number, its zone or its two neighbouring zones, and its operator
 abbrev pub station_of : ℕ → Data → Result (ℕ × Place) FareFileFault
 station_of zones d = do
   ms ← table_of d
-  place ← integer_at (codes "place") 1 65_535 ms
+  place ← integer_at (codes "place") 1 MOST_PLACE ms
   low ← integer_at (codes "low") 1 zones ms
   high ← integer_at (codes "high") low (min (low + 1) zones) ms
-  operator ← integer_at (codes "operator") 1 16 ms
+  operator ← integer_at (codes "operator") 1 MOST_OPERATORS ms
   Ok (place, Station low high operator)
 
 -- a route: its place number, and its operator
 abbrev pub route_of : Data → Result (ℕ × Place) FareFileFault
 route_of d = do
   ms ← table_of d
-  place ← integer_at (codes "place") 1 65_535 ms
-  operator ← integer_at (codes "operator") 1 16 ms
+  place ← integer_at (codes "place") 1 MOST_PLACE ms
+  operator ← integer_at (codes "operator") 1 MOST_OPERATORS ms
   Ok (place, Route operator)
 
--- whether a place has a number
-abbrev pub is_taken : List (ℕ × Place) → ℕ → Bool
-is_taken places number = list_any (λ place. nat_eq number place.0) places
-
 -- one more place, under a number that no other has
-abbrev pub with_place : List (ℕ × Place) → ℕ × Place → Result (List (ℕ × Place)) FareFileFault
-with_place places place = if is_taken places place.0 then Err Duplicate else Ok (places ++ place ∷ [])
+abbrev pub unless_taken : FinMap nat_cmp Place → ℕ × Place → Result (ℕ × Place) FareFileFault
+unless_taken places place = if contains_key places place.0 then Err Duplicate else Ok place
 
-abbrev pub with_station : ℕ → List (ℕ × Place) → Data → Result (List (ℕ × Place)) FareFileFault
+abbrev pub with_place : FinMap nat_cmp Place → ℕ × Place → Result (FinMap nat_cmp Place) FareFileFault
+with_place places place = do
+  free ← unless_taken places place
+  Ok (insert places free.0 free.1)
+
+abbrev pub with_station : ℕ → FinMap nat_cmp Place → Data → Result (FinMap nat_cmp Place) FareFileFault
 with_station zones places d = station_of zones d >>= with_place places
 
-abbrev pub with_route : List (ℕ × Place) → Data → Result (List (ℕ × Place)) FareFileFault
+abbrev pub with_route : FinMap nat_cmp Place → Data → Result (FinMap nat_cmp Place) FareFileFault
 with_route places d = route_of d >>= with_place places
 
--- the places of a file: its stations and its routes, up to 1,024 together
+-- the places of a file: its stations and its routes, whose limit is for both together
 abbrev pub places_at : ℕ → Members → Result (FinMap nat_cmp Place) FareFileFault
 places_at zones ms = do
-  station_items ← items_at (codes "station") 1_024 ms
-  stations ← with_each (with_station zones) [] station_items
-  route_items ← items_at (codes "route") (1_024 - items_len station_items) ms
-  places ← with_each with_route stations route_items
-  Ok (from_entries places)
+  station_items ← items_at (codes "station") MOST_PLACES ms
+  stations ← with_each (with_station zones) empty station_items
+  route_items ← items_at (codes "route") (MOST_PLACES - items_len station_items) ms
+  with_each with_route stations route_items
 
 -- the number of another place
 abbrev pub another_at : ℕ → List ℕ → Members → Result ℕ FareFileFault
 another_at number key ms = do
-  other ← integer_at key 1 65_535 ms
+  other ← integer_at key 1 MOST_PLACE ms
   if number == other then Err OutOfRange else Ok other
 
 -- an interchange: its two places, that are different, and its seconds
 abbrev pub interchange_of : Data → Result Interchange FareFileFault
 interchange_of d = do
   ms ← table_of d
-  a ← integer_at (codes "a") 1 65_535 ms
+  a ← integer_at (codes "a") 1 MOST_PLACE ms
   b ← another_at a (codes "b") ms
-  seconds ← integer_at (codes "seconds") 1 7_200 ms
+  seconds ← integer_at (codes "seconds") 1 MOST_INTERCHANGE_SECONDS ms
   Ok (record { a = a; b = b; seconds = seconds })
 
 -- whether what stands at a number is a station
@@ -171,22 +186,31 @@ abbrev pub has_interchange : List Interchange → Interchange → Bool
 has_interchange interchanges pair = list_any (is_between pair.a pair.b) interchanges
 
 -- one more interchange, between stations that have none
-abbrev pub with_pair : List Interchange → Interchange → Result (List Interchange) FareFileFault
-with_pair before pair = if has_interchange before pair then Err Duplicate else Ok (before ++ pair ∷ [])
+abbrev pub unless_joined : List Interchange → Interchange → Result Interchange FareFileFault
+unless_joined before pair = if has_interchange before pair then Err Duplicate else Ok pair
+
+abbrev pub another_interchange : FinMap nat_cmp Place → List Interchange → Data → Result Interchange FareFileFault
+another_interchange places before d = do
+  pair ← interchange_of d
+  if joins_stations places pair then unless_joined before pair else Err UnknownPlace
 
 abbrev pub with_interchange : FinMap nat_cmp Place → List Interchange → Data → Result (List Interchange) FareFileFault
 with_interchange places before d = do
-  pair ← interchange_of d
-  if joins_stations places pair then with_pair before pair else Err UnknownPlace
+  pair ← another_interchange places before d
+  Ok (before ++ pair ∷ [])
 
--- the interchanges between the stations of a file, up to 256
+-- the interchanges between the stations of a file
 abbrev pub interchanges_at : FinMap nat_cmp Place → Members → Result (List Interchange) FareFileFault
-interchanges_at places ms = items_at (codes "interchange") 256 ms >>= with_each (with_interchange places) []
+interchanges_at places ms = items_at (codes "interchange") MOST_INTERCHANGES ms >>= with_each (with_interchange places) []
+
+-- how many fare zones there are, of a file without bands
+abbrev pub zones_at : Members → Result ℕ FareFileFault
+zones_at ms = if is_some (get_member (codes "band") ms) then Err BandsNotYet else integer_at (codes "zones") 1 MOST_ZONES ms
 
 -- what a file says, where it is a document
 abbrev pub fare_file : Members → Result FareTables FareFileFault
-fare_file ms = if is_some (get_member (codes "band") ms) then Err BandsNotYet else do
-  zones ← integer_at (codes "zones") 1 9 ms
+fare_file ms = do
+  zones ← zones_at ms
   minutes ← minutes_at zones ms
   rules ← table_at (codes "rules") ms >>= rules_of
   singles ← singles_at zones ms

@@ -4,6 +4,7 @@ use Rattle.std.specs.List.{list_any, find}
 use Rattle.std.specs.Ordering.{nat_cmp}
 use Rattle.std.specs.FinMap.{FinMap, get}
 use Rattle.pay_tables.specs.declared.interchange.Interchange.{Interchange}
+use Rattle.pay_tables.specs.declared.limits.TheConstants.{MOST_ZONES, MOST_MINUTES, MOST_FARE, MOST_HOPPER_SECONDS, MOST_SAME_SECONDS, MOST_INTERCHANGE_SECONDS, MOST_PLACE, MOST_OPERATORS}
 use Rattle.pay_tables.specs.declared.place.Place.{Place}
 use Rattle.pay_tables.specs.declared.place.Place.TheVariants.{Station, Route}
 use Rattle.pay_tables.specs.declared.rules.Rules.{Rules}
@@ -11,17 +12,17 @@ use Rattle.pay_tables.specs.declared.single.Single.{Single}
 use Rattle.pay_tables.specs.declared.zones.Span.{Span}
 use Rattle.pay_tables.specs.Spans.{IsSpan, same_span}
 
--- what rules may say: prices up to 100,000 pence, times up to 7,200 seconds
+-- what rules may say
 pub record AreRules (r : Rules) : Type 0 where
-  pub bus : r.bus ≤ 100_000
-  pub maximum : r.maximum ≤ 100_000
-  pub hopper : (1 ≤ r.hopper) × (r.hopper ≤ 7_200)
+  pub bus : r.bus ≤ MOST_FARE
+  pub maximum : r.maximum ≤ MOST_FARE
+  pub hopper : (1 ≤ r.hopper) × (r.hopper ≤ MOST_HOPPER_SECONDS)
   pub same_free : r.same_free ≤ r.same_limit
-  pub same_limit : r.same_limit ≤ 7_200
+  pub same_limit : r.same_limit ≤ MOST_SAME_SECONDS
 
--- operators are numbered from 1 to 16
+-- operators are numbered from 1 on
 abbrev pub IsOperator : ℕ → Type 0
-IsOperator operator = (1 ≤ operator) × (operator ≤ 16)
+IsOperator operator = (1 ≤ operator) × (operator ≤ MOST_OPERATORS)
 
 -- what may stand at a number: a station in one of the zones or in two neighbouring ones, or a route
 abbrev pub IsPlace : ℕ → Place → Type 0
@@ -31,15 +32,15 @@ IsPlace zones (Route operator) = (1 ≤ zones) × IsOperator operator
 -- what a single fare may be
 pub record IsSingle (zones : ℕ) (single : Single) : Type 0 where
   pub span : IsSpan zones single.span
-  pub peak : single.peak ≤ 100_000
-  pub off : single.off ≤ 100_000
+  pub peak : single.peak ≤ MOST_FARE
+  pub off : single.off ≤ MOST_FARE
 
 -- what an interchange may be: between two different places
 pub record IsInterchange (pair : Interchange) : Type 0 where
-  pub a : (1 ≤ pair.a) × (pair.a ≤ 65_535)
-  pub b : (1 ≤ pair.b) × (pair.b ≤ 65_535)
+  pub a : (1 ≤ pair.a) × (pair.a ≤ MOST_PLACE)
+  pub b : (1 ≤ pair.b) × (pair.b ≤ MOST_PLACE)
   pub apart : pair.a ≢ pair.b
-  pub seconds : (1 ≤ pair.seconds) × (pair.seconds ≤ 7_200)
+  pub seconds : (1 ≤ pair.seconds) × (pair.seconds ≤ MOST_INTERCHANGE_SECONDS)
 
 -- what a fare file says
 pub record FareTables : Type 0 where
@@ -91,9 +92,9 @@ interchange tables a b = seconds_of (find (is_between a b) tables.interchanges)
 
 -- each number is in its range, and each span within the zones has a single fare
 pub record IsFareTables (t : FareTables) : Type 0 where
-  pub zones : (1 ≤ t.zones) × (t.zones ≤ 9)
+  pub zones : (1 ≤ t.zones) × (t.zones ≤ MOST_ZONES)
   pub minutes : length t.minutes ≡ t.zones
-  pub each_minutes : All (λ n. (1 ≤ n) × (n ≤ 1_440)) t.minutes
+  pub each_minutes : All (λ n. (1 ≤ n) × (n ≤ MOST_MINUTES)) t.minutes
   pub rules : AreRules t.rules
   pub singles : All (IsSingle t.zones) t.singles
   pub each_span : (span : Span) → IsSpan t.zones span → IsSome (single_of_span t span)

@@ -4,5 +4,5 @@ pub mod FareTables
 pub mod Codes
 pub mod Keys
 pub mod FareFile
-pub mod Placed
+pub mod Words
 pub mod Rows

@@ -1,15 +1,19 @@
 -- Small fare files, worked by hand.
 use Rattle.std.specs.Prelude.{◌≡◌, ℕ, true, false, List, Some, None, [], ◌∷◌, pos, negsuc, Ok, Err, codes, refl}
-use Rattle.std.specs.FinMap.{from_entries}
+use Rattle.std.specs.List.{fold}
+use Rattle.std.specs.Ordering.{nat_cmp}
+use Rattle.std.specs.FinMap.{FinMap, empty, insert, gets}
 use Rattle.toml.specs.Data.{Data, string, integer, array, table, Items, no_items, item, Members, no_members, member}
+use Rattle.toml.specs.Parse.{parse_document}
 use Rattle.toml.proofs.OnLiterals.{toml_on_literals}
-use Rattle.pay_tables.specs.declared.fault.FareFileFault.TheVariants.{NotToml, MissingKey, WrongType, OutOfRange, Duplicate, TooMany, BandsNotYet}
+use Rattle.pay_tables.specs.declared.fault.FareFileFault.TheVariants.{NotToml, MissingKey, WrongType, OutOfRange, Duplicate, UnknownPlace, TooMany, BandsNotYet}
 use Rattle.pay_tables.specs.declared.interchange.Interchange.{Interchange}
+use Rattle.pay_tables.specs.declared.place.Place.{Place}
 use Rattle.pay_tables.specs.declared.place.Place.TheVariants.{Station, Route}
 use Rattle.pay_tables.specs.declared.single.Single.{Single}
 use Rattle.pay_tables.specs.FareTables.{FareTables, interchange}
 use Rattle.pay_tables.specs.Keys.{integer_at, items_at}
-use Rattle.pay_tables.specs.FareFile.{minutes_at, rules_of, singles_at, holidays_at, places_at, interchange_of, is_station, with_pair, interchanges_at, fare_file, fare_text}
+use Rattle.pay_tables.specs.FareFile.{minutes_at, rules_of, singles_at, holidays_at, places_at, interchange_of, is_station, unless_joined, with_interchange, interchanges_at, fare_file, fare_document, fare_text}
 
 -- ---- how the rows are written
 
@@ -46,6 +50,10 @@ file zones minutes r singles holidays stations routes =
     member (codes "holidays") (array (numbers holidays)) (member (codes "minutes") (array (numbers minutes)) (member (codes "route") (array routes)
     (member (codes "rules") (table r) (member (codes "single") (array singles) (member (codes "station") (array stations) (number (codes "zones") zones no_members))))))
 
+-- places, put into the map one after another
+abbrev placed : List (ℕ × Place) → FinMap nat_cmp Place
+placed places = fold (λ before place. insert before place.0 place.1) empty places
+
 -- what a single fare says
 abbrev says : ℕ → ℕ → ℕ → ℕ → Single
 says from to peak off = record { span = record { from = from; to = to }; peak = peak; off = off }
@@ -68,16 +76,16 @@ sample_tables = record {
   rules = record { bus = 175; maximum = 860; hopper = 3_600; same_free = 120; same_limit = 1_800 };
   singles = says 1 1 280 270 ∷ says 1 2 340 280 ∷ says 1 3 370 300 ∷ says 2 2 200 190 ∷ says 2 3 210 195 ∷ says 3 3 200 180 ∷ [];
   holidays = 19_723 ∷ [];
-  places = from_entries ((10, Station 1 1 1) ∷ (11, Station 1 2 1) ∷ (12, Station 2 2 2) ∷ (13, Station 2 3 2) ∷ (14, Station 3 3 3) ∷ (50, Route 4) ∷ []);
+  places = placed ((10, Station 1 1 1) ∷ (11, Station 1 2 1) ∷ (12, Station 2 2 2) ∷ (13, Station 2 3 2) ∷ (14, Station 3 3 3) ∷ (50, Route 4) ∷ []);
   interchanges = [];
 }
 
 sample : fare_file (file 3 (90 ∷ 100 ∷ 110 ∷ []) sample_rules sample_singles (19_723 ∷ []) sample_stations (one (route 50 4))) ≡ Ok sample_tables
-sample = refl
+sample = simp gets
 
 -- holidays, stations and routes may be missing
 least : fare_file (member (codes "minutes") (array (numbers (1 ∷ []))) (member (codes "rules") (table (rules 0 100_000 7_200 0 0)) (member (codes "single") (array (one (fare 1 1 0 100_000))) (number (codes "zones") 1 no_members))))
-    ≡ Ok (record { zones = 1; minutes = 1 ∷ []; rules = record { bus = 0; maximum = 100_000; hopper = 7_200; same_free = 0; same_limit = 0 }; singles = says 1 1 0 100_000 ∷ []; holidays = []; places = from_entries []; interchanges = [] })
+    ≡ Ok (record { zones = 1; minutes = 1 ∷ []; rules = record { bus = 0; maximum = 100_000; hopper = 7_200; same_free = 0; same_limit = 0 }; singles = says 1 1 0 100_000 ∷ []; holidays = []; places = empty; interchanges = [] })
 least = refl
 
 -- ---- the order of the keys
@@ -237,14 +245,14 @@ same_holiday = refl
 abbrev places : Items → Items → Members
 places stations routes = member (codes "route") (array routes) (member (codes "station") (array stations) no_members)
 
-no_places : places_at 3 no_members ≡ Ok (from_entries [])
+no_places : places_at 3 no_members ≡ Ok empty
 no_places = refl
 
-two_routes : places_at 3 (places no_items (item (route 7 1) (one (route 65_535 16)))) ≡ Ok (from_entries ((7, Route 1) ∷ (65_535, Route 16) ∷ []))
-two_routes = refl
+two_routes : places_at 3 (places no_items (item (route 7 1) (one (route 65_535 16)))) ≡ Ok (placed ((7, Route 1) ∷ (65_535, Route 16) ∷ []))
+two_routes = simp gets
 
-at_the_edge : places_at 3 (places (one (station 1 2 3 16)) no_items) ≡ Ok (from_entries ((1, Station 2 3 16) ∷ []))
-at_the_edge = refl
+at_the_edge : places_at 3 (places (one (station 1 2 3 16)) no_items) ≡ Ok (placed ((1, Station 2 3 16) ∷ []))
+at_the_edge = simp gets
 
 over_two_edges : places_at 3 (places (one (station 1 1 3 1)) no_items) ≡ Err OutOfRange
 over_two_edges = refl
@@ -262,17 +270,17 @@ no_operator : places_at 3 (places (one (station 1 1 1 0)) no_items) ≡ Err OutO
 no_operator = refl
 
 same_station : places_at 3 (places (item (station 10 1 1 1) (one (station 10 2 2 2))) no_items) ≡ Err Duplicate
-same_station = refl
+same_station = simp gets
 
 same_route : places_at 3 (places no_items (item (route 50 4) (one (route 50 5)))) ≡ Err Duplicate
-same_route = refl
+same_route = simp gets
 
 route_at_a_station : places_at 3 (places (one (station 10 1 1 1)) (one (route 10 1))) ≡ Err Duplicate
-route_at_a_station = refl
+route_at_a_station = simp gets
 
 -- the second item's own keys come before its place is looked for
 operator_before_place : places_at 3 (places (one (station 10 1 1 1)) (one (route 10 17))) ≡ Err OutOfRange
-operator_before_place = refl
+operator_before_place = simp gets
 
 -- too many items come before the items
 three_at_most_two : items_at (codes "route") 2 (member (codes "route") (array (item (integer (pos 1)) (item (route 1 1) (one (route 2 1))))) no_members) ≡ Err TooMany
@@ -334,13 +342,13 @@ without_seconds : interchange_of (table (number (codes "a") 10 (number (codes "b
 without_seconds = refl
 
 -- two stations have one interchange, in either order
-same_stations : with_pair (between 10 12 1_200 ∷ []) (between 10 12 1_200) ≡ Err Duplicate
+same_stations : unless_joined (between 10 12 1_200 ∷ []) (between 10 12 1_200) ≡ Err Duplicate
 same_stations = refl
 
-same_stations_back : with_pair (between 10 13 60 ∷ between 10 12 1_200 ∷ []) (between 12 10 600) ≡ Err Duplicate
+same_stations_back : unless_joined (between 10 13 60 ∷ between 10 12 1_200 ∷ []) (between 12 10 600) ≡ Err Duplicate
 same_stations_back = refl
 
-one_other_station : with_pair (between 10 12 1_200 ∷ []) (between 12 13 600) ≡ Ok (between 10 12 1_200 ∷ between 12 13 600 ∷ [])
+one_other_station : unless_joined (between 10 12 1_200 ∷ []) (between 12 13 600) ≡ Ok (between 12 13 600)
 one_other_station = refl
 
 nothing_there : is_station None ≡ false
@@ -352,11 +360,51 @@ station_there = refl
 route_there : is_station (Some (Route 4)) ≡ false
 route_there = refl
 
-no_interchanges : interchanges_at (from_entries []) no_members ≡ Ok []
+no_interchanges : interchanges_at empty no_members ≡ Ok []
 no_interchanges = refl
 
-interchanges_that_are_no_array : interchanges_at (from_entries []) (number (codes "interchange") 1 no_members) ≡ Err WrongType
+interchanges_that_are_no_array : interchanges_at empty (number (codes "interchange") 1 no_members) ≡ Err WrongType
 interchanges_that_are_no_array = refl
+
+-- stations 10, 12 and 13, and route 50
+abbrev some_places : FinMap nat_cmp Place
+some_places = placed ((10, Station 1 1 1) ∷ (12, Station 2 2 2) ∷ (13, Station 2 3 2) ∷ (50, Route 4) ∷ [])
+
+between_two_stations : with_interchange some_places [] (change 10 12 1_200) ≡ Ok (between 10 12 1_200 ∷ [])
+between_two_stations = simp gets
+
+back : with_interchange some_places [] (change 12 10 60) ≡ Ok (between 12 10 60 ∷ [])
+back = simp gets
+
+from_a_route : with_interchange some_places [] (change 50 10 1_200) ≡ Err UnknownPlace
+from_a_route = simp gets
+
+to_a_route : with_interchange some_places [] (change 10 50 1_200) ≡ Err UnknownPlace
+to_a_route = simp gets
+
+-- a place that is not there
+from_nowhere : with_interchange some_places [] (change 99 10 1_200) ≡ Err UnknownPlace
+from_nowhere = simp gets
+
+to_nowhere : with_interchange some_places [] (change 10 99 1_200) ≡ Err UnknownPlace
+to_nowhere = simp gets
+
+-- an item's own numbers come before its places are looked for
+seconds_before_places : with_interchange some_places [] (change 10 99 7_201) ≡ Err OutOfRange
+seconds_before_places = refl
+
+abbrev interchanges : Items → Members
+interchanges items = member (codes "interchange") (array items) no_members
+
+two_of_them : interchanges_at some_places (interchanges (item (change 10 12 1_200) (one (change 13 12 60)))) ≡ Ok (between 10 12 1_200 ∷ between 13 12 60 ∷ [])
+two_of_them = simp gets
+
+-- of two faults the first item's
+duplicate_before_unknown : interchanges_at some_places (interchanges (item (change 10 12 1_200) (item (change 12 10 1_200) (one (change 10 99 1_200))))) ≡ Err Duplicate
+duplicate_before_unknown = simp gets
+
+unknown_before_duplicate : interchanges_at some_places (interchanges (item (change 10 12 1_200) (item (change 10 99 1_200) (one (change 12 10 1_200))))) ≡ Err UnknownPlace
+unknown_before_duplicate = simp gets
 
 -- how long a listed one may last, asked for in either order
 abbrev with_interchanges : FareTables
@@ -366,7 +414,7 @@ with_interchanges = record {
   rules = record { bus = 175; maximum = 860; hopper = 3_600; same_free = 120; same_limit = 1_800 };
   singles = [];
   holidays = [];
-  places = from_entries [];
+  places = empty;
   interchanges = between 10 12 1_200 ∷ between 14 12 600 ∷ [];
 }
 
@@ -387,18 +435,27 @@ not_listed = refl
 abbrev short_text : List ℕ
 short_text = codes "zones = 1\nminutes = [90]\nsingle = [{ from = 1, to = 1, peak = 280, off = 270 }]\n[rules]\nbus = 175\nmaximum = 860\nhopper = 3600\nsame_free = 120\nsame_limit = 1800\n[[route]]\nplace = 50\noperator = 4\n"
 
-from_text : fare_text short_text
+-- its keys in their order
+abbrev short_file : Members
+short_file =
+    member (codes "minutes") (array (numbers (90 ∷ []))) (member (codes "route") (array (one (route 50 4)))
+    (member (codes "rules") (table sample_rules) (member (codes "single") (array (one (fare 1 1 280 270))) (number (codes "zones") 1 no_members))))
+
+from_text : parse_document short_text ≡ Some short_file
+unfolding toml_on_literals
+from_text = refl
+
+from_file : fare_document (Some short_file)
     ≡ Ok (record {
       zones = 1;
       minutes = 90 ∷ [];
       rules = record { bus = 175; maximum = 860; hopper = 3_600; same_free = 120; same_limit = 1_800 };
       singles = says 1 1 280 270 ∷ [];
       holidays = [];
-      places = from_entries ((50, Route 4) ∷ []);
+      places = placed ((50, Route 4) ∷ []);
       interchanges = [];
     })
-unfolding toml_on_literals
-from_text = refl
+from_file = simp gets
 
 no_toml : fare_text (codes "zones") ≡ Err NotToml
 unfolding toml_on_literals

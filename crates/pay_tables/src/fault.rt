@@ -1,7 +1,9 @@
 ghost use Rattle.std.specs.Prelude.{◌≡◌};
-ghost use Rattle.pay_tables.specs.declared.fault.FareFileFault.TheVariants.{Memory};
+ghost use Rattle.pay_tables.specs.declared.fault.FareFileFault.TheVariants.{Memory, NotToml};
+ghost use Rattle.toml.specs.Errors.{IsMemory};
 
 use std::alloc::AllocFailed;
+use toml::de;
 
 /// Why a fare file is refused: the first fault in the order of the keys.
 #[derive(Clone, Copy, Debug, PartialEq, Eq)]
@@ -71,5 +73,18 @@ impl<T: Drop> From<AllocFailed<T>> for FareFileFault {
 
     fn from(_failed: AllocFailed<T>) -> FareFileFault {
         FareFileFault::Memory
+    }
+}
+
+/// Want of memory, or else a text that is no document.
+impl From<de::Error> for FareFileFault {
+    ghost from_gives = { λ error fault. (IsMemory error → fault ≡ Memory) × (¬ IsMemory error → fault ≡ NotToml) };
+
+    fn from(error: de::Error) -> FareFileFault {
+        if error.is_memory() {
+            FareFileFault::Memory
+        } else {
+            FareFileFault::NotToml
+        }
     }
 }

@@ -1,18 +1,18 @@
 //! The interchanges.
-ghost use Rattle.std.specs.Prelude.{◌≡◌, ◌≤◌, IfOk};
+ghost use Rattle.std.specs.Prelude.{◌≡◌, ◌≤◌, Err, IfOk, IsOk, codes};
 ghost use Rattle.toml.specs.View.{view, table_view};
+ghost use Rattle.pay_tables.specs.declared.limits.TheConstants.{MOST_INTERCHANGES, MOST_PLACE};
 ghost use Rattle.pay_tables.specs.Fault.{GivesUnlessMemory};
-ghost use Rattle.pay_tables.specs.FareFile.{another_at, interchange_of, joins_stations, has_interchange, interchanges_at};
+ghost use Rattle.pay_tables.specs.Keys.{items_at};
+ghost use Rattle.pay_tables.specs.FareFile.{another_at, another_interchange, interchange_of, joins_stations, has_interchange, interchanges_at};
 
 use crate::fault::FareFileFault;
 use crate::interchange::Interchange;
 use crate::keys::{inner_table, integer_at, items_at};
+use crate::limits::{MOST_INTERCHANGE_SECONDS, MOST_INTERCHANGES, MOST_PLACE};
 use crate::places::Places;
 use std::alloc::Global;
 use toml::{Table, Value};
-
-/// How many interchanges a fare file may list.
-const MOST_INTERCHANGES: usize = 256;
 
 /// The interchanges of a fare file, which are between its stations.
 pub fn interchanges_at(
@@ -20,30 +20,43 @@ pub fn interchanges_at(
     file: &Table,
     places: &Places,
 ) -> Result<Vec<Interchange>, FareFileFault>
-    ensures { GivesUnlessMemory (λ interchanges. interchanges.items) result (interchanges_at places.now (table_view file.now)) }
+    ensures value { GivesUnlessMemory (λ interchanges. interchanges.items) result (interchanges_at places.now (table_view file.now)) }
+    ensures memory { result ≡ Err FareFileFault.Memory → IsOk (items_at (codes "interchange") MOST_INTERCHANGES (table_view file.now)) }
 {
     let items = items_at(file, "interchange", MOST_INTERCHANGES)?;
     let mut interchanges = Vec::new(alloc);
     for item in items {
-        let pair = interchange(item)?;
-        if !joins_stations(places, pair) {
-            return Err(FareFileFault::UnknownPlace);
-        }
-        if has_interchange(&interchanges, pair) {
-            return Err(FareFileFault::Duplicate);
-        }
+        let pair = another_interchange(&interchanges, item, places)?;
         interchanges.push(pair)?;
     }
     Ok(interchanges)
+}
+
+/// The interchange that an item says, between stations that have none yet.
+fn another_interchange(
+    interchanges: &[Interchange],
+    item: &Value,
+    places: &Places,
+) -> Result<Interchange, FareFileFault>
+    ensures { result ≡ another_interchange places.now interchanges.now (view item.now) }
+{
+    let pair = interchange(item)?;
+    if !joins_stations(places, pair) {
+        return Err(FareFileFault::UnknownPlace);
+    }
+    if has_interchange(interchanges, pair) {
+        return Err(FareFileFault::Duplicate);
+    }
+    Ok(pair)
 }
 
 fn interchange(item: &Value) -> Result<Interchange, FareFileFault>
     ensures { result ≡ interchange_of (view item.now) }
 {
     let table = inner_table(item)?;
-    let a = integer_at(table, "a", 1, 65_535)?;
+    let a = integer_at(table, "a", 1, MOST_PLACE)?;
     let b = another_at(table, "b", a)?;
-    let seconds = integer_at(table, "seconds", 1, 7_200)?;
+    let seconds = integer_at(table, "seconds", 1, MOST_INTERCHANGE_SECONDS)?;
     Ok(Interchange {
         a: a as u16,
         b: b as u16,
@@ -54,9 +67,9 @@ fn interchange(item: &Value) -> Result<Interchange, FareFileFault>
 /// The number of a place at a key, which may not be a given one.
 fn another_at(table: &Table, key: &str, number: u32) -> Result<u32, FareFileFault>
     ensures value { result ≡ another_at number key.now (table_view table.now) }
-    ensures range { IfOk result (λ n. (1 ≤ n) × (n ≤ 65_535)) }
+    ensures range { IfOk result (λ n. (1 ≤ n) × (n ≤ MOST_PLACE)) }
 {
-    let other = integer_at(table, key, 1, 65_535)?;
+    let other = integer_at(table, key, 1, MOST_PLACE)?;
     if other == number {
         return Err(FareFileFault::OutOfRange);
     }

@@ -2,15 +2,14 @@
 ghost use Rattle.std.specs.Prelude.{◌≡◌, ◌≤◌, IfOk, is_some, length, option_map};
 ghost use Rattle.toml.specs.Data.{get_member};
 ghost use Rattle.toml.specs.View.{view, table_view, items_view};
+ghost use Rattle.pay_tables.specs.declared.limits.TheConstants.{MOST_FARE};
 ghost use Rattle.pay_tables.specs.Fault.{Gives};
 ghost use Rattle.pay_tables.specs.Keys.{integer_in, integer_of, integer_at, table_of, table_at, array_of, array_at, items_of, items_at};
 
 use crate::fault::FareFileFault;
+use crate::limits::MOST_FARE;
 use pay_money::Pence;
 use toml::{Table, Value};
-
-/// The largest fare: 1,000 pounds.
-const MOST_PENCE: u32 = 100_000;
 
 /// What stands at a key.
 fn member<'a>(table: &'a Table, key: &str) -> Option<&'a Value>
@@ -60,10 +59,10 @@ fn in_range(number: i64, least: u32, most: u32) -> Result<u32, FareFileFault>
 
 /// The amount of money at a key that must be there.
 pub fn pence_at(table: &Table, key: &str) -> Result<Pence, FareFileFault>
-    ensures value { result ≡ integer_at key.now 0 100_000 (table_view table.now) }
-    ensures range { IfOk result (λ pence. pence ≤ 100_000) }
+    ensures value { result ≡ integer_at key.now 0 MOST_FARE (table_view table.now) }
+    ensures range { IfOk result (λ pence. pence ≤ MOST_FARE) }
 {
-    let pence = integer_at(table, key, 0, MOST_PENCE)?;
+    let pence = integer_at(table, key, 0, MOST_FARE)?;
     Ok(Pence::new(u64::from(pence)))
 }
 

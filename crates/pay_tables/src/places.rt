@@ -1,12 +1,14 @@
-ghost use Rattle.std.specs.Prelude.{◌≡◌, OnErr};
+ghost use Rattle.std.specs.Prelude.{◌≡◌, Err, IsOk, IsOkUnless, OnErr, OnOk, codes};
 ghost use Rattle.std.specs.FinMap as map;
 ghost use Rattle.toml.specs.View.{table_view};
+ghost use Rattle.pay_tables.specs.declared.limits.TheConstants.{MOST_PLACES};
 ghost use Rattle.pay_tables.specs.Fault.{GivesUnlessMemory};
-ghost use Rattle.pay_tables.specs.FareFile.{is_station_at, places_at};
-ghost use Rattle.pay_tables.specs.Placed.{put_place};
+ghost use Rattle.pay_tables.specs.Keys.{items_at};
+ghost use Rattle.pay_tables.specs.FareFile.{unless_taken, is_station_at, places_at};
 
 use crate::fault::FareFileFault;
 use crate::keys::items_at;
+use crate::limits::MOST_PLACES;
 use crate::place::Place;
 use crate::routes::add_routes;
 use crate::stations::add_stations;
@@ -14,9 +16,6 @@ use std::alloc::Global;
 use std::collections::BTreeMap;
 use std::marker::Model;
 use toml::Table;
-
-/// How many stations and routes a fare file may have together.
-const MOST_PLACES: usize = 1_024;
 
 /// Places by their numbers. In a contract it is that finite map.
 #[derive(Debug, Drop)]
@@ -42,7 +41,8 @@ impl Places {
     /// The places of a fare file: its stations and its routes.
     #[tactic(auto, using(crate::proofs::Items::items_len_view))]
     pub fn of(alloc: Global, file: &Table, zones: u8) -> Result<Places, FareFileFault>
-        ensures { GivesUnlessMemory (λ places. places) result (places_at zones (table_view file.now)) }
+        ensures value { GivesUnlessMemory (λ places. places) result (places_at zones (table_view file.now)) }
+        ensures memory { result ≡ Err FareFileFault.Memory → IsOk (items_at (codes "station") MOST_PLACES (table_view file.now)) }
     {
         let mut places = Places::new(alloc);
         let stations = items_at(file, "station", MOST_PLACES)?;
@@ -75,14 +75,22 @@ impl Places {
         matches!(self.get(number), Some(Place::Station { .. }))
     }
 
-    /// Adds a place under a number that is not taken: `Duplicate` if it is. An `Err` changes nothing.
-    pub fn add(&mut self, number: u16, place: Place) -> Result<(), FareFileFault>
-        ensures added { GivesUnlessMemory (λ _. self.new) result (put_place self.old (number, place)) }
-        ensures err { OnErr result (self.new ≡ self.old) }
+    /// A place with its number, which no other may have.
+    pub fn unless_taken(&self, place: (u16, Place)) -> Result<(u16, Place), FareFileFault>
+        ensures { result ≡ unless_taken self.now place }
     {
-        if self.numbers.contains_key(&number) {
+        if self.numbers.contains_key(&place.0) {
             return Err(FareFileFault::Duplicate);
         }
+        Ok(place)
+    }
+
+    /// Puts a place at a number.
+    pub fn put(&mut self, number: u16, place: Place) -> Result<(), FareFileFault>
+        ensures ok { OnOk result (self.new ≡ map.insert self.old number place) }
+        ensures err { OnErr result (self.new ≡ self.old) }
+        ensures memory { IsOkUnless result FareFileFault.Memory }
+    {
         self.numbers.insert(number, place)?;
         Ok(())
     }

@@ -1,5 +1,6 @@
 use crate::fault::FareFileFault;
 use crate::keys::{integer_at, pence_at};
+use crate::limits::{MOST_HOPPER_SECONDS, MOST_SAME_SECONDS};
 use pay_money::Pence;
 use toml::Table;
 
@@ -31,9 +32,9 @@ impl Rules {
     {
         let bus = pence_at(table, "bus")?;
         let maximum = pence_at(table, "maximum")?;
-        let hopper = integer_at(table, "hopper", 1, 7_200)?;
-        let same_free = integer_at(table, "same_free", 0, 7_200)?;
-        let same_limit = integer_at(table, "same_limit", same_free, 7_200)?;
+        let hopper = integer_at(table, "hopper", 1, MOST_HOPPER_SECONDS)?;
+        let same_free = integer_at(table, "same_free", 0, MOST_SAME_SECONDS)?;
+        let same_limit = integer_at(table, "same_limit", same_free, MOST_SAME_SECONDS)?;
         Ok(Rules {
             bus,
             maximum,

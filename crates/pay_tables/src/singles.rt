@@ -1,8 +1,9 @@
 //! The single fares, one for each span within the zones.
-ghost use Rattle.std.specs.Prelude.{◌≡◌};
-ghost use Rattle.toml.specs.View.{view, table_view};
-ghost use Rattle.pay_tables.specs.Fault.{GivesUnlessMemory};
-ghost use Rattle.pay_tables.specs.FareFile.{single_of, has_single, has_singles_from, has_each_single, singles_at};
+ghost use Rattle.std.specs.Prelude.{◌≡◌, [], Err, IsOk, codes};
+ghost use Rattle.toml.specs.View.{view, items_view, table_view};
+ghost use Rattle.pay_tables.specs.Fault.{Gives, GivesUnlessMemory};
+ghost use Rattle.pay_tables.specs.Keys.{array_at};
+ghost use Rattle.pay_tables.specs.FareFile.{with_each, with_single, another_single, complete, single_of, has_single, has_singles_from, has_each_single, singles_at};
 
 use crate::fault::FareFileFault;
 use crate::keys::{array_at, inner_table, integer_at, pence_at};
@@ -13,17 +14,41 @@ use toml::{Table, Value};
 
 /// The single fares of a fare file.
 pub fn singles_at(alloc: Global, file: &Table, zones: u8) -> Result<Vec<Single>, FareFileFault>
-    ensures { GivesUnlessMemory (λ singles. singles.items) result (singles_at zones (table_view file.now)) }
+    ensures value { GivesUnlessMemory (λ singles. singles.items) result (singles_at zones (table_view file.now)) }
+    ensures memory { result ≡ Err FareFileFault.Memory → IsOk (array_at (codes "single") (table_view file.now)) }
 {
     let items = array_at(file, "single")?;
+    let singles = each_single(alloc, items, zones)?;
+    complete(singles, zones)
+}
+
+/// The single fares that the items say.
+fn each_single(alloc: Global, items: &[Value], zones: u8) -> Result<Vec<Single>, FareFileFault>
+    ensures { GivesUnlessMemory (λ singles. singles.items) result (with_each (with_single zones) [] (items_view items.now)) }
+{
     let mut singles = Vec::new(alloc);
     for item in items {
-        let single = single(item, zones)?;
-        if has_single(&singles, single.span) {
-            return Err(FareFileFault::Duplicate);
-        }
+        let single = another_single(&singles, item, zones)?;
         singles.push(single)?;
     }
+    Ok(singles)
+}
+
+/// The single fare that an item says, of a span that has none yet.
+fn another_single(singles: &[Single], item: &Value, zones: u8) -> Result<Single, FareFileFault>
+    ensures { result ≡ another_single zones singles.now (view item.now) }
+{
+    let single = single(item, zones)?;
+    if has_single(singles, single.span) {
+        return Err(FareFileFault::Duplicate);
+    }
+    Ok(single)
+}
+
+/// The single fares, if each span within the zones has one.
+fn complete(singles: Vec<Single>, zones: u8) -> Result<Vec<Single>, FareFileFault>
+    ensures { Gives (λ singles. singles.items) result (complete zones singles.items) }
+{
     if !has_each_single(&singles, zones) {
         return Err(FareFileFault::MissingKey);
     }

@@ -2,22 +2,23 @@
 ghost use Rattle.std.specs.Prelude.{◌≡◌};
 ghost use Rattle.toml.specs.View.{view, items_view};
 ghost use Rattle.pay_tables.specs.Fault.{GivesUnlessMemory};
-ghost use Rattle.pay_tables.specs.FareFile.{station_of, with_each};
-ghost use Rattle.pay_tables.specs.Placed.{put_station};
+ghost use Rattle.pay_tables.specs.FareFile.{station_of, with_each, with_station};
 
 use crate::fault::FareFileFault;
 use crate::keys::{inner_table, integer_at};
+use crate::limits::{MOST_OPERATORS, MOST_PLACE};
 use crate::place::Place;
 use crate::places::Places;
 use toml::Value;
 
 /// Adds the stations that the items say.
 pub fn add_stations(places: &mut Places, items: &[Value], zones: u8) -> Result<(), FareFileFault>
-    ensures { GivesUnlessMemory (λ _. places.new) result (with_each (put_station zones) places.old (items_view items.now)) }
+    ensures { GivesUnlessMemory (λ _. places.new) result (with_each (with_station zones) places.old (items_view items.now)) }
 {
     for item in items {
-        let (number, station) = station(item, zones)?;
-        places.add(number, station)?;
+        let station = station(item, zones)?;
+        let (number, place) = places.unless_taken(station)?;
+        places.put(number, place)?;
     }
     Ok(())
 }
@@ -27,10 +28,10 @@ fn station(item: &Value, zones: u8) -> Result<(u16, Place), FareFileFault>
 {
     let zones = u32::from(zones);
     let table = inner_table(item)?;
-    let place = integer_at(table, "place", 1, 65_535)?;
+    let place = integer_at(table, "place", 1, MOST_PLACE)?;
     let low = integer_at(table, "low", 1, zones)?;
     let high = integer_at(table, "high", low, zones.min(low + 1))?;
-    let operator = integer_at(table, "operator", 1, 16)?;
+    let operator = integer_at(table, "operator", 1, MOST_OPERATORS)?;
     Ok((
         place as u16,
         Place::Station {

@@ -1,10 +1,11 @@
-ghost use Rattle.std.specs.Prelude.{◌≡◌, ◌≢◌, ◌≤◌, IfOk, IfErr, IfSome, None, Ok, Err, option_map};
+ghost use Rattle.std.specs.Prelude.{◌≡◌, ◌≢◌, ◌≤◌, IfOk, IfErr, IfSome, IsOk, None, Ok, Err, option_map, ◌*◌};
 ghost use Rattle.std.specs.FinMap as map;
 ghost use Rattle.std.specs.List.{find};
 ghost use Rattle.toml.specs.Parse.{parse_document};
 ghost use Rattle.toml.specs.View.{table_view};
+ghost use Rattle.pay_tables.specs.declared.limits.TheConstants.{MOST_ZONES, MOST_MINUTES, MOST_FARE, MOST_INTERCHANGE_SECONDS};
 ghost use Rattle.pay_tables.specs.Fault.{GivesUnlessMemory};
-ghost use Rattle.pay_tables.specs.FareFile.{fare_file, fare_text};
+ghost use Rattle.pay_tables.specs.FareFile.{zones_at, fare_file, fare_text};
 ghost use Rattle.pay_tables.specs.FareTables.{AreRules, IsInterchange, IsPlace, IsSingle, is_between, station_at, single_of_span, single_fare, allowed_seconds, is_holiday, interchange};
 ghost use Rattle.pay_tables.specs.Spans.{IsSpan};
 
@@ -13,6 +14,7 @@ use crate::holidays::holidays_at;
 use crate::interchange::Interchange;
 use crate::interchanges::interchanges_at;
 use crate::keys::{has_key, integer_at, table_at};
+use crate::limits::MOST_ZONES;
 use crate::minutes::minutes_at;
 use crate::place::Place;
 use crate::places::Places;
@@ -66,6 +68,18 @@ impl Model for Tables {
     }) };
 }
 
+/// How many fare zones there are. A file with bands is refused before all else.
+fn zones_at(file: &Table) -> Result<u8, FareFileFault>
+    ensures value { result ≡ zones_at (table_view file.now) }
+    ensures in_range { IfOk result (λ zones. (1 ≤ zones) × (zones ≤ MOST_ZONES)) }
+{
+    if has_key(file, "band") {
+        return Err(FareFileFault::BandsNotYet);
+    }
+    let zones = integer_at(file, "zones", 1, MOST_ZONES)?;
+    Ok(zones as u8)
+}
+
 impl Tables {
     /// Reads the text of a fare file. The first fault is given, in the order of the keys; `Memory`
     /// comes before any that would be found later.
@@ -74,22 +88,16 @@ impl Tables {
         ensures ok { IfOk result (λ tables. fare_text text.now ≡ Ok tables) }
         ensures refused { IfErr result (λ fault. fault ≢ FareFileFault.Memory → fare_text text.now ≡ Err fault) }
     {
-        let file = match toml::table_from_str(alloc, text) {
-            Ok(file) => file,
-            Err(error) if error.is_memory() => return Err(FareFileFault::Memory),
-            Err(_) => return Err(FareFileFault::NotToml),
-        };
+        let file = toml::table_from_str(alloc, text)?;
         Tables::of(alloc, &file)
     }
 
     /// What a document says.
     fn of(alloc: Global, file: &Table) -> Result<Tables, FareFileFault>
-        ensures { GivesUnlessMemory (λ tables. tables) result (fare_file (table_view file.now)) }
+        ensures value { GivesUnlessMemory (λ tables. tables) result (fare_file (table_view file.now)) }
+        ensures memory { result ≡ Err FareFileFault.Memory → IsOk (zones_at (table_view file.now)) }
     {
-        if has_key(file, "band") {
-            return Err(FareFileFault::BandsNotYet);
-        }
-        let zones = integer_at(file, "zones", 1, 9)? as u8;
+        let zones = zones_at(file)?;
         let minutes = minutes_at(alloc, file, zones)?;
         let rules = Rules::of(table_at(file, "rules")?)?;
         let singles = singles_at(alloc, file, zones)?;
@@ -110,7 +118,7 @@ impl Tables {
     /// How many fare zones there are.
     pub fn zones(&self) -> u8
         ensures value { result ≡ self.now.zones }
-        ensures in_range { (1 ≤ result) × (result ≤ 9) }
+        ensures in_range { (1 ≤ result) × (result ≤ MOST_ZONES) }
     {
         self.zones
     }
@@ -152,7 +160,7 @@ impl Tables {
     pub fn single(&self, span: Span, peak: bool) -> Pence
         requires { IsSpan self.now.zones span }
         ensures value { result ≡ single_fare self.now span peak }
-        ensures in_range { result ≤ 100_000 }
+        ensures in_range { result ≤ MOST_FARE }
     {
         let _ = &self.zones;
         match self.single_of_span(span) {
@@ -174,7 +182,7 @@ impl Tables {
     pub fn max_seconds(&self, span: Span) -> u32
         requires { IsSpan self.now.zones span }
         ensures value { result ≡ allowed_seconds self.now span }
-        ensures in_range { (60 ≤ result) × (result ≤ 86_400) }
+        ensures in_range { (60 ≤ result) × (result ≤ 60 * MOST_MINUTES) }
     {
         60 * self.minutes[usize::from(span.to - span.from)]
     }
@@ -191,7 +199,7 @@ impl Tables {
     pub fn interchange(&self, a: u16, b: u16) -> Option<u32>
         ensures value { result ≡ interchange self.now a b }
         ensures either_order { result ≡ interchange self.now b a }
-        ensures in_range { IfSome result (λ seconds. (1 ≤ seconds) × (seconds ≤ 7_200)) }
+        ensures in_range { IfSome result (λ seconds. (1 ≤ seconds) × (seconds ≤ MOST_INTERCHANGE_SECONDS)) }
     {
         let pair = self.interchange_between(a, b)?;
         Some(pair.seconds)

@@ -1,4 +1,4 @@
--- What each answer to a tap means.
+-- What each judgement of a tap means.
 use Rattle.std.proofs.Common.{◌≡◌, ◌≢◌, ◌↔◌, ℕ, ◌<◌, ◌≤◌, Bool, true, false, nat_le, Option, Some, None, Ok, Err, if◌then◌else◌, eqb-true, eq-eqb, leb-true, leb-false, le-leb, refl, sym, ap, ◌∙◌, subst}
 use Rattle.std.proofs.lemmas.Bool.{and_parts, and_from, lt-leb}
 use Rattle.pay_day.specs.Day.{Stamp}

@@ -65,7 +65,7 @@ rising [] k d h lt = absurd (omega (arith, lt))
 rising (x ∷ list) zero d h lt = ap is_lt (turned (number x) (number (get_or list 0 d)) Less (below_at (number x) list 0 d (first _ _ h) (omega (arith, lt))))
 rising (x ∷ list) (suc k) d h lt = rising list k d (second _ _ h) (omega (arith, lt))
 
--- along the list the answers to a search rise
+-- along the list the orderings of a search rise
 searchable : (list : List Tap) (q : ℕ × ℕ) → T (is_sorted number_cmp (numbered list)) → IsNonDecreasingBy (λ (t : Tap). ordering_index (number_cmp (number t) q)) list
 searchable list q h =
     searchable_from_sorted number_total number list q (λ k d low lt.
@@ -111,7 +111,7 @@ put_between (x ∷ list) t (suc i) p =
     (turned (number x) (number t) Less (p.0 0 x (omega arith) (omega arith)))
     ∙ ap (λ (es : List ((ℕ × ℕ) × Tap)). (number x, x) ∷ es) (put_between list t i (later x list (number t) i p))
 
--- ---- what a search of the kept list answers
+-- ---- what a search of the kept list finds
 
 -- the order of a tap's number and a number
 abbrev pub cmp_with : ℕ × ℕ → Tap → Ordering

@@ -1,3 +1,4 @@
 pub mod Taps
 pub mod Order
 pub mod TapList
+pub mod Words

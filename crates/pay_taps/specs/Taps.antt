@@ -1,4 +1,4 @@
--- The accepted taps of an account by number, and what they answer to one more.
+-- The accepted taps of an account by number, and how they judge one more.
 use Rattle.std.specs.Prelude.{◌≡◌, ℕ, ◌≤◌, ◌==◌, ◌&&◌, nat_le, Bool, true, false, if◌then◌else◌, Option, Some, None, Result, Ok, Err, map, refl}
 use Rattle.std.specs.declared.cmp.Ordering.{Ordering}
 use Rattle.std.specs.Ordering.{nat_cmp, ordering_then}
@@ -45,22 +45,22 @@ same_stamp a b = a.utc == b.utc && a.day == b.day && a.second == b.second
 abbrev pub same_tap : Tap → Tap → Bool
 same_tap a b = a.account == b.account && a.reader == b.reader && a.seq == b.seq && same_stamp a.stamp b.stamp && a.place == b.place && same_kind a.kind b.kind
 
--- the answer to a tap, by what stands at its number and how many taps there are:
+-- the judgement of a tap, by what stands at its number and how many taps there are:
 -- the same content is a repeat, other content a conflict, and a further tap fits below the limit
 abbrev pub judgement : Tap → Option Tap → ℕ → Result Addition TapSetFault
 judgement tap (Some there) count = if same_tap there tap then Ok Repeat else Err Conflict
 judgement tap None count = if nat_le MOST_TAPS count then Err AccountFull else Ok Added
 
--- the answer of a set of taps to one tap
+-- how a set of taps judges one tap
 abbrev pub judged : Taps → Tap → Result Addition TapSetFault
 judged taps tap = judgement tap (get taps (number tap)) (len taps)
 
--- an answer is as judged, or want of memory where the tap would be added
+-- a result is as judged, or want of memory where the tap would be added
 abbrev pub IsJudged : Result Addition TapSetFault → Taps → Tap → Type 0
 IsJudged (Err Memory) taps tap = judged taps tap ≡ Ok Added
-IsJudged answer taps tap = judged taps tap ≡ answer
+IsJudged result taps tap = judged taps tap ≡ result
 
--- what an answer leaves: an added tap stands at its number, and all else is as it was
+-- what a result leaves: an added tap stands at its number, and all else is as it was
 abbrev pub set_after : Result Addition TapSetFault → Taps → Tap → Taps
 set_after (Ok Added) taps tap = insert taps (number tap) tap
 set_after _ taps tap = taps

@@ -12,7 +12,7 @@ ghost use Rattle.pay_taps.specs.Order.{touch_of, touch_cmp, cmp_by, touches, put
 
 use crate::tap_set::{Addition, TapSetFault};
 
-/// What each answer to a tap means.
+/// What each judgement of a tap means.
 pub fn judgements()
     // There is none of its number, and there is room.
     ensures added { (taps : Taps) (tap : Tap) → (judged taps tap ≡ Ok Addition.Added)

@@ -7,6 +7,7 @@ ghost use Rattle.pay_taps.specs.Taps.{IsTapSet, number, number_cmp, judged, IsJu
 use crate::limits::MOST_TAPS;
 use crate::tap::{Kind, Tap};
 use pay_day::Moment;
+use pay_day::limits::{FIRST_DAY, FIRST_INSTANT};
 use smallvec::SmallVec;
 use std::alloc::{AllocError, AllocFailed, Global};
 use std::default::MadeWith;
@@ -74,7 +75,7 @@ impl Model for TapSet {
 // What lies in a set's own places while they hold no tap. No tap of a set is this one.
 impl MadeWith<Global> for Tap {
     fn made_with(_: Global) -> Tap {
-        let Some(stamp) = Moment::from_parts(604_800, 4, 0) else {
+        let Some(stamp) = Moment::from_parts(FIRST_INSTANT, FIRST_DAY, 0) else {
             unreachable!()
         };
         Tap {
@@ -162,7 +163,7 @@ impl TapSet {
         }
     }
 
-    /// What `add` would answer where memory suffices. It takes none.
+    /// The result of `add` where memory suffices. It takes none.
     pub fn judge(&self, tap: &Tap) -> Result<Addition, TapSetFault>
         ensures { result ≡ judged self.now tap.now }
     {

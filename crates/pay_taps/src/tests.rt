@@ -20,7 +20,7 @@ fn bus_tap(rt: &impl Abort, reader: u16, seq: u32, utc: u64) -> Tap {
 const SEVEN: u64 = 1_704_697_200;
 
 #[test]
-fn answers_by_number_and_content(rt: HostRuntime) -> Result<(), Fail> {
+fn judges_by_number_and_content(rt: HostRuntime) -> Result<(), Fail> {
     let tap = bus_tap(&rt, 1, 1, SEVEN);
     let mut taps = TapSet::new(rt.alloc());
     assert!(rt; taps.is_empty());

@@ -12,7 +12,7 @@ use Rattle.pay_account.specs.declared.fares.Priced.{Priced}
 use Rattle.pay_wire.specs.declared.reply.Reply.{Reply}
 use Rattle.pay_wire.specs.declared.reply.Reply.TheVariants as replies
 use Rattle.pay_wire.specs.Fields.{words}
-use Rattle.pay_wire.specs.Replies.{refusal_number, refusal_name, line_of_words, word_of_kind, words_of_journey, words_of_reply, journeys_of_reply, text_of_journeys, spelling_of_reply, told_of_journey, told_of, IsToldJourney, IsReply}
+use Rattle.pay_wire.specs.Replies.{refusal_number, refusal_name, line_of_words, word_of_kind, words_of_journey, words_of_reply, journeys_of_reply, text_of_journeys, spelling_of_reply, journey_as_read, reply_as_read, IsReplyJourney, IsReply}
 use Rattle.pay_account.specs.declared.shown.Line.{Line}
 use Rattle.pay_account.specs.declared.shown.LineKind.{LineKind}
 use Rattle.pay_account.specs.declared.shown.LineKind.TheVariants as kind
@@ -167,7 +167,7 @@ kind_again kind.Bus = refl
 one_kind : (k l : LineKind) → word_of_kind k ≡ word_of_kind l → k ≡ l
 one_kind k l e = sym (kind_again k) ∙ ap kind_from e ∙ kind_again l
 
-journey_visible : (l : Line) → IsToldJourney l → AllVisible (words_of_journey l)
+journey_visible : (l : Line) → IsReplyJourney l → AllVisible (words_of_journey l)
 journey_visible l fits = (
   refl,
   (
@@ -179,7 +179,7 @@ journey_visible l fits = (
   ),
 )
 
-journey_words : (l : Line) → IsToldJourney l → words (join_with_byte 32 (words_of_journey l)) ≡ words_of_journey l
+journey_words : (l : Line) → IsReplyJourney l → words (join_with_byte 32 (words_of_journey l)) ≡ words_of_journey l
 journey_words l fits = words_joined (codes "JNY") (word_of_kind l.kind ∷ decimal l.from ∷ decimal l.to ∷ decimal l.utc ∷ decimal l.fare ∷ []) (journey_visible l fits)
 
 abbrev journey : LineKind → ℕ → ℕ → ℕ → ℕ → Line
@@ -188,7 +188,7 @@ journey k from to utc fare = record { day = 0; kind = k; from = from; to = to; u
 same_journey : (k l : LineKind) (a b c d e f g h : ℕ) → k ≡ l → a ≡ b → c ≡ d → e ≡ f → g ≡ h → journey k a c e g ≡ journey l b d f h
 same_journey k l a b c d e f g h p q r s t = rw (p, q, r, s, t) refl
 
-one_journey : (l m : Line) → IsToldJourney l → IsToldJourney m → words_of_journey l ≡ words_of_journey m → told_of_journey l ≡ told_of_journey m
+one_journey : (l m : Line) → IsReplyJourney l → IsReplyJourney m → words_of_journey l ≡ words_of_journey m → journey_as_read l ≡ journey_as_read m
 one_journey l m f g e =
     let k = heads _ _ _ _ (heads _ _ _ _ e).1 in
     let a = heads _ _ _ _ k.1 in
@@ -223,8 +223,8 @@ lines_apart ws vs x y f g again others e =
     (sym again ∙ ap words h.0 ∙ others, one_rest x y h.1)
 
 -- as many journeys, a line for each
-one_journeys : (js ks : List Line) (x y : List ℕ) → length js ≡ length ks → AllByRecursion IsToldJourney js → AllByRecursion IsToldJourney ks
-    → text_of_journeys js ++ x ≡ text_of_journeys ks ++ y → (map told_of_journey js ≡ map told_of_journey ks) × (x ≡ y)
+one_journeys : (js ks : List Line) (x y : List ℕ) → length js ≡ length ks → AllByRecursion IsReplyJourney js → AllByRecursion IsReplyJourney ks
+    → text_of_journeys js ++ x ≡ text_of_journeys ks ++ y → (map journey_as_read js ≡ map journey_as_read ks) × (x ≡ y)
 one_journeys [] [] x y n f g e = (refl, e)
 one_journeys [] (k ∷ ks) x y n f g e = absurd (omega (arith, n))
 one_journeys (j ∷ js) [] x y n f g e = absurd (omega (arith, n))
@@ -245,34 +245,34 @@ same_shown : (a b d e p q : ℕ) (js ks : List Line) → a ≡ b → d ≡ e →
 same_shown a b d e p q js ks f g h k = rw (f, g, h, k) refl
 
 -- replies whose first lines are alike, and what follows these lines
-told_alike : (a b : Reply) (x y : List ℕ) → IsReply a → IsReply b → Alike a b → text_of_journeys (journeys_of_reply a) ++ x ≡ text_of_journeys (journeys_of_reply b) ++ y
-    → (told_of a ≡ told_of b) × (x ≡ y)
-told_alike (replies.Shown s) (replies.Shown t) x y f g same e =
+alike_as_read : (a b : Reply) (x y : List ℕ) → IsReply a → IsReply b → Alike a b → text_of_journeys (journeys_of_reply a) ++ x ≡ text_of_journeys (journeys_of_reply b) ++ y
+    → (reply_as_read a ≡ reply_as_read b) × (x ≡ y)
+alike_as_read (replies.Shown s) (replies.Shown t) x y f g same e =
     let js = one_journeys s.lines t.lines x y same.2 f.4 g.4 e in
-    (same_shown s.account t.account s.day t.day s.day_price t.day_price (map told_of_journey s.lines) (map told_of_journey t.lines) same.0 same.1 js.0 same.3, js.1)
-told_alike (replies.Shown s) (replies.Priced q) x y f g same e = absurd cc
-told_alike (replies.Shown s) (replies.No r) x y f g same e = absurd cc
-told_alike (replies.Shown s) replies.Bye x y f g same e = absurd cc
-told_alike (replies.Priced p) (replies.Shown t) x y f g same e = absurd cc
-told_alike (replies.Priced p) (replies.Priced q) x y f g same e = (same, e)
-told_alike (replies.Priced p) (replies.No r) x y f g same e = absurd cc
-told_alike (replies.Priced p) replies.Bye x y f g same e = absurd cc
-told_alike (replies.No r) (replies.Shown t) x y f g same e = absurd cc
-told_alike (replies.No r) (replies.Priced q) x y f g same e = absurd cc
-told_alike (replies.No r) (replies.No s) x y f g same e = (same, e)
-told_alike (replies.No r) replies.Bye x y f g same e = absurd cc
-told_alike replies.Bye (replies.Shown t) x y f g same e = absurd cc
-told_alike replies.Bye (replies.Priced q) x y f g same e = absurd cc
-told_alike replies.Bye (replies.No r) x y f g same e = absurd cc
-told_alike replies.Bye replies.Bye x y f g same e = (same, e)
+    (same_shown s.account t.account s.day t.day s.day_price t.day_price (map journey_as_read s.lines) (map journey_as_read t.lines) same.0 same.1 js.0 same.3, js.1)
+alike_as_read (replies.Shown s) (replies.Priced q) x y f g same e = absurd cc
+alike_as_read (replies.Shown s) (replies.No r) x y f g same e = absurd cc
+alike_as_read (replies.Shown s) replies.Bye x y f g same e = absurd cc
+alike_as_read (replies.Priced p) (replies.Shown t) x y f g same e = absurd cc
+alike_as_read (replies.Priced p) (replies.Priced q) x y f g same e = (same, e)
+alike_as_read (replies.Priced p) (replies.No r) x y f g same e = absurd cc
+alike_as_read (replies.Priced p) replies.Bye x y f g same e = absurd cc
+alike_as_read (replies.No r) (replies.Shown t) x y f g same e = absurd cc
+alike_as_read (replies.No r) (replies.Priced q) x y f g same e = absurd cc
+alike_as_read (replies.No r) (replies.No s) x y f g same e = (same, e)
+alike_as_read (replies.No r) replies.Bye x y f g same e = absurd cc
+alike_as_read replies.Bye (replies.Shown t) x y f g same e = absurd cc
+alike_as_read replies.Bye (replies.Priced q) x y f g same e = absurd cc
+alike_as_read replies.Bye (replies.No r) x y f g same e = absurd cc
+alike_as_read replies.Bye replies.Bye x y f g same e = (same, e)
 
-pub one_reply : (a b : Reply) (x y : List ℕ) → IsReply a → IsReply b → spelling_of_reply a ++ x ≡ spelling_of_reply b ++ y → (told_of a ≡ told_of b) × (x ≡ y)
+pub one_reply : (a b : Reply) (x y : List ℕ) → IsReply a → IsReply b → spelling_of_reply a ++ x ≡ spelling_of_reply b ++ y → (reply_as_read a ≡ reply_as_read b) × (x ≡ y)
 one_reply a b x y f g e =
     let left = append_assoc (line_of_words (words_of_reply a)) (text_of_journeys (journeys_of_reply a)) x in
     let right = append_assoc (line_of_words (words_of_reply b)) (text_of_journeys (journeys_of_reply b)) y in
     let h = lines_apart (words_of_reply a) (words_of_reply b) (text_of_journeys (journeys_of_reply a) ++ x) (text_of_journeys (journeys_of_reply b) ++ y)
     (reply_visible a f) (reply_visible b g) (reply_words a f) (reply_words b g) (sym left ∙ e ∙ right) in
-    told_alike a b x y f g (one_from_words a b f g h.0) h.1
+    alike_as_read a b x y f g (one_from_words a b f g h.0) h.1
 
 -- a stream that has a reply is not empty
 not_the_end : {A : Type 0} (r : Reply) (x : List ℕ) → spelling_of_reply r ++ x ≡ [] → A
@@ -286,8 +286,8 @@ not_the_end r x e =
       length-append (join_with_byte 32 (words_of_reply r)) (codes "\n"),
     ))
 
-pub one_stream : (told others : List Reply) → AllByRecursion IsReply told → AllByRecursion IsReply others → flat_map spelling_of_reply told ≡ flat_map spelling_of_reply others
-    → map told_of told ≡ map told_of others
+pub one_stream : (a b : List Reply) → AllByRecursion IsReply a → AllByRecursion IsReply b → flat_map spelling_of_reply a ≡ flat_map spelling_of_reply b
+    → map reply_as_read a ≡ map reply_as_read b
 one_stream [] [] f g e = refl
 one_stream [] (b ∷ bs) f g e = not_the_end b (flat_map spelling_of_reply bs) (sym e)
 one_stream (a ∷ rest) [] f g e = not_the_end a (flat_map spelling_of_reply rest) e

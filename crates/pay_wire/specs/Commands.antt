@@ -8,6 +8,8 @@ use Rattle.pay_wire.specs.declared.command.Command.{Command}
 use Rattle.pay_wire.specs.declared.command.Command.TheVariants.{Tap, Show, NotYet, Quit}
 use Rattle.pay_wire.specs.declared.command.Keyword.{Keyword}
 use Rattle.pay_wire.specs.declared.command.Keyword.TheVariants as keyword
+use Rattle.pay_day.specs.declared.limits.TheConstants.{FIRST_DAY, LAST_DAY}
+use Rattle.pay_wire.specs.declared.limits.TheConstants.{MOST_READER, MOST_SEQ, MOST_ACCOUNT, MOST_UTC, MOST_PLACE}
 use Rattle.pay_wire.specs.Numbers.{number_of}
 use Rattle.pay_wire.specs.Fields.{◌>>=◌, words, has_none, field}
 
@@ -28,11 +30,11 @@ kind_of_word word =
 -- the fields of a tap, each in its range, and no word behind them
 unfoldable pub tap_of : List (List ℕ) → Option SpelledTap
 tap_of fields = do
-  reader ← field (number_within 1 65_535) fields
-  seq ← field (number_within 0 4_294_967_295) reader.1
-  account ← field (number_within 1 4_294_967_295) seq.1
-  utc ← field (number_within 0 4_294_967_295) account.1
-  place ← field (number_within 1 65_535) utc.1
+  reader ← field (number_within 1 MOST_READER) fields
+  seq ← field (number_within 0 MOST_SEQ) reader.1
+  account ← field (number_within 1 MOST_ACCOUNT) seq.1
+  utc ← field (number_within 0 MOST_UTC) account.1
+  place ← field (number_within 1 MOST_PLACE) utc.1
   kind ← field kind_of_word place.1
   if has_none kind.1
       then Some (record { reader = reader.0; seq = seq.0; account = account.0; utc = utc.0; place = place.0; kind = kind.0 })
@@ -41,8 +43,8 @@ tap_of fields = do
 -- the account and the service day whose journeys are shown, each in its range, and no word behind them
 unfoldable pub show_of : List (List ℕ) → Option Command
 show_of fields = do
-  account ← field (number_within 1 4_294_967_295) fields
-  day ← field (number_within 4 50_000) account.1
+  account ← field (number_within 1 MOST_ACCOUNT) fields
+  day ← field (number_within FIRST_DAY LAST_DAY) account.1
   if has_none day.1 then Some (Show account.0 day.0) else None
 
 -- the first word of a command
@@ -82,6 +84,10 @@ tap_at_a_station : command_of (codes "TAP 1 1 7 1704697200 10 IN") ≡ Some (Tap
 unfolding tap_of
 tap_at_a_station = refl
 
+greatest_tap : command_of (codes "TAP 65535 4294967295 4294967295 4294967295 65535 OUT") ≡ Some (Tap (record { reader = 65_535; seq = 4_294_967_295; account = 4_294_967_295; utc = 4_294_967_295; place = 65_535; kind = Out }))
+unfolding tap_of
+greatest_tap = refl
+
 tap_with_a_leading_zero : command_of (codes "TAP 01 1 7 1704697200 50 BUS") ≡ None
 unfolding tap_of
 tap_with_a_leading_zero = refl
@@ -116,6 +122,10 @@ tap_cut = refl
 show_of_a_day : command_of (codes "SHOW 7 19730") ≡ Some (Show 7 19_730)
 unfolding show_of
 show_of_a_day = refl
+
+show_of_the_last_day : command_of (codes "SHOW 4294967295 50000") ≡ Some (Show 4_294_967_295 50_000)
+unfolding show_of
+show_of_the_last_day = refl
 
 show_of_day_3 : command_of (codes "SHOW 7 3") ≡ None
 unfolding show_of

@@ -1,5 +1,5 @@
 -- The words of a line, and how fields are read from them.
-use Rattle.std.specs.Prelude.{◌≡◌, ℕ, ◌==◌, Bool, true, false, List, [], ◌∷◌, Option, Some, None}
+use Rattle.std.specs.Prelude.{ℕ, ◌==◌, Bool, true, false, List, [], ◌∷◌, Option, Some, None, option_and_then}
 use Rattle.std.specs.List.{slice_split}
 
 -- byte 32
@@ -27,8 +27,7 @@ has_none (word ∷ more) = false
 
 infixl 10 ◌>>=◌
 abbrev pub ◌>>=◌ : {A B : Type 0} → Option A → (A → Option B) → Option B
-(Some x) >>= f = f x
-None >>= f = None
+option >>= f = option_and_then f option
 
 -- what the first word says, and the words behind it
 abbrev pub field : {A : Type 0} → (List ℕ → Option A) → List (List ℕ) → Option (A × List (List ℕ))
@@ -36,8 +35,3 @@ field read [] = None
 field read (word ∷ more) = do
   value ← read word
   Some (value, more)
-
--- what a function returned, seen by view, is what is read
-abbrev pub Gives : {X Y : Type 0} → (X → Y) → Option X → Option Y → Type 0
-Gives view (Some x) read = read ≡ Some (view x)
-Gives view None read = read ≡ None

@@ -5,3 +5,4 @@ pub mod Output
 pub mod Refusals
 pub mod Replies
 pub mod Spellings
+pub mod Words

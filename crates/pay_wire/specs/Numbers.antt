@@ -2,11 +2,12 @@
 use Rattle.std.specs.Prelude.{◌≡◌, ℕ, ◌==◌, nat_le, Bool, false, not, ◌&&◌, List, [], ◌∷◌, Option, Some, None, if◌then◌else◌, codes, refl}
 use Rattle.std.specs.Str.{all_ascii_digits}
 use Rattle.std.specs.Str.Parse.{digits_value}
+use Rattle.pay_wire.specs.declared.limits.TheConstants.{MOST_NUMBER}
 
--- the number that digits spell, where it is at most 4,294,967,295
+-- the number that digits spell, where a word may spell it
 abbrev pub value_of_digits : List ℕ → Option ℕ
 value_of_digits word =
-    if all_ascii_digits word && nat_le (digits_value 10 word) 4_294_967_295 then Some (digits_value 10 word) else None
+    if all_ascii_digits word && nat_le (digits_value 10 word) MOST_NUMBER then Some (digits_value 10 word) else None
 
 -- a zero stands before another byte
 abbrev pub has_leading_zero : List ℕ → Bool

@@ -1,4 +1,4 @@
--- What an account refuses, as a line is told.
+-- What an account refuses, as a reply says it.
 use Rattle.pay_account.specs.declared.fares.TapFault.{TapFault}
 use Rattle.pay_account.specs.declared.fares.TapFault.TheVariants as fault
 use Rattle.pay_wire.specs.declared.refusal.Refusal.{Refusal}

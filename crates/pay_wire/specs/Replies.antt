@@ -39,7 +39,7 @@ abbrev pub words_of_priced : Priced → List (List ℕ)
 words_of_priced p =
     (if p.again then codes "AGAIN" else codes "OK") ∷ decimal p.day ∷ decimal p.day_price ∷ decimal p.week_price ∷ []
 
--- a refusal is told by its number and its name
+-- a refusal: its number and its name
 abbrev pub words_of_refusal : Refusal → List (List ℕ)
 words_of_refusal r = codes "NO" ∷ decimal (refusal_number r) ∷ refusal_name r ∷ []
 
@@ -69,7 +69,7 @@ words_of_reply replies.Bye = codes "BYE" ∷ []
 abbrev pub line_of_words : List (List ℕ) → List ℕ
 line_of_words ws = join_with_byte 32 ws ++ codes "\n"
 
--- the journeys that are told behind the first line
+-- the journeys that have lines of their own behind the first
 abbrev pub journeys_of_reply : Reply → List Line
 journeys_of_reply (replies.Shown s) = s.lines
 journeys_of_reply _ = []
@@ -82,23 +82,23 @@ text_of_journeys = flat_map (λ l. line_of_words (words_of_journey l))
 abbrev pub spelling_of_reply : Reply → List ℕ
 spelling_of_reply reply = line_of_words (words_of_reply reply) ++ text_of_journeys (journeys_of_reply reply)
 
--- what the line of a journey tells: its day stands in the first line, and its local second and a band nowhere
-abbrev pub told_of_journey : Line → Line
-told_of_journey l = record { day = 0; kind = l.kind; from = l.from; to = l.to; utc = l.utc; second = 0; fare = l.fare; band = None }
+-- a journey as who reads its line knows it: its day stands in the first line, and its local second and a band nowhere
+abbrev pub journey_as_read : Line → Line
+journey_as_read l = record { day = 0; kind = l.kind; from = l.from; to = l.to; utc = l.utc; second = 0; fare = l.fare; band = None }
 
--- what the lines of a reply tell
-abbrev pub told_of : Reply → Reply
-told_of (replies.Shown s) = replies.Shown (record { account = s.account; day = s.day; lines = map told_of_journey s.lines; day_price = s.day_price })
-told_of reply = reply
+-- a reply as who reads its lines knows it
+abbrev pub reply_as_read : Reply → Reply
+reply_as_read (replies.Shown s) = replies.Shown (record { account = s.account; day = s.day; lines = map journey_as_read s.lines; day_price = s.day_price })
+reply_as_read reply = reply
 
 -- the numbers of a journey are those of its type
-abbrev pub IsToldJourney : Line → Type 0
-IsToldJourney l = (l.from < 2 ^ 16) × (l.to < 2 ^ 16) × (l.utc < 2 ^ 64) × (l.fare < 2 ^ 64)
+abbrev pub IsReplyJourney : Line → Type 0
+IsReplyJourney l = (l.from < 2 ^ 16) × (l.to < 2 ^ 16) × (l.utc < 2 ^ 64) × (l.fare < 2 ^ 64)
 
 -- the numbers of a reply are those of its types
 abbrev pub IsReply : Reply → Type 0
 IsReply (replies.Priced p) = (p.day < 2 ^ 32) × (p.day_price < 2 ^ 64) × (p.week_price < 2 ^ 64)
-IsReply (replies.Shown s) = (s.account < 2 ^ 32) × (s.day < 2 ^ 32) × (length s.lines < 2 ^ 64) × (s.day_price < 2 ^ 64) × AllByRecursion IsToldJourney s.lines
+IsReply (replies.Shown s) = (s.account < 2 ^ 32) × (s.day < 2 ^ 32) × (length s.lines < 2 ^ 64) × (s.day_price < 2 ^ 64) × AllByRecursion IsReplyJourney s.lines
 IsReply (replies.No r) = Unit {0}
 IsReply replies.Bye = Unit {0}
 

@@ -6,15 +6,17 @@ use Rattle.pay_taps.specs.declared.tap.Kind.TheVariants.{In, Out, Bus}
 use Rattle.pay_wire.specs.declared.command.SpelledTap.{SpelledTap}
 use Rattle.pay_wire.specs.declared.command.Command.{Command}
 use Rattle.pay_wire.specs.declared.command.Command.TheVariants.{Tap, Show, NotYet, Quit}
+use Rattle.pay_day.specs.declared.limits.TheConstants.{FIRST_DAY, LAST_DAY}
+use Rattle.pay_wire.specs.declared.limits.TheConstants.{MOST_LINE_BYTES, MOST_READER, MOST_SEQ, MOST_ACCOUNT, MOST_UTC, MOST_PLACE}
 use Rattle.pay_wire.specs.Fields.{is_space}
 
 -- each number of a tap is in its range
 pub record IsSpelledTap (tap : SpelledTap) : Type 0 where
-  pub reader : (1 ≤ tap.reader) × (tap.reader ≤ 65_535)
-  pub seq : tap.seq ≤ 4_294_967_295
-  pub account : (1 ≤ tap.account) × (tap.account ≤ 4_294_967_295)
-  pub utc : tap.utc ≤ 4_294_967_295
-  pub place : (1 ≤ tap.place) × (tap.place ≤ 65_535)
+  pub reader : (1 ≤ tap.reader) × (tap.reader ≤ MOST_READER)
+  pub seq : tap.seq ≤ MOST_SEQ
+  pub account : (1 ≤ tap.account) × (tap.account ≤ MOST_ACCOUNT)
+  pub utc : tap.utc ≤ MOST_UTC
+  pub place : (1 ≤ tap.place) × (tap.place ≤ MOST_PLACE)
 
 abbrev pub spelling_of_kind : Kind → List ℕ
 spelling_of_kind In = codes "IN"
@@ -28,7 +30,7 @@ spelling_of_tap tap =
 
 -- the account and the day of a `SHOW` are in their ranges
 abbrev pub IsShow : ℕ → ℕ → Type 0
-IsShow account day = ((1 ≤ account) × (account ≤ 4_294_967_295)) × ((4 ≤ day) × (day ≤ 50_000))
+IsShow account day = ((1 ≤ account) × (account ≤ MOST_ACCOUNT)) × ((FIRST_DAY ≤ day) × (day ≤ LAST_DAY))
 
 -- `SHOW account day`, with a space between each two words
 abbrev pub spelling_of_show : ℕ → ℕ → List ℕ
@@ -51,4 +53,4 @@ Spells line Quit = line ≡ codes "QUIT"
 
 -- one line, and no longer than a line may be
 abbrev pub IsLine : List ℕ → Type 0
-IsLine line = (length line ≤ 128) × All (λ byte. byte ≢ 10) line
+IsLine line = (length line ≤ MOST_LINE_BYTES) × All (λ byte. byte ≢ 10) line

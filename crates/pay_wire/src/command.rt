@@ -1,10 +1,12 @@
 //! Commands as lines.
-ghost use Rattle.std.specs.Prelude.{◌≡◌, ◌≤◌, ◌∷◌, [], Some, IfSome, IfNone};
+ghost use Rattle.std.specs.Prelude.{◌≡◌, ◌≤◌, ◌∷◌, [], Some, IfSome, IfNone, option_map};
 ghost use Rattle.std.specs.List.{position_or_len};
-ghost use Rattle.pay_wire.specs.Fields.{is_space, words, words_after, has_none, Gives, field};
+ghost use Rattle.pay_wire.specs.Fields.{is_space, words, words_after, has_none, field};
 ghost use Rattle.pay_wire.specs.Commands.{number_within, kind_of_word, tap_of, show_of, keyword_of, command_for, command_of};
 
+use crate::limits::{MOST_ACCOUNT, MOST_PLACE, MOST_READER, MOST_SEQ, MOST_UTC};
 use crate::number::read_number;
+use pay_day::limits::{FIRST_DAY, LAST_DAY};
 use pay_taps::Kind;
 
 /// A tap as a line spells it. Its `utc` may lie outside of the instants that are taken.
@@ -87,11 +89,11 @@ fn read_keyword(name: &[u8]) -> Option<Keyword>
 fn read_tap(fields: &[u8]) -> Option<SpelledTap>
     ensures { result ≡ tap_of (words_after fields.now) }
 {
-    let (reader, rest) = number_field(fields, 1, 65_535)?;
-    let (seq, rest) = number_field(rest, 0, 4_294_967_295)?;
-    let (account, rest) = number_field(rest, 1, 4_294_967_295)?;
-    let (utc, rest) = number_field(rest, 0, 4_294_967_295)?;
-    let (place, rest) = number_field(rest, 1, 65_535)?;
+    let (reader, rest) = number_field(fields, 1, MOST_READER)?;
+    let (seq, rest) = number_field(rest, 0, MOST_SEQ)?;
+    let (account, rest) = number_field(rest, 1, MOST_ACCOUNT)?;
+    let (utc, rest) = number_field(rest, 0, MOST_UTC)?;
+    let (place, rest) = number_field(rest, 1, MOST_PLACE)?;
     let (kind, rest) = kind_field(rest)?;
     if !is_end(rest) {
         return None;
@@ -111,8 +113,8 @@ fn read_tap(fields: &[u8]) -> Option<SpelledTap>
 fn read_show(fields: &[u8]) -> Option<Command>
     ensures { result ≡ show_of (words_after fields.now) }
 {
-    let (account, rest) = number_field(fields, 1, 4_294_967_295)?;
-    let (day, rest) = number_field(rest, 4, 50_000)?;
+    let (account, rest) = number_field(fields, 1, MOST_ACCOUNT)?;
+    let (day, rest) = number_field(rest, FIRST_DAY, LAST_DAY)?;
     if is_end(rest) {
         Some(Command::Show { account, day })
     } else {
@@ -122,8 +124,8 @@ fn read_show(fields: &[u8]) -> Option<Command>
 
 /// The number in the next word, if it is in the range, and what follows.
 fn number_field(fields: &[u8], low: u32, high: u32) -> Option<(u32, &[u8])>
-    ensures field { Gives (λ x. (x.0, words_after x.1.now)) result
-        (field (number_within low high) (words_after fields.now)) }
+    ensures field { option_map (λ x. (x.0, words_after x.1.now)) result
+        ≡ field (number_within low high) (words_after fields.now) }
     ensures in_range { IfSome result (λ x. x.0 ≤ high) }
 {
     let (number, rest) = read_number(after_space(fields)?)?;
@@ -135,8 +137,7 @@ fn number_field(fields: &[u8], low: u32, high: u32) -> Option<(u32, &[u8])>
 
 /// The kind of a tap in the next word, and what follows.
 fn kind_field(fields: &[u8]) -> Option<(Kind, &[u8])>
-    ensures { Gives (λ x. (x.0, words_after x.1.now)) result
-        (field kind_of_word (words_after fields.now)) }
+    ensures { option_map (λ x. (x.0, words_after x.1.now)) result ≡ field kind_of_word (words_after fields.now) }
 {
     let (word, rest) = next_word(fields)?;
     Some((read_kind(word)?, rest))
@@ -155,8 +156,7 @@ fn read_kind(word: &[u8]) -> Option<Kind>
 
 /// The word behind the space that stands first, and what follows it.
 fn next_word(fields: &[u8]) -> Option<(&[u8], &[u8])>
-    ensures { Gives (λ x. (x.0.now, words_after x.1.now)) result
-        (field Some (words_after fields.now)) }
+    ensures { option_map (λ x. (x.0.now, words_after x.1.now)) result ≡ field Some (words_after fields.now) }
 {
     Some(split_word(after_space(fields)?))
 }

@@ -6,16 +6,17 @@ ghost use Rattle.pay_wire.specs.declared.command.SpelledTap.{SpelledTap};
 ghost use Rattle.pay_wire.specs.declared.command.Command.{Command};
 ghost use Rattle.pay_wire.specs.declared.command.Command.TheVariants.{NotYet};
 ghost use Rattle.pay_wire.specs.declared.reply.Reply.{Reply};
+ghost use Rattle.pay_wire.specs.declared.limits.TheConstants.{MOST_NUMBER};
 ghost use Rattle.pay_wire.specs.Numbers.{number_of};
 ghost use Rattle.pay_wire.specs.Commands.{command_of};
 ghost use Rattle.pay_wire.specs.Spellings.{IsSpelledTap, spelling_of_tap, IsShow, spelling_of_show, Spells, IsLine};
-ghost use Rattle.pay_wire.specs.Replies.{spelling_of_reply, told_of, IsReply};
+ghost use Rattle.pay_wire.specs.Replies.{spelling_of_reply, reply_as_read, IsReply};
 
 /// A number of a line has one spelling, its decimal digits, which is read as that number.
 pub fn one_numeral()
-    ensures read { (n : ℕ) → n ≤ 4_294_967_295 → number_of (decimal n) ≡ Some n }
+    ensures read { (n : ℕ) → n ≤ MOST_NUMBER → number_of (decimal n) ≡ Some n }
     ensures spelled { (word : List ℕ) (n : ℕ) → number_of word ≡ Some n
-        → (word ≡ decimal n) × (n ≤ 4_294_967_295) }
+        → (word ≡ decimal n) × (n ≤ MOST_NUMBER) }
 {}
 
 /// What a line spells is what is read of it, and nothing else is read.
@@ -37,7 +38,7 @@ pub fn one_command()
         → spelling_of_show account day ≡ spelling_of_show x y → (account ≡ x) × (day ≡ y) }
 {}
 
-/// A spelling is one line: at most 128 bytes, none of them a newline.
+/// A spelling is one line: at most [`MOST_LINE_BYTES`](crate::limits::MOST_LINE_BYTES) bytes, none of them a newline.
 pub fn each_is_a_line()
     ensures tap { (tap : SpelledTap) → IsSpelledTap tap → IsLine (spelling_of_tap tap) }
     ensures show { (account day : ℕ) → IsShow account day → IsLine (spelling_of_show account day) }
@@ -47,7 +48,7 @@ pub fn each_is_a_line()
 /// Replies that follow one another are told apart, so a stream of replies is read in one way.
 pub fn one_reply()
     ensures first { (a b : Reply) (x y : List ℕ) → IsReply a → IsReply b
-        → spelling_of_reply a ++ x ≡ spelling_of_reply b ++ y → (told_of a ≡ told_of b) × (x ≡ y) }
-    ensures stream { (told others : List Reply) → AllByRecursion IsReply told → AllByRecursion IsReply others
-        → flat_map spelling_of_reply told ≡ flat_map spelling_of_reply others → map told_of told ≡ map told_of others }
+        → spelling_of_reply a ++ x ≡ spelling_of_reply b ++ y → (reply_as_read a ≡ reply_as_read b) × (x ≡ y) }
+    ensures stream { (a b : List Reply) → AllByRecursion IsReply a → AllByRecursion IsReply b
+        → flat_map spelling_of_reply a ≡ flat_map spelling_of_reply b → map reply_as_read a ≡ map reply_as_read b }
 {}

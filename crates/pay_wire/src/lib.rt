@@ -1,16 +1,20 @@
-//! Commands and replies as lines.
+//! Commands and replies as lines: [`read_command`] says what a line asks for, and [`send`] writes a reply.
+//! `laws` says what holds of the lines themselves, and `limits` how long they and their numbers may be.
 #![tactic(auto)]
 
 mod command;
 pub mod laws;
+pub mod limits;
 mod number;
 mod output;
 mod refusal;
 mod reply;
+mod sending;
 #[cfg(test)]
 mod tests;
 
 pub use command::{Command, SpelledTap, read_command};
-pub use output::{WriteFailed, send};
+pub use output::WriteFault;
 pub use refusal::Refusal;
 pub use reply::Reply;
+pub use sending::send;

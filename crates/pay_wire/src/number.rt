@@ -1,24 +1,23 @@
 //! Numbers as they stand in a line.
-ghost use Rattle.std.specs.Prelude.{◌≡◌, ◌≤◌, ◌<◌, false, length, get_or, take};
+ghost use Rattle.std.specs.Prelude.{◌≡◌, ◌≤◌, ◌<◌, false, length, get_or, take, option_map};
 ghost use Rattle.std.specs.Char.{is_ascii_digit};
 ghost use Rattle.std.specs.Str.Parse.{AllDigits, digits_value};
-ghost use Rattle.pay_wire.specs.Fields.{words, words_after, ends_word, Gives, field};
+ghost use Rattle.pay_wire.specs.Fields.{words, words_after, ends_word, field};
 ghost use Rattle.pay_wire.specs.Numbers.{number_of, is_plain};
 
-/// The greatest number of a line.
-const MOST: u64 = 4_294_967_295;
+use crate::limits::MOST_NUMBER;
 
 /// No number of a line has more digits.
 const MOST_DIGITS: usize = 10;
 
 /// The number that the first word of a line spells in decimal digits, and what follows the word. It has
-/// no sign and no leading zero, `0` itself apart, and is at most 4,294,967,295. `None` is a word that
+/// no sign and no leading zero, `0` itself apart, and is at most [`MOST_NUMBER`]. `None` is a word that
 /// spells no such number.
 pub fn read_number(line: &[u8]) -> Option<(u32, &[u8])>
-    ensures { Gives (λ x. (x.0, words_after x.1.now)) result (field number_of (words line.now)) }
+    ensures { option_map (λ x. (x.0, words_after x.1.now)) result ≡ field number_of (words line.now) }
 {
     let (value, end) = leading_digits(line);
-    if value > MOST {
+    if value > MOST_NUMBER {
         return None;
     }
     let (digits, rest) = line.split_at(end);

@@ -1,89 +1,119 @@
-//! Replies as they are written.
-ghost use Rattle.std.specs.Prelude.{◌≡◌, ◌≢◌, ◌<◌, ◌≤◌, length, take, Ok, OnOk, OnErr, IfOk, IfErr, IsErr};
-ghost use Rattle.std.specs.Io.KnownBytes.{Appends, Keeps};
+//! A writer, and how it did when it was last asked.
+ghost use Rattle.std.specs.Prelude.{◌≡◌, ◌≢◌, ◌<◌, false, Ok, IfOk, IfErr, OnOk};
+ghost use Rattle.std.specs.Io.{WritesAtMost};
+ghost use Rattle.std.specs.Io.KnownBytes.{WriteAppends, Keeps};
 ghost use Rattle.std.specs.IoError.{error_kind};
-ghost use Rattle.pay_wire.specs.Output.{AppendsFront};
-ghost use Rattle.pay_wire.specs.Replies.{spelling_of_reply, text_of_journeys};
+ghost use Rattle.pay_wire.specs.Output.{has_failed};
 
-use crate::reply::{Reply, first_line, journey_line};
-use pay_account::Line;
 use std::io;
 use std::io::{ErrorKind, Write};
 
-/// A writer that failed.
+/// Why a writer has not taken a reply.
 #[derive(Clone, Copy, Debug, PartialEq, Eq)]
-pub struct WriteFailed;
-
-/// What a writer's answer comes to: how many bytes it took. An interrupted writer took none and is asked
-/// again; one that takes none by itself has failed.
-fn taken(answer: io::Result<usize>) -> Result<usize, WriteFailed>
-    ensures some { IfOk answer (λ n. 0 < n → result ≡ Ok n) }
-    ensures none { IfOk answer (λ n. n ≡ 0 → IsErr result) }
-    ensures interrupted { IfErr answer (λ e. error_kind e ≡ ErrorKind.Interrupted → result ≡ Ok 0) }
-    ensures failed { IfErr answer (λ e. error_kind e ≢ ErrorKind.Interrupted → IsErr result) }
-{
-    match answer {
-        Ok(0) => Err(WriteFailed),
-        Ok(n) => Ok(n),
-        Err(e) if e.kind() == ErrorKind::Interrupted => Ok(0),
-        Err(_) => Err(WriteFailed),
-    }
+pub enum WriteFault {
+    /// A write failed, and was not interrupted.
+    Failed(ErrorKind),
+    /// A write took none of the bytes that it was given.
+    TookNothing,
+    /// The flush failed.
+    NotFlushed(ErrorKind),
+    /// 2^64 - 1 writes were not enough.
+    NeverDone,
 }
 
-/// Writes some of the bytes, and says how many. An interrupted writer has taken none. Where there are no
-/// bytes a writer that takes none has not failed, so it is not asked.
-fn write_some<W: Write>(writer: &mut W, bytes: &[u8]) -> Result<usize, WriteFailed>
-    requires { 0 < length bytes.now }
-    ensures within { IfOk result (λ n. n ≤ length bytes.now) }
-    ensures ok { IfOk result (λ n. Appends (W.contents writer.old) (W.contents writer.new) (take n bytes.now)) }
-    ensures err { OnErr result (Keeps (W.contents writer.old) (W.contents writer.new)) }
-{
-    taken(writer.write(bytes))
+/// How a writer did when it was last asked for something.
+#[derive(Clone, Copy, Debug, PartialEq, Eq)]
+pub enum State {
+    /// It took some bytes, or was not asked yet.
+    Open,
+    /// It was interrupted, and may be asked again.
+    Interrupted,
+    /// It was flushed, and has taken nothing since.
+    Flushed,
+    /// It failed, and is not asked again.
+    Failed(WriteFault),
 }
 
-/// Writes all the bytes. Where the writer fails, it has taken the first of them.
-fn write_whole<W: Write>(writer: &mut W, bytes: &[u8]) -> Result<(), WriteFailed>
-    ensures ok { OnOk result (Appends (W.contents writer.old) (W.contents writer.new) bytes.now) }
-    ensures err { OnErr result (AppendsFront (W.contents writer.old) (W.contents writer.new) bytes.now) }
-{
-    let mut taken = 0;
-    for _ in 0..u64::MAX {
-        if taken >= bytes.len() {
-            return Ok(());
+/// A writer, and how it did when it was last asked. Its methods alone ask the writer, and never after it
+/// has failed.
+#[derive(Drop)]
+pub struct Output<'a, W> {
+    writer: &'a mut W,
+    state: State,
+}
+
+impl<'a, W: Write> Output<'a, W> {
+    /// A writer that was not asked yet.
+    pub fn new(writer: &'a mut W) -> Output<'a, W>
+        ensures same_writer { result.writer.ghost_name ≡ writer.entry.ghost_name }
+        ensures writer { result.writer.now ≡ writer.old }
+        ensures open { result.state ≡ State.Open }
+    {
+        Output {
+            writer,
+            state: State::Open,
         }
-        taken += write_some(writer, &bytes[taken..])?;
     }
-    Err(WriteFailed)
-}
 
-/// Writes the lines of journeys. Where the writer fails, it has taken a front of them.
-fn write_journeys<W: Write>(writer: &mut W, journeys: &[Line]) -> Result<(), WriteFailed>
-    ensures ok { OnOk result (Appends (W.contents writer.old) (W.contents writer.new) (text_of_journeys journeys.now)) }
-    ensures err { OnErr result (AppendsFront (W.contents writer.old) (W.contents writer.new) (text_of_journeys journeys.now)) }
-{
-    for journey in journeys {
-        write_whole(writer, journey_line(journey).as_slice())?;
+    /// How the writer did when it was last asked.
+    pub fn state(&self) -> State
+        ensures { result ≡ self.now.state }
+    {
+        self.state
     }
-    Ok(())
+
+    /// Asks the writer to take bytes, and keeps how it did.
+    pub fn write(&mut self, bytes: &[u8]) -> io::Result<usize>
+        requires { has_failed self.old.state ≡ false }
+        ensures same_writer { self.new.writer.ghost_name ≡ self.old.writer.ghost_name }
+        ensures bound { WritesAtMost result bytes.now }
+        ensures bytes { WriteAppends (W.contents self.old.writer.now) (W.contents self.new.writer.now) result bytes.now }
+        ensures some { IfOk result (λ n. 0 < n → self.new.state ≡ State.Open) }
+        ensures none { IfOk result (λ n. n ≡ 0 → self.new.state ≡ State.Failed WriteFault.TookNothing) }
+        ensures interrupted { IfErr result (λ e. error_kind e ≡ ErrorKind.Interrupted → self.new.state ≡ State.Interrupted) }
+        ensures failed { IfErr result (λ e. error_kind e ≢ ErrorKind.Interrupted
+            → self.new.state ≡ State.Failed (WriteFault.Failed (error_kind e))) }
+    {
+        let written = self.writer.write(bytes);
+        self.state = state_after(&written);
+        written
+    }
+
+    /// Flushes the writer, and keeps how it did.
+    pub fn flush(&mut self) -> Result<(), WriteFault>
+        requires { has_failed self.old.state ≡ false }
+        ensures same_writer { self.new.writer.ghost_name ≡ self.old.writer.ghost_name }
+        ensures bytes { Keeps (W.contents self.old.writer.now) (W.contents self.new.writer.now) }
+        ensures ok { OnOk result (self.new.state ≡ State.Flushed) }
+        ensures err { IfErr result (λ fault. self.new.state ≡ State.Failed fault) }
+        ensures not_interrupted { IfErr result (λ fault. fault ≢ WriteFault.Failed ErrorKind.Interrupted) }
+    {
+        match self.writer.flush() {
+            Ok(()) => {
+                self.state = State::Flushed;
+                Ok(())
+            }
+            Err(e) => {
+                let fault = WriteFault::NotFlushed(e.kind());
+                self.state = State::Failed(fault);
+                Err(fault)
+            }
+        }
+    }
 }
 
-/// Writes the lines of a reply. Where the writer fails, it has taken a front of them.
-fn write_reply<W: Write>(writer: &mut W, reply: &Reply) -> Result<(), WriteFailed>
-    ensures ok { OnOk result (Appends (W.contents writer.old) (W.contents writer.new) (spelling_of_reply reply.now)) }
-    ensures err { OnErr result (AppendsFront (W.contents writer.old) (W.contents writer.new) (spelling_of_reply reply.now)) }
+/// How a writer did that was asked to take bytes.
+fn state_after(written: &io::Result<usize>) -> State
+    ensures some { IfOk written.now (λ n. 0 < n → result ≡ State.Open) }
+    ensures none { IfOk written.now (λ n. n ≡ 0 → result ≡ State.Failed WriteFault.TookNothing) }
+    ensures interrupted { IfErr written.now (λ e. error_kind e ≡ ErrorKind.Interrupted → result ≡ State.Interrupted) }
+    ensures failed { IfErr written.now (λ e. error_kind e ≢ ErrorKind.Interrupted
+        → result ≡ State.Failed (WriteFault.Failed (error_kind e))) }
 {
-    write_whole(writer, first_line(reply).as_slice())?;
-    write_journeys(writer, reply.journeys())
-}
-
-/// Writes a reply and flushes the writer. Where that fails, the writer has taken a front of it.
-pub fn send<W: Write>(writer: &mut W, reply: &Reply) -> Result<(), WriteFailed>
-    ensures ok { OnOk result (Appends (W.contents writer.old) (W.contents writer.new) (spelling_of_reply reply.now)) }
-    ensures err { OnErr result (AppendsFront (W.contents writer.old) (W.contents writer.new) (spelling_of_reply reply.now)) }
-{
-    write_reply(writer, reply)?;
-    match writer.flush() {
-        Ok(()) => Ok(()),
-        Err(_) => Err(WriteFailed),
+    match written {
+        Ok(0) => State::Failed(WriteFault::TookNothing),
+        Ok(_) => State::Open,
+        Err(e) if e.kind() == ErrorKind::Interrupted => State::Interrupted,
+        Err(e) => State::Failed(WriteFault::Failed(e.kind())),
     }
 }

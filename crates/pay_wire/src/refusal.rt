@@ -17,7 +17,7 @@ pub enum Refusal {
     AccountFull,
     /// 50: the line spells no command.
     BadLine,
-    /// 51: the line has more than 128 bytes.
+    /// 51: the line has more than [`MOST_LINE_BYTES`](crate::limits::MOST_LINE_BYTES) bytes.
     LongLine,
     /// 60: the command is not served yet.
     NotYet,

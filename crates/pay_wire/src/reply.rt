@@ -17,7 +17,7 @@ const NUMBER_BYTES: usize = 20;
 /// A line of a reply.
 pub type SpelledLine = ArrayVec<u8, REPLY_BYTES>;
 
-/// The answer to a line.
+/// The reply to a line.
 #[derive(Drop)]
 pub enum Reply {
     /// A tap was accepted.
@@ -31,8 +31,8 @@ pub enum Reply {
 }
 
 impl Reply {
-    /// The journeys that are told behind the first line.
-    pub fn journeys(&self) -> &[Line]
+    /// The journeys that have lines of their own behind the first.
+    pub(crate) fn journeys(&self) -> &[Line]
         ensures { result.now ≡ journeys_of_reply self.now }
     {
         match self {

@@ -6,7 +6,8 @@ use pay_money::Pence;
 use pay_taps::Kind;
 use std::alloc::Global;
 use std::io;
-use std::io::Write;
+use std::io::{ErrorKind, Write};
+use std::process::Abort;
 use std::test::Fail;
 
 /// A tap of account 7 by reader 1.
@@ -98,7 +99,7 @@ fn journey(kind: LineKind, from: u16, to: u16, utc: u64, second: u32, fare: u64)
     }
 }
 
-/// The answer to a tap of 2024-01-08.
+/// The reply to a tap of 2024-01-08.
 fn priced(again: bool) -> Reply {
     Reply::Priced(Priced {
         again,
@@ -160,7 +161,7 @@ fn empty_day(alloc: Global) -> Reply {
     })
 }
 
-/// The answer to a tap of day 50,000 at the greatest prices.
+/// The reply to a tap of day 50,000 at the greatest prices.
 fn dearest() -> Reply {
     Reply::Priced(Priced {
         again: true,
@@ -193,77 +194,167 @@ fn sends_replies(rt: HostRuntime) -> Result<(), Fail> {
     Ok(())
 }
 
-/// Takes so many bytes, at most five at a call, and then fails, or takes nothing. Each second call is
-/// interrupted. Its flush may fail.
+/// What a writer does when it is asked.
+#[derive(Clone, Copy)]
+enum Step {
+    /// It takes at most so many of the bytes.
+    Takes(usize),
+    Fails(ErrorKind),
+}
+
+/// Does the steps in turn, and takes all bytes after them. It counts how often it is asked and flushed,
+/// and keeps how many bytes it held when it was last flushed.
 #[derive(Drop)]
-struct Failing {
-    room: usize,
-    takes_nothing: bool,
-    flushes: bool,
-    calls: u32,
-    flushed: bool,
+struct Scripted<'a> {
+    steps: &'a [Step],
+    flush_fails: Option<ErrorKind>,
+    asked: usize,
+    flushes: usize,
+    flushed: usize,
     held: Vec<u8>,
 }
 
-impl Failing {
-    fn new(alloc: Global, room: usize, takes_nothing: bool, flushes: bool) -> Failing {
-        Failing {
-            room,
-            takes_nothing,
-            flushes,
-            calls: 0,
-            flushed: false,
+impl<'a> Scripted<'a> {
+    fn new(alloc: Global, steps: &'a [Step], flush_fails: Option<ErrorKind>) -> Scripted<'a> {
+        Scripted {
+            steps,
+            flush_fails,
+            asked: 0,
+            flushes: 0,
+            flushed: 0,
             held: Vec::new(alloc),
         }
     }
 }
 
-impl Write for Failing {
+impl Write for Scripted<'_> {
     fn write(&mut self, buf: &[u8]) -> io::Result<usize> {
-        self.calls = self.calls.wrapping_add(1);
-        if self.calls % 2 == 0 {
-            return Err(io::Error::from(io::ErrorKind::Interrupted));
-        }
-        let n = self.room.min(5).min(buf.len());
-        if n == 0 && !self.takes_nothing {
-            return Err(io::Error::from(io::ErrorKind::Other));
-        }
+        let step = self.steps.get(self.asked).copied();
+        self.asked = self.asked.wrapping_add(1);
+        let n = match step {
+            None => buf.len(),
+            Some(Step::Takes(n)) => n.min(buf.len()),
+            Some(Step::Fails(kind)) => return Err(io::Error::from(kind)),
+        };
         self.held.extend_from_slice(&buf[..n])?;
-        self.room -= n;
         Ok(n)
     }
 
     fn flush(&mut self) -> io::Result<()> {
-        if !self.flushes {
-            return Err(io::Error::from(io::ErrorKind::Other));
+        self.flushes = self.flushes.wrapping_add(1);
+        self.flushed = self.held.len();
+        match self.flush_fails {
+            None => Ok(()),
+            Some(kind) => Err(io::Error::from(kind)),
         }
-        self.flushed = true;
-        Ok(())
     }
 }
 
 #[test]
-fn stops_where_the_writer_fails(rt: HostRuntime) -> Result<(), Fail> {
+fn flushes_each_reply_once(rt: HostRuntime) -> Result<(), Fail> {
     let alloc = rt.alloc();
-    let reply = shown(alloc)?;
     let rows = [
-        // It fails in the second line, or takes nothing there.
-        (30, false, true, Err(WriteFailed)),
-        (30, true, true, Err(WriteFailed)),
-        // All 77 bytes are taken, and its flush fails, or does not.
-        (77, false, false, Err(WriteFailed)),
-        (77, false, true, Ok(())),
+        (priced(false), "OK 19730 175 350\n"),
+        (priced(true), "AGAIN 19730 175 350\n"),
+        (shown(alloc)?, SHOWN),
+        (empty_day(alloc), "SHOW 7 19730 0 0\n"),
+        (Reply::No(Refusal::BadLine), "NO 50 BadLine\n"),
+        (Reply::Bye, "BYE\n"),
     ];
-    for (room, takes_nothing, flushes, wanted) in rows {
-        let mut writer = Failing::new(alloc, room, takes_nothing, flushes);
-        let sent = send(&mut writer, &reply);
-        assert_eq!(rt; sent, wanted, "at {room}");
-        let Failing { held, flushed, .. } = writer;
-        assert_eq!(rt;
-            held.as_slice(),
-            SHOWN.as_bytes().get(..room).ok_or("long")?
-        );
-        assert_eq!(rt; flushed, sent.is_ok(), "at {room}");
+    for (reply, wanted) in &rows {
+        let mut writer = Scripted::new(alloc, &[], None);
+        assert_eq!(rt; send(&mut writer, reply), Ok(()));
+        let Scripted {
+            held,
+            flushes,
+            flushed,
+            ..
+        } = writer;
+        assert_eq!(rt; held.as_slice(), wanted.as_bytes());
+        assert_eq!(rt; (flushes, flushed), (1, wanted.len()), "at {wanted}");
+    }
+    Ok(())
+}
+
+/// Sends the journeys of a day, lines of 19, 28 and 30 bytes, to a writer that does these steps.
+/// `held` bytes are wanted of it in `asked` calls, and a flush where it took all.
+fn sends_in_steps(
+    rt: &impl Abort,
+    alloc: Global,
+    steps: &[Step],
+    flush_fails: Option<ErrorKind>,
+    wanted: Result<(), WriteFault>,
+    held: usize,
+    asked: usize,
+) -> Result<(), Fail> {
+    let mut writer = Scripted::new(alloc, steps, flush_fails);
+    assert_eq!(rt; send(&mut writer, &shown(alloc)?), wanted);
+    let front = SHOWN.as_bytes().get(..held).ok_or("long")?;
+    assert_eq!(rt; writer.held.as_slice(), front);
+    assert_eq!(rt; writer.asked, asked, "at {held}");
+    assert_eq!(rt;
+        writer.flushes,
+        usize::from(held == SHOWN.len()),
+        "at {held}"
+    );
+    Ok(())
+}
+
+#[test]
+fn asks_until_the_writer_fails(rt: HostRuntime) -> Result<(), Fail> {
+    use Step::{Fails, Takes};
+    let alloc = rt.alloc();
+    let pipe = ErrorKind::BrokenPipe;
+    let again = ErrorKind::Interrupted;
+    let hard = Err(WriteFault::Failed(pipe));
+    let nothing = Err(WriteFault::TookNothing);
+    // It would take what is left after it failed, or took nothing, once.
+    sends_in_steps(&rt, alloc, &[Fails(pipe)], None, hard, 0, 1)?;
+    sends_in_steps(&rt, alloc, &[Takes(5), Fails(pipe)], None, hard, 5, 2)?;
+    sends_in_steps(
+        &rt,
+        alloc,
+        &[Takes(19), Takes(11), Fails(pipe)],
+        None,
+        hard,
+        30,
+        3,
+    )?;
+    sends_in_steps(&rt, alloc, &[Fails(again), Fails(pipe)], None, hard, 0, 2)?;
+    sends_in_steps(&rt, alloc, &[Takes(0)], None, nothing, 0, 1)?;
+    sends_in_steps(
+        &rt,
+        alloc,
+        &[Takes(19), Takes(28), Takes(0)],
+        None,
+        nothing,
+        47,
+        3,
+    )?;
+    // Where it is interrupted it is asked again.
+    sends_in_steps(&rt, alloc, &[Fails(again)], None, Ok(()), 77, 4)?;
+    sends_in_steps(
+        &rt,
+        alloc,
+        &[Takes(5), Fails(again), Fails(again)],
+        None,
+        Ok(()),
+        77,
+        6,
+    )?;
+    // It takes a byte at a time.
+    sends_in_steps(&rt, alloc, &[Takes(1); 77], None, Ok(()), 77, 77)?;
+    // It takes all, and its flush fails once.
+    for kind in [pipe, again] {
+        sends_in_steps(
+            &rt,
+            alloc,
+            &[],
+            Some(kind),
+            Err(WriteFault::NotFlushed(kind)),
+            77,
+            3,
+        )?;
     }
     Ok(())
 }

@@ -1,4 +1,6 @@
-pub mod WordsAfterRun
-pub mod WordKinds
-pub mod WordLevels
-pub mod WordsAsked
+mod JobWords
+mod Results
+mod WordKinds
+mod WordLevels
+mod WordsAfterRun
+mod WordsAsked

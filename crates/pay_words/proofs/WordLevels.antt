@@ -1,15 +1,15 @@
 -- What `clap` makes of the words of one level, the process's or a program's, from any place on.
-use Rattle.std.proofs.Common.{◌≡◌, ◌||◌, ℕ, Bool, codes, true, false, refl, ap, ap₂, List, [], ◌∷◌, Option, Some, None, fold}
-use Rattle.std.specs.Prelude.{◌==◌, if◌then◌else◌}
+use Rattle.std.proofs.Common.{◌≡◌, ℕ, Bool, true, false, refl, ap, ap₂, List, [], ◌∷◌, Option, None, fold}
 use Rattle.std.specs.Str.{bytes_eq}
-use Rattle.clap.specs.Walk.{Held, Names, Row, Rule, Step, Text, Walk, idle, value, trailing, word_met, arg_by_long, arg_by_short, after_step, finished, settled, subcommand_met, walked}
+use Rattle.clap.specs.Walk.{Held, Names, Row, Rule, Step, Text, Walk, idle, value, trailing, word_met, after_step, finished, settled, subcommand_met, walked}
 use Rattle.clap.specs.Simple.{Shape}
 use Rattle.clap.specs.Kinds.{Kinds, or_else}
-use Rattle.clap.specs.Faults.{check_fault, defaults_fault, settle_fault, step_fault, word_fault, turn_fault, walk_fault}
-use Rattle.clap.specs.declared.error.kind.ErrorKind.TheVariants.{DisplayHelp}
-use Rattle.pay_words.specs.ProgramWords.{Word}
-use Rattle.pay_words.specs.ProgramWords as words
-use Rattle.pay_words.proofs.WordKinds.{Reads, Refuses, help_filled}
+use Rattle.clap.specs.Lexer.{long_of}
+use Rattle.clap.specs.Faults.{check_fault, defaults_fault, flag_word_fault, settle_fault, step_fault, word_fault, turn_fault, walk_fault}
+use Rattle.clap.specs.declared.error.kind.ErrorKind.{ErrorKind}
+use Rattle.pay_words.specs.Asked.{Word}
+use Rattle.pay_words.specs.Asked as words
+use Rattle.pay_words.proofs.WordKinds.{LongOptions, Reads, Refuses, ShortOptions}
 
 -- what a parse of one level comes to, from a place of its walk
 abbrev pub Level : Shape → Names → Walk → List Text → Bool → Kinds → Kinds
@@ -37,9 +37,9 @@ module _ (s : Shape) (names : Names) (w : Walk) (word : Text) (rest : List Text)
   pub rows_next : (next : Walk) → walked s.rules names w word ≡ next → rows_from s names w (word ∷ rest) ≡ rows_from s names next rest
   rows_next next is = ap (λ (v : Walk). rows_from s names v rest) is
 
-  pub level_helps : turn_fault s names w word ≡ DisplayHelp ∷ [] → Level s names w (word ∷ rest) has below ≡ DisplayHelp ∷ []
+  pub level_shows : (k : ErrorKind) → turn_fault s names w word ≡ k ∷ [] → Level s names w (word ∷ rest) has below ≡ k ∷ []
   unfolding walk_fault
-  level_helps is = rw is refl
+  level_shows k is = rw is refl
 
   pub level_refuses : Refuses (turn_fault s names w word) → Refuses (Level s names w (word ∷ rest) has below)
   unfolding walk_fault
@@ -55,9 +55,7 @@ place rows pending position is_trailing = record {
   stopped = None;
 }
 
-module _ (c : List Rule)
-    (long : (name : Text) → arg_by_long c name ≡ (if bytes_eq (codes "help") name || false then Some help_filled else None))
-    (short : (x : ℕ) → arg_by_short c x ≡ (if (104 == x) || false then Some help_filled else None))
+module _ (c : List Rule) (versioned : Bool) (long : LongOptions c versioned) (short : ShortOptions c versioned)
     (s : Shape) (names : Names) (rows : List Row) (pending : Option (Text × List Text)) (position : ℕ)
     (word : Text) (unmet : subcommand_met names idle word ≡ None) where
   abbrev shape : Shape
@@ -67,10 +65,12 @@ module _ (c : List Rule)
   here = place rows pending position false
 
   abbrev ReadsAs : Word → Type 0
-  ReadsAs k = Reads c long short rows pending k word
+  ReadsAs k = Reads c versioned long short rows pending k word
 
-  pub turn_helps : ReadsAs words.call_for_help → turn_fault shape names here word ≡ DisplayHelp ∷ []
-  turn_helps r = rw (unmet, r.0, r.1) refl
+  -- an option that shows a text, and what was asked for
+  pub turn_shows : (k : ErrorKind) → bytes_eq word (45 ∷ 45 ∷ []) ≡ false → flag_word_fault c false (long_of word) word here.held ≡ k ∷ []
+      → turn_fault shape names here word ≡ k ∷ []
+  turn_shows k other is = rw (unmet, other, is) refl
 
   pub turn_refuses : ReadsAs words.option → Refuses (turn_fault shape names here word)
   turn_refuses r =

@@ -1,13 +1,16 @@
--- What the command line takes, as `clap` has it, and what its answers come to.
+-- What the command line takes, as `clap` has it, and what its matches and errors come to.
 use Rattle.std.specs.Prelude.{◌≡◌, ⊤, true, codes, List, Option, Some, option_map}
+use Rattle.std.specs.String.{string_bytes}
 use Rattle.clap.specs.Words.{App, Row, Rule, Text, first_of, new_app, new_rule, subcommand_rows_of}
 use Rattle.clap.specs.Words.{with_rule, with_subcommand}
 use Rattle.clap.specs.Simple.{on_top}
 use Rattle.clap.specs.declared.error.kind.ErrorKind.{ErrorKind}
-use Rattle.clap.specs.declared.error.kind.ErrorKind.TheVariants.{DisplayHelp, OutOfMemory}
+use Rattle.clap.specs.declared.error.kind.ErrorKind.TheVariants.{DisplayHelp, DisplayVersion}
+use Rattle.clap.specs.declared.error.kind.ErrorKind.TheVariants.{OutOfMemory}
 use Rattle.clap.specs.declared.parser.matches.ArgMatches.{ArgMatches}
 use Rattle.pay_words.specs.declared.words.WordsFault.{WordsFault}
-use Rattle.pay_words.specs.declared.words.WordsFault.TheVariants.{Help, Usage, Memory}
+use Rattle.pay_words.specs.declared.words.WordsFault.TheVariants.{Help, Version, Usage, Memory}
+use Rattle.pay_words.specs.Asked.{version_line}
 
 -- a word that has to be there
 abbrev pub required_word : Text → Rule
@@ -18,10 +21,11 @@ abbrev pub run_app : App
 run_app = with_rule (with_rule (new_app (codes "run")) (required_word (codes "FARES")))
     (required_word (codes "ZONE"))
 
--- the program, which wants one of its programs named
+-- the program, which has a version, and wants one of its programs named
 abbrev pub farebox_app : App
 farebox_app = with_subcommand
-    (on_top (λ top. record top { subcommand_required = true }) (new_app (codes "farebox")))
+    (on_top (λ top. record top { has_version = true; subcommand_required = true })
+    (new_app (codes "farebox")))
     run_app.top
 
 -- the subcommand that the matches have, with its values
@@ -36,11 +40,20 @@ GivesRun m fares zone =
 -- help was asked for, or memory was refused
 abbrev pub IsHelpOrMemory : WordsFault → Type 0
 IsHelpOrMemory (Help text) = ⊤
+IsHelpOrMemory (Version text) = ⊥
 IsHelpOrMemory Usage = ⊥
 IsHelpOrMemory Memory = ⊤
+
+-- the version was asked for, or memory was refused
+abbrev pub IsVersionOrMemory : WordsFault → Type 0
+IsVersionOrMemory (Help text) = ⊥
+IsVersionOrMemory (Version text) = string_bytes text ≡ version_line
+IsVersionOrMemory Usage = ⊥
+IsVersionOrMemory Memory = ⊤
 
 -- the fault that an error of this kind is
 abbrev pub IsFaultOfKind : ErrorKind → WordsFault → Type 0
 IsFaultOfKind DisplayHelp fault = IsHelpOrMemory fault
+IsFaultOfKind DisplayVersion fault = IsVersionOrMemory fault
 IsFaultOfKind OutOfMemory fault = fault ≡ Memory
 IsFaultOfKind _ fault = fault ≡ Usage

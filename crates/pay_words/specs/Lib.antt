@@ -1,2 +1,3 @@
 pub mod CommandLine
-pub mod ProgramWords
+pub mod Asked
+pub mod Words

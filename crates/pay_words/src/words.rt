@@ -4,15 +4,19 @@ ghost use Rattle.std.specs.Prelude.{IfOk, IfErr, IsOkAnd, MatchResult};
 ghost use Rattle.clap.specs.Walk.{texts};
 ghost use Rattle.clap.specs.Words.{app_of, first_value, found_of, kind_of};
 ghost use Rattle.clap.specs.declared.builder.command.Command.TheViews.{out-Command as fields_of};
-ghost use Rattle.pay_words.specs.CommandLine.{GivesRun, IsFaultOfKind, IsHelpOrMemory};
+ghost use Rattle.pay_words.specs.CommandLine.{GivesRun, IsFaultOfKind, IsHelpOrMemory, IsVersionOrMemory};
 ghost use Rattle.pay_words.specs.CommandLine.{farebox_app, run_app};
-ghost use Rattle.pay_words.specs.ProgramWords.{IsFaultOf, Text, asked, job_asked, job_words};
-ghost use Rattle.pay_words.specs.ProgramWords.{run as run_asked, without_dashes};
+ghost use Rattle.pay_words.specs.Asked.{IsFaultOf, Text, asked, job_asked, job_words};
+ghost use Rattle.pay_words.specs.Asked.{run as run_asked, without_dashes};
 ghost use Rattle.pay_words.specs.declared.words.WordsFault.TheVariants.{Memory};
 
+use crate::help;
 use clap::error::ErrorKind;
 use clap::{Arg, ArgMatches, Command, Error};
 use std::alloc::{AllocError, Global};
+
+/// The version of the program.
+const VERSION: &str = "0.1.0";
 
 /// The job that the words ask for, with its values.
 #[derive(Clone, Copy, Debug, PartialEq, Eq)]
@@ -35,6 +39,8 @@ pub struct RunWords<'a> {
 pub enum WordsFault {
     /// The words ask for help, and this is its text.
     Help(String),
+    /// The words ask for the version, and this is the line that says it.
+    Version(String),
     /// The words name no program, or are not those that the program takes.
     Usage,
     /// Memory for reading the words was refused.
@@ -51,8 +57,8 @@ impl From<AllocError> for WordsFault {
 
 /// Reads the words of the process, of which the first is the program's own name.
 ///
-/// A word that begins with a hyphen and goes on is an option, and help is the only one; `--` says
-/// that each word after it is a value.
+/// A word that begins with a hyphen and goes on is an option: help, or in the place of a program
+/// the version, and no other. `--` says that each word after it is a value.
 pub fn read_words<'a>(alloc: Global, words: &'a [&'a str]) -> Result<Job<'a>, WordsFault>
     ensures job { IfOk result (λ job. asked (texts words.entry.now) ≡ job_asked job) }
     ensures refused { IfErr result (IsFaultOf (asked (texts words.entry.now))) }
@@ -80,6 +86,9 @@ fn farebox_command<'a>(alloc: Global) -> Result<Command<'a>, AllocError>
 {
     let run = run_command(alloc)?;
     Command::new(alloc, "farebox")
+        .version(VERSION)
+        .about(help::PROGRAM)
+        .after_help(help::BELOW_PROGRAM)
         .subcommand_required(true)
         .subcommand(run)
 }
@@ -88,9 +97,13 @@ fn run_command<'a>(alloc: Global) -> Result<Command<'a>, AllocError>
     ensures app { IfOk result (λ command. app_of command ≡ run_app) }
     ensures local { IfOk result (λ command. (fields_of command).has_globals ≡ false) }
 {
-    let fares = Arg::new(alloc, "FARES").required(true);
-    let zone = Arg::new(alloc, "ZONE").required(true);
-    Command::new(alloc, "run").arg(fares)?.arg(zone)
+    let fares = Arg::new(alloc, "FARES").required(true).help(help::FARES);
+    let zone = Arg::new(alloc, "ZONE").required(true).help(help::ZONE);
+    Command::new(alloc, "run")
+        .about(help::RUN)
+        .after_help(help::BELOW_RUN)
+        .arg(fares)?
+        .arg(zone)
 }
 
 fn job_of<'a>(matches: &ArgMatches<'a>) -> Result<Job<'a>, WordsFault>
@@ -120,6 +133,7 @@ fn fault_of(alloc: Global, error: &Error) -> WordsFault
 {
     match error.kind() {
         ErrorKind::DisplayHelp => help_fault(alloc, error),
+        ErrorKind::DisplayVersion => version_fault(alloc),
         ErrorKind::OutOfMemory => WordsFault::Memory,
         _ => WordsFault::Usage,
     }
@@ -130,6 +144,15 @@ fn help_fault(alloc: Global, error: &Error) -> WordsFault
 {
     match format!(in alloc; "{error}") {
         Ok(text) => WordsFault::Help(text),
+        Err(_) => WordsFault::Memory,
+    }
+}
+
+fn version_fault(alloc: Global) -> WordsFault
+    ensures { IsVersionOrMemory result }
+{
+    match format!(in alloc; "farebox {VERSION}\n") {
+        Ok(text) => WordsFault::Version(text),
         Err(_) => WordsFault::Memory,
     }
 }

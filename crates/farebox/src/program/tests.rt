@@ -1,4 +1,5 @@
-use super::{Fault, run_session};
+use super::run_session;
+use crate::fault::Fault;
 use crate::session::SessionFault;
 use pay_tables::FareFileFault;
 use pay_words::RunWords;

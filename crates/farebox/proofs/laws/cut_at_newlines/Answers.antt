@@ -1,4 +1,4 @@
-use Rattle.farebox.proofs.Cuts.{whole_again, lines_are_whole, rest_is_no_line, only_cutting}
+use Rattle.farebox.proofs.InputLines.{whole_again, lines_are_whole, rest_is_no_line, only_cutting}
 use Rattle.farebox.proofs.laws.cut_at_newlines.Goals as goal
 
 pub returns : goal.returns

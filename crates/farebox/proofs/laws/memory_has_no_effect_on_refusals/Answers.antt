@@ -1,4 +1,4 @@
-use Rattle.farebox.proofs.Cuts.{nothing_kept, refused_alike, price_refused, bye_alike, show_refused}
+use Rattle.farebox.proofs.InputLines.{nothing_kept, refused_alike, price_refused, bye_alike, show_refused}
 use Rattle.farebox.proofs.laws.memory_has_no_effect_on_refusals.Goals as goal
 
 pub returns : goal.returns

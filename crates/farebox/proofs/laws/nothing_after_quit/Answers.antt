@@ -1,4 +1,4 @@
-use Rattle.farebox.proofs.Cuts.{stops_at_quit, leaves_behind_quit, same_before_quit}
+use Rattle.farebox.proofs.InputLines.{stops_at_quit, leaves_behind_quit, same_before_quit}
 use Rattle.farebox.proofs.laws.nothing_after_quit.Goals as goal
 
 pub returns : goal.returns

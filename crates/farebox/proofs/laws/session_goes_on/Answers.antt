@@ -1,4 +1,4 @@
-use Rattle.farebox.proofs.Cuts.{goes_on, bad_goes_on, long_goes_on}
+use Rattle.farebox.proofs.InputLines.{goes_on, bad_goes_on, long_goes_on}
 use Rattle.farebox.proofs.laws.session_goes_on.Goals as goal
 
 pub returns : goal.returns

@@ -1,4 +1,4 @@
-use Rattle.farebox.proofs.Cuts.{front_of, none_unread}
+use Rattle.farebox.proofs.InputLines.{front_of, none_unread}
 use Rattle.farebox.proofs.laws.unread_behind_quit.Goals as goal
 
 pub returns : goal.returns

@@ -1,5 +1,5 @@
 use Rattle.std.proofs.Common.{arith}
-use Rattle.pay_account.proofs.Days.{boardings_of_week}
+use Rattle.pay_account.proofs.FaresOfDays.{boardings_of_week}
 use Rattle.pay_account.proofs.prices.sums_of_boardings.Goals as goal
 
 pub returns-clause-week : goal.returns-clause-week

@@ -1,5 +1,5 @@
 use Rattle.pay_hopper.proofs.LastPaying.{all_marked}
-use Rattle.pay_hopper.proofs.Sets.{paying_marks_is}
+use Rattle.pay_hopper.proofs.PayingSets.{paying_marks_is}
 use Rattle.pay_hopper.proofs.hopper.paying.Goals as goal
 
 pub returns-clause-computed : goal.returns-clause-computed

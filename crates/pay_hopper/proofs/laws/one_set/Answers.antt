@@ -1,4 +1,4 @@
-use Rattle.pay_hopper.proofs.Sets.{paying_marks_is, one_paying_set}
+use Rattle.pay_hopper.proofs.PayingSets.{paying_marks_is, one_paying_set}
 use Rattle.pay_hopper.proofs.laws.one_set.Goals as goal
 
 pub returns-clause-there : goal.returns-clause-there

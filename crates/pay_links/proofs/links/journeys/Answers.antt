@@ -1,5 +1,5 @@
 use Rattle.pay_links.proofs.Divisions.{journeys_are}
-use Rattle.pay_links.proofs.Runs.{all_read}
+use Rattle.pay_links.proofs.OpenRun.{all_read}
 use Rattle.pay_links.proofs.links.journeys.Goals as goal
 
 pub returns-clause-described : goal.returns-clause-described

@@ -1,5 +1,5 @@
 use Rattle.clap.specs.Words.{found_of}
-use Rattle.pay_words.proofs.WordsAsked.{run_values}
+use Rattle.pay_words.proofs.Results.{run_values}
 use Rattle.pay_words.proofs.words.job_of.Goals as goal
 
 pub returns-in-Some-run-default : goal.returns-in-Some-run-default

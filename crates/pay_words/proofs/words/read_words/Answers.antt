@@ -1,9 +1,9 @@
 use Rattle.std.proofs.Common.{◌≡◌, Err, ap, subst, List, []}
 use Rattle.clap.specs.Words.{App, HasMatchesOf, HasKind, Text, app_of, fault_of, is_simple_and_free, kind_of}
 use Rattle.clap.specs.Walk.{texts}
-use Rattle.pay_words.specs.ProgramWords.{asked}
+use Rattle.pay_words.specs.Asked.{asked}
 use Rattle.pay_words.specs.CommandLine.{farebox_app}
-use Rattle.pay_words.proofs.WordsAsked.{answered, refused_as, result_job, result_no_fault, result_plain, result_words}
+use Rattle.pay_words.proofs.Results.{matched_run, refused_as, result_job, result_no_fault, result_plain, result_words}
 use Rattle.pay_words.proofs.words.read_words.Goals as goal
 
 pub returns-in-Ok-clause-job : goal.returns-in-Ok-clause-job
@@ -11,7 +11,7 @@ returns-in-Ok-clause-job c =
     let ws : List Text = texts c.args.words.now in
     let app_is : app_of c.in_ok-command.command ≡ farebox_app = c.in_ok-command.ensures in
     let none : fault_of farebox_app ws ≡ [] = subst (λ (a : App). fault_of a ws ≡ []) app_is (c.in-Ok.ensures.kinds (ap is_simple_and_free app_is)) in
-    let run = answered ws c.in-Ok.matches none (subst (λ (a : App). HasMatchesOf a ws c.in-Ok.matches) app_is c.in-Ok.ensures.matches) in
+    let run = matched_run ws c.in-Ok.matches none (subst (λ (a : App). HasMatchesOf a ws c.in-Ok.matches) app_is c.in-Ok.ensures.matches) in
     result_job c.job_of.result (asked ws) run.0 run.1 run.2 (c.job_of.ensures run.0 run.1 run.3)
 
 pub returns-in-Ok-clause-refused : goal.returns-in-Ok-clause-refused
@@ -19,7 +19,7 @@ returns-in-Ok-clause-refused c =
     let ws : List Text = texts c.args.words.now in
     let app_is : app_of c.in_ok-command.command ≡ farebox_app = c.in_ok-command.ensures in
     let none : fault_of farebox_app ws ≡ [] = subst (λ (a : App). fault_of a ws ≡ []) app_is (c.in-Ok.ensures.kinds (ap is_simple_and_free app_is)) in
-    let run = answered ws c.in-Ok.matches none (subst (λ (a : App). HasMatchesOf a ws c.in-Ok.matches) app_is c.in-Ok.ensures.matches) in
+    let run = matched_run ws c.in-Ok.matches none (subst (λ (a : App). HasMatchesOf a ws c.in-Ok.matches) app_is c.in-Ok.ensures.matches) in
     result_no_fault c.job_of.result _ _ (c.job_of.ensures run.0 run.1 run.3)
 
 pub returns-in-Ok-clause-words : goal.returns-in-Ok-clause-words

@@ -1,6 +1,6 @@
 use Rattle.std.proofs.Common.{ap, ◌∙◌}
 use Rattle.farebox.specs.Accounts.{seen}
-use Rattle.farebox.proofs.Held.{seen_none}
+use Rattle.farebox.proofs.AccountMaps.{seen_none}
 use Rattle.farebox.proofs.accounts.Accounts.new.Goals as goal
 
 pub returns : goal.returns

@@ -1,4 +1,4 @@
-use Rattle.farebox.proofs.Held.{opened}
+use Rattle.farebox.proofs.AccountMaps.{opened}
 use Rattle.farebox.proofs.accounts.Accounts.open.Goals as goal
 
 pub returns-in-Ok-clause-after : goal.returns-in-Ok-clause-after

@@ -1,7 +1,7 @@
 use Rattle.std.proofs.Common.{◌≡◌, ap, sym, ◌∙◌}
 use Rattle.std.proofs.lemmas.Result.{IfOk-weaker}
 use Rattle.pay_account.specs.Lines.{shown}
-use Rattle.farebox.proofs.Held.{taps_held, taps_not_held}
+use Rattle.farebox.proofs.AccountMaps.{taps_held, taps_not_held}
 use Rattle.farebox.proofs.accounts.Accounts.show.Goals as goal
 
 pub returns-in-Some : goal.returns-in-Some

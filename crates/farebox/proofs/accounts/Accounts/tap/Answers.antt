@@ -1,5 +1,5 @@
 use Rattle.std.proofs.Common.{is_some, ap, sym}
-use Rattle.farebox.proofs.Held.{none_held, answer_of_none, answer_of_held, after_held}
+use Rattle.farebox.proofs.AccountMaps.{none_held, answer_of_none, answer_of_held, after_held}
 use Rattle.farebox.proofs.accounts.Accounts.tap.Goals as goal
 
 pub open-requires : goal.open-requires

@@ -9,7 +9,7 @@ use Rattle.pay_tables.proofs.tables.Tables.of.Goals as goal
 pub invariant_of-result : goal.invariant_of-result
 invariant_of-result c =
     let said : FareTables = record {
-      zones = c.in_ok-zones.field-0;
+      zones = c.in_ok-zones.zones;
       minutes = c.in_ok-minutes.minutes.items;
       rules = c.in_ok-rules.rules;
       singles = c.in_ok-singles.singles.items;

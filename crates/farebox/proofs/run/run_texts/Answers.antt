@@ -1,0 +1,28 @@
+use Rattle.std.proofs.Common.{refl}
+use Rattle.std.proofs.lemmas.Result.{err_from_is_err_and}
+use Rattle.std.specs.Arc.{arc_value}
+use Rattle.farebox.specs.Machine.{new_machine}
+use Rattle.farebox.proofs.Runs.{RunFails_session}
+use Rattle.farebox.proofs.run.run_texts.Goals as goal
+
+pub returns-in_err-zone-clause-fails : goal.returns-in_err-zone-clause-fails
+returns-in_err-zone-clause-fails g c =
+    let p = err_from_is_err_and c.from_residual-in_err-zone.result c.from_residual-in_err-zone.ensures.1 in
+    let e = c.in_err-zone.ensures in
+    rw (p.1, p.2, e.bad) ((arc_value c.in_ok-tables.tables, c.in_ok-tables.ensures.ok, e.none), (refl, refl))
+
+pub returns-in_err-done-clause-fails : goal.returns-in_err-done-clause-fails
+returns-in_err-done-clause-fails g c =
+    let p = err_from_is_err_and c.from_residual-in_err-done.result c.from_residual-in_err-done.ensures.1 in
+    rw (p.1, p.2) (RunFails_session _ _ _ _ _ _ _ record {
+      machine = new_machine c.in_ok-zone.zone (arc_value c.in_ok-tables.tables);
+      begins = record { says = c.in_ok-tables.ensures.ok; rule = c.in_ok-zone.ensures.ok; new = refl };
+      fails = c.in_err-done.ensures.fails;
+    })
+
+pub returns-clause-ends : goal.returns-clause-ends
+returns-clause-ends g c = record {
+  machine = new_machine c.in_ok-zone.zone (arc_value c.in_ok-tables.tables);
+  begins = record { says = c.in_ok-tables.ensures.ok; rule = c.in_ok-zone.ensures.ok; new = refl };
+  ends = c.in_ok-done.ensures.ends;
+}

@@ -1,0 +1,77 @@
+//! Why the program fails, and the status that it ends with.
+ghost use Rattle.std.specs.Prelude.{◌≡◌};
+ghost use Rattle.farebox.specs.Faults.{IsRefusal, IsWantOfMemory, status_of, stream_fault};
+ghost use Rattle.pay_tables.specs.Fault.{fault_number, fault_name};
+
+use crate::session::SessionFault;
+use pay_tables::FareFileFault;
+use std::alloc::AllocError;
+use thiserror::Error;
+
+/// Why the program fails: one line on standard error.
+#[derive(Clone, Copy, Debug, PartialEq, Eq, Error)]
+pub enum Fault {
+    /// The words are not those of a program.
+    #[error("farebox: usage")]
+    Usage,
+    /// The fare file cannot be read, or is no text.
+    #[error("farebox: cannot read fares")]
+    CannotReadFares,
+    /// The zone is no POSIX rule.
+    #[error("farebox: bad zone")]
+    BadZone,
+    /// Standard input failed.
+    #[error("farebox: input fault")]
+    Input,
+    /// Standard output failed.
+    #[error("farebox: output fault")]
+    Output,
+    /// A refusal, by its number and its name.
+    #[error("farebox: {number} {name}")]
+    Refused { number: u16, name: &'static str },
+}
+
+impl Fault {
+    /// The status that the program ends with.
+    pub fn status(self) -> u8
+        ensures { result ≡ status_of self }
+    {
+        match self {
+            Fault::Usage => 2,
+            _ => 1,
+        }
+    }
+}
+
+impl From<AllocError> for Fault {
+    ghost from_gives = { λ _ fault. IsWantOfMemory fault };
+
+    fn from(_: AllocError) -> Fault {
+        Fault::Refused {
+            number: 90,
+            name: "Memory",
+        }
+    }
+}
+
+impl From<FareFileFault> for Fault {
+    ghost from_gives = { λ of fault. IsRefusal fault (fault_number of) (fault_name of) };
+
+    fn from(fault: FareFileFault) -> Fault {
+        Fault::Refused {
+            number: fault.number(),
+            name: fault.name(),
+        }
+    }
+}
+
+impl From<SessionFault> for Fault {
+    ghost from_gives = { λ of fault. fault ≡ stream_fault of };
+
+    fn from(fault: SessionFault) -> Fault {
+        match fault {
+            SessionFault::Read { .. } => Fault::Input,
+            SessionFault::Write { .. } => Fault::Output,
+        }
+    }
+}

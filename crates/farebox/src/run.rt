@@ -1,0 +1,56 @@
+//! The job `run`, by the texts of its fare file and its zone: all that the program does below the reading of files.
+ghost use Rattle.std.specs.Prelude.{◌≡◌, None, Ok, IfOk, IfErr, OnErr};
+ghost use Rattle.std.specs.Arc.{arc_value};
+ghost use Rattle.jiff.specs.Placed.{IsPosixZone};
+ghost use Rattle.jiff.specs.Words.{read_whole};
+ghost use Rattle.jiff.specs.ZoneView.{plain_zone};
+ghost use Rattle.pay_tables.specs.FareFile.{fare_text};
+ghost use Rattle.farebox.specs.Run.{IsRefused, RunEnds, RunFails};
+
+use crate::fault::Fault;
+use crate::session::{Done, run_lines};
+use jiff::tz::TimeZone;
+use pay_tables::Tables;
+use std::alloc::{AllocError, Global};
+use std::io::{BufRead, Write};
+use std::sync::Arc;
+
+/// Answers the lines of a reader by the fares of a fare file and the clock of a zone, which are given as texts.
+/// The fare file is read before the zone, and both before the first line.
+pub fn run_texts<R: BufRead, W: Write>(
+    alloc: Global,
+    fares: &str,
+    zone: &str,
+    reader: &mut R,
+    writer: &mut W,
+) -> Result<Done, Fault>
+    ensures ends { IfOk result (λ done. RunEnds fares.now zone.now (R.remaining reader.old) (R.remaining reader.new)
+        (W.contents writer.old) (W.contents writer.new) done.answered done.quit) }
+    ensures fails { IfErr result (λ fault. RunFails fault fares.now zone.now (R.remaining reader.old) (R.remaining reader.new)
+        (W.contents writer.old) (W.contents writer.new)) }
+{
+    let tables = read_fares(alloc, fares)?;
+    let zone = read_zone(zone)?;
+    let done = run_lines(alloc, reader, writer, &zone, &tables)?;
+    Ok(done)
+}
+
+fn read_fares(alloc: Global, text: &str) -> Result<Arc<Tables>, Fault>
+    ensures ok { IfOk result (λ tables. fare_text text.now ≡ Ok (arc_value tables)) }
+    ensures refused { IfErr result (λ fault. IsRefused fault text.now) }
+{
+    let tables = Tables::read(alloc, text)?;
+    let shared = Arc::new(alloc, tables).map_err(AllocError::from)?;
+    Ok(shared)
+}
+
+fn read_zone(text: &str) -> Result<TimeZone<'static>, Fault>
+    ensures ok { IfOk result (λ zone. IsPosixZone text.now (plain_zone zone)) }
+    ensures bad { IfErr result (λ fault. fault ≡ Fault.BadZone) }
+    ensures none { OnErr result (read_whole text.now ≡ None) }
+{
+    match TimeZone::posix(text) {
+        Ok(zone) => Ok(zone),
+        Err(_) => Err(Fault::BadZone),
+    }
+}

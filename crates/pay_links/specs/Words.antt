@@ -1,0 +1,3 @@
+-- Words for the crates above: journeys, and the runs of linked legs in them.
+pub use Rattle.pay_links.specs.LinkedLegs.{LinkedLegs, all_legs, last_leg, joined}
+pub use Rattle.pay_links.specs.Journeys.{is_same, is_linked, alone, run_before, leg_before, journeys, first_tap}

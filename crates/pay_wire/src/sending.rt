@@ -1,0 +1,106 @@
+//! Replies as they are written.
+ghost use Rattle.std.specs.Prelude.{◌≡◌, ◌≢◌, ◌<◌, ◌≤◌, false, length, take, OnOk, OnErr, IfOk, IfErr};
+ghost use Rattle.std.specs.Io.KnownBytes.{Appends, Keeps};
+ghost use Rattle.pay_wire.specs.Output.{AppendsFront, has_failed};
+ghost use Rattle.pay_wire.specs.Replies.{spelling_of_reply, text_of_journeys};
+
+use crate::output::{Output, State, WriteFault};
+use crate::reply::{Reply, first_line, journey_line};
+use pay_account::Line;
+use std::io::{ErrorKind, Write};
+
+/// Writes some of the bytes, and says how many. An interrupted writer has taken none and is not at fault.
+/// Where there are no bytes a writer that takes none has not failed, so it is not asked.
+fn write_some<W: Write>(output: &mut Output<'_, W>, bytes: &[u8]) -> Result<usize, WriteFault>
+    requires some { 0 < length bytes.now }
+    requires not_failed { has_failed output.old.state ≡ false }
+    ensures same_writer { output.new.writer.ghost_name ≡ output.old.writer.ghost_name }
+    ensures within { IfOk result (λ n. n ≤ length bytes.now) }
+    ensures ok { IfOk result (λ n. Appends (W.contents output.old.writer.now) (W.contents output.new.writer.now) (take n bytes.now)) }
+    ensures err { OnErr result (Keeps (W.contents output.old.writer.now) (W.contents output.new.writer.now)) }
+    ensures none { IfOk result (λ n. n ≡ 0 → output.new.state ≡ State.Interrupted) }
+    ensures not_failed { OnOk result (has_failed output.new.state ≡ false) }
+    ensures fault { IfErr result (λ fault. output.new.state ≡ State.Failed fault) }
+    ensures not_interrupted { IfErr result (λ fault. fault ≢ WriteFault.Failed ErrorKind.Interrupted) }
+{
+    let written = output.write(bytes);
+    match (output.state(), written) {
+        (State::Failed(fault), _) => Err(fault),
+        (_, Ok(n)) => Ok(n),
+        (_, Err(_)) => Ok(0),
+    }
+}
+
+/// Writes all the bytes. Where the writer fails, it has taken the first of them.
+fn write_whole<W: Write>(output: &mut Output<'_, W>, bytes: &[u8]) -> Result<(), WriteFault>
+    requires { has_failed output.old.state ≡ false }
+    ensures same_writer { output.new.writer.ghost_name ≡ output.old.writer.ghost_name }
+    ensures ok { OnOk result (Appends (W.contents output.old.writer.now) (W.contents output.new.writer.now) bytes.now) }
+    ensures err { OnErr result (AppendsFront (W.contents output.old.writer.now) (W.contents output.new.writer.now) bytes.now) }
+    ensures not_failed { OnOk result (has_failed output.new.state ≡ false) }
+    ensures fault { IfErr result (λ fault. fault ≢ WriteFault.NeverDone → output.new.state ≡ State.Failed fault) }
+    ensures not_interrupted { IfErr result (λ fault. fault ≢ WriteFault.Failed ErrorKind.Interrupted) }
+{
+    let mut taken = 0;
+    for _ in 0..u64::MAX {
+        if taken >= bytes.len() {
+            return Ok(());
+        }
+        taken += write_some(output, &bytes[taken..])?;
+    }
+    Err(WriteFault::NeverDone)
+}
+
+/// Writes the lines of journeys. Where the writer fails, it has taken a front of them.
+fn write_journeys<W: Write>(output: &mut Output<'_, W>, journeys: &[Line]) -> Result<(), WriteFault>
+    requires { has_failed output.old.state ≡ false }
+    ensures same_writer { output.new.writer.ghost_name ≡ output.old.writer.ghost_name }
+    ensures ok { OnOk result (Appends (W.contents output.old.writer.now) (W.contents output.new.writer.now) (text_of_journeys journeys.now)) }
+    ensures err { OnErr result (AppendsFront (W.contents output.old.writer.now) (W.contents output.new.writer.now) (text_of_journeys journeys.now)) }
+    ensures not_failed { OnOk result (has_failed output.new.state ≡ false) }
+    ensures fault { IfErr result (λ fault. fault ≢ WriteFault.NeverDone → output.new.state ≡ State.Failed fault) }
+    ensures not_interrupted { IfErr result (λ fault. fault ≢ WriteFault.Failed ErrorKind.Interrupted) }
+{
+    for journey in journeys {
+        write_whole(output, journey_line(journey).as_slice())?;
+    }
+    Ok(())
+}
+
+/// Writes the lines of a reply. Where the writer fails, it has taken a front of them.
+fn write_reply<W: Write>(output: &mut Output<'_, W>, reply: &Reply) -> Result<(), WriteFault>
+    requires { has_failed output.old.state ≡ false }
+    ensures same_writer { output.new.writer.ghost_name ≡ output.old.writer.ghost_name }
+    ensures ok { OnOk result (Appends (W.contents output.old.writer.now) (W.contents output.new.writer.now) (spelling_of_reply reply.now)) }
+    ensures err { OnErr result (AppendsFront (W.contents output.old.writer.now) (W.contents output.new.writer.now) (spelling_of_reply reply.now)) }
+    ensures not_failed { OnOk result (has_failed output.new.state ≡ false) }
+    ensures fault { IfErr result (λ fault. fault ≢ WriteFault.NeverDone → output.new.state ≡ State.Failed fault) }
+    ensures not_interrupted { IfErr result (λ fault. fault ≢ WriteFault.Failed ErrorKind.Interrupted) }
+{
+    write_whole(output, first_line(reply).as_slice())?;
+    write_journeys(output, reply.journeys())
+}
+
+/// Writes the lines of a reply and flushes the writer. Where that fails, it has taken a front of them.
+fn write_and_flush<W: Write>(output: &mut Output<'_, W>, reply: &Reply) -> Result<(), WriteFault>
+    requires { has_failed output.old.state ≡ false }
+    ensures same_writer { output.new.writer.ghost_name ≡ output.old.writer.ghost_name }
+    ensures ok { OnOk result (Appends (W.contents output.old.writer.now) (W.contents output.new.writer.now) (spelling_of_reply reply.now)) }
+    ensures err { OnErr result (AppendsFront (W.contents output.old.writer.now) (W.contents output.new.writer.now) (spelling_of_reply reply.now)) }
+    ensures flushed { OnOk result (output.new.state ≡ State.Flushed) }
+    ensures fault { IfErr result (λ fault. fault ≢ WriteFault.NeverDone → output.new.state ≡ State.Failed fault) }
+    ensures not_interrupted { IfErr result (λ fault. fault ≢ WriteFault.Failed ErrorKind.Interrupted) }
+{
+    write_reply(output, reply)?;
+    output.flush()
+}
+
+/// Writes a reply and flushes the writer. Where that fails, the writer has taken a front of it. A writer
+/// that is interrupted is asked again; one that fails, takes nothing or is not flushed is at fault.
+pub fn send<W: Write>(writer: &mut W, reply: &Reply) -> Result<(), WriteFault>
+    ensures ok { OnOk result (Appends (W.contents writer.old) (W.contents writer.new) (spelling_of_reply reply.now)) }
+    ensures err { OnErr result (AppendsFront (W.contents writer.old) (W.contents writer.new) (spelling_of_reply reply.now)) }
+    ensures not_interrupted { IfErr result (λ fault. fault ≢ WriteFault.Failed ErrorKind.Interrupted) }
+{
+    write_and_flush(&mut Output::new(writer), reply)
+}

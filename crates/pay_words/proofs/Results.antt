@@ -1,0 +1,144 @@
+-- What the clauses of the result say, by what `clap` makes of the words.
+use Rattle.std.proofs.Common.{◌≡◌, ◌∙◌, codes, true, refl, sym, ap, subst, List, [], ◌∷◌, Option, Some, None, ◌⊎◌, inl, inr, true≢false, option_map, drop, Result, Ok, Err, IfOk, IfErr, MatchResult, slice_index, ◌≢◌}
+use Rattle.clap.specs.Walk.{Row, Text}
+use Rattle.clap.specs.Simple.{subcommand_of}
+use Rattle.clap.specs.Kinds.{Kinds}
+use Rattle.clap.specs.Faults.{fault_of}
+use Rattle.clap.specs.declared.error.kind.ErrorKind.TheVariants.{DisplayHelp, DisplayVersion, InvalidSubcommand, OutOfMemory}
+use Rattle.pay_words.specs.Asked.{Asked, asked, run, help_asked, help_named, version_asked, usage, IsFaultOf, job_asked, job_words, without_dashes}
+use Rattle.std.specs.List.{list_all}
+use Rattle.clap.specs.Words.{HasMatchesOf, IsAmong, first_of, first_value, rows_of, subcommand_rows_of}
+use Rattle.clap.specs.declared.error.kind.ErrorKind.{ErrorKind}
+use Rattle.clap.specs.declared.parser.matches.ArgMatches.{ArgMatches}
+use Rattle.clap.specs.declared.parser.matches.Found.{Found}
+use Rattle.clap.proofs.WalkLemmas.{both, first_value-rows}
+use Rattle.std.specs.Prelude.{IsOkAnd}
+use Rattle.pay_words.specs.declared.words.Job.{Job}
+use Rattle.pay_words.specs.declared.words.Job.TheVariants.{Run}
+use Rattle.pay_words.specs.declared.words.WordsFault.{WordsFault}
+use Rattle.pay_words.specs.declared.words.WordsFault.TheVariants.{Help, Version, Usage, Memory}
+use Rattle.pay_words.specs.CommandLine.{GivesRun, IsFaultOfKind, IsHelpOrMemory, IsVersionOrMemory, farebox_app, values_in}
+use Rattle.pay_words.proofs.WordKinds.{Refuses, is_refusal}
+use Rattle.pay_words.proofs.WordsAsked.{Comes, comes}
+use Rattle.pay_words.proofs.JobWords.{asks_run, in_order}
+
+-- ---- a parse that succeeds
+
+-- a parse that succeeds had the words of `run`
+pub matched_run : (ws : List Text) (m : ArgMatches) → fault_of farebox_app ws ≡ [] → HasMatchesOf farebox_app ws m
+    → (fares : Text) × (zone : Text) × (asked ws ≡ run fares zone) × GivesRun m fares zone
+matched_run ws m none has = go (asked ws) refl (comes ws)
+  where
+    go : (x : Asked) → asked ws ≡ x → Comes x (fault_of farebox_app ws) (subcommand_of farebox_app ws)
+        → (fares : Text) × (zone : Text) × (asked ws ≡ run fares zone) × GivesRun m fares zone
+    go (run a b) e h = (a, b, e, ap (option_map values_in) ((has refl).1 ∙ h.1))
+    go help_asked e h =
+        let both : [] ≡ DisplayHelp ∷ [] = sym none ∙ h in cc
+    go help_named e h =
+        let both : [] ≡ DisplayHelp ∷ InvalidSubcommand ∷ [] = sym none ∙ h in cc
+    go version_asked e h =
+        let both : [] ≡ DisplayVersion ∷ [] = sym none ∙ h in cc
+    go usage e h = absurd (subst Refuses none h)
+
+-- an error that shows no text is usage, unless memory was refused
+refusal_fault : (k : ErrorKind) (fault : WordsFault) → is_refusal k ≡ true → IsFaultOfKind k fault → (fault ≡ Usage) ⊎ (fault ≡ Memory)
+refusal_fault DisplayHelp fault is h = absurd (true≢false (sym is))
+refusal_fault DisplayVersion fault is h = absurd (true≢false (sym is))
+refusal_fault OutOfMemory fault is h = inr h
+refusal_fault _ fault is h = inl h
+
+among_refusals : (k : ErrorKind) (ks : Kinds) → list_all is_refusal ks ≡ true → IsAmong k ks → is_refusal k ≡ true
+among_refusals k [] all h = absurd h
+among_refusals k (x ∷ xs) all (inl e) = ap is_refusal e ∙ (both _ _ all).0
+among_refusals k (x ∷ xs) all (inr h) = among_refusals k xs (both _ _ all).1 h
+
+usage_among : (k : ErrorKind) (ks : Kinds) → Refuses ks → IsAmong k ks → is_refusal k ≡ true
+usage_among k [] bad h = absurd bad
+usage_among k (x ∷ xs) all h = among_refusals k (x ∷ xs) all h
+
+called_help : (x : Asked) (fault : WordsFault) → (x ≡ help_asked) ⊎ (x ≡ help_named) → IsHelpOrMemory fault → IsFaultOf x fault
+called_help x (Help text) e h = e
+called_help x (Version text) e h = absurd h
+called_help x Usage e h = absurd h
+called_help x Memory e h = tt
+
+called_version : (fault : WordsFault) → IsVersionOrMemory fault → IsFaultOf version_asked fault
+called_version (Help text) h = absurd h
+called_version (Version text) h = (refl, h)
+called_version Usage h = absurd h
+called_version Memory h = tt
+
+called_usage : (x : Asked) (fault : WordsFault) → (x ≡ usage) ⊎ (x ≡ help_named) → (fault ≡ Usage) ⊎ (fault ≡ Memory) → IsFaultOf x fault
+called_usage x fault e (inl is) = subst (IsFaultOf x) (sym is) e
+called_usage x fault e (inr is) = subst (IsFaultOf x) (sym is) tt
+
+-- the fault of an error says what the words ask for
+pub refused_as : (ws : List Text) (k : ErrorKind) (fault : WordsFault) → (k ≡ OutOfMemory) ⊎ IsAmong k (fault_of farebox_app ws) → IsFaultOfKind k fault → IsFaultOf (asked ws) fault
+refused_as ws k fault (inl memory) is =
+    let so : fault ≡ Memory = subst (λ (x : ErrorKind). IsFaultOfKind x fault) memory is in
+    subst (IsFaultOf (asked ws)) (sym so) tt
+refused_as ws k fault (inr among) is = go (asked ws) (comes ws)
+  where
+    go : (x : Asked) → Comes x (fault_of farebox_app ws) (subcommand_of farebox_app ws) → IsFaultOf x fault
+    go (run a b) h = absurd (subst (IsAmong k) h.0 among)
+    go help_asked h = elim (subst (IsAmong k) h among) [
+      | inl e ↦ called_help help_asked fault (inl refl) (subst (λ (y : ErrorKind). IsFaultOfKind y fault) e is)
+      | inr bad ↦ absurd bad
+    ]
+    go help_named h = elim (subst (IsAmong k) h among) [
+      | inl e ↦ called_help help_named fault (inr refl) (subst (λ (y : ErrorKind). IsFaultOfKind y fault) e is)
+      | inr (inl e) ↦ called_usage help_named fault (inr refl) (inl (subst (λ (y : ErrorKind). IsFaultOfKind y fault) e is))
+      | inr (inr bad) ↦ absurd bad
+    ]
+    go version_asked h = elim (subst (IsAmong k) h among) [
+      | inl e ↦ called_version fault (subst (λ (y : ErrorKind). IsFaultOfKind y fault) e is)
+      | inr bad ↦ absurd bad
+    ]
+    go usage h = called_usage usage fault (inl refl) (refusal_fault k fault (usage_among k (fault_of farebox_app ws) h among) is)
+
+-- the matches of `run` have its values
+pub run_values : (m : ArgMatches) (f : Found) (fares zone : Text) → Some (rows_of f) ≡ option_map (λ p. p.1) (subcommand_rows_of m) → GivesRun m fares zone
+    → (first_value f (codes "FARES") ≡ Some fares) × (first_value f (codes "ZONE") ≡ Some zone)
+run_values m f fares zone same gives = go (subcommand_rows_of m) same gives
+  where
+    go : (o : Option (Text × List Row)) → Some (rows_of f) ≡ option_map (λ p. p.1) o → option_map values_in o ≡ Some (codes "run", Some fares, Some zone)
+        → (first_value f (codes "FARES") ≡ Some fares) × (first_value f (codes "ZONE") ≡ Some zone)
+    go None e h = cc
+    go (Some p) e h =
+        let rows_are : rows_of f ≡ p.1 = cc in
+        let all : values_in p ≡ (codes "run", Some fares, Some zone) = cc in (
+          first_value-rows f (codes "FARES") ∙ (ap (first_of (codes "FARES")) rows_are ∙ ap (λ (t : Text × Option Text × Option Text). t.1) all),
+          first_value-rows f (codes "ZONE") ∙ (ap (first_of (codes "ZONE")) rows_are ∙ ap (λ (t : Text × Option Text × Option Text). t.2) all),
+        )
+
+-- ---- the clauses
+
+job_words_are : (ws : List Text) (job : Job) → asked ws ≡ job_asked job → without_dashes (drop 1 ws) ≡ job_words job
+job_words_are ws (Run w) e = in_order ws w.fares.now w.zone.now e
+
+memory_alone : (x : Asked) (a b : Text) (fault : WordsFault) → x ≡ run a b → IsFaultOf x fault → fault ≡ Memory
+memory_alone x a b (Help text) e (inl h) = cc
+memory_alone x a b (Help text) e (inr h) = cc
+memory_alone x a b (Version text) e h =
+    let not_both : run a b ≡ version_asked = sym e ∙ h.0 in cc
+memory_alone x a b Usage e (inl h) = cc
+memory_alone x a b Usage e (inr h) = cc
+memory_alone x a b Memory e h = refl
+
+pub result_job : (r : Result Job WordsFault) (x : Asked) (a b : Text) → x ≡ run a b → IsOkAnd r (λ job. job_asked job ≡ run a b) → IfOk r (λ job. x ≡ job_asked job)
+result_job (Ok job) x a b e h = e ∙ sym h
+result_job (Err fault) x a b e h = absurd h
+
+pub result_no_fault : (r : Result Job WordsFault) (P : Job → Type 0) (Q : WordsFault → Type 0) → IsOkAnd r P → IfErr r Q
+result_no_fault (Ok job) P Q h = tt
+result_no_fault (Err fault) P Q h = absurd h
+
+pub result_words : (r : Result Job WordsFault) (ws : List Text) → IfOk r (λ job. asked ws ≡ job_asked job) → IfOk r (λ job. without_dashes (drop 1 ws) ≡ job_words job)
+result_words (Ok job) ws h = job_words_are ws job h
+result_words (Err fault) ws h = tt
+
+pub result_plain : (r : Result Job WordsFault) (ws : List Text) → IfOk r (λ job. asked ws ≡ job_asked job) → IfErr r (IsFaultOf (asked ws))
+    → (name fares zone : Text) → ws ≡ name ∷ codes "run" ∷ fares ∷ zone ∷ [] → slice_index fares 0 ≢ 45 → slice_index zone 0 ≢ 45
+    → MatchResult r (λ job. job_asked job ≡ run fares zone) (λ fault. fault ≡ Memory)
+result_plain (Ok job) ws ok err name fares zone is f z = sym ok ∙ asks_run ws name fares zone is f z
+result_plain (Err fault) ws ok err name fares zone is f z = memory_alone (asked ws) fares zone fault (asks_run ws name fares zone is f z) err

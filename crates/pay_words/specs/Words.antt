@@ -1,0 +1,6 @@
+-- The words of clauses, from one place: what a caller needs to speak of this crate. Its types are
+-- named where they are declared, as `Rattle.pay_words.specs.declared.words.Job`.
+pub use Rattle.clap.specs.Walk.{texts}
+pub use Rattle.pay_words.specs.Asked.{Asked, IsFaultOf, Text, asked, job_asked, job_words}
+pub use Rattle.pay_words.specs.Asked.{help_asked, help_named, run, usage, version_asked, version_line}
+pub use Rattle.pay_words.specs.Asked.{without_dashes}

@@ -1,0 +1,48 @@
+//! The texts that help is made of, each line within 100 columns.
+
+/// What the program is.
+pub const PROGRAM: &str = "The fare engine: prices contactless pay as you go travel from taps";
+
+/// What `run` does.
+pub const RUN: &str = "Read taps from standard input, and reply to each with what its account owes";
+
+/// What the word FARES is.
+pub const FARES: &str = "The fare file, a TOML document";
+
+/// What the word ZONE is.
+pub const ZONE: &str = "The time zone, a POSIX rule text such as GMT0BST,M3.5.0/1,M10.5.0
+(a name such as Europe/London is none)";
+
+/// What stands below the program's own help.
+pub const BELOW_PROGRAM: &str = "\
+Words of run:
+  FARES  the fare file, a TOML document
+  ZONE   the time zone, a POSIX rule text (a name such as Europe/London is none)
+
+Example: account 7 boards a bus in London on Monday 8 January 2024 at 07:00. The reply names the
+day, counted from 1970-01-01, and what the account owes for it and for its week, in pence.
+  $ farebox run examples/bus.toml GMT0BST,M3.5.0/1,M10.5.0
+  TAP 1 1 7 1704697200 50 BUS
+  OK 19730 175 175
+
+Statuses:
+  0  all right
+  1  a fault, which one line on standard error names
+  2  the words were refused
+
+The lines and replies, the fare file and the faults are described in docs/FORMATS.md.";
+
+/// What stands below the help of `run`.
+pub const BELOW_RUN: &str = "\
+Example: account 7 boards a bus in London on Monday 8 January 2024 at 07:00. The reply names the
+day, counted from 1970-01-01, and what the account owes for it and for its week, in pence.
+  $ farebox run examples/bus.toml GMT0BST,M3.5.0/1,M10.5.0
+  TAP 1 1 7 1704697200 50 BUS
+  OK 19730 175 175
+
+Statuses:
+  0  all right
+  1  a fault, which one line on standard error names
+  2  the words were refused
+
+The lines and replies, the fare file and the faults are described in docs/FORMATS.md.";
