@@ -84,21 +84,21 @@ fn one_single_fare_for_each_span(rt: HostRuntime) -> Result<(), Fail> {
         &rt,
         "
         // Two zones, and their three spans in any order.
-        zones = 2 & minutes = [90, 100] & single = [{ from = 1, to = 1, peak = 0, off = 0 }, { from = 1, to = 2, peak = 0, off = 0 }, { to = 2, from = 2, off = 100000, peak = 100000 }] => taken
-        zones = 2 & minutes = [90, 100] & single = [{ to = 2, from = 2, off = 100000, peak = 100000 }, { from = 1, to = 1, peak = 0, off = 0 }, { from = 1, to = 2, peak = 0, off = 0 }] => taken
-        zones = 2 & minutes = [90, 100] & single = [] => MissingKey
-        zones = 2 & minutes = [90, 100] & single = [{ from = 1, to = 2, peak = 0, off = 0 }, { to = 2, from = 2, off = 100000, peak = 100000 }] => MissingKey
-        zones = 2 & minutes = [90, 100] & single = [{ from = 1, to = 1, peak = 0, off = 0 }, { to = 2, from = 2, off = 100000, peak = 100000 }] => MissingKey
-        zones = 2 & minutes = [90, 100] & single = [{ from = 1, to = 1, peak = 0, off = 0 }, { from = 1, to = 2, peak = 0, off = 0 }] => MissingKey
-        zones = 2 & minutes = [90, 100] & single = [{ from = 1, to = 1, peak = 0, off = 0 }, { from = 1, to = 2, peak = 0, off = 0 }, { to = 2, from = 2, off = 100000, peak = 100000 }, { from = 1, to = 1, peak = 0, off = 0 }] => Duplicate
-        zones = 2 & minutes = [90, 100] & single = [{ from = 1, to = 1, peak = 0, off = 0 }, { from = 1, to = 2, peak = 0, off = 0 }, { from = 1, to = 2, peak = 0, off = 0 }, { to = 2, from = 2, off = 100000, peak = 100000 }] => Duplicate
+        zones = 2 & minutes = [90, 100] & station = - & single = [{ from = 1, to = 1, peak = 0, off = 0 }, { from = 1, to = 2, peak = 0, off = 0 }, { to = 2, from = 2, off = 100000, peak = 100000 }] => taken
+        zones = 2 & minutes = [90, 100] & station = - & single = [{ to = 2, from = 2, off = 100000, peak = 100000 }, { from = 1, to = 1, peak = 0, off = 0 }, { from = 1, to = 2, peak = 0, off = 0 }] => taken
+        zones = 2 & minutes = [90, 100] & station = - & single = [] => MissingKey
+        zones = 2 & minutes = [90, 100] & station = - & single = [{ from = 1, to = 2, peak = 0, off = 0 }, { to = 2, from = 2, off = 100000, peak = 100000 }] => MissingKey
+        zones = 2 & minutes = [90, 100] & station = - & single = [{ from = 1, to = 1, peak = 0, off = 0 }, { to = 2, from = 2, off = 100000, peak = 100000 }] => MissingKey
+        zones = 2 & minutes = [90, 100] & station = - & single = [{ from = 1, to = 1, peak = 0, off = 0 }, { from = 1, to = 2, peak = 0, off = 0 }] => MissingKey
+        zones = 2 & minutes = [90, 100] & station = - & single = [{ from = 1, to = 1, peak = 0, off = 0 }, { from = 1, to = 2, peak = 0, off = 0 }, { to = 2, from = 2, off = 100000, peak = 100000 }, { from = 1, to = 1, peak = 0, off = 0 }] => Duplicate
+        zones = 2 & minutes = [90, 100] & station = - & single = [{ from = 1, to = 1, peak = 0, off = 0 }, { from = 1, to = 2, peak = 0, off = 0 }, { from = 1, to = 2, peak = 0, off = 0 }, { to = 2, from = 2, off = 100000, peak = 100000 }] => Duplicate
         // An item's own keys before its span is looked for, an earlier item before a later one, and
         // both before a span that has none.
-        zones = 2 & minutes = [90, 100] & single = [{ from = 1, to = 1, peak = 0, off = 0 }, { from = 1, to = 1, peak = 0 }] => MissingKey
-        zones = 2 & minutes = [90, 100] & single = [{ to = 2, from = 2, off = 100000, peak = 100000 }, { to = 2, from = 2, off = 100000, peak = 100000 }, 1] => Duplicate
-        zones = 2 & minutes = [90, 100] & single = [{ to = 2, from = 2, off = 100000, peak = 100000 }, 1, { to = 2, from = 2, off = 100000, peak = 100000 }] => WrongType
-        zones = 2 & minutes = [90, 100] & single = [{ from = 1, to = 1, peak = 0, off = 0 }, { from = 1, to = 1, peak = 0, off = 0 }] => Duplicate
-        zones = 2 & minutes = [90, 100] & single = [{ from = 1, to = 1, peak = 0, off = 0 }, 1] => WrongType
+        zones = 2 & minutes = [90, 100] & station = - & single = [{ from = 1, to = 1, peak = 0, off = 0 }, { from = 1, to = 1, peak = 0 }] => MissingKey
+        zones = 2 & minutes = [90, 100] & station = - & single = [{ to = 2, from = 2, off = 100000, peak = 100000 }, { to = 2, from = 2, off = 100000, peak = 100000 }, 1] => Duplicate
+        zones = 2 & minutes = [90, 100] & station = - & single = [{ to = 2, from = 2, off = 100000, peak = 100000 }, 1, { to = 2, from = 2, off = 100000, peak = 100000 }] => WrongType
+        zones = 2 & minutes = [90, 100] & station = - & single = [{ from = 1, to = 1, peak = 0, off = 0 }, { from = 1, to = 1, peak = 0, off = 0 }] => Duplicate
+        zones = 2 & minutes = [90, 100] & station = - & single = [{ from = 1, to = 1, peak = 0, off = 0 }, 1] => WrongType
         ",
     )
 }
