@@ -5,7 +5,7 @@ use Rattle.std.proofs.KnownBytes.{starts_with_rest}
 use Rattle.std.specs.Io.{StartsWith}
 use Rattle.std.specs.Io.KnownBytes.{Keeps}
 use Rattle.std.specs.Io.BufRead.{DropsConsumable}
-use Rattle.farebox.specs.SessionSteps.{Position, facing, with_ahead, Advances, Breaks, TakesToQuit, BringsMore, BringsEnd, BringsQuit, Loses, LosesReader, LosesWriter}
+use Rattle.farebox.specs.SessionSteps.{Position, facing, with_ahead, Advances, Breaks, TakesToQuit, BringsMore, BringsEnd, BringsQuit, Loses}
 use Rattle.farebox.specs.Stops.{IsFailure, IsWriteFailure}
 use Rattle.farebox.specs.declared.stop.Stop.{Stop}
 use Rattle.farebox.specs.declared.stop.Stop.TheVariants.{Read, NoMoreFills, Write}
@@ -24,12 +24,6 @@ brings_nothing (Some xs) (Some ys) p keeps = record {
   unread = ap Some keeps;
   advances = subst (λ l. Advances (with_ahead p l) p) (sym (append-nil p.ahead)) (Advances_none p);
 }
-
--- a reader that failed
-pub loses_reader : (old new : Option (List ℕ)) (p : Position) → Keeps old new → IfSome old (λ input. LosesReader p input new p)
-loses_reader None new p keeps = tt
-loses_reader (Some xs) None p keeps = absurd keeps
-loses_reader (Some xs) (Some ys) p keeps = record { unread = ap Some keeps; same = refl }
 
 -- a reader that shows nothing is at its end
 pub brings_end : (old new : Option (List ℕ)) (shown : ℕ) (p : Position) → Keeps old new → IfSome old (λ xs. shown ≡ 0 → xs ≡ []) → shown ≡ 0 → IfSome old (λ input. BringsEnd p input new p)

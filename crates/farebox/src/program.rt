@@ -63,28 +63,14 @@ fn run_session<R: Files + Input + Print + AllocGlobal>(
         Ok(fares) => fares,
         Err(error) => return Err(memory_or(&error, Fault::CannotReadFares)),
     };
+    let (alloc, zone) = (rt.alloc(), words.zone);
     let mut input = rt.reader();
     let mut writer = io::writer(rt);
     if is_input_a_file(rt) {
-        run_texts(
-            rt.alloc(),
-            fares.as_str(),
-            words.zone,
-            &mut input,
-            &mut writer,
-        )?;
+        run_texts(alloc, fares.as_str(), zone, &mut input, &mut writer)?;
     } else {
-        let mut reader = match BufReader::new(rt.alloc(), input) {
-            Ok(reader) => reader,
-            Err(error) => return Err(memory_or(&error, Fault::Input)),
-        };
-        run_texts(
-            rt.alloc(),
-            fares.as_str(),
-            words.zone,
-            &mut reader,
-            &mut writer,
-        )?;
+        let mut reader = BufReader::new(alloc, input).map_err(|_| AllocError)?;
+        run_texts(alloc, fares.as_str(), zone, &mut reader, &mut writer)?;
     }
     Ok(())
 }

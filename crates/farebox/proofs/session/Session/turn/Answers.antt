@@ -1,7 +1,7 @@
 use Rattle.std.proofs.Common.{◌≡◌, ◌-◌, ◌≤◌, length, subst, sym, arith, eqb-true}
 use Rattle.std.proofs.lemmas.Result.{err_from_is_err_and}
 use Rattle.std.specs.Io.BufRead.{FillKeeps}
-use Rattle.farebox.proofs.Fills.{brings_nothing, loses_reader, brings_end, consumed, brings_quit, failed, loses_writer}
+use Rattle.farebox.proofs.Fills.{brings_nothing, brings_end, consumed, brings_quit, failed, loses_writer}
 use Rattle.farebox.proofs.session.Session.turn.Goals as goal
 
 pub returns-in-Err-clause-brings : goal.returns-in-Err-clause-brings
