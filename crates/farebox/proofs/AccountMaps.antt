@@ -10,17 +10,14 @@ use Rattle.std.specs.declared.cmp.Ordering.{Ordering}
 use Rattle.std.specs.declared.cmp.Ordering.TheVariants.{Less, Equal, Greater}
 use Rattle.std.specs.Cmp.{nat_cmp_total, eq_by_cmp_equiv}
 use Rattle.std.proofs.lemmas.Map.Made.{lookup-map_values}
-use Rattle.pay_account.specs.Accepted.{Accepted}
-use Rattle.pay_account.specs.TapResults.{IsTapResult, tap_result, addition_result, taps_after}
-use Rattle.pay_account.specs.Places.{is_known}
-use Rattle.pay_account.specs.Prices.{prices}
-use Rattle.pay_tables.specs.FareTables.{FareTables}
+use Rattle.pay_account.specs.Words.{Accepted, IsTapResult, tap_result, addition_result, taps_after, is_known, prices}
+use Rattle.pay_tables.specs.Words.{FareTables}
 use Rattle.pay_account.specs.declared.fares.Priced.{Priced}
 use Rattle.pay_account.specs.declared.fares.TapFault.{TapFault}
 use Rattle.pay_account.specs.declared.fares.TapFault.TheVariants.{UnknownPlace}
 use Rattle.pay_taps.specs.declared.tap_set.Addition.TheVariants.{Added}
 use Rattle.pay_taps.specs.declared.tap_set.TapSetFault.TheVariants.{AccountFull}
-use Rattle.pay_taps.specs.Taps.{Taps, number, number_cmp, judged, judgement as set_answer}
+use Rattle.pay_taps.specs.Words.{Taps, number, number_cmp, judged, judgement as set_answer}
 use Rattle.pay_taps.specs.declared.tap.Tap.{Tap}
 use Rattle.farebox.specs.Accounts.{TapsByAccount, taps_of, accounts_after, seen}
 

@@ -3,8 +3,7 @@ use Rattle.std.proofs.Common.{◌≡◌, ℕ, ◌<◌, ◌≤◌, Bool, true, fa
 use Rattle.std.specs.Prelude.{◌≢◌}
 use Rattle.std.specs.List.{list_any, AllByRecursion, flat_map}
 use Rattle.pay_wire.specs.declared.limits.TheConstants.{MOST_LINE_BYTES}
-use Rattle.pay_wire.specs.Commands.{command_of}
-use Rattle.pay_wire.specs.Spellings.{Spells}
+use Rattle.pay_wire.specs.Words.{command_of, Spells, refusal_of}
 use Rattle.farebox.specs.Requests.{InputLine, asked, input_lines, rest_of, has_newline, request_of, request_of_rest, is_quit, through_quit, line_requests, requests_of, quits, unread}
 use Rattle.pay_wire.specs.declared.command.Command.{Command}
 use Rattle.pay_wire.specs.declared.command.Command.TheVariants.{Tap, Show, NotYet, Quit}
@@ -14,11 +13,10 @@ use Rattle.pay_wire.specs.declared.command.SpelledTap.{SpelledTap}
 use Rattle.pay_wire.specs.declared.refusal.Refusal.{Refusal}
 use Rattle.pay_wire.specs.declared.refusal.Refusal.TheVariants as refusal
 use Rattle.pay_wire.specs.declared.reply.Reply.TheVariants as replies
-use Rattle.pay_wire.specs.Refusals.{refusal_of}
 use Rattle.farebox.specs.Accounts.{taps_of}
 use Rattle.farebox.specs.Machine.{Machine, Step, refuse, tap_of_spelled, step_answer, step_tap, step_spelled_tap, step}
 use Rattle.pay_day.specs.Day.{is_instant}
-use Rattle.pay_account.specs.TapResults.{tap_result}
+use Rattle.pay_account.specs.Words.{tap_result}
 use Rattle.pay_account.specs.declared.fares.Priced.{Priced}
 use Rattle.pay_account.specs.declared.shown.Shown.{Shown}
 use Rattle.pay_account.specs.declared.fares.TapFault.{TapFault}

@@ -4,7 +4,7 @@ use Rattle.std.specs.Prelude.{◌⊎◌}
 use Rattle.std.proofs.lemmas.List.Folds.{list_any-append}
 use Rattle.std.proofs.lemmas.Bool.{cases_lt}
 use Rattle.pay_wire.specs.declared.limits.TheConstants.{MOST_LINE_BYTES}
-use Rattle.pay_wire.specs.Commands.{command_of}
+use Rattle.pay_wire.specs.Words.{command_of}
 use Rattle.farebox.specs.Requests.{InputLine, asked, onto_first, input_lines, rest_of, has_newline, kept_of, request_of, request_of_rest, line_requests, after_quit, unread, is_quit}
 use Rattle.farebox.specs.declared.request.Request.TheVariants as requests
 

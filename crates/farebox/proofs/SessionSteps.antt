@@ -5,8 +5,7 @@ use Rattle.std.proofs.lemmas.List.Folds.{list_any-append}
 use Rattle.std.proofs.lemmas.Grind.{flat_map-append}
 use Rattle.std.proofs.KnownBytes.{Appends-nil, Appends-trans}
 use Rattle.std.specs.Io.KnownBytes.{Appends}
-use Rattle.pay_wire.specs.Output.{AppendsFront}
-use Rattle.pay_wire.specs.Replies.{spelling_of_reply}
+use Rattle.pay_wire.specs.Words.{AppendsFront, spelling_of_reply}
 use Rattle.farebox.specs.Requests.{has_newline, is_quit, kept_of, line_requests, request_of, request_of_rest, rest_of, through_quit, unread}
 use Rattle.farebox.specs.Outcomes.{outcome, Outcome, text_of, reply_then}
 use Rattle.farebox.specs.SessionSteps.{Position, with_ahead, facing, Advances, Quits, Breaks, EndsLine, Replies, Falters, TakesToQuit}

@@ -6,11 +6,10 @@ use Rattle.std.specs.FinMap as map
 use Rattle.std.specs.FinMap.{FinMap}
 use Rattle.std.specs.Map.{lookup}
 use Rattle.std.specs.Ordering.{nat_cmp}
-use Rattle.pay_account.specs.Accepted.{Accepted}
-use Rattle.pay_account.specs.TapResults.{taps_after}
+use Rattle.pay_account.specs.Words.{Accepted, taps_after}
 use Rattle.pay_account.specs.declared.fares.Priced.{Priced}
 use Rattle.pay_account.specs.declared.fares.TapFault.{TapFault}
-use Rattle.pay_taps.specs.Taps.{Taps}
+use Rattle.pay_taps.specs.Words.{Taps}
 use Rattle.pay_taps.specs.contracts.tap.Tap as tap
 use Rattle.pay_taps.specs.declared.tap.Tap.{Tap}
 

@@ -3,10 +3,9 @@ use Rattle.std.specs.Prelude.{ℕ, Bool, true, false, Result, Ok, Err, if◌then
 use Rattle.jiff.specs.declared.tz.timezone.TimeZone.{TimeZone}
 use Rattle.std.specs.FinMap as map
 use Rattle.pay_day.specs.Day.{Stamp, is_instant, stamp_of}
-use Rattle.pay_tables.specs.FareTables.{FareTables}
+use Rattle.pay_tables.specs.Words.{FareTables}
 use Rattle.pay_taps.specs.declared.tap.Tap.{Tap}
-use Rattle.pay_account.specs.TapResults.{tap_result}
-use Rattle.pay_account.specs.Lines.{shown}
+use Rattle.pay_account.specs.Words.{tap_result, shown}
 use Rattle.pay_account.specs.declared.fares.Priced.{Priced}
 use Rattle.pay_account.specs.declared.fares.TapFault.{TapFault}
 use Rattle.farebox.specs.Accounts.{TapsByAccount, taps_of, accounts_after}
@@ -15,7 +14,7 @@ use Rattle.pay_wire.specs.declared.command.Command.TheVariants as command
 use Rattle.pay_wire.specs.declared.command.SpelledTap.{SpelledTap}
 use Rattle.pay_wire.specs.declared.refusal.Refusal.{Refusal}
 use Rattle.pay_wire.specs.declared.refusal.Refusal.TheVariants as refusal
-use Rattle.pay_wire.specs.Refusals.{refusal_of}
+use Rattle.pay_wire.specs.Words.{refusal_of}
 use Rattle.pay_wire.specs.declared.reply.Reply.{Reply}
 use Rattle.pay_wire.specs.declared.reply.Reply.TheVariants as replies
 use Rattle.farebox.specs.declared.request.Request.{Request}

@@ -1,7 +1,7 @@
 -- What the machine replies to a list of requests, and what is written of it.
 use Rattle.std.specs.Prelude.{ℕ, Bool, false, List, [], ◌∷◌}
 use Rattle.std.specs.List.{flat_map}
-use Rattle.pay_wire.specs.Replies.{spelling_of_reply}
+use Rattle.pay_wire.specs.Words.{spelling_of_reply}
 use Rattle.farebox.specs.Machine.{Machine, step}
 use Rattle.pay_wire.specs.declared.reply.Reply.{Reply}
 use Rattle.farebox.specs.declared.request.Request.{Request}

@@ -2,7 +2,7 @@
 use Rattle.std.specs.Prelude.{ℕ, ◌+◌, Bool, true, false, nat_lt, ◌==◌, List, [], ◌∷◌, ◌++◌, map, length, take, Option, Some, None, if◌then◌else◌}
 use Rattle.std.specs.List.{list_any}
 use Rattle.pay_wire.specs.declared.limits.TheConstants.{MOST_LINE_BYTES}
-use Rattle.pay_wire.specs.Commands.{command_of}
+use Rattle.pay_wire.specs.Words.{command_of}
 use Rattle.pay_wire.specs.declared.command.Command.{Command}
 use Rattle.pay_wire.specs.declared.command.Command.TheVariants.{Quit}
 use Rattle.farebox.specs.declared.request.Request.{Request}

@@ -4,9 +4,7 @@ use Rattle.std.specs.FinMap as map
 use Rattle.jiff.specs.Placed.{IsPosixZone}
 use Rattle.jiff.specs.ZoneView.{plain_zone}
 use Rattle.jiff.specs.Words.{read_whole}
-use Rattle.pay_tables.specs.FareFile.{fare_text}
-use Rattle.pay_tables.specs.FareTables.{FareTables}
-use Rattle.pay_tables.specs.Fault.{fault_number, fault_name}
+use Rattle.pay_tables.specs.Words.{fare_text, FareTables, fault_number, fault_name}
 use Rattle.pay_tables.specs.declared.fault.FareFileFault.{FareFileFault}
 use Rattle.farebox.specs.Faults.{IsRefusal, IsWantOfMemory}
 use Rattle.farebox.specs.Machine.{Machine}

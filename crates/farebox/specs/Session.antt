@@ -1,8 +1,7 @@
 -- How a session of lines may end, and what was then written.
 use Rattle.std.specs.Prelude.{◌≡◌, ℕ, Bool, false, List, ◌∷◌, ◌++◌, length, Option, Some}
 use Rattle.std.specs.Io.KnownBytes.{Appends}
-use Rattle.pay_wire.specs.Output.{AppendsFront}
-use Rattle.pay_wire.specs.Replies.{spelling_of_reply}
+use Rattle.pay_wire.specs.Words.{AppendsFront, spelling_of_reply}
 use Rattle.farebox.specs.Requests.{line_requests, quits, requests_of, unread}
 use Rattle.farebox.specs.Outcomes.{outcome, text_of}
 use Rattle.farebox.specs.Machine.{Machine}

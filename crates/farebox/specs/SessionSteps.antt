@@ -3,8 +3,7 @@
 use Rattle.std.specs.Prelude.{◌≡◌, ℕ, ◌+◌, Bool, true, false, List, [], ◌∷◌, ◌++◌, length, Option, Some}
 use Rattle.std.specs.List.{list_any}
 use Rattle.std.specs.Io.KnownBytes.{Appends}
-use Rattle.pay_wire.specs.Output.{AppendsFront}
-use Rattle.pay_wire.specs.Replies.{spelling_of_reply}
+use Rattle.pay_wire.specs.Words.{AppendsFront, spelling_of_reply}
 use Rattle.farebox.specs.Desk.{machine_of}
 use Rattle.farebox.specs.Requests.{is_quit, line_requests, quits, request_of_rest, rest_of, through_quit, unread}
 use Rattle.farebox.specs.Outcomes.{outcome, text_of}

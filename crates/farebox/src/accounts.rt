@@ -1,7 +1,6 @@
 ghost use Rattle.std.specs.Prelude.{◌≡◌, IfOk};
 ghost use Rattle.std.specs.FinMap as map;
-ghost use Rattle.pay_account.specs.TapResults.{IsTapResult};
-ghost use Rattle.pay_account.specs.Lines.{shown};
+ghost use Rattle.pay_account.specs.Words.{IsTapResult, shown};
 ghost use Rattle.farebox.specs.Accounts.{taps_of, accounts_after};
 
 use pay_account::{Account, Fares, Priced, Shown, TapFault};

@@ -1,7 +1,7 @@
 //! Why the program fails, and the status that it ends with.
 ghost use Rattle.std.specs.Prelude.{◌≡◌};
 ghost use Rattle.farebox.specs.Faults.{IsRefusal, IsWantOfMemory, status_of, stream_fault};
-ghost use Rattle.pay_tables.specs.Fault.{fault_number, fault_name};
+ghost use Rattle.pay_tables.specs.Words.{fault_number, fault_name};
 
 use crate::session::SessionFault;
 use pay_tables::FareFileFault;

@@ -10,7 +10,7 @@ ghost use Rattle.pay_wire.specs.declared.refusal.Refusal.{Refusal};
 ghost use Rattle.pay_wire.specs.declared.refusal.Refusal.TheVariants as refusal;
 ghost use Rattle.pay_wire.specs.declared.reply.Reply.TheVariants as replies;
 ghost use Rattle.pay_wire.specs.declared.limits.TheConstants.{MOST_LINE_BYTES};
-ghost use Rattle.pay_wire.specs.Spellings.{Spells};
+ghost use Rattle.pay_wire.specs.Words.{Spells};
 ghost use Rattle.farebox.specs.declared.request.Request.{Request};
 ghost use Rattle.farebox.specs.declared.request.Request.TheVariants as requests;
 ghost use Rattle.farebox.specs.Requests.{InputLine, input_lines, rest_of, has_newline, request_of, line_requests, requests_of, quits, unread};

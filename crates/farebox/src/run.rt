@@ -4,7 +4,7 @@ ghost use Rattle.std.specs.Arc.{arc_value};
 ghost use Rattle.jiff.specs.Placed.{IsPosixZone};
 ghost use Rattle.jiff.specs.Words.{read_whole};
 ghost use Rattle.jiff.specs.ZoneView.{plain_zone};
-ghost use Rattle.pay_tables.specs.FareFile.{fare_text};
+ghost use Rattle.pay_tables.specs.Words.{fare_text};
 ghost use Rattle.farebox.specs.Run.{IsRefused, RunEnds, RunFails};
 
 use crate::fault::Fault;

@@ -2,6 +2,7 @@
 use crate::session::{Done, SessionFault, run_lines};
 use jiff::tz::TimeZone;
 use pay_tables::Tables;
+use pay_tables::sample::BUS_FARES;
 use std::alloc::Global;
 use std::io::{BufRead, Write};
 use std::sync::Arc;
@@ -13,42 +14,6 @@ mod orders;
 mod readers;
 mod rows;
 mod writers;
-
-/// The fare file of the examples.
-const FARES: &str =
-    "# A sample fare file without caps: one bus route, five stations, three zones. The numbers are nobody's real fares.
-zones = 3
-minutes = [90, 100, 110]
-single = [
-  { from = 1, to = 1, peak = 280, off = 270 },
-  { from = 1, to = 2, peak = 340, off = 280 },
-  { from = 1, to = 3, peak = 370, off = 300 },
-  { from = 2, to = 2, peak = 200, off = 190 },
-  { from = 2, to = 3, peak = 210, off = 195 },
-  { from = 3, to = 3, peak = 200, off = 180 },
-]
-holidays = [19723]
-station = [
-  { place = 10, low = 1, high = 1, operator = 1 },
-  { place = 11, low = 1, high = 2, operator = 1 },
-  { place = 12, low = 2, high = 2, operator = 2 },
-  { place = 13, low = 2, high = 3, operator = 2 },
-  { place = 14, low = 3, high = 3, operator = 3 },
-]
-route = [
-  { place = 50, operator = 4 },
-]
-interchange = [
-  { a = 10, b = 12, seconds = 1200 },
-]
-
-[rules]
-bus = 175
-maximum = 860
-hopper = 3600
-same_free = 120
-same_limit = 1800
-";
 
 const LONDON: &str = "GMT0BST,M3.5.0/1,M10.5.0";
 
@@ -75,7 +40,7 @@ fn serve<R: BufRead, W: Write>(
     reader: &mut R,
     writer: &mut W,
 ) -> Result<Result<Done, SessionFault>, Fail> {
-    let tables = Arc::new(alloc, Tables::read(alloc, FARES)?)?;
+    let tables = Arc::new(alloc, Tables::read(alloc, BUS_FARES)?)?;
     let zone = TimeZone::posix(LONDON)?;
     Ok(run_lines(alloc, reader, writer, &zone, &tables))
 }

@@ -7,7 +7,7 @@ use Rattle.pay_day.specs.Day.{IsDay, Stamp, monday, sunday}
 use Rattle.pay_day.specs.declared.limits.TheConstants.{DAYS_PER_WEEK}
 use Rattle.pay_taps.specs.declared.tap.Touch.{Touch}
 use Rattle.pay_hopper.specs.Words.{instants_of, paying_marks, marks_by_last}
-use Rattle.pay_tables.specs.FareTables.{FareTables}
+use Rattle.pay_tables.specs.Words.{FareTables}
 use Rattle.pay_links.specs.declared.journey.Journey.{Journey}
 use Rattle.pay_links.specs.Words.{first_tap}
 use Rattle.pay_fares.specs.JourneyFares.{fare}

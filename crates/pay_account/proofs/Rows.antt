@@ -3,7 +3,7 @@ use Rattle.std.proofs.Common.{◌≡◌, ℕ, true, false, [], ◌∷◌, List, 
 use Rattle.std.specs.FinMap as map
 use Rattle.std.specs.FinMap.{FinMap, get}
 use Rattle.std.specs.Ordering.{nat_cmp}
-use Rattle.pay_tables.specs.FareTables.{FareTables}
+use Rattle.pay_tables.specs.Words.{FareTables}
 use Rattle.pay_tables.specs.declared.place.Place.{Place}
 use Rattle.pay_tables.specs.declared.place.Place.TheVariants.{Route, Station}
 use Rattle.pay_tables.specs.declared.single.Single.{Single}

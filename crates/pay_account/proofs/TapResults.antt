@@ -3,7 +3,7 @@ use Rattle.std.proofs.Common.{◌≡◌, ◌↔◌, Bool, true, false, cond, if�
 use Rattle.std.specs.FinMap as map
 use Rattle.std.specs.Cmp.{IsTotalOrder, nat_cmp_total, eq_by_cmp_equiv}
 use Rattle.std.proofs.lemmas.Cmp.{on_total, then_total}
-use Rattle.pay_tables.specs.FareTables.{FareTables}
+use Rattle.pay_tables.specs.Words.{FareTables}
 use Rattle.pay_taps.specs.declared.tap.Tap.{Tap}
 use Rattle.pay_taps.specs.declared.tap_set.Addition.{Addition}
 use Rattle.pay_taps.specs.declared.tap_set.Addition.TheVariants.{Added, Repeat}

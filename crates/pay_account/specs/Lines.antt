@@ -1,6 +1,6 @@
 -- The journeys of a day as an account shows them.
 use Rattle.std.specs.Prelude.{ℕ, if◌then◌else◌, List, map, filter, None}
-use Rattle.pay_tables.specs.FareTables.{FareTables}
+use Rattle.pay_tables.specs.Words.{FareTables}
 use Rattle.pay_taps.specs.declared.tap.Kind.TheVariants.{Out}
 use Rattle.pay_taps.specs.Words.{Taps, same_kind, touches, in_order_by}
 use Rattle.pay_links.specs.Words.{last_leg, first_tap}

@@ -1,7 +1,7 @@
 -- Where a tap may be made.
 use Rattle.std.specs.Prelude.{Bool, true, false, Option, Some}
 use Rattle.std.specs.FinMap as map
-use Rattle.pay_tables.specs.FareTables.{FareTables}
+use Rattle.pay_tables.specs.Words.{FareTables}
 use Rattle.pay_tables.specs.declared.place.Place.{Place}
 use Rattle.pay_tables.specs.declared.place.Place.TheVariants.{Station, Route}
 use Rattle.pay_taps.specs.declared.tap.Kind.{Kind}

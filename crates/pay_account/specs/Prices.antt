@@ -2,7 +2,7 @@
 use Rattle.std.specs.Prelude.{◌≡◌, ℕ, ◌+◌, ◌-◌, Bool, List, [], ◌∷◌, filter, sum_by, refl}
 use Rattle.std.specs.List.{range_with_len}
 use Rattle.pay_day.specs.Day.{monday, sunday}
-use Rattle.pay_tables.specs.FareTables.{FareTables}
+use Rattle.pay_tables.specs.Words.{FareTables}
 use Rattle.pay_taps.specs.declared.tap.Touch.{Touch}
 use Rattle.pay_taps.specs.Words.{Taps, touches}
 use Rattle.pay_links.specs.declared.journey.Journey.{Journey}

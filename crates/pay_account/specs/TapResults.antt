@@ -1,7 +1,7 @@
 -- What a tap gives an account: the prices or a refusal, and the taps that it has then.
 use Rattle.std.specs.Prelude.{◌≡◌, true, false, if◌then◌else◌, Result, Ok, Err, IsOk}
 use Rattle.std.specs.FinMap as map
-use Rattle.pay_tables.specs.FareTables.{FareTables}
+use Rattle.pay_tables.specs.Words.{FareTables}
 use Rattle.pay_taps.specs.declared.tap.Tap.{Tap}
 use Rattle.pay_taps.specs.declared.tap_set.Addition.{Addition}
 use Rattle.pay_taps.specs.declared.tap_set.Addition.TheVariants.{Added, Repeat}

@@ -2,7 +2,7 @@
 //! whose proof needs a law calls its function.
 ghost use Rattle.std.specs.Prelude.{◌≡◌, ◌≢◌, ◌↔◌, ◌≤◌, true, false};
 ghost use Rattle.std.specs.FinMap as map;
-ghost use Rattle.pay_tables.specs.FareTables.{FareTables};
+ghost use Rattle.pay_tables.specs.Words.{FareTables};
 ghost use Rattle.pay_taps.specs.declared.limits.TheConstants.{MOST_TAPS};
 ghost use Rattle.pay_taps.specs.declared.tap.Tap.{Tap};
 ghost use Rattle.pay_taps.specs.Words.{Taps, number};

@@ -23,3 +23,6 @@ pub const DAYS_PER_WEEK: u32 = 7;
 
 /// Saturday, where a week's days are counted from 0 on its Monday: those before it are weekdays.
 pub const SATURDAY: u32 = 5;
+
+/// How far from UTC a zone may be, in seconds: 25:59:59.
+pub const MOST_OFFSET: u64 = 93_599;

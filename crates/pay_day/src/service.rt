@@ -1,6 +1,6 @@
 ghost use Rattle.std.specs.Prelude.{◌≡◌, ◌+◌, ◌≤◌, ◌↔◌, pos, IsOk, IfOk, IfErr};
 ghost use Rattle.pay_day.specs.Day.{IsInstant, local_seconds, stamp_of};
-ghost use Rattle.pay_day.specs.declared.limits.TheConstants.{FIRST_INSTANT, LAST_INSTANT};
+ghost use Rattle.pay_day.specs.declared.limits.TheConstants.{FIRST_INSTANT, LAST_INSTANT, MOST_OFFSET};
 
 use crate::Moment;
 use crate::limits::{FIRST_INSTANT, LAST_INSTANT, SECONDS_PER_DAY, SERVICE_DAY_START};
@@ -21,8 +21,8 @@ pub enum StampFault {
 fn local_clock(zone: &TimeZone<'_>, utc: u64) -> u64
     requires { IsInstant utc }
     ensures value { pos result ≡ local_seconds zone.now utc }
-    ensures not_far_before { FIRST_INSTANT ≤ result + 93_599 }
-    ensures not_far_after { result ≤ LAST_INSTANT + 93_599 }
+    ensures not_far_before { FIRST_INSTANT ≤ result + MOST_OFFSET }
+    ensures not_far_after { result ≤ LAST_INSTANT + MOST_OFFSET }
 {
     let Ok(instant) = Timestamp::from_second(utc as i64) else {
         unreachable!()

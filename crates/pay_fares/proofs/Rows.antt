@@ -2,7 +2,7 @@
 use Rattle.std.proofs.Common.{◌≡◌, ℕ, ◌+◌, ◌*◌, true, false, List, [], ◌∷◌, refl}
 use Rattle.std.specs.FinMap.{from_entries, get-from_entries}
 use Rattle.std.specs.Cmp.{nat_cmp_total}
-use Rattle.pay_tables.specs.FareTables.{FareTables, station_at}
+use Rattle.pay_tables.specs.Words.{FareTables, station_at}
 use Rattle.pay_tables.specs.declared.place.Place.{Place}
 use Rattle.pay_tables.specs.declared.place.Place.TheVariants.{Station, Route}
 use Rattle.pay_tables.specs.declared.single.Single.{Single}

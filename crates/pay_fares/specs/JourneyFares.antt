@@ -1,7 +1,6 @@
 -- What a journey costs by itself.
 use Rattle.std.specs.Prelude.{ℕ, ◌+◌, nat_le, Bool, if◌then◌else◌, [], ◌∷◌}
-use Rattle.pay_tables.specs.FareTables.{FareTables, station_at, single_fare}
-use Rattle.pay_tables.specs.Spans.{span_of}
+use Rattle.pay_tables.specs.Words.{FareTables, station_at, single_fare, span_of}
 use Rattle.pay_pairs.specs.declared.parts.Leg.{Leg}
 use Rattle.pay_links.specs.declared.journey.Journey.{Journey}
 use Rattle.pay_links.specs.declared.journey.Journey.TheVariants.{Run, Same, Lone, Bus}

@@ -2,8 +2,7 @@
 use Rattle.std.specs.Prelude.{◌≡◌, ℕ, ◌==◌, ◌&&◌, ◌||◌, not, nat_le, nat_lt, Bool, true, false, refl}
 use Rattle.pay_day.specs.Day.{Stamp, day_of_week}
 use Rattle.pay_day.specs.declared.limits.TheConstants.{SATURDAY}
-use Rattle.pay_tables.specs.FareTables.{FareTables, is_holiday}
-use Rattle.pay_tables.specs.Spans.{low_of}
+use Rattle.pay_tables.specs.Words.{FareTables, is_holiday, low_of}
 use Rattle.pay_links.specs.Words.{LinkedLegs, first_tap}
 use Rattle.pay_links.specs.declared.journey.Journey.{Journey}
 use Rattle.pay_links.specs.declared.journey.Journey.TheVariants.{Run, Same, Lone, Bus}

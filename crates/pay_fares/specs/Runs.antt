@@ -3,8 +3,7 @@ use Rattle.std.specs.Prelude.{List, [], ◌∷◌}
 use Rattle.std.specs.List.{flat_map}
 use Rattle.pay_tables.specs.declared.place.Place.{Place}
 use Rattle.pay_tables.specs.declared.zones.Span.{Span}
-use Rattle.pay_tables.specs.FareTables.{FareTables, station_at}
-use Rattle.pay_tables.specs.Spans.{span_of}
+use Rattle.pay_tables.specs.Words.{FareTables, station_at, span_of}
 use Rattle.pay_pairs.specs.declared.parts.Leg.{Leg}
 use Rattle.pay_links.specs.Words.{LinkedLegs, all_legs, last_leg}
 

@@ -3,7 +3,7 @@
 ghost use Rattle.std.specs.Prelude.{◌≡◌, ℕ, ◌+◌, ◌≤◌, nat_lt, true, false};
 ghost use Rattle.pay_day.specs.Day.{monday};
 ghost use Rattle.pay_day.specs.declared.limits.TheConstants.{FIRST_DAY, SATURDAY};
-ghost use Rattle.pay_tables.specs.FareTables.{FareTables};
+ghost use Rattle.pay_tables.specs.Words.{FareTables};
 ghost use Rattle.pay_links.specs.Words.{LinkedLegs};
 ghost use Rattle.pay_fares.specs.Runs.{first_station, last_station};
 ghost use Rattle.pay_fares.specs.Peak.{is_weekday, is_into_zone_one};

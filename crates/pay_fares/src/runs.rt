@@ -1,6 +1,6 @@
 ghost use Rattle.std.specs.Prelude.{◌≡◌};
 ghost use Rattle.std.specs.List.{fold};
-ghost use Rattle.pay_tables.specs.Spans.{IsSpan, AreSpanBounds, bounds_with};
+ghost use Rattle.pay_tables.specs.Words.{IsSpan, AreSpanBounds, bounds_with};
 ghost use Rattle.pay_fares.specs.Runs.{stations_of, span_of_legs};
 
 use pay_links::Run;

@@ -48,30 +48,33 @@ fn rail_prices(
     Ok(prices)
 }
 
+/// The day and the second of the way in, and whether the leg is peak, with its fare.
+static FIRST_TAPS: [(u32, u32, (bool, u64)); 14] = [
+    // 06:29:59, 06:30:00, 09:29:59 and 09:30:00
+    (MONDAY, 23_399, (false, 280)),
+    (MONDAY, 23_400, (true, 340)),
+    (MONDAY, 34_199, (true, 340)),
+    (MONDAY, 34_200, (false, 280)),
+    // 15:59:59, 16:00:00, 18:59:59 and 19:00:00
+    (MONDAY, 57_599, (false, 280)),
+    (MONDAY, 57_600, (true, 340)),
+    (MONDAY, 68_399, (true, 340)),
+    (MONDAY, 68_400, (false, 280)),
+    // 07:00:00
+    (HOLIDAY, 25_200, (false, 280)),
+    (HOLIDAY + 1, 25_200, (true, 340)),
+    (SATURDAY - 1, 25_200, (true, 340)),
+    (SATURDAY, 25_200, (false, 280)),
+    (SATURDAY + 1, 25_200, (false, 280)),
+    (SATURDAY + 2, 25_200, (true, 340)),
+];
+
 /// From 10 to 12, in twenty minutes, by the day and the second of the way in.
 #[test]
 fn is_peak_by_the_first_tap(rt: HostRuntime) -> Result<(), Fail> {
     let alloc = rt.alloc();
     let tables = Tables::read(alloc, BUS_FARES)?;
-    for (day, second, price) in [
-        // 06:29:59, 06:30:00, 09:29:59 and 09:30:00
-        (MONDAY, 23_399, (false, 280)),
-        (MONDAY, 23_400, (true, 340)),
-        (MONDAY, 34_199, (true, 340)),
-        (MONDAY, 34_200, (false, 280)),
-        // 15:59:59, 16:00:00, 18:59:59 and 19:00:00
-        (MONDAY, 57_599, (false, 280)),
-        (MONDAY, 57_600, (true, 340)),
-        (MONDAY, 68_399, (true, 340)),
-        (MONDAY, 68_400, (false, 280)),
-        // 07:00:00
-        (HOLIDAY, 25_200, (false, 280)),
-        (HOLIDAY + 1, 25_200, (true, 340)),
-        (SATURDAY - 1, 25_200, (true, 340)),
-        (SATURDAY, 25_200, (false, 280)),
-        (SATURDAY + 1, 25_200, (false, 280)),
-        (SATURDAY + 2, 25_200, (true, 340)),
-    ] {
+    for (day, second, price) in FIRST_TAPS {
         let entry = tap(&rt, 10, Kind::In, day, second);
         let exit = tap(&rt, 12, Kind::Out, day, second.saturating_add(1_200));
         let prices = rail_prices(alloc, &tables, &[entry, exit])?;
@@ -84,40 +87,43 @@ fn is_peak_by_the_first_tap(rt: HostRuntime) -> Result<(), Fail> {
     Ok(())
 }
 
+/// From where to where, the day and the second of the way in, and whether the leg is peak, with its fare.
+static STATIONS_AND_TIMES: [(u16, u16, u32, u32, (bool, u64)); 20] = [
+    // 17:00, into zone 1 and out of it
+    (12, 10, MONDAY, 61_200, (false, 280)),
+    (13, 10, MONDAY, 61_200, (false, 280)),
+    (14, 10, MONDAY, 61_200, (false, 300)),
+    (10, 12, MONDAY, 61_200, (true, 340)),
+    (10, 14, MONDAY, 61_200, (true, 370)),
+    // from a station that is in zone 1 too
+    (11, 10, MONDAY, 61_200, (true, 280)),
+    // by a span that does not begin at zone 1
+    (13, 11, MONDAY, 61_200, (true, 200)),
+    (14, 11, MONDAY, 61_200, (true, 210)),
+    (14, 12, MONDAY, 61_200, (true, 210)),
+    // 08:00
+    (12, 10, MONDAY, 28_800, (true, 340)),
+    // 15:59:59, 16:00:00, 18:59:59 and 19:00:00
+    (12, 10, MONDAY, 57_599, (false, 280)),
+    (12, 10, MONDAY, 57_600, (false, 280)),
+    (12, 10, MONDAY, 68_399, (false, 280)),
+    (12, 10, MONDAY, 68_400, (false, 280)),
+    // 17:00 on other days
+    (12, 10, SATURDAY - 1, 61_200, (false, 280)),
+    (10, 12, SATURDAY - 1, 61_200, (true, 340)),
+    (12, 10, SATURDAY, 61_200, (false, 280)),
+    (10, 12, SATURDAY, 61_200, (false, 280)),
+    (12, 10, HOLIDAY, 61_200, (false, 280)),
+    (10, 12, HOLIDAY, 61_200, (false, 280)),
+];
+
 /// One leg in twenty minutes, by its stations and the day and the second of the way in: whether it is
 /// peak, and its fare.
 #[test]
 fn is_off_peak_into_zone_one_in_the_evening(rt: HostRuntime) -> Result<(), Fail> {
     let alloc = rt.alloc();
     let tables = Tables::read(alloc, BUS_FARES)?;
-    for (from, to, day, second, price) in [
-        // 17:00, into zone 1 and out of it
-        (12, 10, MONDAY, 61_200, (false, 280)),
-        (13, 10, MONDAY, 61_200, (false, 280)),
-        (14, 10, MONDAY, 61_200, (false, 300)),
-        (10, 12, MONDAY, 61_200, (true, 340)),
-        (10, 14, MONDAY, 61_200, (true, 370)),
-        // from a station that is in zone 1 too
-        (11, 10, MONDAY, 61_200, (true, 280)),
-        // by a span that does not begin at zone 1
-        (13, 11, MONDAY, 61_200, (true, 200)),
-        (14, 11, MONDAY, 61_200, (true, 210)),
-        (14, 12, MONDAY, 61_200, (true, 210)),
-        // 08:00
-        (12, 10, MONDAY, 28_800, (true, 340)),
-        // 15:59:59, 16:00:00, 18:59:59 and 19:00:00
-        (12, 10, MONDAY, 57_599, (false, 280)),
-        (12, 10, MONDAY, 57_600, (false, 280)),
-        (12, 10, MONDAY, 68_399, (false, 280)),
-        (12, 10, MONDAY, 68_400, (false, 280)),
-        // 17:00 on other days
-        (12, 10, SATURDAY - 1, 61_200, (false, 280)),
-        (10, 12, SATURDAY - 1, 61_200, (true, 340)),
-        (12, 10, SATURDAY, 61_200, (false, 280)),
-        (10, 12, SATURDAY, 61_200, (false, 280)),
-        (12, 10, HOLIDAY, 61_200, (false, 280)),
-        (10, 12, HOLIDAY, 61_200, (false, 280)),
-    ] {
+    for (from, to, day, second, price) in STATIONS_AND_TIMES {
         let entry = tap(&rt, from, Kind::In, day, second);
         let exit = tap(&rt, to, Kind::Out, day, second.saturating_add(1_200));
         let prices = rail_prices(alloc, &tables, &[entry, exit])?;

@@ -1,8 +1,7 @@
 -- Legs: a tap in and the next tap out, if not too much later.
 use Rattle.std.specs.Prelude.{◌≡◌, ℕ, ◌+◌, ◌==◌, ◌&&◌, nat_le, Bool, true, if◌then◌else◌, List, [], ◌∷◌, ◌++◌, All}
 use Rattle.std.specs.List.{flat_map}
-use Rattle.pay_tables.specs.FareTables.{FareTables, station_at, allowed_seconds}
-use Rattle.pay_tables.specs.Spans.{span_of}
+use Rattle.pay_tables.specs.Words.{FareTables, station_at, allowed_seconds, span_of}
 use Rattle.pay_taps.specs.declared.tap.Kind.TheVariants.{In, Out}
 use Rattle.pay_taps.specs.declared.tap.Touch.{Touch}
 use Rattle.pay_taps.specs.Words.{same_kind}

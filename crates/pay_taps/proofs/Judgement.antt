@@ -2,6 +2,7 @@
 use Rattle.std.proofs.Common.{◌≡◌, ◌≢◌, ◌↔◌, ℕ, ◌<◌, ◌≤◌, Bool, true, false, nat_le, Option, Some, None, Ok, Err, if◌then◌else◌, eqb-true, eq-eqb, leb-true, leb-false, le-leb, refl, sym, ap, ◌∙◌, subst}
 use Rattle.std.proofs.lemmas.Bool.{and_parts, and_from, lt-leb}
 use Rattle.pay_day.specs.Day.{Stamp}
+use Rattle.pay_taps.specs.declared.limits.TheConstants.{MOST_TAPS}
 use Rattle.pay_taps.specs.declared.tap.Kind.{Kind}
 use Rattle.pay_taps.specs.declared.tap.Kind.TheVariants.{In, Out, Bus}
 use Rattle.pay_taps.specs.declared.tap.Tap.{Tap}
@@ -95,18 +96,18 @@ new_not_memory : (b : Bool) → (if b then Err AccountFull else Ok Added) ≡ Er
 new_not_memory true e = cc
 new_not_memory false e = cc
 
-room_left : (b : Bool) (count : ℕ) → nat_le 16_384 count ≡ b → (if b then Err AccountFull else Ok Added) ≡ Ok Added → count < 16_384
+room_left : (b : Bool) (count : ℕ) → nat_le MOST_TAPS count ≡ b → (if b then Err AccountFull else Ok Added) ≡ Ok Added → count < MOST_TAPS
 room_left true count p e = absurd (cc)
-room_left false count p e = leb-false 16_384 count p
+room_left false count p e = leb-false MOST_TAPS count p
 
-no_room : (b : Bool) (count : ℕ) → nat_le 16_384 count ≡ b → (if b then Err AccountFull else Ok Added) ≡ Err AccountFull → 16_384 ≤ count
-no_room true count p e = leb-true 16_384 count p
+no_room : (b : Bool) (count : ℕ) → nat_le MOST_TAPS count ≡ b → (if b then Err AccountFull else Ok Added) ≡ Err AccountFull → MOST_TAPS ≤ count
+no_room true count p e = leb-true MOST_TAPS count p
 no_room false count p e = absurd (cc)
 
 -- a repeat is what stands there
 pub repeat_iff : (t : Tap) (there : Option Tap) (count : ℕ) → (judgement t there count ≡ Ok Repeat) ↔ (there ≡ Some t)
 repeat_iff t (Some x) count = (repeat_found t x (same_tap x t) refl, λ e. let same : x ≡ t = cc in ap (λ b. if b then Ok Repeat else Err Conflict) (same_from_tap x t same))
-repeat_iff t None count = (λ e. absurd (new_not_repeat (nat_le 16_384 count) e), λ e. absurd (cc))
+repeat_iff t None count = (λ e. absurd (new_not_repeat (nat_le MOST_TAPS count) e), λ e. absurd (cc))
 
 -- a conflict has other content
 pub conflict_iff : (t : Tap) (there : Option Tap) (count : ℕ) → (judgement t there count ≡ Err Conflict) ↔ ((other : Tap) × (there ≡ Some other) × (other ≢ t))
@@ -114,18 +115,18 @@ conflict_iff t (Some x) count = (
   λ e. (x, refl, conflict_found t x (same_tap x t) refl e),
   λ h. let same : x ≡ h.0 = cc (h.1) in conflict_given t x (same_tap x t) refl (λ is. h.2 (sym same ∙ is)),
 )
-conflict_iff t None count = (λ e. absurd (new_not_conflict (nat_le 16_384 count) e), λ h. absurd (cc (h.1)))
+conflict_iff t None count = (λ e. absurd (new_not_conflict (nat_le MOST_TAPS count) e), λ h. absurd (cc (h.1)))
 
 -- a tap is added where there is none and there is room
-pub added_iff : (t : Tap) (there : Option Tap) (count : ℕ) → (judgement t there count ≡ Ok Added) ↔ ((there ≡ None) × (count < 16_384))
+pub added_iff : (t : Tap) (there : Option Tap) (count : ℕ) → (judgement t there count ≡ Ok Added) ↔ ((there ≡ None) × (count < MOST_TAPS))
 added_iff t (Some x) count = (λ e. absurd (there_not_added (same_tap x t) e), λ h. absurd (cc (h.0)))
-added_iff t None count = (λ e. (refl, room_left (nat_le 16_384 count) count refl e), λ h. ap (λ b. if b then Err AccountFull else Ok Added) (lt-leb 16_384 count h.1))
+added_iff t None count = (λ e. (refl, room_left (nat_le MOST_TAPS count) count refl e), λ h. ap (λ b. if b then Err AccountFull else Ok Added) (lt-leb MOST_TAPS count h.1))
 
 -- a full account takes no further tap
-pub full_iff : (t : Tap) (there : Option Tap) (count : ℕ) → (judgement t there count ≡ Err AccountFull) ↔ ((there ≡ None) × (16_384 ≤ count))
+pub full_iff : (t : Tap) (there : Option Tap) (count : ℕ) → (judgement t there count ≡ Err AccountFull) ↔ ((there ≡ None) × (MOST_TAPS ≤ count))
 full_iff t (Some x) count = (λ e. absurd (there_not_full (same_tap x t) e), λ h. absurd (cc (h.0)))
-full_iff t None count = (λ e. (refl, no_room (nat_le 16_384 count) count refl e), λ h. ap (λ b. if b then Err AccountFull else Ok Added) (le-leb 16_384 count h.1))
+full_iff t None count = (λ e. (refl, no_room (nat_le MOST_TAPS count) count refl e), λ h. ap (λ b. if b then Err AccountFull else Ok Added) (le-leb MOST_TAPS count h.1))
 
 pub never_memory : (t : Tap) (there : Option Tap) (count : ℕ) → judgement t there count ≢ Err Memory
 never_memory t (Some x) count e = there_not_memory (same_tap x t) e
-never_memory t None count e = new_not_memory (nat_le 16_384 count) e
+never_memory t None count e = new_not_memory (nat_le MOST_TAPS count) e

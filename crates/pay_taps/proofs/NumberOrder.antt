@@ -7,6 +7,7 @@ use Rattle.std.specs.FinMap.Entries.{by_order}
 use Rattle.std.proofs.lemmas.Cmp.{on_total, then_total}
 use Rattle.std.proofs.lemmas.List.{length-map}
 use Rattle.std.proofs.lemmas.Map.Lookups.{CmpEqualImpliesEq, exact_pairs, exact_unsigned}
+use Rattle.pay_taps.specs.declared.limits.TheConstants.{MOST_TAPS}
 use Rattle.pay_taps.specs.declared.tap.Tap.{Tap}
 use Rattle.pay_taps.specs.declared.tap_set.Addition.TheVariants.{Added}
 use Rattle.pay_taps.proofs.Judgement.{added_iff}
@@ -85,7 +86,7 @@ added taps t old e =
       own_numbers = own_numbers-insert taps t old.own_numbers;
       within =
           let count : len (insert taps (number t) t) ≡ len taps + 1 = len-insert number_total taps (number t) t ∙ ap (λ (o : Option Tap). cond (is_some o) (len taps) (len taps + 1)) room.0 in
-          let below : len taps < 16_384 = room.1 in
+          let below : len taps < MOST_TAPS = room.1 in
           omega arith;
     }
 

@@ -9,6 +9,7 @@ use Rattle.std.specs.FinMap.Entries.{below_all, by_order, is_sorted-put, find-pu
 use Rattle.std.proofs.lemmas.List.{length-map}
 use Rattle.std.proofs.lemmas.List.Edits.{length-insert}
 use Rattle.std.proofs.lemmas.List.Sorted.{searchable_from_sorted}
+use Rattle.pay_taps.specs.declared.limits.TheConstants.{MOST_TAPS}
 use Rattle.pay_taps.specs.declared.tap.Tap.{Tap}
 use Rattle.pay_taps.specs.TapList.{numbered, set_of, IsTapList, IsPlace}
 use Rattle.pay_taps.specs.Taps.{Taps, IsTapSet, number, number_cmp}
@@ -145,7 +146,7 @@ set_with list shown t i h e between = same_map number_total exact_numbers _ _ (�
     ∙ find-put number_cmp number_total q (number t) t (numbered list)
     ∙ sym (get-insert number_total (set_of list) (number t) t q ∙ ap (cond (eq_by_cmp number_cmp q (number t)) (Some t)) (get-from_entries number_total (numbered list) q)))
 
-listed_with : (list shown : List Tap) (t : Tap) (i : ℕ) → IsTapList list → shown ≡ list → IsBinarySearchResult (cmp_with (number t)) shown (Err i) → i ≤ length shown → length list < 16_384 → IsTapList (insert list i t)
+listed_with : (list shown : List Tap) (t : Tap) (i : ℕ) → IsTapList list → shown ≡ list → IsBinarySearchResult (cmp_with (number t)) shown (Err i) → i ≤ length shown → length list < MOST_TAPS → IsTapList (insert list i t)
 listed_with list shown t i h e between le room = record {
   ascending = subst (λ (es : List ((ℕ × ℕ) × Tap)). T (is_sorted number_cmp es)) (put_found list shown t i h e between) (is_sorted-put number_cmp number_total (number t) t (numbered list) h.ascending);
   within = omega (arith, length-insert list i t (omega (arith, le, ap length e)), room);
@@ -153,7 +154,7 @@ listed_with list shown t i h e between le room = record {
 
 -- where no tap of its number is, and room, the position is the place of a further tap
 pub place_of : (list shown : List Tap) (taps : Taps) (t : Tap) (i : ℕ) → IsTapList list → set_of list ≡ taps → shown ≡ list → i ≤ length shown → IsBinarySearchResult (cmp_with (number t)) shown (Err i)
-    → length list < 16_384 → IsPlace i taps t
+    → length list < MOST_TAPS → IsPlace i taps t
 place_of list shown taps t i h kept e le between room =
     let none = not_found list shown taps (number t) i h kept e between in
     let count = count_of list taps h kept in

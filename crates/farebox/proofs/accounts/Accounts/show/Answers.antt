@@ -1,6 +1,6 @@
 use Rattle.std.proofs.Common.{◌≡◌, ap, sym, ◌∙◌}
 use Rattle.std.proofs.lemmas.Result.{IfOk-weaker}
-use Rattle.pay_account.specs.Lines.{shown}
+use Rattle.pay_account.specs.Words.{shown}
 use Rattle.farebox.proofs.AccountMaps.{taps_held, taps_not_held}
 use Rattle.farebox.proofs.accounts.Accounts.show.Goals as goal
 

@@ -1,5 +1,6 @@
 use Rattle.std.proofs.Common.{◌≡◌, ◌≢◌, ◌≤◌, ◌<◌, ◌∙◌, ap, Some, length, rules, arith}
 use Rattle.std.specs.FinMap.{get, len}
+use Rattle.pay_taps.specs.declared.limits.TheConstants.{MOST_TAPS}
 use Rattle.pay_taps.specs.Taps.{number}
 use Rattle.pay_taps.proofs.Judgement.{repeat_iff, conflict_iff, full_iff}
 use Rattle.pay_taps.proofs.TapList.{found, not_found, count_of, place_of}
@@ -26,10 +27,10 @@ returns-in-Err c =
     let taps = c.args.self.now in
     let tap = c.args.tap.now in
     let none = not_found c.self.inside.taps.items c.as_slice-taps.result.now taps (number tap) c.in-Err.field-0 c.self.invariant c.self.view_is c.as_slice-taps.ensures c.in-Err.ensures.position in
-    let full : 16_384 ≤ length c.self.inside.taps.items = search rules in
+    let full : MOST_TAPS ≤ length c.self.inside.taps.items = search rules in
     (full_iff tap (get taps (number tap)) (len taps)).1 (none, omega (arith, full, count_of _ taps c.self.invariant c.self.view_is))
 
 pub returns-in-Err-2 : goal.returns-in-Err-2
 returns-in-Err-2 c =
-    let room : length c.self.inside.taps.items < 16_384 = search rules in
+    let room : length c.self.inside.taps.items < MOST_TAPS = search rules in
     place_of c.self.inside.taps.items c.as_slice-taps.result.now c.args.self.now c.args.tap.now c.in-Err.field-0 c.self.invariant c.self.view_is c.as_slice-taps.ensures c.in-Err.ensures.in_range c.in-Err.ensures.position room
