@@ -14,6 +14,3 @@ mod shown;
 pub use account::Account;
 pub use fares::{Fares, Priced, TapFault};
 pub use shown::{Line, LineKind, Lines, Shown};
-
-#[cfg(test)]
-mod tests;

@@ -10,6 +10,3 @@ mod week;
 pub use moment::Moment;
 pub use service::{StampFault, stamp};
 pub use week::{day_of_week, is_in_week_of, monday};
-
-#[cfg(test)]
-mod tests;

@@ -9,6 +9,3 @@ mod runs;
 
 pub use journey_fares::fare;
 pub use peak::is_peak;
-
-#[cfg(test)]
-mod tests;

@@ -4,7 +4,5 @@
 
 mod hopper;
 pub mod laws;
-#[cfg(test)]
-mod tests;
 
 pub use hopper::{paying, pays};

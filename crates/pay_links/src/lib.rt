@@ -4,8 +4,6 @@
 mod journey;
 pub mod laws;
 mod links;
-#[cfg(test)]
-mod tests;
 
 pub use journey::{Journey, Run};
 pub use links::journeys;

@@ -4,6 +4,3 @@
 mod pence;
 
 pub use pence::Pence;
-
-#[cfg(test)]
-mod tests;

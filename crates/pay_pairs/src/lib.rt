@@ -3,7 +3,5 @@
 
 pub mod laws;
 mod parts;
-#[cfg(test)]
-mod tests;
 
 pub use parts::{Leg, RailPart, legs};

@@ -29,6 +29,3 @@ pub use single::Single;
 pub use span_bounds::{SpanBounds, span};
 pub use tables::Tables;
 pub use zones::Span;
-
-#[cfg(test)]
-mod tests;

@@ -6,8 +6,6 @@ pub mod limits;
 mod order;
 mod tap;
 mod tap_set;
-#[cfg(test)]
-mod tests;
 
 pub use order::{sort_touches, touches, touches_of, touches_with};
 pub use tap::{Kind, Tap, Touch};

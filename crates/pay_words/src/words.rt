@@ -156,6 +156,3 @@ fn version_fault(alloc: Global) -> WordsFault
         Err(_) => WordsFault::Memory,
     }
 }
-
-#[cfg(test)]
-mod tests;

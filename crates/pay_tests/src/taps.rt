@@ -1,6 +1,6 @@
-use crate::limits::MOST_TAPS;
-use crate::*;
 use pay_day::Moment;
+use pay_taps::limits::MOST_TAPS;
+use pay_taps::*;
 use std::process::Abort;
 use std::test::Fail;
 

@@ -1,8 +1,8 @@
 //! By the sample fare file: three zones, with a station in each and one between each two, an interchange
 //! of twenty minutes between 10 and 12, and a public holiday on Monday, 2024-01-01.
 
-use crate::*;
 use pay_day::Moment;
+use pay_fares::*;
 use pay_links::{Journey, journeys};
 use pay_pairs::legs;
 use pay_tables::Tables;

@@ -8,10 +8,10 @@ mod singles;
 mod spans;
 mod zones;
 
-use crate::FareFileFault::{OutOfRange, TooMany, UnknownPlace};
-use crate::sample::BUS_FARES;
-use crate::*;
 use pay_money::Pence;
+use pay_tables::FareFileFault::{OutOfRange, TooMany, UnknownPlace};
+use pay_tables::sample::BUS_FARES;
+use pay_tables::*;
 use std::alloc::{AllocError, Global};
 use std::process::Abort;
 use std::test::*;

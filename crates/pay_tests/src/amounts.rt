@@ -1,4 +1,4 @@
-use crate::Pence;
+use pay_money::Pence;
 
 #[test]
 fn amounts_add_and_compare(rt: HostRuntime) {

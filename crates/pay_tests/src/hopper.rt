@@ -1,7 +1,7 @@
 //! By the sample fare file, whose Hopper time is 3,600 seconds.
 
-use super::*;
 use pay_day::Moment;
+use pay_hopper::*;
 use pay_tables::Tables;
 use pay_tables::sample::BUS_FARES;
 use pay_taps::{Kind, Touch};

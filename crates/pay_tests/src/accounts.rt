@@ -7,7 +7,7 @@ mod prices;
 mod refusals;
 mod shown_days;
 
-use super::*;
+use pay_account::*;
 use pay_day::Moment;
 use pay_money::Pence;
 use pay_tables::sample::BUS_FARES;

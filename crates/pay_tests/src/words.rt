@@ -1,4 +1,4 @@
-use super::{Job, WordsFault, read_words};
+use pay_words::{Job, WordsFault, read_words};
 use std::alloc::Global;
 use std::test::Fail;
 

@@ -1,7 +1,7 @@
 //! By the sample fare file: stations 10 to 14 in the zones 1, 1 and 2, 2, 2 and 3, 3.
 
-use super::*;
 use pay_day::Moment;
+use pay_pairs::*;
 use pay_tables::Tables;
 use pay_tables::sample::BUS_FARES;
 use pay_taps::{Kind, Touch};

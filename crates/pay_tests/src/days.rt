@@ -1,6 +1,6 @@
-use crate::*;
 use jiff::civil::Date;
 use jiff::tz::TimeZone;
+use pay_day::*;
 use std::test::Fail;
 
 const LONDON: &str = "GMT0BST,M3.5.0/1,M10.5.0";
@@ -54,7 +54,7 @@ fn stamps_by_the_clock_of_a_zone(rt: HostRuntime) -> Result<(), Fail> {
 fn clocks_by_the_calendar(rt: HostRuntime) -> Result<(), Fail> {
     let london = TimeZone::posix(LONDON)?;
     assert_eq!(rt;
-        laws::shown(&london, 1_711_855_799),
+        pay_day::laws::shown(&london, 1_711_855_799),
         Date::constant(2024, 3, 31).at(4, 29, 59, 0)
     );
     Ok(())
