@@ -192,30 +192,3 @@ fn a_journey_is_as_many_legs_as_are_linked(rt: HostRuntime) -> Result<(), Fail> 
     }
     Ok(())
 }
-
-#[test]
-fn a_run_has_its_legs_in_order(rt: HostRuntime) -> Result<(), Fail> {
-    let alloc = rt.alloc();
-    let tables = Tables::read(alloc, BUS_FARES)?;
-    let legs = [
-        leg((14, 0), (12, 1200))?,
-        leg((10, 2400), (12, 3000))?,
-        leg((10, 3600), (11, 4200))?,
-    ];
-    let parts = [
-        RailPart::Leg(legs[0]),
-        RailPart::Leg(legs[1]),
-        RailPart::Leg(legs[2]),
-    ];
-    let list = journeys(alloc, &tables, &parts)?;
-    let [journey] = list.as_slice() else {
-        return Err(Fail::from("not one journey"));
-    };
-    let Journey::Run(run) = journey else {
-        return Err(Fail::from("no run"));
-    };
-    assert_eq!(rt; (*run.first(), *run.last()), (legs[0], legs[2]));
-    assert_eq!(rt; run.others(), [legs[1], legs[2]].as_slice());
-    assert_eq!(rt; journey.first_tap(), legs[0].entry);
-    Ok(())
-}
