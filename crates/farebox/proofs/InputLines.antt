@@ -15,12 +15,12 @@ use Rattle.pay_wire.specs.declared.refusal.Refusal.TheVariants as refusal
 use Rattle.pay_wire.specs.declared.reply.Reply.TheVariants as replies
 use Rattle.farebox.specs.Accounts.{taps_of}
 use Rattle.farebox.specs.Machine.{Machine, Step, refuse, tap_of_spelled, step_answer, step_tap, step_spelled_tap, step}
-use Rattle.pay_day.specs.Day.{is_instant}
+use Rattle.pay_day.specs.Words.{is_instant}
 use Rattle.pay_account.specs.Words.{tap_result}
 use Rattle.pay_account.specs.declared.fares.Priced.{Priced}
 use Rattle.pay_account.specs.declared.shown.Shown.{Shown}
 use Rattle.pay_account.specs.declared.fares.TapFault.{TapFault}
-use Rattle.pay_day.specs.Day.{stamp_of}
+use Rattle.pay_day.specs.Words.{stamp_of}
 use Rattle.pay_taps.specs.declared.tap.Tap.{Tap as TapMade}
 use Rattle.farebox.proofs.InputPieces.{false_or, lines_of_line, lines_of_part, rest_of_line, rest_of_part, has_newline_both, line_requests_line, line_requests_part, unread_line, unread_part}
 

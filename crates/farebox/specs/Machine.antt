@@ -2,7 +2,7 @@
 use Rattle.std.specs.Prelude.{ℕ, Bool, true, false, Result, Ok, Err, if◌then◌else◌}
 use Rattle.jiff.specs.declared.tz.timezone.TimeZone.{TimeZone}
 use Rattle.std.specs.FinMap as map
-use Rattle.pay_day.specs.Day.{Stamp, is_instant, stamp_of}
+use Rattle.pay_day.specs.Words.{Stamp, is_instant, stamp_of}
 use Rattle.pay_tables.specs.Words.{FareTables}
 use Rattle.pay_taps.specs.declared.tap.Tap.{Tap}
 use Rattle.pay_account.specs.Words.{tap_result, shown}

@@ -1,7 +1,7 @@
 -- Boardings, one touch after the other.
 use Rattle.std.proofs.Common.{ℕ, List, map, filter, Option}
 use Rattle.std.specs.List.{zip}
-use Rattle.pay_day.specs.Day.{Stamp}
+use Rattle.pay_day.specs.Words.{Stamp}
 use Rattle.pay_taps.specs.declared.tap.Touch.{Touch}
 use Rattle.pay_hopper.specs.Words.{marks_by_last}
 use Rattle.pay_links.specs.declared.journey.Journey.{Journey}

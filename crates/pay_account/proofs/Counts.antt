@@ -9,7 +9,7 @@ use Rattle.pay_tables.specs.Words.{FareTables}
 use Rattle.pay_pairs.specs.declared.parts.Leg.{Leg}
 use Rattle.pay_pairs.specs.declared.parts.RailPart.{RailPart}
 use Rattle.pay_pairs.specs.declared.parts.RailPart.TheVariants as part
-use Rattle.pay_pairs.specs.Legs.{taps_of}
+use Rattle.pay_pairs.specs.Words.{taps_of}
 use Rattle.pay_links.specs.declared.journey.Journey.{Journey}
 use Rattle.pay_links.specs.declared.journey.Journey.TheVariants as journey
 use Rattle.pay_links.specs.Words.{LinkedLegs, joined, last_leg, is_same, is_linked, alone, run_before, leg_before, journeys}

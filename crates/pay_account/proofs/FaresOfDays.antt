@@ -3,14 +3,14 @@ use Rattle.std.proofs.Common.{◌≡◌, ◌≤◌, ◌-◌, ℕ, suc, zero, ◌
 use Rattle.std.specs.List.{range_with_len, zip}
 use Rattle.std.proofs.lemmas.List.{take_all, drop_all}
 use Rattle.std.proofs.lemmas.List.Sums.{sum_by-cons}
-use Rattle.pay_day.specs.Day.{IsDay, Stamp, monday, sunday}
+use Rattle.pay_day.specs.Words.{IsDay, Stamp, monday, sunday}
 use Rattle.pay_day.specs.declared.limits.TheConstants.{DAYS_PER_WEEK}
 use Rattle.pay_taps.specs.declared.tap.Touch.{Touch}
 use Rattle.pay_hopper.specs.Words.{instants_of, paying_marks, marks_by_last}
 use Rattle.pay_tables.specs.Words.{FareTables}
 use Rattle.pay_links.specs.declared.journey.Journey.{Journey}
 use Rattle.pay_links.specs.Words.{first_tap}
-use Rattle.pay_fares.specs.JourneyFares.{fare}
+use Rattle.pay_fares.specs.Words.{fare}
 use Rattle.pay_account.specs.Journeys.{is_bus, is_on, is_in_week, boarding, boardings}
 use Rattle.pay_account.specs.Prices.{fares_on, fares_through}
 use Rattle.pay_account.proofs.Boardings.{boardings_by_last}

@@ -1,13 +1,13 @@
 -- The journeys that touches in order make.
 use Rattle.std.specs.Prelude.{ℕ, ◌++◌, ◌==◌, not, Bool, Option, List, map, filter}
 use Rattle.std.specs.List.{zip}
-use Rattle.pay_day.specs.Day.{Stamp, is_in_week_of}
+use Rattle.pay_day.specs.Words.{Stamp, is_in_week_of}
 use Rattle.pay_tables.specs.Words.{FareTables}
 use Rattle.pay_taps.specs.declared.tap.Kind.TheVariants.{Bus}
 use Rattle.pay_taps.specs.declared.tap.Touch.{Touch}
 use Rattle.pay_taps.specs.Words.{same_kind}
 use Rattle.pay_hopper.specs.Words.{instants_of, paying_marks, pays_by_last}
-use Rattle.pay_pairs.specs.Legs.{legs}
+use Rattle.pay_pairs.specs.Words.{legs}
 use Rattle.pay_links.specs.declared.journey.Journey.{Journey}
 use Rattle.pay_links.specs.declared.journey.Journey.TheVariants as journey
 use Rattle.pay_links.specs.Words.{journeys, first_tap}

@@ -6,7 +6,7 @@ use Rattle.pay_taps.specs.Words.{Taps, same_kind, touches, in_order_by}
 use Rattle.pay_links.specs.Words.{last_leg, first_tap}
 use Rattle.pay_links.specs.declared.journey.Journey.{Journey}
 use Rattle.pay_links.specs.declared.journey.Journey.TheVariants.{Run, Same, Lone, Bus}
-use Rattle.pay_fares.specs.JourneyFares.{fare}
+use Rattle.pay_fares.specs.Words.{fare}
 use Rattle.pay_account.specs.declared.shown.Line.{Line}
 use Rattle.pay_account.specs.declared.shown.LineKind.{LineKind}
 use Rattle.pay_account.specs.declared.shown.LineKind.TheVariants as kind

@@ -1,12 +1,12 @@
 -- What a day costs, and a week.
 use Rattle.std.specs.Prelude.{◌≡◌, ℕ, ◌+◌, ◌-◌, Bool, List, [], ◌∷◌, filter, sum_by, refl}
 use Rattle.std.specs.List.{range_with_len}
-use Rattle.pay_day.specs.Day.{monday, sunday}
+use Rattle.pay_day.specs.Words.{monday, sunday}
 use Rattle.pay_tables.specs.Words.{FareTables}
 use Rattle.pay_taps.specs.declared.tap.Touch.{Touch}
 use Rattle.pay_taps.specs.Words.{Taps, touches}
 use Rattle.pay_links.specs.declared.journey.Journey.{Journey}
-use Rattle.pay_fares.specs.JourneyFares.{fare}
+use Rattle.pay_fares.specs.Words.{fare}
 use Rattle.pay_account.specs.declared.fares.Priced.{Priced}
 use Rattle.pay_account.specs.Journeys.{journeys_of, is_on}
 

@@ -1,6 +1,6 @@
 ghost use Rattle.std.specs.Prelude.{◌≡◌, true, false, Ok, IfOk};
 ghost use Rattle.std.specs.FinMap as map;
-ghost use Rattle.pay_day.specs.Day.{IsDay};
+ghost use Rattle.pay_day.specs.Words.{IsDay};
 ghost use Rattle.pay_taps.specs.Words.{judged, number};
 ghost use Rattle.pay_account.specs.Prices.{prices};
 ghost use Rattle.pay_account.specs.TapResults.{IsTapResult};

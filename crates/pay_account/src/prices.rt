@@ -1,9 +1,9 @@
 ghost use Rattle.std.specs.Prelude.{◌≡◌, ◌≤◌, ◌+◌, ◌&&◌, if◌then◌else◌, length, IfOk};
-ghost use Rattle.pay_day.specs.Day.{IsDay, sunday};
+ghost use Rattle.pay_day.specs.Words.{IsDay, sunday};
 ghost use Rattle.pay_hopper.specs.Words.{last_paid_after};
 ghost use Rattle.pay_tables.specs.declared.limits.TheConstants.{MOST_FARE};
 ghost use Rattle.pay_taps.specs.declared.limits.TheConstants.{MOST_TAPS};
-ghost use Rattle.pay_fares.specs.JourneyFares.{fare};
+ghost use Rattle.pay_fares.specs.Words.{fare};
 ghost use Rattle.pay_account.specs.declared.limits.TheConstants.{MOST_PRICE};
 ghost use Rattle.pay_account.specs.Journeys.{boardings, next_boarding, is_bus, is_in_week, is_on};
 ghost use Rattle.pay_account.specs.Prices.{fares_on, fares_through, prices_of_touches};

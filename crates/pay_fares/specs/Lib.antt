@@ -1,3 +1,4 @@
 pub mod Runs
 pub mod Peak
 pub mod JourneyFares
+pub mod Words

@@ -1,6 +1,6 @@
 -- When a journey is peak.
 use Rattle.std.specs.Prelude.{◌≡◌, ℕ, ◌==◌, ◌&&◌, ◌||◌, not, nat_le, nat_lt, Bool, true, false, refl}
-use Rattle.pay_day.specs.Day.{Stamp, day_of_week}
+use Rattle.pay_day.specs.Words.{Stamp, day_of_week}
 use Rattle.pay_day.specs.declared.limits.TheConstants.{SATURDAY}
 use Rattle.pay_tables.specs.Words.{FareTables, is_holiday, low_of}
 use Rattle.pay_links.specs.Words.{LinkedLegs, first_tap}

@@ -1,7 +1,7 @@
 //! What is true of peak times themselves.
 
 ghost use Rattle.std.specs.Prelude.{◌≡◌, ℕ, ◌+◌, ◌≤◌, nat_lt, true, false};
-ghost use Rattle.pay_day.specs.Day.{monday};
+ghost use Rattle.pay_day.specs.Words.{monday};
 ghost use Rattle.pay_day.specs.declared.limits.TheConstants.{FIRST_DAY, SATURDAY};
 ghost use Rattle.pay_tables.specs.Words.{FareTables};
 ghost use Rattle.pay_links.specs.Words.{LinkedLegs};

@@ -1,6 +1,6 @@
 -- The Hopper rule, one boarding after the other: only the last one that paid has to be remembered.
 use Rattle.std.specs.Prelude.{◌≡◌, ℕ, ◌+◌, Bool, true, false, List, [], ◌∷◌, Option, Some, None, map, nat_lt, if◌then◌else◌, refl}
-use Rattle.pay_day.specs.Day.{Stamp}
+use Rattle.pay_day.specs.Words.{Stamp}
 use Rattle.pay_taps.specs.declared.tap.Kind.TheVariants.{Bus}
 use Rattle.pay_taps.specs.declared.tap.Touch.{Touch}
 

@@ -1,1 +1,2 @@
 pub mod Legs
+pub mod Words

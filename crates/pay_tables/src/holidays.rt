@@ -1,10 +1,10 @@
 //! The public holidays.
-ghost use Rattle.std.specs.Prelude.{◌≡◌, Err, IsOk, codes};
-ghost use Rattle.toml.specs.View.{view, table_view};
+ghost use Rattle.std.specs.Prelude.{◌≡◌, [], Err, IsOk, codes};
+ghost use Rattle.toml.specs.View.{view, items_view, table_view};
 ghost use Rattle.pay_tables.specs.declared.limits.TheConstants.{MOST_HOLIDAYS};
 ghost use Rattle.pay_tables.specs.Fault.{GivesUnlessMemory};
 ghost use Rattle.pay_tables.specs.Keys.{items_at};
-ghost use Rattle.pay_tables.specs.FareFile.{another_holiday, has_holiday, holidays_at};
+ghost use Rattle.pay_tables.specs.FareFile.{another_holiday, has_holiday, holidays_at, with_each, with_holiday};
 
 use crate::fault::FareFileFault;
 use crate::keys::{integer, items_at};
@@ -19,6 +19,13 @@ pub fn holidays_at(alloc: Global, file: &Table) -> Result<Vec<u32>, FareFileFaul
     ensures memory { result ≡ Err FareFileFault.Memory → IsOk (items_at (codes "holidays") MOST_HOLIDAYS (table_view file.now)) }
 {
     let items = items_at(file, "holidays", MOST_HOLIDAYS)?;
+    each_holiday(alloc, items)
+}
+
+/// The days that the items say.
+fn each_holiday(alloc: Global, items: &[Value]) -> Result<Vec<u32>, FareFileFault>
+    ensures { GivesUnlessMemory (λ holidays. holidays.items) result (with_each with_holiday [] (items_view items.now)) }
+{
     let mut holidays = Vec::new(alloc);
     for item in items {
         let day = another_holiday(&holidays, item)?;

@@ -1,10 +1,10 @@
 //! The interchanges.
-ghost use Rattle.std.specs.Prelude.{◌≡◌, ◌≤◌, Err, IfOk, IsOk, codes};
-ghost use Rattle.toml.specs.View.{view, table_view};
+ghost use Rattle.std.specs.Prelude.{◌≡◌, ◌≤◌, [], Err, IfOk, IsOk, codes};
+ghost use Rattle.toml.specs.View.{view, items_view, table_view};
 ghost use Rattle.pay_tables.specs.declared.limits.TheConstants.{MOST_INTERCHANGES, MOST_PLACE};
 ghost use Rattle.pay_tables.specs.Fault.{GivesUnlessMemory};
 ghost use Rattle.pay_tables.specs.Keys.{items_at};
-ghost use Rattle.pay_tables.specs.FareFile.{another_at, another_interchange, interchange_of, joins_stations, has_interchange, interchanges_at};
+ghost use Rattle.pay_tables.specs.FareFile.{another_at, another_interchange, interchange_of, joins_stations, has_interchange, interchanges_at, with_each, with_interchange};
 
 use crate::fault::FareFileFault;
 use crate::interchange::Interchange;
@@ -24,6 +24,17 @@ pub fn interchanges_at(
     ensures memory { result ≡ Err FareFileFault.Memory → IsOk (items_at (codes "interchange") MOST_INTERCHANGES (table_view file.now)) }
 {
     let items = items_at(file, "interchange", MOST_INTERCHANGES)?;
+    each_interchange(alloc, items, places)
+}
+
+/// The interchanges that the items say.
+fn each_interchange(
+    alloc: Global,
+    items: &[Value],
+    places: &Places,
+) -> Result<Vec<Interchange>, FareFileFault>
+    ensures { GivesUnlessMemory (λ interchanges. interchanges.items) result (with_each (with_interchange places.now) [] (items_view items.now)) }
+{
     let mut interchanges = Vec::new(alloc);
     for item in items {
         let pair = another_interchange(&interchanges, item, places)?;

@@ -1,7 +1,7 @@
 -- What each judgement of a tap means.
 use Rattle.std.proofs.Common.{◌≡◌, ◌≢◌, ◌↔◌, ℕ, ◌<◌, ◌≤◌, Bool, true, false, nat_le, Option, Some, None, Ok, Err, if◌then◌else◌, eqb-true, eq-eqb, leb-true, leb-false, le-leb, refl, sym, ap, ◌∙◌, subst}
 use Rattle.std.proofs.lemmas.Bool.{and_parts, and_from, lt-leb}
-use Rattle.pay_day.specs.Day.{Stamp}
+use Rattle.pay_day.specs.Words.{Stamp}
 use Rattle.pay_taps.specs.declared.limits.TheConstants.{MOST_TAPS}
 use Rattle.pay_taps.specs.declared.tap.Kind.{Kind}
 use Rattle.pay_taps.specs.declared.tap.Kind.TheVariants.{In, Out, Bus}

@@ -3,7 +3,7 @@ use Rattle.std.specs.Prelude.{◌≡◌, ℕ, ◌≤◌, ◌==◌, ◌&&◌, nat
 use Rattle.std.specs.declared.cmp.Ordering.{Ordering}
 use Rattle.std.specs.Ordering.{nat_cmp, ordering_then}
 use Rattle.std.specs.FinMap.{FinMap, get, len, insert, keys, values}
-use Rattle.pay_day.specs.Day.{Stamp}
+use Rattle.pay_day.specs.Words.{Stamp}
 use Rattle.pay_taps.specs.declared.limits.TheConstants.{MOST_TAPS}
 use Rattle.pay_taps.specs.declared.tap.Kind.{Kind}
 use Rattle.pay_taps.specs.declared.tap.Kind.TheVariants.{In, Out, Bus}

@@ -1,7 +1,7 @@
 use Rattle.std.proofs.Common.{◌≡◌, [], drop}
 use Rattle.toml.specs.View.{items_view}
 use Rattle.pay_tables.specs.FareFile.{with_each, with_interchange}
-use Rattle.pay_tables.proofs.interchanges.interchanges_at.Given as goal
+use Rattle.pay_tables.proofs.interchanges.each_interchange.Given as goal
 
 -- what is left, put behind the interchanges so far, gives what all gives
 abbrev pub invariant-loop-item : goal.invariant-loop-item

@@ -1,7 +1,7 @@
 use Rattle.std.proofs.Common.{◌≡◌, [], drop}
 use Rattle.toml.specs.View.{items_view}
 use Rattle.pay_tables.specs.FareFile.{with_each, with_holiday}
-use Rattle.pay_tables.proofs.holidays.holidays_at.Given as goal
+use Rattle.pay_tables.proofs.holidays.each_holiday.Given as goal
 
 -- what is left, put behind the holidays so far, gives what all gives
 abbrev pub invariant-loop-item : goal.invariant-loop-item
