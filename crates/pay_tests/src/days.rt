@@ -1,51 +1,71 @@
+use crate::fields::{cut, second_of};
 use jiff::civil::Date;
 use jiff::tz::TimeZone;
 use pay_day::*;
+use std::process::Abort;
 use std::test::Fail;
 
 const LONDON: &str = "GMT0BST,M3.5.0/1,M10.5.0";
 
-// A zone, an instant, its service day and its local second.
-static STAMPS: [(&str, u64, u32, u32); 21] = [
-    // Thu 1970-01-08 00:00:00
-    (LONDON, 604_800, 6, 0),
-    // Mon 2024-01-01 07:00:00
-    (LONDON, 1_704_092_400, 19_723, 25_200),
-    // Mon 2024-01-08 04:29:59, 04:45:00
-    (LONDON, 1_704_688_199, 19_729, 16_199),
-    (LONDON, 1_704_689_100, 19_730, 17_100),
-    // The same day 06:29:59, 06:30:00, 07:00:00, 09:29:59, 09:30:00, 12:00:00, 17:00:00
-    (LONDON, 1_704_695_399, 19_730, 23_399),
-    (LONDON, 1_704_695_400, 19_730, 23_400),
-    (LONDON, 1_704_697_200, 19_730, 25_200),
-    (LONDON, 1_704_706_199, 19_730, 34_199),
-    (LONDON, 1_704_706_200, 19_730, 34_200),
-    (LONDON, 1_704_715_200, 19_730, 43_200),
-    (LONDON, 1_704_733_200, 19_730, 61_200),
-    // Fri 2024-01-12 12:00:00
-    (LONDON, 1_705_060_800, 19_734, 43_200),
-    // Sun 2024-03-31 04:29:59, 04:30:00, in summer time since 02:00
-    (LONDON, 1_711_855_799, 19_812, 16_199),
-    (LONDON, 1_711_855_800, 19_813, 16_200),
-    // Sun 2024-10-27 04:29:59, 04:30:00, out of summer time since 02:00
-    (LONDON, 1_730_003_399, 20_022, 16_199),
-    (LONDON, 1_730_003_400, 20_023, 16_200),
-    // Thu 2099-12-31 23:59:59
-    (LONDON, 4_102_444_799, 47_481, 86_399),
-    // Tue 1970-01-06 23:00:01 and Wed 2099-12-30 23:00:00
-    ("XXX24:59:59", 604_800, 5, 82_801),
-    ("XXX24:59:59", 4_102_444_799, 47_480, 82_800),
-    // Fri 1970-01-09 00:59:59 and Sat 2100-01-02 00:59:58
-    ("XXX-24:59:59", 604_800, 7, 3_599),
-    ("XXX-24:59:59", 4_102_444_799, 47_482, 3_598),
-];
+// A zone, an instant, its service day and its local time.
+const STAMPS: &str = "
+    // Thu 1970-01-08
+    London 604800 => 6 00:00
+    // Mon 2024-01-01
+    London 1704092400 => 19723 07:00
+    // Mon 2024-01-08
+    London 1704688199 => 19729 04:29:59
+    London 1704689100 => 19730 04:45
+    London 1704695399 => 19730 06:29:59
+    London 1704695400 => 19730 06:30
+    London 1704697200 => 19730 07:00
+    London 1704706199 => 19730 09:29:59
+    London 1704706200 => 19730 09:30
+    London 1704715200 => 19730 12:00
+    London 1704733200 => 19730 17:00
+    // Fri 2024-01-12
+    London 1705060800 => 19734 12:00
+    // Sun 2024-03-31, in summer time since 02:00
+    London 1711855799 => 19812 04:29:59
+    London 1711855800 => 19813 04:30
+    // Sun 2024-10-27, out of summer time since 02:00
+    London 1730003399 => 20022 04:29:59
+    London 1730003400 => 20023 04:30
+    // Thu 2099-12-31
+    London 4102444799 => 47481 23:59:59
+    // Tue 1970-01-06 and Wed 2099-12-30
+    XXX24:59:59 604800 => 5 23:00:01
+    XXX24:59:59 4102444799 => 47480 23:00
+    // Fri 1970-01-09 and Sat 2100-01-02
+    XXX-24:59:59 604800 => 7 00:59:59
+    XXX-24:59:59 4102444799 => 47482 00:59:58
+";
+
+// The rule of a zone.
+fn rule_of(zone: &str) -> &str {
+    if zone == "London" { LONDON } else { zone }
+}
+
+fn compare_stamp(rt: &impl Abort, asked: &str, wanted: &str) -> Result<(), Fail> {
+    let (zone, utc) = cut(asked)?;
+    let (day, time) = cut(wanted)?;
+    let utc = utc.parse()?;
+    let moment = Moment::from_parts(utc, day.parse()?, second_of(time)?);
+    let moment = moment.ok_or("a number out of range")?;
+    let stamped = stamp(&TimeZone::posix(rule_of(zone))?, utc);
+    assert_eq!(rt; stamped, Ok(moment), "{asked}");
+    Ok(())
+}
 
 #[test]
 fn stamps_by_the_clock_of_a_zone(rt: HostRuntime) -> Result<(), Fail> {
-    for (rule, utc, day, second) in STAMPS {
-        let zone = TimeZone::posix(rule)?;
-        let moment = Moment::from_parts(utc, day, second);
-        assert_eq!(rt; stamp(&zone, utc).ok(), moment, "{rule} at {utc}");
+    for line in STAMPS.trim().lines() {
+        let row = line.trim();
+        if row.starts_with("//") {
+            continue;
+        }
+        let (asked, wanted) = row.split_once(" => ").ok_or("a row says what it wants")?;
+        compare_stamp(&rt, asked, wanted)?;
     }
     Ok(())
 }

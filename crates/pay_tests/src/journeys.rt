@@ -1,194 +1,94 @@
 //! By the sample fare file: stations 10 to 14, and twenty minutes between 10 and 12.
 
-use pay_day::Moment;
+use crate::rows::{MONDAY, behind, behind_leg, expect_found, journeys_of, row_of, taps_of};
 use pay_links::*;
-use pay_pairs::{Leg, RailPart};
 use pay_tables::Tables;
 use pay_tables::sample::BUS_FARES;
-use pay_taps::{Kind, Touch};
-use std::alloc::Global;
-use std::test::Fail;
+use pay_taps::Touch;
+use std::process::Abort;
 
-/// A leg by the station and the seconds after seven of its taps, or a tap alone.
-enum Part {
-    Between((u16, u32), (u16, u32)),
-    Alone(u16, u32),
-}
+/// Taps in order, and the journeys of their legs and lone taps: linked legs, a leg that ends at the same station, or a
+/// lone tap.
+const ROWS: &str = "
+    none => none
+    IN 10 07:00, OUT 12 07:20 => one leg
+    IN 10 07:00, OUT 10 07:02 => same station
+    IN 13 07:01 => lone tap
+    // The time of the interchange, and a second more.
+    IN 14 07:00, OUT 12 07:20, IN 10 07:40, OUT 11 07:50 => two legs
+    IN 14 07:00, OUT 12 07:20, IN 10 07:40:01, OUT 11 07:50 => one leg, one leg
+    // The other way round.
+    IN 14 07:00, OUT 10 07:20, IN 12 07:40, OUT 13 07:50 => two legs
+    // No interchange is listed from 12 to 11, nor from 12 to 12.
+    IN 14 07:00, OUT 12 07:20, IN 11 07:21, OUT 10 07:50 => one leg, one leg
+    IN 14 07:00, OUT 12 07:20, IN 12 07:21, OUT 11 07:50 => one leg, one leg
+    // Three legs: all of them, the first two, and the last two.
+    IN 14 07:00, OUT 12 07:20, IN 10 07:40, OUT 12 08:00, IN 10 08:20, OUT 11 08:30 => three legs
+    IN 14 07:00, OUT 12 07:20, IN 10 07:40, OUT 12 08:00, IN 10 08:20:01, OUT 11 08:30 => two legs, one leg
+    IN 14 07:00, OUT 12 07:20, IN 10 07:40:01, OUT 12 08:00, IN 10 08:20, OUT 11 08:30 => one leg, two legs
+    // A lone tap parts two legs, and so does a leg from a station back to it.
+    IN 14 07:00, OUT 12 07:20, IN 13 07:21, IN 10 07:40, OUT 11 07:50 => one leg, lone tap, one leg
+    // Such a leg is linked with none, though each pair is listed and its time kept.
+    IN 14 07:00, OUT 12 07:20, IN 10 07:21, OUT 10 07:22, IN 12 07:30, OUT 13 07:40 => one leg, same station, one leg
+    IN 10 07:00, IN 10 07:01, OUT 12 07:20, IN 12 07:30, OUT 12 07:31, IN 11 07:40, IN 11 07:41, IN 13 07:50, OUT 14 08:00 => lone tap, one leg, same station, lone tap, lone tap, one leg
+";
 
-use Part::{Alone, Between};
-
-/// A tap so many seconds after 07:00 on 2024-01-08, with these as its number.
-fn tap(kind: Kind, place: u16, after: u32) -> Result<Touch, Fail> {
-    let second = 25_200_u32
-        .checked_add(after)
-        .ok_or("a number out of range")?;
-    let stamp = Moment::from_parts(1_704_697_200 + u64::from(after), 19_730, second);
-    Ok(Touch {
-        filled: false,
-        first: 1,
-        second: after,
-        stamp: stamp.ok_or("a number out of range")?,
-        place,
-        kind,
-    })
-}
-
-fn leg(from: (u16, u32), to: (u16, u32)) -> Result<Leg, Fail> {
-    Ok(Leg {
-        entry: tap(Kind::In, from.0, from.1)?,
-        exit: tap(Kind::Out, to.0, to.1)?,
-    })
-}
-
-fn parts_of(alloc: Global, row: &[Part]) -> Result<Vec<RailPart>, Fail> {
-    let mut parts = Vec::new(alloc);
-    for part in row {
-        parts.push(match *part {
-            Between(from, to) => RailPart::Leg(leg(from, to)?),
-            Alone(place, after) => RailPart::Lone(tap(Kind::In, place, after)?),
-        })?;
+/// What is left of taps behind those of a run, which are the first of them.
+fn behind_run<'a>(taps: &'a [Touch], run: &Run) -> Option<&'a [Touch]> {
+    let mut left = behind_leg(taps, run.first())?;
+    for leg in run.others() {
+        left = behind_leg(left, leg)?;
     }
-    Ok(parts)
+    Some(left)
 }
 
-/// A journey in short: what it is, how many legs it has, and when its first tap and its last were made.
-fn short(journey: &Journey) -> (&'static str, usize, u32, u32) {
-    let first = journey.first_tap().second;
+fn behind_journey<'a>(taps: &'a [Touch], journey: &Journey) -> Option<&'a [Touch]> {
     match journey {
-        Journey::Run(run) => {
-            let legs = run.others().iter().count() + 1;
-            ("run", legs, first, run.last().exit.second)
-        }
-        Journey::Same(leg) => ("same", 1, first, leg.exit.second),
-        Journey::Lone(_) => ("lone", 0, first, first),
-        Journey::Bus { .. } => ("bus", 0, first, first),
+        Journey::Run(run) => behind_run(taps, run),
+        Journey::Same(leg) => behind_leg(taps, leg),
+        Journey::Lone(tap) => behind(taps, tap),
+        Journey::Bus { .. } => None,
     }
+}
+
+fn words_of(journey: &Journey) -> &'static str {
+    match journey {
+        Journey::Run(run) => match run.others().len() {
+            0 => "one leg, ",
+            1 => "two legs, ",
+            2 => "three legs, ",
+            _ => "more legs, ",
+        },
+        Journey::Same(_) => "same station, ",
+        Journey::Lone(_) => "lone tap, ",
+        Journey::Bus { .. } => "bus, ",
+    }
+}
+
+/// The journeys as rows spell them. These are their taps, in order.
+fn told<R: Abort + AllocGlobal>(rt: &R, journeys: &[Journey], taps: &[Touch]) -> String {
+    let mut text = String::new(rt.alloc());
+    let mut left = taps;
+    for journey in journeys {
+        left = behind_journey(left, journey).expect(rt, "the next taps");
+        text.push_str(words_of(journey)).expect(rt, "memory");
+    }
+    assert!(rt; left.is_empty());
+    text
+}
+
+fn expect_journeys<R: Abort + AllocGlobal>(rt: &R, tables: &Tables, given: &str, want: &str) {
+    let taps = taps_of(rt, MONDAY, given);
+    let found = journeys_of(rt, tables, &taps);
+    expect_found(rt, given, &told(rt, &found, &taps), want);
 }
 
 #[test]
-fn a_journey_is_as_many_legs_as_are_linked(rt: HostRuntime) -> Result<(), Fail> {
-    let alloc = rt.alloc();
-    let tables = Tables::read(alloc, BUS_FARES)?;
-    let rows: [(&[Part], &[(&'static str, usize, u32, u32)]); 15] = [
-        (&[], &[]),
-        (&[Between((10, 0), (12, 1200))], &[("run", 1, 0, 1200)]),
-        (&[Between((10, 0), (10, 120))], &[("same", 1, 0, 120)]),
-        (&[Alone(13, 60)], &[("lone", 0, 60, 60)]),
-        // The time of the interchange, and a second more.
-        (
-            &[
-                Between((14, 0), (12, 1200)),
-                Between((10, 2400), (11, 3000)),
-            ],
-            &[("run", 2, 0, 3000)],
-        ),
-        (
-            &[
-                Between((14, 0), (12, 1200)),
-                Between((10, 2401), (11, 3000)),
-            ],
-            &[("run", 1, 0, 1200), ("run", 1, 2401, 3000)],
-        ),
-        // The other way round.
-        (
-            &[
-                Between((14, 0), (10, 1200)),
-                Between((12, 2400), (13, 3000)),
-            ],
-            &[("run", 2, 0, 3000)],
-        ),
-        // No interchange is listed from 12 to 11, nor from 12 to 12.
-        (
-            &[
-                Between((14, 0), (12, 1200)),
-                Between((11, 1260), (10, 3000)),
-            ],
-            &[("run", 1, 0, 1200), ("run", 1, 1260, 3000)],
-        ),
-        (
-            &[
-                Between((14, 0), (12, 1200)),
-                Between((12, 1260), (11, 3000)),
-            ],
-            &[("run", 1, 0, 1200), ("run", 1, 1260, 3000)],
-        ),
-        // Three legs: all of them, the first two, and the last two.
-        (
-            &[
-                Between((14, 0), (12, 1200)),
-                Between((10, 2400), (12, 3600)),
-                Between((10, 4800), (11, 5400)),
-            ],
-            &[("run", 3, 0, 5400)],
-        ),
-        (
-            &[
-                Between((14, 0), (12, 1200)),
-                Between((10, 2400), (12, 3600)),
-                Between((10, 4801), (11, 5400)),
-            ],
-            &[("run", 2, 0, 3600), ("run", 1, 4801, 5400)],
-        ),
-        (
-            &[
-                Between((14, 0), (12, 1200)),
-                Between((10, 2401), (12, 3600)),
-                Between((10, 4800), (11, 5400)),
-            ],
-            &[("run", 1, 0, 1200), ("run", 2, 2401, 5400)],
-        ),
-        // A lone tap parts two legs, and so does a leg from a station back to it.
-        (
-            &[
-                Between((14, 0), (12, 1200)),
-                Alone(13, 1260),
-                Between((10, 2400), (11, 3000)),
-            ],
-            &[
-                ("run", 1, 0, 1200),
-                ("lone", 0, 1260, 1260),
-                ("run", 1, 2400, 3000),
-            ],
-        ),
-        // Such a leg is linked with none, though each pair is listed and its time kept.
-        (
-            &[
-                Between((14, 0), (12, 1200)),
-                Between((10, 1260), (10, 1320)),
-                Between((12, 1800), (13, 2400)),
-            ],
-            &[
-                ("run", 1, 0, 1200),
-                ("same", 1, 1260, 1320),
-                ("run", 1, 1800, 2400),
-            ],
-        ),
-        (
-            &[
-                Alone(10, 0),
-                Between((10, 60), (12, 1200)),
-                Between((12, 1800), (12, 1860)),
-                Alone(11, 2400),
-                Alone(11, 2460),
-                Between((13, 3000), (14, 3600)),
-            ],
-            &[
-                ("lone", 0, 0, 0),
-                ("run", 1, 60, 1200),
-                ("same", 1, 1800, 1860),
-                ("lone", 0, 2400, 2400),
-                ("lone", 0, 2460, 2460),
-                ("run", 1, 3000, 3600),
-            ],
-        ),
-    ];
-    for (row, wanted) in rows {
-        let parts = parts_of(alloc, row)?;
-        let mut found = Vec::new(alloc);
-        for journey in &journeys(alloc, &tables, &parts)? {
-            found.push(short(journey))?;
+fn a_journey_is_as_many_legs_as_are_linked(rt: HostRuntime) {
+    let tables = Tables::read(rt.alloc(), BUS_FARES).expect(&rt, "the sample");
+    for line in ROWS.trim().lines() {
+        if let Some((given, want)) = row_of(&rt, line) {
+            expect_journeys(&rt, &tables, given, want);
         }
-        assert_eq!(rt; found.as_slice(), wanted);
     }
-    Ok(())
 }

@@ -1,113 +1,78 @@
 //! By the sample fare file: stations 10 to 14 in the zones 1, 1 and 2, 2, 2 and 3, 3.
 
-use pay_day::Moment;
+use crate::rows::{MONDAY, behind, behind_leg, expect_found, row_of, taps_of};
 use pay_pairs::*;
 use pay_tables::Tables;
 use pay_tables::sample::BUS_FARES;
-use pay_taps::{Kind, Touch};
-use std::alloc::Global;
-use std::test::Fail;
+use pay_taps::Touch;
+use std::process::Abort;
 
-/// A part that is expected, each tap of it by its station and its seconds after seven.
-enum Expected {
-    Together((u16, u16), (u16, u16)),
-    LoneIn(u16, u16),
-    LoneOut(u16, u16),
-}
+/// Taps in order, and whether they are legs or alone.
+const ROWS: &str = "
+    none => none
+    IN 10 07:00 => lone
+    OUT 10 07:00 => lone
+    // 100 minutes in two zones.
+    IN 10 07:00, OUT 12 08:40 => leg
+    IN 10 07:00, OUT 12 08:40:01 => lone, lone
+    // 110 minutes in three zones, 90 in one.
+    IN 14 07:00, OUT 10 08:50 => leg
+    IN 14 07:00, OUT 10 08:50:01 => lone, lone
+    IN 10 07:00, OUT 11 08:30 => leg
+    IN 10 07:00, OUT 11 08:30:01 => lone, lone
+    // 30 minutes at one station; stations 11 and 13 touch one zone and are two.
+    IN 10 07:00, OUT 10 07:30 => leg
+    IN 10 07:00, OUT 10 07:30:01 => lone, lone
+    IN 11 07:00, OUT 13 08:30 => leg
+    IN 11 07:00, OUT 13 08:30:01 => lone, lone
+    OUT 10 07:00, IN 10 07:00 => lone, lone
+    IN 10 07:00, IN 10 07:01, OUT 12 07:21 => lone, leg
+    IN 10 07:00, OUT 12 07:20, OUT 12 07:21 => leg, lone
+    IN 10 07:00, OUT 12 07:20, IN 12 07:21, OUT 10 09:01 => leg, leg
+    // No leg across a tap that came too late.
+    IN 10 07:00, OUT 12 08:40:01, OUT 10 08:40:02 => lone, lone, lone
+    // A number without a place counts as a station in zone 1.
+    IN 10 07:00, OUT 9 08:30, IN 9 08:30:01, OUT 10 10:00:02 => leg, lone, lone
+";
 
-use Expected::{LoneIn, LoneOut, Together};
-
-/// A tap so many seconds after 07:00 on 2024-01-08.
-fn tap(kind: Kind, place: u16, after: u16) -> Result<Touch, Fail> {
-    let stamp = Moment::from_parts(
-        1_704_697_200 + u64::from(after),
-        19_730,
-        25_200 + u32::from(after),
-    );
-    Ok(Touch {
-        filled: false,
-        first: 1,
-        second: u32::from(after),
-        stamp: stamp.ok_or("a number out of range")?,
-        place,
-        kind,
-    })
-}
-
-fn part(expected: &Expected) -> Result<RailPart, Fail> {
-    match *expected {
-        Together(from, to) => Ok(RailPart::Leg(Leg {
-            entry: tap(Kind::In, from.0, from.1)?,
-            exit: tap(Kind::Out, to.0, to.1)?,
-        })),
-        LoneIn(place, after) => Ok(RailPart::Lone(tap(Kind::In, place, after)?)),
-        LoneOut(place, after) => Ok(RailPart::Lone(tap(Kind::Out, place, after)?)),
+fn behind_part<'a>(taps: &'a [Touch], part: &RailPart) -> Option<&'a [Touch]> {
+    match part {
+        RailPart::Leg(leg) => behind_leg(taps, leg),
+        RailPart::Lone(tap) => behind(taps, tap),
     }
 }
 
-fn parts_of(alloc: Global, row: &[Expected]) -> Result<Vec<RailPart>, Fail> {
-    let mut parts = Vec::new(alloc);
-    for expected in row {
-        parts.push(part(expected)?)?;
+fn word_of(part: &RailPart) -> &'static str {
+    match part {
+        RailPart::Leg(_) => "leg, ",
+        RailPart::Lone(_) => "lone, ",
     }
-    Ok(parts)
 }
 
-fn taps_of(alloc: Global, parts: &[RailPart]) -> Result<Vec<Touch>, Fail> {
-    let mut taps = Vec::new(alloc);
+/// The parts as rows spell them. These are their taps, in order.
+fn told<R: Abort + AllocGlobal>(rt: &R, parts: &[RailPart], taps: &[Touch]) -> String {
+    let mut text = String::new(rt.alloc());
+    let mut left = taps;
     for part in parts {
-        match part {
-            RailPart::Leg(leg) => {
-                taps.push(leg.entry)?;
-                taps.push(leg.exit)?;
-            }
-            RailPart::Lone(lone) => taps.push(*lone)?,
-        }
+        left = behind_part(left, part).expect(rt, "the next taps");
+        text.push_str(word_of(part)).expect(rt, "memory");
     }
-    Ok(taps)
+    assert!(rt; left.is_empty());
+    text
+}
+
+fn expect_parts<R: Abort + AllocGlobal>(rt: &R, tables: &Tables, given: &str, want: &str) {
+    let taps = taps_of(rt, MONDAY, given);
+    let parts = legs(rt.alloc(), tables, &taps).expect(rt, "memory");
+    expect_found(rt, given, &told(rt, &parts, &taps), want);
 }
 
 #[test]
-fn parts_taps_into_legs(rt: HostRuntime) -> Result<(), Fail> {
-    let alloc = rt.alloc();
-    let tables = Tables::read(alloc, BUS_FARES)?;
-    let rows: [&[Expected]; 19] = [
-        &[],
-        &[LoneIn(10, 0)],
-        &[LoneOut(10, 0)],
-        // 100 minutes in two zones.
-        &[Together((10, 0), (12, 6_000))],
-        &[LoneIn(10, 0), LoneOut(12, 6_001)],
-        // 110 minutes in three zones, 90 in one.
-        &[Together((14, 0), (10, 6_600))],
-        &[LoneIn(14, 0), LoneOut(10, 6_601)],
-        &[Together((10, 0), (11, 5_400))],
-        &[LoneIn(10, 0), LoneOut(11, 5_401)],
-        // 30 minutes at one station; stations 11 and 13 touch one zone and are two.
-        &[Together((10, 0), (10, 1_800))],
-        &[LoneIn(10, 0), LoneOut(10, 1_801)],
-        &[Together((11, 0), (13, 5_400))],
-        &[LoneIn(11, 0), LoneOut(13, 5_401)],
-        &[LoneOut(10, 0), LoneIn(10, 0)],
-        &[LoneIn(10, 0), Together((10, 60), (12, 1_260))],
-        &[Together((10, 0), (12, 1_200)), LoneOut(12, 1_260)],
-        &[
-            Together((10, 0), (12, 1_200)),
-            Together((12, 1_260), (10, 7_260)),
-        ],
-        // No leg across a tap that came too late.
-        &[LoneIn(10, 0), LoneOut(12, 6_001), LoneOut(10, 6_002)],
-        // A number without a place counts as a station in zone 1.
-        &[
-            Together((10, 0), (9, 5_400)),
-            LoneIn(9, 5_401),
-            LoneOut(10, 10_802),
-        ],
-    ];
-    for row in rows {
-        let parts = parts_of(alloc, row)?;
-        let taps = taps_of(alloc, &parts)?;
-        assert_eq!(rt; legs(alloc, &tables, &taps)?.as_slice(), parts.as_slice());
+fn parts_taps_into_legs(rt: HostRuntime) {
+    let tables = Tables::read(rt.alloc(), BUS_FARES).expect(&rt, "the sample");
+    for line in ROWS.trim().lines() {
+        if let Some((given, want)) = row_of(&rt, line) {
+            expect_parts(&rt, &tables, given, want);
+        }
     }
-    Ok(())
 }

@@ -1,201 +1,351 @@
+//! A tap of these rows is `1 4 BUS 50 06:43:20`: its reader, its number, its kind, its place, and its time on Monday,
+//! 2024-01-08. Its account is 7 where no other stands behind it, as `of 8`.
+
+use crate::fields::{cut, kind_of, moment};
 use pay_day::Moment;
 use pay_taps::limits::MOST_TAPS;
 use pay_taps::*;
+use std::alloc::Global;
 use std::process::Abort;
 use std::test::Fail;
 
-// A bus tap of account 7 on 2024-01-08.
-fn bus_tap(rt: &impl Abort, reader: u16, seq: u32, utc: u64) -> Tap {
-    Tap {
-        account: 7,
-        reader,
-        seq,
-        stamp: Moment::from_parts(utc, 19_730, 25_200).expect(rt, "a moment"),
-        place: 50,
-        kind: Kind::Bus,
+fn tap_of(row: &str) -> Result<Tap, Fail> {
+    let (row, account) = row.split_once(" of ").unwrap_or((row, "7"));
+    let (reader, rest) = cut(row)?;
+    let (seq, rest) = cut(rest)?;
+    let (kind, rest) = cut(rest)?;
+    let (place, time) = cut(rest)?;
+    Ok(Tap {
+        account: account.parse()?,
+        reader: reader.parse()?,
+        seq: seq.parse()?,
+        stamp: moment("19730", time)?,
+        place: place.parse()?,
+        kind: kind_of(kind)?,
+    })
+}
+
+/// A touch is written as its tap, and with `staff` before it where it was filled in.
+fn touch_of(row: &str) -> Result<Touch, Fail> {
+    Ok(match row.strip_prefix("staff ") {
+        Some(rest) => Touch {
+            filled: true,
+            ..Touch::from(tap_of(rest)?)
+        },
+        None => Touch::from(tap_of(row)?),
+    })
+}
+
+fn touches_in(alloc: Global, row: &str) -> Result<Vec<Touch>, Fail> {
+    let mut list = Vec::new(alloc);
+    for part in row.split(", ") {
+        list.push(touch_of(part)?)?;
+    }
+    Ok(list)
+}
+
+fn told(outcome: Result<Addition, TapSetFault>) -> &'static str {
+    match outcome {
+        Ok(Addition::Added) => "Added",
+        Ok(Addition::Repeat) => "Repeat",
+        Err(TapSetFault::Conflict) => "Conflict",
+        Err(TapSetFault::AccountFull) => "AccountFull",
+        Err(TapSetFault::Memory) => "Memory",
     }
 }
 
-// 07:00:00 of that day.
-const SEVEN: u64 = 1_704_697_200;
+/// Whether the tap of that number is this one.
+fn is_there(taps: &TapSet, tap: &Tap) -> &'static str {
+    match taps.get(tap.reader, tap.seq) {
+        None => "no",
+        Some(found) if found == *tap => "yes",
+        Some(_) => "another",
+    }
+}
+
+/// The numbers of taps in order.
+fn numbers(alloc: Global, taps: &[Tap]) -> Result<String, Fail> {
+    let mut text = String::new(alloc);
+    for tap in taps {
+        write!(text, " {}-{}", tap.reader, tap.seq)?;
+    }
+    Ok(text)
+}
+
+fn text_of(alloc: Global, word: &str) -> Result<String, Fail> {
+    Ok(format!(in alloc; "{word}")?)
+}
+
+/// What a set of taps answers.
+fn answer(alloc: Global, taps: &mut TapSet, asked: &str) -> Result<String, Fail> {
+    let (word, rest) = asked.split_once(' ').unwrap_or((asked, ""));
+    match word {
+        "judge" => text_of(alloc, told(taps.judge(&tap_of(rest)?))),
+        "add" => text_of(alloc, told(taps.add(tap_of(rest)?))),
+        "has" => text_of(alloc, is_there(taps, &tap_of(rest)?)),
+        "empty" => text_of(alloc, if taps.is_empty() { "yes" } else { "no" }),
+        "len" => Ok(format!(in alloc; "{}", taps.len())?),
+        "list" => numbers(alloc, &taps.list(alloc)?),
+        "slice" => numbers(alloc, taps.as_slice()),
+        _ => Err(Fail::new("no such question")),
+    }
+}
+
+/// Compares what a set of taps answers to the rows of a text.
+fn compare_answers(
+    rt: &impl Abort,
+    alloc: Global,
+    taps: &mut TapSet,
+    text: &str,
+) -> Result<(), Fail> {
+    for row in text.trim().lines() {
+        let (asked, wanted) = row.split_once(" => ").ok_or("a row says what it wants")?;
+        let answer = answer(alloc, taps, asked.trim())?;
+        assert_eq!(rt; answer.as_str().trim(), wanted, "{row}");
+    }
+    Ok(())
+}
 
 #[test]
 fn judges_by_number_and_content(rt: HostRuntime) -> Result<(), Fail> {
-    let tap = bus_tap(&rt, 1, 1, SEVEN);
     let mut taps = TapSet::new(rt.alloc());
-    assert!(rt; taps.is_empty());
-    assert_eq!(rt; taps.judge(&tap), Ok(Addition::Added));
-    assert_eq!(rt; taps.add(tap), Ok(Addition::Added));
-    assert_eq!(rt; taps.add(tap), Ok(Addition::Repeat));
-
-    let others = [
-        Tap { account: 8, ..tap },
-        Tap { place: 10, ..tap },
-        Tap {
-            kind: Kind::In,
-            ..tap
-        },
-        Tap {
-            kind: Kind::Out,
-            ..tap
-        },
-        bus_tap(&rt, 1, 1, SEVEN + 1),
-    ];
-    for other in &others {
-        assert_eq!(rt; taps.judge(other), Err(TapSetFault::Conflict));
-        assert_eq!(rt; taps.add(*other), Err(TapSetFault::Conflict));
-    }
-    assert_eq!(rt; taps.len(), 1);
-    assert!(rt; !taps.is_empty());
-    assert_eq!(rt; taps.get(1, 1), Some(tap));
-    assert_eq!(rt; taps.get(1, 2), None);
-    assert_eq!(rt; taps.get(2, 1), None);
-    Ok(())
+    compare_answers(
+        &rt,
+        rt.alloc(),
+        &mut taps,
+        "
+        empty => yes
+        judge 1 1 BUS 50 07:00 => Added
+        add 1 1 BUS 50 07:00 => Added
+        add 1 1 BUS 50 07:00 => Repeat
+        judge 1 1 BUS 50 07:00 of 8 => Conflict
+        add 1 1 BUS 50 07:00 of 8 => Conflict
+        judge 1 1 BUS 10 07:00 => Conflict
+        add 1 1 BUS 10 07:00 => Conflict
+        judge 1 1 IN 50 07:00 => Conflict
+        add 1 1 IN 50 07:00 => Conflict
+        judge 1 1 OUT 50 07:00 => Conflict
+        add 1 1 OUT 50 07:00 => Conflict
+        judge 1 1 BUS 50 07:00:01 => Conflict
+        add 1 1 BUS 50 07:00:01 => Conflict
+        len => 1
+        empty => no
+        has 1 1 BUS 50 07:00 => yes
+        has 1 2 BUS 50 07:00 => no
+        has 2 1 BUS 50 07:00 => no
+        ",
+    )
 }
 
 #[test]
 fn lists_by_reader_then_seq(rt: HostRuntime) -> Result<(), Fail> {
     let mut taps = TapSet::new(rt.alloc());
-    for (reader, seq) in [(2, 1), (1, 5), (1, 2), (2, 0), (1, 4_294_967_295)] {
-        assert_eq!(rt;
-            taps.add(bus_tap(&rt, reader, seq, SEVEN)),
-            Ok(Addition::Added)
-        );
-    }
-    let numbers = [(1, 2), (1, 5), (1, 4_294_967_295), (2, 0), (2, 1)];
-    let list = taps.list(rt.alloc())?;
-    assert_eq!(rt; list.len(), numbers.len());
-    for (tap, number) in list.iter().zip(&numbers) {
-        assert_eq!(rt; (tap.reader, tap.seq), *number);
-    }
-    Ok(())
+    compare_answers(
+        &rt,
+        rt.alloc(),
+        &mut taps,
+        "
+        add 2 1 BUS 50 07:00 => Added
+        add 1 5 BUS 50 07:00 => Added
+        add 1 2 BUS 50 07:00 => Added
+        add 2 0 BUS 50 07:00 => Added
+        add 1 4294967295 BUS 50 07:00 => Added
+        list => 1-2 1-5 1-4294967295 2-0 2-1
+        ",
+    )
 }
+
+/// Adds a tap by its number, and compares what is kept then.
+fn compare_growth(
+    rt: &impl Abort,
+    alloc: Global,
+    taps: &mut TapSet,
+    row: &str,
+) -> Result<(), Fail> {
+    let (seq, kept) = row.split_once(" => ").ok_or("a row says what it wants")?;
+    let rows = format!(in alloc;
+        "
+        add 1 {seq} BUS 50 07:00 => Added
+        add 1 {seq} BUS 50 07:00 => Repeat
+        add 1 30 BUS 50 07:00:01 => Conflict
+        slice => {kept}
+        has 1 30 BUS 50 07:00 => yes
+        has 1 {seq} BUS 50 07:00 => yes
+        has 1 50 BUS 50 07:00 => no
+    "
+    )?;
+    compare_answers(rt, alloc, taps, rows.as_str())
+}
+
+/// The number of a tap that is added, and those of the taps that are kept then.
+const GROWTH: &str = "
+    30 => 1-30
+    10 => 1-10 1-30
+    40 => 1-10 1-30 1-40
+    20 => 1-10 1-20 1-30 1-40
+    25 => 1-10 1-20 1-25 1-30 1-40
+    5 => 1-5 1-10 1-20 1-25 1-30 1-40
+";
 
 #[test]
 fn keeps_its_taps_when_they_outgrow_the_set(rt: HostRuntime) -> Result<(), Fail> {
-    let at_seven = |seq: u32| bus_tap(&rt, 1, seq, SEVEN);
     let mut taps = TapSet::new(rt.alloc());
-    for (count, seq) in [(1, 30), (2, 10), (3, 40), (4, 20), (5, 25), (6, 5)] {
-        assert_eq!(rt; taps.add(at_seven(seq)), Ok(Addition::Added));
-        assert_eq!(rt; taps.add(at_seven(seq)), Ok(Addition::Repeat));
-        let other = bus_tap(&rt, 1, 30, SEVEN + 1);
-        assert_eq!(rt; taps.add(other), Err(TapSetFault::Conflict));
-        assert_eq!(rt; taps.len(), count);
-        assert_eq!(rt; taps.get(1, 30), Some(at_seven(30)));
-        assert_eq!(rt; taps.get(1, seq), Some(at_seven(seq)));
-        assert_eq!(rt; taps.get(1, 50), None);
+    for row in GROWTH.trim().lines() {
+        compare_growth(&rt, rt.alloc(), &mut taps, row.trim())?;
     }
-    let seqs = [5, 10, 20, 25, 30, 40];
-    assert_eq!(rt; taps.len(), seqs.len());
-    for (tap, seq) in taps.as_slice().iter().zip(&seqs) {
-        assert_eq!(rt; tap.seq, *seq);
-    }
-    Ok(())
+    compare_answers(&rt, rt.alloc(), &mut taps, "len => 6")
 }
 
 #[test]
 fn orders_touches(rt: HostRuntime) -> Result<(), Fail> {
-    let filled = |staff: u16, seq: u32, utc: u64| Touch {
-        filled: true,
-        ..Touch::from(bus_tap(&rt, staff, seq, utc))
-    };
-    let accepted = |reader: u16, seq: u32| Touch::from(bus_tap(&rt, reader, seq, SEVEN));
-    let mut list = Vec::new(rt.alloc());
-    for touch in [
-        filled(1, 1, SEVEN + 1),
-        accepted(2, 1),
-        filled(9, 9, SEVEN - 1),
-        accepted(1, 5),
-        filled(1, 1, SEVEN),
-    ] {
-        list.push(touch)?;
-    }
+    let alloc = rt.alloc();
+    let mut list = touches_in(
+        alloc,
+        "staff 1 1 BUS 50 07:00:01, 2 1 BUS 50 07:00, staff 9 9 BUS 50 06:59:59, \
+         1 5 BUS 50 07:00, staff 1 1 BUS 50 07:00",
+    )?;
     sort_touches(&mut list)?;
-    let ordered = [
-        filled(9, 9, SEVEN - 1),
-        accepted(1, 5),
-        accepted(2, 1),
-        filled(1, 1, SEVEN),
-        filled(1, 1, SEVEN + 1),
-    ];
-    assert_eq!(rt; list.as_slice(), ordered.as_slice());
+    compare_touches(
+        &rt,
+        alloc,
+        &list,
+        "staff 9 9 BUS 50 06:59:59, 1 5 BUS 50 07:00, 2 1 BUS 50 07:00, \
+         staff 1 1 BUS 50 07:00, staff 1 1 BUS 50 07:00:01",
+    )
+}
+
+/// Compares touches with those of a row.
+fn compare_touches(rt: &impl Abort, alloc: Global, list: &[Touch], row: &str) -> Result<(), Fail> {
+    assert_eq!(rt; list, touches_in(alloc, row)?.as_slice(), "{row}");
     Ok(())
 }
 
-// The earlier of two taps comes last.
+#[test]
+fn touches_of_taps_in_their_order(rt: HostRuntime) -> Result<(), Fail> {
+    let taps = [tap_of("1 1 BUS 50 07:00")?, tap_of("1 4 BUS 50 06:43:20")?];
+    let list = touches_of(rt.alloc(), &taps)?;
+    compare_touches(
+        &rt,
+        rt.alloc(),
+        &list,
+        "1 1 BUS 50 07:00, 1 4 BUS 50 06:43:20",
+    )
+}
+
+/// A set of two taps, the later with the lower number.
+fn two_taps(rt: &impl Abort, alloc: Global) -> Result<TapSet, Fail> {
+    let mut taps = TapSet::new(alloc);
+    compare_answers(
+        rt,
+        alloc,
+        &mut taps,
+        "
+        add 1 1 BUS 50 07:00 => Added
+        add 1 4 BUS 50 06:43:20 => Added
+        ",
+    )?;
+    Ok(taps)
+}
+
 #[test]
 fn touches_of_a_set(rt: HostRuntime) -> Result<(), Fail> {
-    let taken = [bus_tap(&rt, 1, 1, SEVEN), bus_tap(&rt, 1, 4, SEVEN - 1_000)];
-    let mut taps = TapSet::new(rt.alloc());
-    for tap in &taken {
-        assert_eq!(rt; taps.add(*tap), Ok(Addition::Added));
-    }
-    let list = touches_of(rt.alloc(), &taken)?;
-    let ordered = touches(rt.alloc(), &taps)?;
-    assert_eq!(rt; (list.len(), ordered.len()), (2, 2));
-    assert_eq!(rt; (ordered[0], ordered[1]), (list[1], list[0]));
-    Ok(())
+    let taps = two_taps(&rt, rt.alloc())?;
+    let list = touches(rt.alloc(), &taps)?;
+    compare_touches(
+        &rt,
+        rt.alloc(),
+        &list,
+        "1 4 BUS 50 06:43:20, 1 1 BUS 50 07:00",
+    )
 }
 
-// The third tap comes between the two that are there. One that is there already comes once more.
+/// Compares the touches of the two taps and of one more.
+fn compare_with(rt: &impl Abort, alloc: Global, more: &str, wanted: &str) -> Result<(), Fail> {
+    let taps = two_taps(rt, alloc)?;
+    let list = touches_with(alloc, &taps, &tap_of(more)?)?;
+    compare_touches(rt, alloc, &list, wanted)
+}
+
+// One more comes between the two, and one that is there already comes once more.
 #[test]
 fn touches_of_a_set_and_one_more(rt: HostRuntime) -> Result<(), Fail> {
-    let all = [
-        bus_tap(&rt, 1, 1, SEVEN),
-        bus_tap(&rt, 1, 4, SEVEN - 1_000),
-        bus_tap(&rt, 1, 9, SEVEN - 500),
-    ];
-    let mut taps = TapSet::new(rt.alloc());
-    for tap in &all[..2] {
-        assert_eq!(rt; taps.add(*tap), Ok(Addition::Added));
-    }
-    let list = touches_of(rt.alloc(), &all)?;
-    let further = touches_with(rt.alloc(), &taps, &all[2])?;
-    assert_eq!(rt; further.len(), 3);
-    assert_eq!(rt;
-        (further[0], further[1], further[2]),
-        (list[1], list[2], list[0])
+    compare_with(
+        &rt,
+        rt.alloc(),
+        "1 9 BUS 50 06:51:40",
+        "1 4 BUS 50 06:43:20, 1 9 BUS 50 06:51:40, 1 1 BUS 50 07:00",
+    )?;
+    compare_with(
+        &rt,
+        rt.alloc(),
+        "1 4 BUS 50 06:43:20",
+        "1 4 BUS 50 06:43:20, 1 4 BUS 50 06:43:20, 1 1 BUS 50 07:00",
+    )
+}
+
+// A bus tap of account 7, so many seconds after seven.
+fn bus_tap(seq: u32, after: u16) -> Result<Tap, Fail> {
+    let stamp = Moment::from_parts(
+        1_704_697_200 + u64::from(after),
+        19_730,
+        25_200 + u32::from(after),
     );
-    let again = touches_with(rt.alloc(), &taps, &all[1])?;
-    assert_eq!(rt; again.len(), 3);
-    assert_eq!(rt; (again[0], again[1], again[2]), (list[1], list[1], list[0]));
+    Ok(Tap {
+        account: 7,
+        reader: 1,
+        seq,
+        stamp: stamp.ok_or("a moment")?,
+        place: 50,
+        kind: Kind::Bus,
+    })
+}
+
+/// Adds 16,384 taps, a second apart.
+fn fill(rt: &impl Abort, taps: &mut TapSet) -> Result<(), Fail> {
+    for after in 0..16_384u16 {
+        let tap = bus_tap(u32::from(after) + 1, after)?;
+        assert_eq!(rt; told(taps.add(tap)), "Added", "tap {after}");
+    }
     Ok(())
 }
 
-// 16,384 taps, a second apart.
 #[test]
 fn takes_no_more_than_an_account_may_have(rt: HostRuntime) -> Result<(), Fail> {
     let mut taps = TapSet::new(rt.alloc());
-    for i in 0..16_384u32 {
-        assert_eq!(rt;
-            taps.add(bus_tap(&rt, 1, i + 1, SEVEN + u64::from(i))),
-            Ok(Addition::Added)
-        );
-    }
-    let further = bus_tap(&rt, 1, 16_385, SEVEN + 16_384);
-    assert_eq!(rt; taps.judge(&further), Err(TapSetFault::AccountFull));
-    assert_eq!(rt; taps.add(further), Err(TapSetFault::AccountFull));
-    assert_eq!(rt; taps.add(bus_tap(&rt, 1, 1, SEVEN)), Ok(Addition::Repeat));
-    assert_eq!(rt;
-        taps.add(bus_tap(&rt, 1, 1, SEVEN + 1)),
-        Err(TapSetFault::Conflict)
-    );
+    fill(&rt, &mut taps)?;
     assert_eq!(rt; taps.len(), MOST_TAPS);
-    assert_eq!(rt; taps.get(1, 16_385), None);
+    compare_answers(
+        &rt,
+        rt.alloc(),
+        &mut taps,
+        "
+        judge 1 16385 BUS 50 11:33:04 => AccountFull
+        add 1 16385 BUS 50 11:33:04 => AccountFull
+        add 1 1 BUS 50 07:00 => Repeat
+        add 1 1 BUS 50 07:00:01 => Conflict
+        len => 16384
+        has 1 16385 BUS 50 11:33:04 => no
+        ",
+    )?;
     assert_eq!(rt; touches(rt.alloc(), &taps)?.len(), 16_384);
     Ok(())
 }
 
-// Where an allocation fails, the set is as before and takes the tap at the next call.
+/// Adds a tap, of which the number is how many there are. Where an allocation fails, the set is as before and takes
+/// the tap at the next call.
+fn add_at_last(rt: &impl Abort, taps: &mut TapSet, tap: &Tap) {
+    let seq = tap.seq;
+    if taps.add(*tap) == Err(TapSetFault::Memory) {
+        assert_eq!(rt; (taps.len() as u32, taps.get(1, seq)), (seq, None));
+        assert_eq!(rt; taps.add(*tap), Ok(Addition::Added));
+    }
+}
+
 #[test]
 fn is_as_before_without_memory(rt: HostRuntime) -> Result<(), Fail> {
     let mut taps = TapSet::new(rt.alloc());
     for seq in 0..40u32 {
-        let tap = bus_tap(&rt, 1, seq, SEVEN);
-        if taps.add(tap) == Err(TapSetFault::Memory) {
-            assert_eq!(rt; (taps.len() as u32, taps.get(1, seq)), (seq, None));
-            assert_eq!(rt; taps.add(tap), Ok(Addition::Added));
-        }
+        add_at_last(&rt, &mut taps, &bus_tap(seq, 0)?);
     }
     if taps.list(rt.alloc()).is_err() || touches(rt.alloc(), &taps).is_err() {
         assert_eq!(rt; taps.list(rt.alloc())?.len(), 40);

@@ -10,8 +10,6 @@ mod output;
 mod refusal;
 mod reply;
 mod sending;
-#[cfg(test)]
-mod tests;
 
 pub use command::{Command, SpelledTap, read_command};
 pub use output::WriteFault;

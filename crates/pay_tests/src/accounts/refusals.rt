@@ -1,59 +1,30 @@
 use super::*;
 
+const ROWS: &str = "
+    // No place there, a route for a station, and a station for a route.
+    1 BUS 51 19730 07:00 => UnknownPlace
+    1 IN 51 19730 07:00 => UnknownPlace
+    1 IN 50 19730 07:00 => UnknownPlace
+    1 OUT 50 19730 07:00 => UnknownPlace
+    1 BUS 10 19730 07:00 => UnknownPlace
+    1 BUS 50 19730 07:00 => 19730 175 175
+    1 BUS 50 19730 07:00 => again 19730 175 175
+    2 IN 10 19730 07:00 => 19730 1035 1035
+    1 BUS 50 19730 07:00 => again 19730 1035 1035
+    1 IN 10 19730 07:00 => Conflict
+    1 BUS 50 19730 08:23:20 => Conflict
+    2 OUT 10 19730 07:00 => Conflict
+    2 IN 11 19730 07:00 => Conflict
+    // A number that is taken changes nothing in that.
+    1 BUS 51 19730 07:00 => UnknownPlace
+    1 IN 51 19730 07:00 => UnknownPlace
+    1 IN 50 19730 07:00 => UnknownPlace
+    1 OUT 50 19730 07:00 => UnknownPlace
+    1 BUS 10 19730 07:00 => UnknownPlace
+    show 19730 => 1035, Bus 50 0 19730 07:00 175, Lone 10 0 19730 07:00 860
+";
+
 #[test]
 fn refuses_and_keeps_nothing(rt: HostRuntime) -> Result<(), Fail> {
-    let alloc = rt.alloc();
-    let tables = read(alloc)?;
-    let mut account: Account = Fares::new(alloc, 7);
-    assert_eq!(rt; account.number(), 7);
-    // No place there, a route for a station, and a station for a route.
-    let unknown = [
-        (1, 1_704_697_200, 51, Kind::Bus),
-        (1, 1_704_697_200, 51, Kind::In),
-        (1, 1_704_697_200, 50, Kind::In),
-        (1, 1_704_697_200, 50, Kind::Out),
-        (1, 1_704_697_200, 10, Kind::Bus),
-    ];
-    for tap in unknown {
-        assert_eq!(rt;
-            sent(&rt, &mut account, &tables, tap),
-            Err(TapFault::UnknownPlace),
-            "{tap:?}"
-        );
-    }
-    let bus = (1, 1_704_697_200, 50, Kind::Bus);
-    let rail = (2, 1_704_697_200, 10, Kind::In);
-    let rows: [(TapRow, Result<Priced, TapFault>); 8] = [
-        (bus, priced(false, 19_730, 175, 175)),
-        (bus, priced(true, 19_730, 175, 175)),
-        (rail, priced(false, 19_730, 1_035, 1_035)),
-        (bus, priced(true, 19_730, 1_035, 1_035)),
-        ((1, 1_704_697_200, 10, Kind::In), Err(TapFault::Conflict)),
-        ((1, 1_704_702_200, 50, Kind::Bus), Err(TapFault::Conflict)),
-        ((2, 1_704_697_200, 10, Kind::Out), Err(TapFault::Conflict)),
-        ((2, 1_704_697_200, 11, Kind::In), Err(TapFault::Conflict)),
-    ];
-    for (tap, expected) in rows {
-        assert_eq!(rt; sent(&rt, &mut account, &tables, tap), expected, "{tap:?}");
-    }
-    // A number that is taken changes nothing in that.
-    for tap in unknown {
-        assert_eq!(rt;
-            sent(&rt, &mut account, &tables, tap),
-            Err(TapFault::UnknownPlace),
-            "{tap:?}"
-        );
-    }
-    compare_shown(
-        &rt,
-        &account,
-        &tables,
-        19_730,
-        &[
-            (LineKind::Bus, 50, 0, 1_704_697_200, 175),
-            (LineKind::Lone, 10, 0, 1_704_697_200, 860),
-        ],
-        1_035,
-    )?;
-    Ok(())
+    compare_accounts(&rt, rt.alloc(), ROWS)
 }
