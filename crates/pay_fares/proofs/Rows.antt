@@ -29,6 +29,7 @@ sample = record {
   minutes = 90 ∷ 100 ∷ 110 ∷ [];
   rules = record { bus = 175; maximum = 860; hopper = 3_600; same_free = 120; same_limit = 1_800 };
   singles = single 1 1 280 270 ∷ single 1 2 340 280 ∷ single 1 3 370 300 ∷ single 2 2 200 190 ∷ single 2 3 210 195 ∷ single 3 3 200 180 ∷ [];
+  bands = [];
   holidays = 19_723 ∷ [];
   places = from_entries places;
   interchanges = [];

@@ -1,10 +1,10 @@
 -- What a journey costs by itself.
-use Rattle.std.specs.Prelude.{ℕ, ◌+◌, nat_le, Bool, if◌then◌else◌, [], ◌∷◌}
-use Rattle.pay_tables.specs.Words.{FareTables, station_at, single_fare, span_of}
+use Rattle.std.specs.Prelude.{ℕ, ◌+◌, nat_le, Bool, if◌then◌else◌}
+use Rattle.pay_tables.specs.Words.{FareTables, single_fare}
 use Rattle.pay_pairs.specs.declared.parts.Leg.{Leg}
 use Rattle.pay_links.specs.declared.journey.Journey.{Journey}
 use Rattle.pay_links.specs.declared.journey.Journey.TheVariants.{Run, Same, Lone, Bus}
-use Rattle.pay_fares.specs.Runs.{span_of_legs}
+use Rattle.pay_fares.specs.Runs.{span_of_legs, span_of_station}
 use Rattle.pay_fares.specs.Peak.{is_peak}
 
 -- whether a leg that ends where it began is free: it takes no more than so many seconds
@@ -14,7 +14,7 @@ is_free tables leg = nat_le leg.exit.stamp.utc (leg.entry.stamp.utc + tables.rul
 -- what a journey costs where it is peak, or where it is not
 abbrev pub fare_if : FareTables → Bool → Journey → ℕ
 fare_if tables peak (Run legs) = single_fare tables (span_of_legs tables legs) peak
-fare_if tables peak (Same leg) = if is_free tables leg then 0 else single_fare tables (span_of (station_at tables leg.entry.place ∷ [])) peak
+fare_if tables peak (Same leg) = if is_free tables leg then 0 else single_fare tables (span_of_station tables leg.entry.place) peak
 fare_if tables peak (Lone tap) = tables.rules.maximum
 fare_if tables peak (Bus tap pays) = if pays then tables.rules.bus else 0
 

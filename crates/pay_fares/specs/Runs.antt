@@ -1,5 +1,5 @@
--- The stations of a run of legs, and their span.
-use Rattle.std.specs.Prelude.{List, [], ◌∷◌}
+-- The stations of a run of legs, and their span; and the span of one station.
+use Rattle.std.specs.Prelude.{ℕ, List, [], ◌∷◌}
 use Rattle.std.specs.List.{flat_map}
 use Rattle.pay_tables.specs.declared.place.Place.{Place}
 use Rattle.pay_tables.specs.declared.zones.Span.{Span}
@@ -14,6 +14,10 @@ stations_of tables leg = station_at tables leg.entry.place ∷ station_at tables
 -- the span of all stations of legs
 abbrev pub span_of_legs : FareTables → LinkedLegs → Span
 span_of_legs tables legs = span_of (flat_map (stations_of tables) (all_legs legs))
+
+-- the span of the station at a number
+abbrev pub span_of_station : FareTables → ℕ → Span
+span_of_station tables place = span_of (station_at tables place ∷ [])
 
 -- the station where a run begins, and the one where it ends
 abbrev pub first_station : FareTables → LinkedLegs → Place

@@ -1,2 +1,3 @@
--- Words for the crates above: what a journey costs by itself.
+-- Words for the crates above: what a journey costs by itself, and the span of its stations.
+pub use Rattle.pay_fares.specs.Runs.{span_of_legs, span_of_station}
 pub use Rattle.pay_fares.specs.JourneyFares.{fare}

@@ -3,11 +3,11 @@ ghost use Rattle.pay_tables.specs.declared.limits.TheConstants.{MOST_FARE};
 ghost use Rattle.pay_fares.specs.JourneyFares.{is_free, fare};
 
 use crate::peak::is_peak;
-use crate::runs::span_of_run;
+use crate::runs::{span_of_run, span_of_station};
 use pay_links::Journey;
 use pay_money::Pence;
 use pay_pairs::Leg;
-use pay_tables::{SpanBounds, Tables};
+use pay_tables::Tables;
 
 /// Whether a leg that ends where it began is free.
 fn is_free(tables: &Tables, leg: &Leg) -> bool
@@ -30,7 +30,7 @@ pub fn fare(tables: &Tables, journey: &Journey) -> Pence
         Journey::Run(run) => tables.single(span_of_run(tables, run), is_peak(tables, journey)),
         Journey::Same(leg) if is_free(tables, leg) => Pence::ZERO,
         Journey::Same(leg) => {
-            let span = SpanBounds::one(tables.station(leg.entry.place)).span();
+            let span = span_of_station(tables, leg.entry.place);
             tables.single(span, is_peak(tables, journey))
         }
         Journey::Lone(_) => tables.rules().maximum,

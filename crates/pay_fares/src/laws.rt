@@ -1,12 +1,17 @@
-//! What is true of peak times themselves.
+//! What is true of peak times, spans and fares themselves.
 
 ghost use Rattle.std.specs.Prelude.{◌≡◌, ℕ, ◌+◌, ◌≤◌, nat_lt, true, false};
 ghost use Rattle.pay_day.specs.Words.{monday};
 ghost use Rattle.pay_day.specs.declared.limits.TheConstants.{FIRST_DAY, SATURDAY};
-ghost use Rattle.pay_tables.specs.Words.{FareTables};
+ghost use Rattle.pay_tables.specs.declared.limits.TheConstants.{MOST_FARE};
+ghost use Rattle.pay_tables.specs.Words.{FareTables, IsSpan};
+ghost use Rattle.pay_links.specs.declared.journey.Journey.{Journey};
 ghost use Rattle.pay_links.specs.Words.{LinkedLegs};
-ghost use Rattle.pay_fares.specs.Runs.{first_station, last_station};
+ghost use Rattle.pay_fares.specs.JourneyFares.{fare};
+ghost use Rattle.pay_fares.specs.Runs.{first_station, last_station, span_of_legs, span_of_station};
 ghost use Rattle.pay_fares.specs.Peak.{is_weekday, is_into_zone_one};
+
+use pay_tables::Tables;
 
 /// Monday to Friday are the first five days of a week, which begins with its Monday.
 pub fn weekdays()
@@ -19,3 +24,20 @@ pub fn one_way()
     ensures { (tables : FareTables) → (there back : LinkedLegs) → is_into_zone_one tables there ≡ true →
         first_station tables back ≡ last_station tables there → is_into_zone_one tables back ≡ false }
 {}
+
+/// The span of a run of legs lies within the zones of the fare file, and so does that of a station.
+pub fn spans_within(tables: &Tables)
+    ensures run { (legs : LinkedLegs) → IsSpan tables.now.zones (span_of_legs tables.now legs) }
+    ensures station { (place : ℕ) → IsSpan tables.now.zones (span_of_station tables.now place) }
+{
+    pay_tables::laws::stations_within(tables);
+    pay_tables::laws::spans_within();
+}
+
+/// No journey costs more than the largest fare.
+pub fn fares_within(tables: &Tables)
+    ensures { (journey : Journey) → fare tables.now journey ≤ MOST_FARE }
+{
+    pay_tables::laws::fares_within(tables);
+    tables.rules();
+}

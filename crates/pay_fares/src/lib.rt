@@ -1,4 +1,4 @@
-//! Single fares: what a journey costs by itself, and whether it is peak.
+//! Single fares: what a journey costs by itself, whether it is peak, and the span of its stations.
 #![tactic(auto)]
 
 mod journey_fares;
@@ -9,3 +9,4 @@ mod runs;
 
 pub use journey_fares::fare;
 pub use peak::is_peak;
+pub use runs::{span_of_run, span_of_station};

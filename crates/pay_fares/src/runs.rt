@@ -1,7 +1,7 @@
 ghost use Rattle.std.specs.Prelude.{◌≡◌};
 ghost use Rattle.std.specs.List.{fold};
 ghost use Rattle.pay_tables.specs.Words.{IsSpan, AreSpanBounds, bounds_with};
-ghost use Rattle.pay_fares.specs.Runs.{stations_of, span_of_legs};
+ghost use Rattle.pay_fares.specs.Runs.{stations_of, span_of_legs, span_of_station};
 
 use pay_links::Run;
 use pay_pairs::Leg;
@@ -18,7 +18,7 @@ fn also_leg(tables: &Tables, bounds: SpanBounds, leg: &Leg) -> SpanBounds
 }
 
 /// The span of all stations of a run of legs.
-pub(crate) fn span_of_run(tables: &Tables, run: &Run) -> Span
+pub fn span_of_run(tables: &Tables, run: &Run) -> Span
     ensures value { result ≡ span_of_legs tables.now run.now }
     ensures within { IsSpan tables.now.zones result }
 {
@@ -29,4 +29,12 @@ pub(crate) fn span_of_run(tables: &Tables, run: &Run) -> Span
         bounds = also_leg(tables, bounds, leg);
     }
     bounds.span()
+}
+
+/// The span of the station at a place's number, alone.
+pub fn span_of_station(tables: &Tables, place: u16) -> Span
+    ensures value { result ≡ span_of_station tables.now place }
+    ensures within { IsSpan tables.now.zones result }
+{
+    SpanBounds::one(tables.station(place)).span()
 }

@@ -1,7 +1,7 @@
-ghost use Rattle.std.specs.Prelude.{◌≡◌, ℕ, ◌+◌, ◌<◌, ◌^◌};
+ghost use Rattle.std.specs.Prelude.{◌≡◌, ℕ, ◌+◌, ◌-◌, ◌<◌, ◌≤◌, ◌^◌};
 
 use std::marker::Model;
-use std::ops::Add;
+use std::ops::{Add, Sub};
 
 /// An amount of money: a whole number of pence, not below 0. In a contract it is that number.
 #[derive(Clone, Copy, Debug, PartialEq, Eq, PartialOrd, Ord, Hash)]
@@ -49,6 +49,21 @@ impl Add for Pence {
     fn add(self, other: Pence) -> Pence {
         Pence {
             pence: self.pence + other.pence,
+        }
+    }
+}
+
+/// The difference: no more may be taken away than is there.
+impl Sub for Pence {
+    type Output = Pence;
+
+    ghost can_sub = { λ a b. b ≤ a };
+
+    ghost sub_gives = { λ a b difference. difference ≡ a - b };
+
+    fn sub(self, other: Pence) -> Pence {
+        Pence {
+            pence: self.pence - other.pence,
         }
     }
 }

@@ -21,6 +21,7 @@ sample = record {
   minutes = 90 ∷ 100 ∷ 110 ∷ [];
   rules = record { bus = 175; maximum = 860; hopper = 3_600; same_free = 120; same_limit = 1_800 };
   singles = [];
+  bands = [];
   holidays = [];
   places = from_entries stations;
   interchanges = [];

@@ -1,19 +1,20 @@
 -- Only a text that is no document is refused as such.
 use Rattle.std.proofs.Common.{◌≡◌, ℕ, ℤ, ◌+◌, ◌-◌, pos, negsuc, min, Bool, true, false, cond, List, [], Option, Some, None, Result, Ok, Err, refl, sym, ap, ◌∙◌, codes}
-use Rattle.std.specs.Prelude.{ok_or, nat_le, nat_lt, ◌==◌, ◌&&◌, is_some}
+use Rattle.std.specs.Prelude.{ok_or, nat_le, nat_lt, ◌==◌, ◌&&◌}
 use Rattle.toml.specs.Data.{Data, Items, no_items, item, Members, get_member, as_integer, as_table, as_array}
 use Rattle.pay_day.specs.declared.limits.TheConstants.{FIRST_DAY, LAST_DAY}
-use Rattle.pay_tables.specs.declared.limits.TheConstants.{MOST_ZONES, MOST_MINUTES, MOST_FARE, MOST_HOPPER_SECONDS, MOST_SAME_SECONDS, MOST_INTERCHANGE_SECONDS, MOST_PLACE, MOST_OPERATORS, MOST_HOLIDAYS, MOST_PLACES, MOST_INTERCHANGES}
+use Rattle.pay_tables.specs.declared.limits.TheConstants.{MOST_ZONES, MOST_MINUTES, MOST_FARE, MOST_HOPPER_SECONDS, MOST_SAME_SECONDS, MOST_INTERCHANGE_SECONDS, MOST_PLACE, MOST_OPERATORS, MOST_HOLIDAYS, MOST_PLACES, MOST_INTERCHANGES, MOST_BANDS}
 use Rattle.pay_tables.specs.declared.fault.FareFileFault.{FareFileFault}
-use Rattle.pay_tables.specs.declared.fault.FareFileFault.TheVariants.{NotToml, MissingKey, WrongType, OutOfRange, Duplicate, UnknownPlace, TooMany, BandsNotYet}
+use Rattle.pay_tables.specs.declared.fault.FareFileFault.TheVariants.{NotToml, MissingKey, WrongType, OutOfRange, Duplicate, UnknownPlace, TooMany}
 use Rattle.std.specs.Ordering.{nat_cmp}
 use Rattle.std.specs.FinMap.{FinMap, contains_key, empty}
+use Rattle.pay_tables.specs.declared.band.Band.{Band}
 use Rattle.pay_tables.specs.declared.interchange.Interchange.{Interchange}
 use Rattle.pay_tables.specs.declared.place.Place.{Place}
 use Rattle.pay_tables.specs.declared.single.Single.{Single}
 use Rattle.pay_tables.specs.Fault.{◌>>=◌}
 use Rattle.pay_tables.specs.Keys.{needed, integer_in, integer_of, integer_at, table_of, table_at, array_of, array_at, items_len, items_of, items_or_none, items_at}
-use Rattle.pay_tables.specs.FareFile.{with_each, with_minutes, minutes_items_at, minutes_at, rules_of, single_of, another_single, with_single, singles_at, has_single, has_each_single, has_holiday, another_holiday, with_holiday, holidays_at, station_of, route_of, unless_taken, with_place, with_station, with_route, places_at, another_at, interchange_of, joins_stations, has_interchange, unless_joined, another_interchange, with_interchange, interchanges_at, zones_at, fare_file}
+use Rattle.pay_tables.specs.FareFile.{with_each, with_minutes, minutes_items_at, minutes_at, rules_of, single_of, another_single, with_single, singles_at, has_single, has_each_single, greatest_to, cover_at, band_of, another_band, with_band, has_band, bands_at, has_holiday, another_holiday, with_holiday, holidays_at, station_of, route_of, unless_taken, with_place, with_station, with_route, places_at, another_at, interchange_of, joins_stations, has_interchange, unless_joined, another_interchange, with_interchange, interchanges_at, fare_file}
 
 abbrev other_fault : FareFileFault → Bool
 other_fault NotToml = false
@@ -100,6 +101,26 @@ singles_at_other zones ms =
     then_other (with_each (with_single zones) [] items) _ (with_each_other (with_single zones) (with_single_other zones) [] items) (λ singles.
     cond_other (has_each_single singles zones) (Ok singles) (Err MissingKey) refl refl))
 
+cover_at_other : (zones : ℕ) (ms : Members) → other (cover_at zones ms) ≡ true
+cover_at_other zones ms =
+    integer_then (codes "from") 0 zones ms _ (λ from.
+    integer_then (codes "to") from (greatest_to zones from) ms _ (λ to. refl))
+
+band_of_other : (zones : ℕ) (d : Data) → other (band_of zones d) ≡ true
+band_of_other zones d =
+    then_other (table_of d) _ (ok_or_other (as_table d)) (λ ms.
+    then_other (cover_at zones ms) _ (cover_at_other zones ms) (λ cover.
+    integer_then (codes "day") 0 MOST_FARE ms _ (λ day.
+    integer_then (codes "week") 0 MOST_FARE ms _ (λ week. refl))))
+
+with_band_other : (zones : ℕ) (before : List Band) (d : Data) → other (with_band zones before d) ≡ true
+with_band_other zones before d =
+    then_other (another_band zones before d) _
+    (then_other (band_of zones d) _ (band_of_other zones d) (λ band. cond_other (has_band before band.cover) (Err Duplicate) (Ok band) refl refl)) (λ band. refl)
+
+bands_at_other : (zones : ℕ) (ms : Members) → other (bands_at zones ms) ≡ true
+bands_at_other zones ms = then_other (items_at (codes "band") MOST_BANDS ms) _ (items_at_other (codes "band") MOST_BANDS ms) (with_each_other (with_band zones) (with_band_other zones) [])
+
 with_holiday_other : (before : List ℕ) (d : Data) → other (with_holiday before d) ≡ true
 with_holiday_other before d =
     then_other (another_holiday before d) _
@@ -165,16 +186,15 @@ interchanges_at_other places ms =
 
 fare_file_other : (ms : Members) → other (fare_file ms) ≡ true
 fare_file_other ms =
-    then_other (zones_at ms) _
-    (cond_other (is_some (get_member (codes "band") ms)) (Err BandsNotYet) _ refl
-    (needed_other (integer_of 1 MOST_ZONES) (get_member (codes "zones") ms) (integer_of_other 1 MOST_ZONES))) (λ zones.
+    integer_then (codes "zones") 1 MOST_ZONES ms _ (λ zones.
     then_other (minutes_at zones ms) _ (minutes_at_other zones ms) (λ minutes.
     then_other (table_at (codes "rules") ms >>= rules_of) _
     (then_other (table_at (codes "rules") ms) rules_of (needed_other table_of (get_member (codes "rules") ms) (λ d. ok_or_other (as_table d))) rules_of_other) (λ rules.
     then_other (singles_at zones ms) _ (singles_at_other zones ms) (λ singles.
+    then_other (bands_at zones ms) _ (bands_at_other zones ms) (λ bands.
     then_other (holidays_at ms) _ (holidays_at_other ms) (λ holidays.
     then_other (places_at zones ms) _ (places_at_other zones ms) (λ places.
-    then_other (interchanges_at places ms) _ (interchanges_at_other places ms) (λ interchanges. refl)))))))
+    then_other (interchanges_at places ms) _ (interchanges_at_other places ms) (λ interchanges. refl))))))))
 
 refused_as_none : {X : Type 0} (r : Result X FareFileFault) → other r ≡ true → r ≡ Err NotToml → ⊥
 refused_as_none (Ok x) h e = absurd cc

@@ -4,4 +4,5 @@ pub mod Spans
 pub mod FoundItems
 pub mod Documents
 pub mod Ranges
+pub mod Within
 pub mod Inclusive

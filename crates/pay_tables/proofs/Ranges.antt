@@ -1,6 +1,6 @@
 -- What a fare file says is in its ranges, and each span has its single fare.
 use Rattle.std.proofs.Common.{◌≡◌, ℕ, ℤ, ◌+◌, ◌-◌, ◌≤◌, ◌<◌, pos, negsuc, zero, suc, min, Bool, true, false, cond, List, [], ◌∷◌, ◌++◌, length, length-append, Option, Some, None, Result, Ok, Err, refl, ap, ◌∙◌, codes, arith, inl, inr}
-use Rattle.std.specs.Prelude.{◌≢◌, ok_or, nat_le, ◌==◌, ◌&&◌, ◌||◌, ◌⊎◌, is_some, All, IfOk, IfSome, IsSome}
+use Rattle.std.specs.Prelude.{◌≢◌, ok_or, nat_le, nat_lt, ◌==◌, ◌&&◌, ◌||◌, ◌⊎◌, All, IfOk, IfSome, IsSome}
 use Rattle.std.specs.List.{list_all, list_any, find, range_with_len}
 use Rattle.std.specs.Ordering.{nat_cmp, eq_by_cmp}
 use Rattle.std.specs.Cmp.{nat_cmp_total}
@@ -8,17 +8,20 @@ use Rattle.std.specs.FinMap.{FinMap, get, empty, contains_key, get-empty, get-in
 use Rattle.std.proofs.lemmas.Bool.Decides.{nat_tests}
 use Rattle.std.proofs.lemmas.List.Elements.{All-nil, All-cons, All-append}
 use Rattle.toml.specs.Data.{Data, Items, no_items, item, Members, get_member, as_integer}
-use Rattle.pay_tables.specs.declared.limits.TheConstants.{MOST_ZONES, MOST_MINUTES, MOST_FARE, MOST_HOPPER_SECONDS, MOST_SAME_SECONDS, MOST_INTERCHANGE_SECONDS, MOST_PLACE, MOST_OPERATORS, MOST_PLACES, MOST_INTERCHANGES}
+use Rattle.pay_tables.specs.declared.limits.TheConstants.{MOST_ZONES, MOST_MINUTES, MOST_FARE, MOST_HOPPER_SECONDS, MOST_SAME_SECONDS, MOST_INTERCHANGE_SECONDS, MOST_PLACE, MOST_OPERATORS, MOST_PLACES, MOST_INTERCHANGES, MOST_BANDS}
 use Rattle.pay_tables.specs.declared.fault.FareFileFault.{FareFileFault}
-use Rattle.pay_tables.specs.declared.fault.FareFileFault.TheVariants.{WrongType, OutOfRange, Duplicate, UnknownPlace, MissingKey, BandsNotYet}
+use Rattle.pay_tables.specs.declared.fault.FareFileFault.TheVariants.{WrongType, OutOfRange, Duplicate, UnknownPlace, MissingKey, TooMany}
+use Rattle.pay_tables.specs.declared.band.Band.{Band}
+use Rattle.pay_tables.specs.declared.band.Cover.TheVariants.{Buses, Zones}
 use Rattle.pay_tables.specs.declared.place.Place.{Place}
 use Rattle.pay_tables.specs.declared.single.Single.{Single}
 use Rattle.pay_tables.specs.declared.zones.Span.{Span}
 use Rattle.pay_tables.specs.Fault.{◌>>=◌}
-use Rattle.pay_tables.specs.Keys.{needed, integer_in, integer_of, integer_at, table_of, table_at, array_at, items_len, items_at}
+use Rattle.pay_tables.specs.Keys.{needed, integer_in, integer_of, integer_at, table_of, table_at, array_of, array_at, items_len, items_or_none, items_at}
 use Rattle.pay_tables.specs.Spans.{IsSpan, same_span}
+use Rattle.pay_tables.specs.Bands.{IsCover, IsBand}
 use Rattle.pay_tables.specs.FareTables.{AreRules, IsSingle, IsPlace, IsInterchange, IsFareTables}
-use Rattle.pay_tables.specs.FareFile.{with_each, with_minutes, minutes_items_at, minutes_at, rules_of, single_of, another_single, with_single, singles_at, has_single, has_singles_from, has_each_single, holidays_at, station_of, route_of, unless_taken, with_place, with_station, with_route, places_at, another_at, interchange_of, joins_stations, has_interchange, unless_joined, another_interchange, with_interchange, interchanges_at, zones_at, fare_file}
+use Rattle.pay_tables.specs.FareFile.{with_each, with_minutes, minutes_items_at, minutes_at, rules_of, single_of, another_single, with_single, singles_at, has_single, has_singles_from, has_each_single, greatest_to, cover_at, band_of, another_band, with_band, has_band, bands_at, holidays_at, station_of, route_of, unless_taken, with_place, with_station, with_route, places_at, another_at, interchange_of, joins_stations, has_interchange, unless_joined, another_interchange, with_interchange, interchanges_at, fare_file}
 
 -- ---- steps
 
@@ -34,9 +37,9 @@ IfOk_cond : {A : Type 0} (Q : A → Type 0) (b : Bool) (r : Result A FareFileFau
 IfOk_cond Q true r fault h = h refl
 IfOk_cond Q false r fault h = tt
 
-IfOk_unless : {A : Type 0} (Q : A → Type 0) (b : Bool) (r : Result A FareFileFault) (fault : FareFileFault) → IfOk r Q → IfOk (cond b (Err fault) r) Q
+IfOk_unless : {A : Type 0} (Q : A → Type 0) (b : Bool) (r : Result A FareFileFault) (fault : FareFileFault) → (b ≡ false → IfOk r Q) → IfOk (cond b (Err fault) r) Q
 IfOk_unless Q true r fault h = tt
-IfOk_unless Q false r fault h = h
+IfOk_unless Q false r fault h = h refl
 
 -- what each item keeps, all of them keep
 with_each_keeps : {A : Type 0} (P : A → Items → Type 0) (with_one : A → Data → Result A FareFileFault) → ((before : A) (d : Data) (ds : Items) → P before (item d ds) → IfOk (with_one before d) (λ now. P now ds))
@@ -64,6 +67,20 @@ needed_integer least most (Some d) = integer_of_range least most d
 
 integer_then : {A : Type 0} (Q : A → Type 0) (key : List ℕ) (least most : ℕ) (ms : Members) (f : ℕ → Result A FareFileFault) → ((n : ℕ) → (least ≤ n) × (n ≤ most) → IfOk (f n) Q) → IfOk (integer_at key least most ms >>= f) Q
 integer_then Q key least most ms f h = IfOk_then (λ n. (least ≤ n) × (n ≤ most)) Q (integer_at key least most ms) f (needed_integer least most (get_member key ms)) h
+
+-- ---- items
+
+items_few : (key : List ℕ) (most : ℕ) (ms : Members) → IfOk (items_at key most ms) (λ items. items_len items ≤ most)
+items_few key most ms = of_member (get_member key ms)
+  where
+    few : (ds : Items) → nat_lt most (items_len ds) ≡ false → items_len ds ≤ most
+    few ds e = grind (arith, nat_tests)
+
+    of_member : (o : Option Data) → IfOk (items_or_none most o) (λ items. items_len items ≤ most)
+    of_member None = omega arith
+    of_member (Some d) =
+        IfOk_after (λ items. items_len items ≤ most) (array_of d) _ (λ ds.
+        IfOk_unless (λ items. items_len items ≤ most) (nat_lt most (items_len ds)) (Ok ds) TooMany (few ds))
 
 -- ---- minutes
 
@@ -113,7 +130,7 @@ single_is zones d =
 with_single_keeps : (zones : ℕ) (before : List Single) (d : Data) (ds : Items) → All (IsSingle zones) before → IfOk (with_single zones before d) (All (IsSingle zones))
 with_single_keeps zones before d ds h =
     IfOk_then (IsSingle zones) (All (IsSingle zones)) (another_single zones before d) _
-    (IfOk_then (IsSingle zones) (IsSingle zones) (single_of zones d) _ (single_is zones d) (λ single s. IfOk_unless (IsSingle zones) (has_single before single.span) (Ok single) Duplicate s)) (λ single s.
+    (IfOk_then (IsSingle zones) (IsSingle zones) (single_of zones d) _ (single_is zones d) (λ single s. IfOk_unless (IsSingle zones) (has_single before single.span) (Ok single) Duplicate (λ _. s))) (λ single s.
     All-append (IsSingle zones) before (single ∷ []) h (All-cons (IsSingle zones) single [] s (All-nil (IsSingle zones))))
 
 -- single fares within the zones, one for each span
@@ -159,6 +176,43 @@ each_span singles zones h span within =
     found (λ single. same_span span single.span) singles
     (each_of_range (λ to. has_single singles (record { from = span.from; to = to })) span.from (zones + 1 - span.from) span.to from within.to.0 (omega (arith, within.to.0, within.to.1)))
 
+-- ---- bands
+
+cover_is : (zones : ℕ) (ms : Members) → IfOk (cover_at zones ms) (IsCover zones)
+cover_is zones ms =
+    integer_then (IsCover zones) (codes "from") 0 zones ms _ (λ from a.
+    integer_then (IsCover zones) (codes "to") from (greatest_to zones from) ms _ (λ to b. to_cover from to (from == 0) refl b))
+  where
+    least_of : (from : ℕ) → (from == 0) ≡ false → 1 ≤ from
+    least_of from e = grind (arith, nat_tests)
+
+    to_cover : (from to : ℕ) (b : Bool) → (from == 0) ≡ b → (from ≤ to) × (to ≤ cond b 0 zones) → IsCover zones (cond b Buses (Zones (record { from = from; to = to })))
+    to_cover from to true e r = tt
+    to_cover from to false e r = record { from = least_of from e; to = r }
+
+band_is : (zones : ℕ) (d : Data) → IfOk (band_of zones d) (IsBand zones)
+band_is zones d =
+    IfOk_after (IsBand zones) (table_of d) _ (λ ms.
+    IfOk_then (IsCover zones) (IsBand zones) (cover_at zones ms) _ (cover_is zones ms) (λ cover c.
+    integer_then (IsBand zones) (codes "day") 0 MOST_FARE ms _ (λ day r.
+    integer_then (IsBand zones) (codes "week") 0 MOST_FARE ms _ (λ week s.
+    record { cover = c; day = r.1; week = s.1 }))))
+
+-- few bands that may stand, with those that are to come
+abbrev AreBands : ℕ → List Band → Items → Type 0
+AreBands zones bands ds = All (IsBand zones) bands × (length bands + items_len ds ≤ MOST_BANDS)
+
+with_band_keeps : (zones : ℕ) (before : List Band) (d : Data) (ds : Items) → AreBands zones before (item d ds) → IfOk (with_band zones before d) (λ more. AreBands zones more ds)
+with_band_keeps zones before d ds h =
+    IfOk_then (IsBand zones) (λ more. AreBands zones more ds) (another_band zones before d) _
+    (IfOk_then (IsBand zones) (IsBand zones) (band_of zones d) _ (band_is zones d) (λ band b. IfOk_unless (IsBand zones) (has_band before band.cover) (Ok band) Duplicate (λ _. b))) (λ band b.
+    (All-append (IsBand zones) before (band ∷ []) h.0 (All-cons (IsBand zones) band [] b (All-nil (IsBand zones))), omega (arith, h.1, length-append before (band ∷ []))))
+
+bands_are : (zones : ℕ) (ms : Members) → IfOk (bands_at zones ms) (λ bands. AreBands zones bands no_items)
+bands_are zones ms =
+    IfOk_then (λ items. items_len items ≤ MOST_BANDS) (λ bands. AreBands zones bands no_items) (items_at (codes "band") MOST_BANDS ms) _ (items_few (codes "band") MOST_BANDS ms) (λ items few.
+    with_each_keeps (AreBands zones) (with_band zones) (with_band_keeps zones) [] items (All-nil (IsBand zones), omega (arith, few)))
+
 -- ---- places
 
 -- places that may stand
@@ -171,7 +225,7 @@ empty_are zones number = rw (get-empty nat_cmp number) tt
 with_place_keeps : (zones : ℕ) (places : FinMap nat_cmp Place) (place : ℕ × Place) → ArePlaces zones places → IsPlace zones place.1 → IfOk (with_place places place) (ArePlaces zones)
 with_place_keeps zones places place all h =
     let P : ℕ × Place → Type 0 = λ p. IsPlace zones p.1 in
-    IfOk_then P (ArePlaces zones) (unless_taken places place) _ (IfOk_unless P (contains_key places place.0) (Ok place) Duplicate h) (λ free f number.
+    IfOk_then P (ArePlaces zones) (unless_taken places place) _ (IfOk_unless P (contains_key places place.0) (Ok place) Duplicate (λ _. h)) (λ free f number.
     rw (get-insert nat_cmp_total places free.0 free.1 number) (either zones (eq_by_cmp nat_cmp number free.0) free.1 (get places number) f (all number)))
   where
     either : (zones : ℕ) (b : Bool) (place : Place) (other : Option Place) → IsPlace zones place → IfSome other (IsPlace zones) → IfSome (cond b (Some place) other) (IsPlace zones)
@@ -214,14 +268,10 @@ abbrev IsAnother : ℕ → ℕ → Type 0
 IsAnother number n = ((1 ≤ n) × (n ≤ MOST_PLACE)) × (number ≢ n)
 
 another_is : (number : ℕ) (key : List ℕ) (ms : Members) → IfOk (another_at number key ms) (IsAnother number)
-another_is number key ms = integer_then (IsAnother number) key 1 MOST_PLACE ms _ (λ n r. unless_same (number == n) n r (differ n))
+another_is number key ms = integer_then (IsAnother number) key 1 MOST_PLACE ms _ (λ n r. IfOk_unless (IsAnother number) (number == n) (Ok n) OutOfRange (λ e. (r, differ n e)))
   where
     differ : (n : ℕ) → (number == n) ≡ false → number ≢ n
     differ n e = grind (arith, nat_tests)
-
-    unless_same : (b : Bool) (n : ℕ) → (1 ≤ n) × (n ≤ MOST_PLACE) → (b ≡ false → number ≢ n) → IfOk (cond b (Err OutOfRange) (Ok n)) (IsAnother number)
-    unless_same true n r h = tt
-    unless_same false n r h = (r, h refl)
 
 interchange_is : (d : Data) → IfOk (interchange_of d) IsInterchange
 interchange_is d =
@@ -237,18 +287,18 @@ interchanges_are places ms =
     with_each_keeps (λ interchanges _. All IsInterchange interchanges) (with_interchange places) (λ before d ds all.
     IfOk_then IsInterchange (All IsInterchange) (another_interchange places before d) _
     (IfOk_then IsInterchange IsInterchange (interchange_of d) _ (interchange_is d) (λ pair h.
-    IfOk_cond IsInterchange (joins_stations places pair) (unless_joined before pair) UnknownPlace (λ _. IfOk_unless IsInterchange (has_interchange before pair) (Ok pair) Duplicate h))) (λ pair h.
+    IfOk_cond IsInterchange (joins_stations places pair) (unless_joined before pair) UnknownPlace (λ _. IfOk_unless IsInterchange (has_interchange before pair) (Ok pair) Duplicate (λ _. h)))) (λ pair h.
     All-append IsInterchange before (pair ∷ []) all (All-cons IsInterchange pair [] h (All-nil IsInterchange)))) [] items (All-nil IsInterchange))
 
 -- ---- the file
 
 pub fare_file_is : (ms : Members) → IfOk (fare_file ms) IsFareTables
 fare_file_is ms =
-    IfOk_then (λ n. (1 ≤ n) × (n ≤ MOST_ZONES)) IsFareTables (zones_at ms) _
-    (IfOk_unless (λ n. (1 ≤ n) × (n ≤ MOST_ZONES)) (is_some (get_member (codes "band") ms)) _ BandsNotYet (needed_integer 1 MOST_ZONES (get_member (codes "zones") ms))) (λ zones z.
+    integer_then IsFareTables (codes "zones") 1 MOST_ZONES ms _ (λ zones z.
     IfOk_then (λ ns. AreMinutes zones ns no_items) IsFareTables (minutes_at zones ms) _ (minutes_are zones ms) (λ minutes m.
     IfOk_then AreRules IsFareTables (table_at (codes "rules") ms >>= rules_of) _ (IfOk_after AreRules (table_at (codes "rules") ms) rules_of rules_are) (λ rules r.
     IfOk_then (AreSingles zones) IsFareTables (singles_at zones ms) _ (singles_are zones ms) (λ singles s.
+    IfOk_then (λ bands. AreBands zones bands no_items) IsFareTables (bands_at zones ms) _ (bands_are zones ms) (λ bands b.
     IfOk_after IsFareTables (holidays_at ms) _ (λ holidays.
     IfOk_then (ArePlaces zones) IsFareTables (places_at zones ms) _ (places_are zones z.0 ms) (λ places p.
     IfOk_then (All IsInterchange) IsFareTables (interchanges_at places ms) _ (interchanges_are places ms) (λ interchanges i.
@@ -259,6 +309,8 @@ fare_file_is ms =
       rules = r;
       singles = s.0;
       each_span = each_span singles zones s.1;
+      bands = b.0;
+      few_bands = omega (arith, b.1);
       places = p;
       interchanges = i;
-    })))))))
+    }))))))))

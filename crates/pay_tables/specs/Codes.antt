@@ -1,10 +1,13 @@
 -- How places, rules and tables are stored as numbers, so that a model may hold them.
-use Rattle.std.specs.Prelude.{◌≡◌, ℕ, ◌⊎◌, List, refl}
+use Rattle.std.specs.Prelude.{◌≡◌, ℕ, ◌⊎◌, List, Option, Some, None, refl}
 use Rattle.std.proofs.Common.{inl, inr}
 use Rattle.std.specs.Ordering.{nat_cmp}
 use Rattle.std.specs.FinMap as map
 use Rattle.std.specs.FinMap.{FinMap}
-use Rattle.std.specs.Coded.{Coded, code_by, coded×, coded⊎, coded_ℕ, coded_list}
+use Rattle.std.specs.Coded.{Coded, code_by, coded×, coded⊎, coded_ℕ, coded_list, coded_option}
+use Rattle.pay_tables.specs.declared.band.Band.{Band}
+use Rattle.pay_tables.specs.declared.band.Cover.{Cover}
+use Rattle.pay_tables.specs.declared.band.Cover.TheVariants.{Buses, Zones}
 use Rattle.pay_tables.specs.declared.place.Place.{Place}
 use Rattle.pay_tables.specs.declared.place.Place.TheVariants.{Station, Route}
 use Rattle.pay_tables.specs.declared.rules.Rules.{Rules}
@@ -42,19 +45,39 @@ single_code =
     (λ p. record { span = record { from = p.0.0; to = p.0.1 }; peak = p.1.0; off = p.1.1 })
     (λ _. refl)
 
--- an interchange likewise
+abbrev cover_zones : Cover → Option (ℕ × ℕ)
+cover_zones Buses = None
+cover_zones (Zones span) = Some (span.from, span.to)
+
+abbrev cover_of_zones : Option (ℕ × ℕ) → Cover
+cover_of_zones None = Buses
+cover_of_zones (Some p) = Zones (record { from = p.0; to = p.1 })
+
+pub cover_of_zones-cover_zones : (c : Cover) → cover_of_zones (cover_zones c) ≡ c
+cover_of_zones-cover_zones Buses = refl
+cover_of_zones-cover_zones (Zones span) = refl
+
+-- what a band covers is stored as its zones, which that of the buses has none of
+abbrev pub cover_code : Coded Cover
+cover_code = code_by (Option (ℕ × ℕ)) (coded_option (coded× coded_ℕ coded_ℕ)) cover_zones cover_of_zones cover_of_zones-cover_zones
+
+-- a band is stored as that and its caps
+abbrev pub band_code : Coded Band
+band_code = code_by (Cover × (ℕ × ℕ)) (coded× cover_code (coded× coded_ℕ coded_ℕ)) (λ b. (b.cover, (b.day, b.week))) (λ p. record { cover = p.0; day = p.1.0; week = p.1.1 }) (λ _. refl)
+
+-- an interchange is stored as the tuple of its numbers
 abbrev pub interchange_code : Coded Interchange
 interchange_code = code_by (ℕ × (ℕ × ℕ)) (coded× coded_ℕ (coded× coded_ℕ coded_ℕ)) (λ i. (i.a, (i.b, i.seconds))) (λ p. record { a = p.0; b = p.1.0; seconds = p.1.1 }) (λ _. refl)
 
 -- the parts of what a file says
 abbrev pub FareTablesParts : Type 0
-FareTablesParts = (ℕ × List ℕ) × ((Rules × List Single) × ((List ℕ × FinMap nat_cmp Place) × List Interchange))
+FareTablesParts = (ℕ × List ℕ) × ((Rules × (List Single × List Band)) × ((List ℕ × FinMap nat_cmp Place) × List Interchange))
 
 -- what a file says is stored as the tuple of its parts
 abbrev pub fare_tables_code : Coded FareTables
 fare_tables_code =
     code_by FareTablesParts
-    (coded× (coded× coded_ℕ (coded_list coded_ℕ)) (coded× (coded× rules_code (coded_list single_code)) (coded× (coded× (coded_list coded_ℕ) (map.code coded_ℕ place_code)) (coded_list interchange_code))))
-    (λ t. ((t.zones, t.minutes), ((t.rules, t.singles), ((t.holidays, t.places), t.interchanges))))
-    (λ p. record { zones = p.0.0; minutes = p.0.1; rules = p.1.0.0; singles = p.1.0.1; holidays = p.1.1.0.0; places = p.1.1.0.1; interchanges = p.1.1.1 })
+    (coded× (coded× coded_ℕ (coded_list coded_ℕ)) (coded× (coded× rules_code (coded× (coded_list single_code) (coded_list band_code))) (coded× (coded× (coded_list coded_ℕ) (map.code coded_ℕ place_code)) (coded_list interchange_code))))
+    (λ t. ((t.zones, t.minutes), ((t.rules, (t.singles, t.bands)), ((t.holidays, t.places), t.interchanges))))
+    (λ p. record { zones = p.0.0; minutes = p.0.1; rules = p.1.0.0; singles = p.1.0.1.0; bands = p.1.0.1.1; holidays = p.1.1.0.0; places = p.1.1.0.1; interchanges = p.1.1.1 })
     (λ _. refl)

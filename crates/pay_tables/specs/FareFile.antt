@@ -1,14 +1,17 @@
 -- What a fare file says: its keys in order, and the first fault.
-use Rattle.std.specs.Prelude.{ℕ, ◌+◌, ◌-◌, ◌==◌, ◌&&◌, min, nat_eq, Bool, true, false, List, [], ◌∷◌, ◌++◌, Option, Some, None, Result, Ok, Err, codes, is_some, if◌then◌else◌}
+use Rattle.std.specs.Prelude.{ℕ, ◌+◌, ◌-◌, ◌==◌, ◌&&◌, min, nat_eq, Bool, true, false, List, [], ◌∷◌, ◌++◌, Option, Some, None, Result, Ok, Err, codes, if◌then◌else◌}
 use Rattle.std.specs.List.{list_all, list_any, range_with_len}
 use Rattle.std.specs.Ordering.{nat_cmp}
 use Rattle.std.specs.FinMap.{FinMap, contains_key, empty, get, insert}
-use Rattle.toml.specs.Data.{Data, Items, no_items, item, Members, get_member}
+use Rattle.toml.specs.Data.{Data, Items, no_items, item, Members}
 use Rattle.toml.specs.Parse.{parse_document}
 use Rattle.pay_day.specs.declared.limits.TheConstants.{FIRST_DAY, LAST_DAY}
-use Rattle.pay_tables.specs.declared.limits.TheConstants.{MOST_ZONES, MOST_MINUTES, MOST_FARE, MOST_HOPPER_SECONDS, MOST_SAME_SECONDS, MOST_INTERCHANGE_SECONDS, MOST_PLACE, MOST_OPERATORS, MOST_HOLIDAYS, MOST_PLACES, MOST_INTERCHANGES}
+use Rattle.pay_tables.specs.declared.limits.TheConstants.{MOST_ZONES, MOST_MINUTES, MOST_FARE, MOST_HOPPER_SECONDS, MOST_SAME_SECONDS, MOST_INTERCHANGE_SECONDS, MOST_PLACE, MOST_OPERATORS, MOST_HOLIDAYS, MOST_PLACES, MOST_INTERCHANGES, MOST_BANDS}
+use Rattle.pay_tables.specs.declared.band.Band.{Band}
+use Rattle.pay_tables.specs.declared.band.Cover.{Cover}
+use Rattle.pay_tables.specs.declared.band.Cover.TheVariants.{Buses, Zones}
 use Rattle.pay_tables.specs.declared.fault.FareFileFault.{FareFileFault}
-use Rattle.pay_tables.specs.declared.fault.FareFileFault.TheVariants.{NotToml, MissingKey, OutOfRange, Duplicate, UnknownPlace, BandsNotYet}
+use Rattle.pay_tables.specs.declared.fault.FareFileFault.TheVariants.{NotToml, MissingKey, OutOfRange, Duplicate, UnknownPlace}
 use Rattle.pay_tables.specs.declared.interchange.Interchange.{Interchange}
 use Rattle.pay_tables.specs.declared.place.Place.{Place}
 use Rattle.pay_tables.specs.declared.place.Place.TheVariants.{Station, Route}
@@ -19,6 +22,7 @@ use Rattle.pay_tables.specs.Fault.{◌>>=◌}
 use Rattle.pay_tables.specs.FareTables.{FareTables, is_between}
 use Rattle.pay_tables.specs.Keys.{array_at, integer_at, integer_of, items_at, items_len, table_of, table_at}
 use Rattle.pay_tables.specs.Spans.{same_span}
+use Rattle.pay_tables.specs.Bands.{same_cover}
 
 -- what was said before some items, and what each of them adds to it, in order
 abbrev pub with_each : {X : Type 0} → (X → Data → Result X FareFileFault) → X → Items → Result X FareFileFault
@@ -93,6 +97,48 @@ singles_at zones ms = do
   items ← array_at (codes "single") ms
   singles ← with_each (with_single zones) [] items
   complete zones singles
+
+-- the greatest last zone of a band that begins at a zone: one from 0 is that of the buses, and ends there
+abbrev pub greatest_to : ℕ → ℕ → ℕ
+greatest_to zones from = if from == 0 then 0 else zones
+
+-- what is covered from one zone to another: from 0 on the buses
+abbrev pub cover_from : ℕ → ℕ → Cover
+cover_from from to = if from == 0 then Buses else Zones (record { from = from; to = to })
+
+abbrev pub cover_at : ℕ → Members → Result Cover FareFileFault
+cover_at zones ms = do
+  from ← integer_at (codes "from") 0 zones ms
+  to ← integer_at (codes "to") from (greatest_to zones from) ms
+  Ok (cover_from from to)
+
+-- a band: what it covers, and its two caps
+abbrev pub band_of : ℕ → Data → Result Band FareFileFault
+band_of zones d = do
+  ms ← table_of d
+  cover ← cover_at zones ms
+  day ← integer_at (codes "day") 0 MOST_FARE ms
+  week ← integer_at (codes "week") 0 MOST_FARE ms
+  Ok (record { cover = cover; day = day; week = week })
+
+-- whether there is a band with the same cover
+abbrev pub has_band : List Band → Cover → Bool
+has_band bands cover = list_any (λ band. same_cover cover band.cover) bands
+
+-- one more band, of a cover that has none
+abbrev pub another_band : ℕ → List Band → Data → Result Band FareFileFault
+another_band zones before d = do
+  band ← band_of zones d
+  if has_band before band.cover then Err Duplicate else Ok band
+
+abbrev pub with_band : ℕ → List Band → Data → Result (List Band) FareFileFault
+with_band zones before d = do
+  band ← another_band zones before d
+  Ok (before ++ band ∷ [])
+
+-- the bands
+abbrev pub bands_at : ℕ → Members → Result (List Band) FareFileFault
+bands_at zones ms = items_at (codes "band") MOST_BANDS ms >>= with_each (with_band zones) []
 
 -- whether a day is among the holidays
 abbrev pub has_holiday : List ℕ → ℕ → Bool
@@ -203,9 +249,9 @@ with_interchange places before d = do
 abbrev pub interchanges_at : FinMap nat_cmp Place → Members → Result (List Interchange) FareFileFault
 interchanges_at places ms = items_at (codes "interchange") MOST_INTERCHANGES ms >>= with_each (with_interchange places) []
 
--- how many fare zones there are, of a file without bands
+-- how many fare zones there are
 abbrev pub zones_at : Members → Result ℕ FareFileFault
-zones_at ms = if is_some (get_member (codes "band") ms) then Err BandsNotYet else integer_at (codes "zones") 1 MOST_ZONES ms
+zones_at ms = integer_at (codes "zones") 1 MOST_ZONES ms
 
 -- what a file says, where it is a document
 abbrev pub fare_file : Members → Result FareTables FareFileFault
@@ -214,10 +260,11 @@ fare_file ms = do
   minutes ← minutes_at zones ms
   rules ← table_at (codes "rules") ms >>= rules_of
   singles ← singles_at zones ms
+  bands ← bands_at zones ms
   holidays ← holidays_at ms
   places ← places_at zones ms
   interchanges ← interchanges_at places ms
-  Ok (record { zones = zones; minutes = minutes; rules = rules; singles = singles; holidays = holidays; places = places; interchanges = interchanges })
+  Ok (record { zones = zones; minutes = minutes; rules = rules; singles = singles; bands = bands; holidays = holidays; places = places; interchanges = interchanges })
 
 abbrev pub fare_document : Option Members → Result FareTables FareFileFault
 fare_document None = Err NotToml

@@ -2,15 +2,18 @@
 use Rattle.std.specs.Prelude.{◌≡◌, ◌≢◌, ℕ, ◌+◌, ◌*◌, ◌-◌, ◌≤◌, ◌==◌, ◌&&◌, ◌||◌, nat_eq, Bool, if◌then◌else◌, List, length, All, slice_index, Option, Some, None, IfSome, IsSome, unwrap_or}
 use Rattle.std.specs.List.{list_any, find}
 use Rattle.std.specs.Ordering.{nat_cmp}
-use Rattle.std.specs.FinMap.{FinMap, get}
+use Rattle.std.specs.FinMap.{FinMap, get, len}
+use Rattle.pay_tables.specs.declared.band.Band.{Band}
+use Rattle.pay_tables.specs.declared.counts.Counts.{Counts}
 use Rattle.pay_tables.specs.declared.interchange.Interchange.{Interchange}
-use Rattle.pay_tables.specs.declared.limits.TheConstants.{MOST_ZONES, MOST_MINUTES, MOST_FARE, MOST_HOPPER_SECONDS, MOST_SAME_SECONDS, MOST_INTERCHANGE_SECONDS, MOST_PLACE, MOST_OPERATORS}
+use Rattle.pay_tables.specs.declared.limits.TheConstants.{MOST_ZONES, MOST_MINUTES, MOST_FARE, MOST_HOPPER_SECONDS, MOST_SAME_SECONDS, MOST_INTERCHANGE_SECONDS, MOST_PLACE, MOST_OPERATORS, MOST_BANDS}
 use Rattle.pay_tables.specs.declared.place.Place.{Place}
 use Rattle.pay_tables.specs.declared.place.Place.TheVariants.{Station, Route}
 use Rattle.pay_tables.specs.declared.rules.Rules.{Rules}
 use Rattle.pay_tables.specs.declared.single.Single.{Single}
 use Rattle.pay_tables.specs.declared.zones.Span.{Span}
 use Rattle.pay_tables.specs.Spans.{IsSpan, same_span}
+use Rattle.pay_tables.specs.Bands.{IsBand}
 
 -- what rules may say
 pub record AreRules (r : Rules) : Type 0 where
@@ -50,6 +53,8 @@ pub record FareTables : Type 0 where
   pub minutes : List ℕ
   pub rules : Rules
   pub singles : List Single
+  -- the caps
+  pub bands : List Band
   pub holidays : List ℕ
   -- the stations and routes by their numbers
   pub places : FinMap nat_cmp Place
@@ -90,6 +95,10 @@ seconds_of (Some pair) = Some pair.seconds
 abbrev pub interchange : FareTables → ℕ → ℕ → Option ℕ
 interchange tables a b = seconds_of (find (is_between a b) tables.interchanges)
 
+-- how much of each kind a fare file has
+abbrev pub counts : FareTables → Counts
+counts tables = record { places = len tables.places; bands = length tables.bands; interchanges = length tables.interchanges; holidays = length tables.holidays }
+
 -- each number is in its range, and each span within the zones has a single fare
 pub record IsFareTables (t : FareTables) : Type 0 where
   pub zones : (1 ≤ t.zones) × (t.zones ≤ MOST_ZONES)
@@ -98,5 +107,7 @@ pub record IsFareTables (t : FareTables) : Type 0 where
   pub rules : AreRules t.rules
   pub singles : All (IsSingle t.zones) t.singles
   pub each_span : (span : Span) → IsSpan t.zones span → IsSome (single_of_span t span)
+  pub bands : All (IsBand t.zones) t.bands
+  pub few_bands : length t.bands ≤ MOST_BANDS
   pub places : (number : ℕ) → IfSome (get t.places number) (IsPlace t.zones)
   pub interchanges : All IsInterchange t.interchanges

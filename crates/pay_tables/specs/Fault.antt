@@ -1,7 +1,7 @@
 -- The refusals of a fare file, and what it is to answer by a definition.
 use Rattle.std.specs.Prelude.{◌≡◌, ◌≢◌, ℕ, List, codes, Result, Ok, Err, MatchResult}
 use Rattle.pay_tables.specs.declared.fault.FareFileFault.{FareFileFault}
-use Rattle.pay_tables.specs.declared.fault.FareFileFault.TheVariants.{NotToml, MissingKey, WrongType, OutOfRange, Duplicate, UnknownPlace, TooMany, BandsNotYet, Memory}
+use Rattle.pay_tables.specs.declared.fault.FareFileFault.TheVariants.{NotToml, MissingKey, WrongType, OutOfRange, Duplicate, UnknownPlace, TooMany, Memory}
 
 -- the number that is printed for a refusal
 abbrev pub fault_number : FareFileFault → ℕ
@@ -12,7 +12,6 @@ fault_number OutOfRange = 13
 fault_number Duplicate = 14
 fault_number UnknownPlace = 15
 fault_number TooMany = 16
-fault_number BandsNotYet = 61
 fault_number Memory = 90
 
 -- the name that is printed for a refusal
@@ -24,7 +23,6 @@ fault_name OutOfRange = codes "OutOfRange"
 fault_name Duplicate = codes "Duplicate"
 fault_name UnknownPlace = codes "UnknownPlace"
 fault_name TooMany = codes "TooMany"
-fault_name BandsNotYet = codes "BandsNotYet"
 fault_name Memory = codes "Memory"
 
 infixl 10 ◌>>=◌

@@ -6,14 +6,16 @@ use Rattle.std.specs.FinMap.{FinMap, empty, insert, gets}
 use Rattle.toml.specs.Data.{Data, string, integer, array, table, Items, no_items, item, Members, no_members, member}
 use Rattle.toml.specs.Parse.{parse_document}
 use Rattle.toml.proofs.OnLiterals.{toml_on_literals}
-use Rattle.pay_tables.specs.declared.fault.FareFileFault.TheVariants.{NotToml, MissingKey, WrongType, OutOfRange, Duplicate, UnknownPlace, TooMany, BandsNotYet}
+use Rattle.pay_tables.specs.declared.fault.FareFileFault.TheVariants.{NotToml, MissingKey, WrongType, OutOfRange, Duplicate, UnknownPlace, TooMany}
+use Rattle.pay_tables.specs.declared.band.Band.{Band}
+use Rattle.pay_tables.specs.declared.band.Cover.TheVariants.{Buses, Zones}
 use Rattle.pay_tables.specs.declared.interchange.Interchange.{Interchange}
 use Rattle.pay_tables.specs.declared.place.Place.{Place}
 use Rattle.pay_tables.specs.declared.place.Place.TheVariants.{Station, Route}
 use Rattle.pay_tables.specs.declared.single.Single.{Single}
-use Rattle.pay_tables.specs.FareTables.{FareTables, interchange}
+use Rattle.pay_tables.specs.FareTables.{FareTables, interchange, counts}
 use Rattle.pay_tables.specs.Keys.{integer_at, items_at}
-use Rattle.pay_tables.specs.FareFile.{minutes_at, rules_of, singles_at, holidays_at, places_at, interchange_of, is_station, unless_joined, with_interchange, interchanges_at, fare_file, fare_document, fare_text}
+use Rattle.pay_tables.specs.FareFile.{minutes_at, rules_of, singles_at, bands_at, holidays_at, places_at, interchange_of, is_station, unless_joined, with_interchange, interchanges_at, fare_file, fare_document, fare_text}
 
 -- ---- how the rows are written
 
@@ -44,11 +46,15 @@ station place low high operator = table (number (codes "high") high (number (cod
 abbrev route : ℕ → ℕ → Data
 route place operator = table (number (codes "operator") operator (number (codes "place") place no_members))
 
+abbrev cap : ℕ → ℕ → ℕ → ℕ → Data
+cap from to day week = table (number (codes "day") day (number (codes "from") from (number (codes "to") to (number (codes "week") week no_members))))
+
 -- a file of these keys
-abbrev file : ℕ → List ℕ → Members → Items → List ℕ → Items → Items → Members
-file zones minutes r singles holidays stations routes =
-    member (codes "holidays") (array (numbers holidays)) (member (codes "minutes") (array (numbers minutes)) (member (codes "route") (array routes)
-    (member (codes "rules") (table r) (member (codes "single") (array singles) (member (codes "station") (array stations) (number (codes "zones") zones no_members))))))
+abbrev file : ℕ → List ℕ → Members → Items → Items → List ℕ → Items → Items → Members
+file zones minutes r singles bands holidays stations routes =
+    member (codes "band") (array bands) (member (codes "holidays") (array (numbers holidays)) (member (codes "minutes") (array (numbers minutes))
+    (member (codes "route") (array routes) (member (codes "rules") (table r) (member (codes "single") (array singles) (member (codes "station") (array stations)
+    (number (codes "zones") zones no_members)))))))
 
 -- places, put into the map one after another
 abbrev placed : List (ℕ × Place) → FinMap nat_cmp Place
@@ -58,6 +64,13 @@ placed places = fold (λ before place. insert before place.0 place.1) empty plac
 abbrev says : ℕ → ℕ → ℕ → ℕ → Single
 says from to peak off = record { span = record { from = from; to = to }; peak = peak; off = off }
 
+-- what a band says, of zones and of the buses
+abbrev caps : ℕ → ℕ → ℕ → ℕ → Band
+caps from to day week = record { cover = Zones (record { from = from; to = to }); day = day; week = week }
+
+abbrev caps_buses : ℕ → ℕ → Band
+caps_buses day week = record { cover = Buses; day = day; week = week }
+
 -- ---- the sample, without its interchange
 
 abbrev sample_rules : Members
@@ -65,6 +78,9 @@ sample_rules = rules 175 860 3_600 120 1_800
 
 abbrev sample_singles : Items
 sample_singles = item (fare 1 1 280 270) (item (fare 1 2 340 280) (item (fare 1 3 370 300) (item (fare 2 2 200 190) (item (fare 2 3 210 195) (one (fare 3 3 200 180))))))
+
+abbrev sample_bands : Items
+sample_bands = item (cap 0 0 525 2_470) (item (cap 1 2 890 4_470) (one (cap 1 3 1_050 5_250)))
 
 abbrev sample_stations : Items
 sample_stations = item (station 10 1 1 1) (item (station 11 1 2 1) (item (station 12 2 2 2) (item (station 13 2 3 2) (one (station 14 3 3 3)))))
@@ -75,38 +91,38 @@ sample_tables = record {
   minutes = 90 ∷ 100 ∷ 110 ∷ [];
   rules = record { bus = 175; maximum = 860; hopper = 3_600; same_free = 120; same_limit = 1_800 };
   singles = says 1 1 280 270 ∷ says 1 2 340 280 ∷ says 1 3 370 300 ∷ says 2 2 200 190 ∷ says 2 3 210 195 ∷ says 3 3 200 180 ∷ [];
+  bands = caps_buses 525 2_470 ∷ caps 1 2 890 4_470 ∷ caps 1 3 1_050 5_250 ∷ [];
   holidays = 19_723 ∷ [];
   places = placed ((10, Station 1 1 1) ∷ (11, Station 1 2 1) ∷ (12, Station 2 2 2) ∷ (13, Station 2 3 2) ∷ (14, Station 3 3 3) ∷ (50, Route 4) ∷ []);
   interchanges = [];
 }
 
-sample : fare_file (file 3 (90 ∷ 100 ∷ 110 ∷ []) sample_rules sample_singles (19_723 ∷ []) sample_stations (one (route 50 4))) ≡ Ok sample_tables
+sample : fare_file (file 3 (90 ∷ 100 ∷ 110 ∷ []) sample_rules sample_singles sample_bands (19_723 ∷ []) sample_stations (one (route 50 4))) ≡ Ok sample_tables
 sample = simp gets
 
--- holidays, stations and routes may be missing
+how_much : counts sample_tables ≡ record { places = 6; bands = 3; interchanges = 0; holidays = 1 }
+how_much = simp gets
+
+-- bands, holidays, stations and routes may be missing
 least : fare_file (member (codes "minutes") (array (numbers (1 ∷ []))) (member (codes "rules") (table (rules 0 100_000 7_200 0 0)) (member (codes "single") (array (one (fare 1 1 0 100_000))) (number (codes "zones") 1 no_members))))
-    ≡ Ok (record { zones = 1; minutes = 1 ∷ []; rules = record { bus = 0; maximum = 100_000; hopper = 7_200; same_free = 0; same_limit = 0 }; singles = says 1 1 0 100_000 ∷ []; holidays = []; places = empty; interchanges = [] })
+    ≡ Ok (record { zones = 1; minutes = 1 ∷ []; rules = record { bus = 0; maximum = 100_000; hopper = 7_200; same_free = 0; same_limit = 0 }; singles = says 1 1 0 100_000 ∷ []; bands = []; holidays = []; places = empty; interchanges = [] })
 least = refl
 
 -- ---- the order of the keys
 
--- bands come before all else
-bands_first : fare_file (number (codes "band") 1 (number (codes "zones") 0 no_members)) ≡ Err BandsNotYet
-bands_first = refl
-
 nothing : fare_file no_members ≡ Err MissingKey
 nothing = refl
 
-ten_zones : fare_file (file 10 [] sample_rules no_items [] no_items no_items) ≡ Err OutOfRange
+ten_zones : fare_file (file 10 [] sample_rules no_items no_items [] no_items no_items) ≡ Err OutOfRange
 ten_zones = refl
 
-no_zone : fare_file (file 0 [] sample_rules no_items [] no_items no_items) ≡ Err OutOfRange
+no_zone : fare_file (file 0 [] sample_rules no_items no_items [] no_items no_items) ≡ Err OutOfRange
 no_zone = refl
 
 zones_that_are_a_text : fare_file (member (codes "zones") a_text no_members) ≡ Err WrongType
 zones_that_are_a_text = refl
 
--- of two faults the first key's: zones, minutes, rules, single fares, holidays, stations, routes
+-- of two faults the first key's: zones, minutes, rules, single fares, bands, holidays, stations, routes
 zones_before_minutes : fare_file (member (codes "minutes") (integer (pos 1)) (number (codes "zones") 0 no_members)) ≡ Err OutOfRange
 zones_before_minutes = refl
 
@@ -116,13 +132,16 @@ minutes_before_rules = refl
 rules_before_singles : fare_file (member (codes "minutes") (array (numbers (1 ∷ []))) (number (codes "rules") 1 (number (codes "zones") 1 no_members))) ≡ Err WrongType
 rules_before_singles = refl
 
-singles_before_holidays : fare_file (file 1 (90 ∷ []) sample_rules no_items (3 ∷ []) no_items no_items) ≡ Err MissingKey
-singles_before_holidays = refl
+singles_before_bands : fare_file (file 1 (90 ∷ []) sample_rules no_items (one (integer (pos 1))) [] no_items no_items) ≡ Err MissingKey
+singles_before_bands = refl
 
-holidays_before_stations : fare_file (file 1 (90 ∷ []) sample_rules (one (fare 1 1 0 0)) (4 ∷ 4 ∷ []) (one (integer (pos 1))) no_items) ≡ Err Duplicate
+bands_before_holidays : fare_file (file 1 (90 ∷ []) sample_rules (one (fare 1 1 0 0)) (item (cap 0 0 1 1) (one (cap 0 0 1 1))) (3 ∷ []) no_items no_items) ≡ Err Duplicate
+bands_before_holidays = refl
+
+holidays_before_stations : fare_file (file 1 (90 ∷ []) sample_rules (one (fare 1 1 0 0)) no_items (4 ∷ 4 ∷ []) (one (integer (pos 1))) no_items) ≡ Err Duplicate
 holidays_before_stations = refl
 
-stations_before_routes : fare_file (file 1 (90 ∷ []) sample_rules (one (fare 1 1 0 0)) [] (one (station 0 1 1 1)) (one (integer (pos 1)))) ≡ Err OutOfRange
+stations_before_routes : fare_file (file 1 (90 ∷ []) sample_rules (one (fare 1 1 0 0)) no_items [] (one (station 0 1 1 1)) (one (integer (pos 1)))) ≡ Err OutOfRange
 stations_before_routes = refl
 
 -- ---- minutes
@@ -216,6 +235,78 @@ off_too_large = refl
 -- the second item's own keys come before its span is looked for
 off_before_span : singles_at 2 (singles (item (fare 1 1 5 4) (one (fare 1 1 5 100_001)))) ≡ Err OutOfRange
 off_before_span = refl
+
+-- ---- bands of three zones
+
+abbrev bands : Items → Members
+bands items = member (codes "band") (array items) no_members
+
+no_bands : bands_at 3 no_members ≡ Ok []
+no_bands = refl
+
+zones_and_buses : bands_at 3 (bands (item (cap 2 2 100_000 0) (item (cap 0 0 0 100_000) (one (cap 1 3 8 9))))) ≡ Ok (caps 2 2 100_000 0 ∷ caps_buses 0 100_000 ∷ caps 1 3 8 9 ∷ [])
+zones_and_buses = refl
+
+bands_that_are_no_array : bands_at 3 (number (codes "band") 1 no_members) ≡ Err WrongType
+bands_that_are_no_array = refl
+
+band_that_is_no_table : bands_at 3 (bands (one (integer (pos 1)))) ≡ Err WrongType
+band_that_is_no_table = refl
+
+from_beyond : bands_at 3 (bands (one (cap 4 4 0 0))) ≡ Err OutOfRange
+from_beyond = refl
+
+to_beyond : bands_at 3 (bands (one (cap 1 4 0 0))) ≡ Err OutOfRange
+to_beyond = refl
+
+to_below_from : bands_at 3 (bands (one (cap 2 1 0 0))) ≡ Err OutOfRange
+to_below_from = refl
+
+-- the buses have no zone
+buses_to_a_zone : bands_at 3 (bands (one (cap 0 1 0 0))) ≡ Err OutOfRange
+buses_to_a_zone = refl
+
+zones_to_the_buses : bands_at 3 (bands (one (cap 1 0 0 0))) ≡ Err OutOfRange
+zones_to_the_buses = refl
+
+day_too_large : bands_at 3 (bands (one (cap 1 1 100_001 0))) ≡ Err OutOfRange
+day_too_large = refl
+
+week_too_large : bands_at 3 (bands (one (cap 1 1 0 100_001))) ≡ Err OutOfRange
+week_too_large = refl
+
+-- of two faults the first key's: from, to, day, week
+from_before_to : bands_at 3 (bands (one (table (number (codes "to") 4 no_members)))) ≡ Err MissingKey
+from_before_to = refl
+
+to_before_day : bands_at 3 (bands (one (table (member (codes "day") a_text (number (codes "from") 0 (number (codes "to") 1 no_members)))))) ≡ Err OutOfRange
+to_before_day = refl
+
+day_before_week : bands_at 3 (bands (one (table (number (codes "from") 0 (number (codes "to") 0 (number (codes "week") 100_001 no_members)))))) ≡ Err MissingKey
+day_before_week = refl
+
+without_week : bands_at 3 (bands (one (table (number (codes "day") 1 (number (codes "from") 0 (number (codes "to") 0 no_members)))))) ≡ Err MissingKey
+without_week = refl
+
+same_zones : bands_at 3 (bands (item (cap 1 2 1 1) (item (cap 1 3 1 1) (one (cap 1 2 2 2))))) ≡ Err Duplicate
+same_zones = refl
+
+buses_twice : bands_at 3 (bands (item (cap 0 0 1 1) (one (cap 0 0 2 2)))) ≡ Err Duplicate
+buses_twice = refl
+
+-- the second item's own keys come before its cover is looked for
+week_before_cover : bands_at 3 (bands (item (cap 0 0 1 1) (one (cap 0 0 1 100_001)))) ≡ Err OutOfRange
+week_before_cover = refl
+
+-- twelve and thirteen of them, which are none; too many items come before the items
+abbrev three_more : Items → Items
+three_more items = item (integer (pos 1)) (item (integer (pos 1)) (item (integer (pos 1)) items))
+
+twelve : bands_at 3 (bands (three_more (three_more (three_more (three_more no_items))))) ≡ Err WrongType
+twelve = refl
+
+thirteen : bands_at 3 (bands (three_more (three_more (three_more (three_more (one (integer (pos 1)))))))) ≡ Err TooMany
+thirteen = refl
 
 -- ---- holidays
 
@@ -413,6 +504,7 @@ with_interchanges = record {
   minutes = 90 ∷ [];
   rules = record { bus = 175; maximum = 860; hopper = 3_600; same_free = 120; same_limit = 1_800 };
   singles = [];
+  bands = [];
   holidays = [];
   places = empty;
   interchanges = between 10 12 1_200 ∷ between 14 12 600 ∷ [];
@@ -451,6 +543,7 @@ from_file : fare_document (Some short_file)
       minutes = 90 ∷ [];
       rules = record { bus = 175; maximum = 860; hopper = 3_600; same_free = 120; same_limit = 1_800 };
       singles = says 1 1 280 270 ∷ [];
+      bands = [];
       holidays = [];
       places = placed ((50, Route 4) ∷ []);
       interchanges = [];

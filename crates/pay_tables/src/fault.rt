@@ -17,14 +17,12 @@ pub enum FareFileFault {
     /// 13: a number is outside its range, the minutes are not one for each zone, or an interchange
     /// is from a place to itself.
     OutOfRange,
-    /// 14: an item has the span, the day, the place or the two stations of an earlier one.
+    /// 14: an item has the span, the cover, the day, the place or the two stations of an earlier one.
     Duplicate,
     /// 15: an interchange names a place that is no station.
     UnknownPlace,
     /// 16: an array has more items than its limit.
     TooMany,
-    /// 61: the file has fare bands, which are not read yet.
-    BandsNotYet,
     /// 90: memory ran out. The file may be a good one.
     Memory,
 }
@@ -45,7 +43,6 @@ impl FareFileFault {
             FareFileFault::Duplicate => 14,
             FareFileFault::UnknownPlace => 15,
             FareFileFault::TooMany => 16,
-            FareFileFault::BandsNotYet => 61,
             FareFileFault::Memory => 90,
         }
     }
@@ -62,7 +59,6 @@ impl FareFileFault {
             FareFileFault::Duplicate => "Duplicate",
             FareFileFault::UnknownPlace => "UnknownPlace",
             FareFileFault::TooMany => "TooMany",
-            FareFileFault::BandsNotYet => "BandsNotYet",
             FareFileFault::Memory => "Memory",
         }
     }

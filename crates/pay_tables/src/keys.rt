@@ -1,5 +1,5 @@
 //! What stands at one key of a table, or the fault there.
-ghost use Rattle.std.specs.Prelude.{◌≡◌, ◌≤◌, IfOk, is_some, length, option_map};
+ghost use Rattle.std.specs.Prelude.{◌≡◌, ◌≤◌, IfOk, length, option_map};
 ghost use Rattle.toml.specs.Data.{get_member};
 ghost use Rattle.toml.specs.View.{view, table_view, items_view};
 ghost use Rattle.pay_tables.specs.declared.limits.TheConstants.{MOST_FARE};
@@ -16,13 +16,6 @@ fn member<'a>(table: &'a Table, key: &str) -> Option<&'a Value>
     ensures { option_map (λ v. view v.now) result ≡ get_member key.now (table_view table.now) }
 {
     table.get(key)
-}
-
-/// Whether anything stands at a key.
-pub fn has_key(table: &Table, key: &str) -> bool
-    ensures { result ≡ is_some (get_member key.now (table_view table.now)) }
-{
-    member(table, key).is_some()
 }
 
 /// The integer at a key that must be there, if it is from `least` to `most`.

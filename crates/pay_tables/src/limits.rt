@@ -24,6 +24,9 @@ pub const MOST_PLACE: u32 = 65_535;
 /// How many operators there may be: the greatest number of one.
 pub const MOST_OPERATORS: u32 = 16;
 
+/// How many bands a fare file may list.
+pub const MOST_BANDS: usize = 12;
+
 /// How many public holidays a fare file may list.
 pub const MOST_HOLIDAYS: usize = 64;
 

@@ -61,6 +61,13 @@ impl Places {
         }
     }
 
+    /// How many places there are.
+    pub fn len(&self) -> usize
+        ensures { result ≡ map.len self.now }
+    {
+        self.numbers.len()
+    }
+
     /// What stands at a number.
     pub fn get(&self, number: u16) -> Option<Place>
         ensures { result ≡ map.get self.now number }

@@ -1,19 +1,23 @@
-ghost use Rattle.std.specs.Prelude.{◌≡◌, ◌≢◌, ◌≤◌, IfOk, IfErr, IfSome, IsOk, None, Ok, Err, option_map, ◌*◌};
+ghost use Rattle.std.specs.Prelude.{◌≡◌, ◌≢◌, ◌≤◌, IfOk, IfErr, IfSome, IsOk, None, Ok, Err, option_map, ◌*◌, All, length};
 ghost use Rattle.std.specs.FinMap as map;
 ghost use Rattle.std.specs.List.{find};
 ghost use Rattle.toml.specs.Parse.{parse_document};
 ghost use Rattle.toml.specs.View.{table_view};
-ghost use Rattle.pay_tables.specs.declared.limits.TheConstants.{MOST_ZONES, MOST_MINUTES, MOST_FARE, MOST_INTERCHANGE_SECONDS};
+ghost use Rattle.pay_tables.specs.declared.limits.TheConstants.{MOST_ZONES, MOST_MINUTES, MOST_FARE, MOST_INTERCHANGE_SECONDS, MOST_BANDS};
 ghost use Rattle.pay_tables.specs.Fault.{GivesUnlessMemory};
 ghost use Rattle.pay_tables.specs.FareFile.{zones_at, fare_file, fare_text};
-ghost use Rattle.pay_tables.specs.FareTables.{AreRules, IsInterchange, IsPlace, IsSingle, is_between, station_at, single_of_span, single_fare, allowed_seconds, is_holiday, interchange};
+ghost use Rattle.pay_tables.specs.FareTables.{AreRules, IsInterchange, IsPlace, IsSingle, is_between, station_at, single_of_span, single_fare, allowed_seconds, is_holiday, interchange, counts, IsFareTables};
+ghost use Rattle.pay_tables.specs.Bands.{IsBand};
 ghost use Rattle.pay_tables.specs.Spans.{IsSpan};
 
+use crate::band::Band;
+use crate::bands::bands_at;
+use crate::counts::Counts;
 use crate::fault::FareFileFault;
 use crate::holidays::holidays_at;
 use crate::interchange::Interchange;
 use crate::interchanges::interchanges_at;
-use crate::keys::{has_key, integer_at, table_at};
+use crate::keys::{integer_at, table_at};
 use crate::limits::MOST_ZONES;
 use crate::minutes::minutes_at;
 use crate::place::Place;
@@ -34,6 +38,7 @@ pub struct Tables {
     minutes: Vec<u32>,
     rules: Rules,
     singles: Vec<Single>,
+    bands: Vec<Band>,
     holidays: Vec<u32>,
     places: Places,
     interchanges: Vec<Interchange>,
@@ -52,6 +57,7 @@ impl Model for Tables {
       minutes = t.minutes.items;
       rules = t.rules;
       singles = t.singles.items;
+      bands = t.bands.items;
       holidays = t.holidays.items;
       places = t.places;
       interchanges = t.interchanges.items;
@@ -62,20 +68,18 @@ impl Model for Tables {
       minutes = t.minutes.items;
       rules = t.rules;
       singles = t.singles.items;
+      bands = t.bands.items;
       holidays = t.holidays.items;
       places = t.places;
       interchanges = t.interchanges.items;
     }) };
 }
 
-/// How many fare zones there are. A file with bands is refused before all else.
+/// How many fare zones there are.
 fn zones_at(file: &Table) -> Result<u8, FareFileFault>
     ensures value { result ≡ zones_at (table_view file.now) }
     ensures in_range { IfOk result (λ zones. (1 ≤ zones) × (zones ≤ MOST_ZONES)) }
 {
-    if has_key(file, "band") {
-        return Err(FareFileFault::BandsNotYet);
-    }
     let zones = integer_at(file, "zones", 1, MOST_ZONES)?;
     Ok(zones as u8)
 }
@@ -101,6 +105,7 @@ impl Tables {
         let minutes = minutes_at(alloc, file, zones)?;
         let rules = Rules::of(table_at(file, "rules")?)?;
         let singles = singles_at(alloc, file, zones)?;
+        let bands = bands_at(alloc, file, zones)?;
         let holidays = holidays_at(alloc, file)?;
         let places = Places::of(alloc, file, zones)?;
         let interchanges = interchanges_at(alloc, file, &places)?;
@@ -109,6 +114,7 @@ impl Tables {
             minutes,
             rules,
             singles,
+            bands,
             holidays,
             places,
             interchanges,
@@ -185,6 +191,34 @@ impl Tables {
         ensures in_range { (60 ≤ result) × (result ≤ 60 * MOST_MINUTES) }
     {
         60 * self.minutes[usize::from(span.to - span.from)]
+    }
+
+    /// The caps, by what they cover. No two cover the same.
+    pub fn bands(&self) -> &[Band]
+        ensures value { result.now ≡ self.now.bands }
+        ensures in_range { All (IsBand self.now.zones) result.now }
+        ensures few { length result.now ≤ MOST_BANDS }
+    {
+        &self.bands
+    }
+
+    /// How much of each kind there is.
+    pub fn counts(&self) -> Counts
+        ensures { result ≡ counts self.now }
+    {
+        Counts {
+            places: self.places.len(),
+            bands: self.bands.len(),
+            interchanges: self.interchanges.len(),
+            holidays: self.holidays.len(),
+        }
+    }
+
+    /// Does nothing: what it tells is true of the tables of every fare file.
+    pub(crate) fn in_range(&self)
+        ensures { IsFareTables self.now }
+    {
+        let _ = &self.zones;
     }
 
     /// Whether a service day is a public holiday.

@@ -13,6 +13,7 @@ invariant_of-result c =
       minutes = c.in_ok-minutes.minutes.items;
       rules = c.in_ok-rules.rules;
       singles = c.in_ok-singles.singles.items;
+      bands = c.in_ok-bands.bands.items;
       holidays = c.in_ok-holidays.holidays.items;
       places = c.in_ok-places.places;
       interchanges = c.in_ok-interchanges.interchanges.items;
