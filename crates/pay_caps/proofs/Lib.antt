@@ -1,0 +1,10 @@
+pub mod Ranges
+pub mod Bools
+pub mod Sums
+pub mod AllSpans
+pub mod Weights
+pub mod Steps
+pub mod SpanSums
+pub mod CellLaws
+pub mod Lowest
+pub mod Prices

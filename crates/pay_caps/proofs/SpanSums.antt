@@ -1,0 +1,98 @@
+-- What the calls of cells do with the sums of spans.
+use Rattle.std.proofs.Common.{◌≡◌, ℕ, ◌+◌, ◌-◌, ◌≤◌, ◌<◌, Bool, true, false, not, if◌then◌else◌, List, map, length, set, get_or, drop, refl, ap, sym, ◌∙◌, subst, arith}
+use Rattle.std.specs.Prelude.{sum}
+use Rattle.std.proofs.lemmas.Grind.{get_or_default_zero}
+use Rattle.pay_tables.specs.declared.band.Cover.{Cover}
+use Rattle.pay_tables.specs.declared.limits.TheConstants.{MOST_ZONES}
+use Rattle.pay_tables.specs.declared.zones.Span.{Span}
+use Rattle.pay_tables.specs.Bands.{covers_span}
+use Rattle.pay_tables.specs.Spans.{IsSpan, same_span}
+use Rattle.pay_caps.specs.declared.cell.Cell.{Cell}
+use Rattle.pay_caps.specs.declared.cell.Cell.TheVariants.{Rail, Buses, Maximum}
+use Rattle.pay_caps.specs.declared.limits.TheConstants.{SPANS}
+use Rattle.pay_caps.specs.CellSums.{CellSums}
+use Rattle.pay_caps.specs.Covers.{IsCell}
+use Rattle.pay_caps.specs.Cells.{AreSums, all_spans, span_at, place_of, added, taken, changed_at, sum_at, sum_where, spans_outside}
+use Rattle.pay_caps.proofs.Sums.{if_passed}
+use Rattle.pay_caps.proofs.AllSpans.{at_its_place}
+use Rattle.pay_caps.proofs.Weights.{weighed, weighed_at, weighs_at_most, weighs_more, changed_is_set, place_below}
+use Rattle.pay_caps.proofs.Steps.{weighs_from, half_cleared, one_cleared, cleared_at_most, cleared_length}
+
+abbrev sums : List ℕ → ℕ → ℕ → CellSums
+sums spans buses maximum = record { spans = spans; buses = buses; maximum = maximum }
+
+-- what stands at a place, however it is asked for
+there : (spans : List ℕ) (place n : ℕ) → place < length spans → n ≡ get_or spans place n → n ≡ get_or spans place 0
+there spans place n below is = is ∙ get_or_default_zero spans place n below
+
+changed_is : (span : Span) (f : ℕ → ℕ) (spans : List ℕ) (place n : ℕ) → IsSpan MOST_ZONES span → length spans ≡ SPANS → place ≡ place_of span → n ≡ get_or spans place n
+    → set spans place (f n) ≡ changed_at span f spans
+changed_is span f spans place n within all is stands =
+    let below : place < length spans = subst (λ (i : ℕ). i < length spans) (sym is) (omega (arith, all, place_below (place_of span) (map (λ (one : Span). same_span one span) all_spans) (at_its_place span within))) in
+    ap (λ (m : ℕ). set spans place (f m)) (there spans place n below stands)
+    ∙ ap (λ (i : ℕ). set spans i (f (get_or spans i 0))) is
+    ∙ sym (changed_is_set (λ (one : Span). same_span one span) f (place_of span) all_spans spans (at_its_place span within) all)
+
+within_of : (cell : Cell) (span : Span) → cell ≡ Rail span → IsCell MOST_ZONES cell → IsSpan MOST_ZONES span
+within_of cell span is within = subst (IsCell MOST_ZONES) is within
+
+pub added_to_span : (cell : Cell) (span : Span) (fare place n : ℕ) (spans : List ℕ) (buses maximum : ℕ) (self : CellSums) → cell ≡ Rail span → IsCell MOST_ZONES cell → sums spans buses maximum ≡ self
+    → length spans ≡ SPANS → place ≡ place_of span → n ≡ get_or spans place n → (now : ℕ) → now ≡ get_or spans place n + fare → sums (set spans place now) buses maximum ≡ added cell fare self
+added_to_span cell span fare place n spans buses maximum self is within same all at stands now grown =
+    ap (λ (m : ℕ). sums (set spans place m) buses maximum) (grown ∙ ap (λ (m : ℕ). m + fare) (sym stands))
+    ∙ ap (λ (ns : List ℕ). sums ns buses maximum) (changed_is span (λ m. m + fare) spans place n (within_of cell span is within) all at stands)
+    ∙ ap (added (Rail span) fare) same ∙ ap (λ (c : Cell). added c fare self) (sym is)
+
+pub taken_from_span : (cell : Cell) (span : Span) (fare place n : ℕ) (spans : List ℕ) (buses maximum : ℕ) (self : CellSums) → cell ≡ Rail span → IsCell MOST_ZONES cell → sums spans buses maximum ≡ self
+    → length spans ≡ SPANS → place ≡ place_of span → n ≡ get_or spans place n → (now : ℕ) → now ≡ get_or spans place n - fare → sums (set spans place now) buses maximum ≡ taken cell fare self
+taken_from_span cell span fare place n spans buses maximum self is within same all at stands now less =
+    ap (λ (m : ℕ). sums (set spans place m) buses maximum) (less ∙ ap (λ (m : ℕ). m - fare) (sym stands))
+    ∙ ap (λ (ns : List ℕ). sums ns buses maximum) (changed_is span (λ m. m - fare) spans place n (within_of cell span is within) all at stands)
+    ∙ ap (taken (Rail span) fare) same ∙ ap (λ (c : Cell). taken c fare self) (sym is)
+
+-- a sum that is there can be taken
+pub is_there : (cell : Cell) (span : Span) (fare place n : ℕ) (spans : List ℕ) (buses maximum : ℕ) (self : CellSums) → cell ≡ Rail span → IsCell MOST_ZONES cell → sums spans buses maximum ≡ self
+    → length spans ≡ SPANS → place ≡ place_of span → n ≡ get_or spans place n → fare ≤ sum_at cell self → fare ≤ get_or spans place n
+is_there cell span fare place n spans buses maximum self is within same all at stands enough =
+    let stands_once = at_its_place span (within_of cell span is within) in
+    let below : place < length spans = subst (λ (i : ℕ). i < length spans) (sym at) (omega (arith, all, place_below (place_of span) (map (λ (one : Span). same_span one span) all_spans) stands_once)) in
+    let its : sum_at cell self ≡ n =
+    ap (λ (c : Cell). sum_at c self) is ∙ ap (sum_at (Rail span)) (sym same) ∙ weighed_at (λ (one : Span). same_span one span) (place_of span) all_spans spans stands_once all
+    ∙ ap (λ (i : ℕ). get_or spans i 0) (sym at) ∙ sym (there spans place n below stands) in
+    omega (arith, its, enough, stands)
+
+-- what was added is there
+pub added_there : (cell : Cell) (fare : ℕ) (self now : CellSums) → IsCell MOST_ZONES cell → length self.spans ≡ SPANS → now ≡ added cell fare self → sum_at cell now ≡ sum_at cell self + fare
+added_there (Rail span) fare self now within all is =
+    ap (sum_at (Rail span)) is
+    ∙ weighs_more (λ (one : Span). same_span one span) (λ (one : Span). same_span one span) fare true (λ _ e. e) (place_of span) all_spans self.spans (at_its_place span within) all
+added_there Buses fare self now within all is = ap (sum_at Buses) is
+added_there Maximum fare self now within all is = ap (sum_at Maximum) is
+
+-- ---- outside of a band
+
+chosen : (covered : Bool) (n : ℕ) → (if covered then 0 else n) ≡ if_passed (not covered) n
+chosen true n = refl
+chosen false n = refl
+
+-- one span more
+pub outside_from : (cover : Cover) (spans : List ℕ) (place n : ℕ) → place < SPANS → length spans ≡ SPANS → n ≡ (if covers_span cover (span_at place) then 0 else get_or spans place 0)
+    → weighed (λ span. not (covers_span cover span)) (drop place all_spans) (drop place spans)
+    ≡ n + weighed (λ span. not (covers_span cover span)) (drop (place + 1) all_spans) (drop (place + 1) spans)
+outside_from cover spans place n below all is =
+    let from = weighs_from (λ (span : Span). not (covers_span cover span)) all_spans spans place (record { from = 0; to = 0 }) 0 below all in
+    omega (arith, from, is, chosen (covers_span cover (span_at place)) (get_or spans place 0))
+
+pub outside_is_part : (cover : Cover) (spans : List ℕ) → sum_where (λ span. not (covers_span cover span)) spans ≤ sum spans
+outside_is_part cover spans = weighs_at_most (λ (span : Span). not (covers_span cover span)) all_spans spans
+
+pub cleared_from : (cover : Cover) (spans : List ℕ) (place n : ℕ) → place < SPANS → length spans ≡ SPANS → n ≡ (if covers_span cover (span_at place) then 0 else get_or spans place 0)
+    → half_cleared (covers_span cover) all_spans (set spans place n) (place + 1) ≡ half_cleared (covers_span cover) all_spans spans place
+cleared_from cover spans place n below all is = one_cleared (covers_span cover) all_spans spans place (record { from = 0; to = 0 }) n below all is
+
+-- what a band leaves outside of sums are sums
+pub are_outside : (cover : Cover) (spans : List ℕ) (buses maximum : ℕ) (left : List ℕ) → AreSums (sums spans buses maximum) → left ≡ spans_outside cover spans → AreSums (sums left 0 maximum)
+are_outside cover spans buses maximum left are is = record {
+  spans = ap length is ∙ cleared_length (covers_span cover) all_spans spans are.spans;
+  fits = omega (arith, are.fits, ap sum is, cleared_at_most (covers_span cover) all_spans spans);
+}

@@ -1,0 +1,53 @@
+-- One span after another.
+use Rattle.std.proofs.Common.{◌≡◌, ℕ, ◌+◌, ◌≤◌, ◌<◌, zero, suc, Bool, true, false, if◌then◌else◌, List, [], ◌∷◌, ◌++◌, map, length, set, get_or, take, drop, add-one, refl, ap, arith}
+use Rattle.std.specs.Prelude.{sum}
+use Rattle.std.specs.List.{zip}
+use Rattle.std.proofs.lemmas.List.Sums.{sum_by-cons}
+use Rattle.pay_caps.proofs.Sums.{if_passed}
+use Rattle.pay_caps.proofs.Weights.{weighed}
+
+-- what weighs from a place on is the item there, and what weighs behind it
+weighs_from_at : {X : Type 0} (g : X → Bool) (xs : List X) (ns : List ℕ) (i : ℕ) (d : X) (e : ℕ) → i < length xs → length ns ≡ length xs
+    → weighed g (drop i xs) (drop i ns) ≡ if_passed (g (get_or xs i d)) (get_or ns i e) + weighed g (drop (suc i) xs) (drop (suc i) ns)
+weighs_from_at g [] ns i d e below len = absurd (omega (arith, below))
+weighs_from_at g (x ∷ xs) [] i d e below len = absurd (omega (arith, len))
+weighs_from_at {X} g (x ∷ xs) (n ∷ ns) zero d e below len = sum_by-cons (λ (one : X × ℕ). if g one.0 then one.1 else 0) (x, n) (zip xs ns)
+weighs_from_at g (x ∷ xs) (n ∷ ns) (suc i) d e below len = weighs_from_at g xs ns i d e (omega (arith, below)) (omega (arith, len))
+
+pub weighs_from : {X : Type 0} (g : X → Bool) (xs : List X) (ns : List ℕ) (i : ℕ) (d : X) (e : ℕ) → i < length xs → length ns ≡ length xs
+    → weighed g (drop i xs) (drop i ns) ≡ if_passed (g (get_or xs i d)) (get_or ns i e) + weighed g (drop (i + 1) xs) (drop (i + 1) ns)
+weighs_from g xs ns i d e below len = rw (add-one i) (weighs_from_at g xs ns i d e below len)
+
+-- numbers beside items, without those whose items pass
+abbrev pub cleared : {X : Type 0} → (X → Bool) → List X → List ℕ → List ℕ
+cleared {X} c xs ns = map (λ (one : X × ℕ). if c one.0 then 0 else one.1) (zip xs ns)
+
+-- the front of a list that is done, and what is left of it to be cleared
+abbrev pub half_cleared : {X : Type 0} → (X → Bool) → List X → List ℕ → ℕ → List ℕ
+half_cleared c xs ns i = take i ns ++ cleared c (drop i xs) (drop i ns)
+
+one_cleared_at : {X : Type 0} (c : X → Bool) (xs : List X) (ns : List ℕ) (i : ℕ) (d : X) → i < length xs → length ns ≡ length xs
+    → half_cleared c xs (set ns i (if c (get_or xs i d) then 0 else get_or ns i 0)) (suc i) ≡ half_cleared c xs ns i
+one_cleared_at c [] ns i d below len = absurd (omega (arith, below))
+one_cleared_at c (x ∷ xs) [] i d below len = absurd (omega (arith, len))
+one_cleared_at c (x ∷ xs) (n ∷ ns) zero d below len = refl
+one_cleared_at c (x ∷ xs) (n ∷ ns) (suc i) d below len = ap (λ (rest : List ℕ). n ∷ rest) (one_cleared_at c xs ns i d (omega (arith, below)) (omega (arith, len)))
+
+pub one_cleared : {X : Type 0} (c : X → Bool) (xs : List X) (ns : List ℕ) (i : ℕ) (d : X) (n : ℕ) → i < length xs → length ns ≡ length xs → n ≡ (if c (get_or xs i d) then 0 else get_or ns i 0)
+    → half_cleared c xs (set ns i n) (i + 1) ≡ half_cleared c xs ns i
+one_cleared c xs ns i d n below len e = rw (e, add-one i) (one_cleared_at c xs ns i d below len)
+
+pub cleared_at_most : {X : Type 0} (c : X → Bool) (xs : List X) (ns : List ℕ) → sum (cleared c xs ns) ≤ sum ns
+cleared_at_most c [] ns = omega arith
+cleared_at_most c (x ∷ xs) [] = omega arith
+cleared_at_most c (x ∷ xs) (n ∷ ns) =
+    omega (arith, sum_by-cons (λ (m : ℕ). m) (if c x then 0 else n) (cleared c xs ns), sum_by-cons (λ (m : ℕ). m) n ns, less (c x) n, cleared_at_most c xs ns)
+  where
+    less : (b : Bool) (n : ℕ) → (if b then 0 else n) ≤ n
+    less true n = omega arith
+    less false n = omega arith
+
+pub cleared_length : {X : Type 0} (c : X → Bool) (xs : List X) (ns : List ℕ) → length ns ≡ length xs → length (cleared c xs ns) ≡ length xs
+cleared_length c [] ns len = refl
+cleared_length c (x ∷ xs) [] len = absurd (omega (arith, len))
+cleared_length c (x ∷ xs) (n ∷ ns) len = ap suc (cleared_length c xs ns (omega (arith, len)))

@@ -1,0 +1,15 @@
+use Rattle.std.proofs.Common.{◌<◌, length, get_or, arith, ap, ◌∙◌, subst}
+use Rattle.pay_caps.specs.Cells.{outside_sum}
+use Rattle.pay_caps.specs.DayPrices.{day_cap, capped_price_of}
+use Rattle.pay_caps.proofs.Lowest.{next_offer}
+use Rattle.pay_caps.proofs.day_prices.capped_price.Goals as goal
+
+pub loop-place-preserved : goal.loop-place-preserved
+loop-place-preserved c = record {
+  value =
+      let there = c.index-bands-place.is ∙ ap (λ bands. get_or bands c.loop-place.place c.index-bands-place.result) c.bands-bands.ensures.value in
+      next_offer day_cap (λ band. outside_sum band.cover c.args.cells.now) c.loop-place.best c.lower_of-best.result (capped_price_of c.args.tables.now c.args.cells.now) c.args.tables.now.bands
+      c.loop-place.place c.index-bands-place.result (subst (λ bands. c.loop-place.place < length bands) c.bands-bands.ensures.value c.loop-place-test.true) there c.lower_of-best.ensures.value
+      c.loop-place.invariant.value;
+  no_more = omega (arith, c.lower_of-best.ensures.no_more, c.loop-place.invariant.no_more);
+}

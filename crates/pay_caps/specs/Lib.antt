@@ -1,0 +1,6 @@
+pub mod CellSums
+pub mod Covers
+pub mod Cells
+pub mod Lowest
+pub mod DayPrices
+pub mod Words

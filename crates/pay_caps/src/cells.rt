@@ -1,0 +1,238 @@
+ghost use Rattle.std.specs.Prelude.{◌≡◌, ◌≤◌, ◌<◌, ◌+◌, not, if◌then◌else◌, length, sum, slice_get, slice_index};
+ghost use Rattle.pay_tables.specs.declared.limits.TheConstants.{MOST_ZONES};
+ghost use Rattle.pay_caps.specs.declared.limits.TheConstants.{MOST_SUM, SPANS};
+ghost use Rattle.pay_tables.specs.Words.{IsSpan, covers_span};
+ghost use Rattle.pay_caps.specs.Covers.{IsCell};
+ghost use Rattle.pay_caps.specs.Cells.{all_spans, span_at, place_of, no_fares, added, taken, sum_at, total, capped_sum, sum_where, outside_sum, spans_outside, outside, outside_of};
+
+use crate::cell::Cell;
+use crate::limits::SPANS;
+use pay_money::Pence;
+use pay_tables::{Cover, Span, Tables};
+use std::marker::Model;
+
+/// The fares of a day's journeys in sums: one for each span of zones, one for the boardings, and one for
+/// the maximum fares. In a contract they are a record of these.
+#[derive(Clone, Copy)]
+pub struct Cells {
+    spans: [Pence; SPANS],
+    buses: Pence,
+    maximum: Pence,
+}
+
+impl Model for Cells {
+    ghost use Rattle.pay_caps.specs.CellSums.{CellSums, sums_code};
+    ghost use Rattle.pay_caps.specs.Cells.{AreSums};
+
+    ghost Value = { CellSums };
+
+    ghost coded = { sums_code };
+
+    ghost view = { λ c. record { spans = c.spans; buses = c.buses; maximum = c.maximum } };
+
+    ghost inverse = { λ s. record { spans = s.spans; buses = s.buses; maximum = s.maximum } };
+
+    ghost invariant = { λ c. AreSums (record { spans = c.spans; buses = c.buses; maximum = c.maximum }) };
+}
+
+/// All spans within nine zones, by their last zone and then by their first.
+const ALL_SPANS: [Span; SPANS] = [
+    Span { from: 1, to: 1 },
+    Span { from: 1, to: 2 },
+    Span { from: 2, to: 2 },
+    Span { from: 1, to: 3 },
+    Span { from: 2, to: 3 },
+    Span { from: 3, to: 3 },
+    Span { from: 1, to: 4 },
+    Span { from: 2, to: 4 },
+    Span { from: 3, to: 4 },
+    Span { from: 4, to: 4 },
+    Span { from: 1, to: 5 },
+    Span { from: 2, to: 5 },
+    Span { from: 3, to: 5 },
+    Span { from: 4, to: 5 },
+    Span { from: 5, to: 5 },
+    Span { from: 1, to: 6 },
+    Span { from: 2, to: 6 },
+    Span { from: 3, to: 6 },
+    Span { from: 4, to: 6 },
+    Span { from: 5, to: 6 },
+    Span { from: 6, to: 6 },
+    Span { from: 1, to: 7 },
+    Span { from: 2, to: 7 },
+    Span { from: 3, to: 7 },
+    Span { from: 4, to: 7 },
+    Span { from: 5, to: 7 },
+    Span { from: 6, to: 7 },
+    Span { from: 7, to: 7 },
+    Span { from: 1, to: 8 },
+    Span { from: 2, to: 8 },
+    Span { from: 3, to: 8 },
+    Span { from: 4, to: 8 },
+    Span { from: 5, to: 8 },
+    Span { from: 6, to: 8 },
+    Span { from: 7, to: 8 },
+    Span { from: 8, to: 8 },
+    Span { from: 1, to: 9 },
+    Span { from: 2, to: 9 },
+    Span { from: 3, to: 9 },
+    Span { from: 4, to: 9 },
+    Span { from: 5, to: 9 },
+    Span { from: 6, to: 9 },
+    Span { from: 7, to: 9 },
+    Span { from: 8, to: 9 },
+    Span { from: 9, to: 9 },
+];
+
+/// Where the sum of a span stands: the spans are ordered by their last zone, and then by their first.
+fn place_of(span: Span) -> usize
+    requires { IsSpan MOST_ZONES span }
+    ensures value { result ≡ place_of span }
+    ensures in_range { result < SPANS }
+{
+    let from = usize::from(span.from);
+    let to = usize::from(span.to);
+    to * (to - 1) / 2 + from - 1
+}
+
+impl Cells {
+    /// No fares.
+    pub fn new() -> Cells
+        ensures { result ≡ no_fares }
+    {
+        Cells {
+            spans: [Pence::ZERO; SPANS],
+            buses: Pence::ZERO,
+            maximum: Pence::ZERO,
+        }
+    }
+
+    /// One fare more.
+    pub fn add(&mut self, cell: Cell, fare: Pence)
+        requires is_cell { IsCell MOST_ZONES cell }
+        requires fits { total self.old + fare ≤ MOST_SUM }
+        ensures value { self.new ≡ added cell fare self.old }
+        ensures sum { total self.new ≡ total self.old + fare }
+        ensures there { sum_at cell self.new ≡ sum_at cell self.old + fare }
+    {
+        match cell {
+            Cell::Rail(span) => {
+                let place = place_of(span);
+                self.spans[place] = self.spans[place] + fare;
+            }
+            Cell::Buses => self.buses = self.buses + fare,
+            Cell::Maximum => self.maximum = self.maximum + fare,
+        }
+    }
+
+    /// One fare less, of those that are there.
+    pub fn take(&mut self, cell: Cell, fare: Pence)
+        requires is_cell { IsCell MOST_ZONES cell }
+        requires there { fare ≤ sum_at cell self.old }
+        ensures { self.new ≡ taken cell fare self.old }
+    {
+        match cell {
+            Cell::Rail(span) => {
+                let place = place_of(span);
+                self.spans[place] = self.spans[place] - fare;
+            }
+            Cell::Buses => self.buses = self.buses - fare,
+            Cell::Maximum => self.maximum = self.maximum - fare,
+        }
+    }
+}
+
+impl Cells {
+    /// The sum of all fares but the maximum fares.
+    pub fn capped_sum(&self) -> Pence
+        ensures value { result ≡ capped_sum self.now }
+        ensures in_range { result + self.now.maximum ≤ MOST_SUM }
+    {
+        self.buses + sum_of(&self.spans)
+    }
+
+    /// The sum of the maximum fares.
+    pub fn maximum(&self) -> Pence
+        ensures value { result ≡ self.now.maximum }
+        ensures in_range { result ≤ MOST_SUM }
+    {
+        self.maximum
+    }
+
+    /// The sum of the fares that a band leaves outside, without the maximum fares.
+    pub fn outside_sum(&self, cover: Cover) -> Pence
+        ensures value { result ≡ outside_sum cover self.now }
+        ensures in_range { result ≤ MOST_SUM }
+    {
+        sum_outside(&self.spans, cover)
+    }
+
+    /// The fares that a band leaves outside, with the maximum fares. The band is told by its place in the
+    /// fare file; where none stands there, all fares are outside.
+    pub fn outside(&self, tables: &Tables, band: u8) -> Cells
+        ensures { result ≡ outside_of (slice_get tables.now.bands band) self.now }
+    {
+        match tables.bands().get(usize::from(band)) {
+            Some(band) => self.outside_of(band.cover),
+            None => *self,
+        }
+    }
+
+    fn outside_of(&self, cover: Cover) -> Cells
+        ensures { result ≡ outside cover self.now }
+    {
+        Cells {
+            spans: spans_outside(self.spans, cover),
+            buses: Pence::ZERO,
+            maximum: self.maximum,
+        }
+    }
+}
+
+/// The sum of all spans.
+fn sum_of(spans: &[Pence]) -> Pence
+    requires { sum spans.now ≤ MOST_SUM }
+    ensures { result ≡ sum spans.now }
+{
+    let mut total = Pence::ZERO;
+    for fare in spans {
+        total = total + *fare;
+    }
+    total
+}
+
+/// The sum of a span, if it is not covered, and else nothing.
+fn outside_at(spans: &[Pence], cover: Cover, place: usize) -> Pence
+    requires is_place { place < SPANS }
+    requires all { length spans.now ≡ SPANS }
+    ensures { result ≡ (if covers_span cover (span_at place) then 0 else slice_index spans.now place) }
+{
+    if cover.covers(ALL_SPANS[place]) {
+        return Pence::ZERO;
+    }
+    spans[place]
+}
+
+/// The sum of the spans that are not covered.
+fn sum_outside(spans: &[Pence], cover: Cover) -> Pence
+    requires all { length spans.now ≡ SPANS }
+    requires fits { sum spans.now ≤ MOST_SUM }
+    ensures value { result ≡ sum_where (λ span. not (covers_span cover span)) spans.now }
+    ensures in_range { result ≤ MOST_SUM }
+{
+    let mut total = Pence::ZERO;
+    for place in 0..SPANS {
+        total = total + outside_at(spans, cover, place);
+    }
+    total
+}
+
+/// The sums of spans, without those that are covered.
+fn spans_outside(mut spans: [Pence; SPANS], cover: Cover) -> [Pence; SPANS]
+    ensures { result ≡ spans_outside cover spans }
+{
+    for place in 0..SPANS {
+        spans[place] = outside_at(&spans, cover, place);
+    }
+    spans
+}

@@ -1,0 +1,60 @@
+ghost use Rattle.std.specs.Prelude.{◌≡◌, ◌≤◌, ◌<◌, ◌+◌, ℕ, Some, option_map};
+ghost use Rattle.pay_tables.specs.declared.limits.TheConstants.{MOST_FARE};
+ghost use Rattle.pay_caps.specs.declared.limits.TheConstants.{MOST_SUM};
+ghost use Rattle.pay_caps.specs.Cells.{capped_sum, outside_sum, total};
+ghost use Rattle.pay_caps.specs.Lowest.{lower};
+ghost use Rattle.pay_caps.specs.DayPrices.{capped_price_of, day_price_of};
+
+use crate::cells::Cells;
+use pay_money::Pence;
+use pay_tables::{Band, Tables};
+
+/// A price, and the band that gives it, by its place in the fare file, where one does.
+type Offer = (Pence, Option<u8>);
+
+/// The lower of an offer and what the band at a place offers: its cap, and what it leaves outside. A cap
+/// that is no lower than the offer can't be.
+fn lower_of(best: Offer, cells: &Cells, band: &Band, place: u8) -> Offer
+    requires { band.now.day ≤ MOST_FARE }
+    ensures value { result ≡ lower best (band.now.day + outside_sum band.now.cover cells.now, Some place) }
+    ensures no_more { result.0 ≤ best.0 }
+{
+    if band.day >= best.0 {
+        return best;
+    }
+    let price = band.day + cells.outside_sum(band.cover);
+    if price < best.0 {
+        (price, Some(place))
+    } else {
+        best
+    }
+}
+
+/// The price of a day's fares without its maximum fares, and the band that gives it, by its place in the
+/// fare file.
+///
+/// It is the least of their sum and, for each band, of the band's cap and the fares that it leaves
+/// outside. Of equal prices that without a band is taken, and then that of the band that stands first.
+pub fn capped_price(tables: &Tables, cells: &Cells) -> (Pence, Option<u8>)
+    ensures value { result ≡ capped_price_of tables.now cells.now }
+    ensures no_more { result.0 ≤ capped_sum cells.now }
+    ensures in_range { result.0 + cells.now.maximum ≤ MOST_SUM }
+{
+    let bands = tables.bands();
+    let mut best = (cells.capped_sum(), None);
+    for place in 0..bands.len() {
+        best = lower_of(best, cells, &bands[place], place as u8);
+    }
+    best
+}
+
+/// The price of a day's fares, and the band that gives it, by its place in the fare file: that of
+/// `capped_price`, and the maximum fares, which are outside of every cap.
+pub fn day_price(tables: &Tables, cells: &Cells) -> (Pence, Option<u8>)
+    ensures price { result.0 ≡ day_price_of tables.now cells.now }
+    ensures band { result.1 ≡ (capped_price_of tables.now cells.now).1 }
+    ensures no_more { result.0 ≤ total cells.now }
+{
+    let (price, band) = capped_price(tables, cells);
+    (price + cells.maximum(), band)
+}

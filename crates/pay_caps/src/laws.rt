@@ -1,0 +1,73 @@
+//! What is true of sums and prices themselves. Each law is the contract of a function that does nothing:
+//! a caller whose proof needs a law calls its function.
+ghost use Rattle.std.specs.Prelude.{◌≡◌, ◌≤◌, ℕ, ◌+◌, ◌∷◌, ◌++◌, [], List, length, filter, IsPermutation};
+ghost use Rattle.pay_tables.specs.declared.band.Band.{Band};
+ghost use Rattle.pay_tables.specs.declared.limits.TheConstants.{MOST_ZONES};
+ghost use Rattle.pay_tables.specs.Words.{FareTables};
+ghost use Rattle.pay_links.specs.declared.journey.Journey.{Journey};
+ghost use Rattle.pay_fares.specs.Words.{fare};
+ghost use Rattle.pay_caps.specs.declared.cell.Cell.{Cell};
+ghost use Rattle.pay_caps.specs.declared.limits.TheConstants.{SPANS};
+ghost use Rattle.pay_caps.specs.CellSums.{CellSums};
+ghost use Rattle.pay_caps.specs.Covers.{cell_of, IsCell, is_capped};
+ghost use Rattle.pay_caps.specs.Cells.{no_fares, added, taken, cells_of, outside, total};
+ghost use Rattle.pay_caps.specs.Lowest.{charged};
+ghost use Rattle.pay_caps.specs.DayPrices.{fares, not_covered, capped_price, maximum_fares, day_price, capped_price_of, day_price_of};
+
+use pay_tables::Tables;
+
+/// The sums of journeys are made by adding the fare of each, whatever the order, and what was added can
+/// be taken away.
+pub fn sums()
+    ensures none { (tables : FareTables) → cells_of tables [] ≡ no_fares }
+    ensures one_more { (tables : FareTables) (journey : Journey) (list : List Journey) →
+        cells_of tables (journey ∷ list) ≡ added (cell_of tables journey) (fare tables journey) (cells_of tables list) }
+    ensures one_behind { (tables : FareTables) (journey : Journey) (list : List Journey) →
+        cells_of tables (list ++ journey ∷ []) ≡ added (cell_of tables journey) (fare tables journey) (cells_of tables list) }
+    ensures in_any_order { (tables : FareTables) (list other : List Journey) → IsPermutation list other → cells_of tables list ≡ cells_of tables other }
+    ensures taken_again { (cell : Cell) (pence : ℕ) (sums : CellSums) → length sums.spans ≡ SPANS → taken cell pence (added cell pence sums) ≡ sums }
+{}
+
+/// What a band leaves outside of the sums of journeys are the sums of those that it does not cover.
+pub fn sums_outside()
+    ensures { (tables : FareTables) (band : Band) (list : List Journey) → cells_of tables (not_covered tables band list) ≡ outside band.cover (cells_of tables list) }
+{}
+
+/// The price of the sums of a day's journeys is the price of the journeys.
+pub fn day_prices(tables: &Tables)
+    ensures in_range { (journey : Journey) → IsCell MOST_ZONES (cell_of tables.now journey) }
+    ensures capped { (list : List Journey) → capped_price_of tables.now (cells_of tables.now list) ≡ capped_price tables.now list }
+    ensures day { (list : List Journey) → day_price_of tables.now (cells_of tables.now list) ≡ day_price tables.now list }
+    ensures maximum { (list : List Journey) → (cells_of tables.now list).maximum ≡ maximum_fares tables.now list }
+    ensures all { (list : List Journey) → total (cells_of tables.now list) ≡ fares tables.now list }
+{
+    tables.zones();
+    pay_fares::laws::spans_within(tables);
+}
+
+/// A day never costs more than its fares, nor more than what a band caps and leaves outside; and a
+/// journey more never makes it cheaper.
+pub fn bounds()
+    ensures by_fares { (tables : FareTables) (list : List Journey) → day_price tables list ≤ fares tables list }
+    ensures by_band { (tables : FareTables) (list : List Journey) (before : List Band) (band : Band) (after : List Band) → tables.bands ≡ before ++ band ∷ after →
+        day_price tables list ≤ band.day + fares tables (not_covered tables band (filter is_capped list)) + maximum_fares tables list }
+    ensures grows { (tables : FareTables) (before : List Journey) (journey : Journey) (after : List Journey) →
+        day_price tables (before ++ after) ≤ day_price tables (before ++ journey ∷ after) }
+    ensures capped_grows { (tables : FareTables) (before : List Journey) (journey : Journey) (after : List Journey) →
+        (capped_price tables (before ++ after)).0 ≤ (capped_price tables (before ++ journey ∷ after)).0 }
+    ensures maximum_grows { (tables : FareTables) (before : List Journey) (journey : Journey) (after : List Journey) →
+        maximum_fares tables (before ++ after) ≤ maximum_fares tables (before ++ journey ∷ after) }
+{}
+
+/// What is charged where all costs so much, and each band has a cap and leaves so much outside: no more
+/// than all, and no more than by any band; the same where each leaves the same outside, and no less where
+/// each leaves more.
+pub fn charges()
+    ensures by_all { (cap : Band → ℕ) (all : ℕ) (outside : Band → ℕ) (bands : List Band) → (charged cap all outside bands).0 ≤ all }
+    ensures by_band { (cap : Band → ℕ) (all : ℕ) (outside : Band → ℕ) (bands before : List Band) (band : Band) (after : List Band) → bands ≡ before ++ band ∷ after →
+        (charged cap all outside bands).0 ≤ cap band + outside band }
+    ensures same { (cap : Band → ℕ) (all other : ℕ) (f g : Band → ℕ) (bands : List Band) → all ≡ other → ((band : Band) → f band ≡ g band) →
+        charged cap all f bands ≡ charged cap other g bands }
+    ensures grows { (cap : Band → ℕ) (all other : ℕ) (f g : Band → ℕ) (bands : List Band) → all ≤ other → ((band : Band) → f band ≤ g band) →
+        (charged cap all f bands).0 ≤ (charged cap other g bands).0 }
+{}

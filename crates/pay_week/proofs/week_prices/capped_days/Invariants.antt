@@ -1,0 +1,10 @@
+use Rattle.std.proofs.Common.{◌≡◌, ◌*◌, ◌≤◌, take}
+use Rattle.pay_caps.specs.declared.limits.TheConstants.{MOST_SUM}
+use Rattle.pay_week.specs.WeekPrices.{capped_days_of}
+use Rattle.pay_week.proofs.week_prices.capped_days.Given as goal
+
+abbrev pub invariant-loop-cells : goal.invariant-loop-cells
+invariant-loop-cells l = record {
+  value : l.sum ≡ capped_days_of l.tables (take l.cells-index l.days);
+  in_range : l.sum ≤ l.cells-index * MOST_SUM;
+}

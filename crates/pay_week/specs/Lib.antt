@@ -1,0 +1,2 @@
+pub mod WeekPrices
+pub mod Words

@@ -1,0 +1,32 @@
+//! What is true of the prices of weeks themselves. Each law is the contract of a function that does
+//! nothing: a caller whose proof needs a law calls its function.
+ghost use Rattle.std.specs.Prelude.{◌≡◌, ◌≤◌, ℕ, ◌+◌, ◌∷◌, ◌++◌, List, map, sum_by};
+ghost use Rattle.pay_tables.specs.declared.band.Band.{Band};
+ghost use Rattle.pay_tables.specs.Words.{FareTables};
+ghost use Rattle.pay_links.specs.declared.journey.Journey.{Journey};
+ghost use Rattle.pay_caps.specs.Words.{cells_of, not_covered, day_price, maximum_fares};
+ghost use Rattle.pay_week.specs.WeekPrices.{capped_days, week_price, week_price_of};
+
+use pay_tables::Tables;
+
+/// The price of the sums of the days' journeys is the price of the journeys.
+pub fn week_prices(tables: &Tables)
+    ensures { (days : List (List Journey)) → week_price_of tables.now (map (cells_of tables.now) days) ≡ week_price tables.now days }
+{
+    pay_caps::laws::day_prices(tables);
+    pay_caps::laws::sums_outside();
+    pay_caps::laws::charges();
+}
+
+/// A week never costs more than its days, nor more than what a band caps and leaves outside; and a
+/// journey more never makes it cheaper.
+pub fn bounds()
+    ensures by_days { (tables : FareTables) (days : List (List Journey)) → week_price tables days ≤ sum_by (day_price tables) days }
+    ensures by_band { (tables : FareTables) (days : List (List Journey)) (before : List Band) (band : Band) (after : List Band) → tables.bands ≡ before ++ band ∷ after →
+        week_price tables days ≤ band.week + capped_days tables (map (not_covered tables band) days) + sum_by (maximum_fares tables) days }
+    ensures grows { (tables : FareTables) (before : List (List Journey)) (earlier : List Journey) (journey : Journey) (later : List Journey) (after : List (List Journey)) →
+        week_price tables (before ++ (earlier ++ later) ∷ after) ≤ week_price tables (before ++ (earlier ++ journey ∷ later) ∷ after) }
+{
+    pay_caps::laws::charges();
+    pay_caps::laws::bounds();
+}

@@ -1,0 +1,7 @@
+//! The price of a week: the prices of its days, capped by the bands of the fare file; and what is due of it.
+#![tactic(auto)]
+
+pub mod laws;
+mod week_prices;
+
+pub use week_prices::{due, week_price};
