@@ -1,5 +1,5 @@
 pub mod Counts
-pub mod FaresOfDays
+pub mod WeekCells
 pub mod Boardings
 pub mod TapResults
 mod Rows

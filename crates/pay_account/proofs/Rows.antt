@@ -1,9 +1,12 @@
 -- Worked rows by the touches of an account: prices, and lines.
-use Rattle.std.proofs.Common.{◌≡◌, ℕ, true, false, [], ◌∷◌, List, Some, None, refl}
+use Rattle.std.proofs.Common.{◌≡◌, ℕ, ◌+◌, ◌*◌, true, false, [], ◌∷◌, ◌++◌, List, Some, None, refl}
 use Rattle.std.specs.FinMap as map
 use Rattle.std.specs.FinMap.{FinMap, get}
 use Rattle.std.specs.Ordering.{nat_cmp}
 use Rattle.pay_tables.specs.Words.{FareTables}
+use Rattle.pay_tables.specs.declared.band.Band.{Band}
+use Rattle.pay_tables.specs.declared.band.Cover.{Cover}
+use Rattle.pay_tables.specs.declared.band.Cover.TheVariants.{Buses, Zones}
 use Rattle.pay_tables.specs.declared.place.Place.{Place}
 use Rattle.pay_tables.specs.declared.place.Place.TheVariants.{Route, Station}
 use Rattle.pay_tables.specs.declared.single.Single.{Single}
@@ -30,6 +33,7 @@ tables_with places = record {
   minutes = 90 ∷ 100 ∷ 110 ∷ [];
   rules = record { bus = 175; maximum = 860; hopper = 3_600; same_free = 120; same_limit = 1_800 };
   singles = single 1 1 280 270 ∷ single 1 2 340 280 ∷ single 1 3 370 300 ∷ single 2 2 200 190 ∷ single 2 3 210 195 ∷ single 3 3 200 180 ∷ [];
+  bands = [];
   holidays = 19_723 ∷ [];
   places = places;
   interchanges = record { a = 10; b = 12; seconds = 1_200 } ∷ [];
@@ -221,6 +225,73 @@ on_its_first_day = refl
 not_on_its_second : lines overnight 19_730 ≡ []
 unfolding overnight
 not_on_its_second = refl
+
+-- ---- caps: the bus band, and those of zones 1 to 2 and 1 to 3
+
+abbrev band : Cover → ℕ → ℕ → Band
+band cover day week = record { cover = cover; day = day; week = week }
+
+abbrev zones : ℕ → ℕ → Cover
+zones from to = Zones (record { from = from; to = to })
+
+abbrev capped_with : FinMap nat_cmp Place → FareTables
+capped_with places = record (tables_with places) { bands = band Buses 525 2_470 ∷ band (zones 1 2) 890 4_470 ∷ band (zones 1 3) 1_050 5_250 ∷ [] }
+
+abbrev capped : FareTables
+capped = capped_with map.empty
+
+abbrev price_capped : List Touch → ℕ → Priced
+price_capped touches day = prices_of_touches capped (in_order touches) false day
+
+-- boardings at 08:00, 10:00, 12:00 and 14:00: at the bus band's cap there is no band, and above it that one
+three_boardings : List Touch
+three_boardings = bus 1 1_704_700_800 ∷ bus 2 1_704_708_000 ∷ bus 3 1_704_715_200 ∷ []
+
+at_the_cap : price_capped three_boardings 19_730 ≡ priced 19_730 525 525
+unfolding three_boardings
+at_the_cap = refl
+
+no_band_at_the_cap : lines_on capped (journeys_of capped three_boardings) 19_730
+    ≡ line kind.Bus 50 0 1_704_700_800 19_730 175 ∷ line kind.Bus 50 0 1_704_708_000 19_730 175 ∷ line kind.Bus 50 0 1_704_715_200 19_730 175 ∷ []
+unfolding three_boardings
+no_band_at_the_cap = refl
+
+abbrev line_by : ℕ → LineKind → ℕ → ℕ → ℕ → ℕ → ℕ → Line
+line_by place kind from to utc day fare = record (line kind from to utc day fare) { band = Some place }
+
+above_the_cap : price_capped (bus 4 1_704_722_400 ∷ bus 1 1_704_700_800 ∷ bus 2 1_704_708_000 ∷ bus 3 1_704_715_200 ∷ []) 19_730 ≡ priced 19_730 525 525
+above_the_cap = refl
+
+the_bus_band_above_it : lines_on capped (journeys_of capped (bus 1 1_704_700_800 ∷ bus 2 1_704_708_000 ∷ bus 3 1_704_715_200 ∷ bus 4 1_704_722_400 ∷ [])) 19_730
+    ≡ line_by 0 kind.Bus 50 0 1_704_700_800 19_730 175 ∷ line_by 0 kind.Bus 50 0 1_704_708_000 19_730 175 ∷ line_by 0 kind.Bus 50 0 1_704_715_200 19_730 175
+    ∷ line_by 0 kind.Bus 50 0 1_704_722_400 19_730 175 ∷ []
+the_bus_band_above_it = refl
+
+-- a maximum fare is outside of the cap, and of no band
+a_lone_tap_too : price_capped (bus 1 1_704_700_800 ∷ bus 2 1_704_708_000 ∷ bus 3 1_704_715_200 ∷ bus 4 1_704_722_400 ∷ enter 5 1_704_726_000 10 ∷ []) 19_730 ≡ priced 19_730 1_385 1_385
+a_lone_tap_too = refl
+
+-- three legs within zones 1 to 2, of 340 each: the band of these zones
+abbrev three_legs : List Touch
+three_legs = enter 1 1_704_697_200 10 ∷ leave 2 1_704_698_400 12 ∷ enter 3 1_704_699_000 12 ∷ leave 4 1_704_700_200 10 ∷ enter 5 1_704_700_800 10 ∷ leave 6 1_704_702_000 12 ∷ []
+
+abbrev CostsCapped : List Touch → ℕ → Type 0
+CostsCapped list pence = (places : FinMap nat_cmp Place) → AreStations places → prices_of_touches (capped_with places) list false 19_730 ≡ priced 19_730 pence pence
+
+within_the_zones : CostsCapped three_legs 890
+within_the_zones places s = simp (s.at_10, s.at_12)
+
+-- three boardings on each of five days come to five times 525, and the bus band's cap for the week is 2470
+abbrev on_day : ℕ → List Touch
+on_day n =
+    touch (3 * n) (1_704_700_800 + 86_400 * n) (19_730 + n) 50 Bus ∷ touch (3 * n + 1) (1_704_708_000 + 86_400 * n) (19_730 + n) 50 Bus
+    ∷ touch (3 * n + 2) (1_704_715_200 + 86_400 * n) (19_730 + n) 50 Bus ∷ []
+
+five_days : prices_of_touches capped (on_day 0 ++ on_day 1 ++ on_day 2 ++ on_day 3 ++ on_day 4) false 19_734 ≡ priced 19_734 525 2_470
+five_days = refl
+
+four_days : prices_of_touches capped (on_day 0 ++ on_day 1 ++ on_day 2 ++ on_day 3) false 19_733 ≡ priced 19_733 525 2_100
+four_days = refl
 
 -- ---- places
 

@@ -17,7 +17,7 @@ use Rattle.pay_account.specs.Prices.{prices}
 use Rattle.pay_account.specs.TapResults.{addition_result, tap_result, taps_after}
 
 -- the result of a tap at a known place is as the set of taps judges it
-known : (tables : FareTables) (taps : Taps) (tap : Tap) (r : Result Addition TapSetFault) → is_known tables tap ≡ true → judged taps tap ≡ r
+pub known : (tables : FareTables) (taps : Taps) (tap : Tap) (r : Result Addition TapSetFault) → is_known tables tap ≡ true → judged taps tap ≡ r
     → tap_result tables taps tap ≡ addition_result tables taps tap r
 known tables taps tap r is e =
     ap (λ b. if b then addition_result tables taps tap (judged taps tap) else Err UnknownPlace) is ∙ ap (addition_result tables taps tap) e

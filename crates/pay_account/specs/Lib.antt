@@ -1,6 +1,7 @@
 pub mod Places
 pub mod Journeys
 pub mod Prices
+pub mod WeekCells
 pub mod LinesCode
 pub mod Lines
 pub mod TapFaults

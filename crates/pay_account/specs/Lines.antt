@@ -1,5 +1,6 @@
 -- The journeys of a day as an account shows them.
-use Rattle.std.specs.Prelude.{ℕ, if◌then◌else◌, List, map, filter, None}
+use Rattle.std.specs.Prelude.{ℕ, Bool, false, if◌then◌else◌, List, map, slice_get, Option, Some, None}
+use Rattle.pay_tables.specs.declared.band.Band.{Band}
 use Rattle.pay_tables.specs.Words.{FareTables}
 use Rattle.pay_taps.specs.declared.tap.Kind.TheVariants.{Out}
 use Rattle.pay_taps.specs.Words.{Taps, same_kind, touches, in_order_by}
@@ -7,12 +8,13 @@ use Rattle.pay_links.specs.Words.{last_leg, first_tap}
 use Rattle.pay_links.specs.declared.journey.Journey.{Journey}
 use Rattle.pay_links.specs.declared.journey.Journey.TheVariants.{Run, Same, Lone, Bus}
 use Rattle.pay_fares.specs.Words.{fare}
+use Rattle.pay_caps.specs.Words.{covers, capped_price}
 use Rattle.pay_account.specs.declared.shown.Line.{Line}
 use Rattle.pay_account.specs.declared.shown.LineKind.{LineKind}
 use Rattle.pay_account.specs.declared.shown.LineKind.TheVariants as kind
 use Rattle.pay_account.specs.declared.shown.Shown.{Shown}
-use Rattle.pay_account.specs.Journeys.{journeys_of, is_on}
-use Rattle.pay_account.specs.Prices.{day_price}
+use Rattle.pay_account.specs.Journeys.{journeys_of}
+use Rattle.pay_account.specs.Prices.{journeys_on, price_of_day}
 
 abbrev pub line_kind : Journey → LineKind
 line_kind (Run legs) = kind.Rail
@@ -34,9 +36,19 @@ to_of (Same leg) = leg.exit.place
 to_of (Lone tap) = if same_kind tap.kind Out then tap.place else 0
 to_of (Bus tap pays) = 0
 
--- a journey as a line; no band is known
-abbrev pub line_of_journey : FareTables → Journey → Line
-line_of_journey tables journey = record {
+-- whether a band, where there is one, covers a journey
+abbrev pub is_covered : FareTables → Option Band → Journey → Bool
+is_covered tables None journey = false
+is_covered tables (Some band) journey = covers tables band journey
+
+-- the band that gives the price of a day, where it covers a journey of that day; the band is told by its place in the fare file
+abbrev pub line_band : FareTables → Option ℕ → Journey → Option ℕ
+line_band tables None journey = None
+line_band tables (Some place) journey = if is_covered tables (slice_get tables.bands place) journey then Some place else None
+
+-- a journey as a line, of a day whose price a band gives, or none
+abbrev pub line_of_journey : FareTables → Option ℕ → Journey → Line
+line_of_journey tables giving journey = record {
   day = (first_tap journey).stamp.day;
   kind = line_kind journey;
   from = from_of journey;
@@ -44,14 +56,17 @@ line_of_journey tables journey = record {
   utc = (first_tap journey).stamp.utc;
   second = (first_tap journey).stamp.second;
   fare = fare tables journey;
-  band = None;
+  band = line_band tables giving journey;
 }
 
 -- the journeys of a service day in the order of their first taps, rail and bus together
 abbrev pub lines_on : FareTables → List Journey → ℕ → List Line
-lines_on tables list day = map (line_of_journey tables) (in_order_by first_tap (filter (is_on day) list))
+lines_on tables list day =
+    let its = journeys_on list day in
+    map (line_of_journey tables (capped_price tables its).1) (in_order_by first_tap its)
 
 -- what an account shows of a service day: its lines, and its price
 abbrev pub shown : FareTables → ℕ → Taps → ℕ → Shown
 shown tables account taps day =
-    record { account = account; day = day; lines = lines_on tables (journeys_of tables (touches taps)) day; day_price = day_price tables taps day }
+    let list = journeys_of tables (touches taps) in
+    record { account = account; day = day; lines = lines_on tables list day; day_price = price_of_day tables list day }

@@ -9,7 +9,7 @@ use crate::fares::{Fares, Priced, TapFault};
 use crate::journeys::journeys_of;
 use crate::lines::lines_on;
 use crate::places::is_known;
-use crate::prices::{fares_on, price};
+use crate::prices::{price, price_on};
 use crate::shown::Shown;
 use pay_tables::Tables;
 use pay_taps::{Addition, Tap, TapSet, touches, touches_with};
@@ -97,8 +97,8 @@ impl Fares for Account {
     fn show(&self, tables: &Tables, day: u32) -> Result<Shown, AllocError> {
         let touches = touches(self.alloc, &self.taps)?;
         let journeys = journeys_of(self.alloc, tables, &touches)?;
-        let day_price = fares_on(tables, &journeys, day);
-        let lines = lines_on(self.alloc, tables, journeys, day)?;
+        let (day_price, band) = price_on(tables, &journeys, day);
+        let lines = lines_on(self.alloc, tables, journeys, day, band)?;
         Ok(Shown {
             account: self.number,
             day,

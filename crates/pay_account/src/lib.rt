@@ -10,6 +10,7 @@ mod lines;
 mod places;
 mod prices;
 mod shown;
+mod week_cells;
 
 pub use account::Account;
 pub use fares::{Fares, Priced, TapFault};

@@ -1,11 +1,14 @@
 ghost use Rattle.std.specs.Prelude.{◌≡◌, ℕ, List, map, filter, IfOk, OnOk};
 ghost use Rattle.pay_taps.specs.Words.{in_order_by};
 ghost use Rattle.pay_links.specs.Words.{first_tap};
+ghost use Rattle.pay_caps.specs.Words.{capped_price};
 ghost use Rattle.pay_account.specs.Journeys.{is_on};
-ghost use Rattle.pay_account.specs.Lines.{line_kind, from_of, to_of, line_of_journey, lines_on};
+ghost use Rattle.pay_account.specs.Prices.{journeys_on};
+ghost use Rattle.pay_account.specs.Lines.{line_kind, from_of, to_of, line_band, line_of_journey, lines_on};
 
 use crate::journeys::is_on;
 use crate::shown::{Line, LineKind, Lines};
+use pay_caps::covers;
 use pay_fares::fare;
 use pay_links::Journey;
 use pay_tables::Tables;
@@ -46,9 +49,23 @@ fn to_of(journey: &Journey) -> u16
     }
 }
 
-/// A journey as a line.
-fn line_of_journey(tables: &Tables, journey: &Journey) -> Line
-    ensures { result ≡ line_of_journey tables.now journey.now }
+/// The band that gives the price of a day, where it covers a journey of that day. A band is told by its
+/// place in the fare file.
+fn line_band(tables: &Tables, giving: Option<u8>, journey: &Journey) -> Option<u8>
+    ensures { result ≡ line_band tables.now giving journey.now }
+{
+    let place = giving?;
+    let band = tables.bands().get(usize::from(place))?;
+    if covers(tables, band, journey) {
+        Some(place)
+    } else {
+        None
+    }
+}
+
+/// A journey as a line, of a day whose price a band gives, or none.
+fn line_of_journey(tables: &Tables, giving: Option<u8>, journey: &Journey) -> Line
+    ensures { result ≡ line_of_journey tables.now giving journey.now }
 {
     let stamp = journey.first_tap().stamp;
     Line {
@@ -59,7 +76,7 @@ fn line_of_journey(tables: &Tables, journey: &Journey) -> Line
         utc: stamp.utc(),
         second: stamp.second(),
         fare: fare(tables, journey),
-        band: None,
+        band: line_band(tables, giving, journey),
     }
 }
 
@@ -85,26 +102,30 @@ fn sort_by_first_tap(list: &mut Vec<Journey>) -> Result<(), AllocError>
 fn lines_of_journeys(
     alloc: Global,
     tables: &Tables,
+    giving: Option<u8>,
     list: &[Journey],
 ) -> Result<Vec<Line>, AllocError>
-    ensures { IfOk result (λ lines. lines.items ≡ map (line_of_journey tables.now) list.now) }
+    ensures { IfOk result (λ lines. lines.items ≡ map (line_of_journey tables.now giving) list.now) }
 {
     list.iter()
-        .map(|journey| line_of_journey(tables, journey))
+        .map(|journey| line_of_journey(tables, giving, journey))
         .collect(alloc)
 }
 
 /// The journeys of a service day as lines, in the order of their first taps, rail and bus together.
+/// `giving` is the band that gives the day's price.
 pub fn lines_on(
     alloc: Global,
     tables: &Tables,
     mut list: Vec<Journey>,
     day: u32,
+    giving: Option<u8>,
 ) -> Result<Lines, AllocError>
+    requires { giving ≡ (capped_price tables.now (journeys_on list.items day)).1 }
     ensures { IfOk result (λ lines. lines ≡ lines_on tables.now list.items day) }
 {
     keep_day(&mut list, day);
     sort_by_first_tap(&mut list)?;
-    let lines = lines_of_journeys(alloc, tables, &list)?;
+    let lines = lines_of_journeys(alloc, tables, giving, &list)?;
     Ok(Lines::from(lines))
 }

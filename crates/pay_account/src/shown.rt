@@ -33,7 +33,7 @@ pub struct Line {
     pub second: u32,
     /// What it costs by itself, before any cap.
     pub fare: Pence,
-    /// The band that covers it, by its place in the fare file. No file has bands yet.
+    /// The band that gives the day's price, where it covers this journey, by its place in the fare file.
     pub band: Option<u8>,
 }
 

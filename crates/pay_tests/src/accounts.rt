@@ -5,11 +5,13 @@
 //! 19730 at 07:20 in London, out of station 12, and the tap's service day, the price of that day and of its week, or
 //! that it is `taken`.
 //! `show 19730 => 340, Rail 10 12 19730 07:00 340` is the price of a service day, and each of its lines: what it
-//! was, from where to where, when it began, and its fare. Behind an empty line stands another account.
+//! was, from where to where, when it began, and its fare; and behind a `by` the band that gives the day's price, by
+//! its place in the file, where that covers it. Behind an empty line stands another account.
 //! Day 19723 is Mon 2024-01-01, and day 19730 the Monday after it.
 
 ghost use Rattle.std.specs.Prelude.{◌≡◌};
 
+mod caps;
 mod prices;
 mod refusals;
 mod shown_days;
@@ -17,7 +19,7 @@ mod shown_days;
 use crate::fields::{cut, kind_of, moment};
 use pay_account::*;
 use pay_money::Pence;
-use pay_tables::sample::BUS_FARES;
+use pay_tables::sample::SAMPLE_FARES;
 use pay_tables::{FareFileFault, Tables};
 use pay_taps::Tap;
 use std::alloc::{AllocError, Global};
@@ -26,8 +28,8 @@ use std::test::Fail;
 
 /// The fare file's tables, asked for twice where memory is wanting once.
 fn read(alloc: Global) -> Result<Tables, FareFileFault> {
-    match Tables::read(alloc, BUS_FARES) {
-        Err(FareFileFault::Memory) => Tables::read(alloc, BUS_FARES),
+    match Tables::read(alloc, SAMPLE_FARES) {
+        Err(FareFileFault::Memory) => Tables::read(alloc, SAMPLE_FARES),
         tables => tables,
     }
 }
@@ -113,13 +115,22 @@ fn line_kind_of(word: &str) -> Result<LineKind, Fail> {
     }
 }
 
-/// A line of a service day: what it was, from where to where, when it began, and its fare.
+/// The fare of a line, and the band behind it.
+fn fare_of(row: &str) -> Result<(Pence, Option<u8>), Fail> {
+    match row.split_once(" by ") {
+        Some((fare, band)) => Ok((Pence::new(fare.parse()?), Some(band.parse()?))),
+        None => Ok((Pence::new(row.parse()?), None)),
+    }
+}
+
+/// A line of a service day: what it was, from where to where, when it began, its fare and its band.
 fn line_of(day: u32, row: &str) -> Result<Line, Fail> {
     let (kind, rest) = cut(row)?;
     let (from, rest) = cut(rest)?;
     let (to, rest) = cut(rest)?;
     let (date, rest) = cut(rest)?;
-    let (time, fare) = cut(rest)?;
+    let (time, rest) = cut(rest)?;
+    let (fare, band) = fare_of(rest)?;
     let began = moment(date, time)?;
     Ok(Line {
         day,
@@ -128,8 +139,8 @@ fn line_of(day: u32, row: &str) -> Result<Line, Fail> {
         to: to.parse()?,
         utc: began.utc(),
         second: began.second(),
-        fare: Pence::new(fare.parse()?),
-        band: None,
+        fare,
+        band,
     })
 }
 

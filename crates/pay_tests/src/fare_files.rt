@@ -10,14 +10,14 @@ mod zones;
 
 use pay_money::Pence;
 use pay_tables::FareFileFault::{OutOfRange, TooMany, UnknownPlace};
-use pay_tables::sample::BUS_FARES;
+use pay_tables::sample::{BUS_FARES, SAMPLE_FARES};
 use pay_tables::*;
 use std::alloc::{AllocError, Global};
 use std::process::Abort;
 use std::test::*;
 
 // The keys of a good file, in another order than that of the refusals.
-const GOOD: [(&str, &str); 8] = [
+const GOOD: [(&str, &str); 9] = [
     ("interchange", "[]"),
     ("route", "[{ place = 50, operator = 4 }]"),
     (
@@ -26,6 +26,7 @@ const GOOD: [(&str, &str); 8] = [
          { place = 13, low = 2, high = 3, operator = 2 }]",
     ),
     ("holidays", "[19723]"),
+    ("band", "[]"),
     (
         "single",
         "[{ from = 1, to = 1, peak = 280, off = 270 }, { from = 1, to = 2, peak = 340, off = 280 }, \
@@ -108,6 +109,7 @@ fn keys_that_must_be_there(rt: HostRuntime) -> Result<(), Fail> {
         minutes = - => MissingKey
         rules = - => MissingKey
         single = - => MissingKey
+        band = - => taken
         holidays = - => taken
         station = - => taken
         route = - => taken
@@ -124,7 +126,8 @@ fn of_two_faults_the_first_key(rt: HostRuntime) -> Result<(), Fail> {
         zones = 'x' & minutes = [0, 0, 0] => WrongType
         minutes = [0, 0, 0] & rules = 1 => OutOfRange
         rules = 1 & single = [] => WrongType
-        single = [] & holidays = 1 => MissingKey
+        single = [] & band = 1 => MissingKey
+        band = 1 & holidays = [4, 4] => WrongType
         holidays = [4, 4] & station = 1 => Duplicate
         station = [{ place = 0 }] & route = 1 => OutOfRange
         zones = - & route = 1 => MissingKey
@@ -139,7 +142,7 @@ fn of_two_faults_the_first_key(rt: HostRuntime) -> Result<(), Fail> {
 // `rt try --test --fail-alloc N` runs it with each allocation failing in turn.
 #[test]
 fn memory_is_the_only_other_refusal(rt: HostRuntime) {
-    match Tables::read(rt.alloc(), BUS_FARES) {
+    match Tables::read(rt.alloc(), SAMPLE_FARES) {
         Ok(tables) => assert_eq!(rt; tables.place(50), Some(Place::Route { operator: 4 })),
         Err(fault) => assert_eq!(rt; fault, FareFileFault::Memory),
     }

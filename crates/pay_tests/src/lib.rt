@@ -7,6 +7,8 @@ mod accounts;
 #[cfg(test)]
 mod amounts;
 #[cfg(test)]
+mod caps;
+#[cfg(test)]
 mod days;
 #[cfg(test)]
 mod fare_files;

@@ -4,10 +4,13 @@ use std::test::Fail;
 
 /// Words, and what comes of them.
 const ROWS: &str = "
-    farebox run a b => job
-    farebox run -- a b => job
-    farebox run a -- b => job
-    farebox run a b -- => job
+    farebox run a b => run
+    farebox run -- a b => run
+    farebox run a -- b => run
+    farebox run a b -- => run
+    farebox check a => check
+    farebox check -- a => check
+    farebox check a -- => check
     => usage
     farebox => usage
     farebox run => usage
@@ -15,6 +18,13 @@ const ROWS: &str = "
     farebox run a b c => usage
     farebox run a b --x => usage
     farebox run a -b => usage
+    farebox check => usage
+    farebox check -- => usage
+    farebox check a b => usage
+    farebox check a -- b => usage
+    farebox check a --x => usage
+    farebox check -a => usage
+    farebox -- check a => usage
     farebox fly => usage
     farebox --x => usage
     farebox help fly => usage
@@ -22,9 +32,12 @@ const ROWS: &str = "
     farebox -h => help
     farebox help => help
     farebox help run => help
+    farebox help check => help
     farebox run --help => help
     farebox run -h => help
     farebox run a b -h => help
+    farebox check --help => help
+    farebox check a -h => help
     farebox -hV => help
     farebox --help --version => help
     farebox --version => version
@@ -33,12 +46,14 @@ const ROWS: &str = "
     farebox -Vx => version
     farebox --version --help => version
     farebox -V run a b => version
+    farebox -V check => version
     farebox --version=1 => usage
     farebox -- --version => usage
     farebox version => usage
     farebox run --version => usage
     farebox run -V => usage
     farebox run a b -Vh => usage
+    farebox check --version => usage
 ";
 
 /// What comes of the words of a text. The texts of help and of the version are tested on the built program.
@@ -48,7 +63,8 @@ fn outcome(alloc: Global, text: &str) -> Result<&'static str, Fail> {
         words.push(word)?;
     }
     Ok(match read_words(alloc, words.as_slice()) {
-        Ok(Job::Run(run)) if run.fares == "a" && run.zone == "b" => "job",
+        Ok(Job::Run(run)) if run.fares == "a" && run.zone == "b" => "run",
+        Ok(Job::Check { fares }) if fares == "a" => "check",
         Ok(_) => "another job",
         Err(WordsFault::Help(_)) => "help",
         Err(WordsFault::Version(_)) => "version",

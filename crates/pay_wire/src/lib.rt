@@ -15,4 +15,4 @@ pub use command::{Command, SpelledTap, read_command};
 pub use output::WriteFault;
 pub use refusal::Refusal;
 pub use reply::Reply;
-pub use sending::send;
+pub use sending::{send, send_line};

@@ -104,3 +104,26 @@ pub fn send<W: Write>(writer: &mut W, reply: &Reply) -> Result<(), WriteFault>
 {
     write_and_flush(&mut Output::new(writer), reply)
 }
+
+/// Writes a line that is no reply, newline included, and flushes the writer, as `send` does.
+pub fn send_line<W: Write>(writer: &mut W, line: &[u8]) -> Result<(), WriteFault>
+    ensures ok { OnOk result (Appends (W.contents writer.old) (W.contents writer.new) line.now) }
+    ensures err { OnErr result (AppendsFront (W.contents writer.old) (W.contents writer.new) line.now) }
+    ensures not_interrupted { IfErr result (λ fault. fault ≢ WriteFault.Failed ErrorKind.Interrupted) }
+{
+    write_line(&mut Output::new(writer), line)
+}
+
+/// Writes a line and flushes the writer. Where that fails, it has taken a front of it.
+fn write_line<W: Write>(output: &mut Output<'_, W>, line: &[u8]) -> Result<(), WriteFault>
+    requires { has_failed output.old.state ≡ false }
+    ensures same_writer { output.new.writer.ghost_name ≡ output.old.writer.ghost_name }
+    ensures ok { OnOk result (Appends (W.contents output.old.writer.now) (W.contents output.new.writer.now) line.now) }
+    ensures err { OnErr result (AppendsFront (W.contents output.old.writer.now) (W.contents output.new.writer.now) line.now) }
+    ensures flushed { OnOk result (output.new.state ≡ State.Flushed) }
+    ensures fault { IfErr result (λ fault. fault ≢ WriteFault.NeverDone → output.new.state ≡ State.Failed fault) }
+    ensures not_interrupted { IfErr result (λ fault. fault ≢ WriteFault.Failed ErrorKind.Interrupted) }
+{
+    write_whole(output, line)?;
+    output.flush()
+}

@@ -27,9 +27,10 @@ const ROWS: &str = "
     7 BUS 50 19730 12:32 => taken
     10 IN 10 19730 13:00 => taken
     11 OUT 10 19730 13:02 => taken
-    show 19730 => 2775, Rail 10 12 19730 07:00 340, Bus 50 0 19730 07:10 175, \
-        Lone 0 14 19730 12:00 860, Same 11 11 19730 12:30 190, Bus 50 0 19730 12:32 175, \
-        Same 10 10 19730 13:00 0, Bus 50 0 19730 17:00 175, Lone 12 0 19730 17:00 860
+    // But for the lone taps the fares come to 1055, of which the band of zones 1 to 2 takes 890.
+    show 19730 => 2610, Rail 10 12 19730 07:00 340 by 1, Bus 50 0 19730 07:10 175 by 1, \
+        Lone 0 14 19730 12:00 860, Same 11 11 19730 12:30 190 by 1, Bus 50 0 19730 12:32 175 by 1, \
+        Same 10 10 19730 13:00 0 by 1, Bus 50 0 19730 17:00 175 by 1, Lone 12 0 19730 17:00 860
 
     // Two legs that an interchange joins are one journey.
     1 IN 14 19730 07:00 => taken
