@@ -3,12 +3,32 @@
 import random
 from typing import Callable, NamedTuple
 
-from rules import A_DAY, ROUTE, STATIONS, Tap
+from rules import A_DAY, BUS, ROUTE, SAMPLE, Band, Tap
 
 # Service day 19730 begins on Monday 2024-01-08 at 04:30:00.
 MONDAY, BEGINS, DAYS = 19730, 1704688200, 7
 LAST = BEGINS + DAYS * A_DAY - 1
 HOUR = 3_600
+
+# The fare files by name. In the last one the stations are in three of nine zones, and bands that cover the same cap differently.
+SPANS = [(low, high) for low in range(1, 10) for high in range(low, 10)]
+NINE_BANDS = [
+    Band(2, 2, 520, 2_300),
+    Band(2, 3, 540, 2_350),
+    Band(3, 3, 515, 2_450),
+    Band(1, 1, 600, 2_600),
+    Band(1, 4, 1_040, 5_000),
+    Band(1, 5, 1_045, 4_000),
+    Band(1, 6, 900, 3_000),
+    Band(1, 9, 950, 1_600),
+    Band(2, 9, 500, 1_500),
+]
+TWELVE_BANDS = SAMPLE._replace(
+    minutes=list(range(90, 180, 10)),
+    single={span: SAMPLE.single.get(span, (400, 350)) for span in SPANS},
+    bands=SAMPLE.bands + NINE_BANDS,
+)
+FARES = {"bus.toml": BUS, "sample.toml": SAMPLE, "twelve-bands.toml": TWELVE_BANDS}
 
 # The first and last seconds of days and of peak times, after 04:30; and the longest times that a rule allows, and one more.
 EDGE_STARTS = (0, 7_199, 7_200, 17_999, 18_000, 41_399, 41_400, 52_199, 52_200, A_DAY - 1)
@@ -36,7 +56,7 @@ def day_taps(draw, accounts):
 def trip(draw):
     """The touches of a trip: seconds after its start, place and kind."""
     later = draw.choice(EDGE_TIMES) if draw.random() < 0.1 else draw.randint(60, 5_400)
-    first, last = draw.sample(sorted(STATIONS), 2)
+    first, last = draw.sample(sorted(BUS.stations), 2)
     out, again = draw.sample((10, 12), 2)
     change = draw.choice(EDGE_CHANGES) if draw.random() < 0.1 else draw.randint(60, 1_500)
     there, on = ((0, first, "IN"), (later, out, "OUT")), later + change
@@ -73,6 +93,7 @@ def week_taps(draw, accounts):
 class Load(NamedTuple):
     name: str
     title: str
+    fares: str
     taps_each: int
     arrivals: Callable
     days_shown: range
@@ -84,6 +105,9 @@ class Load(NamedTuple):
         return self.arrivals(random.Random(seed), self.accounts(taps))
 
 
-DAY = Load("day", "a day of bus taps in shuffled order", 4, day_taps, range(0))
-WEEK = Load("week", "a week of bus and rail taps, a tenth of them late by hours", 20, week_taps, range(MONDAY, MONDAY + DAYS))
-LOADS = {load.name: load for load in (DAY, WEEK)}
+DAY = Load("day", "a day of bus taps in shuffled order", "bus.toml", 4, day_taps, range(0))
+WEEK = Load("week", "a week of bus and rail taps, a tenth of them late by hours", "bus.toml", 20, week_taps, range(MONDAY, MONDAY + DAYS))
+CAPPED_DAY = DAY._replace(name="capped-day", fares="sample.toml")
+CAPPED_WEEK = WEEK._replace(name="capped-week", fares="sample.toml")
+BANDED_WEEK = WEEK._replace(name="banded-week", fares="twelve-bands.toml")
+LOADS = {load.name: load for load in (DAY, WEEK, CAPPED_DAY, CAPPED_WEEK, BANDED_WEEK)}

@@ -1,19 +1,50 @@
-"""The replies that docs/RULES.md gives, priced from scratch with the numbers of examples/bus.toml.
-
-The clock is London's in winter, which is UTC. As in the program so far, there are no caps.
-"""
+"""The replies that docs/RULES.md gives, priced from scratch by a table of fares. The clock is London's in winter, which is UTC."""
 
 from typing import NamedTuple
 
-BUS, MAXIMUM, HOPPER, SAME_FREE, SAME_LIMIT = 175, 860, 3_600, 120, 1_800
-MINUTES = {1: 90, 2: 100, 3: 110}
-# The peak and the off-peak fare of each span, and the lower and the upper zone of each station.
-SINGLE = {(1, 1): (280, 270), (1, 2): (340, 280), (1, 3): (370, 300), (2, 2): (200, 190), (2, 3): (210, 195), (3, 3): (200, 180)}
-STATIONS = {10: (1, 1), 11: (1, 2), 12: (2, 2), 13: (2, 3), 14: (3, 3)}
-# Between which stations a journey goes on, and for how many seconds.
-INTERCHANGES = {frozenset((10, 12)): 1_200}
-HOLIDAYS = {19723}
+
+class Band(NamedTuple):
+    """What its journeys cost at most, in a day and in a week: those by bus, and by rail within its zones. It has none if `low` is 0."""
+
+    low: int
+    high: int
+    day: int
+    week: int
+
+
+class Fares(NamedTuple):
+    """What a fare file says. A span is a pair of zones."""
+
+    # How many minutes a leg may last that spans 1, 2, .. zones.
+    minutes: list
+    # The peak and the off-peak fare of each span.
+    single: dict
+    bands: list
+    holidays: list
+    # The lower and the upper zone of each station.
+    stations: dict
+    routes: list
+    # Between which stations a journey goes on, and for how many seconds.
+    interchanges: dict
+    bus: int = 175
+    maximum: int = 860
+    hopper: int = 3_600
+    same_free: int = 120
+    same_limit: int = 1_800
+
+
 ROUTE = 50
+# The numbers of examples/bus.toml, and of examples/sample.toml.
+BUS = Fares(
+    minutes=[90, 100, 110],
+    single={(1, 1): (280, 270), (1, 2): (340, 280), (1, 3): (370, 300), (2, 2): (200, 190), (2, 3): (210, 195), (3, 3): (200, 180)},
+    bands=[],
+    holidays=[19723],
+    stations={10: (1, 1), 11: (1, 2), 12: (2, 2), 13: (2, 3), 14: (3, 3)},
+    routes=[ROUTE],
+    interchanges={frozenset((10, 12)): 1_200},
+)
+SAMPLE = BUS._replace(bands=[Band(0, 0, 525, 2_470), Band(1, 2, 890, 4_470), Band(1, 3, 1_050, 5_250)])
 
 A_DAY, DAY_BEGINS = 86_400, 16_200
 MORNING, EVENING = (23_400, 34_200), (57_600, 68_400)
@@ -30,12 +61,19 @@ class Tap(NamedTuple):
     kind: str
 
 
+# In the place of a span, since a boarding has none.
+BY_BUS = ()
+
+
 class Journey(NamedTuple):
+    """A journey. A lone tap has no span either."""
+
     utc: int
     kind: str
     start: int
     end: int
     fare: int
+    span: tuple = BY_BUS
 
 
 def service_day(utc):
@@ -46,15 +84,15 @@ def monday(day):
     return day - (day + 3) % 7
 
 
-def span(places):
-    lows, highs = zip(*(STATIONS[place] for place in places))
+def span(fares, places):
+    lows, highs = zip(*(fares.stations[place] for place in places))
     return min(highs), max(min(highs), *lows)
 
 
-def limit(first, last):
+def limit(fares, first, last):
     """The most seconds from In to Out that are one leg."""
-    begins, ends = span((first, last))
-    return SAME_LIMIT if first == last else 60 * MINUTES[ends - begins + 1]
+    begins, ends = span(fares, (first, last))
+    return fares.same_limit if first == last else 60 * fares.minutes[ends - begins]
 
 
 def is_within(utc, window):
@@ -62,88 +100,157 @@ def is_within(utc, window):
     return begins <= utc % A_DAY < ends
 
 
-def is_peak(taps):
+def is_peak(fares, taps):
     """Whether a journey of these rail taps is peak: by its first tap, but for one that goes into zone 1 in the evening."""
     utc, day = taps[0].utc, service_day(taps[0].utc)
-    if day - monday(day) >= 5 or day in HOLIDAYS:
+    if day - monday(day) >= 5 or day in fares.holidays:
         return False
-    lows = [STATIONS[tap.place][0] for tap in taps]
-    goes_in = span([tap.place for tap in taps])[0] == 1 and lows[0] > 1 and lows[-1] == 1
+    lows = [fares.stations[tap.place][0] for tap in taps]
+    goes_in = span(fares, [tap.place for tap in taps])[0] == 1 and lows[0] > 1 and lows[-1] == 1
     return is_within(utc, MORNING) or is_within(utc, EVENING) and not goes_in
 
 
-def parts(taps):
+def parts(fares, taps):
     """Rail taps in their order: each In with the Out right behind it, if they are a leg, and every other one alone."""
     made = []
     for tap in taps:
         before = made[-1][-1] if made else None
-        if before and (before.kind, tap.kind) == ("IN", "OUT") and tap.utc - before.utc <= limit(before.place, tap.place):
+        if before and (before.kind, tap.kind) == ("IN", "OUT") and tap.utc - before.utc <= limit(fares, before.place, tap.place):
             made[-1] = [before, tap]
         else:
             made.append([tap])
     return made
 
 
-def is_linked(part, behind):
+def is_linked(fares, part, behind):
     if len(part) == 1 or len(behind) == 1 or any(entry.place == out.place for entry, out in (part, behind)):
         return False
     out, entry = part[1], behind[0]
-    return entry.utc - out.utc <= INTERCHANGES.get(frozenset((out.place, entry.place)), -1)
+    return entry.utc - out.utc <= fares.interchanges.get(frozenset((out.place, entry.place)), -1)
 
 
-def runs(parts):
+def runs(fares, parts):
     """Legs and lone taps in their order, and together those legs of which each is linked with the next."""
     made = []
     for part in parts:
-        if made and is_linked(made[-1][-1], part):
+        if made and is_linked(fares, made[-1][-1], part):
             made[-1].append(part)
         else:
             made.append([part])
     return made
 
 
-def rail_journey(run):
+def rail_journey(fares, run):
     taps = [tap for part in run for tap in part]
     first, last = taps[0], taps[-1]
     if first is last:
         start, end = (0, first.place) if first.kind == "OUT" else (first.place, 0)
-        return Journey(first.utc, "LONE", start, end, MAXIMUM)
-    peak, off = SINGLE[span([tap.place for tap in taps])]
-    fare = peak if is_peak(taps) else off
+        return Journey(first.utc, "LONE", start, end, fares.maximum)
+    zones = span(fares, [tap.place for tap in taps])
+    peak, off = fares.single[zones]
+    fare = peak if is_peak(fares, taps) else off
     if len(taps) == 2 and first.place == last.place:
-        return Journey(first.utc, "SAME", first.place, last.place, 0 if last.utc - first.utc <= SAME_FREE else fare)
-    return Journey(first.utc, "RAIL", first.place, last.place, fare)
+        return Journey(first.utc, "SAME", first.place, last.place, 0 if last.utc - first.utc <= fares.same_free else fare, zones)
+    return Journey(first.utc, "RAIL", first.place, last.place, fare, zones)
 
 
-def boardings(taps):
+def boardings(fares, taps):
     """The journeys by bus, each beside its tap: one pays if none that pays is near before it."""
     paid = None
     for tap in taps:
-        pays = paid is None or tap.utc - paid > HOPPER
+        pays = paid is None or tap.utc - paid > fares.hopper
         paid = tap.utc if pays else paid
-        yield tap, Journey(tap.utc, "BUS", tap.place, 0, BUS if pays else 0)
+        yield tap, Journey(tap.utc, "BUS", tap.place, 0, fares.bus if pays else 0)
 
 
-def journeys(taps):
+def journeys(fares, taps):
     """The journeys of an account's taps, in the order of their first taps."""
     rail = [tap for tap in sorted(taps) if tap.kind != "BUS"]
-    made = [(run[0][0], rail_journey(run)) for run in runs(parts(rail))]
-    made += boardings(tap for tap in sorted(taps) if tap.kind == "BUS")
+    made = [(run[0][0], rail_journey(fares, run)) for run in runs(fares, parts(fares, rail))]
+    made += boardings(fares, (tap for tap in sorted(taps) if tap.kind == "BUS"))
     return [journey for _, journey in sorted(made)]
 
 
-def reply(taps, tap):
+def sums(journeys):
+    """The fares of journeys by their spans, those by bus as one, lone taps left out; and those of lone taps."""
+    fares, lone = {}, 0
+    for journey in journeys:
+        if journey.kind == "LONE":
+            lone += journey.fare
+        else:
+            fares[journey.span] = fares.get(journey.span, 0) + journey.fare
+    return fares, lone
+
+
+def outside(band, day):
+    """Those of a day's fares that a band does not cover."""
+    return {span: pence for span, pence in day.items() if span != BY_BUS and not (band.low <= span[0] and span[1] <= band.high)}
+
+
+def capped(bands, day):
+    """The price of a day's fares."""
+    return min([sum(day.values()), *(band.day + sum(outside(band, day).values()) for band in bands)])
+
+
+def capped_week(bands, days):
+    """The price of the fares of each day of a week."""
+    prices = [sum(capped(bands, day) for day in days)]
+    prices += (band.week + sum(capped(bands, left) for left in (outside(band, day) for day in days) if left) for band in bands)
+    return min(prices)
+
+
+def day_price(fares, journeys):
+    day, lone = sums(journeys)
+    return capped(fares.bands, day) + lone
+
+
+def week_price(fares, days):
+    """The price of a week, by the journeys of each day."""
+    days, lone = zip(*map(sums, days))
+    return capped_week(fares.bands, days) + sum(lone)
+
+
+def reply(fares, taps, tap):
     """The reply to a tap of an account that has `taps`, this one among them."""
-    day, day_price, week_price = service_day(tap.utc), 0, 0
-    for journey in journeys(taps):
-        on = service_day(journey.utc)
-        day_price += journey.fare if on == day else 0
-        week_price += journey.fare if monday(on) == monday(day) else 0
-    return f"OK {day} {day_price} {week_price}\n"
+    day, days = service_day(tap.utc), {}
+    for journey in journeys(fares, taps):
+        days.setdefault(service_day(journey.utc), []).append(journey)
+    week = [made for on, made in days.items() if monday(on) == monday(day)]
+    return f"OK {day} {day_price(fares, days.get(day, []))} {week_price(fares, week or [[]])}\n"
 
 
-def shown(account, taps, day):
+def shown(fares, account, taps, day):
     """The lines that answer SHOW."""
-    listed = [journey for journey in journeys(taps) if service_day(journey.utc) == day]
-    head = f"SHOW {account} {day} {len(listed)} {sum(journey.fare for journey in listed)}\n"
+    listed = [journey for journey in journeys(fares, taps) if service_day(journey.utc) == day]
+    head = f"SHOW {account} {day} {len(listed)} {day_price(fares, listed)}\n"
     return [head] + [f"JNY {it.kind} {it.start} {it.end} {it.utc} {it.fare}\n" for it in listed]
+
+
+def array(items):
+    return "[" + "".join(f"\n  {item}," for item in items) + "\n]"
+
+
+def fare_file(fares):
+    """The text of a fare file that says this."""
+    singles = (f"{{ from = {low}, to = {high}, peak = {peak}, off = {off} }}" for (low, high), (peak, off) in fares.single.items())
+    bands = (f"{{ from = {it.low}, to = {it.high}, day = {it.day}, week = {it.week} }}" for it in fares.bands)
+    stations = (f"{{ place = {place}, low = {low}, high = {high}, operator = 16 }}" for place, (low, high) in fares.stations.items())
+    routes = (f"{{ place = {place}, operator = 1 }}" for place in fares.routes)
+    interchanges = (f"{{ a = {min(pair)}, b = {max(pair)}, seconds = {seconds} }}" for pair, seconds in fares.interchanges.items())
+    return f"""\
+zones = {len(fares.minutes)}
+minutes = {fares.minutes}
+single = {array(singles)}
+band = {array(bands)}
+holidays = {fares.holidays}
+station = {array(stations)}
+route = {array(routes)}
+interchange = {array(interchanges)}
+
+[rules]
+bus = {fares.bus}
+maximum = {fares.maximum}
+hopper = {fares.hopper}
+same_free = {fares.same_free}
+same_limit = {fares.same_limit}
+"""

@@ -1,4 +1,5 @@
 pub mod Accounts
+pub mod Check
 pub mod Desk
 pub mod Faults
 pub mod Machine

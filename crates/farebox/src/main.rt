@@ -3,6 +3,7 @@
 
 mod accounts;
 mod begun_line;
+mod check;
 mod cut;
 mod desk;
 mod fault;

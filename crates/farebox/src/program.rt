@@ -3,6 +3,7 @@ ghost use Rattle.std.specs.Prelude.{◌≡◌, ◌≢◌};
 ghost use Rattle.std.specs.IoError.{error_kind};
 ghost use Rattle.farebox.specs.Faults.{IsTextOrFault, IsWantOfMemory};
 
+use crate::check::check_text;
 use crate::fault::Fault;
 use crate::run::run_texts;
 use pay_words::{Job, RunWords, WordsFault, read_words};
@@ -47,6 +48,7 @@ pub fn execute<R: Env + Files + Input + Print + AllocGlobal>(rt: &R) -> Result<(
     }
     match read_words(rt.alloc(), words.as_slice()) {
         Ok(Job::Run(words)) => run_session(rt, &words),
+        Ok(Job::Check { fares }) => check_fares(rt, fares),
         Err(none) => {
             let text = text_or_fault(none)?;
             rt.print(text.as_str()).map_err(|_| Fault::Output)
@@ -54,15 +56,26 @@ pub fn execute<R: Env + Files + Input + Print + AllocGlobal>(rt: &R) -> Result<(
     }
 }
 
+/// The text of the fare file at this path.
+fn fares_text<R: Files + AllocGlobal>(rt: &R, path: &str) -> Result<String, Fault> {
+    match fs::read_to_string(rt, path) {
+        Ok(fares) => Ok(fares),
+        Err(error) => Err(memory_or(&error, Fault::CannotReadFares)),
+    }
+}
+
+/// How many of each thing the fare file at this path has, to standard output.
+fn check_fares<R: Files + Print + AllocGlobal>(rt: &R, path: &str) -> Result<(), Fault> {
+    let fares = fares_text(rt, path)?;
+    check_text(rt.alloc(), fares.as_str(), &mut io::writer(rt))
+}
+
 /// One session, from standard input to standard output.
 fn run_session<R: Files + Input + Print + AllocGlobal>(
     rt: &R,
     words: &RunWords<'_>,
 ) -> Result<(), Fault> {
-    let fares = match fs::read_to_string(rt, words.fares) {
-        Ok(fares) => fares,
-        Err(error) => return Err(memory_or(&error, Fault::CannotReadFares)),
-    };
+    let fares = fares_text(rt, words.fares)?;
     let (alloc, zone) = (rt.alloc(), words.zone);
     let mut input = rt.reader();
     let mut writer = io::writer(rt);

@@ -8,6 +8,7 @@ use std::io::{BufRead, Write};
 use std::sync::Arc;
 use std::test::Fail;
 
+mod checks;
 mod fills;
 mod lines;
 mod orders;

@@ -1,11 +1,13 @@
 -- The words of which a job was made, in their order.
-use Rattle.std.proofs.Common.{◌≡◌, ◌∙◌, ℕ, Bool, codes, true, false, zero, suc, refl, ap, subst, List, [], ◌∷◌, None, inl, inr, drop, slice_index, ◌≢◌}
-use Rattle.std.specs.Str.{bytes_eq}
+use Rattle.std.proofs.Common.{◌≡◌, ◌∙◌, ℕ, codes, false, zero, suc, refl, ap, List, [], ◌∷◌, None, inl, inr, drop, slice_index, ◌≢◌}
 use Rattle.clap.specs.Walk.{Text}
-use Rattle.pay_words.specs.Asked.{Word, asked, given, word_kind, option_asked, run_asked, run, help_named, Given, all_given, given_by, with_value, values, help, refused, without_dashes}
+use Rattle.std.specs.Prelude.{⊤}
+use Rattle.pay_words.specs.Asked.{Asked, Word, asked, given, word_kind, option_asked, program_asked, run_asked, run, check_asked, check}
+use Rattle.pay_words.specs.Asked.{Given, all_given, given_by, with_value, values, help, refused, without_dashes}
 use Rattle.pay_words.specs.Asked as words
 use Rattle.std.proofs.lemmas.Bool.Decides.{eqb_tells}
-use Rattle.pay_words.proofs.WordKinds.{Reads, reads, same_bytes}
+use Rattle.pay_words.proofs.Programs.{by_program}
+use Rattle.pay_words.proofs.WordKinds.{Reads, reads}
 use Rattle.pay_words.proofs.WordsAfterRun.{run_long, run_rules, run_short}
 
 abbrev listed : Given → List Text
@@ -45,42 +47,48 @@ given_are n (word ∷ rest) vs e = go (word_kind word) (any_row word) n e (λ m 
     go words.call_for_version r n e next = cc
     go words.option r n e next = cc
 
--- the two values of a job of `run`
-run_given : (g : Given) (a b : Text) → run_asked g ≡ run a b → g ≡ values (a ∷ b ∷ [])
-run_given (values []) a b e = cc
-run_given (values (x ∷ [])) a b e = cc
-run_given (values (x ∷ y ∷ [])) a b e = cc
-run_given (values (x ∷ y ∷ z ∷ rest)) a b e = cc
-run_given help a b e = cc
-run_given refused a b e = cc
+-- the words after the program's own name, of a job, and what they were where there is none
+abbrev pub AreWordsOf : Asked → List Text → Type 0
+AreWordsOf (run a b) ws = without_dashes ws ≡ codes "run" ∷ a ∷ b ∷ []
+AreWordsOf (check a) ws = without_dashes ws ≡ codes "check" ∷ a ∷ []
+AreWordsOf _ ws = ⊤
 
-option_no_run : (k : Word) (a b : Text) → option_asked k ≡ run a b → ⊥
-option_no_run words.value a b e = cc
-option_no_run words.dashes a b e = cc
-option_no_run words.call_for_help a b e = cc
-option_no_run words.call_for_version a b e = cc
-option_no_run words.option a b e = cc
+after_run : (rest : List Text) → AreWordsOf (run_asked (given 2 rest)) (codes "run" ∷ rest)
+after_run rest = go (given 2 rest) refl
+  where
+    go : (g : Given) → given 2 rest ≡ g → AreWordsOf (run_asked g) (codes "run" ∷ rest)
+    go (values []) e = tt
+    go (values (a ∷ [])) e = tt
+    go (values (a ∷ b ∷ [])) e = ap (λ (l : List Text). codes "run" ∷ l) (given_are 2 rest (a ∷ b ∷ []) e)
+    go (values (a ∷ b ∷ c ∷ more)) e = tt
+    go help e = tt
+    go refused e = tt
+
+after_check : (rest : List Text) → AreWordsOf (check_asked (given 1 rest)) (codes "check" ∷ rest)
+after_check rest = go (given 1 rest) refl
+  where
+    go : (g : Given) → given 1 rest ≡ g → AreWordsOf (check_asked g) (codes "check" ∷ rest)
+    go (values []) e = tt
+    go (values (a ∷ [])) e = ap (λ (l : List Text). codes "check" ∷ l) (given_are 1 rest (a ∷ []) e)
+    go (values (a ∷ b ∷ more)) e = tt
+    go help e = tt
+    go refused e = tt
+
+after_option : (k : Word) (ws : List Text) → AreWordsOf (option_asked k) ws
+after_option words.value ws = tt
+after_option words.dashes ws = tt
+after_option words.call_for_help ws = tt
+after_option words.call_for_version ws = tt
+after_option words.option ws = tt
 
 -- but for the first, and for a `--`, the words are those of the job
-pub in_order : (ws : List Text) (a b : Text) → asked ws ≡ run a b → without_dashes (drop 1 ws) ≡ codes "run" ∷ a ∷ b ∷ []
-in_order [] a b e = cc
-in_order (name ∷ []) a b e = cc
-in_order (name ∷ word ∷ rest) a b e = go (bytes_eq (codes "run") word) refl (bytes_eq (codes "help") word) refl
-  where
-    go : (t : Bool) → bytes_eq (codes "run") word ≡ t → (u : Bool) → bytes_eq (codes "help") word ≡ u → without_dashes (word ∷ rest) ≡ codes "run" ∷ a ∷ b ∷ []
-    go true t u v =
-        let is : codes "run" ≡ word = same_bytes (codes "run") word t in
-        let asks : run_asked (given 2 rest) ≡ run a b = rw t at e in
-        subst (λ (w : Text). without_dashes (w ∷ rest) ≡ codes "run" ∷ a ∷ b ∷ []) is
-        (ap (λ (l : List Text). codes "run" ∷ l) (given_are 2 rest (a ∷ b ∷ []) (run_given (given 2 rest) a b asks)))
-    go false t true v =
-        let asks : help_named ≡ run a b = rw (t, v) at e in
-        cc
-    go false t false v =
-        let asks : option_asked (word_kind word) ≡ run a b = rw (t, v) at e in
-        absurd (option_no_run (word_kind word) a b asks)
+pub in_order : (ws : List Text) → AreWordsOf (asked ws) (drop 1 ws)
+in_order [] = tt
+in_order (name ∷ []) = tt
+in_order (name ∷ word ∷ rest) = by_program (λ (w : Text). AreWordsOf (program_asked w rest) (w ∷ rest)) word (after_run rest) (after_check rest) tt
+    (λ no_run no_check no_help. rw (no_run, no_check, no_help) (after_option (word_kind word) (word ∷ rest)))
 
--- two words with no hyphen before them are the values of `run`
+-- words with no hyphen before them are values
 no_hyphen : (w : Text) → slice_index w 0 ≢ 45 → word_kind w ≡ words.value
 no_hyphen [] ne = refl
 no_hyphen (b ∷ rest) ne = elim (eqb_tells b 45) [
@@ -91,3 +99,6 @@ no_hyphen (b ∷ rest) ne = elim (eqb_tells b 45) [
 pub asks_run : (ws : List Text) (name fares zone : Text) → ws ≡ name ∷ codes "run" ∷ fares ∷ zone ∷ [] → slice_index fares 0 ≢ 45 → slice_index zone 0 ≢ 45
     → asked ws ≡ run fares zone
 asks_run ws name fares zone is f z = ap asked is ∙ (rw (no_hyphen fares f, no_hyphen zone z) refl)
+
+pub asks_check : (ws : List Text) (name fares : Text) → ws ≡ name ∷ codes "check" ∷ fares ∷ [] → slice_index fares 0 ≢ 45 → asked ws ≡ check fares
+asks_check ws name fares is f = ap asked is ∙ (rw (no_hyphen fares f) refl)

@@ -1,6 +1,9 @@
 mod JobWords
+mod Programs
 mod Results
 mod WordKinds
 mod WordLevels
+mod WordsAfterCheck
 mod WordsAfterRun
 mod WordsAsked
+mod WordsOfProgram

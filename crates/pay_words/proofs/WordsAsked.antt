@@ -1,18 +1,20 @@
 -- What `clap` makes of the words of the process.
-use Rattle.std.proofs.Common.{◌≡◌, ◌∙◌, ◌++◌, Bool, codes, true, false, refl, sym, ap, ap₂, subst, List, [], ◌∷◌, Option, Some, None, is_some, append-nil, append_assoc}
+use Rattle.std.proofs.Common.{◌≡◌, ◌∙◌, ◌++◌, codes, true, false, refl, sym, ap, ap₂, subst, List, [], ◌∷◌, Option, Some, None, is_some, append-nil, append_assoc}
 use Rattle.std.specs.Prelude.{fold}
-use Rattle.std.specs.Str.{bytes_eq}
 use Rattle.clap.specs.Walk.{Names, Row, Text, Walk, idle, finished, settled, subcommand_met, walked}
 use Rattle.clap.specs.Simple.{App, Shape, built, built_leaf, entered, help_shape, new_shape, subcommand_of}
 use Rattle.clap.specs.Kinds.{Kinds, or_else}
 use Rattle.clap.specs.Faults.{check_fault, defaults_fault, entered_fault, fault_of, flags_fault, settle_fault, turn_fault, walk_fault}
 use Rattle.clap.specs.declared.error.kind.ErrorKind.TheVariants.{DisplayHelp, DisplayVersion, InvalidSubcommand, UnknownArgument}
-use Rattle.pay_words.specs.Asked.{Asked, Word, asked, given, word_kind, option_asked, program_asked, run_asked, run, help_asked, help_named, version_asked, usage}
+use Rattle.pay_words.specs.Asked.{Asked, Word, asked, check_asked, given, word_kind, option_asked, program_asked, run_asked}
 use Rattle.pay_words.specs.Asked as words
 use Rattle.pay_words.specs.CommandLine.{farebox_app}
-use Rattle.pay_words.proofs.WordKinds.{LongOptions, Reads, Refuses, ShortOptions, help_filled, reads, same_bytes, version_filled}
+use Rattle.pay_words.proofs.Programs.{by_program}
+use Rattle.pay_words.proofs.WordKinds.{LongOptions, Reads, Refuses, ShortOptions, help_filled, reads, version_filled}
 use Rattle.pay_words.proofs.WordLevels.{Level, place, refuses_first, turn_dashes, turn_refuses, turn_shows, turn_value, walked_dashes, rows_from}
-use Rattle.pay_words.proofs.WordsAfterRun.{Ends, run_ends, run_rows, run_shape}
+use Rattle.pay_words.proofs.WordsOfProgram.{Comes}
+use Rattle.pay_words.proofs.WordsAfterCheck.{check_ends, check_shape}
+use Rattle.pay_words.proofs.WordsAfterRun.{run_ends, run_shape}
 
 abbrev top_shape : Shape
 top_shape = record (new_shape (codes "farebox")) { rules = help_filled ∷ version_filled ∷ []; is_leaf = false; has_version = true; subcommand_required = true; is_built = true }
@@ -21,13 +23,13 @@ abbrev help_built : Shape
 help_built = built_leaf (record help_shape { disable_help_subcommand = true })
 
 abbrev farebox_built : App
-farebox_built = record { top = top_shape; subs = run_shape ∷ help_built ∷ [] }
+farebox_built = record { top = top_shape; subs = run_shape ∷ check_shape ∷ help_built ∷ [] }
 
 built_farebox : built farebox_app ≡ farebox_built
 built_farebox = refl
 
 abbrev names : Names
-names = (codes "run", []) ∷ (codes "help", []) ∷ []
+names = (codes "run", []) ∷ (codes "check", []) ∷ (codes "help", []) ∷ []
 
 top_long : LongOptions top_shape.rules true
 top_long name = refl
@@ -59,57 +61,60 @@ fault_is name words = refl
 subcommand_is : (name : Text) (words : List Text) → subcommand_of farebox_app (name ∷ words) ≡ entered farebox_built (end_of start words).stopped
 subcommand_is name words = refl
 
--- what a parse comes to, by what the words ask for
-abbrev pub Comes : Asked → Kinds → Option (Text × List Row) → Type 0
-Comes (run a b) ks sub = (ks ≡ []) × (sub ≡ Some (codes "run", run_rows a b))
-Comes help_asked ks sub = ks ≡ DisplayHelp ∷ []
-Comes help_named ks sub = ks ≡ DisplayHelp ∷ InvalidSubcommand ∷ []
-Comes version_asked ks sub = ks ≡ DisplayVersion ∷ []
-Comes usage ks sub = Refuses ks
+-- ---- `run` and `check`
 
--- ---- `run`
+-- the walk has met the name of a program, and these words after it
+abbrev met : Text → List Text → Walk
+met program after = record { held = start.held; waiting = idle; position = 1; is_trailing = false; stopped = Some (program, after) }
 
--- the walk has met `run`, and these words after it
-abbrev in_run : List Text → Walk
-in_run after = record { held = start.held; waiting = idle; position = 1; is_trailing = false; stopped = Some (codes "run", after) }
-
-run_words : (after rest : List Text) → end_of (in_run after) rest ≡ in_run (after ++ rest)
+met_words : (program : Text) (after rest : List Text) → end_of (met program after) rest ≡ met program (after ++ rest)
 unfolding walked
-run_words after [] = ap in_run (sym (append-nil after))
-run_words after (word ∷ rest) = run_words (after ++ word ∷ []) rest ∙ ap in_run (append_assoc after (word ∷ []) rest)
+met_words program after [] = ap (met program) (sym (append-nil after))
+met_words program after (word ∷ rest) = met_words program (after ++ word ∷ []) rest ∙ ap (met program) (append_assoc after (word ∷ []) rest)
 
-no_kinds : (after rest : List Text) → walk_fault top_shape names (in_run after) rest ≡ []
+no_kinds : (program : Text) (after rest : List Text) → walk_fault top_shape names (met program after) rest ≡ []
 unfolding walked walk_fault
-no_kinds after [] = refl
-no_kinds after (word ∷ rest) = no_kinds (after ++ word ∷ []) rest
+no_kinds program after [] = refl
+no_kinds program after (word ∷ rest) = no_kinds program (after ++ word ∷ []) rest
 
 or_nothing : (a : Kinds) → or_else a [] ≡ a
 or_nothing [] = refl
 or_nothing (k ∷ ks) = refl
 
-met_run : (rest : List Text) → whole start (codes "run" ∷ rest) ≡ end_kinds [] (in_run rest)
-unfolding walked walk_fault
-met_run rest = ap₂ end_kinds (no_kinds [] rest) (run_words [] rest)
+-- what the words after the name come to, and what all of them do
+abbrev below : Shape → List Text → Kinds
+below s rest = Level s [] (place [] None 1 false) rest false []
 
-run_kinds : (rest : List Text) → end_kinds [] (in_run rest) ≡ Level run_shape [] (place [] None 1 false) rest false []
-unfolding defaults_fault
-run_kinds rest = or_nothing (Level run_shape [] (place [] None 1 false) rest false [])
+abbrev rows_below : Shape → List Text → List Row
+rows_below s rest = rows_from s [] (place [] None 1 false) rest
 
-run_entered : (rest : List Text) → entered farebox_built (end_of start (codes "run" ∷ rest)).stopped ≡ Some (codes "run", rows_from run_shape [] (place [] None 1 false) rest)
+met_run : (rest : List Text) → whole start (codes "run" ∷ rest) ≡ below run_shape rest
+unfolding walked walk_fault defaults_fault
+met_run rest = ap₂ end_kinds (no_kinds (codes "run") [] rest) (met_words (codes "run") [] rest) ∙ or_nothing (below run_shape rest)
+
+run_entered : (rest : List Text) → entered farebox_built (end_of start (codes "run" ∷ rest)).stopped ≡ Some (codes "run", rows_below run_shape rest)
 unfolding walked
-run_entered rest = ap (λ (w : Walk). entered farebox_built w.stopped) (run_words [] rest)
+run_entered rest = ap (λ (w : Walk). entered farebox_built w.stopped) (met_words (codes "run") [] rest)
 
--- the same outcome, of the process's words and of those after `run`
-lifted : (x : Asked) (ks : Kinds) (rows : List Row) (all : Kinds) (sub : Option (Text × List Row)) → all ≡ ks → sub ≡ Some (codes "run", rows) → Ends x ks rows → Comes x all sub
-lifted (run a b) ks rows all sub same is h = (same ∙ h.0, is ∙ ap (λ (r : List Row). Some (codes "run", r)) h.1)
-lifted help_asked ks rows all sub same is h = same ∙ h
-lifted help_named ks rows all sub same is h = same ∙ h
-lifted version_asked ks rows all sub same is h = same ∙ h
-lifted usage ks rows all sub same is h = subst Refuses (sym same) h
+met_check : (rest : List Text) → whole start (codes "check" ∷ rest) ≡ below check_shape rest
+unfolding walked walk_fault defaults_fault
+met_check rest = ap₂ end_kinds (no_kinds (codes "check") [] rest) (met_words (codes "check") [] rest) ∙ or_nothing (below check_shape rest)
+
+check_entered : (rest : List Text) → entered farebox_built (end_of start (codes "check" ∷ rest)).stopped ≡ Some (codes "check", rows_below check_shape rest)
+unfolding walked
+check_entered rest = ap (λ (w : Walk). entered farebox_built w.stopped) (met_words (codes "check") [] rest)
+
+lifted : (x : Asked) (ks all : Kinds) (sub entry : Option (Text × List Row)) → all ≡ ks → entry ≡ sub → Comes x ks sub → Comes x all entry
+lifted x ks all sub entry same is h =
+    subst (λ (k : Kinds). Comes x k entry) (sym same) (subst (λ (e : Option (Text × List Row)). Comes x ks e) (sym is) h)
 
 run_comes : (name : Text) (rest : List Text) → Comes (run_asked (given 2 rest)) (fault_of farebox_app (name ∷ codes "run" ∷ rest)) (subcommand_of farebox_app (name ∷ codes "run" ∷ rest))
-run_comes name rest = lifted (run_asked (given 2 rest)) (Level run_shape [] (place [] None 1 false) rest false []) (rows_from run_shape [] (place [] None 1 false) rest) _ _
-    (fault_is name (codes "run" ∷ rest) ∙ (met_run rest ∙ run_kinds rest)) (subcommand_is name (codes "run" ∷ rest) ∙ run_entered rest) (run_ends rest)
+run_comes name rest = lifted (run_asked (given 2 rest)) (below run_shape rest) _ (Some (codes "run", rows_below run_shape rest)) _
+    (fault_is name (codes "run" ∷ rest) ∙ met_run rest) (subcommand_is name (codes "run" ∷ rest) ∙ run_entered rest) (run_ends rest)
+
+check_comes : (name : Text) (rest : List Text) → Comes (check_asked (given 1 rest)) (fault_of farebox_app (name ∷ codes "check" ∷ rest)) (subcommand_of farebox_app (name ∷ codes "check" ∷ rest))
+check_comes name rest = lifted (check_asked (given 1 rest)) (below check_shape rest) _ (Some (codes "check", rows_below check_shape rest)) _
+    (fault_is name (codes "check" ∷ rest) ∙ met_check rest) (subcommand_is name (codes "check" ∷ rest) ∙ check_entered rest) (check_ends rest)
 
 -- ---- any other word
 
@@ -157,16 +162,9 @@ pub comes : (ws : List Text) → Comes (asked ws) (fault_of farebox_app ws) (sub
 unfolding walk_fault flags_fault walked defaults_fault
 comes [] = refl
 comes (name ∷ []) = refl
-comes (name ∷ word ∷ rest) = go (bytes_eq (codes "run") word) refl (bytes_eq (codes "help") word) refl
-  where
-    go : (t : Bool) → bytes_eq (codes "run") word ≡ t → (u : Bool) → bytes_eq (codes "help") word ≡ u
-        → Comes (program_asked word rest) (fault_of farebox_app (name ∷ word ∷ rest)) (subcommand_of farebox_app (name ∷ word ∷ rest))
-    go true t u v = subst (λ (w : Text). Comes (program_asked w rest) (fault_of farebox_app (name ∷ w ∷ rest)) (subcommand_of farebox_app (name ∷ w ∷ rest)))
-        (same_bytes (codes "run") word t) (run_comes name rest)
-    go false t true v = subst (λ (w : Text). Comes (program_asked w rest) (fault_of farebox_app (name ∷ w ∷ rest)) (subcommand_of farebox_app (name ∷ w ∷ rest)))
-        (same_bytes (codes "help") word v) refl
-    go false t false v =
-        let unmet : subcommand_met names idle word ≡ None = rw (t, v) refl in
-        let asks : program_asked word rest ≡ option_asked (word_kind word) = rw (t, v) refl in
-        subst (λ (x : Asked). Comes x (fault_of farebox_app (name ∷ word ∷ rest)) (subcommand_of farebox_app (name ∷ word ∷ rest))) (sym asks)
-        (option_comes name word rest unmet (word_kind word) (reads top_shape.rules true top_long top_short [] None refl word))
+comes (name ∷ word ∷ rest) = by_program (λ (w : Text). Comes (program_asked w rest) (fault_of farebox_app (name ∷ w ∷ rest)) (subcommand_of farebox_app (name ∷ w ∷ rest)))
+    word (run_comes name rest) (check_comes name rest) refl (λ no_run no_check no_help.
+    let unmet : subcommand_met names idle word ≡ None = rw (no_run, no_check, no_help) refl in
+    let asks : program_asked word rest ≡ option_asked (word_kind word) = rw (no_run, no_check, no_help) refl in
+    subst (λ (x : Asked). Comes x (fault_of farebox_app (name ∷ word ∷ rest)) (subcommand_of farebox_app (name ∷ word ∷ rest))) (sym asks)
+    (option_comes name word rest unmet (word_kind word) (reads top_shape.rules true top_long top_short [] None refl word)))

@@ -4,7 +4,7 @@ use Rattle.std.specs.Prelude.{◌⊎◌, ⊤, Option, Some, None, slice_get, if�
 use Rattle.std.specs.Str.{bytes_eq, chars}
 use Rattle.std.specs.String.{string_bytes}
 use Rattle.pay_words.specs.declared.words.Job.{Job}
-use Rattle.pay_words.specs.declared.words.Job.TheVariants.{Run}
+use Rattle.pay_words.specs.declared.words.Job.TheVariants.{Run, Check}
 use Rattle.pay_words.specs.declared.words.WordsFault.{WordsFault}
 use Rattle.pay_words.specs.declared.words.WordsFault.TheVariants.{Help, Version, Usage, Memory}
 
@@ -82,6 +82,8 @@ given n (word ∷ rest) = given_by (word_kind word) n word rest (λ m. given m r
 pub data Asked : Type 0 where
   -- `run` with its fare file and zone
   run : Text → Text → Asked
+  -- `check` with its fare file
+  check : Text → Asked
   -- help, by `-h` or `--help`
   help_asked : Asked
   -- the word `help`: help, or usage where a word after it names no program
@@ -97,6 +99,12 @@ run_asked (values (fares ∷ zone ∷ [])) = run fares zone
 run_asked help = help_asked
 run_asked _ = usage
 
+-- `check FARES`
+abbrev pub check_asked : Given → Asked
+check_asked (values (fares ∷ [])) = check fares
+check_asked help = help_asked
+check_asked _ = usage
+
 abbrev pub option_asked : Word → Asked
 option_asked call_for_help = help_asked
 option_asked call_for_version = version_asked
@@ -104,7 +112,9 @@ option_asked _ = usage
 
 abbrev pub program_asked : Text → List Text → Asked
 program_asked program rest = if bytes_eq (codes "run") program then run_asked (given 2 rest)
-    else (if bytes_eq (codes "help") program then help_named else option_asked (word_kind program))
+    else (if bytes_eq (codes "check") program then check_asked (given 1 rest)
+    else (if bytes_eq (codes "help") program then help_named
+    else option_asked (word_kind program)))
 
 -- the first word is the program's own name, and the second names what it is to do
 abbrev pub asked : List Text → Asked
@@ -119,10 +129,12 @@ version_line = codes "farebox 0.1.0\n"
 
 abbrev pub job_asked : Job → Asked
 job_asked (Run w) = run w.fares.now w.zone.now
+job_asked (Check fares) = check fares.now
 
 -- the words that the job was made of
 abbrev pub job_words : Job → List Text
 job_words (Run w) = codes "run" ∷ w.fares.now ∷ w.zone.now ∷ []
+job_words (Check fares) = codes "check" ∷ fares.now ∷ []
 
 -- what the fault says of the words; memory may be refused at any words
 abbrev pub IsFaultOf : Asked → WordsFault → Type 0
@@ -162,6 +174,23 @@ long_row = refl
 option_row : row (codes "run" ∷ codes "a" ∷ codes "b" ∷ codes "--x" ∷ []) ≡ usage
 unfolding chars
 option_row = refl
+
+check_row : row (codes "check" ∷ codes "a" ∷ []) ≡ check (codes "a")
+unfolding chars
+check_row = refl
+
+check_dashes_row : row (codes "check" ∷ codes "--" ∷ codes "-a" ∷ []) ≡ check (codes "-a")
+unfolding chars
+check_dashes_row = refl
+
+-- a fare file is all that is checked
+check_zone_row : row (codes "check" ∷ codes "a" ∷ codes "b" ∷ []) ≡ usage
+unfolding chars
+check_zone_row = refl
+
+check_help_row : row (codes "check" ∷ codes "-h" ∷ []) ≡ help_asked
+unfolding chars
+check_help_row = refl
 
 help_row : row (codes "run" ∷ codes "a" ∷ codes "--help" ∷ []) ≡ help_asked
 unfolding chars

@@ -1,5 +1,5 @@
 -- What the command line takes, as `clap` has it, and what its matches and errors come to.
-use Rattle.std.specs.Prelude.{◌≡◌, ⊤, true, codes, List, Option, Some, option_map}
+use Rattle.std.specs.Prelude.{◌≡◌, ⊤, true, codes, List, Option, Some, None, option_map}
 use Rattle.std.specs.String.{string_bytes}
 use Rattle.clap.specs.Words.{App, Row, Rule, Text, first_of, new_app, new_rule, subcommand_rows_of}
 use Rattle.clap.specs.Words.{with_rule, with_subcommand}
@@ -21,12 +21,16 @@ abbrev pub run_app : App
 run_app = with_rule (with_rule (new_app (codes "run")) (required_word (codes "FARES")))
     (required_word (codes "ZONE"))
 
+-- `check FARES`
+abbrev pub check_app : App
+check_app = with_rule (new_app (codes "check")) (required_word (codes "FARES"))
+
 -- the program, which has a version, and wants one of its programs named
 abbrev pub farebox_app : App
-farebox_app = with_subcommand
+farebox_app = with_subcommand (with_subcommand
     (on_top (λ top. record top { has_version = true; subcommand_required = true })
     (new_app (codes "farebox")))
-    run_app.top
+    run_app.top) check_app.top
 
 -- the subcommand that the matches have, with its values
 abbrev pub values_in : Text × List Row → Text × Option Text × Option Text
@@ -36,6 +40,11 @@ values_in p = (p.0, first_of (codes "FARES") p.1, first_of (codes "ZONE") p.1)
 abbrev pub GivesRun : ArgMatches → Text → Text → Type 0
 GivesRun m fares zone =
     option_map values_in (subcommand_rows_of m) ≡ Some (codes "run", Some fares, Some zone)
+
+-- the matches are those of `check` with this value
+abbrev pub GivesCheck : ArgMatches → Text → Type 0
+GivesCheck m fares =
+    option_map values_in (subcommand_rows_of m) ≡ Some (codes "check", Some fares, None)
 
 -- help was asked for, or memory was refused
 abbrev pub IsHelpOrMemory : WordsFault → Type 0

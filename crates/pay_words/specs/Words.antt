@@ -2,5 +2,5 @@
 -- named where they are declared, as `Rattle.pay_words.specs.declared.words.Job`.
 pub use Rattle.clap.specs.Walk.{texts}
 pub use Rattle.pay_words.specs.Asked.{Asked, IsFaultOf, Text, asked, job_asked, job_words}
-pub use Rattle.pay_words.specs.Asked.{help_asked, help_named, run, usage, version_asked, version_line}
-pub use Rattle.pay_words.specs.Asked.{without_dashes}
+pub use Rattle.pay_words.specs.Asked.{check, help_asked, help_named, run, usage, version_asked}
+pub use Rattle.pay_words.specs.Asked.{version_line, without_dashes}

@@ -6,6 +6,11 @@ pub const PROGRAM: &str = "The fare engine: prices contactless pay as you go tra
 /// What `run` does.
 pub const RUN: &str = "Read taps from standard input, and reply to each with what its account owes";
 
+/// What `check` does.
+pub const CHECK: &str = "\
+Read a fare file, and print how many places, bands, interchanges and holidays it has,
+or its first fault";
+
 /// What the word FARES is.
 pub const FARES: &str = "The fare file, a TOML document";
 
@@ -15,7 +20,7 @@ pub const ZONE: &str = "The time zone, a POSIX rule text such as GMT0BST,M3.5.0/
 
 /// What stands below the program's own help.
 pub const BELOW_PROGRAM: &str = "\
-Words of run:
+Words of run (FARES ZONE) and of check (FARES):
   FARES  the fare file, a TOML document
   ZONE   the time zone, a POSIX rule text (a name such as Europe/London is none)
 
@@ -46,3 +51,16 @@ Statuses:
   2  the words were refused
 
 The lines and replies, the fare file and the faults are described in docs/FORMATS.md.";
+
+/// What stands below the help of `check`.
+pub const BELOW_CHECK: &str = "\
+Example: a fare file of five stations and a bus route, with three bands that cap what is owed.
+  $ farebox check examples/sample.toml
+  OK places 6 bands 3 interchanges 1 holidays 1
+
+Statuses:
+  0  all right
+  1  a fault, which one line on standard error names
+  2  the words were refused
+
+The fare file and the faults are described in docs/FORMATS.md.";

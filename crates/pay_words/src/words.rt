@@ -4,10 +4,11 @@ ghost use Rattle.std.specs.Prelude.{IfOk, IfErr, IsOkAnd, MatchResult};
 ghost use Rattle.clap.specs.Walk.{texts};
 ghost use Rattle.clap.specs.Words.{app_of, first_value, found_of, kind_of};
 ghost use Rattle.clap.specs.declared.builder.command.Command.TheViews.{out-Command as fields_of};
-ghost use Rattle.pay_words.specs.CommandLine.{GivesRun, IsFaultOfKind, IsHelpOrMemory, IsVersionOrMemory};
-ghost use Rattle.pay_words.specs.CommandLine.{farebox_app, run_app};
+ghost use Rattle.pay_words.specs.CommandLine.{GivesCheck, GivesRun};
+ghost use Rattle.pay_words.specs.CommandLine.{IsFaultOfKind, IsHelpOrMemory, IsVersionOrMemory};
+ghost use Rattle.pay_words.specs.CommandLine.{check_app, farebox_app, run_app};
 ghost use Rattle.pay_words.specs.Asked.{IsFaultOf, Text, asked, job_asked, job_words};
-ghost use Rattle.pay_words.specs.Asked.{run as run_asked, without_dashes};
+ghost use Rattle.pay_words.specs.Asked.{check as check_asked, run as run_asked, without_dashes};
 ghost use Rattle.pay_words.specs.declared.words.WordsFault.TheVariants.{Memory};
 
 use crate::help;
@@ -23,6 +24,8 @@ const VERSION: &str = "0.1.0";
 pub enum Job<'a> {
     /// `run FARES ZONE`: one session, from standard input to standard output.
     Run(RunWords<'a>),
+    /// `check FARES`: how many of each thing the fare file of this path has.
+    Check { fares: &'a str },
 }
 
 /// The values of `run FARES ZONE`.
@@ -73,6 +76,12 @@ pub fn read_words<'a>(alloc: Global, words: &'a [&'a str]) -> Result<Job<'a>, Wo
         → slice_index fares 0 ≢ 45 → slice_index zone 0 ≢ 45
         → MatchResult result (λ job. job_asked job ≡ run_asked fares zone)
         (λ fault. fault ≡ Memory) }
+
+    // One word with no hyphen before it is the value of `check`.
+    ensures check { (name fares : Text) → texts words.entry.now ≡ name ∷ codes "check" ∷ fares ∷ []
+        → slice_index fares 0 ≢ 45
+        → MatchResult result (λ job. job_asked job ≡ check_asked fares)
+        (λ fault. fault ≡ Memory) }
 {
     let command = farebox_command(alloc)?;
     match command.try_get_matches_from(words) {
@@ -85,12 +94,14 @@ fn farebox_command<'a>(alloc: Global) -> Result<Command<'a>, AllocError>
     ensures { IfOk result (λ command. app_of command ≡ farebox_app) }
 {
     let run = run_command(alloc)?;
+    let check = check_command(alloc)?;
     Command::new(alloc, "farebox")
         .version(VERSION)
         .about(help::PROGRAM)
         .after_help(help::BELOW_PROGRAM)
         .subcommand_required(true)
-        .subcommand(run)
+        .subcommand(run)?
+        .subcommand(check)
 }
 
 fn run_command<'a>(alloc: Global) -> Result<Command<'a>, AllocError>
@@ -106,12 +117,26 @@ fn run_command<'a>(alloc: Global) -> Result<Command<'a>, AllocError>
         .arg(zone)
 }
 
+fn check_command<'a>(alloc: Global) -> Result<Command<'a>, AllocError>
+    ensures app { IfOk result (λ command. app_of command ≡ check_app) }
+    ensures local { IfOk result (λ command. (fields_of command).has_globals ≡ false) }
+{
+    let fares = Arg::new(alloc, "FARES").required(true).help(help::FARES);
+    Command::new(alloc, "check")
+        .about(help::CHECK)
+        .after_help(help::BELOW_CHECK)
+        .arg(fares)
+}
+
 fn job_of<'a>(matches: &ArgMatches<'a>) -> Result<Job<'a>, WordsFault>
-    ensures { (fares zone : Text) → GivesRun matches.now fares zone
+    ensures run { (fares zone : Text) → GivesRun matches.now fares zone
         → IsOkAnd result (λ job. job_asked job ≡ run_asked fares zone) }
+    ensures check { (fares : Text) → GivesCheck matches.now fares
+        → IsOkAnd result (λ job. job_asked job ≡ check_asked fares) }
 {
     match matches.subcommand() {
         Some(("run", run)) => run_job(run),
+        Some(("check", check)) => check_job(check),
         _ => Err(WordsFault::Usage),
     }
 }
@@ -125,6 +150,16 @@ fn run_job<'a>(run: &ArgMatches<'a>) -> Result<Job<'a>, WordsFault>
     match (run.get_str("FARES"), run.get_str("ZONE")) {
         (Some(fares), Some(zone)) => Ok(Job::Run(RunWords { fares, zone })),
         _ => Err(WordsFault::Usage),
+    }
+}
+
+fn check_job<'a>(check: &ArgMatches<'a>) -> Result<Job<'a>, WordsFault>
+    ensures { (fares : Text) → first_value (found_of check.now) (codes "FARES") ≡ Some fares
+        → IsOkAnd result (λ job. job_asked job ≡ check_asked fares) }
+{
+    match check.get_str("FARES") {
+        Some(fares) => Ok(Job::Check { fares }),
+        None => Err(WordsFault::Usage),
     }
 }
 

@@ -1,4 +1,4 @@
-use super::run_session;
+use super::{check_fares, run_session};
 use crate::fault::Fault;
 use crate::session::SessionFault;
 use pay_tables::FareFileFault;
@@ -51,5 +51,6 @@ fn finds_the_fare_file_first(rt: HostRuntime) {
             zone: "no zone",
         };
         assert_eq!(rt; run_session(&rt, &words), Err(line), "at {fares}");
+        assert_eq!(rt; check_fares(&rt, fares), Err(line), "at {fares}");
     }
 }

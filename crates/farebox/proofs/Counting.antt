@@ -1,0 +1,28 @@
+-- The line of counts by its pieces, and how the job check ends by how the line was written.
+use Rattle.std.proofs.Common.{◌≡◌, ◌∙◌, ◌++◌, ℕ, List, [], Option, Result, Ok, Err, OnOk, OnErr, IfErr, ap, append_assoc}
+use Rattle.std.specs.Io.KnownBytes.{Appends}
+use Rattle.pay_wire.specs.Words.{AppendsFront}
+use Rattle.farebox.specs.Check.{CheckEnds, CheckFails, IsCounted}
+use Rattle.farebox.specs.declared.fault.Fault.{Fault}
+use Rattle.farebox.specs.declared.fault.Fault.TheVariants.{Output}
+
+-- what stands before a piece, and all that stands behind it
+behind : (before piece rest all : List ℕ) → all ≡ before ++ piece → all ++ rest ≡ before ++ (piece ++ rest)
+behind before piece rest all is = ap (λ l. l ++ rest) is ∙ append_assoc before piece rest
+
+-- four pieces and an end, each put behind those before it
+pub four_and_end : (none one two three four all a b c d e : List ℕ) → none ≡ [] → one ≡ none ++ a → two ≡ one ++ b → three ≡ two ++ c → four ≡ three ++ d → all ≡ four ++ e
+    → all ≡ (a ++ (b ++ (c ++ d))) ++ e
+four_and_end none one two three four all a b c d e empty is-a is-b is-c is-d is-e =
+    is-e ∙ ap (λ l. l ++ e) (is-d ∙ (behind two c d three is-c ∙ (behind one b (c ++ d) two is-b
+    ∙ (behind none a (b ++ (c ++ d)) one is-a ∙ ap (λ l. l ++ (a ++ (b ++ (c ++ d)))) empty))))
+
+pub check_ends : {T E : Type 0} (r : Result T E) (fares line : List ℕ) (held written : Option (List ℕ)) → IsCounted fares line
+    → OnOk r (Appends held written line) → OnOk r (CheckEnds fares held written)
+check_ends (Ok x) fares line held written is h = (line, is, h)
+check_ends (Err e) fares line held written is h = tt
+
+pub check_fails : {T : Type 0} (r : Result T Fault) (fares line : List ℕ) (held written : Option (List ℕ)) → IsCounted fares line
+    → OnErr r (AppendsFront held written line) → IfErr r (λ fault. fault ≡ Output) → IfErr r (λ fault. CheckFails fault fares held written)
+check_fails (Ok x) fares line held written is h e = tt
+check_fails (Err fault) fares line held written is h e = rw e (line, is, h)

@@ -1,0 +1,47 @@
+-- How the job check ends, by the text of its fare file.
+use Rattle.std.specs.Prelude.{◌≡◌, ℕ, List, [], ◌∷◌, ◌++◌, Ok, Option, codes, decimal, refl}
+use Rattle.std.specs.Fmt.{digits}
+use Rattle.std.specs.List.{join_with_byte}
+use Rattle.std.specs.Io.KnownBytes.{Appends}
+use Rattle.pay_tables.specs.Words.{fare_text, FareTables, counts}
+use Rattle.pay_tables.specs.declared.counts.Counts.{Counts}
+use Rattle.pay_wire.specs.Words.{AppendsFront}
+use Rattle.farebox.specs.Run.{IsRefused}
+use Rattle.farebox.specs.declared.fault.Fault.{Fault}
+use Rattle.farebox.specs.declared.fault.Fault.TheVariants.{Usage, CannotReadFares, BadZone, Input, Output, Refused}
+
+-- how many of each thing a fare file has
+abbrev pub counts_words : Counts → List (List ℕ)
+counts_words c = codes "OK" ∷ codes "places" ∷ decimal c.places ∷ codes "bands" ∷ decimal c.bands
+    ∷ codes "interchanges" ∷ decimal c.interchanges ∷ codes "holidays" ∷ decimal c.holidays ∷ []
+
+-- the same as a line: a space between each two words, and the newline at the end
+abbrev pub counts_line : Counts → List ℕ
+counts_line c = join_with_byte 32 (counts_words c) ++ codes "\n"
+
+-- the line of the fare file that a text says
+abbrev pub IsCounted : List ℕ → List ℕ → Type 0
+IsCounted fares line = (tables : FareTables) × (fare_text fares ≡ Ok tables) × (line ≡ counts_line (counts tables))
+
+-- The job ended by itself: the line was written, and nothing else.
+abbrev pub CheckEnds : List ℕ → Option (List ℕ) → Option (List ℕ) → Type 0
+CheckEnds fares held written = (line : List ℕ) × IsCounted fares line × Appends held written line
+
+-- The writer failed: of the line no more than a front was written.
+abbrev pub StopsCounting : List ℕ → Option (List ℕ) → Option (List ℕ) → Type 0
+StopsCounting fares held written = (line : List ℕ) × IsCounted fares line × AppendsFront held written line
+
+-- how the job failed, by its fault; a refused fare file writes nothing
+abbrev pub CheckFails : Fault → List ℕ → Option (List ℕ) → Option (List ℕ) → Type 0
+CheckFails (Refused number name) fares held written = IsRefused (Refused number name) fares × (written ≡ held)
+CheckFails Output fares held written = StopsCounting fares held written
+CheckFails Usage fares held written = ⊥
+CheckFails CannotReadFares fares held written = ⊥
+CheckFails BadZone fares held written = ⊥
+CheckFails Input fares held written = ⊥
+
+-- the sample's six places, three bands, one interchange and one holiday
+sample_row : counts_line (record { places = 6; bands = 3; interchanges = 1; holidays = 1 })
+    ≡ codes "OK places 6 bands 3 interchanges 1 holidays 1\n"
+unfolding digits
+sample_row = refl

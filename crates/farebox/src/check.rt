@@ -1,0 +1,64 @@
+//! The job `check`, by the text of its fare file: all that the program does below the reading of files.
+ghost use Rattle.std.specs.Prelude.{◌≡◌, ◌++◌, ◌∷◌, decimal, IfOk, IfErr, OnOk, OnErr};
+ghost use Rattle.std.specs.Io.KnownBytes.{Appends};
+ghost use Rattle.std.specs.String.{string_bytes};
+ghost use Rattle.pay_wire.specs.Words.{AppendsFront};
+ghost use Rattle.farebox.specs.Check.{CheckEnds, CheckFails, IsCounted, counts_line};
+ghost use Rattle.farebox.specs.Run.{IsRefused};
+
+use crate::fault::Fault;
+use pay_tables::{Counts, Tables};
+use pay_wire::send_line;
+use std::alloc::{AllocError, Global};
+use std::io::Write;
+
+/// Writes how many of each thing the fare file of a text has, as one line, and flushes the writer.
+pub fn check_text<W: Write>(alloc: Global, fares: &str, writer: &mut W) -> Result<(), Fault>
+    ensures ends { OnOk result (CheckEnds fares.now (W.contents writer.old) (W.contents writer.new)) }
+    ensures fails { IfErr result (λ fault. CheckFails fault fares.now (W.contents writer.old) (W.contents writer.new)) }
+{
+    let line = counted(alloc, fares)?;
+    write_line(writer, line.as_str().as_bytes())
+}
+
+/// The line of the fare file that a text says.
+fn counted(alloc: Global, fares: &str) -> Result<String, Fault>
+    ensures counted { IfOk result (λ line. IsCounted fares.now (string_bytes line)) }
+    ensures refused { IfErr result (λ fault. IsRefused fault fares.now) }
+{
+    let tables = Tables::read(alloc, fares)?;
+    let line = counts_line(alloc, tables.counts())?;
+    Ok(line)
+}
+
+/// The counts as a line, newline included.
+fn counts_line(alloc: Global, counts: Counts) -> Result<String, AllocError>
+    ensures { IfOk result (λ line. string_bytes line ≡ counts_line counts) }
+{
+    let mut line = String::new(alloc);
+    put(&mut line, "OK places", counts.places)?;
+    put(&mut line, " bands", counts.bands)?;
+    put(&mut line, " interchanges", counts.interchanges)?;
+    put(&mut line, " holidays", counts.holidays)?;
+    line.push_str("\n")?;
+    Ok(line)
+}
+
+/// Puts a name, a space and a number at the end of a line.
+fn put(line: &mut String, name: &str, number: usize) -> Result<(), AllocError>
+    ensures { OnOk result (string_bytes line.new ≡ string_bytes line.old ++ (name.now ++ 32 ∷ decimal number)) }
+{
+    write!(line, "{name} {number}")
+}
+
+/// Writes a line and flushes the writer. Where that fails, it has taken a front of the line.
+fn write_line<W: Write>(writer: &mut W, line: &[u8]) -> Result<(), Fault>
+    ensures ok { OnOk result (Appends (W.contents writer.old) (W.contents writer.new) line.now) }
+    ensures err { OnErr result (AppendsFront (W.contents writer.old) (W.contents writer.new) line.now) }
+    ensures fault { IfErr result (λ fault. fault ≡ Fault.Output) }
+{
+    match send_line(writer, line) {
+        Ok(()) => Ok(()),
+        Err(_) => Err(Fault::Output),
+    }
+}

@@ -1,0 +1,104 @@
+-- What `clap` makes of the words after the name of a program, from any place on.
+use Rattle.std.proofs.Common.{◌≡◌, ◌∙◌, ℕ, Bool, codes, true, false, sym, subst, List, [], ◌∷◌, Option, Some, None, refl}
+use Rattle.clap.specs.Walk.{Row, Rule, Text, Walk, value, reading_by, after_step, walked}
+use Rattle.clap.specs.Simple.{Shape, new_shape}
+use Rattle.clap.specs.Kinds.{Kinds}
+use Rattle.clap.specs.Faults.{step_fault, turn_fault}
+use Rattle.clap.specs.declared.builder.action.ArgAction.TheVariants.{Set}
+use Rattle.clap.specs.declared.builder.range.ValueRange.{ValueRange}
+use Rattle.clap.specs.declared.builder.value_parser.ValueParser.TheVariants as vp
+use Rattle.clap.specs.declared.error.kind.ErrorKind.TheVariants.{DisplayHelp, DisplayVersion, InvalidSubcommand}
+use Rattle.clap.specs.declared.parser.matches.ValueSource.TheVariants.{CommandLine}
+use Rattle.pay_words.specs.Asked.{Asked, Word, run, check, help_asked, help_named, version_asked, usage}
+use Rattle.pay_words.specs.Asked as words
+use Rattle.pay_words.specs.CommandLine.{required_word}
+use Rattle.pay_words.proofs.WordKinds.{LongOptions, Reads, Refuses, ShortOptions}
+use Rattle.pay_words.proofs.WordLevels.{Level, level_next, level_refuses, level_shows, place, rows_from, rows_next, turn_dashes, turn_refuses, turn_shows, turn_value, walked_dashes, walked_value}
+
+abbrev one_value : ValueRange
+one_value = record { start_inclusive = 1; end_inclusive = 1 }
+
+-- a word that has to be there, in its place
+abbrev pub place_rule : Text → ℕ → Rule
+place_rule name i = record (required_word name) {
+  index = Some i;
+  action = Some Set;
+  range = Some one_value;
+  parser = Some vp.String;
+}
+
+-- a program as it is built
+abbrev pub program_shape : Text → List Rule → Shape
+program_shape name rules = record (new_shape name) { rules = rules; is_leaf = true; disable_help_subcommand = true; is_built = true }
+
+abbrev pub value_row : Text → Text → Row
+value_row name v = record { id = name; values = v ∷ []; count = None; source = Some CommandLine; reading = reading_by (place_rule name 1) }
+
+abbrev pub fares_row : Text → List Row
+fares_row a = value_row (codes "FARES") a ∷ []
+
+abbrev pub fares_pending : Text → Option (Text × List Text)
+fares_pending a = Some (codes "FARES", a ∷ [])
+
+-- what the matches of `run` are
+abbrev pub run_rows : Text → Text → List Row
+run_rows a b = value_row (codes "FARES") a ∷ value_row (codes "ZONE") b ∷ []
+
+-- what a parse comes to, by what the words ask for
+abbrev pub Comes : Asked → Kinds → Option (Text × List Row) → Type 0
+Comes (run a b) ks sub = (ks ≡ []) × (sub ≡ Some (codes "run", run_rows a b))
+Comes (check a) ks sub = (ks ≡ []) × (sub ≡ Some (codes "check", fares_row a))
+Comes help_asked ks sub = ks ≡ DisplayHelp ∷ []
+Comes help_named ks sub = ks ≡ DisplayHelp ∷ InvalidSubcommand ∷ []
+Comes version_asked ks sub = ks ≡ DisplayVersion ∷ []
+Comes usage ks sub = Refuses ks
+
+-- the walk after no value, and after FARES
+abbrev pub after_none : Bool → Walk
+after_none t = place [] None 1 t
+
+abbrev pub after_fares : Text → Bool → Walk
+after_fares a t = place [] (fares_pending a) 2 t
+
+module _ (program : Text) (rules : List Rule) (long : LongOptions rules false) (short : ShortOptions rules false) where
+  abbrev shape : Shape
+  shape = program_shape program rules
+
+  -- what the words of the program from a place on come to
+  abbrev pub EndsFrom : Asked → Walk → List Text → Type 0
+  EndsFrom x w rest = Comes x (Level shape [] w rest false []) (Some (program, rows_from shape [] w rest))
+
+  -- a word that the walk takes leaves the rest to decide
+  moved : (x : Asked) (w next : Walk) (word : Text) (rest : List Text) → turn_fault shape [] w word ≡ [] → walked rules [] w word ≡ next
+      → EndsFrom x next rest → EndsFrom x w (word ∷ rest)
+  moved x w next word rest passes is h =
+      let rows_are : rows_from shape [] w (word ∷ rest) ≡ rows_from shape [] next rest = rows_next shape [] w word rest false [] next is in
+      let level_is : Level shape [] w (word ∷ rest) false [] ≡ Level shape [] next rest false [] = level_next shape [] w word rest false [] next passes is in
+      subst (λ (k : Kinds). Comes x k (Some (program, rows_from shape [] w (word ∷ rest)))) (sym level_is)
+      (subst (λ (r : List Row). Comes x (Level shape [] next rest false []) (Some (program, r))) (sym rows_are) h)
+
+  -- the words from a place on, by the kind of the first
+  module _ (rows : List Row) (pending : Option (Text × List Text)) (position : ℕ) (word : Text) (rest : List Text) where
+    abbrev from : Walk
+    from = place rows pending position false
+
+    abbrev ReadsAs : Word → Type 0
+    ReadsAs k = Reads rules false long short rows pending k word
+
+    pub helps : ReadsAs words.call_for_help → EndsFrom help_asked from (word ∷ rest)
+    helps r = level_shows shape [] from word rest false [] DisplayHelp
+        (turn_shows rules false long short shape [] rows pending position word refl DisplayHelp r.0 r.1)
+
+    pub declines : ReadsAs words.option → EndsFrom usage from (word ∷ rest)
+    declines r = level_refuses shape [] from word rest false [] (turn_refuses rules false long short shape [] rows pending position word refl r)
+
+    pub after_dashes : (x : Asked) → ReadsAs words.dashes → EndsFrom x (place rows pending position true) rest → EndsFrom x from (word ∷ rest)
+    after_dashes x r h = moved x from (place rows pending position true) word rest
+        (turn_dashes rules false long short shape [] rows pending position word refl r)
+        (walked_dashes rules false long short shape [] rows pending position word refl r) h
+
+    pub after_value : (x : Asked) (next : Walk) → ReadsAs words.value → step_fault shape position from.held value ≡ []
+        → after_step rules word from from.held value ≡ next → EndsFrom x next rest → EndsFrom x from (word ∷ rest)
+    after_value x next r passes is h = moved x from next word rest
+        (turn_value rules false long short shape [] rows pending position word refl r ∙ passes)
+        (walked_value rules false long short shape [] rows pending position word refl r ∙ is) h
