@@ -2,7 +2,6 @@ pub mod AccountMaps
 pub mod BegunLines
 mod Counting
 pub mod Fills
-mod Fronts
 pub mod InputLines
 pub mod InputPieces
 pub mod Newlines

@@ -140,9 +140,7 @@ impl Cells {
             Cell::Maximum => self.maximum = self.maximum - fare,
         }
     }
-}
 
-impl Cells {
     /// The sum of all fares but the maximum fares.
     pub fn capped_sum(&self) -> Pence
         ensures value { result ≡ capped_sum self.now }
