@@ -8,3 +8,4 @@ pub mod SpanSums
 pub mod CellLaws
 pub mod Lowest
 pub mod Prices
+pub mod Taking

@@ -19,29 +19,17 @@ use Rattle.pay_caps.specs.declared.cell.Cell.{Cell}
 use Rattle.pay_caps.specs.declared.cell.Cell.TheVariants as cell
 use Rattle.pay_caps.specs.CellSums.{CellSums}
 use Rattle.pay_caps.specs.Covers.{covers, cell_of, is_capped, IsCell}
-use Rattle.pay_caps.specs.Cells.{all_spans, place_of, added, is_cell, fares_in, cells_of, sum_where, capped_sum, outside_sum, total}
+use Rattle.pay_caps.specs.Cells.{all_spans, added, is_cell, fares_in, cells_of, sum_where, capped_sum, outside_sum, total}
 use Rattle.pay_caps.specs.Lowest.{Offer}
 use Rattle.pay_caps.specs.DayPrices.{fares, day_cap, not_covered, capped_price, maximum_fares, day_price, capped_price_of, day_price_of}
 use Rattle.pay_caps.proofs.Sums.{if_passed, sum_passed, sum_passed_both, sum_same, sum_grows}
 use Rattle.pay_caps.proofs.Ranges.{wider}
-use Rattle.pay_caps.proofs.AllSpans.{at_its_place}
+use Rattle.pay_caps.proofs.AllSpans.{place_of, same_is, at_its_place}
 use Rattle.pay_caps.proofs.Weights.{weighs_all, weighs_more}
 use Rattle.pay_caps.proofs.CellLaws.{one_journey_more}
 use Rattle.pay_caps.proofs.Lowest.{charged_same, charged_grows, charged_at_most_all, charged_at_most_band}
 
 -- ---- the sums of spans
-
-same_is : (a b : Span) → same_span a b ≡ true → a ≡ b
-same_is a b e =
-    let from : a.from ≡ b.from = first a b e in
-    let to : a.to ≡ b.to = last a b e in
-    ap (λ (n : ℕ). record { from = n; to = a.to }) from ∙ ap (λ (n : ℕ). record { from = b.from; to = n }) to
-  where
-    first : (a b : Span) → same_span a b ≡ true → a.from ≡ b.from
-    first a b e = grind (arith, nat_tests)
-
-    last : (a b : Span) → same_span a b ≡ true → a.to ≡ b.to
-    last a b e = grind (arith, nat_tests)
 
 -- whether a fare counts by its span
 abbrev by_span : (Span → Bool) → Cell → Bool
@@ -49,7 +37,7 @@ by_span counts (cell.Rail span) = counts span
 by_span counts cell.Buses = false
 by_span counts cell.Maximum = false
 
-as_many : (tables : FareTables) (list : List Journey) → length (cells_of tables list).spans ≡ length all_spans
+pub as_many : (tables : FareTables) (list : List Journey) → length (cells_of tables list).spans ≡ length all_spans
 as_many tables list = length-map all_spans (λ (s : Span). fares_in tables list (cell.Rail s))
 
 where_grows : (tables : FareTables) (counts : Span → Bool) (journey : Journey) (list : List Journey) (its : Cell) → IsCell MOST_ZONES its → cells_of tables (journey ∷ list) ≡ added its (fare tables journey) (cells_of tables list)

@@ -1,5 +1,5 @@
 -- What is done with the sums of fares, and what those of a day's journeys are.
-use Rattle.std.specs.Prelude.{◌≡◌, ℕ, ◌+◌, ◌-◌, ◌*◌, ◌/◌, ◌≤◌, not, Bool, true, false, if◌then◌else◌, List, length, get_or, map, filter, replicate, sum, sum_by, Option, Some, None}
+use Rattle.std.specs.Prelude.{◌≡◌, ℕ, ◌+◌, ◌-◌, ◌≤◌, not, Bool, true, false, if◌then◌else◌, List, length, get_or, map, filter, replicate, sum, sum_by, Option, Some, None}
 use Rattle.std.specs.List.{zip, flat_map, range_with_len}
 use Rattle.pay_tables.specs.declared.band.Band.{Band}
 use Rattle.pay_tables.specs.declared.band.Cover.{Cover}
@@ -26,10 +26,6 @@ all_spans = flat_map spans_to (range_with_len 1 MOST_ZONES)
 -- the one at a place
 abbrev pub span_at : ℕ → Span
 span_at place = get_or all_spans place (record { from = 0; to = 0 })
-
--- where a span stands among them
-abbrev pub place_of : Span → ℕ
-place_of span = span.to * (span.to - 1) / 2 + span.from - 1
 
 abbrev pub no_fares : CellSums
 no_fares = record { spans = replicate SPANS 0; buses = 0; maximum = 0 }

@@ -3,7 +3,7 @@ ghost use Rattle.pay_tables.specs.declared.limits.TheConstants.{MOST_ZONES};
 ghost use Rattle.pay_caps.specs.declared.limits.TheConstants.{MOST_SUM, SPANS};
 ghost use Rattle.pay_tables.specs.Words.{IsSpan, covers_span};
 ghost use Rattle.pay_caps.specs.Covers.{IsCell};
-ghost use Rattle.pay_caps.specs.Cells.{all_spans, span_at, place_of, no_fares, added, taken, sum_at, total, capped_sum, sum_where, outside_sum, spans_outside, outside, outside_of};
+ghost use Rattle.pay_caps.specs.Cells.{span_at, no_fares, added, taken, sum_at, total, capped_sum, sum_where, outside_sum, spans_outside, outside, outside_of};
 
 use crate::cell::Cell;
 use crate::limits::SPANS;
@@ -85,9 +85,10 @@ const ALL_SPANS: [Span; SPANS] = [
 ];
 
 /// Where the sum of a span stands: the spans are ordered by their last zone, and then by their first.
+#[tactic(auto, using(crate::proofs::AllSpans::stands_at_place))]
 fn place_of(span: Span) -> usize
     requires { IsSpan MOST_ZONES span }
-    ensures value { result ≡ place_of span }
+    ensures stands { span_at result ≡ span }
     ensures in_range { result < SPANS }
 {
     let from = usize::from(span.from);

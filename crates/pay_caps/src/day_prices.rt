@@ -1,4 +1,4 @@
-ghost use Rattle.std.specs.Prelude.{◌≡◌, ◌≤◌, ◌<◌, ◌+◌, ℕ, Some, option_map};
+ghost use Rattle.std.specs.Prelude.{◌≡◌, ◌≤◌, ◌+◌, Some};
 ghost use Rattle.pay_tables.specs.declared.limits.TheConstants.{MOST_FARE};
 ghost use Rattle.pay_caps.specs.declared.limits.TheConstants.{MOST_SUM};
 ghost use Rattle.pay_caps.specs.Cells.{capped_sum, outside_sum, total};
@@ -10,7 +10,14 @@ use pay_money::Pence;
 use pay_tables::{Band, Tables};
 
 /// A price, and the band that gives it, by its place in the fare file, where one does.
-type Offer = (Pence, Option<u8>);
+pub type Offer = (Pence, Option<u8>);
+
+/// The lower of two offers, and the first if they are alike.
+pub fn lower(first: Offer, second: Offer) -> Offer
+    ensures { result ≡ lower first second }
+{
+    if second.0 < first.0 { second } else { first }
+}
 
 /// The lower of an offer and what the band at a place offers: its cap, and what it leaves outside. A cap
 /// that is no lower than the offer can't be.
@@ -22,12 +29,10 @@ fn lower_of(best: Offer, cells: &Cells, band: &Band, place: u8) -> Offer
     if band.day >= best.0 {
         return best;
     }
-    let price = band.day + cells.outside_sum(band.cover);
-    if price < best.0 {
-        (price, Some(place))
-    } else {
-        best
-    }
+    lower(
+        best,
+        (band.day + cells.outside_sum(band.cover), Some(place)),
+    )
 }
 
 /// The price of a day's fares without its maximum fares, and the band that gives it, by its place in the
@@ -35,7 +40,7 @@ fn lower_of(best: Offer, cells: &Cells, band: &Band, place: u8) -> Offer
 ///
 /// It is the least of their sum and, for each band, of the band's cap and the fares that it leaves
 /// outside. Of equal prices that without a band is taken, and then that of the band that stands first.
-pub fn capped_price(tables: &Tables, cells: &Cells) -> (Pence, Option<u8>)
+pub fn capped_price(tables: &Tables, cells: &Cells) -> Offer
     ensures value { result ≡ capped_price_of tables.now cells.now }
     ensures no_more { result.0 ≤ capped_sum cells.now }
     ensures in_range { result.0 + cells.now.maximum ≤ MOST_SUM }
@@ -50,7 +55,7 @@ pub fn capped_price(tables: &Tables, cells: &Cells) -> (Pence, Option<u8>)
 
 /// The price of a day's fares, and the band that gives it, by its place in the fare file: that of
 /// `capped_price`, and the maximum fares, which are outside of every cap.
-pub fn day_price(tables: &Tables, cells: &Cells) -> (Pence, Option<u8>)
+pub fn day_price(tables: &Tables, cells: &Cells) -> Offer
     ensures price { result.0 ≡ day_price_of tables.now cells.now }
     ensures band { result.1 ≡ (capped_price_of tables.now cells.now).1 }
     ensures no_more { result.0 ≤ total cells.now }

@@ -10,7 +10,7 @@ ghost use Rattle.pay_caps.specs.declared.cell.Cell.{Cell};
 ghost use Rattle.pay_caps.specs.declared.limits.TheConstants.{SPANS};
 ghost use Rattle.pay_caps.specs.CellSums.{CellSums};
 ghost use Rattle.pay_caps.specs.Covers.{cell_of, IsCell, is_capped};
-ghost use Rattle.pay_caps.specs.Cells.{no_fares, added, taken, cells_of, outside, total};
+ghost use Rattle.pay_caps.specs.Cells.{no_fares, added, taken, sum_at, cells_of, outside, total};
 ghost use Rattle.pay_caps.specs.Lowest.{charged};
 ghost use Rattle.pay_caps.specs.DayPrices.{fares, not_covered, capped_price, maximum_fares, day_price, capped_price_of, day_price_of};
 
@@ -27,6 +27,17 @@ pub fn sums()
     ensures in_any_order { (tables : FareTables) (list other : List Journey) → IsPermutation list other → cells_of tables list ≡ cells_of tables other }
     ensures taken_again { (cell : Cell) (pence : ℕ) (sums : CellSums) → length sums.spans ≡ SPANS → taken cell pence (added cell pence sums) ≡ sums }
 {}
+
+/// The fare of each of some journeys is in their sums, and what is left when it is taken are the sums of the
+/// others.
+pub fn takes(tables: &Tables)
+    ensures there { (before : List Journey) (journey : Journey) (after : List Journey) →
+        fare tables.now journey ≤ sum_at (cell_of tables.now journey) (cells_of tables.now (before ++ journey ∷ after)) }
+    ensures left { (before : List Journey) (journey : Journey) (after : List Journey) →
+        taken (cell_of tables.now journey) (fare tables.now journey) (cells_of tables.now (before ++ journey ∷ after)) ≡ cells_of tables.now (before ++ after) }
+{
+    day_prices(tables);
+}
 
 /// What a band leaves outside of the sums of journeys are the sums of those that it does not cover.
 pub fn sums_outside()

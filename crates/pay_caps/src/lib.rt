@@ -10,4 +10,4 @@ pub mod limits;
 
 pub use cell::{Cell, cell_of, covers};
 pub use cells::Cells;
-pub use day_prices::{capped_price, day_price};
+pub use day_prices::{Offer, capped_price, day_price, lower};

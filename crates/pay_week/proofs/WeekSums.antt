@@ -6,7 +6,7 @@ use Rattle.std.proofs.lemmas.List.Sums.{sum_by-cons, sum_by-append}
 use Rattle.pay_tables.specs.declared.band.Band.{Band}
 use Rattle.pay_tables.specs.Words.{FareTables}
 use Rattle.pay_links.specs.declared.journey.Journey.{Journey}
-use Rattle.pay_caps.specs.Words.{CellSums, Offer, charged, cells_of, covers, not_covered, outside, capped_price, capped_price_of, maximum_fares, day_price}
+use Rattle.pay_caps.specs.Words.{CellSums, capped_sum, total, Offer, charged, cells_of, covers, not_covered, outside, capped_price, capped_price_of, maximum_fares, day_price}
 use Rattle.pay_week.specs.WeekPrices.{week_cap, capped_days, capped_days_of, maximum_of, week_price, week_price_of}
 
 -- what the sums of a day's journeys come to
@@ -149,3 +149,9 @@ one_journey_grows tables monotone grows maximum before earlier journey later aft
     rw (map-append outside before ((earlier ++ later) ∷ after), map-append outside before ((earlier ++ journey ∷ later) ∷ after))
     (one_day_grows day (map outside before) (outside (earlier ++ later)) (outside (earlier ++ journey ∷ later)) (map outside after) (day_outside_grows tables grows band earlier journey later)))
     (one_day_grows (maximum_fares tables) before (earlier ++ later) (earlier ++ journey ∷ later) after (maximum earlier journey later))
+
+-- ---- all fares of some days
+
+pub all_fares : (days : List CellSums) → sum_by total days ≡ sum_by capped_sum days + maximum_of days
+all_fares [] = refl
+all_fares (sums ∷ days) = omega (arith, sum_by-cons total sums days, sum_by-cons capped_sum sums days, sum_by-cons (λ (s : CellSums). s.maximum) sums days, all_fares days)

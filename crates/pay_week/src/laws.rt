@@ -1,6 +1,6 @@
 //! What is true of the prices of weeks themselves. Each law is the contract of a function that does
 //! nothing: a caller whose proof needs a law calls its function.
-ghost use Rattle.std.specs.Prelude.{◌≡◌, ◌≤◌, ℕ, ◌+◌, ◌∷◌, ◌++◌, List, map, sum_by};
+ghost use Rattle.std.specs.Prelude.{◌≡◌, ◌≤◌, ◌+◌, ◌∷◌, ◌++◌, List, map, sum_by};
 ghost use Rattle.pay_tables.specs.declared.band.Band.{Band};
 ghost use Rattle.pay_tables.specs.Words.{FareTables};
 ghost use Rattle.pay_links.specs.declared.journey.Journey.{Journey};

@@ -2,20 +2,18 @@ ghost use Rattle.std.specs.Prelude.{◌≡◌, ◌≤◌, ◌<◌, ◌+◌, ◌*
 ghost use Rattle.pay_day.specs.declared.limits.TheConstants.{DAYS_PER_WEEK};
 ghost use Rattle.pay_tables.specs.declared.limits.TheConstants.{MOST_FARE};
 ghost use Rattle.pay_caps.specs.declared.limits.TheConstants.{MOST_SUM};
-ghost use Rattle.pay_caps.specs.Words.{lower, outside, outside_of};
+ghost use Rattle.pay_caps.specs.Words.{capped_sum, lower, outside, outside_of, total};
 ghost use Rattle.pay_week.specs.WeekPrices.{capped_days_of, maximum_of, week_price_of, due};
 
-use pay_caps::{Cells, capped_price};
+use pay_caps::{Cells, Offer, capped_price, lower};
 use pay_money::Pence;
 use pay_tables::{Band, Tables};
-
-/// A price, and the band that gives it, by its place in the fare file, where one does.
-type Offer = (Pence, Option<u8>);
 
 /// The sum of the prices of days without their maximum fares.
 fn capped_days(tables: &Tables, days: &[Cells]) -> Pence
     requires { length days.now ≤ DAYS_PER_WEEK }
     ensures value { result ≡ capped_days_of tables.now days.now }
+    ensures no_more { result ≤ sum_by capped_sum days.now }
     ensures in_range { result ≤ DAYS_PER_WEEK * MOST_SUM }
 {
     let mut sum = Pence::ZERO;
@@ -63,12 +61,13 @@ fn lower_of(best: Offer, tables: &Tables, days: &[Cells], band: &Band, place: u8
     if band.week >= best.0 {
         return best;
     }
-    let price = band.week + capped_days_outside(tables, days, place);
-    if price < best.0 {
-        (price, Some(place))
-    } else {
-        best
-    }
+    lower(
+        best,
+        (
+            band.week + capped_days_outside(tables, days, place),
+            Some(place),
+        ),
+    )
 }
 
 /// The price of a week through one of its days, by the sums of each day's fares from Monday through that
@@ -79,7 +78,7 @@ fn lower_of(best: Offer, tables: &Tables, days: &[Cells], band: &Band, place: u8
 pub fn week_price(tables: &Tables, days: &[Cells]) -> Pence
     requires { (1 ≤ length days.now) × (length days.now ≤ DAYS_PER_WEEK) }
     ensures value { result ≡ week_price_of tables.now days.now }
-    ensures in_range { result ≤ 2 * (DAYS_PER_WEEK * MOST_SUM) }
+    ensures no_more { result ≤ sum_by total days.now }
 {
     let bands = tables.bands();
     let mut best = (capped_days(tables, days), None);

@@ -1,11 +1,12 @@
 use Rattle.std.proofs.Common.{length, ap, ◌∙◌, sym}
+use Rattle.pay_caps.proofs.AllSpans.{place_is}
 use Rattle.pay_caps.proofs.SpanSums.{added_to_span, added_there}
 use Rattle.pay_caps.proofs.cells.Cells.add.Goals as goal
 
 pub returns-in-Rail-clause-value : goal.returns-in-Rail-clause-value
 returns-in-Rail-clause-value c =
     added_to_span c.args.cell c.in-Rail.span c.args.fare c.place_of-place.result c.index-self-place.result c.self.inside.spans c.self.inside.buses c.self.inside.maximum c.args.self.now
-    c.in-Rail.is c.requires.is_cell c.self.view_is c.self.invariant.spans c.place_of-place.ensures.value c.index-self-place.is c.add.result c.add.ensures
+    c.in-Rail.is c.requires.is_cell c.self.view_is c.self.invariant.spans (place_is c.in-Rail.span c.place_of-place.result c.place_of-place.ensures.in_range c.place_of-place.ensures.stands) c.index-self-place.is c.add.result c.add.ensures
 
 pub returns-in-Rail-clause-there : goal.returns-in-Rail-clause-there
 returns-in-Rail-clause-there c =
