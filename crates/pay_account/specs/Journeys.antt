@@ -1,7 +1,7 @@
 -- The journeys that touches in order make.
 use Rattle.std.specs.Prelude.{ℕ, ◌++◌, ◌==◌, not, Bool, Option, List, map, filter}
 use Rattle.std.specs.List.{zip}
-use Rattle.pay_day.specs.Words.{Stamp, is_in_week_of}
+use Rattle.pay_day.specs.Words.{Stamp}
 use Rattle.pay_tables.specs.Words.{FareTables}
 use Rattle.pay_taps.specs.declared.tap.Kind.TheVariants.{Bus}
 use Rattle.pay_taps.specs.declared.tap.Touch.{Touch}
@@ -42,7 +42,3 @@ journeys_of tables touches = rail_journeys tables touches ++ boardings tables to
 -- a journey belongs to the service day of its first tap
 abbrev pub is_on : ℕ → Journey → Bool
 is_on day journey = (first_tap journey).stamp.day == day
-
--- and to the week of that day, of Monday through Sunday
-abbrev pub is_in_week : ℕ → Journey → Bool
-is_in_week day journey = is_in_week_of day (first_tap journey).stamp.day

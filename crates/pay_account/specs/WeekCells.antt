@@ -1,10 +1,12 @@
--- The sums of a day's fares, as journeys come one after another.
-use Rattle.std.specs.Prelude.{ℕ, if◌then◌else◌, List}
+-- The sums of a day's fares, and of the days of a week, as journeys come one after another.
+use Rattle.std.specs.Prelude.{ℕ, ◌-◌, nat_le, nat_lt, ◌&&◌, if◌then◌else◌, List, get_or, slice_set}
 use Rattle.std.specs.List.{fold}
+use Rattle.pay_day.specs.declared.limits.TheConstants.{DAYS_PER_WEEK}
 use Rattle.pay_tables.specs.Words.{FareTables}
 use Rattle.pay_links.specs.declared.journey.Journey.{Journey}
+use Rattle.pay_links.specs.Words.{first_tap}
 use Rattle.pay_fares.specs.Words.{fare}
-use Rattle.pay_caps.specs.Words.{CellSums, added, cell_of}
+use Rattle.pay_caps.specs.Words.{CellSums, added, no_fares, cell_of}
 use Rattle.pay_account.specs.Journeys.{is_on}
 
 -- sums with the fare of a journey, where it is of that day
@@ -14,3 +16,14 @@ with_journey tables day sums journey = if is_on day journey then added (cell_of 
 -- and with those of journeys, one after another
 abbrev pub with_journeys : FareTables → ℕ → CellSums → List Journey → CellSums
 with_journeys tables day sums list = fold (with_journey tables day) sums list
+
+-- the sums of the days of a week with the fare of a journey in those of its day, where that is of the week
+abbrev pub week_with_journey : FareTables → ℕ → List CellSums → Journey → List CellSums
+week_with_journey tables monday week journey =
+    let day = (first_tap journey).stamp.day in
+    if nat_le monday day && nat_lt (day - monday) DAYS_PER_WEEK
+    then slice_set week (day - monday) (added (cell_of tables journey) (fare tables journey) (get_or week (day - monday) no_fares))
+    else week
+
+abbrev pub week_with_journeys : FareTables → ℕ → List CellSums → List Journey → List CellSums
+week_with_journeys tables monday week list = fold (week_with_journey tables monday) week list

@@ -5,7 +5,6 @@ mod account;
 mod fares;
 mod journeys;
 pub mod laws;
-pub mod limits;
 mod lines;
 mod places;
 mod prices;

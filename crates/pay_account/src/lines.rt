@@ -1,4 +1,4 @@
-ghost use Rattle.std.specs.Prelude.{◌≡◌, ℕ, List, map, filter, IfOk, OnOk};
+ghost use Rattle.std.specs.Prelude.{◌≡◌, map, filter, IfOk, OnOk};
 ghost use Rattle.pay_taps.specs.Words.{in_order_by};
 ghost use Rattle.pay_links.specs.Words.{first_tap};
 ghost use Rattle.pay_caps.specs.Words.{capped_price};

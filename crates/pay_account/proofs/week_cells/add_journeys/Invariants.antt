@@ -1,11 +1,11 @@
-use Rattle.std.proofs.Common.{◌≡◌, ◌+◌, ◌*◌, ◌≤◌, drop}
+use Rattle.std.proofs.Common.{◌≡◌, ◌+◌, ◌*◌, ◌≤◌, sum_by, drop}
 use Rattle.pay_tables.specs.declared.limits.TheConstants.{MOST_FARE}
 use Rattle.pay_caps.specs.Words.{total}
-use Rattle.pay_account.specs.WeekCells.{with_journeys}
+use Rattle.pay_account.specs.WeekCells.{week_with_journeys}
 use Rattle.pay_account.proofs.week_cells.add_journeys.Given as goal
 
 abbrev pub invariant-loop-journey : goal.invariant-loop-journey
 invariant-loop-journey l = record {
-  value : with_journeys l.tables l.day l.cells (drop l.journey-index l.journeys) ≡ with_journeys l.tables l.day l.fn.cells l.journeys;
-  in_range : total l.cells ≤ total l.fn.cells + l.journey-index * MOST_FARE;
+  value : week_with_journeys l.tables l.monday l.week (drop l.journey-index l.journeys) ≡ week_with_journeys l.tables l.monday l.fn.week l.journeys;
+  in_range : sum_by total l.week ≤ sum_by total l.fn.week + l.journey-index * MOST_FARE;
 }

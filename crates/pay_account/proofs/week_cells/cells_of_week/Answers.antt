@@ -1,12 +1,19 @@
-use Rattle.std.proofs.Common.{◌++◌}
-use Rattle.pay_caps.specs.Words.{cells_of}
+use Rattle.std.proofs.Common.{replicate, ap, ◌∙◌}
+use Rattle.pay_day.specs.declared.limits.TheConstants.{DAYS_PER_WEEK}
+use Rattle.pay_caps.specs.Words.{no_fares}
 use Rattle.pay_account.specs.Journeys.{boardings}
-use Rattle.pay_account.specs.Prices.{journeys_on}
-use Rattle.pay_account.proofs.WeekCells.{seven_days}
+use Rattle.pay_account.specs.WeekCells.{week_with_journeys}
+use Rattle.pay_account.proofs.WeekCells.{of_week}
 use Rattle.pay_account.proofs.week_cells.cells_of_week.Goals as goal
 
 pub returns : goal.returns
 returns c =
-    seven_days (λ each. cells_of c.args.tables.now (journeys_on (c.args.rail.now ++ boardings c.args.tables.now c.args.touches.now) each)) c.args.day c.monday-monday.result _ _ _ _ _ _ _
-    c.requires.is_day c.monday-monday.ensures.value c.cells_of_both.ensures c.cells_of_both-2.ensures c.cells_of_both-3.ensures c.cells_of_both-4.ensures c.cells_of_both-5.ensures
-    c.cells_of_both-6.ensures c.cells_of_both-7.ensures
+    let tables = c.args.tables.now in
+    let rail = c.args.rail.now in
+    let buses = boardings tables c.args.touches.now in
+    let begun = c.monday-monday.result in
+    c.add_boardings.ensures
+    ∙ ap (λ week. week_with_journeys tables begun week buses) c.add_journeys.ensures.value
+    ∙ ap (λ none. week_with_journeys tables begun (week_with_journeys tables begun (replicate DAYS_PER_WEEK none) rail) buses) c.new-week.ensures
+    ∙ ap (λ first. week_with_journeys tables first (week_with_journeys tables first (replicate DAYS_PER_WEEK no_fares) rail) buses) c.monday-monday.ensures.value
+    ∙ of_week tables (c.sums.ensures.one_behind tables) (c.sums.ensures.none tables) c.args.day c.requires.is_day rail buses

@@ -1,9 +1,16 @@
-use Rattle.std.proofs.Common.{ap, ◌∙◌}
-use Rattle.pay_account.specs.WeekCells.{with_journeys}
-use Rattle.pay_account.proofs.WeekCells.{of_day}
+use Rattle.std.proofs.Common.{arith}
+use Rattle.pay_account.proofs.WeekCells.{next_of_day, of_day_so_far}
 use Rattle.pay_account.proofs.week_cells.cells_on.Goals as goal
+
+pub loop-journey-preserved : goal.loop-journey-preserved
+loop-journey-preserved c = record {
+  value =
+      next_of_day c.args.tables.now c.args.day c.loop-journey.cells c.add_on.new.cells _ c.args.journeys.now c.loop-journey.journey-index c.journey-item.result c.loop-journey-test.true
+      c.journey-item.is c.add_on.ensures.value c.loop-journey.invariant.value;
+  in_range = omega (arith, c.add_on.ensures.in_range, c.loop-journey.invariant.in_range);
+}
 
 pub returns : goal.returns
 returns c =
-    c.add_journeys.ensures.value ∙ ap (λ sums. with_journeys c.args.tables.now c.args.day sums c.args.journeys.now) c.new-cells.ensures
-    ∙ of_day c.args.tables.now c.args.day (c.sums.ensures.one_behind c.args.tables.now) (c.sums.ensures.none c.args.tables.now) c.args.journeys.now
+    of_day_so_far c.args.tables.now c.args.day (c.sums.ensures.one_behind c.args.tables.now) (c.sums.ensures.none c.args.tables.now) c.args.journeys.now c.loop-journey.cells c.loop-journey.journey-index
+    (omega (arith, c.loop-journey-test.false)) c.loop-journey.invariant.value
