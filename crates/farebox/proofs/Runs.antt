@@ -2,8 +2,8 @@
 use Rattle.std.proofs.Common.{ℕ, List, Option}
 use Rattle.farebox.specs.Faults.{stream_fault}
 use Rattle.farebox.specs.Run.{RunFails, SessionFails}
-use Rattle.farebox.specs.declared.session.SessionFault.{SessionFault}
-use Rattle.farebox.specs.declared.session.SessionFault.TheVariants.{Read, Write}
+use Rattle.pay_session.specs.declared.session.SessionFault.{SessionFault}
+use Rattle.pay_session.specs.declared.session.SessionFault.TheVariants.{Read, Write}
 
 pub RunFails_session : (fault : SessionFault) (fares zone : List ℕ) (remaining left held written : Option (List ℕ)) → SessionFails fault fares zone remaining left held written
     → RunFails (stream_fault fault) fares zone remaining left held written

@@ -5,8 +5,8 @@ use Rattle.pay_words.specs.declared.words.WordsFault.{WordsFault}
 use Rattle.pay_words.specs.declared.words.WordsFault.TheVariants as words
 use Rattle.farebox.specs.declared.fault.Fault.{Fault}
 use Rattle.farebox.specs.declared.fault.Fault.TheVariants.{Usage, Input, Output, Refused}
-use Rattle.farebox.specs.declared.session.SessionFault.{SessionFault}
-use Rattle.farebox.specs.declared.session.SessionFault.TheVariants.{Read, Write}
+use Rattle.pay_session.specs.declared.session.SessionFault.{SessionFault}
+use Rattle.pay_session.specs.declared.session.SessionFault.TheVariants.{Read, Write}
 
 -- refused words end with 2, and every other fault with 1
 abbrev pub status_of : Fault → ℕ

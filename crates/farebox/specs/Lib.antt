@@ -1,11 +1,3 @@
-pub mod Accounts
 pub mod Check
-pub mod Desk
 pub mod Faults
-pub mod Machine
-pub mod Outcomes
-pub mod Requests
 pub mod Run
-pub mod Session
-pub mod SessionSteps
-pub mod Stops

@@ -3,7 +3,7 @@ ghost use Rattle.std.specs.Prelude.{◌≡◌};
 ghost use Rattle.farebox.specs.Faults.{IsRefusal, IsWantOfMemory, status_of, stream_fault};
 ghost use Rattle.pay_tables.specs.Words.{fault_number, fault_name};
 
-use crate::session::SessionFault;
+use pay_session::SessionFault;
 use pay_tables::FareFileFault;
 use std::alloc::AllocError;
 use thiserror::Error;

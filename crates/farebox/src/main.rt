@@ -1,21 +1,10 @@
 //! The fare engine: reads taps as lines, and answers each with the price of its day and its week.
 #![tactic(auto)]
 
-mod accounts;
-mod begun_line;
 mod check;
-mod cut;
-mod desk;
 mod fault;
-pub mod laws;
-pub mod limits;
 mod program;
-mod request;
 mod run;
-mod session;
-mod stop;
-#[cfg(test)]
-mod tests;
 
 use std::process::ExitCode;
 

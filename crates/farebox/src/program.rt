@@ -93,6 +93,3 @@ fn run_session<R: Files + Input + Print + AllocGlobal>(
 fn is_input_a_file<R: Files>(rt: &R) -> bool {
     fs::metadata(rt, "/dev/stdin").is_ok_and(|input| input.is_file())
 }
-
-#[cfg(test)]
-mod tests;

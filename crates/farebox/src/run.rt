@@ -8,8 +8,8 @@ ghost use Rattle.pay_tables.specs.Words.{fare_text};
 ghost use Rattle.farebox.specs.Run.{IsRefused, RunEnds, RunFails};
 
 use crate::fault::Fault;
-use crate::session::{Done, run_lines};
 use jiff::tz::TimeZone;
+use pay_session::{Done, run_lines};
 use pay_tables::Tables;
 use std::alloc::{AllocError, Global};
 use std::io::{BufRead, Write};

@@ -1,5 +1,6 @@
 pub mod Counts
 pub mod WeekCells
 pub mod Boardings
-pub mod TapResults
+pub mod Results
+pub mod Changes
 mod Rows

@@ -1,10 +1,12 @@
+pub mod Accepted
 pub mod Places
 pub mod Journeys
 pub mod Prices
 pub mod WeekCells
 pub mod LinesCode
 pub mod Lines
-pub mod TapFaults
+pub mod Faults
 pub mod TapResults
-pub mod Accepted
+pub mod FixResults
+pub mod Changes
 pub mod Words

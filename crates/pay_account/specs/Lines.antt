@@ -3,7 +3,7 @@ use Rattle.std.specs.Prelude.{ℕ, Bool, false, if◌then◌else◌, List, map, 
 use Rattle.pay_tables.specs.declared.band.Band.{Band}
 use Rattle.pay_tables.specs.Words.{FareTables}
 use Rattle.pay_taps.specs.declared.tap.Kind.TheVariants.{Out}
-use Rattle.pay_taps.specs.Words.{Taps, same_kind, touches, in_order_by}
+use Rattle.pay_taps.specs.Words.{same_kind, in_order_by}
 use Rattle.pay_links.specs.Words.{last_leg, first_tap}
 use Rattle.pay_links.specs.declared.journey.Journey.{Journey}
 use Rattle.pay_links.specs.declared.journey.Journey.TheVariants.{Run, Same, Lone, Bus}
@@ -13,6 +13,7 @@ use Rattle.pay_account.specs.declared.shown.Line.{Line}
 use Rattle.pay_account.specs.declared.shown.LineKind.{LineKind}
 use Rattle.pay_account.specs.declared.shown.LineKind.TheVariants as kind
 use Rattle.pay_account.specs.declared.shown.Shown.{Shown}
+use Rattle.pay_account.specs.Accepted.{Accepted, touches}
 use Rattle.pay_account.specs.Journeys.{journeys_of}
 use Rattle.pay_account.specs.Prices.{journeys_on, price_of_day}
 
@@ -66,7 +67,7 @@ lines_on tables list day =
     map (line_of_journey tables (capped_price tables its).1) (in_order_by first_tap its)
 
 -- what an account shows of a service day: its lines, and its price
-abbrev pub shown : FareTables → ℕ → Taps → ℕ → Shown
-shown tables account taps day =
-    let list = journeys_of tables (touches taps) in
+abbrev pub shown : FareTables → ℕ → Accepted → ℕ → Shown
+shown tables account accepted day =
+    let list = journeys_of tables (touches accepted) in
     record { account = account; day = day; lines = lines_on tables list day; day_price = price_of_day tables list day }

@@ -1,12 +1,13 @@
 -- Where a tap may be made.
-use Rattle.std.specs.Prelude.{Bool, true, false, Option, Some}
+use Rattle.std.specs.Prelude.{ℕ, Bool, true, false, Option, Some}
 use Rattle.std.specs.FinMap as map
 use Rattle.pay_tables.specs.Words.{FareTables}
 use Rattle.pay_tables.specs.declared.place.Place.{Place}
 use Rattle.pay_tables.specs.declared.place.Place.TheVariants.{Station, Route}
 use Rattle.pay_taps.specs.declared.tap.Kind.{Kind}
 use Rattle.pay_taps.specs.declared.tap.Kind.TheVariants.{In, Out, Bus}
-use Rattle.pay_taps.specs.declared.tap.Tap.{Tap}
+use Rattle.pay_fix.specs.declared.fix.What.{What}
+use Rattle.pay_fix.specs.declared.fix.What.TheVariants.{Fill}
 
 -- a touch in or out fits a station, one on a bus or a tram fits a route, and none fits no place
 abbrev pub fits : Kind → Option Place → Bool
@@ -15,6 +16,11 @@ fits Out (Some (Station low high operator)) = true
 fits Bus (Some (Route operator)) = true
 fits _ _ = false
 
--- whether a tap was made where the fare file has a place of its sort
-abbrev pub is_known : FareTables → Tap → Bool
-is_known tables tap = fits tap.kind (map.get tables.places tap.place)
+-- whether the fare file has a place of the sort that a tap of this kind needs
+abbrev pub is_known : FareTables → ℕ → Kind → Bool
+is_known tables place kind = fits kind (map.get tables.places place)
+
+-- whether a correction is made where it may be: a Fill as the tap that it adds, any other everywhere
+abbrev pub is_known_fix : FareTables → What → Bool
+is_known_fix tables (Fill stamp place kind) = is_known tables place kind
+is_known_fix tables _ = true

@@ -4,11 +4,11 @@ use Rattle.std.specs.List.{range_with_len}
 use Rattle.pay_day.specs.Words.{monday, sunday}
 use Rattle.pay_tables.specs.Words.{FareTables}
 use Rattle.pay_taps.specs.declared.tap.Touch.{Touch}
-use Rattle.pay_taps.specs.Words.{Taps, touches}
 use Rattle.pay_links.specs.declared.journey.Journey.{Journey}
 use Rattle.pay_caps.specs.Words.{day_price}
 use Rattle.pay_week.specs.Words.{week_price}
 use Rattle.pay_account.specs.declared.fares.Priced.{Priced}
+use Rattle.pay_account.specs.Accepted.{Accepted, touches}
 use Rattle.pay_account.specs.Journeys.{journeys_of, is_on}
 
 -- the journeys of a service day
@@ -36,9 +36,9 @@ prices_of_touches tables list again day = record {
   week_price = price_of_week tables (journeys_of tables list) (sunday day);
 }
 
--- and of taps
-abbrev pub prices : FareTables → Taps → Bool → ℕ → Priced
-prices tables taps again day = prices_of_touches tables (touches taps) again day
+-- and of what an account has accepted
+abbrev pub prices : FareTables → Accepted → Bool → ℕ → Priced
+prices tables accepted again day = prices_of_touches tables (touches accepted) again day
 
 -- Monday 2024-01-08 to the Wednesday, and to the Sunday
 through_wednesday : days_through 19_732 ≡ 19_730 ∷ 19_731 ∷ 19_732 ∷ []

@@ -1,35 +1,35 @@
--- What a tap gives an account: the prices or a refusal, and the taps that it has then.
+-- What a tap gives an account: the prices or a refusal, and what it has accepted then.
 use Rattle.std.specs.Prelude.{◌≡◌, true, false, if◌then◌else◌, Result, Ok, Err, IsOk}
-use Rattle.std.specs.FinMap as map
 use Rattle.pay_tables.specs.Words.{FareTables}
 use Rattle.pay_taps.specs.declared.tap.Tap.{Tap}
-use Rattle.pay_taps.specs.declared.tap_set.Addition.{Addition}
-use Rattle.pay_taps.specs.declared.tap_set.Addition.TheVariants.{Added, Repeat}
-use Rattle.pay_taps.specs.declared.tap_set.TapSetFault.{TapSetFault}
-use Rattle.pay_taps.specs.Words.{Taps, number, judged}
+use Rattle.pay_numbered.specs.declared.numbered_set.Addition.{Addition}
+use Rattle.pay_numbered.specs.declared.numbered_set.Addition.TheVariants.{Added, Repeat}
+use Rattle.pay_numbered.specs.declared.numbered_set.AdditionFault.{AdditionFault}
+use Rattle.pay_taps.specs.Words.{judged}
 use Rattle.pay_account.specs.declared.fares.Priced.{Priced}
 use Rattle.pay_account.specs.declared.fares.TapFault.{TapFault}
 use Rattle.pay_account.specs.declared.fares.TapFault.TheVariants.{UnknownPlace, Memory}
+use Rattle.pay_account.specs.Accepted.{Accepted, with_tap}
 use Rattle.pay_account.specs.Places.{is_known}
 use Rattle.pay_account.specs.Prices.{prices}
-use Rattle.pay_account.specs.TapFaults.{tap_fault}
+use Rattle.pay_account.specs.Faults.{tap_fault}
 
 -- a further tap is priced among the others, and a repeat as things are
-abbrev pub addition_result : FareTables → Taps → Tap → Result Addition TapSetFault → Result Priced TapFault
-addition_result tables taps tap (Ok Added) = Ok (prices tables (map.insert taps (number tap) tap) false tap.stamp.day)
-addition_result tables taps tap (Ok Repeat) = Ok (prices tables taps true tap.stamp.day)
-addition_result tables taps tap (Err fault) = Err (tap_fault fault)
+abbrev pub tap_added : FareTables → Accepted → Tap → Result Addition AdditionFault → Result Priced TapFault
+tap_added tables accepted tap (Ok Added) = Ok (prices tables (with_tap accepted tap) false tap.stamp.day)
+tap_added tables accepted tap (Ok Repeat) = Ok (prices tables accepted true tap.stamp.day)
+tap_added tables accepted tap (Err fault) = Err (tap_fault fault)
 
 -- the result of a tap where memory suffices: its place is looked up first, then its number and the count of taps
-abbrev pub tap_result : FareTables → Taps → Tap → Result Priced TapFault
-tap_result tables taps tap = if is_known tables tap then addition_result tables taps tap (judged taps tap) else Err UnknownPlace
+abbrev pub tap_result : FareTables → Accepted → Tap → Result Priced TapFault
+tap_result tables accepted tap = if is_known tables tap.place tap.kind then tap_added tables accepted tap (judged accepted.taps tap) else Err UnknownPlace
 
 -- a result is that one, or want of memory where that one is no refusal
-abbrev pub IsTapResult : Result Priced TapFault → FareTables → Taps → Tap → Type 0
-IsTapResult (Err Memory) tables taps tap = IsOk (tap_result tables taps tap)
-IsTapResult result tables taps tap = result ≡ tap_result tables taps tap
+abbrev pub IsTapResult : Result Priced TapFault → FareTables → Accepted → Tap → Type 0
+IsTapResult (Err Memory) tables accepted tap = IsOk (tap_result tables accepted tap)
+IsTapResult result tables accepted tap = result ≡ tap_result tables accepted tap
 
--- the taps after a result: with the tap, unless it was refused or a repeat
-abbrev pub taps_after : Result Priced TapFault → Taps → Tap → Taps
-taps_after (Ok priced) taps tap = if priced.again then taps else map.insert taps (number tap) tap
-taps_after (Err fault) taps tap = taps
+-- what is accepted after a result: the tap too, unless it was refused or a repeat
+abbrev pub after_tap : Result Priced TapFault → Accepted → Tap → Accepted
+after_tap (Ok priced) accepted tap = if priced.again then accepted else with_tap accepted tap
+after_tap (Err fault) accepted tap = accepted

@@ -1,84 +1,93 @@
-ghost use Rattle.std.specs.Prelude.{◌≡◌, true, false, Ok, IfOk};
-ghost use Rattle.std.specs.FinMap as map;
+ghost use Rattle.std.specs.Prelude.{◌≡◌, ◌+◌, IfOk};
 ghost use Rattle.pay_day.specs.Words.{IsDay};
-ghost use Rattle.pay_taps.specs.Words.{judged, number};
+ghost use Rattle.pay_account.specs.Accepted.{version};
 ghost use Rattle.pay_account.specs.Prices.{prices};
-ghost use Rattle.pay_account.specs.TapResults.{IsTapResult};
+ghost use Rattle.pay_account.specs.FixResults.{prices_named};
 
-use crate::fares::{Fares, Priced, TapFault};
+use crate::fares::{Fares, FixFault, Priced, TapFault};
 use crate::journeys::journeys_of;
 use crate::lines::lines_on;
-use crate::places::is_known;
+use crate::places::{is_known, is_known_fix};
 use crate::prices::{price, price_on};
 use crate::shown::Shown;
+use pay_fix::{Fix, FixSet, What, day_named, effective};
+use pay_money::Pence;
+use pay_numbered::{Addition, Numbered};
 use pay_tables::Tables;
-use pay_taps::{Addition, Tap, TapSet, touches, touches_with};
+use pay_taps::{Tap, TapSet};
 use std::alloc::{AllocError, Global};
 use std::marker::Model;
 
-/// An account that keeps nothing but its accepted taps, and prices them from scratch at each tap. In
-/// a contract it is its number and the set of its taps.
+/// An account that keeps nothing but its accepted taps and corrections, and prices them from scratch at each
+/// one. In a contract it is its number and these.
 #[derive(Drop)]
 pub struct Account {
     alloc: Global,
     number: u32,
     taps: TapSet,
+    fixes: FixSet,
 }
 
 impl Model for Account {
+    ghost use Rattle.std.specs.Prelude.{ℕ};
+    ghost use Rattle.std.specs.Coded.{coded×, coded_ℕ};
     ghost use Rattle.pay_account.specs.Accepted.{Accepted, accepted_code};
 
-    ghost Value = { Accepted };
+    ghost Value = { ℕ × Accepted };
 
-    ghost coded = { accepted_code };
+    ghost coded = { coded× coded_ℕ accepted_code };
 
-    ghost view = { λ a. record { account = a.number; taps = a.taps } };
+    ghost view = { λ a. (a.number, record { taps = a.taps; fixes = a.fixes }) };
 }
 
 impl Account {
-    /// The result of `tap`. The account stays as it is.
-    fn priced(&self, tables: &Tables, tap: &Tap) -> Result<Priced, TapFault>
-        ensures { IsTapResult result tables.now self.now.taps tap.now }
+    /// How many taps and corrections are accepted.
+    pub fn version(&self) -> usize
+        ensures { result ≡ version self.now.1 }
     {
-        if !is_known(tables, tap) {
-            return Err(TapFault::UnknownPlace);
-        }
-        let priced = match self.taps.judge(tap)? {
-            Addition::Added => self.price_with(tables, tap)?,
-            Addition::Repeat => self.price_again(tables, tap.stamp.day())?,
-        };
-        Ok(priced)
+        self.taps.len() + self.fixes.len()
     }
 
-    /// The prices once a further tap is there.
-    fn price_with(&self, tables: &Tables, tap: &Tap) -> Result<Priced, AllocError>
-        requires { judged self.now.taps tap.now ≡ Ok Addition.Added }
-        ensures { IfOk result (λ p. p ≡ prices tables.now (map.insert self.now.taps (number tap.now) tap.now) false tap.now.stamp.day) }
-    {
-        let touches = touches_with(self.alloc, &self.taps, tap)?;
-        price(self.alloc, tables, &touches, false, tap.stamp.day())
-    }
-
-    /// The prices of the taps that are there, for a repeat of one of the day.
-    fn price_again(&self, tables: &Tables, day: u32) -> Result<Priced, AllocError>
+    /// The prices of a day and its week.
+    fn price(&self, tables: &Tables, again: bool, day: u32) -> Result<Priced, AllocError>
         requires { IsDay day }
-        ensures { IfOk result (λ p. p ≡ prices tables.now self.now.taps true day) }
+        ensures { IfOk result (λ p. p ≡ prices tables.now self.now.1 again day) }
     {
-        let touches = touches(self.alloc, &self.taps)?;
-        price(self.alloc, tables, &touches, true, day)
+        let touches = effective(self.alloc, &self.taps, &self.fixes)?;
+        price(self.alloc, tables, &touches, again, day)
+    }
+
+    /// The prices of the day that a correction names.
+    fn price_named(&self, tables: &Tables, again: bool, what: &What) -> Result<Priced, AllocError>
+        ensures { IfOk result (λ p. p ≡ prices_named tables.now self.now.1 again what.now) }
+    {
+        match day_named(&self.taps, &self.fixes, what) {
+            Some(day) => self.price(tables, again, day),
+            None => Ok(Priced {
+                again,
+                day: 0,
+                day_price: Pence::ZERO,
+                week_price: Pence::ZERO,
+            }),
+        }
     }
 }
 
 impl Fares for Account {
-    ghost account = { λ a. a.account };
+    ghost use Rattle.std.specs.Prelude.{⊤};
 
-    ghost taps = { λ a. a.taps };
+    ghost account = { λ a. a.0 };
+
+    ghost accepted = { λ a. a.1 };
+
+    ghost IsPricedBy = { λ tables a. ⊤ };
 
     fn new(alloc: Global, number: u32) -> Account {
         Account {
             alloc,
             number,
             taps: TapSet::new(alloc),
+            fixes: FixSet::new(alloc),
         }
     }
 
@@ -87,15 +96,43 @@ impl Fares for Account {
     }
 
     fn tap(&mut self, tables: &Tables, tap: Tap) -> Result<Priced, TapFault> {
-        let priced = self.priced(tables, &tap)?;
-        if !priced.again {
-            self.taps.add(tap)?;
+        if !is_known(tables, tap.place, tap.kind) {
+            return Err(TapFault::UnknownPlace);
         }
-        Ok(priced)
+        pay_numbered::laws::judgements::<Tap>();
+        pay_numbered::laws::one_more::<Tap>();
+        match self.taps.add(tap)? {
+            Addition::Repeat => Ok(self.price(tables, true, tap.stamp.day())?),
+            Addition::Added => match self.price(tables, false, tap.stamp.day()) {
+                Ok(priced) => Ok(priced),
+                Err(_) => {
+                    self.taps.remove(tap.number());
+                    Err(TapFault::Memory)
+                }
+            },
+        }
+    }
+
+    fn fix(&mut self, tables: &Tables, fix: Fix) -> Result<Priced, FixFault> {
+        if !is_known_fix(tables, &fix.what) {
+            return Err(FixFault::UnknownPlace);
+        }
+        pay_numbered::laws::judgements::<Fix>();
+        pay_numbered::laws::one_more::<Fix>();
+        match self.fixes.add(fix)? {
+            Addition::Repeat => Ok(self.price_named(tables, true, &fix.what)?),
+            Addition::Added => match self.price_named(tables, false, &fix.what) {
+                Ok(priced) => Ok(priced),
+                Err(_) => {
+                    self.fixes.remove(fix.number());
+                    Err(FixFault::Memory)
+                }
+            },
+        }
     }
 
     fn show(&self, tables: &Tables, day: u32) -> Result<Shown, AllocError> {
-        let touches = touches(self.alloc, &self.taps)?;
+        let touches = effective(self.alloc, &self.taps, &self.fixes)?;
         let journeys = journeys_of(self.alloc, tables, &touches)?;
         let (day_price, band) = price_on(tables, &journeys, day);
         let lines = lines_on(self.alloc, tables, journeys, day, band)?;

@@ -1,21 +1,25 @@
 ghost use Rattle.std.specs.Prelude.{◌≡◌, ℕ, IfOk};
-ghost use Rattle.std.specs.FinMap as map;
-ghost use Rattle.pay_taps.specs.Words.{Taps};
-ghost use Rattle.pay_account.specs.TapResults.{IsTapResult, taps_after};
+ghost use Rattle.pay_tables.specs.Words.{FareTables};
+ghost use Rattle.pay_account.specs.Accepted.{Accepted, nothing};
+ghost use Rattle.pay_account.specs.TapResults.{IsTapResult, after_tap};
+ghost use Rattle.pay_account.specs.FixResults.{IsFixResult, after_fix};
 ghost use Rattle.pay_account.specs.Lines.{shown};
 
 use crate::shown::Shown;
+use pay_fix::Fix;
 use pay_money::Pence;
+use pay_numbered::AdditionFault;
 use pay_tables::Tables;
-use pay_taps::{Tap, TapSetFault};
+use pay_taps::Tap;
 use std::alloc::{AllocError, Global};
 
-/// What an accepted tap costs.
+/// What is answered to a tap or a correction that is not refused: the prices of the service day that it is of.
+/// A correction is of the day that it names; where it names none, all three numbers are 0.
 #[derive(Clone, Copy, Debug, PartialEq, Eq)]
 pub struct Priced {
-    /// Whether it is a repeat: the tap had been accepted before, and nothing changed.
+    /// Whether it is a repeat: it had been accepted before, and nothing changed.
     pub again: bool,
-    /// The service day of the tap, counted from 1970-01-01.
+    /// The service day, counted from 1970-01-01.
     pub day: u32,
     /// The price of that day.
     pub day_price: Pence,
@@ -48,34 +52,78 @@ impl From<AllocError> for TapFault {
     }
 }
 
-impl From<TapSetFault> for TapFault {
+impl From<AdditionFault> for TapFault {
     ghost use Rattle.std.specs.Prelude.{◌≡◌};
-    ghost use Rattle.pay_account.specs.TapFaults.{tap_fault};
+    ghost use Rattle.pay_account.specs.Faults.{tap_fault};
 
     ghost from_gives = { λ of fault. fault ≡ tap_fault of };
 
-    fn from(of: TapSetFault) -> TapFault {
+    fn from(of: AdditionFault) -> TapFault {
         match of {
-            TapSetFault::Conflict => TapFault::Conflict,
-            TapSetFault::AccountFull => TapFault::AccountFull,
-            TapSetFault::Memory => TapFault::Memory,
+            AdditionFault::Conflict => TapFault::Conflict,
+            AdditionFault::Full => TapFault::AccountFull,
+            AdditionFault::Memory => TapFault::Memory,
         }
     }
 }
 
-/// An account that prices its taps. It means its number and the set of its accepted taps, and all
-/// its results are of these and the fare file.
+/// Why a correction is refused. The account stays as it was.
+#[derive(Clone, Copy, Debug, PartialEq, Eq)]
+pub enum FixFault {
+    /// 15: a Fill names no place of the fare file, or one of another sort than its kind needs.
+    UnknownPlace,
+    /// 22: the account has another correction of that number.
+    FixConflict,
+    /// 23: the account has as many corrections as it may have.
+    FixesFull,
+    /// 90: no memory.
+    Memory,
+}
+
+impl From<AllocError> for FixFault {
+    ghost use Rattle.std.specs.Prelude.{◌≡◌};
+    ghost use Rattle.pay_account.specs.declared.fares.FixFault.TheVariants.{Memory};
+
+    ghost from_gives = { λ _ fault. fault ≡ Memory };
+
+    fn from(_: AllocError) -> FixFault {
+        FixFault::Memory
+    }
+}
+
+impl From<AdditionFault> for FixFault {
+    ghost use Rattle.std.specs.Prelude.{◌≡◌};
+    ghost use Rattle.pay_account.specs.Faults.{fix_fault};
+
+    ghost from_gives = { λ of fault. fault ≡ fix_fault of };
+
+    fn from(of: AdditionFault) -> FixFault {
+        match of {
+            AdditionFault::Conflict => FixFault::FixConflict,
+            AdditionFault::Full => FixFault::FixesFull,
+            AdditionFault::Memory => FixFault::Memory,
+        }
+    }
+}
+
+/// An account that prices its taps. It means its number and what it has accepted, taps and corrections, and
+/// all its results are of these and the fare file. That has to be one and the same at every call of an
+/// account, which may keep what it priced: a new account serves for any.
 pub trait Fares: Drop {
     /// The number of the account.
     ghost account: { Self → ℕ };
 
-    /// The accepted taps, by their numbers.
-    ghost taps: { Self → Taps };
+    /// The accepted taps and corrections, by their numbers.
+    ghost accepted: { Self → Accepted };
 
-    /// An account without taps.
+    /// Whether the account may be priced by a fare file.
+    ghost IsPricedBy: { FareTables → Self → Type 0 };
+
+    /// An account that has accepted nothing.
     fn new(alloc: Global, number: u32) -> Self
         ensures numbered { account result ≡ number }
-        ensures no_taps { taps result ≡ map.empty };
+        ensures nothing { accepted result ≡ nothing }
+        ensures any { (tables : FareTables) → IsPricedBy tables result };
 
     /// The number of the account.
     fn number(&self) -> u32
@@ -86,12 +134,26 @@ pub trait Fares: Drop {
     /// and `Memory` that there is.
     fn tap(&mut self, tables: &Tables, tap: Tap) -> Result<Priced, TapFault>
         requires own { tap.account ≡ account self.old }
+        requires priced_by { IsPricedBy tables.now self.old }
         ensures same_account { account self.new ≡ account self.old }
-        ensures answer { IsTapResult result tables.now (taps self.old) tap }
-        ensures after { taps self.new ≡ taps_after result (taps self.old) tap };
+        ensures answer { IsTapResult result tables.now (accepted self.old) tap }
+        ensures after { accepted self.new ≡ after_tap result (accepted self.old) tap }
+        ensures priced_by { IsPricedBy tables.now self.new };
+
+    /// Accepts a correction and prices the day that it names, and its week through Sunday. A repeat of an
+    /// accepted one is given the present day and prices. A fault is the first of `UnknownPlace`,
+    /// `FixConflict`, `FixesFull` and `Memory` that there is.
+    fn fix(&mut self, tables: &Tables, fix: Fix) -> Result<Priced, FixFault>
+        requires own { fix.account ≡ account self.old }
+        requires priced_by { IsPricedBy tables.now self.old }
+        ensures same_account { account self.new ≡ account self.old }
+        ensures answer { IsFixResult result tables.now (accepted self.old) fix }
+        ensures after { accepted self.new ≡ after_fix result (accepted self.old) fix }
+        ensures priced_by { IsPricedBy tables.now self.new };
 
     /// Shows the journeys of a service day, counted from 1970-01-01, and its price. An `Err` is want of
     /// memory.
     fn show(&self, tables: &Tables, day: u32) -> Result<Shown, AllocError>
-        ensures { IfOk result (λ it. it ≡ shown tables.now (account self.now) (taps self.now) day) };
+        requires { IsPricedBy tables.now self.now }
+        ensures { IfOk result (λ it. it ≡ shown tables.now (account self.now) (accepted self.now) day) };
 }

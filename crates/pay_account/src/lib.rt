@@ -12,5 +12,5 @@ mod shown;
 mod week_cells;
 
 pub use account::Account;
-pub use fares::{Fares, Priced, TapFault};
+pub use fares::{Fares, FixFault, Priced, TapFault};
 pub use shown::{Line, LineKind, Lines, Shown};

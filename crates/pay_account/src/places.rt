@@ -1,17 +1,28 @@
 ghost use Rattle.std.specs.Prelude.{◌≡◌};
-ghost use Rattle.pay_account.specs.Places.{is_known};
+ghost use Rattle.pay_account.specs.Places.{is_known, is_known_fix};
 
+use pay_fix::What;
 use pay_tables::{Place, Tables};
-use pay_taps::{Kind, Tap};
+use pay_taps::Kind;
 
-/// Whether a tap was made at a place of the fare file, and of the sort that its kind needs: a
-/// station for a tap on the way in or out, a route for one on a bus or a tram.
-pub fn is_known(tables: &Tables, tap: &Tap) -> bool
-    ensures { result ≡ is_known tables.now tap.now }
+/// Whether the fare file has a place of the sort that a tap of this kind needs: a station for a tap on the
+/// way in or out, a route for one on a bus or a tram.
+pub fn is_known(tables: &Tables, place: u16, kind: Kind) -> bool
+    ensures { result ≡ is_known tables.now place kind }
 {
-    match (tap.kind, tables.place(tap.place)) {
+    match (kind, tables.place(place)) {
         (Kind::In | Kind::Out, Some(Place::Station { .. })) => true,
         (Kind::Bus, Some(Place::Route { .. })) => true,
         _ => false,
+    }
+}
+
+/// Whether a correction is made where it may be: a Fill as the tap that it adds, any other everywhere.
+pub fn is_known_fix(tables: &Tables, what: &What) -> bool
+    ensures { result ≡ is_known_fix tables.now what.now }
+{
+    match what {
+        What::Fill(_, place, kind) => is_known(tables, *place, *kind),
+        _ => true,
     }
 }

@@ -1,6 +1,6 @@
 ghost use Rattle.std.specs.Prelude.{◌≡◌, ◌≤◌, length, IfOk};
 ghost use Rattle.pay_day.specs.Words.{IsDay};
-ghost use Rattle.pay_taps.specs.declared.limits.TheConstants.{MOST_TAPS};
+ghost use Rattle.pay_fix.specs.declared.limits.TheConstants.{MOST_TOUCHES};
 ghost use Rattle.pay_caps.specs.Words.{capped_price};
 ghost use Rattle.pay_account.specs.Prices.{journeys_on, price_of_day, prices_of_touches};
 
@@ -18,7 +18,7 @@ use std::alloc::{AllocError, Global};
 
 /// The price of a service day, of all journeys, and the band that gives it.
 pub fn price_on(tables: &Tables, journeys: &[Journey], day: u32) -> (Pence, Option<u8>)
-    requires { length journeys.now ≤ MOST_TAPS }
+    requires { length journeys.now ≤ MOST_TOUCHES }
     ensures price { result.0 ≡ price_of_day tables.now journeys.now day }
     ensures band { result.1 ≡ (capped_price tables.now (journeys_on journeys.now day)).1 }
 {
@@ -35,7 +35,7 @@ pub fn price(
     again: bool,
     day: u32,
 ) -> Result<Priced, AllocError>
-    requires few { length touches.now ≤ MOST_TAPS }
+    requires few { length touches.now ≤ MOST_TOUCHES }
     requires is_day { IsDay day }
     ensures { IfOk result (λ p. p ≡ prices_of_touches tables.now touches.now again day) }
 {

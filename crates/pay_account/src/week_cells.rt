@@ -2,7 +2,7 @@ ghost use Rattle.std.specs.Prelude.{◌≡◌, ◌≤◌, ◌+◌, ◌*◌, ◌+
 ghost use Rattle.pay_day.specs.Words.{IsDay, sunday};
 ghost use Rattle.pay_hopper.specs.Words.{last_paid_after};
 ghost use Rattle.pay_tables.specs.declared.limits.TheConstants.{MOST_FARE};
-ghost use Rattle.pay_taps.specs.declared.limits.TheConstants.{MOST_TAPS};
+ghost use Rattle.pay_fix.specs.declared.limits.TheConstants.{MOST_TOUCHES};
 ghost use Rattle.pay_caps.specs.declared.limits.TheConstants.{MOST_SUM};
 ghost use Rattle.pay_caps.specs.Words.{cells_of, total};
 ghost use Rattle.pay_account.specs.Journeys.{boardings, is_bus, next_boarding};
@@ -79,8 +79,8 @@ fn add_boardings(week: &mut Week, tables: &Tables, touches: &[Touch], monday: u3
 /// The sums of the fares of each day of a day's week, from Monday through Sunday, of journeys by rail and of
 /// the boardings among touches in order.
 pub fn cells_of_week(tables: &Tables, rail: &[Journey], touches: &[Touch], day: u32) -> Week
-    requires few_rail { length rail.now ≤ MOST_TAPS }
-    requires few { length touches.now ≤ MOST_TAPS }
+    requires few_rail { length rail.now ≤ MOST_TOUCHES }
+    requires few { length touches.now ≤ MOST_TOUCHES }
     requires is_day { IsDay day }
     ensures { result ≡ map (λ each. cells_of tables.now (journeys_on (rail.now ++ boardings tables.now touches.now) each)) (days_through (sunday day)) }
 {
@@ -105,7 +105,7 @@ fn add_on(cells: &mut Cells, tables: &Tables, journey: &Journey, day: u32)
 
 /// The sums of the fares of the journeys of a service day.
 pub fn cells_on(tables: &Tables, journeys: &[Journey], day: u32) -> Cells
-    requires { length journeys.now ≤ MOST_TAPS }
+    requires { length journeys.now ≤ MOST_TOUCHES }
     ensures { result ≡ cells_of tables.now (journeys_on journeys.now day) }
 {
     pay_caps::laws::sums();

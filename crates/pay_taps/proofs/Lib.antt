@@ -1,5 +1,2 @@
 pub mod Sorting
-pub mod Judgement
-pub mod NumberOrder
 pub mod TouchOrder
-mod TapList

@@ -1,4 +1,4 @@
 pub mod Taps
+pub mod SameTap
 pub mod Order
-pub mod TapList
 pub mod Words

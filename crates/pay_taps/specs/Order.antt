@@ -1,14 +1,12 @@
 -- Effective taps, and their order.
-use Rattle.std.specs.Prelude.{◌≡◌, ℕ, ◌==◌, ◌&&◌, Bool, true, false, if◌then◌else◌, List, [], ◌∷◌, map, IsSorted, refl}
+use Rattle.std.specs.Prelude.{◌≡◌, ℕ, ◌==◌, ◌&&◌, Bool, true, false, if◌then◌else◌, List, [], ◌∷◌, IsSorted, refl}
 use Rattle.std.specs.declared.cmp.Ordering.{Ordering}
 use Rattle.std.specs.Ordering.{nat_cmp, bool_cmp, ordering_then, is_lt}
 use Rattle.std.specs.Bool.{beq}
 use Rattle.std.specs.List.{IsDistinct}
-use Rattle.std.specs.FinMap.{values}
 use Rattle.pay_taps.specs.declared.tap.Kind.TheVariants.{Bus}
 use Rattle.pay_taps.specs.declared.tap.Tap.{Tap}
 use Rattle.pay_taps.specs.declared.tap.Touch.{Touch}
-use Rattle.pay_taps.specs.Taps.{Taps}
 
 -- an accepted tap is effective under its own number
 abbrev pub touch_of : Tap → Touch
@@ -54,10 +52,6 @@ same_number a b = beq a.filled b.filled && a.first == b.first && a.second == b.s
 -- no two touches have one number
 abbrev pub HaveOwnNumbers : List Touch → Type 0
 HaveOwnNumbers = IsDistinct same_number
-
--- the effective taps of a set of taps, in order
-abbrev pub touches : Taps → List Touch
-touches taps = in_order (map touch_of (values taps))
 
 -- ---- worked rows: bus taps about 07:00 on 2024-01-08
 

@@ -1,3 +1,3 @@
 -- Words for the crates above: taps by number and how a set of them judges one more, and the order of touches.
-pub use Rattle.pay_taps.specs.Taps.{number, number_cmp, Taps, same_kind, judgement, judged}
-pub use Rattle.pay_taps.specs.Order.{in_order_by, in_order, touches}
+pub use Rattle.pay_taps.specs.Taps.{number, Taps, same_kind, same_stamp, same_tap, judged}
+pub use Rattle.pay_taps.specs.Order.{touch_of, in_order_by, in_order, put_in, HaveOwnNumbers, IsInOrder}

@@ -1,4 +1,4 @@
-//! Taps of an account: the set of accepted taps by number, and the effective taps in order.
+//! Taps of an account: the set of accepted taps by number, and the order of effective ones.
 #![tactic(auto)]
 
 pub mod laws;
@@ -7,6 +7,6 @@ mod order;
 mod tap;
 mod tap_set;
 
-pub use order::{sort_touches, touches, touches_of, touches_with};
+pub use order::sort_touches;
 pub use tap::{Kind, Tap, Touch};
-pub use tap_set::{Addition, TapSet, TapSetFault};
+pub use tap_set::TapSet;

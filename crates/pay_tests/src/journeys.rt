@@ -1,94 +1,98 @@
-//! By the sample fare file: stations 10 to 14, and twenty minutes between 10 and 12.
+//! By the sample fare file: stations 10 to 14 in the zones 1, 1 and 2, 2, 2 and 3, 3, and twenty minutes between 10
+//! and 12.
 
-use crate::rows::{MONDAY, behind, behind_leg, expect_found, journeys_of, row_of, taps_of};
+use crate::given::{expect_same, sample, touch_at};
+use pay_caps::{Cell, cell_of, covers};
+use pay_fares::*;
+use pay_hopper::*;
 use pay_links::*;
-use pay_tables::Tables;
-use pay_tables::sample::BUS_FARES;
-use pay_taps::Touch;
+use pay_money::Pence;
+use pay_pairs::*;
+use pay_tables::{Span, Tables};
+use pay_taps::{Kind, Touch};
 use std::process::Abort;
 
-/// Taps in order, and the journeys of their legs and lone taps: linked legs, a leg that ends at the same station, or a
-/// lone tap.
-const ROWS: &str = "
-    none => none
-    IN 10 07:00, OUT 12 07:20 => one leg
-    IN 10 07:00, OUT 10 07:02 => same station
-    IN 13 07:01 => lone tap
-    // The time of the interchange, and a second more.
-    IN 14 07:00, OUT 12 07:20, IN 10 07:40, OUT 11 07:50 => two legs
-    IN 14 07:00, OUT 12 07:20, IN 10 07:40:01, OUT 11 07:50 => one leg, one leg
-    // The other way round.
-    IN 14 07:00, OUT 10 07:20, IN 12 07:40, OUT 13 07:50 => two legs
-    // No interchange is listed from 12 to 11, nor from 12 to 12.
-    IN 14 07:00, OUT 12 07:20, IN 11 07:21, OUT 10 07:50 => one leg, one leg
-    IN 14 07:00, OUT 12 07:20, IN 12 07:21, OUT 11 07:50 => one leg, one leg
-    // Three legs: all of them, the first two, and the last two.
-    IN 14 07:00, OUT 12 07:20, IN 10 07:40, OUT 12 08:00, IN 10 08:20, OUT 11 08:30 => three legs
-    IN 14 07:00, OUT 12 07:20, IN 10 07:40, OUT 12 08:00, IN 10 08:20:01, OUT 11 08:30 => two legs, one leg
-    IN 14 07:00, OUT 12 07:20, IN 10 07:40:01, OUT 12 08:00, IN 10 08:20, OUT 11 08:30 => one leg, two legs
-    // A lone tap parts two legs, and so does a leg from a station back to it.
-    IN 14 07:00, OUT 12 07:20, IN 13 07:21, IN 10 07:40, OUT 11 07:50 => one leg, lone tap, one leg
-    // Such a leg is linked with none, though each pair is listed and its time kept.
-    IN 14 07:00, OUT 12 07:20, IN 10 07:21, OUT 10 07:22, IN 12 07:30, OUT 13 07:40 => one leg, same station, one leg
-    IN 10 07:00, IN 10 07:01, OUT 12 07:20, IN 12 07:30, OUT 12 07:31, IN 11 07:40, IN 11 07:41, IN 13 07:50, OUT 14 08:00 => lone tap, one leg, same station, lone tap, lone tap, one leg
-";
-
-/// What is left of taps behind those of a run, which are the first of them.
-fn behind_run<'a>(taps: &'a [Touch], run: &Run) -> Option<&'a [Touch]> {
-    let mut left = behind_leg(taps, run.first())?;
-    for leg in run.others() {
-        left = behind_leg(left, leg)?;
-    }
-    Some(left)
+#[test]
+fn boardings_pay_after_the_hour(rt: HostRuntime) {
+    let tables = sample(&rt);
+    let first = touch_at(&rt, 25_200, 50, Kind::Bus);
+    let free = touch_at(&rt, 28_800, 50, Kind::Bus);
+    let next = touch_at(&rt, 28_801, 50, Kind::Bus);
+    assert!(rt; pays(&tables, &None, &free));
+    assert!(rt; !pays(&tables, &Some(first.stamp), &free));
+    let marks = paying(rt.alloc(), &tables, &[first, free, next]).expect(&rt, "memory");
+    expect_same(&rt, marks.as_slice(), [true, false, true].as_slice());
 }
 
-fn behind_journey<'a>(taps: &'a [Touch], journey: &Journey) -> Option<&'a [Touch]> {
+/// Compares what is told of a run.
+fn expect_run<R: Abort>(rt: &R, tables: &Tables, run: &Run) {
+    expect_same(
+        rt,
+        (
+            run.first().entry.place,
+            run.last().exit.place,
+            run.others().len(),
+        ),
+        (14, 11, 1),
+    );
+    expect_same(rt, span_of_run(tables, run), Span { from: 1, to: 3 });
+}
+
+/// Compares what is told of a journey by rail.
+fn expect_rail<R: Abort>(rt: &R, tables: &Tables, journey: &Journey) {
     match journey {
-        Journey::Run(run) => behind_run(taps, run),
-        Journey::Same(leg) => behind_leg(taps, leg),
-        Journey::Lone(tap) => behind(taps, tap),
-        Journey::Bus { .. } => None,
+        Journey::Run(run) => expect_run(rt, tables, run),
+        _ => panic!(rt; "no run"),
     }
+    expect_same(rt, journey.first_tap().second, 25_200);
+    expect_fare(rt, tables, journey, true, 370);
+    expect_same(
+        rt,
+        cell_of(tables, journey),
+        Cell::Rail(Span { from: 1, to: 3 }),
+    );
 }
 
-fn words_of(journey: &Journey) -> &'static str {
-    match journey {
-        Journey::Run(run) => match run.others().len() {
-            0 => "one leg, ",
-            1 => "two legs, ",
-            2 => "three legs, ",
-            _ => "more legs, ",
-        },
-        Journey::Same(_) => "same station, ",
-        Journey::Lone(_) => "lone tap, ",
-        Journey::Bus { .. } => "bus, ",
-    }
+fn expect_fare<R: Abort>(rt: &R, tables: &Tables, journey: &Journey, peak: bool, pence: u64) {
+    expect_same(
+        rt,
+        (is_peak(tables, journey), fare(tables, journey)),
+        (peak, Pence::new(pence)),
+    );
 }
 
-/// The journeys as rows spell them. These are their taps, in order.
-fn told<R: Abort + AllocGlobal>(rt: &R, journeys: &[Journey], taps: &[Touch]) -> String {
-    let mut text = String::new(rt.alloc());
-    let mut left = taps;
-    for journey in journeys {
-        left = behind_journey(left, journey).expect(rt, "the next taps");
-        text.push_str(words_of(journey)).expect(rt, "memory");
-    }
-    assert!(rt; left.is_empty());
-    text
-}
-
-fn expect_journeys<R: Abort + AllocGlobal>(rt: &R, tables: &Tables, given: &str, want: &str) {
-    let taps = taps_of(rt, MONDAY, given);
-    let found = journeys_of(rt, tables, &taps);
-    expect_found(rt, given, &told(rt, &found, &taps), want);
+/// The journeys by rail that taps make.
+fn journeys_of<R: Abort + AllocGlobal>(rt: &R, tables: &Tables, taps: &[Touch]) -> Vec<Journey> {
+    let parts = legs(rt.alloc(), tables, taps).expect(rt, "memory");
+    journeys(rt.alloc(), tables, &parts).expect(rt, "memory")
 }
 
 #[test]
-fn a_journey_is_as_many_legs_as_are_linked(rt: HostRuntime) {
-    let tables = Tables::read(rt.alloc(), BUS_FARES).expect(&rt, "the sample");
-    for line in ROWS.trim().lines() {
-        if let Some((given, want)) = row_of(&rt, line) {
-            expect_journeys(&rt, &tables, given, want);
-        }
-    }
+fn two_legs_are_one_journey(rt: HostRuntime) {
+    let tables = sample(&rt);
+    let taps = [
+        touch_at(&rt, 25_200, 14, Kind::In),
+        touch_at(&rt, 26_400, 12, Kind::Out),
+        touch_at(&rt, 27_600, 10, Kind::In),
+        touch_at(&rt, 28_200, 11, Kind::Out),
+    ];
+    let found = journeys_of(&rt, &tables, &taps);
+    expect_same(&rt, found.len(), 1);
+    expect_rail(&rt, &tables, found.first().expect(&rt, "a journey"));
+}
+
+#[test]
+fn boardings_and_lone_taps(rt: HostRuntime) {
+    let tables = sample(&rt);
+    let bus = tables.bands().first().expect(&rt, "a band");
+    let boarding = Journey::Bus {
+        tap: touch_at(&rt, 43_200, 50, Kind::Bus),
+        pays: true,
+    };
+    expect_fare(&rt, &tables, &boarding, false, 175);
+    assert!(rt; covers(&tables, bus, &boarding));
+    let lone = Journey::Lone(touch_at(&rt, 43_200, 11, Kind::In));
+    expect_fare(&rt, &tables, &lone, false, 860);
+    assert!(rt; !covers(&tables, bus, &lone));
+    expect_same(&rt, span_of_station(&tables, 11), Span { from: 2, to: 2 });
 }

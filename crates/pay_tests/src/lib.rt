@@ -1,5 +1,7 @@
 //! The tests of the crates below `farebox`, each by public calls alone. They have a crate of their own since one
-//! with tests is proved twice.
+//! with tests is proved twice. They show what no clause says: that each public call succeeds with ample memory, that
+//! each generic one is met by a type, and what comes of readers, writers and allocations that fail. What is worked
+//! out in rows is data for `tests/program`, which runs the built program on it.
 #![tactic(auto)]
 
 #[cfg(test)]
@@ -13,17 +15,15 @@ mod days;
 #[cfg(test)]
 mod fare_files;
 #[cfg(test)]
-mod fields;
+mod fixes;
 #[cfg(test)]
-mod hopper;
+mod given;
 #[cfg(test)]
 mod journeys;
 #[cfg(test)]
-mod legs;
+mod sessions;
 #[cfg(test)]
-mod rows;
-#[cfg(test)]
-mod single_fares;
+mod streams;
 #[cfg(test)]
 mod taps;
 #[cfg(test)]

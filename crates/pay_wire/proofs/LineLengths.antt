@@ -8,13 +8,16 @@ use Rattle.std.proofs.lemmas.List.Elements.{All-from_recursion, All-weaker}
 use Rattle.pay_taps.specs.declared.tap.Kind.{Kind}
 use Rattle.pay_taps.specs.declared.tap.Kind.TheVariants.{In, Out, Bus}
 use Rattle.pay_wire.specs.declared.command.SpelledTap.{SpelledTap}
+use Rattle.pay_wire.specs.declared.command.SpelledFix.{SpelledFix}
+use Rattle.pay_wire.specs.declared.command.SpelledWhat.{SpelledWhat}
+use Rattle.pay_wire.specs.declared.command.SpelledWhat.TheVariants as spelled
 use Rattle.pay_wire.specs.declared.command.Command.{Command}
-use Rattle.pay_wire.specs.declared.command.Command.TheVariants.{Tap, Show, NotYet, Quit}
+use Rattle.pay_wire.specs.declared.command.Command.TheVariants.{Tap, Fix, Show, NotYet, Quit}
 use Rattle.pay_wire.specs.Fields.{words}
-use Rattle.pay_wire.specs.Commands.{tap_of, show_of}
-use Rattle.pay_wire.specs.Spellings.{IsSpelledTap, spelling_of_kind, spelling_of_tap, IsShow, spelling_of_show, Spells, IsLine}
+use Rattle.pay_wire.specs.Commands.{tap_of, fix_of, show_of}
+use Rattle.pay_wire.specs.Spellings.{IsSpelledTap, spelling_of_kind, spelling_of_tap, IsSpelledWhat, words_of_what, IsSpelledFix, spelling_of_fix, IsShow, spelling_of_show, Spells, IsLine}
 use Rattle.pay_wire.proofs.Visible.{AllVisible, text_joined}
-use Rattle.pay_wire.proofs.Spelled.{fields_of, tap_visible, tap_words, tap_again, show_fields, show_visible, show_words, show_again, is_read}
+use Rattle.pay_wire.proofs.Spelled.{fields_of, tap_visible, tap_words, tap_again, fix_fields, fix_visible, fix_words, fix_again, show_fields, show_visible, show_words, show_again, is_read}
 
 abbrev some : {A : Type 0} → A → Option A
 some x = Some x
@@ -33,6 +36,11 @@ one_tap a b f g e =
     let fields : fields_of a ≡ fields_of b = tails (codes "TAP") (codes "TAP") (fields_of a) (fields_of b) (sym (tap_words a f) ∙ ap words e ∙ tap_words b g) in
     some_is a b (sym (tap_again a f) ∙ ap tap_of fields ∙ tap_again b g)
 
+pub one_fix : (a b : SpelledFix) → IsSpelledFix a → IsSpelledFix b → spelling_of_fix a ≡ spelling_of_fix b → a ≡ b
+one_fix a b f g e =
+    let fields : fix_fields a ≡ fix_fields b = tails (codes "FIX") (codes "FIX") (fix_fields a) (fix_fields b) (sym (fix_words a f) ∙ ap words e ∙ fix_words b g) in
+    some_is a b (sym (fix_again a f) ∙ ap fix_of fields ∙ fix_again b g)
+
 same_show : (account day x y : ℕ) → Show account day ≡ Show x y → (account ≡ x) × (day ≡ y)
 same_show account day x y e = (cc, cc)
 
@@ -43,6 +51,7 @@ one_show account day x y f g e =
 
 pub one_line : (command : Command) (a b : List ℕ) → command ≢ NotYet → Spells a command → Spells b command → a ≡ b
 one_line (Tap tap) a b some f g = f.1 ∙ sym g.1
+one_line (Fix fix) a b some f g = f.1 ∙ sym g.1
 one_line (Show account day) a b some f g = f.1 ∙ sym g.1
 one_line NotYet a b some f g = absurd (some refl)
 one_line Quit a b some f g = f ∙ sym g
@@ -89,6 +98,64 @@ no_newline ws seen =
 
 pub tap_is_line : (tap : SpelledTap) → IsSpelledTap tap → IsLine (spelling_of_tap tap)
 tap_is_line tap fits = (tap_short tap fits, no_newline (codes "TAP" ∷ fields_of tap) (tap_visible tap fits))
+
+named_short : (name : List ℕ) (a b : ℕ) → length name ≤ 6 → a ≤ 4_294_967_295 → b ≤ 4_294_967_295 → length (join_with_byte 32 (name ∷ decimal a ∷ decimal b ∷ [])) ≤ 28
+named_short name a b short f g =
+    omega (
+      arith,
+      short,
+      joined_length name (decimal a ++ (32 ∷ decimal b)),
+      joined_length (decimal a) (decimal b),
+      number_short a f,
+      number_short b g,
+    )
+
+fill_short : (utc place : ℕ) (kind : Kind) → utc ≤ 4_294_967_295 → place ≤ 65_535 → length (join_with_byte 32 (words_of_what (spelled.Fill utc place kind))) ≤ 30
+fill_short utc place kind f g =
+    let word = spelling_of_kind kind in
+    omega (
+      arith,
+      joined_length (codes "FILL") (decimal utc ++ (32 ∷ (decimal place ++ (32 ∷ word)))),
+      joined_length (decimal utc) (decimal place ++ (32 ∷ word)),
+      joined_length (decimal place) word,
+      kind_short kind,
+      number_short utc f,
+      number_short place (omega (arith, g)),
+    )
+
+-- the words of what a correction does have a first one, so they stand behind a space
+more_short : (a : ℕ) (what : SpelledWhat) → IsSpelledWhat what → a ≤ 4_294_967_295 → length (join_with_byte 32 (decimal a ∷ words_of_what what)) ≤ 41
+more_short a (spelled.Void reader seq) fits f =
+    omega (arith, number_short a f, joined_length (decimal a) (join_with_byte 32 (words_of_what (spelled.Void reader seq))), named_short (codes "VOID") reader seq (omega arith) (omega (arith, fits.0.1)) fits.1)
+more_short a (spelled.Fill utc place kind) fits f =
+    omega (arith, number_short a f, joined_length (decimal a) (join_with_byte 32 (words_of_what (spelled.Fill utc place kind))), fill_short utc place kind fits.0 fits.1.1)
+more_short a (spelled.Credit credit) fits f =
+    omega (
+      arith,
+      number_short a f,
+      joined_length (decimal a) (join_with_byte 32 (words_of_what (spelled.Credit credit))),
+      named_short (codes "CREDIT") credit.day credit.pence (omega arith) (omega (arith, fits.day)) (omega (arith, fits.within)),
+    )
+more_short a (spelled.Drop staff seq) fits f =
+    omega (arith, number_short a f, joined_length (decimal a) (join_with_byte 32 (words_of_what (spelled.Drop staff seq))), named_short (codes "DROP") staff seq (omega arith) (omega (arith, fits.0.1)) fits.1)
+
+fix_short : (fix : SpelledFix) → IsSpelledFix fix → length (spelling_of_fix fix) ≤ 128
+fix_short fix fits =
+    let account = join_with_byte 32 (decimal fix.account ∷ words_of_what fix.what) in
+    let seq = decimal fix.seq ++ (32 ∷ account) in
+    let staff = decimal fix.staff ++ (32 ∷ seq) in
+    omega (
+      arith,
+      joined_length (codes "FIX") staff,
+      joined_length (decimal fix.staff) seq,
+      joined_length (decimal fix.seq) account,
+      number_short fix.staff (omega (arith, fits.staff)),
+      number_short fix.seq fits.seq,
+      more_short fix.account fix.what fits.what fits.account.1,
+    )
+
+pub fix_is_line : (fix : SpelledFix) → IsSpelledFix fix → IsLine (spelling_of_fix fix)
+fix_is_line fix fits = (fix_short fix fits, no_newline (codes "FIX" ∷ fix_fields fix) (fix_visible fix fits))
 
 show_short : (account day : ℕ) → IsShow account day → length (spelling_of_show account day) ≤ 128
 show_short account day fits =

@@ -7,7 +7,7 @@ use Rattle.std.proofs.lemmas.Fmt.{decimal_injective}
 use Rattle.std.proofs.lemmas.List.{length-append}
 use Rattle.std.proofs.lemmas.List.Splits.{join_with_byte-slice_split}
 use Rattle.pay_wire.specs.declared.refusal.Refusal.{Refusal}
-use Rattle.pay_wire.specs.declared.refusal.Refusal.TheVariants.{OutOfTime, UnknownPlace, Conflict, AccountFull, BadLine, LongLine, NotYet, Memory}
+use Rattle.pay_wire.specs.declared.refusal.Refusal.TheVariants.{OutOfTime, UnknownPlace, Conflict, AccountFull, FixConflict, FixesFull, BadLine, LongLine, NotYet, Memory}
 use Rattle.pay_account.specs.declared.fares.Priced.{Priced}
 use Rattle.pay_wire.specs.declared.reply.Reply.{Reply}
 use Rattle.pay_wire.specs.declared.reply.Reply.TheVariants as replies
@@ -25,6 +25,8 @@ name_visible OutOfTime = refl
 name_visible UnknownPlace = refl
 name_visible Conflict = refl
 name_visible AccountFull = refl
+name_visible FixConflict = refl
+name_visible FixesFull = refl
 name_visible BadLine = refl
 name_visible LongLine = refl
 name_visible NotYet = refl
@@ -35,6 +37,8 @@ number_small OutOfTime = omega arith
 number_small UnknownPlace = omega arith
 number_small Conflict = omega arith
 number_small AccountFull = omega arith
+number_small FixConflict = omega arith
+number_small FixesFull = omega arith
 number_small BadLine = omega arith
 number_small LongLine = omega arith
 number_small NotYet = omega arith
@@ -64,6 +68,7 @@ reply_words replies.Bye fits = refl
 refusal_at : ℕ → Refusal
 refusal_at n =
     if n == 1 then OutOfTime else if n == 15 then UnknownPlace else if n == 20 then Conflict else if n == 21 then AccountFull
+    else if n == 22 then FixConflict else if n == 23 then FixesFull
     else if n == 50 then BadLine else if n == 51 then LongLine else if n == 60 then NotYet else Memory
 
 refusal_again : (r : Refusal) → refusal_at (refusal_number r) ≡ r
@@ -72,6 +77,8 @@ refusal_again OutOfTime = refl
 refusal_again UnknownPlace = refl
 refusal_again Conflict = refl
 refusal_again AccountFull = refl
+refusal_again FixConflict = refl
+refusal_again FixesFull = refl
 refusal_again BadLine = refl
 refusal_again LongLine = refl
 refusal_again NotYet = refl

@@ -9,14 +9,21 @@ use Rattle.std.proofs.lemmas.List.Splits.{join_with_byte-slice_split}
 use Rattle.std.proofs.lemmas.Slice.Eq.{bytes_eq-Decides}
 use Rattle.pay_taps.specs.declared.tap.Kind.{Kind}
 use Rattle.pay_taps.specs.declared.tap.Kind.TheVariants.{In, Out, Bus}
+use Rattle.pay_wire.specs.declared.command.SpelledCredit.{SpelledCredit}
+use Rattle.pay_wire.specs.Spellings.{IsSpelledCredit}
 use Rattle.pay_wire.specs.declared.command.SpelledTap.{SpelledTap}
+use Rattle.pay_wire.specs.declared.command.SpelledFix.{SpelledFix}
+use Rattle.pay_wire.specs.declared.command.SpelledWhat.{SpelledWhat}
+use Rattle.pay_wire.specs.declared.command.SpelledWhat.TheVariants as spelled
+use Rattle.pay_wire.specs.declared.command.Form.{Form}
+use Rattle.pay_wire.specs.declared.command.Form.TheVariants as form
 use Rattle.pay_wire.specs.declared.command.Command.{Command}
-use Rattle.pay_wire.specs.declared.command.Command.TheVariants.{Tap, Show, NotYet, Quit}
+use Rattle.pay_wire.specs.declared.command.Command.TheVariants.{Tap, Fix, Show, NotYet, Quit}
 use Rattle.pay_wire.specs.declared.command.Keyword.{Keyword}
 use Rattle.pay_wire.specs.declared.command.Keyword.TheVariants as keyword
 use Rattle.pay_wire.specs.Fields.{◌>>=◌, is_space, words, words_after, has_none, field}
-use Rattle.pay_wire.specs.Commands.{number_within, kind_of_word, tap_of, show_of, keyword_of, command_for, command_of_words, command_of}
-use Rattle.pay_wire.specs.Spellings.{IsSpelledTap, spelling_of_kind, spelling_of_tap, IsShow, spelling_of_show, first_word, IsUnserved, Spells}
+use Rattle.pay_wire.specs.Commands.{number_within, kind_of_word, tap_of, named_of, fill_of, credit_of, form_of_word, what_for, what_of, fix_of, show_of, keyword_of, command_for, command_of_words, command_of}
+use Rattle.pay_wire.specs.Spellings.{IsSpelledTap, spelling_of_kind, spelling_of_tap, IsSpelledWhat, words_of_what, IsSpelledFix, spelling_of_fix, IsShow, spelling_of_show, first_word, IsUnserved, Spells}
 use Rattle.pay_wire.proofs.Spaces.{split_at_end}
 use Rattle.pay_wire.proofs.Numerals.{bind_some, within_again, within_is}
 use Rattle.pay_wire.proofs.Visible.{is_visible, decimal_visible, AllVisible, words_joined}
@@ -72,6 +79,75 @@ tap_again tap fits =
 tap_line_again : (tap : SpelledTap) → IsSpelledTap tap → command_of (spelling_of_tap tap) ≡ Some (Tap tap)
 tap_line_again tap fits = ap command_of_words (tap_words tap fits) ∙ rw (tap_again tap fits) refl
 
+two_visible : (a b : ℕ) → a ≤ 4_294_967_295 → b ≤ 4_294_967_295 → AllVisible (decimal a ∷ decimal b ∷ [])
+two_visible a b f g = (decimal_visible a (omega (arith, f)), (decimal_visible b (omega (arith, g)), tt))
+
+what_visible : (what : SpelledWhat) → IsSpelledWhat what → AllVisible (words_of_what what)
+what_visible (spelled.Void reader seq) fits = (refl, two_visible reader seq (omega (arith, fits.0.1)) fits.1)
+what_visible (spelled.Fill utc place kind) fits =
+    (refl, (decimal_visible utc (omega (arith, fits.0)), (decimal_visible place (omega (arith, fits.1.1)), (kind_visible kind, tt))))
+what_visible (spelled.Credit credit) fits = (refl, two_visible credit.day credit.pence (omega (arith, fits.day)) (omega (arith, fits.within)))
+what_visible (spelled.Drop staff seq) fits = (refl, two_visible staff seq (omega (arith, fits.0.1)) fits.1)
+
+named_again : (most first seq : ℕ) → 1 ≤ first → first ≤ most → most ≤ 4_294_967_295 → seq ≤ 4_294_967_295 → named_of most (decimal first ∷ decimal seq ∷ []) ≡ Some (first, seq)
+unfolding named_of
+named_again most first seq above below high small =
+    rw (within_again 1 most first above below high, within_again 0 4_294_967_295 seq (omega arith) small (omega arith)) refl
+
+fill_again : (utc place : ℕ) (kind : Kind) → utc ≤ 4_294_967_295 → 1 ≤ place → place ≤ 65_535 → fill_of (decimal utc ∷ decimal place ∷ spelling_of_kind kind ∷ []) ≡ Some (spelled.Fill utc place kind)
+unfolding fill_of
+fill_again utc place kind small above below =
+    rw (
+      within_again 0 4_294_967_295 utc (omega arith) small (omega arith),
+      within_again 1 65_535 place above below (omega arith),
+      kind_again kind,
+    ) refl
+
+credit_again : (credit : SpelledCredit) → IsSpelledCredit credit → credit_of (decimal credit.day ∷ decimal credit.pence ∷ []) ≡ Some credit
+unfolding credit_of
+credit_again credit fits =
+    rw (
+      within_again 4 50_000 credit.day fits.day.0 fits.day.1 (omega arith),
+      within_again 1 100_000 credit.pence fits.some fits.within (omega arith),
+    ) refl
+
+what_again : (what : SpelledWhat) → IsSpelledWhat what → what_of (words_of_what what) ≡ Some what
+what_again (spelled.Void reader seq) fits = rw (named_again 65_535 reader seq fits.0.0 fits.0.1 (omega arith) fits.1) refl
+what_again (spelled.Fill utc place kind) fits = fill_again utc place kind fits.0 fits.1.0 fits.1.1
+what_again (spelled.Credit credit) fits = rw (credit_again credit fits) refl
+what_again (spelled.Drop staff seq) fits = rw (named_again 65_535 staff seq fits.0.0 fits.0.1 (omega arith) fits.1) refl
+
+abbrev pub fix_fields : SpelledFix → List (List ℕ)
+fix_fields fix = decimal fix.staff ∷ decimal fix.seq ∷ decimal fix.account ∷ words_of_what fix.what
+
+pub fix_visible : (fix : SpelledFix) → IsSpelledFix fix → AllVisible (codes "FIX" ∷ fix_fields fix)
+fix_visible fix fits = (
+  refl,
+  (
+    decimal_visible fix.staff (omega (arith, fits.staff)),
+    (
+      decimal_visible fix.seq (omega (arith, fits.seq)),
+      (decimal_visible fix.account (omega (arith, fits.account)), what_visible fix.what fits.what),
+    ),
+  ),
+)
+
+pub fix_words : (fix : SpelledFix) → IsSpelledFix fix → words (spelling_of_fix fix) ≡ codes "FIX" ∷ fix_fields fix
+fix_words fix fits = words_joined (codes "FIX") (fix_fields fix) (fix_visible fix fits)
+
+pub fix_again : (fix : SpelledFix) → IsSpelledFix fix → fix_of (fix_fields fix) ≡ Some fix
+unfolding fix_of
+fix_again fix fits =
+    rw (
+      within_again 1 65_535 fix.staff fits.staff.0 fits.staff.1 (omega arith),
+      within_again 0 4_294_967_295 fix.seq (omega arith) fits.seq (omega arith),
+      within_again 1 4_294_967_295 fix.account fits.account.0 fits.account.1 (omega arith),
+      what_again fix.what fits.what,
+    ) refl
+
+fix_line_again : (fix : SpelledFix) → IsSpelledFix fix → command_of (spelling_of_fix fix) ≡ Some (Fix fix)
+fix_line_again fix fits = ap command_of_words (fix_words fix fits) ∙ rw (fix_again fix fits) refl
+
 abbrev pub show_fields : ℕ → ℕ → List (List ℕ)
 show_fields account day = decimal account ∷ decimal day ∷ []
 
@@ -96,13 +172,11 @@ show_line_again account day fits =
 
 unserved_again : (name : List ℕ) → IsUnserved name → keyword_of name ≡ Some keyword.Unserved
 unserved_again name h =
-    elim h [
-      | inl fix ↦ rw fix refl
-      | inr others ↦ elim others [ inl due ↦ rw due refl | inr close ↦ rw close refl ]
-    ]
+    elim h [ inl due ↦ rw due refl | inr close ↦ rw close refl ]
 
 pub is_read : (line : List ℕ) (command : Command) → Spells line command → command_of line ≡ Some command
 is_read line (Tap tap) h = ap command_of h.1 ∙ tap_line_again tap h.0
+is_read line (Fix fix) h = ap command_of h.1 ∙ fix_line_again fix h.0
 is_read line (Show account day) h = ap command_of h.1 ∙ show_line_again account day h.0
 is_read line NotYet h = ap command_of_words (split_at_end line) ∙ rw (unserved_again (first_word line) h) refl
 is_read line Quit h = ap command_of h
@@ -143,6 +217,34 @@ kind_is word kind e =
       | inr others ↦ elim (choice (bytes_eq word (codes "OUT")) (cond (bytes_eq word (codes "BUS")) (Some Bus) None) Out kind others) [
         | inl p ↦ same_kind word Out kind p
         | inr last ↦ same_kind word Bus kind (cond_some (bytes_eq word (codes "BUS")) Bus kind last)
+      ]
+    ]
+
+abbrev form_word : Form → List ℕ
+form_word form.Void = codes "VOID"
+form_word form.Fill = codes "FILL"
+form_word form.Credit = codes "CREDIT"
+form_word form.Drop = codes "DROP"
+
+same_form : (word : List ℕ) (a f : Form) → (bytes_eq word (form_word a) ≡ true) × (a ≡ f) → word ≡ form_word f
+same_form word a f h = (bytes_eq-Decides word (form_word a)).0 h.0 ∙ ap form_word h.1
+
+abbrev last_form : List ℕ → Option Form
+last_form word = cond (bytes_eq word (codes "DROP")) (Some form.Drop) None
+
+abbrev credit_or_drop : List ℕ → Option Form
+credit_or_drop word = cond (bytes_eq word (codes "CREDIT")) (Some form.Credit) (last_form word)
+
+form_is : (word : List ℕ) (f : Form) → form_of_word word ≡ Some f → word ≡ form_word f
+form_is word f e =
+    elim (choice (bytes_eq word (codes "VOID")) (cond (bytes_eq word (codes "FILL")) (Some form.Fill) (credit_or_drop word)) form.Void f e) [
+      | inl p ↦ same_form word form.Void f p
+      | inr others ↦ elim (choice (bytes_eq word (codes "FILL")) (credit_or_drop word) form.Fill f others) [
+        | inl p ↦ same_form word form.Fill f p
+        | inr more ↦ elim (choice (bytes_eq word (codes "CREDIT")) (last_form word) form.Credit f more) [
+          | inl p ↦ same_form word form.Credit f p
+          | inr last ↦ same_form word form.Drop f (cond_some (bytes_eq word (codes "DROP")) form.Drop f last)
+        ]
       ]
     ]
 
@@ -207,6 +309,151 @@ tap_is ws tap e =
     let spelled : ws ≡ fields_of read = fields_joined ws r.0 s.0 a.0 u.0 p.0 k.0 reader.0 seq.0 account.0 utc.0 place.0 (kind_is_next p.0.1 k.0 k.1) (none_left k.0.1 last.0) in
     read_as ws read tap fits spelled last.1
 
+-- two numbers, and no word behind them
+two_joined : (ws : List (List ℕ)) (a b : NumberAndRest) → ws ≡ decimal a.0 ∷ a.1 → a.1 ≡ decimal b.0 ∷ b.1 → b.1 ≡ [] → ws ≡ decimal a.0 ∷ decimal b.0 ∷ []
+two_joined ws a b f g h = rw (f, g, h) refl
+
+-- the reader or the staff of a number and its seq that are read, step by step
+abbrev at_named_end : NumberAndRest → NumberAndRest → Option (ℕ × ℕ)
+at_named_end first seq = cond (has_none seq.1) (Some (first.0, seq.0)) None
+
+abbrev at_named_seq : NumberAndRest → Option (ℕ × ℕ)
+at_named_seq first = field (number_within 0 4_294_967_295) first.1 >>= at_named_end first
+
+abbrev NamedRead : ℕ → List (List ℕ) → ℕ × ℕ → Type 0
+NamedRead most ws named = (ws ≡ decimal named.0 ∷ decimal named.1 ∷ []) × ((1 ≤ named.0) × (named.0 ≤ most)) × (named.1 ≤ 4_294_967_295)
+
+named_is : (most : ℕ) (ws : List (List ℕ)) (named : ℕ × ℕ) → named_of most ws ≡ Some named → NamedRead most ws named
+unfolding named_of
+named_is most ws named e =
+    let f = bind_some (field (number_within 1 most) ws) at_named_seq named e in
+    let s = bind_some (field (number_within 0 4_294_967_295) f.0.1) (at_named_end f.0) named f.2 in
+    let last = cond_some (has_none s.0.1) (f.0.0, s.0.0) named s.2 in
+    let first = number_is_next 1 most ws f.0 f.1 in
+    let seq = number_is_next 0 4_294_967_295 f.0.1 s.0 s.1 in
+    subst (λ (n : ℕ × ℕ). NamedRead most ws n) last.1 (two_joined ws f.0 s.0 first.0 seq.0 (none_left s.0.1 last.0), (first.1, first.2), seq.2)
+
+abbrev WhatRead : Form → List (List ℕ) → SpelledWhat → Type 0
+WhatRead f ws what = IsSpelledWhat what × (form_word f ∷ ws ≡ words_of_what what)
+
+behind : (w : List ℕ) {ws vs : List (List ℕ)} → ws ≡ vs → w ∷ ws ≡ w ∷ vs
+behind w e = ap (λ (r : List (List ℕ)). w ∷ r) e
+
+-- a fill that is read, step by step
+abbrev at_fill_end : NumberAndRest → NumberAndRest → Kind × List (List ℕ) → Option SpelledWhat
+at_fill_end utc place kind = cond (has_none kind.1) (Some (spelled.Fill utc.0 place.0 kind.0)) None
+
+abbrev at_fill_kind : NumberAndRest → NumberAndRest → Option SpelledWhat
+at_fill_kind utc place = field kind_of_word place.1 >>= at_fill_end utc place
+
+abbrev at_fill_place : NumberAndRest → Option SpelledWhat
+at_fill_place utc = field (number_within 1 65_535) utc.1 >>= at_fill_kind utc
+
+fill_joined : (ws : List (List ℕ)) (utc place : NumberAndRest) (kind : Kind × List (List ℕ)) → ws ≡ decimal utc.0 ∷ utc.1 → utc.1 ≡ decimal place.0 ∷ place.1 → place.1 ≡ spelling_of_kind kind.0 ∷ kind.1 → kind.1 ≡ []
+    → ws ≡ decimal utc.0 ∷ decimal place.0 ∷ spelling_of_kind kind.0 ∷ []
+fill_joined ws utc place kind a b c d = rw (a, b, c, d) refl
+
+fill_is : (ws : List (List ℕ)) (what : SpelledWhat) → fill_of ws ≡ Some what → WhatRead form.Fill ws what
+unfolding fill_of
+fill_is ws what e =
+    let u = bind_some (field (number_within 0 4_294_967_295) ws) at_fill_place what e in
+    let p = bind_some (field (number_within 1 65_535) u.0.1) (at_fill_kind u.0) what u.2 in
+    let k = bind_some (field kind_of_word p.0.1) (at_fill_end u.0 p.0) what p.2 in
+    let last = cond_some (has_none k.0.1) (spelled.Fill u.0.0 p.0.0 k.0.0) what k.2 in
+    let utc = number_is_next 0 4_294_967_295 ws u.0 u.1 in
+    let place = number_is_next 1 65_535 u.0.1 p.0 p.1 in
+    let joined = fill_joined ws u.0 p.0 k.0 utc.0 place.0 (kind_is_next p.0.1 k.0 k.1) (none_left k.0.1 last.0) in
+    subst (λ (w : SpelledWhat). WhatRead form.Fill ws w) last.1 ((utc.2, (place.1, place.2)), behind (codes "FILL") joined)
+
+-- a credit that is read, step by step
+abbrev credit_from : ℕ → ℕ → SpelledCredit
+credit_from day pence = record { day = day; pence = pence }
+
+abbrev at_credit_end : NumberAndRest → NumberAndRest → Option SpelledCredit
+at_credit_end day pence = cond (has_none pence.1) (Some (credit_from day.0 pence.0)) None
+
+abbrev at_pence : NumberAndRest → Option SpelledCredit
+at_pence day = field (number_within 1 100_000) day.1 >>= at_credit_end day
+
+abbrev CreditRead : List (List ℕ) → SpelledCredit → Type 0
+CreditRead ws credit = IsSpelledCredit credit × (ws ≡ decimal credit.day ∷ decimal credit.pence ∷ [])
+
+in_ranges : (day pence : ℕ) → 4 ≤ day → day ≤ 50_000 → 1 ≤ pence → pence ≤ 100_000 → IsSpelledCredit (credit_from day pence)
+in_ranges day pence a b c d = record { day = (a, b); some = c; within = d }
+
+credit_is : (ws : List (List ℕ)) (credit : SpelledCredit) → credit_of ws ≡ Some credit → CreditRead ws credit
+unfolding credit_of
+credit_is ws credit e =
+    let d = bind_some (field (number_within 4 50_000) ws) at_pence credit e in
+    let p = bind_some (field (number_within 1 100_000) d.0.1) (at_credit_end d.0) credit d.2 in
+    let last = cond_some (has_none p.0.1) (credit_from d.0.0 p.0.0) credit p.2 in
+    let day = number_is_next 4 50_000 ws d.0 d.1 in
+    let pence = number_is_next 1 100_000 d.0.1 p.0 p.1 in
+    subst (λ (c : SpelledCredit). CreditRead ws c) last.1 (in_ranges d.0.0 p.0.0 day.1 day.2 pence.1 pence.2, two_joined ws d.0 p.0 day.0 pence.0 (none_left p.0.1 last.0))
+
+-- what is read of the fields of a form
+what_from : (f : Form) (ws : List (List ℕ)) (what : SpelledWhat) → what_for f ws ≡ Some what → WhatRead f ws what
+what_from form.Void ws what e =
+    let b = bind_some (named_of 65_535 ws) (λ named. Some (spelled.Void named.0 named.1)) what e in
+    let n = named_is 65_535 ws b.0 b.1 in
+    subst (λ (w : SpelledWhat). WhatRead form.Void ws w) (some_is (spelled.Void b.0.0 b.0.1) what b.2) ((n.1, n.2), behind (codes "VOID") n.0)
+what_from form.Fill ws what e = fill_is ws what e
+what_from form.Credit ws what e =
+    let b = bind_some (credit_of ws) (λ credit. Some (spelled.Credit credit)) what e in
+    let c = credit_is ws b.0 b.1 in
+    subst (λ (w : SpelledWhat). WhatRead form.Credit ws w) (some_is (spelled.Credit b.0) what b.2) (c.0, behind (codes "CREDIT") c.1)
+what_from form.Drop ws what e =
+    let b = bind_some (named_of 65_535 ws) (λ named. Some (spelled.Drop named.0 named.1)) what e in
+    let n = named_is 65_535 ws b.0 b.1 in
+    subst (λ (w : SpelledWhat). WhatRead form.Drop ws w) (some_is (spelled.Drop b.0.0 b.0.1) what b.2) ((n.1, n.2), behind (codes "DROP") n.0)
+
+what_is : (ws : List (List ℕ)) (what : SpelledWhat) → what_of ws ≡ Some what → IsSpelledWhat what × (ws ≡ words_of_what what)
+what_is ws what e =
+    let b = bind_some (field form_of_word ws) (λ f. what_for f.0 f.1) what e in
+    let f = field_is form_of_word ws b.0 b.1 in
+    let read = what_from b.0.0 b.0.1 what b.2 in
+    (read.0, f.1 ∙ ap (λ (w : List ℕ). w ∷ b.0.1) (form_is f.0 b.0.0 f.2) ∙ read.1)
+
+-- a correction that is read, step by step
+abbrev at_fix_end : NumberAndRest → NumberAndRest → NumberAndRest → SpelledWhat → Option SpelledFix
+at_fix_end staff seq account what = Some (record { staff = staff.0; seq = seq.0; account = account.0; what = what })
+
+abbrev at_what : NumberAndRest → NumberAndRest → NumberAndRest → Option SpelledFix
+at_what staff seq account = what_of account.1 >>= at_fix_end staff seq account
+
+abbrev at_fix_account : NumberAndRest → NumberAndRest → Option SpelledFix
+at_fix_account staff seq = field (number_within 1 4_294_967_295) seq.1 >>= at_what staff seq
+
+abbrev at_fix_seq : NumberAndRest → Option SpelledFix
+at_fix_seq staff = field (number_within 0 4_294_967_295) staff.1 >>= at_fix_account staff
+
+fix_joined : (ws : List (List ℕ)) (staff seq account : NumberAndRest) (what : SpelledWhat)
+    → ws ≡ decimal staff.0 ∷ staff.1 → staff.1 ≡ decimal seq.0 ∷ seq.1 → seq.1 ≡ decimal account.0 ∷ account.1 → account.1 ≡ words_of_what what
+    → ws ≡ fix_fields (record { staff = staff.0; seq = seq.0; account = account.0; what = what })
+fix_joined ws staff seq account what a b c d = rw (a, b, c, d) refl
+
+abbrev FixRead : List (List ℕ) → SpelledFix → Type 0
+FixRead ws fix = IsSpelledFix fix × (ws ≡ fix_fields fix)
+
+fix_read_as : (ws : List (List ℕ)) (read fix : SpelledFix) → IsSpelledFix read → ws ≡ fix_fields read → read ≡ fix → FixRead ws fix
+fix_read_as ws read fix fits spelled e = subst (λ (x : SpelledFix). FixRead ws x) e (fits, spelled)
+
+fix_is : (ws : List (List ℕ)) (fix : SpelledFix) → fix_of ws ≡ Some fix → FixRead ws fix
+unfolding fix_of
+fix_is ws fix e =
+    let f = bind_some (field (number_within 1 65_535) ws) at_fix_seq fix e in
+    let s = bind_some (field (number_within 0 4_294_967_295) f.0.1) (at_fix_account f.0) fix f.2 in
+    let a = bind_some (field (number_within 1 4_294_967_295) s.0.1) (at_what f.0 s.0) fix s.2 in
+    let w = bind_some (what_of a.0.1) (at_fix_end f.0 s.0 a.0) fix a.2 in
+    let read : SpelledFix = record { staff = f.0.0; seq = s.0.0; account = a.0.0; what = w.0 } in
+    let staff = number_is_next 1 65_535 ws f.0 f.1 in
+    let seq = number_is_next 0 4_294_967_295 f.0.1 s.0 s.1 in
+    let account = number_is_next 1 4_294_967_295 s.0.1 a.0 a.1 in
+    let what = what_is a.0.1 w.0 w.1 in
+    let fits : IsSpelledFix read = record { staff = (staff.1, staff.2); seq = seq.2; account = (account.1, account.2); what = what.0 } in
+    let spelled : ws ≡ fix_fields read = fix_joined ws f.0 s.0 a.0 w.0 staff.0 seq.0 account.0 what.1 in
+    fix_read_as ws read fix fits spelled (some_is read fix w.2)
+
 -- a show that is read, step by step
 abbrev at_show_end : NumberAndRest → NumberAndRest → Option Command
 at_show_end account day = cond (has_none day.1) (Some (Show account.0 day.0)) None
@@ -216,9 +463,6 @@ at_day account = field (number_within 4 50_000) account.1 >>= at_show_end accoun
 
 abbrev ShowRead : List (List ℕ) → Command → Type 0
 ShowRead ws command = (account : ℕ) × (day : ℕ) × IsShow account day × (ws ≡ show_fields account day) × (Show account day ≡ command)
-
-show_joined : (ws : List (List ℕ)) (account day : NumberAndRest) → ws ≡ decimal account.0 ∷ account.1 → account.1 ≡ decimal day.0 ∷ day.1 → day.1 ≡ [] → ws ≡ show_fields account.0 day.0
-show_joined ws account day a b c = rw (a, b, c) refl
 
 show_is : (ws : List (List ℕ)) (command : Command) → show_of ws ≡ Some command → ShowRead ws command
 unfolding show_of
@@ -231,44 +475,48 @@ show_is ws command e =
       a.0.0,
       d.0.0,
       ((account.1, account.2), (day.1, day.2)),
-      show_joined ws a.0 d.0 account.0 day.0 (none_left d.0.1 last.0),
+      two_joined ws a.0 d.0 account.0 day.0 (none_left d.0.1 last.0),
       last.1,
     )
 
 abbrev IsKeyword : List ℕ → Keyword → Type 0
 IsKeyword name keyword.Tap = name ≡ codes "TAP"
+IsKeyword name keyword.Fix = name ≡ codes "FIX"
 IsKeyword name keyword.Show = name ≡ codes "SHOW"
 IsKeyword name keyword.Quit = name ≡ codes "QUIT"
 IsKeyword name keyword.Unserved = IsUnserved name
 
 abbrev unserved_test : List ℕ → Bool
-unserved_test name = bytes_eq name (codes "FIX") || bytes_eq name (codes "DUE") || bytes_eq name (codes "CLOSE")
+unserved_test name = bytes_eq name (codes "DUE") || bytes_eq name (codes "CLOSE")
 
 passes_as : (name word : List ℕ) → bytes_eq name word ≡ true → name ≡ word
 passes_as name word e = (bytes_eq-Decides name word).0 e
 
 unserved_is : (name : List ℕ) → unserved_test name ≡ true → IsUnserved name
 unserved_is name e =
-    elim (or_cases (bytes_eq name (codes "FIX") || bytes_eq name (codes "DUE")) (bytes_eq name (codes "CLOSE")) e) [
-      | inr close ↦ inr (inr (passes_as name (codes "CLOSE") close))
-      | inl two ↦ elim (or_cases (bytes_eq name (codes "FIX")) (bytes_eq name (codes "DUE")) two) [
-        | inr due ↦ inr (inl (passes_as name (codes "DUE") due))
-        | inl fix ↦ inl (passes_as name (codes "FIX") fix)
-      ]
+    elim (or_cases (bytes_eq name (codes "DUE")) (bytes_eq name (codes "CLOSE")) e) [
+      | inl due ↦ inl (passes_as name (codes "DUE") due)
+      | inr close ↦ inr (passes_as name (codes "CLOSE") close)
     ]
 
 abbrev quit_or_unserved : List ℕ → Option Keyword
 quit_or_unserved name = cond (bytes_eq name (codes "QUIT")) (Some keyword.Quit) (cond (unserved_test name) (Some keyword.Unserved) None)
 
+abbrev show_or_another : List ℕ → Option Keyword
+show_or_another name = cond (bytes_eq name (codes "SHOW")) (Some keyword.Show) (quit_or_unserved name)
+
 keyword_is : (name : List ℕ) (k : Keyword) → keyword_of name ≡ Some k → IsKeyword name k
 keyword_is name k e =
-    elim (choice (bytes_eq name (codes "TAP")) (cond (bytes_eq name (codes "SHOW")) (Some keyword.Show) (quit_or_unserved name)) keyword.Tap k e) [
+    elim (choice (bytes_eq name (codes "TAP")) (cond (bytes_eq name (codes "FIX")) (Some keyword.Fix) (show_or_another name)) keyword.Tap k e) [
       | inl p ↦ subst (λ (q : Keyword). IsKeyword name q) p.1 (passes_as name (codes "TAP") p.0)
-      | inr others ↦ elim (choice (bytes_eq name (codes "SHOW")) (quit_or_unserved name) keyword.Show k others) [
-        | inl p ↦ subst (λ (q : Keyword). IsKeyword name q) p.1 (passes_as name (codes "SHOW") p.0)
-        | inr more ↦ elim (choice (bytes_eq name (codes "QUIT")) (cond (unserved_test name) (Some keyword.Unserved) None) keyword.Quit k more) [
-          | inl p ↦ subst (λ (q : Keyword). IsKeyword name q) p.1 (passes_as name (codes "QUIT") p.0)
-          | inr last ↦ let p = cond_some (unserved_test name) keyword.Unserved k last in subst (λ (q : Keyword). IsKeyword name q) p.1 (unserved_is name p.0)
+      | inr others ↦ elim (choice (bytes_eq name (codes "FIX")) (show_or_another name) keyword.Fix k others) [
+        | inl p ↦ subst (λ (q : Keyword). IsKeyword name q) p.1 (passes_as name (codes "FIX") p.0)
+        | inr rest ↦ elim (choice (bytes_eq name (codes "SHOW")) (quit_or_unserved name) keyword.Show k rest) [
+          | inl p ↦ subst (λ (q : Keyword). IsKeyword name q) p.1 (passes_as name (codes "SHOW") p.0)
+          | inr more ↦ elim (choice (bytes_eq name (codes "QUIT")) (cond (unserved_test name) (Some keyword.Unserved) None) keyword.Quit k more) [
+            | inl p ↦ subst (λ (q : Keyword). IsKeyword name q) p.1 (passes_as name (codes "QUIT") p.0)
+            | inr last ↦ let p = cond_some (unserved_test name) keyword.Unserved k last in subst (λ (q : Keyword). IsKeyword name q) p.1 (unserved_is name p.0)
+          ]
         ]
       ]
     ]
@@ -285,6 +533,12 @@ spelled_after line rest keyword.Tap command split name e =
     let t = tap_is rest tap b.1 in
     let whole : line ≡ spelling_of_tap tap = joined_again line (first_word line) rest (fields_of tap) split t.1 ∙ ap (λ (w : List ℕ). join_with_byte 32 (w ∷ fields_of tap)) name in
     subst (λ (c : Command). Spells line c) (some_is (Tap tap) command b.2) (t.0, whole)
+spelled_after line rest keyword.Fix command split name e =
+    let b = bind_some (fix_of rest) (λ fix. Some (Fix fix)) command e in
+    let fix = b.0 in
+    let f = fix_is rest fix b.1 in
+    let whole : line ≡ spelling_of_fix fix = joined_again line (first_word line) rest (fix_fields fix) split f.1 ∙ ap (λ (w : List ℕ). join_with_byte 32 (w ∷ fix_fields fix)) name in
+    subst (λ (c : Command). Spells line c) (some_is (Fix fix) command b.2) (f.0, whole)
 spelled_after line rest keyword.Show command split name e =
     let s = show_is rest command e in
     let account = s.0 in

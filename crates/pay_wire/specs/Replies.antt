@@ -3,7 +3,7 @@ use Rattle.std.specs.Prelude.{◌≡◌, ℕ, ◌<◌, ◌^◌, true, false, Lis
 use Rattle.std.specs.Fmt.{digits}
 use Rattle.std.specs.List.{join_with_byte, flat_map, AllByRecursion}
 use Rattle.pay_wire.specs.declared.refusal.Refusal.{Refusal}
-use Rattle.pay_wire.specs.declared.refusal.Refusal.TheVariants.{OutOfTime, UnknownPlace, Conflict, AccountFull, BadLine, LongLine, NotYet, Memory}
+use Rattle.pay_wire.specs.declared.refusal.Refusal.TheVariants.{OutOfTime, UnknownPlace, Conflict, AccountFull, FixConflict, FixesFull, BadLine, LongLine, NotYet, Memory}
 use Rattle.pay_account.specs.declared.fares.Priced.{Priced}
 use Rattle.pay_account.specs.declared.shown.Line.{Line}
 use Rattle.pay_account.specs.declared.shown.LineKind.{LineKind}
@@ -18,6 +18,8 @@ refusal_number OutOfTime = 1
 refusal_number UnknownPlace = 15
 refusal_number Conflict = 20
 refusal_number AccountFull = 21
+refusal_number FixConflict = 22
+refusal_number FixesFull = 23
 refusal_number BadLine = 50
 refusal_number LongLine = 51
 refusal_number NotYet = 60
@@ -29,6 +31,8 @@ refusal_name OutOfTime = codes "OutOfTime"
 refusal_name UnknownPlace = codes "UnknownPlace"
 refusal_name Conflict = codes "Conflict"
 refusal_name AccountFull = codes "AccountFull"
+refusal_name FixConflict = codes "FixConflict"
+refusal_name FixesFull = codes "FixesFull"
 refusal_name BadLine = codes "BadLine"
 refusal_name LongLine = codes "LongLine"
 refusal_name NotYet = codes "NotYet"
@@ -132,6 +136,14 @@ not_served = refl
 no_such_place : spelling_of_reply (replies.No UnknownPlace) ≡ codes "NO 15 UnknownPlace\n"
 unfolding digits
 no_such_place = refl
+
+another_fix : spelling_of_reply (replies.No FixConflict) ≡ codes "NO 22 FixConflict\n"
+unfolding digits
+another_fix = refl
+
+too_many_fixes : spelling_of_reply (replies.No FixesFull) ≡ codes "NO 23 FixesFull\n"
+unfolding digits
+too_many_fixes = refl
 
 out_of_time : spelling_of_reply (replies.No OutOfTime) ≡ codes "NO 1 OutOfTime\n"
 unfolding digits

@@ -4,10 +4,15 @@ use Rattle.std.specs.List.{before_first, join_with_byte}
 use Rattle.pay_taps.specs.declared.tap.Kind.{Kind}
 use Rattle.pay_taps.specs.declared.tap.Kind.TheVariants.{In, Out, Bus}
 use Rattle.pay_wire.specs.declared.command.SpelledTap.{SpelledTap}
+use Rattle.pay_wire.specs.declared.command.SpelledFix.{SpelledFix}
+use Rattle.pay_wire.specs.declared.command.SpelledWhat.{SpelledWhat}
+use Rattle.pay_wire.specs.declared.command.SpelledWhat.TheVariants as spelled
 use Rattle.pay_wire.specs.declared.command.Command.{Command}
-use Rattle.pay_wire.specs.declared.command.Command.TheVariants.{Tap, Show, NotYet, Quit}
+use Rattle.pay_wire.specs.declared.command.Command.TheVariants.{Tap, Fix, Show, NotYet, Quit}
+use Rattle.pay_wire.specs.declared.command.SpelledCredit.{SpelledCredit}
+use Rattle.pay_fix.specs.declared.limits.TheConstants.{MOST_CREDIT}
 use Rattle.pay_day.specs.declared.limits.TheConstants.{FIRST_DAY, LAST_DAY}
-use Rattle.pay_wire.specs.declared.limits.TheConstants.{MOST_LINE_BYTES, MOST_READER, MOST_SEQ, MOST_ACCOUNT, MOST_UTC, MOST_PLACE}
+use Rattle.pay_wire.specs.declared.limits.TheConstants.{MOST_LINE_BYTES, MOST_READER, MOST_STAFF, MOST_SEQ, MOST_ACCOUNT, MOST_UTC, MOST_PLACE}
 use Rattle.pay_wire.specs.Fields.{is_space}
 
 -- each number of a tap is in its range
@@ -28,6 +33,38 @@ abbrev pub spelling_of_tap : SpelledTap → List ℕ
 spelling_of_tap tap =
     join_with_byte 32 (codes "TAP" ∷ decimal tap.reader ∷ decimal tap.seq ∷ decimal tap.account ∷ decimal tap.utc ∷ decimal tap.place ∷ spelling_of_kind tap.kind ∷ [])
 
+-- a service day, and one penny or more
+pub record IsSpelledCredit (credit : SpelledCredit) : Type 0 where
+  pub day : (FIRST_DAY ≤ credit.day) × (credit.day ≤ LAST_DAY)
+  pub some : 1 ≤ credit.pence
+  pub within : credit.pence ≤ MOST_CREDIT
+
+-- each number of what a correction does is in its range
+abbrev pub IsSpelledWhat : SpelledWhat → Type 0
+IsSpelledWhat (spelled.Void reader seq) = ((1 ≤ reader) × (reader ≤ MOST_READER)) × (seq ≤ MOST_SEQ)
+IsSpelledWhat (spelled.Fill utc place kind) = (utc ≤ MOST_UTC) × ((1 ≤ place) × (place ≤ MOST_PLACE))
+IsSpelledWhat (spelled.Credit credit) = IsSpelledCredit credit
+IsSpelledWhat (spelled.Drop staff seq) = ((1 ≤ staff) × (staff ≤ MOST_STAFF)) × (seq ≤ MOST_SEQ)
+
+-- each number of a correction is in its range
+pub record IsSpelledFix (fix : SpelledFix) : Type 0 where
+  pub staff : (1 ≤ fix.staff) × (fix.staff ≤ MOST_STAFF)
+  pub seq : fix.seq ≤ MOST_SEQ
+  pub account : (1 ≤ fix.account) × (fix.account ≤ MOST_ACCOUNT)
+  pub what : IsSpelledWhat fix.what
+
+-- `VOID reader seq`, `FILL utc place KIND`, `CREDIT day pence` or `DROP staff seq`
+abbrev pub words_of_what : SpelledWhat → List (List ℕ)
+words_of_what (spelled.Void reader seq) = codes "VOID" ∷ decimal reader ∷ decimal seq ∷ []
+words_of_what (spelled.Fill utc place kind) = codes "FILL" ∷ decimal utc ∷ decimal place ∷ spelling_of_kind kind ∷ []
+words_of_what (spelled.Credit credit) = codes "CREDIT" ∷ decimal credit.day ∷ decimal credit.pence ∷ []
+words_of_what (spelled.Drop staff seq) = codes "DROP" ∷ decimal staff ∷ decimal seq ∷ []
+
+-- `FIX staff seq account` and what it does, with a space between each two words
+abbrev pub spelling_of_fix : SpelledFix → List ℕ
+spelling_of_fix fix =
+    join_with_byte 32 (codes "FIX" ∷ decimal fix.staff ∷ decimal fix.seq ∷ decimal fix.account ∷ words_of_what fix.what)
+
 -- the account and the day of a `SHOW` are in their ranges
 abbrev pub IsShow : ℕ → ℕ → Type 0
 IsShow account day = ((1 ≤ account) × (account ≤ MOST_ACCOUNT)) × ((FIRST_DAY ≤ day) × (day ≤ LAST_DAY))
@@ -42,11 +79,12 @@ first_word line = before_first is_space line
 
 -- the first word of a command that is not served yet
 abbrev pub IsUnserved : List ℕ → Type 0
-IsUnserved word = (word ≡ codes "FIX") ⊎ ((word ≡ codes "DUE") ⊎ (word ≡ codes "CLOSE"))
+IsUnserved word = (word ≡ codes "DUE") ⊎ (word ≡ codes "CLOSE")
 
 -- what a line has to be to spell a command; of those that are not served yet the first word is enough
 abbrev pub Spells : List ℕ → Command → Type 0
 Spells line (Tap tap) = IsSpelledTap tap × (line ≡ spelling_of_tap tap)
+Spells line (Fix fix) = IsSpelledFix fix × (line ≡ spelling_of_fix fix)
 Spells line (Show account day) = IsShow account day × (line ≡ spelling_of_show account day)
 Spells line NotYet = IsUnserved (first_word line)
 Spells line Quit = line ≡ codes "QUIT"

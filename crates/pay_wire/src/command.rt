@@ -1,12 +1,13 @@
 //! Commands as lines.
-ghost use Rattle.std.specs.Prelude.{◌≡◌, ◌≤◌, ◌∷◌, [], Some, IfSome, IfNone, option_map};
+ghost use Rattle.std.specs.Prelude.{◌≡◌, ◌≤◌, ◌<◌, ◌^◌, ◌∷◌, [], Some, IfSome, IfNone, option_map};
 ghost use Rattle.std.specs.List.{position_or_len};
 ghost use Rattle.pay_wire.specs.Fields.{is_space, words, words_after, has_none, field};
-ghost use Rattle.pay_wire.specs.Commands.{number_within, kind_of_word, tap_of, show_of, keyword_of, command_for, command_of};
+ghost use Rattle.pay_wire.specs.Commands.{number_within, kind_of_word, tap_of, named_of, fill_of, credit_of, form_of_word, what_for, what_of, fix_of, show_of, keyword_of, command_for, command_of};
 
-use crate::limits::{MOST_ACCOUNT, MOST_PLACE, MOST_READER, MOST_SEQ, MOST_UTC};
+use crate::limits::{MOST_ACCOUNT, MOST_PLACE, MOST_READER, MOST_SEQ, MOST_STAFF, MOST_UTC};
 use crate::number::read_number;
 use pay_day::limits::{FIRST_DAY, LAST_DAY};
+use pay_fix::limits::MOST_CREDIT;
 use pay_taps::Kind;
 
 /// A tap as a line spells it. Its `utc` may lie outside of the instants that are taken.
@@ -26,11 +27,48 @@ pub struct SpelledTap {
     pub kind: Kind,
 }
 
+/// A correction as a line spells it.
+#[derive(Clone, Copy, Debug, PartialEq, Eq)]
+pub struct SpelledFix {
+    /// Who gave the correction, from 1.
+    pub staff: u16,
+    /// The correction's number among those of the staff.
+    pub seq: u32,
+    /// The account that is corrected, from 1.
+    pub account: u32,
+    /// What it does.
+    pub what: SpelledWhat,
+}
+
+/// Money that is given back for a service day, as a line spells it.
+#[derive(Clone, Copy, Debug, PartialEq, Eq)]
+pub struct SpelledCredit {
+    /// The service day, counted from 1970-01-01.
+    pub day: u32,
+    /// The pence.
+    pub pence: u32,
+}
+
+/// What a correction does, as a line spells it.
+#[derive(Clone, Copy, Debug, PartialEq, Eq)]
+pub enum SpelledWhat {
+    /// `VOID reader seq`: takes out the tap of a reader and seq.
+    Void(u16, u32),
+    /// `FILL utc place KIND`: adds a tap. Its `utc` may lie outside of the instants that are taken.
+    Fill { utc: u64, place: u16, kind: Kind },
+    /// `CREDIT day pence`: gives money back for a service day.
+    Credit(SpelledCredit),
+    /// `DROP staff seq`: withdraws the correction of a staff and seq.
+    Drop(u16, u32),
+}
+
 /// What a line asks for.
 #[derive(Clone, Copy, Debug, PartialEq, Eq)]
 pub enum Command {
     /// `TAP reader seq account utc place KIND`: a tap.
     Tap(SpelledTap),
+    /// `FIX staff seq account`, and what it does: a correction.
+    Fix(SpelledFix),
     /// `SHOW account day`: the journeys of a service day.
     Show { account: u32, day: u32 },
     /// A command of the protocol that is not served yet.
@@ -43,10 +81,20 @@ pub enum Command {
 #[derive(Clone, Copy, Debug, PartialEq, Eq)]
 enum Keyword {
     Tap,
+    Fix,
     Show,
     Quit,
-    /// `FIX`, `DUE` or `CLOSE`.
+    /// `DUE` or `CLOSE`.
     Unserved,
+}
+
+/// The word that says what a correction does.
+#[derive(Clone, Copy, Debug, PartialEq, Eq)]
+enum Form {
+    Void,
+    Fill,
+    Credit,
+    Drop,
 }
 
 /// The command that a line spells, without its newline. `None` is a bad line: words stand with one
@@ -65,6 +113,7 @@ fn command_after(keyword: Keyword, fields: &[u8]) -> Option<Command>
 {
     match keyword {
         Keyword::Tap => Some(Command::Tap(read_tap(fields)?)),
+        Keyword::Fix => Some(Command::Fix(read_fix(fields)?)),
         Keyword::Show => read_show(fields),
         Keyword::Quit if is_end(fields) => Some(Command::Quit),
         Keyword::Quit => None,
@@ -77,9 +126,10 @@ fn read_keyword(name: &[u8]) -> Option<Keyword>
 {
     match name {
         b"TAP" => Some(Keyword::Tap),
+        b"FIX" => Some(Keyword::Fix),
         b"SHOW" => Some(Keyword::Show),
         b"QUIT" => Some(Keyword::Quit),
-        b"FIX" | b"DUE" | b"CLOSE" => Some(Keyword::Unserved),
+        b"DUE" | b"CLOSE" => Some(Keyword::Unserved),
         _ => None,
     }
 }
@@ -108,6 +158,96 @@ fn read_tap(fields: &[u8]) -> Option<SpelledTap>
     })
 }
 
+/// The fields of a `FIX`, to the end of the line.
+#[tactic(auto, unfolding(crate::specs::Commands::fix_of))]
+fn read_fix(fields: &[u8]) -> Option<SpelledFix>
+    ensures { result ≡ fix_of (words_after fields.now) }
+{
+    let (staff, rest) = number_field(fields, 1, MOST_STAFF)?;
+    let (seq, rest) = number_field(rest, 0, MOST_SEQ)?;
+    let (account, rest) = number_field(rest, 1, MOST_ACCOUNT)?;
+    let what = read_what(rest)?;
+    Some(SpelledFix {
+        staff: staff as u16,
+        seq,
+        account,
+        what,
+    })
+}
+
+/// What a correction does, to the end of the line.
+fn read_what(fields: &[u8]) -> Option<SpelledWhat>
+    ensures { result ≡ what_of (words_after fields.now) }
+{
+    let (form, rest) = form_field(fields)?;
+    what_after(form, rest)
+}
+
+/// What the fields behind the word of a form say, to the end of the line.
+fn what_after(form: Form, fields: &[u8]) -> Option<SpelledWhat>
+    ensures { result ≡ what_for form (words_after fields.now) }
+{
+    match form {
+        Form::Void => {
+            let (reader, seq) = read_named(fields, MOST_READER)?;
+            Some(SpelledWhat::Void(reader, seq))
+        }
+        Form::Fill => read_fill(fields),
+        Form::Credit => Some(SpelledWhat::Credit(read_credit(fields)?)),
+        Form::Drop => {
+            let (staff, seq) = read_named(fields, MOST_STAFF)?;
+            Some(SpelledWhat::Drop(staff, seq))
+        }
+    }
+}
+
+/// The reader or the staff of a number, up to the greatest, and its seq, to the end of the line.
+#[tactic(auto, unfolding(crate::specs::Commands::named_of))]
+fn read_named(fields: &[u8], most: u32) -> Option<(u16, u32)>
+    requires { most < 2 ^ 16 }
+    ensures { result ≡ named_of most (words_after fields.now) }
+{
+    let (first, rest) = number_field(fields, 1, most)?;
+    let (seq, rest) = number_field(rest, 0, MOST_SEQ)?;
+    if is_end(rest) {
+        Some((first as u16, seq))
+    } else {
+        None
+    }
+}
+
+/// The fields of a `FILL`, to the end of the line.
+#[tactic(auto, unfolding(crate::specs::Commands::fill_of))]
+fn read_fill(fields: &[u8]) -> Option<SpelledWhat>
+    ensures { result ≡ fill_of (words_after fields.now) }
+{
+    let (utc, rest) = number_field(fields, 0, MOST_UTC)?;
+    let (place, rest) = number_field(rest, 1, MOST_PLACE)?;
+    let (kind, rest) = kind_field(rest)?;
+    if !is_end(rest) {
+        return None;
+    }
+    Some(SpelledWhat::Fill {
+        utc: u64::from(utc),
+        place: place as u16,
+        kind,
+    })
+}
+
+/// The fields of a `CREDIT`, to the end of the line.
+#[tactic(auto, unfolding(crate::specs::Commands::credit_of))]
+fn read_credit(fields: &[u8]) -> Option<SpelledCredit>
+    ensures { result ≡ credit_of (words_after fields.now) }
+{
+    let (day, rest) = number_field(fields, FIRST_DAY, LAST_DAY)?;
+    let (pence, rest) = number_field(rest, 1, MOST_CREDIT)?;
+    if is_end(rest) {
+        Some(SpelledCredit { day, pence })
+    } else {
+        None
+    }
+}
+
 /// The fields of a `SHOW`, to the end of the line.
 #[tactic(auto, unfolding(crate::specs::Commands::show_of))]
 fn read_show(fields: &[u8]) -> Option<Command>
@@ -126,7 +266,7 @@ fn read_show(fields: &[u8]) -> Option<Command>
 fn number_field(fields: &[u8], low: u32, high: u32) -> Option<(u32, &[u8])>
     ensures field { option_map (λ x. (x.0, words_after x.1.now)) result
         ≡ field (number_within low high) (words_after fields.now) }
-    ensures in_range { IfSome result (λ x. x.0 ≤ high) }
+    ensures in_range { IfSome result (λ x. (low ≤ x.0) × (x.0 ≤ high)) }
 {
     let (number, rest) = read_number(after_space(fields)?)?;
     if number < low || number > high {
@@ -150,6 +290,27 @@ fn read_kind(word: &[u8]) -> Option<Kind>
         b"IN" => Some(Kind::In),
         b"OUT" => Some(Kind::Out),
         b"BUS" => Some(Kind::Bus),
+        _ => None,
+    }
+}
+
+/// The form of a correction in the next word, and what follows.
+fn form_field(fields: &[u8]) -> Option<(Form, &[u8])>
+    ensures { option_map (λ x. (x.0, words_after x.1.now)) result ≡ field form_of_word (words_after fields.now) }
+{
+    let (word, rest) = next_word(fields)?;
+    Some((read_form(word)?, rest))
+}
+
+fn read_form(word: &[u8]) -> Option<Form>
+    ensures { result ≡ form_of_word word.now }
+{
+    match word {
+        b"VOID" => Some(Form::Void),
+        b"FILL" => Some(Form::Fill),
+        b"DROP" => Some(Form::Drop),
+        // A pattern of six bytes is more than the proof's search takes.
+        _ if word == b"CREDIT".as_slice() => Some(Form::Credit),
         _ => None,
     }
 }

@@ -3,13 +3,14 @@
 ghost use Rattle.std.specs.Prelude.{◌≡◌, ◌≢◌, ℕ, ◌≤◌, List, ◌++◌, map, Some, codes, decimal};
 ghost use Rattle.std.specs.List.{AllByRecursion, flat_map};
 ghost use Rattle.pay_wire.specs.declared.command.SpelledTap.{SpelledTap};
+ghost use Rattle.pay_wire.specs.declared.command.SpelledFix.{SpelledFix};
 ghost use Rattle.pay_wire.specs.declared.command.Command.{Command};
 ghost use Rattle.pay_wire.specs.declared.command.Command.TheVariants.{NotYet};
 ghost use Rattle.pay_wire.specs.declared.reply.Reply.{Reply};
 ghost use Rattle.pay_wire.specs.declared.limits.TheConstants.{MOST_NUMBER};
 ghost use Rattle.pay_wire.specs.Numbers.{number_of};
 ghost use Rattle.pay_wire.specs.Commands.{command_of};
-ghost use Rattle.pay_wire.specs.Spellings.{IsSpelledTap, spelling_of_tap, IsShow, spelling_of_show, Spells, IsLine};
+ghost use Rattle.pay_wire.specs.Spellings.{IsSpelledTap, spelling_of_tap, IsSpelledFix, spelling_of_fix, IsShow, spelling_of_show, Spells, IsLine};
 ghost use Rattle.pay_wire.specs.Replies.{spelling_of_reply, reply_as_read, IsReply};
 
 /// A number of a line has one spelling, its decimal digits, which is read as that number.
@@ -34,6 +35,8 @@ pub fn one_command()
         → Spells a command → Spells b command → a ≡ b }
     ensures tap { (a b : SpelledTap) → IsSpelledTap a → IsSpelledTap b
         → spelling_of_tap a ≡ spelling_of_tap b → a ≡ b }
+    ensures fix { (a b : SpelledFix) → IsSpelledFix a → IsSpelledFix b
+        → spelling_of_fix a ≡ spelling_of_fix b → a ≡ b }
     ensures show { (account day x y : ℕ) → IsShow account day → IsShow x y
         → spelling_of_show account day ≡ spelling_of_show x y → (account ≡ x) × (day ≡ y) }
 {}
@@ -41,6 +44,7 @@ pub fn one_command()
 /// A spelling is one line: at most [`MOST_LINE_BYTES`](crate::limits::MOST_LINE_BYTES) bytes, none of them a newline.
 pub fn each_is_a_line()
     ensures tap { (tap : SpelledTap) → IsSpelledTap tap → IsLine (spelling_of_tap tap) }
+    ensures fix { (fix : SpelledFix) → IsSpelledFix fix → IsLine (spelling_of_fix fix) }
     ensures show { (account day : ℕ) → IsShow account day → IsLine (spelling_of_show account day) }
     ensures quit { IsLine (codes "QUIT") }
 {}

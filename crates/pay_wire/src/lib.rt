@@ -11,7 +11,7 @@ mod refusal;
 mod reply;
 mod sending;
 
-pub use command::{Command, SpelledTap, read_command};
+pub use command::{Command, SpelledCredit, SpelledFix, SpelledTap, SpelledWhat, read_command};
 pub use output::WriteFault;
 pub use refusal::Refusal;
 pub use reply::Reply;

@@ -9,7 +9,10 @@ pub const MOST_NUMBER: u64 = 4_294_967_295;
 /// The greatest number of a reader.
 pub const MOST_READER: u32 = 65_535;
 
-/// The greatest number of a tap among those of its reader.
+/// The greatest number of a staff.
+pub const MOST_STAFF: u32 = 65_535;
+
+/// The greatest number of a tap among those of its reader, and of a correction among those of its staff.
 pub const MOST_SEQ: u32 = 4_294_967_295;
 
 /// The greatest number of an account.

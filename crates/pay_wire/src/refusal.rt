@@ -2,7 +2,7 @@
 ghost use Rattle.std.specs.Prelude.{◌≡◌, ◌≤◌, length};
 ghost use Rattle.pay_wire.specs.Replies.{refusal_number, refusal_name};
 
-use pay_account::TapFault;
+use pay_account::{FixFault, TapFault};
 
 /// Why a line is refused.
 #[derive(Clone, Copy, Debug, PartialEq, Eq)]
@@ -15,6 +15,10 @@ pub enum Refusal {
     Conflict,
     /// 21: the account holds as many taps as it can.
     AccountFull,
+    /// 22: another correction has this number already.
+    FixConflict,
+    /// 23: the account holds as many corrections as it can.
+    FixesFull,
     /// 50: the line spells no command.
     BadLine,
     /// 51: the line has more than [`MOST_LINE_BYTES`](crate::limits::MOST_LINE_BYTES) bytes.
@@ -35,6 +39,8 @@ impl Refusal {
             Refusal::UnknownPlace => 15,
             Refusal::Conflict => 20,
             Refusal::AccountFull => 21,
+            Refusal::FixConflict => 22,
+            Refusal::FixesFull => 23,
             Refusal::BadLine => 50,
             Refusal::LongLine => 51,
             Refusal::NotYet => 60,
@@ -52,6 +58,8 @@ impl Refusal {
             Refusal::UnknownPlace => "UnknownPlace",
             Refusal::Conflict => "Conflict",
             Refusal::AccountFull => "AccountFull",
+            Refusal::FixConflict => "FixConflict",
+            Refusal::FixesFull => "FixesFull",
             Refusal::BadLine => "BadLine",
             Refusal::LongLine => "LongLine",
             Refusal::NotYet => "NotYet",
@@ -72,6 +80,22 @@ impl From<TapFault> for Refusal {
             TapFault::Conflict => Refusal::Conflict,
             TapFault::AccountFull => Refusal::AccountFull,
             TapFault::Memory => Refusal::Memory,
+        }
+    }
+}
+
+impl From<FixFault> for Refusal {
+    ghost use Rattle.std.specs.Prelude.{◌≡◌};
+    ghost use Rattle.pay_wire.specs.Refusals.{refusal_of_fix};
+
+    ghost from_gives = { λ fault refusal. refusal ≡ refusal_of_fix fault };
+
+    fn from(fault: FixFault) -> Refusal {
+        match fault {
+            FixFault::UnknownPlace => Refusal::UnknownPlace,
+            FixFault::FixConflict => Refusal::FixConflict,
+            FixFault::FixesFull => Refusal::FixesFull,
+            FixFault::Memory => Refusal::Memory,
         }
     }
 }

@@ -1,7 +1,7 @@
 use Rattle.std.proofs.Common.{refl}
 use Rattle.std.proofs.lemmas.Result.{err_from_is_err_and}
 use Rattle.std.specs.Arc.{arc_value}
-use Rattle.farebox.specs.Machine.{new_machine}
+use Rattle.pay_session.specs.Words.{new_machine}
 use Rattle.farebox.proofs.Runs.{RunFails_session}
 use Rattle.farebox.proofs.run.run_texts.Goals as goal
 

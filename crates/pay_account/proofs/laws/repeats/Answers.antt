@@ -1,5 +1,10 @@
-use Rattle.pay_account.proofs.TapResults.{repeated}
+use Rattle.pay_taps.specs.declared.limits.TheConstants.{MOST_TAPS}
+use Rattle.pay_fix.specs.declared.limits.TheConstants.{MOST_FIXES}
+use Rattle.pay_account.proofs.Results.{repeated, repeated_fix}
 use Rattle.pay_account.proofs.laws.repeats.Goals as goal
 
 pub returns-clause-same_prices : goal.returns-clause-same_prices
-returns-clause-same_prices c tables taps tap priced e = repeated tables taps tap priced (λ taps there. (c.judgements.ensures.repeat taps tap).1 there) e
+returns-clause-same_prices c tables accepted tap priced e = repeated tables accepted tap priced (λ more there. (c.judgements.ensures.repeat MOST_TAPS more.taps tap).1 there) e
+
+pub returns-clause-same_fix_prices : goal.returns-clause-same_fix_prices
+returns-clause-same_fix_prices c tables accepted fix priced e = repeated_fix tables accepted fix priced (λ more there. (c.judgements-2.ensures.repeat MOST_FIXES more.fixes fix).1 there) e

@@ -1,5 +1,0 @@
-use Rattle.farebox.proofs.InputLines.{stops_at_quit, leaves_behind_quit, same_before_quit}
-use Rattle.farebox.proofs.laws.nothing_after_quit.Goals as goal
-
-pub returns : goal.returns
-returns c = record { asked = stops_at_quit; same = same_before_quit; unread = leaves_behind_quit }

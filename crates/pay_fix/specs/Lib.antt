@@ -1,0 +1,7 @@
+pub mod Credits
+pub mod Fixes
+pub mod SameFix
+pub mod Effective
+pub mod Named
+pub mod Given
+pub mod Words

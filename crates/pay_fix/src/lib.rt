@@ -1,0 +1,20 @@
+//! Corrections of an account: the set of accepted ones by number, which of them stand, and the effective
+//! taps that its taps and its corrections make.
+#![tactic(auto)]
+
+mod credit;
+mod fix;
+mod fix_set;
+mod given;
+pub mod laws;
+pub mod limits;
+mod named;
+mod standing;
+mod touches;
+
+pub use credit::Credit;
+pub use fix::{Fix, What};
+pub use fix_set::FixSet;
+pub use given::credits;
+pub use named::day_named;
+pub use touches::effective;

@@ -1,0 +1,58 @@
+ghost use Rattle.std.specs.Prelude.{◌≡◌};
+ghost use Rattle.pay_fix.specs.Fixes.{is_drop, drops, is_dropped, stands};
+ghost use Rattle.pay_fix.specs.Effective.{voids, is_voided};
+
+use crate::fix::{Fix, What};
+use pay_numbered::Numbered;
+
+impl Fix {
+    /// Whether it is a Drop.
+    fn is_drop(&self) -> bool
+        ensures { result ≡ is_drop self.now.what }
+    {
+        matches!(self.what, What::Drop(..))
+    }
+
+    /// Whether it is a Drop that names the correction of a staff and seq.
+    fn drops(&self, named: (u16, u32)) -> bool
+        ensures { result ≡ drops named self.now.what }
+    {
+        match self.what {
+            What::Drop(staff, seq) => (staff, seq) == named,
+            _ => false,
+        }
+    }
+
+    /// Whether it is a Void that names the tap of a reader and seq.
+    fn voids(&self, named: (u16, u32)) -> bool
+        ensures { result ≡ voids named self.now.what }
+    {
+        match self.what {
+            What::Void(reader, seq) => (reader, seq) == named,
+            _ => false,
+        }
+    }
+}
+
+/// Whether one of these corrections is a Drop that names the correction of a staff and seq.
+fn is_dropped(fixes: &[Fix], named: (u16, u32)) -> bool
+    ensures { result ≡ is_dropped fixes.now named }
+{
+    fixes.iter().any(|fix| fix.drops(named))
+}
+
+/// Whether a correction stands among these.
+pub fn stands(fixes: &[Fix], fix: &Fix) -> bool
+    ensures { result ≡ stands fixes.now fix.now }
+{
+    fix.is_drop() || !is_dropped(fixes, fix.number())
+}
+
+/// Whether one of these corrections is a Void that stands, and names the tap of a reader and seq.
+pub fn is_voided(fixes: &[Fix], named: (u16, u32)) -> bool
+    ensures { result ≡ is_voided fixes.now named }
+{
+    fixes
+        .iter()
+        .any(|fix| fix.voids(named) && stands(fixes, fix))
+}

@@ -1,0 +1,5 @@
+pub mod Judgement
+pub mod NumberOrder
+pub mod OneMore
+pub mod InTurn
+mod KeptList

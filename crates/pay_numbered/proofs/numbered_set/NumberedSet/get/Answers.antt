@@ -1,0 +1,18 @@
+use Rattle.std.proofs.Common.{◌≡◌, sym, subst, IfSome, rules}
+use Rattle.pay_numbered.specs.Numbers.{IsNumbered}
+use Rattle.pay_numbered.proofs.NumberOrder.{own_number}
+use Rattle.pay_numbered.proofs.KeptList.{found, not_found, set_numbered}
+use Rattle.pay_numbered.proofs.numbered_set.NumberedSet.get.Goals as goal
+
+pub returns-in-Ok-clause-value : goal.returns-in-Ok-clause-value
+returns-in-Ok-clause-value g c =
+    sym (found g.T.Numbered.number g.row.MOST c.self.inside.items.items c.as_slice-items.result.now c.args.self.now c.args.number c.in-Ok.at c.index-items-at.result c.self.invariant c.self.view_is c.as_slice-items.ensures c.in-Ok.ensures.in_range c.in-Ok.ensures.position (search rules))
+
+pub returns-in-Err-clause-value : goal.returns-in-Err-clause-value
+returns-in-Err-clause-value g c =
+    sym (not_found g.T.Numbered.number g.row.MOST c.self.inside.items.items c.as_slice-items.result.now c.args.self.now c.args.number c.in-Err.field-0 c.self.invariant c.self.view_is c.as_slice-items.ensures c.in-Err.ensures.position)
+
+pub returns-in-Ok-clause-own_number : goal.returns-in-Ok-clause-own_number
+returns-in-Ok-clause-own_number g c =
+    let number = g.T.Numbered.number in
+    subst (λ o. IfSome o (λ item. number item ≡ c.args.number)) (sym (returns-in-Ok-clause-value g c)) (own_number number c.args.self.now _ (subst (IsNumbered number g.row.MOST) c.self.view_is (set_numbered number g.row.MOST _ c.self.invariant)).own_numbers)

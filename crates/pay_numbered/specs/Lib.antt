@@ -1,0 +1,4 @@
+pub mod Numbers
+pub mod Kept
+pub mod InTurn
+pub mod Words

@@ -1,0 +1,9 @@
+//! Sets of what has a number of its own, as the taps and the corrections of an account have.
+#![tactic(auto)]
+
+pub mod laws;
+mod numbered;
+mod numbered_set;
+
+pub use numbered::Numbered;
+pub use numbered_set::{Addition, AdditionFault, NumberedSet};

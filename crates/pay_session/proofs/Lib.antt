@@ -1,0 +1,10 @@
+pub mod AccountMaps
+pub mod FirstOnes
+pub mod BegunLines
+pub mod Fills
+pub mod InputLines
+pub mod InputPieces
+pub mod Newlines
+pub mod SessionSteps
+pub mod UnendedLine
+pub mod WholeSession

@@ -1,0 +1,9 @@
+pub mod Accounts
+pub mod Desk
+pub mod Machine
+pub mod Outcomes
+pub mod Requests
+pub mod Session
+pub mod SessionSteps
+pub mod Stops
+pub mod Words

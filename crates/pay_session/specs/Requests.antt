@@ -1,0 +1,87 @@
+-- What the input asks for: its lines in order, up to the first QUIT.
+use Rattle.std.specs.Prelude.{ℕ, ◌+◌, Bool, true, false, nat_lt, ◌==◌, List, [], ◌∷◌, ◌++◌, map, length, take, Option, Some, None, if◌then◌else◌}
+use Rattle.std.specs.List.{list_any}
+use Rattle.pay_wire.specs.declared.limits.TheConstants.{MOST_LINE_BYTES}
+use Rattle.pay_wire.specs.Words.{command_of}
+use Rattle.pay_wire.specs.declared.command.Command.{Command}
+use Rattle.pay_wire.specs.declared.command.Command.TheVariants.{Quit}
+use Rattle.pay_session.specs.declared.request.Request.{Request}
+use Rattle.pay_session.specs.declared.request.Request.TheVariants as requests
+
+-- a line of the input, without its newline, and the bytes after that newline
+pub record InputLine : Type 0 where
+  pub text : List ℕ
+  pub after : List ℕ
+
+-- the first line with a byte more at its front
+abbrev pub onto_first : ℕ → List InputLine → List InputLine
+onto_first b [] = []
+onto_first b (l ∷ ls) = record { text = b ∷ l.text; after = l.after } ∷ ls
+
+-- the lines of the input, which newlines end
+abbrev pub input_lines : List ℕ → List InputLine
+input_lines [] = []
+input_lines (b ∷ bs) = if b == 10 then record { text = []; after = bs } ∷ input_lines bs else onto_first b (input_lines bs)
+
+-- whether a newline, byte 10, is there
+abbrev pub has_newline : List ℕ → Bool
+has_newline = list_any (λ b. b == 10)
+
+-- the bytes after the last newline
+abbrev pub rest_of : List ℕ → List ℕ
+rest_of [] = []
+rest_of (b ∷ bs) = if has_newline (b ∷ bs) then rest_of bs else b ∷ bs
+
+-- a line that spells a command asks for it
+abbrev pub asked : Option Command → Request
+asked (Some c) = requests.Command c
+asked None = requests.BadLine
+
+-- a line of more bytes than a line may have is too long, whatever it says
+unfoldable pub request_of : List ℕ → Request
+request_of line = if nat_lt MOST_LINE_BYTES (length line) then requests.LongLine else asked (command_of line)
+
+-- what is kept of a line that is not whole yet: one byte more than a line may have, so that a line which is too long shows
+abbrev pub kept_of : List ℕ → List ℕ
+kept_of line = take (MOST_LINE_BYTES + 1) line
+
+-- what no newline ends is no command: a number that is cut could be another number
+abbrev pub request_of_rest : List ℕ → List Request
+request_of_rest [] = []
+request_of_rest (b ∷ bs) = (if nat_lt MOST_LINE_BYTES (length (b ∷ bs)) then requests.LongLine else requests.BadLine) ∷ []
+
+-- whether a command ends the session
+abbrev pub asks_to_quit : Command → Bool
+asks_to_quit Quit = true
+asks_to_quit _ = false
+
+-- whether a request is that command
+abbrev pub is_quit : Request → Bool
+is_quit (requests.Command c) = asks_to_quit c
+is_quit _ = false
+
+-- nothing after the first QUIT counts
+abbrev pub through_quit : List Request → List Request
+through_quit [] = []
+through_quit (r ∷ rs) = if is_quit r then r ∷ [] else r ∷ through_quit rs
+
+-- what the lines ask for
+abbrev pub line_requests : List ℕ → List Request
+line_requests input = map (λ (l : InputLine). request_of l.text) (input_lines input)
+
+-- what the input asks for
+abbrev pub requests_of : List ℕ → List Request
+requests_of input = through_quit (line_requests input ++ request_of_rest (rest_of input))
+
+-- whether a line of the input ends the session
+abbrev pub quits : List ℕ → Bool
+quits input = list_any is_quit (line_requests input)
+
+-- the bytes after the first line that asks to quit, or none
+abbrev pub after_quit : List InputLine → List ℕ
+after_quit [] = []
+after_quit (l ∷ ls) = if is_quit (request_of l.text) then l.after else after_quit ls
+
+-- what is left unread
+abbrev pub unread : List ℕ → List ℕ
+unread input = after_quit (input_lines input)

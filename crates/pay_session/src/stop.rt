@@ -1,0 +1,46 @@
+//! Why a session stops before its end.
+ghost use Rattle.std.specs.Prelude.{◌≡◌, ◌↔◌, IsOk, IfOk, IfErr};
+ghost use Rattle.std.specs.IoError.{error_kind};
+ghost use Rattle.pay_session.specs.Stops.{IsFailure, fault_of};
+
+use crate::session::SessionFault;
+use pay_wire::WriteFault;
+use std::io;
+use std::io::ErrorKind;
+
+/// Why a session stops before its end.
+#[derive(Clone, Copy, Debug, PartialEq, Eq)]
+pub enum Stop {
+    /// The reader failed in this way.
+    Read(ErrorKind),
+    /// The reader's buffer was filled as often as it may be, without an end.
+    NoMoreFills,
+    /// The writer failed.
+    Write(WriteFault),
+}
+
+impl Stop {
+    /// What is told of a session that stopped after so many replies.
+    pub fn after(self, answered: u128) -> SessionFault
+        ensures { result ≡ fault_of self answered }
+    {
+        match self {
+            Stop::Read(_) | Stop::NoMoreFills => SessionFault::Read { answered },
+            Stop::Write(_) => SessionFault::Write { answered },
+        }
+    }
+}
+
+/// What a reader's error comes to: a reader that was interrupted is asked again, and any other has failed.
+pub fn unless_interrupted(error: &io::Error) -> Result<(), Stop>
+    ensures interrupted { IsOk result ↔ (error_kind error.now ≡ ErrorKind.Interrupted) }
+    ensures failed { IfErr result (λ stop. stop ≡ Stop.Read (error_kind error.now)) }
+    ensures cause { IfErr result IsFailure }
+{
+    let kind = error.kind();
+    if kind == ErrorKind::Interrupted {
+        Ok(())
+    } else {
+        Err(Stop::Read(kind))
+    }
+}

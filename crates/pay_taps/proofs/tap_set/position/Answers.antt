@@ -1,7 +1,0 @@
-use Rattle.std.proofs.Common.{rules}
-use Rattle.std.proofs.lemmas.List.Sorted.{answers_always}
-use Rattle.pay_taps.specs.Taps.{number}
-use Rattle.pay_taps.proofs.tap_set.position.Goals as goal
-
-pub returns-clause-position : goal.returns-clause-position
-returns-clause-position c = c.binary_search_by_key.ensures.position number (answers_always _ _ _ (λ f a r g h. search rules))

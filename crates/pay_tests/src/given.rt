@@ -1,0 +1,41 @@
+//! What tests are given: the sample fare file, and taps of Monday, 2024-01-08, when London's clocks show UTC.
+
+use pay_day::Moment;
+use pay_tables::Tables;
+use pay_tables::sample::SAMPLE_FARES;
+use pay_taps::{Kind, Tap, Touch};
+use std::fmt::Debug;
+use std::process::Abort;
+
+/// So what was found is what is wanted. One function has the only comparison, since what a comparison costs to be
+/// proved is much, and a call of this one little.
+pub fn expect_same<R: Abort, T: Copy + PartialEq + Debug>(rt: &R, found: T, wanted: T) {
+    assert_eq!(rt; found, wanted);
+}
+
+/// Monday, 2024-01-08.
+pub const MONDAY: u32 = 19_730;
+
+/// The tables of the sample fare file, whose bands are that of the buses (525 a day, 2470 a week), of zones 1 to 2
+/// (890, 4470) and of zones 1 to 3 (1050, 5250).
+pub fn sample<R: Abort + AllocGlobal>(rt: &R) -> Tables {
+    Tables::read(rt.alloc(), SAMPLE_FARES).expect(rt, "the sample")
+}
+
+/// A tap of account 7 by reader 1, at a second of the Monday.
+pub fn tap_at<R: Abort>(rt: &R, seq: u32, second: u32, place: u16, kind: Kind) -> Tap {
+    let utc = u64::from(MONDAY) * 86_400 + u64::from(second);
+    Tap {
+        account: 7,
+        reader: 1,
+        seq,
+        stamp: Moment::from_parts(utc, MONDAY, second).expect(rt, "a moment"),
+        place,
+        kind,
+    }
+}
+
+/// The same tap as it is priced. Its number is its second.
+pub fn touch_at<R: Abort>(rt: &R, second: u32, place: u16, kind: Kind) -> Touch {
+    Touch::from(tap_at(rt, second, second, place, kind))
+}
