@@ -1,9 +1,9 @@
-"""The taps that are measured, in the order of their arrival. They are the same for the same seed."""
+"""The taps and corrections that are measured, in the order of their arrival. They are the same for the same seed."""
 
 import random
 from typing import Callable, NamedTuple
 
-from rules import A_DAY, BUS, ROUTE, SAMPLE, Band, Tap
+from rules import A_DAY, BUS, ROUTE, SAMPLE, Band, Fix, Tap, parts, service_day
 
 # Service day 19730 begins on Monday 2024-01-08 at 04:30:00.
 MONDAY, BEGINS, DAYS = 19730, 1704688200, 7
@@ -90,6 +90,55 @@ def week_taps(draw, accounts):
     return [tap for _, tap in sorted((tap.utc + by, tap) for tap, by in zip(made, late))]
 
 
+def lone_taps(taps):
+    """The rail taps that are in no leg."""
+    rail = {}
+    for tap in sorted(taps):
+        if tap.kind != "BUS":
+            rail.setdefault(tap.account, []).append(tap)
+    return [part[0] for mine in rail.values() for part in parts(BUS, mine) if len(part) == 1]
+
+
+def words_about(draw, form, tap):
+    """What stands behind the form in a correction about a tap. A Fill is the other end of a leg, at another station."""
+    if form == "VOID":
+        return tap.number
+    if form == "CREDIT":
+        return service_day(tap.utc), draw.randint(10, 500)
+    place = draw.choice([it for it in sorted(BUS.stations) if it != tap.place])
+    by = draw.randint(300, 3_000)
+    return (min(tap.utc + by, LAST), place, "OUT") if tap.kind == "IN" else (max(tap.utc - by, BEGINS), place, "IN")
+
+
+def drawn_arrival(draw, after, last, may_be_before):
+    """Where a correction arrives: some time after what it is about, but of those that may be before it a fifth."""
+    return draw.uniform(0, after) if may_be_before and draw.random() < 0.2 else draw.uniform(after, last)
+
+
+def corrections(draw, taps, count):
+    """That many corrections, each behind how many taps arrive before it: Voids, Fills that complete lone taps, Credits,
+    Drops of some of these, and repeats."""
+    arrives = {tap: at for at, tap in enumerate(taps)}
+    lone, drops, repeats = lone_taps(taps) or taps, count // 10, count // 20
+    made = []
+    for seq in range(count - drops - repeats):
+        form = draw.choices(("VOID", "FILL", "CREDIT"), (6, 7, 4))[0]
+        tap = draw.choice(lone if form == "FILL" else taps)
+        fix = Fix(draw.randint(1, 40), seq, tap.account, form, words_about(draw, form, tap))
+        made.append((drawn_arrival(draw, arrives[tap], len(taps), form == "VOID"), fix))
+    for seq, (at, fix) in enumerate(draw.sample(made, drops), len(made)):
+        drop = Fix(draw.randint(1, 40), seq, fix.account, "DROP", fix.number)
+        made.append((drawn_arrival(draw, at, len(taps), True), drop))
+    return made + [(drawn_arrival(draw, at, len(taps), False), fix) for at, fix in draw.sample(made, repeats)]
+
+
+def corrected_week(draw, accounts):
+    """The taps of the week, and among them corrections, a twentieth of the lines."""
+    taps = week_taps(draw, accounts)
+    made = [*enumerate(taps), *corrections(draw, taps, len(taps) // 19)]
+    return [command for _, command in sorted(made, key=lambda it: it[0])]
+
+
 class Load(NamedTuple):
     name: str
     title: str
@@ -98,11 +147,8 @@ class Load(NamedTuple):
     arrivals: Callable
     days_shown: range
 
-    def accounts(self, taps):
-        return taps // self.taps_each
-
-    def taps(self, seed, taps):
-        return self.arrivals(random.Random(seed), self.accounts(taps))
+    def commands(self, seed, taps):
+        return self.arrivals(random.Random(seed), taps // self.taps_each)
 
 
 DAY = Load("day", "a day of bus taps in shuffled order", "bus.toml", 4, day_taps, range(0))
@@ -110,4 +156,5 @@ WEEK = Load("week", "a week of bus and rail taps, a tenth of them late by hours"
 CAPPED_DAY = DAY._replace(name="capped-day", fares="sample.toml")
 CAPPED_WEEK = WEEK._replace(name="capped-week", fares="sample.toml")
 BANDED_WEEK = WEEK._replace(name="banded-week", fares="twelve-bands.toml")
-LOADS = {load.name: load for load in (DAY, WEEK, CAPPED_DAY, CAPPED_WEEK, BANDED_WEEK)}
+CORRECTED_WEEK = CAPPED_WEEK._replace(name="corrected-week", title=f"{WEEK.title}, with corrections among them", arrivals=corrected_week)
+LOADS = {load.name: load for load in (DAY, WEEK, CAPPED_DAY, CAPPED_WEEK, BANDED_WEEK, CORRECTED_WEEK)}

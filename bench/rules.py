@@ -47,16 +47,54 @@ BUS = Fares(
 SAMPLE = BUS._replace(bands=[Band(0, 0, 525, 2_470), Band(1, 2, 890, 4_470), Band(1, 3, 1_050, 5_250)])
 
 A_DAY, DAY_BEGINS = 86_400, 16_200
+FIRST_INSTANT, LAST_INSTANT = 604_800, 4_102_444_799
+MOST_TAPS, MOST_FIXES = 16_384, 1_024
 MORNING, EVENING = (23_400, 34_200), (57_600, 68_400)
 
 
 class Tap(NamedTuple):
-    """A tap. An account's taps compare in the order of their instants and numbers."""
+    """A tap that is sent. An account's taps compare in the order of their instants and numbers."""
 
     utc: int
     reader: int
     seq: int
     account: int
+    place: int
+    kind: str
+
+    @property
+    def number(self):
+        return self.reader, self.seq
+
+
+class Fix(NamedTuple):
+    """A correction. Its words are those behind its form."""
+
+    staff: int
+    seq: int
+    account: int
+    form: str
+    # Of a VOID a tap's number, of a FILL an instant, a place and a kind, of a CREDIT a day and pence, of a DROP a correction's number.
+    words: tuple
+
+    @property
+    def number(self):
+        return self.staff, self.seq
+
+
+class Account(NamedTuple):
+    """What is kept of an account: its accepted taps and corrections, by their numbers."""
+
+    taps: dict
+    fixes: dict
+
+
+class Touch(NamedTuple):
+    """An effective tap. An account's touches compare in their order."""
+
+    utc: int
+    is_filled: bool
+    number: tuple
     place: int
     kind: str
 
@@ -210,20 +248,97 @@ def week_price(fares, days):
     return capped_week(fares.bands, days) + sum(lone)
 
 
-def reply(fares, taps, tap):
-    """The reply to a tap of an account that has `taps`, this one among them."""
-    day, days = service_day(tap.utc), {}
-    for journey in journeys(fares, taps):
+def effective(account):
+    """The taps that are priced: the accepted ones that no standing Void names, and those of standing Fills."""
+    # Every Drop counts, also one that another names.
+    dropped = {fix.words for fix in account.fixes.values() if fix.form == "DROP"}
+    standing = [fix for fix in account.fixes.values() if fix.number not in dropped]
+    voided = {fix.words for fix in standing if fix.form == "VOID"}
+    touches = [Touch(tap.utc, False, tap.number, tap.place, tap.kind) for tap in account.taps.values() if tap.number not in voided]
+    for fix in standing:
+        if fix.form == "FILL":
+            utc, place, kind = fix.words
+            touches.append(Touch(utc, True, fix.number, place, kind))
+    return touches
+
+
+def day_of_tap(tap):
+    return service_day(tap.utc) if tap else None
+
+
+def day_of_fix(account, fix):
+    """The day of a correction's reply. None where it names nothing that is accepted, or a Drop names a Drop."""
+    if fix.form == "VOID":
+        return day_of_tap(account.taps.get(fix.words))
+    if fix.form == "DROP":
+        named = account.fixes.get(fix.words)
+        return day_of_fix(account, named) if named and named.form != "DROP" else None
+    return service_day(fix.words[0]) if fix.form == "FILL" else fix.words[0]
+
+
+def refusal_of_place(fares, utc, place, kind):
+    """Why a tap, or that of a Fill, is refused by its own words."""
+    if not FIRST_INSTANT <= utc <= LAST_INSTANT:
+        return "1 OutOfTime"
+    if place not in (fares.routes if kind == "BUS" else fares.stations):
+        return "15 UnknownPlace"
+    return None
+
+
+def refusal(fares, account, command):
+    """Why a tap or a correction is refused, or None."""
+    if isinstance(command, Tap):
+        kept, most, conflict, full = account.taps, MOST_TAPS, "20 Conflict", "21 AccountFull"
+        refused = refusal_of_place(fares, command.utc, command.place, command.kind)
+    else:
+        kept, most, conflict, full = account.fixes, MOST_FIXES, "22 FixConflict", "23 FixesFull"
+        refused = refusal_of_place(fares, *command.words) if command.form == "FILL" else None
+    if refused:
+        return refused
+    if command.number in kept:
+        return None if kept[command.number] == command else conflict
+    return full if len(kept) == most else None
+
+
+def prices(fares, account, day):
+    """The price of a day and that of its week."""
+    days = {}
+    for journey in journeys(fares, effective(account)):
         days.setdefault(service_day(journey.utc), []).append(journey)
     week = [made for on, made in days.items() if monday(on) == monday(day)]
-    return f"OK {day} {day_price(fares, days.get(day, []))} {week_price(fares, week or [[]])}\n"
+    return day_price(fares, days.get(day, [])), week_price(fares, week or [[]])
 
 
-def shown(fares, account, taps, day):
-    """The lines that answer SHOW."""
+def reply(fares, accounts, command):
+    """The reply to a tap or a correction, which is kept in `accounts` if it is accepted."""
+    account = accounts.get(command.account, Account({}, {}))
+    refused = refusal(fares, account, command)
+    if refused:
+        return f"NO {refused}\n"
+    accounts[command.account] = account
+    kept = account.taps if isinstance(command, Tap) else account.fixes
+    verb = "AGAIN" if command.number in kept else "OK"
+    kept[command.number] = command
+    day = day_of_tap(command) if isinstance(command, Tap) else day_of_fix(account, command)
+    told = (0, 0, 0) if day is None else (day, *prices(fares, account, day))
+    return " ".join([verb, *map(str, told)]) + "\n"
+
+
+def shown(fares, accounts, number, day):
+    """The lines that answer SHOW of the account of this number."""
+    taps = effective(accounts.get(number, Account({}, {})))
     listed = [journey for journey in journeys(fares, taps) if service_day(journey.utc) == day]
-    head = f"SHOW {account} {day} {len(listed)} {day_price(fares, listed)}\n"
+    head = f"SHOW {number} {day} {len(listed)} {day_price(fares, listed)}\n"
     return [head] + [f"JNY {it.kind} {it.start} {it.end} {it.utc} {it.fare}\n" for it in listed]
+
+
+def line(command):
+    """The spelling of a tap or a correction."""
+    if isinstance(command, Tap):
+        words = ("TAP", *command.number, command.account, command.utc, command.place, command.kind)
+    else:
+        words = ("FIX", *command.number, command.account, command.form, *command.words)
+    return " ".join(map(str, words)) + "\n"
 
 
 def array(items):
