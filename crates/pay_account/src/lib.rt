@@ -1,4 +1,4 @@
-//! The price of an account's taps.
+//! What an account has accepted, taps and corrections, and what its days and weeks cost by these.
 #![tactic(auto)]
 
 mod account;

@@ -11,7 +11,7 @@ use Rattle.pay_fix.specs.declared.fix.Fix.{Fix}
 use Rattle.pay_fix.specs.declared.fix.What.{What}
 use Rattle.pay_fix.specs.declared.fix.What.TheVariants.{Void, Fill, Credit, Drop}
 use Rattle.pay_fix.specs.Fixes.{number, is_number, is_drop, drops, is_dropped, stands}
-use Rattle.pay_fix.specs.Effective.{voids, is_voided, not_voided, fill_of, filled_by, filled}
+use Rattle.pay_fix.specs.Effective.{voids, is_voided, not_voided, fill_of, filled_by, filled, effective_of}
 use Rattle.pay_fix.specs.SameFix.{number_from_same, number_itself}
 
 -- ---- one more in a list
@@ -91,10 +91,6 @@ module _ (before : List Fix) (x : Fix) (after : List Fix) where
   filled_alike none no_fill =
       flat_same (filled_by more) (filled_by rest) more (all_of more (λ f. ap (λ b. if b then fill_of (f.staff, f.seq) f.what else []) (stands_alike none f)))
       ∙ flat_among (filled_by rest) before x after (ap (λ l. if stands rest x then l else []) no_fill ∙ either (stands rest x))
-
--- the effective taps of lists of taps and corrections
-abbrev pub effective_of : List Tap → List Fix → List Touch
-effective_of taps fixes = in_order (map touch_of (not_voided fixes taps) ++ filled fixes)
 
 both : (taps others : List Tap) (fixes less : List Fix) → not_voided fixes taps ≡ not_voided less others → filled fixes ≡ filled less → effective_of taps fixes ≡ effective_of others less
 both taps others fixes less e f = ap (λ (l : List Tap). in_order (map touch_of l ++ filled fixes)) e ∙ ap (λ l. in_order (map touch_of (not_voided less others) ++ l)) f

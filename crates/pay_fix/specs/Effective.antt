@@ -37,5 +37,8 @@ abbrev pub filled : List Fix → List Touch
 filled accepted = flat_map (filled_by accepted) accepted
 
 -- the accepted taps that no standing Void names and the taps of standing Fills, in order
+abbrev pub effective_of : List Tap → List Fix → List Touch
+effective_of taps fixes = in_order (map touch_of (not_voided fixes taps) ++ filled fixes)
+
 abbrev pub effective : Taps → Fixes → List Touch
-effective taps fixes = in_order (map touch_of (not_voided (values fixes) (values taps)) ++ filled (values fixes))
+effective taps fixes = effective_of (values taps) (values fixes)

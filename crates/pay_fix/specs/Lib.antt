@@ -4,4 +4,5 @@ pub mod SameFix
 pub mod Effective
 pub mod Named
 pub mod Given
+mod Rows
 pub mod Words

@@ -12,7 +12,7 @@ fn own_day(taps: &TapSet, what: &What) -> Option<u32>
     ensures in_range { IfSome result (λ day. IsDay day) }
 {
     match what {
-        What::Void(reader, seq) => Some(taps.get((*reader, *seq))?.stamp.day()),
+        What::Void(reader, seq) => Some(taps.get(*reader, *seq)?.stamp.day()),
         What::Fill(stamp, _, _) => Some(stamp.day()),
         What::Credit(credit) => Some(credit.day()),
         What::Drop(..) => None,
@@ -27,7 +27,7 @@ pub fn day_named(taps: &TapSet, fixes: &FixSet, what: &What) -> Option<u32>
     ensures in_range { IfSome result (λ day. IsDay day) }
 {
     match what {
-        What::Drop(staff, seq) => own_day(taps, &fixes.get((*staff, *seq))?.what),
+        What::Drop(staff, seq) => own_day(taps, &fixes.get(*staff, *seq)?.what),
         _ => own_day(taps, what),
     }
 }

@@ -96,14 +96,6 @@ module _ {X : Type 0} (number : X → ℕ × ℕ) where
   -- ---- a set of what has numbers
 
   module _ (most : ℕ) where
-    pub none_made : (es : List ((ℕ × ℕ) × X)) → es ≡ [] → IsNumbered number most (from_entries es)
-    none_made es e =
-        let none : entries (from_entries {R = number_cmp} es) ≡ [] = ap (λ (l : List ((ℕ × ℕ) × X)). entries (from_entries {R = number_cmp} l)) e ∙ nothing_made in
-        record {
-          own_numbers = subst (λ (l : List ((ℕ × ℕ) × X)). map number (map (λ (e : (ℕ × ℕ) × X). e.1) l) ≡ map (λ (e : (ℕ × ℕ) × X). e.0) l) (sym none) refl;
-          within = let count : len (from_entries {R = number_cmp} es) ≡ 0 = len-entries _ ∙ ap length none in omega arith;
-        }
-
     -- one more, where none has its number and there is room
     pub one_more : (set : ByNumber X) (t : X) → IsNumbered number most set → get set (number t) ≡ None → len set < most → IsNumbered number most (insert set (number t) t)
     one_more set t old none room = record {

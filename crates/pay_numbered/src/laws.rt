@@ -29,11 +29,6 @@ pub fn judgements<T: Numbered>()
     ensures never_memory { (most : ℕ) (set : ByNumber T) (x : T) → judged T.same T.number most set x ≢ Err AdditionFault.Memory }
 {}
 
-/// None are a set.
-pub fn none<T: Numbered>()
-    ensures { (most : ℕ) → IsNumbered T.number most map.empty }
-{}
-
 /// A set with one more: it stands somewhere among the others, and all is as before where it is taken out again.
 pub fn one_more<T: Numbered>()
     ensures numbered { (most : ℕ) (set : ByNumber T) (x : T) → IsNumbered T.number most set → judged T.same T.number most set x ≡ Ok Addition.Added
@@ -48,14 +43,6 @@ pub fn one_more<T: Numbered>()
 pub fn numbers<T: Numbered>()
     ensures { (most : ℕ) (set : ByNumber T) (n : ℕ × ℕ) → IsNumbered T.number most set → map.get set n ≡ None
         → AllByRecursion (λ x. T.number x ≢ n) (map.values set) }
-{}
-
-/// A set that has all that another has, has as many at least; and more, where something of it is not in the other.
-pub fn larger<T: Numbered>()
-    ensures as_many { (small large : ByNumber T) → ((n : ℕ × ℕ) (x : T) → map.get small n ≡ Some x → map.get large n ≡ Some x)
-        → map.len small ≤ map.len large }
-    ensures more { (small large : ByNumber T) (n : ℕ × ℕ) (x : T) → ((n : ℕ × ℕ) (x : T) → map.get small n ≡ Some x → map.get large n ≡ Some x)
-        → map.get small n ≡ None → map.get large n ≡ Some x → map.len small < map.len large }
 {}
 
 /// A set forgets in what order additions came, and how often: where those of one list are taken one after

@@ -101,13 +101,13 @@ impl<T: Numbered + MadeWith<Global>, const MOST: usize, const INLINE: usize> Num
         self.len() == 0
     }
 
-    /// The one that has a number.
-    pub fn get(&self, number: (u16, u32)) -> Option<T>
-        ensures value { result ≡ map.get self.now number }
-        ensures own_number { IfSome result (λ item. T.number item ≡ number) }
+    /// The one whose number is this pair.
+    pub fn get(&self, first: u16, second: u32) -> Option<T>
+        ensures value { result ≡ map.get self.now (first, second) }
+        ensures own_number { IfSome result (λ item. T.number item ≡ (first, second)) }
     {
         let items = self.items.as_slice();
-        match position(items, number) {
+        match position(items, (first, second)) {
             Ok(at) => Some(items[at]),
             Err(_) => None,
         }

@@ -1,8 +1,8 @@
 -- Accounts that stand at their numbers.
-use Rattle.std.proofs.Common.{◌≡◌, ℕ, Bool, true, false, cond, not, List, [], ◌∷◌, map, Option, Some, None, Result, Ok, Err, unwrap_or, if◌then◌else◌, nat_le, sym, ap, ◌∙◌, subst, refl}
+use Rattle.std.proofs.Common.{◌≡◌, ℕ, Bool, true, false, cond, List, [], ◌∷◌, map, Option, Some, None, unwrap_or, sym, ap, ◌∙◌, refl}
 use Rattle.std.specs.BTreeMap.{BTreeMap, is_at}
 use Rattle.std.specs.FinMap as map
-use Rattle.std.specs.FinMap.{find, get-from_entries, get-insert, get-empty, len-empty, same_map, nat_cmp-IsAntisymmetric}
+use Rattle.std.specs.FinMap.{find, get-from_entries, get-insert, same_map, nat_cmp-IsAntisymmetric}
 use Rattle.std.specs.Map.{lookup}
 use Rattle.std.specs.Option.{option_map}
 use Rattle.std.specs.Ordering.{nat_cmp, eq_by_cmp, is_eq}
@@ -48,7 +48,7 @@ seen_written es fs n w h = same_map nat_cmp_total nat_cmp-IsAntisymmetric (seen 
     ∙ ap (λ b. cond b (Some w.1) (option_map (λ (a : Held). a.1) (lookup (is_at (nat_cmp q)) es))) ((eq_by_cmp_equiv nat_cmp_total).symm n q)
     ∙ sym (get-insert nat_cmp_total (seen es) n w.1 q ∙ ap (cond (eq_by_cmp nat_cmp q n) (Some w.1)) (get_seen es q)))
 
-equal : (o : Ordering) → is_eq o ≡ true → o ≡ Equal
+pub equal : (o : Ordering) → is_eq o ≡ true → o ≡ Equal
 equal Less p = cc
 equal Equal p = refl
 equal Greater p = cc

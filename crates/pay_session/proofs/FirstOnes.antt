@@ -1,14 +1,16 @@
 -- The first tap or correction of an account is no repeat, and one that is no repeat is kept.
-use Rattle.std.proofs.Common.{◌≡◌, ℕ, Bool, true, false, not, Option, Some, None, Result, Ok, Err, if◌then◌else◌, nat_le, sym, ap, ◌∙◌, refl}
+use Rattle.std.proofs.Common.{◌≡◌, ℕ, Bool, true, false, not, Option, Some, None, Result, Ok, Err, if◌then◌else◌, nat_le, ap, ◌∙◌, refl}
 use Rattle.std.specs.FinMap as map
 use Rattle.std.specs.FinMap.{get-empty, len-empty}
 use Rattle.pay_tables.specs.Words.{FareTables}
 use Rattle.pay_numbered.specs.Words.{number_cmp, judgement}
-use Rattle.pay_numbered.specs.declared.numbered_set.Addition.TheVariants.{Added, Repeat}
+use Rattle.pay_numbered.specs.declared.numbered_set.Addition.TheVariants.{Added}
 use Rattle.pay_numbered.specs.declared.numbered_set.AdditionFault.TheVariants.{Full}
+use Rattle.pay_taps.specs.declared.limits.TheConstants.{MOST_TAPS}
 use Rattle.pay_taps.specs.declared.tap.Tap.{Tap}
 use Rattle.pay_taps.specs.Words.{same_tap, judged}
 use Rattle.pay_taps.specs.Words.{number as tap_number}
+use Rattle.pay_fix.specs.declared.limits.TheConstants.{MOST_FIXES}
 use Rattle.pay_fix.specs.declared.fix.Fix.{Fix}
 use Rattle.pay_fix.specs.Words.{same_fix, day_named}
 use Rattle.pay_fix.specs.Words.{judged as judged_fix, number as fix_number}
@@ -39,8 +41,8 @@ same_fix_left (Err fault) accepted fix old = refl
 
 first_tap : (tap : Tap) → judged map.empty tap ≡ Ok Added
 first_tap tap =
-    ap (λ o. judgement same_tap 16_384 tap o (map.len (map.empty {X = Tap} {R = number_cmp}))) (get-empty number_cmp (tap_number tap))
-    ∙ ap (λ n. if nat_le 16_384 n then Err Full else Ok Added) (len-empty number_cmp Tap)
+    ap (λ o. judgement same_tap MOST_TAPS tap o (map.len (map.empty {X = Tap} {R = number_cmp}))) (get-empty number_cmp (tap_number tap))
+    ∙ ap (λ n. if nat_le MOST_TAPS n then Err Full else Ok Added) (len-empty number_cmp Tap)
 
 pub first_tap_is_new : (tables : FareTables) (tap : Tap) (priced : Priced) → Ok priced ≡ tap_result tables nothing tap → is_new {E = TapFault} (Ok priced) ≡ true
 first_tap_is_new tables tap priced e = by_place (is_known tables tap.place tap.kind) (e ∙ ap (λ j. if is_known tables tap.place tap.kind then tap_added tables nothing tap j else Err of_tap.UnknownPlace) (first_tap tap))
@@ -51,8 +53,8 @@ first_tap_is_new tables tap priced e = by_place (is_known tables tap.place tap.k
 
 first_fix : (fix : Fix) → judged_fix map.empty fix ≡ Ok Added
 first_fix fix =
-    ap (λ o. judgement same_fix 1024 fix o (map.len (map.empty {X = Fix} {R = number_cmp}))) (get-empty number_cmp (fix_number fix))
-    ∙ ap (λ n. if nat_le 1024 n then Err Full else Ok Added) (len-empty number_cmp Fix)
+    ap (λ o. judgement same_fix MOST_FIXES fix o (map.len (map.empty {X = Fix} {R = number_cmp}))) (get-empty number_cmp (fix_number fix))
+    ∙ ap (λ n. if nat_le MOST_FIXES n then Err Full else Ok Added) (len-empty number_cmp Fix)
 
 not_again : (tables : FareTables) (accepted : Accepted) (named : Option ℕ) → not (prices_on tables accepted false named).again ≡ true
 not_again tables accepted None = refl

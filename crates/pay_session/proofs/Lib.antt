@@ -1,6 +1,11 @@
+pub mod AcceptedChanges
+pub mod AccountChanges
 pub mod AccountMaps
+pub mod ArrivalOrder
+pub mod AskedChanges
 pub mod FirstOnes
 pub mod BegunLines
+pub mod ChangeSteps
 pub mod Fills
 pub mod InputLines
 pub mod InputPieces

@@ -19,7 +19,7 @@ fn fix(seq: u32, what: What) -> Fix {
 fn add<R: Abort>(rt: &R, fixes: &mut FixSet, fix: &Fix) {
     let seq = fix.seq;
     if fixes.add(*fix) == Err(AdditionFault::Memory) {
-        expect_same(rt, fixes.get((3, seq)), None);
+        expect_same(rt, fixes.get(3, seq), None);
         expect_same(rt, fixes.add(*fix), Ok(Addition::Added));
     }
 }

@@ -19,7 +19,7 @@ fn keeps_taps_by_number(rt: HostRuntime) {
     let other = boarding(&rt, 1, 25_201);
     expect_same(&rt, taps.judge(&other), Err(AdditionFault::Conflict));
     expect_same(&rt, taps.add(other), Err(AdditionFault::Conflict));
-    expect_same(&rt, (taps.get((1, 1)), taps.get((1, 2))), (Some(tap), None));
+    expect_same(&rt, (taps.get(1, 1), taps.get(1, 2)), (Some(tap), None));
     taps.remove((1, 2));
     expect_same(&rt, taps.len(), 1);
     taps.remove((1, 1));
@@ -30,7 +30,7 @@ fn keeps_taps_by_number(rt: HostRuntime) {
 fn add_at_last<R: Abort>(rt: &R, taps: &mut TapSet, tap: &Tap) {
     let before = taps.len();
     if taps.add(*tap) == Err(AdditionFault::Memory) {
-        expect_same(rt, (taps.len(), taps.get((1, tap.seq))), (before, None));
+        expect_same(rt, (taps.len(), taps.get(1, tap.seq)), (before, None));
         expect_same(rt, taps.add(*tap), Ok(Addition::Added));
     }
 }

@@ -7,9 +7,9 @@ use pay_account::{FixFault, TapFault};
 /// Why a line is refused.
 #[derive(Clone, Copy, Debug, PartialEq, Eq)]
 pub enum Refusal {
-    /// 1: the tap's instant is outside of those that are taken.
+    /// 1: the instant of a tap or of a Fill is outside of those that are taken.
     OutOfTime,
-    /// 15: there is no such place, or it is not one for this kind of tap.
+    /// 15: there is no such place, or it is not one for this kind of tap, be it a Fill's.
     UnknownPlace,
     /// 20: another tap has this number already.
     Conflict,

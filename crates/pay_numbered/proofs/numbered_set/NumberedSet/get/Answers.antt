@@ -6,13 +6,13 @@ use Rattle.pay_numbered.proofs.numbered_set.NumberedSet.get.Goals as goal
 
 pub returns-in-Ok-clause-value : goal.returns-in-Ok-clause-value
 returns-in-Ok-clause-value g c =
-    sym (found g.T.Numbered.number g.row.MOST c.self.inside.items.items c.as_slice-items.result.now c.args.self.now c.args.number c.in-Ok.at c.index-items-at.result c.self.invariant c.self.view_is c.as_slice-items.ensures c.in-Ok.ensures.in_range c.in-Ok.ensures.position (search rules))
+    sym (found g.T.Numbered.number g.row.MOST c.self.inside.items.items c.as_slice-items.result.now c.args.self.now (c.args.first, c.args.second) c.in-Ok.at c.index-items-at.result c.self.invariant c.self.view_is c.as_slice-items.ensures c.in-Ok.ensures.in_range c.in-Ok.ensures.position (search rules))
 
 pub returns-in-Err-clause-value : goal.returns-in-Err-clause-value
 returns-in-Err-clause-value g c =
-    sym (not_found g.T.Numbered.number g.row.MOST c.self.inside.items.items c.as_slice-items.result.now c.args.self.now c.args.number c.in-Err.field-0 c.self.invariant c.self.view_is c.as_slice-items.ensures c.in-Err.ensures.position)
+    sym (not_found g.T.Numbered.number g.row.MOST c.self.inside.items.items c.as_slice-items.result.now c.args.self.now (c.args.first, c.args.second) c.in-Err.field-0 c.self.invariant c.self.view_is c.as_slice-items.ensures c.in-Err.ensures.position)
 
 pub returns-in-Ok-clause-own_number : goal.returns-in-Ok-clause-own_number
 returns-in-Ok-clause-own_number g c =
     let number = g.T.Numbered.number in
-    subst (λ o. IfSome o (λ item. number item ≡ c.args.number)) (sym (returns-in-Ok-clause-value g c)) (own_number number c.args.self.now _ (subst (IsNumbered number g.row.MOST) c.self.view_is (set_numbered number g.row.MOST _ c.self.invariant)).own_numbers)
+    subst (λ o. IfSome o (λ item. number item ≡ (c.args.first, c.args.second))) (sym (returns-in-Ok-clause-value g c)) (own_number number c.args.self.now _ (subst (IsNumbered number g.row.MOST) c.self.view_is (set_numbered number g.row.MOST _ c.self.invariant)).own_numbers)

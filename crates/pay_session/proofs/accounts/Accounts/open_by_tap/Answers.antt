@@ -1,4 +1,4 @@
-use Rattle.std.proofs.Common.{◌≡◌, Ok, ap, sym, ◌∙◌}
+use Rattle.std.proofs.Common.{◌≡◌, Ok, ap, ◌∙◌}
 use Rattle.std.specs.FinMap as map
 use Rattle.pay_account.specs.Words.{nothing, tap_result, after_tap}
 use Rattle.pay_account.specs.declared.fares.TapFault.{TapFault}
