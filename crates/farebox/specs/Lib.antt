@@ -1,3 +1,1 @@
-pub mod Check
-pub mod Faults
-pub mod Run
+pub mod NoJob

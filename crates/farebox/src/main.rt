@@ -1,10 +1,7 @@
 //! The fare engine: reads taps as lines, and answers each with the price of its day and its week.
 #![tactic(auto)]
 
-mod check;
-mod fault;
 mod program;
-mod run;
 
 use std::process::ExitCode;
 

@@ -1,11 +1,10 @@
 //! The program: its words, its streams and its statuses.
 ghost use Rattle.std.specs.Prelude.{◌≡◌, ◌≢◌};
 ghost use Rattle.std.specs.IoError.{error_kind};
-ghost use Rattle.farebox.specs.Faults.{IsTextOrFault, IsWantOfMemory};
+ghost use Rattle.pay_jobs.specs.Words.{IsWantOfMemory};
+ghost use Rattle.farebox.specs.NoJob.{IsTextOrFault};
 
-use crate::check::check_text;
-use crate::fault::Fault;
-use crate::run::run_texts;
+use pay_jobs::{Fault, check_text, run_texts};
 use pay_words::{Job, RunWords, WordsFault, read_words};
 use std::alloc::AllocError;
 use std::io::{BufReader, ErrorKind};

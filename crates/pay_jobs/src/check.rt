@@ -3,8 +3,8 @@ ghost use Rattle.std.specs.Prelude.{◌≡◌, ◌++◌, ◌∷◌, decimal, IfO
 ghost use Rattle.std.specs.Io.KnownBytes.{Appends};
 ghost use Rattle.std.specs.String.{string_bytes};
 ghost use Rattle.pay_wire.specs.Words.{AppendsFront};
-ghost use Rattle.farebox.specs.Check.{CheckEnds, CheckFails, IsCounted, counts_line};
-ghost use Rattle.farebox.specs.Run.{IsRefused};
+ghost use Rattle.pay_jobs.specs.Check.{CheckEnds, CheckFails, IsCounted, counts_line};
+ghost use Rattle.pay_jobs.specs.Run.{IsRefused};
 
 use crate::fault::Fault;
 use pay_tables::{Counts, Tables};

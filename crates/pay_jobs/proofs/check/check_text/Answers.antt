@@ -1,7 +1,7 @@
 use Rattle.std.proofs.Common.{◌∙◌, sym, subst}
-use Rattle.farebox.specs.Check.{IsCounted}
-use Rattle.farebox.proofs.Counting.{check_ends, check_fails}
-use Rattle.farebox.proofs.check.check_text.Goals as goal
+use Rattle.pay_jobs.specs.Check.{IsCounted}
+use Rattle.pay_jobs.proofs.Counting.{check_ends, check_fails}
+use Rattle.pay_jobs.proofs.check.check_text.Goals as goal
 
 pub returns-clause-ends : goal.returns-clause-ends
 returns-clause-ends g c =

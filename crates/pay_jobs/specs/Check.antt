@@ -6,9 +6,9 @@ use Rattle.std.specs.Io.KnownBytes.{Appends}
 use Rattle.pay_tables.specs.Words.{fare_text, FareTables, counts}
 use Rattle.pay_tables.specs.declared.counts.Counts.{Counts}
 use Rattle.pay_wire.specs.Words.{AppendsFront}
-use Rattle.farebox.specs.Run.{IsRefused}
-use Rattle.farebox.specs.declared.fault.Fault.{Fault}
-use Rattle.farebox.specs.declared.fault.Fault.TheVariants.{Usage, CannotReadFares, BadZone, Input, Output, Refused}
+use Rattle.pay_jobs.specs.Run.{IsRefused}
+use Rattle.pay_jobs.specs.declared.fault.Fault.{Fault}
+use Rattle.pay_jobs.specs.declared.fault.Fault.TheVariants.{Usage, CannotReadFares, BadZone, Input, Output, Refused}
 
 -- how many of each thing a fare file has
 abbrev pub counts_words : Counts → List (List ℕ)

@@ -2,9 +2,9 @@
 use Rattle.std.proofs.Common.{◌≡◌, ◌∙◌, ◌++◌, ℕ, List, [], Option, Result, Ok, Err, OnOk, OnErr, IfErr, ap, append_assoc}
 use Rattle.std.specs.Io.KnownBytes.{Appends}
 use Rattle.pay_wire.specs.Words.{AppendsFront}
-use Rattle.farebox.specs.Check.{CheckEnds, CheckFails, IsCounted}
-use Rattle.farebox.specs.declared.fault.Fault.{Fault}
-use Rattle.farebox.specs.declared.fault.Fault.TheVariants.{Output}
+use Rattle.pay_jobs.specs.Check.{CheckEnds, CheckFails, IsCounted}
+use Rattle.pay_jobs.specs.declared.fault.Fault.{Fault}
+use Rattle.pay_jobs.specs.declared.fault.Fault.TheVariants.{Output}
 
 -- what stands before a piece, and all that stands behind it
 behind : (before piece rest all : List ℕ) → all ≡ before ++ piece → all ++ rest ≡ before ++ (piece ++ rest)

@@ -1,6 +1,6 @@
 //! Why the program fails, and the status that it ends with.
 ghost use Rattle.std.specs.Prelude.{◌≡◌};
-ghost use Rattle.farebox.specs.Faults.{IsRefusal, IsWantOfMemory, status_of, stream_fault};
+ghost use Rattle.pay_jobs.specs.Faults.{IsRefusal, IsWantOfMemory, status_of, stream_fault};
 ghost use Rattle.pay_tables.specs.Words.{fault_number, fault_name};
 
 use pay_session::SessionFault;

@@ -5,7 +5,7 @@ ghost use Rattle.jiff.specs.Placed.{IsPosixZone};
 ghost use Rattle.jiff.specs.Words.{read_whole};
 ghost use Rattle.jiff.specs.ZoneView.{plain_zone};
 ghost use Rattle.pay_tables.specs.Words.{fare_text};
-ghost use Rattle.farebox.specs.Run.{IsRefused, RunEnds, RunFails};
+ghost use Rattle.pay_jobs.specs.Run.{IsRefused, RunEnds, RunFails};
 
 use crate::fault::Fault;
 use jiff::tz::TimeZone;

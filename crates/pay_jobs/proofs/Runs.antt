@@ -1,7 +1,7 @@
 -- How the job run ends where its session was broken off.
 use Rattle.std.proofs.Common.{ℕ, List, Option}
-use Rattle.farebox.specs.Faults.{stream_fault}
-use Rattle.farebox.specs.Run.{RunFails, SessionFails}
+use Rattle.pay_jobs.specs.Faults.{stream_fault}
+use Rattle.pay_jobs.specs.Run.{RunFails, SessionFails}
 use Rattle.pay_session.specs.declared.session.SessionFault.{SessionFault}
 use Rattle.pay_session.specs.declared.session.SessionFault.TheVariants.{Read, Write}
 

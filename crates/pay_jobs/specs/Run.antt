@@ -6,10 +6,10 @@ use Rattle.jiff.specs.ZoneView.{plain_zone}
 use Rattle.jiff.specs.Words.{read_whole}
 use Rattle.pay_tables.specs.Words.{fare_text, FareTables, fault_number, fault_name}
 use Rattle.pay_tables.specs.declared.fault.FareFileFault.{FareFileFault}
-use Rattle.farebox.specs.Faults.{IsRefusal, IsWantOfMemory}
+use Rattle.pay_jobs.specs.Faults.{IsRefusal, IsWantOfMemory}
 use Rattle.pay_session.specs.Words.{Machine, Ends, FailsSo}
-use Rattle.farebox.specs.declared.fault.Fault.{Fault}
-use Rattle.farebox.specs.declared.fault.Fault.TheVariants.{Usage, CannotReadFares, BadZone, Input, Output, Refused}
+use Rattle.pay_jobs.specs.declared.fault.Fault.{Fault}
+use Rattle.pay_jobs.specs.declared.fault.Fault.TheVariants.{Usage, CannotReadFares, BadZone, Input, Output, Refused}
 use Rattle.pay_session.specs.declared.session.SessionFault.{SessionFault}
 use Rattle.pay_session.specs.declared.session.SessionFault.TheVariants.{Read, Write}
 

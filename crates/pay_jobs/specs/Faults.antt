@@ -1,0 +1,25 @@
+-- How a program ends where it fails: its status, and the refusal that a fault is.
+use Rattle.std.specs.Prelude.{◌≡◌, ℕ, List, codes}
+use Rattle.pay_jobs.specs.declared.fault.Fault.{Fault}
+use Rattle.pay_jobs.specs.declared.fault.Fault.TheVariants.{Usage, Input, Output, Refused}
+use Rattle.pay_session.specs.declared.session.SessionFault.{SessionFault}
+use Rattle.pay_session.specs.declared.session.SessionFault.TheVariants.{Read, Write}
+
+-- refused words end with 2, and every other fault with 1
+abbrev pub status_of : Fault → ℕ
+status_of Usage = 2
+status_of _ = 1
+
+-- the stream that failed
+abbrev pub stream_fault : SessionFault → Fault
+stream_fault (Read _) = Input
+stream_fault (Write _) = Output
+
+-- a refusal that is printed with this number and this name
+abbrev pub IsRefusal : Fault → ℕ → List ℕ → Type 0
+IsRefusal (Refused number name) n text = (number ≡ n) × (name.now ≡ text)
+IsRefusal _ n text = ⊥
+
+-- want of memory
+abbrev pub IsWantOfMemory : Fault → Type 0
+IsWantOfMemory fault = IsRefusal fault 90 (codes "Memory")

@@ -1,0 +1,4 @@
+pub mod Faults
+pub mod Run
+pub mod Check
+pub mod Words
