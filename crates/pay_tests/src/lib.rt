@@ -1,4 +1,4 @@
-//! The tests of the crates below `farebox`, each by public calls alone. They have a crate of their own since one
+//! The tests of the crates below `pay_jobs`, each by public calls alone. They have a crate of their own since one
 //! with tests is proved twice. They show what no clause says: that each public call succeeds with ample memory, that
 //! each generic one is met by a type, and what comes of readers, writers and allocations that fail. What is worked
 //! out in rows is data for `tests/program`, which runs the built program on it.
@@ -22,6 +22,10 @@ mod given;
 mod journeys;
 #[cfg(test)]
 mod sessions;
+#[cfg(test)]
+mod shares;
+#[cfg(test)]
+mod statements;
 #[cfg(test)]
 mod streams;
 #[cfg(test)]

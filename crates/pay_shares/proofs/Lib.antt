@@ -1,0 +1,3 @@
+pub mod Weighing
+pub mod Fares
+pub mod Rows

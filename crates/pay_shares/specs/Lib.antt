@@ -1,0 +1,4 @@
+pub mod Portions
+pub mod OperatorWeights
+pub mod Adding
+pub mod Words

@@ -1,0 +1,3 @@
+pub mod Appended
+pub mod Plain
+pub mod ReadBack

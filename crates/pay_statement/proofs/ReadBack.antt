@@ -1,0 +1,59 @@
+-- What the rows of a statement are read as.
+use Rattle.std.proofs.Common.{◌≡◌, ◌∙◌, ℕ, zero, suc, ◌+◌, ◌≤◌, List, [], ◌∷◌, ◌++◌, length, map, codes, refl, sym, ap, ap₂, length-append, arith}
+use Rattle.std.proofs.lemmas.List.{length-map}
+use Rattle.std.specs.List.{join_with_byte}
+use Rattle.csv.specs.Machine.{next_record}
+use Rattle.csv.specs.Reading.{default_config, records, records_from}
+use Rattle.csv.specs.Writing.{read_back}
+use Rattle.csv.specs.declared.parser.State.TheVariants as st
+use Rattle.csv.proofs.RoundTrip.{read-write, rows_text}
+use Rattle.pay_tables.specs.Words.{FareTables}
+use Rattle.pay_account.specs.declared.shown.Line.{Line}
+use Rattle.pay_statement.specs.Statement.{columns, fields_of_line, row, rows_of_lines, statement_text}
+use Rattle.pay_statement.proofs.Plain.{row_of_columns, row_of_line}
+
+-- rows, read in as many turns as there are rows, or in more
+each_row : (rows : List (List (List ℕ))) (turns : ℕ) → length rows ≤ turns → records_from default_config turns st.StartRecord (rows_text rows) ≡ map read_back rows
+unfolding records_from rows_text next_record
+each_row [] zero within = refl
+each_row [] (suc turns) within = refl
+each_row (fields ∷ rows) zero within = absurd (omega arith)
+each_row (fields ∷ rows) (suc turns) within =
+    let fewer : length rows ≤ turns = omega arith in
+    rw (read-write fields (rows_text rows)) (ap (λ (later : List (List (List ℕ))). read_back fields ∷ later) (each_row rows turns fewer))
+
+-- the rows of journeys, as `csv` writes them
+as_written : (tables : FareTables) (lines : List Line) → rows_text (map (fields_of_line tables) lines) ≡ rows_of_lines tables lines
+unfolding rows_text
+as_written tables [] = refl
+as_written tables (line ∷ lines) = rw (row_of_line tables line) (ap (λ (rows : List ℕ). row (fields_of_line tables line) ++ rows) (as_written tables lines))
+
+statement_written : (tables : FareTables) (lines : List Line) → rows_text (columns ∷ map (fields_of_line tables) lines) ≡ statement_text tables lines
+unfolding rows_text
+statement_written tables lines = ap₂ (λ (first rows : List ℕ). first ++ rows) row_of_columns (as_written tables lines)
+
+-- a row has some bytes
+each_has_some : (tables : FareTables) (lines : List Line) → length lines ≤ length (rows_of_lines tables lines)
+each_has_some tables [] = omega arith
+each_has_some tables (line ∷ lines) =
+    let ended = length-append (join_with_byte 44 (fields_of_line tables line)) (codes "\n") in
+    let parted = length-append (row (fields_of_line tables line)) (rows_of_lines tables lines) in
+    let later = each_has_some tables lines in
+    omega (arith, ended, parted, later)
+
+enough_turns : (tables : FareTables) (lines : List Line) → length (columns ∷ map (fields_of_line tables) lines) ≤ length (statement_text tables lines) + 1
+enough_turns tables lines =
+    let many = length-map lines (fields_of_line tables) in
+    let parted = length-append (row columns) (rows_of_lines tables lines) in
+    let later = each_has_some tables lines in
+    omega (arith, many, parted, later)
+
+same_fields : (tables : FareTables) (lines : List Line) → map read_back (map (fields_of_line tables) lines) ≡ map (fields_of_line tables) lines
+same_fields tables [] = refl
+same_fields tables (line ∷ lines) = ap (λ (later : List (List (List ℕ))). fields_of_line tables line ∷ later) (same_fields tables lines)
+
+pub statement_read : (tables : FareTables) (lines : List Line) → records default_config (statement_text tables lines) ≡ columns ∷ map (fields_of_line tables) lines
+statement_read tables lines =
+    ap (records_from default_config (length (statement_text tables lines) + 1) st.StartRecord) (sym (statement_written tables lines))
+    ∙ each_row (columns ∷ map (fields_of_line tables) lines) (length (statement_text tables lines) + 1) (enough_turns tables lines)
+    ∙ ap (λ (later : List (List (List ℕ))). columns ∷ later) (same_fields tables lines)

@@ -1,0 +1,2 @@
+-- Words for the crate above: the text of a statement.
+pub use Rattle.pay_statement.specs.Statement.{statement_text}
