@@ -8,6 +8,14 @@ use pay_pairs::{Leg, legs};
 use pay_shares::{shares, weights};
 use pay_taps::Kind;
 
+/// The weights of operators 1 and 2 by three journeys between their stations.
+const TWO_CARRIED: [u64; OPERATORS] = [680, 340, 0, 0, 0, 0, 0, 0, 0, 0, 0, 0, 0, 0, 0, 0];
+
+/// And with one more, of operator 3.
+const THREE_CARRIED: [u64; OPERATORS] = [680, 340, 180, 0, 0, 0, 0, 0, 0, 0, 0, 0, 0, 0, 0, 0];
+
+const NONE_CARRIED: [u64; OPERATORS] = [0; OPERATORS];
+
 /// What the first four operators have, where the others have nothing.
 fn first_four(one: u64, two: u64, three: u64, four: u64) -> [u64; OPERATORS] {
     let mut all = [0; OPERATORS];
@@ -31,16 +39,17 @@ fn parts_of_a_total(rt: HostRuntime) {
 
 #[test]
 fn shares_of_what_is_due(rt: HostRuntime) {
-    let two = first_four(680, 340, 0, 0);
-    let three = first_four(680, 340, 180, 0);
-    expect_same(&rt, apportion(890, &two), first_four(593, 297, 0, 0));
     expect_same(
         &rt,
-        shares(Pence::new(1_050), &three),
+        apportion(890, &TWO_CARRIED),
+        first_four(593, 297, 0, 0),
+    );
+    expect_same(
+        &rt,
+        shares(Pence::new(1_050), &THREE_CARRIED),
         first_four(595, 297, 158, 0),
     );
-    let none = first_four(0, 0, 0, 0);
-    expect_same(&rt, apportion(0, &none), none);
+    expect_same(&rt, apportion(0, &NONE_CARRIED), NONE_CARRIED);
 }
 
 #[test]
