@@ -1,5 +1,5 @@
 -- What taps and corrections come to, in whatever order: each set takes its own.
-use Rattle.std.proofs.Common.{◌≡◌, ◌⊎◌, inl, inr, ◌↔◌, Bool, true, false, if◌then◌else◌, ℕ, Option, Some, None, List, [], ◌∷◌, Result, Ok, Err, IsOk, refl, sym, ap, ◌∙◌, subst}
+use Rattle.std.proofs.Common.{◌≡◌, inl, inr, ◌↔◌, Bool, true, false, if◌then◌else◌, ℕ, Option, Some, None, List, [], ◌∷◌, Result, Ok, Err, IsOk, refl, sym, ap, ◌∙◌, subst}
 use Rattle.pay_tables.specs.Words.{FareTables}
 use Rattle.pay_numbered.specs.Words.{ByNumber, set_after, AreTaken, IsIn}
 use Rattle.pay_numbered.specs.Words.{after_all as set_after_all}
@@ -19,9 +19,9 @@ use Rattle.pay_account.specs.declared.fares.TapFault.TheVariants as of_tap
 use Rattle.pay_account.specs.declared.fares.FixFault.TheVariants as of_fix
 use Rattle.pay_account.specs.Accepted.{Accepted, with_fix}
 use Rattle.pay_account.specs.Places.{is_known, is_known_fix}
-use Rattle.pay_account.specs.TapResults.{tap_added, tap_result, after_tap}
-use Rattle.pay_account.specs.FixResults.{prices_on, fix_added, fix_result, after_fix}
-use Rattle.pay_account.specs.Changes.{Change, Tapped, Fixed, after, IsAccepted, after_all, AreAccepted}
+use Rattle.pay_account.specs.TapResults.{tap_added, after_tap}
+use Rattle.pay_account.specs.FixResults.{prices_on, fix_added, after_fix}
+use Rattle.pay_account.specs.Changes.{Change, Tapped, Fixed, after, after_all, AreAccepted}
 
 abbrev taps_of : List Change → List Tap
 taps_of [] = []

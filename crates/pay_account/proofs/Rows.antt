@@ -21,7 +21,7 @@ use Rattle.pay_account.specs.declared.shown.LineKind.TheVariants as kind
 use Rattle.pay_account.specs.Journeys.{journeys_of}
 use Rattle.pay_account.specs.Places.{fits}
 use Rattle.pay_account.specs.Prices.{prices_of_touches}
-use Rattle.pay_account.specs.Lines.{lines_on}
+use Rattle.pay_account.specs.Lines.{lines_on, lines_of_week}
 
 abbrev single : ℕ → ℕ → ℕ → ℕ → Single
 single from to peak off = record { span = record { from = from; to = to }; peak = peak; off = off }
@@ -266,6 +266,26 @@ the_bus_band_above_it : lines_on capped (journeys_of capped (bus 1 1_704_700_800
     ≡ line_by 0 kind.Bus 50 0 1_704_700_800 19_730 175 ∷ line_by 0 kind.Bus 50 0 1_704_708_000 19_730 175 ∷ line_by 0 kind.Bus 50 0 1_704_715_200 19_730 175
     ∷ line_by 0 kind.Bus 50 0 1_704_722_400 19_730 175 ∷ []
 the_bus_band_above_it = refl
+
+-- the lines of a week: the same boardings, each with the band of its day
+abbrev lines_capped : List Touch → ℕ → List Line
+lines_capped touches week = lines_of_week capped (journeys_of capped (in_order touches)) week
+
+three_in_a_week : lines_capped three_boardings 19_730
+    ≡ line kind.Bus 50 0 1_704_700_800 19_730 175 ∷ line kind.Bus 50 0 1_704_708_000 19_730 175 ∷ line kind.Bus 50 0 1_704_715_200 19_730 175 ∷ []
+unfolding three_boardings
+three_in_a_week = refl
+
+four_in_a_week : lines_capped (bus 4 1_704_722_400 ∷ bus 1 1_704_700_800 ∷ bus 2 1_704_708_000 ∷ bus 3 1_704_715_200 ∷ []) 19_730
+    ≡ line_by 0 kind.Bus 50 0 1_704_700_800 19_730 175 ∷ line_by 0 kind.Bus 50 0 1_704_708_000 19_730 175 ∷ line_by 0 kind.Bus 50 0 1_704_715_200 19_730 175
+    ∷ line_by 0 kind.Bus 50 0 1_704_722_400 19_730 175 ∷ []
+four_in_a_week = refl
+
+-- a boarding of the Tuesday has no band beside them, and one of the Sunday before is of another week
+on_two_days : lines_capped (touch 5 1_704_614_400 19_729 50 Bus ∷ touch 6 1_704_787_200 19_731 50 Bus ∷ bus 4 1_704_722_400 ∷ bus 1 1_704_700_800 ∷ bus 2 1_704_708_000 ∷ bus 3 1_704_715_200 ∷ []) 19_730
+    ≡ line_by 0 kind.Bus 50 0 1_704_700_800 19_730 175 ∷ line_by 0 kind.Bus 50 0 1_704_708_000 19_730 175 ∷ line_by 0 kind.Bus 50 0 1_704_715_200 19_730 175
+    ∷ line_by 0 kind.Bus 50 0 1_704_722_400 19_730 175 ∷ line kind.Bus 50 0 1_704_787_200 19_731 175 ∷ []
+on_two_days = refl
 
 -- a maximum fare is outside of the cap, and of no band
 a_lone_tap_too : price_capped (bus 1 1_704_700_800 ∷ bus 2 1_704_708_000 ∷ bus 3 1_704_715_200 ∷ bus 4 1_704_722_400 ∷ enter 5 1_704_726_000 10 ∷ []) 19_730 ≡ priced 19_730 1_385 1_385

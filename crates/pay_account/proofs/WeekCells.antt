@@ -1,7 +1,7 @@
 -- The sums of a day's fares, and those of the days of a week.
-use Rattle.std.proofs.Common.{◌≡◌, ℕ, ◌+◌, ◌-◌, ◌≤◌, ◌<◌, ◌==◌, ◌&&◌, nat_le, nat_lt, zero, suc, Bool, true, false, if◌then◌else◌, List, [], ◌∷◌, ◌++◌, length, get_or, slice_set, replicate, drop, map, filter, refl, ap, sym, ◌∙◌, add-one, append_assoc, arith}
+use Rattle.std.proofs.Common.{◌≡◌, ℕ, ◌+◌, ◌-◌, ◌≤◌, ◌<◌, ◌==◌, ◌&&◌, nat_le, nat_lt, zero, suc, Bool, true, false, if◌then◌else◌, List, [], ◌∷◌, ◌++◌, length, get_or, slice_set, replicate, drop, map, refl, ap, sym, ◌∙◌, add-one, append_assoc, arith}
 use Rattle.std.proofs.Math.Seq.{drop-cons}
-use Rattle.std.specs.List.{fold, range_with_len}
+use Rattle.std.specs.List.{range_with_len}
 use Rattle.std.proofs.lemmas.Bool.Decides.{nat_tests}
 use Rattle.std.proofs.lemmas.List.{append-nil, drop_all}
 use Rattle.std.proofs.lemmas.List.Sums.{fold-append}
@@ -152,15 +152,21 @@ map_same : {X Y : Type 0} (f g : X → Y) → ((x : X) → f x ≡ g x) → (xs 
 map_same f g h [] = refl
 map_same f g h (x ∷ xs) = ap (λ y. y ∷ map f xs) (h x) ∙ ap (λ ys. g x ∷ ys) (map_same f g h xs)
 
--- journeys of two lists, put to seven days without fares
+-- journeys put to seven days without fares
+pub of_days : (tables : FareTables) → AddsBehind tables → cells_of tables [] ≡ no_fares → (day : ℕ) → IsDay day → (list : List Journey)
+    → week_with_journeys tables (monday day) (replicate DAYS_PER_WEEK no_fares) list ≡ map (λ each. cells_of tables (journeys_on list each)) (days_through (sunday day))
+of_days tables behind none day is_day list =
+    all_in_week tables (monday day) (λ _. no_fares) list
+    ∙ map_same (λ each. with_journeys tables each no_fares list) (λ each. cells_of tables (journeys_on list each)) (λ each. of_day tables each behind none list) (range_with_len (monday day) DAYS_PER_WEEK)
+    ∙ sym (ap (map (λ each. cells_of tables (journeys_on list each))) (days_of_week day is_day))
+
+-- and those of two lists, one after the other
 pub of_week : (tables : FareTables) → AddsBehind tables → cells_of tables [] ≡ no_fares → (day : ℕ) → IsDay day → (rail buses : List Journey)
     → week_with_journeys tables (monday day) (week_with_journeys tables (monday day) (replicate DAYS_PER_WEEK no_fares) rail) buses
     ≡ map (λ each. cells_of tables (journeys_on (rail ++ buses) each)) (days_through (sunday day))
 of_week tables behind none day is_day rail buses =
     sym (fold-append (week_with_journey tables (monday day)) (replicate DAYS_PER_WEEK no_fares) rail buses)
-    ∙ all_in_week tables (monday day) (λ _. no_fares) (rail ++ buses)
-    ∙ map_same (λ each. with_journeys tables each no_fares (rail ++ buses)) (λ each. cells_of tables (journeys_on (rail ++ buses) each)) (λ each. of_day tables each behind none (rail ++ buses)) (range_with_len (monday day) DAYS_PER_WEEK)
-    ∙ sym (ap (map (λ each. cells_of tables (journeys_on (rail ++ buses) each))) (days_of_week day is_day))
+    ∙ of_days tables behind none day is_day (rail ++ buses)
 
 -- the sums of each of some days
 pub each_day : (tables : FareTables) (list : List Journey) (days : List ℕ) → map (λ (each : ℕ). cells_of tables (journeys_on list each)) days ≡ map (cells_of tables) (map (journeys_on list) days)

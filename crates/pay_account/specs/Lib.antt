@@ -5,8 +5,12 @@ pub mod Prices
 pub mod WeekCells
 pub mod LinesCode
 pub mod Lines
+pub mod WeekBands
 pub mod Faults
 pub mod TapResults
 pub mod FixResults
 pub mod Changes
+pub mod QuoteParts
+pub mod SetsParts
+pub mod Quotes
 pub mod Words

@@ -1,5 +1,6 @@
 -- The journeys of a day as an account shows them.
-use Rattle.std.specs.Prelude.{ℕ, Bool, false, if◌then◌else◌, List, map, slice_get, Option, Some, None}
+use Rattle.std.specs.Prelude.{ℕ, Bool, false, if◌then◌else◌, List, map, filter, slice_get, Option, Some, None}
+use Rattle.pay_day.specs.Words.{sunday}
 use Rattle.pay_tables.specs.declared.band.Band.{Band}
 use Rattle.pay_tables.specs.Words.{FareTables}
 use Rattle.pay_taps.specs.declared.tap.Kind.TheVariants.{Out}
@@ -15,7 +16,7 @@ use Rattle.pay_account.specs.declared.shown.LineKind.TheVariants as kind
 use Rattle.pay_account.specs.declared.shown.Shown.{Shown}
 use Rattle.pay_account.specs.Accepted.{Accepted, touches}
 use Rattle.pay_account.specs.Journeys.{journeys_of}
-use Rattle.pay_account.specs.Prices.{journeys_on, price_of_day}
+use Rattle.pay_account.specs.Prices.{journeys_on, is_within, price_of_day}
 
 abbrev pub line_kind : Journey → LineKind
 line_kind (Run legs) = kind.Rail
@@ -65,6 +66,18 @@ abbrev pub lines_on : FareTables → List Journey → ℕ → List Line
 lines_on tables list day =
     let its = journeys_on list day in
     map (line_of_journey tables (capped_price tables its).1) (in_order_by first_tap its)
+
+-- a journey as a line, of a day whose journeys are among these: its band is of those that cover it the one that gives the price of that day
+abbrev pub line_among : FareTables → List Journey → Journey → Line
+line_among tables list journey = line_of_journey tables (capped_price tables (journeys_on list (first_tap journey).stamp.day)).1 journey
+
+-- the journeys of a week from its Monday through its Sunday in the order of their first taps, rail and bus together, each with the band of its own day
+abbrev pub lines_of_week : FareTables → List Journey → ℕ → List Line
+lines_of_week tables list week = map (line_among tables list) (in_order_by first_tap (filter (is_within week (sunday week)) list))
+
+-- and of what an account has accepted
+abbrev pub week_lines : FareTables → Accepted → ℕ → List Line
+week_lines tables accepted week = lines_of_week tables (journeys_of tables (touches accepted)) week
 
 -- what an account shows of a service day: its lines, and its price
 abbrev pub shown : FareTables → ℕ → Accepted → ℕ → Shown

@@ -1,10 +1,11 @@
 -- What a day costs, and a week.
-use Rattle.std.specs.Prelude.{◌≡◌, ℕ, ◌+◌, ◌-◌, Bool, List, [], ◌∷◌, map, filter, refl}
+use Rattle.std.specs.Prelude.{◌≡◌, ℕ, ◌+◌, ◌-◌, nat_le, ◌&&◌, Bool, List, [], ◌∷◌, map, filter, refl}
 use Rattle.std.specs.List.{range_with_len}
 use Rattle.pay_day.specs.Words.{monday, sunday}
 use Rattle.pay_tables.specs.Words.{FareTables}
 use Rattle.pay_taps.specs.declared.tap.Touch.{Touch}
 use Rattle.pay_links.specs.declared.journey.Journey.{Journey}
+use Rattle.pay_links.specs.Words.{first_tap}
 use Rattle.pay_caps.specs.Words.{day_price}
 use Rattle.pay_week.specs.Words.{week_price}
 use Rattle.pay_account.specs.declared.fares.Priced.{Priced}
@@ -18,6 +19,14 @@ journeys_on list day = filter (is_on day) list
 -- the days of a day's week from Monday through that day
 abbrev pub days_through : ℕ → List ℕ
 days_through day = range_with_len (monday day) (day + 1 - monday day)
+
+-- whether a journey belongs to one of the days from one through another
+abbrev pub is_within : ℕ → ℕ → Journey → Bool
+is_within from through journey = nat_le from (first_tap journey).stamp.day && nat_le (first_tap journey).stamp.day through
+
+-- the journeys of a day's week from Monday through that day
+abbrev pub journeys_through : List Journey → ℕ → List Journey
+journeys_through list through = filter (is_within (monday through) through) list
 
 -- the price of the journeys of a service day
 abbrev pub price_of_day : FareTables → List Journey → ℕ → ℕ

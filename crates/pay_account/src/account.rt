@@ -1,4 +1,6 @@
-ghost use Rattle.std.specs.Prelude.{◌≡◌, ◌+◌, IfOk};
+ghost use Rattle.std.specs.Prelude.{◌≡◌, ◌+◌, ◌≤◌, IfOk};
+ghost use Rattle.pay_taps.specs.declared.limits.TheConstants.{MOST_TAPS};
+ghost use Rattle.pay_fix.specs.declared.limits.TheConstants.{MOST_FIXES};
 ghost use Rattle.pay_day.specs.Words.{IsDay};
 ghost use Rattle.pay_account.specs.Accepted.{version};
 ghost use Rattle.pay_account.specs.Prices.{prices};
@@ -9,12 +11,19 @@ use crate::journeys::journeys_of;
 use crate::lines::lines_on;
 use crate::places::{is_known, is_known_fix};
 use crate::prices::{price, price_on};
-use crate::shown::Shown;
-use pay_fix::{Fix, FixSet, What, day_named, effective};
+use crate::quote::Quote;
+use crate::quoting::{price_through, weights_through};
+use crate::sets::Sets;
+use crate::shown::{Lines, Shown};
+use crate::week_lines::lines_of_week;
+use pay_day::monday;
+use pay_fix::{Fix, FixSet, What, credits, day_named, effective};
 use pay_money::Pence;
 use pay_numbered::{Addition, Numbered};
+use pay_shares::shares;
 use pay_tables::Tables;
 use pay_taps::{Tap, TapSet};
+use pay_week::due;
 use std::alloc::{AllocError, Global};
 use std::marker::Model;
 
@@ -32,18 +41,22 @@ impl Model for Account {
     ghost use Rattle.std.specs.Prelude.{ℕ};
     ghost use Rattle.std.specs.Coded.{coded×, coded_ℕ};
     ghost use Rattle.pay_account.specs.Accepted.{Accepted, accepted_code};
+    ghost use Rattle.pay_account.specs.SetsParts.{AreOwn};
 
     ghost Value = { ℕ × Accepted };
 
     ghost coded = { coded× coded_ℕ accepted_code };
 
     ghost view = { λ a. (a.number, record { taps = a.taps; fixes = a.fixes }) };
+
+    ghost invariant = { λ a. AreOwn a.number (record { taps = a.taps; fixes = a.fixes }) };
 }
 
 impl Account {
     /// How many taps and corrections are accepted.
     pub fn version(&self) -> usize
-        ensures { result ≡ version self.now.1 }
+        ensures value { result ≡ version self.now.1 }
+        ensures in_range { result ≤ MOST_TAPS + MOST_FIXES }
     {
         self.taps.len() + self.fixes.len()
     }
@@ -142,5 +155,34 @@ impl Fares for Account {
             lines,
             day_price,
         })
+    }
+
+    fn quote(&self, tables: &Tables, through: u32) -> Result<Quote, AllocError> {
+        let touches = effective(self.alloc, &self.taps, &self.fixes)?;
+        let journeys = journeys_of(self.alloc, tables, &touches)?;
+        let week = monday(through);
+        let due = due(
+            price_through(tables, &journeys, through),
+            credits(&self.fixes, week, through),
+        );
+        let weights = weights_through(self.alloc, tables, journeys, through)?;
+        Ok(Quote::new(
+            self.number,
+            week,
+            through,
+            self.version() as u32,
+            due,
+            shares(due, &weights),
+        ))
+    }
+
+    fn lines(&self, tables: &Tables, week: u32) -> Result<Lines, AllocError> {
+        let touches = effective(self.alloc, &self.taps, &self.fixes)?;
+        let journeys = journeys_of(self.alloc, tables, &touches)?;
+        lines_of_week(self.alloc, tables, journeys, week)
+    }
+
+    fn sets(&self) -> Result<Sets, AllocError> {
+        Sets::of(self.alloc, self.number, &self.taps, &self.fixes)
     }
 }

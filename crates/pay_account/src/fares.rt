@@ -1,11 +1,16 @@
-ghost use Rattle.std.specs.Prelude.{◌≡◌, ℕ, IfOk};
+ghost use Rattle.std.specs.Prelude.{◌≡◌, ◌≤◌, ℕ, IfOk};
+ghost use Rattle.pay_day.specs.Words.{IsDay, monday};
 ghost use Rattle.pay_tables.specs.Words.{FareTables};
 ghost use Rattle.pay_account.specs.Accepted.{Accepted, nothing};
 ghost use Rattle.pay_account.specs.TapResults.{IsTapResult, after_tap};
 ghost use Rattle.pay_account.specs.FixResults.{IsFixResult, after_fix};
-ghost use Rattle.pay_account.specs.Lines.{shown};
+ghost use Rattle.pay_account.specs.Lines.{shown, week_lines};
+ghost use Rattle.pay_account.specs.Quotes.{quote};
+ghost use Rattle.pay_account.specs.SetsParts.{sets};
 
-use crate::shown::Shown;
+use crate::quote::Quote;
+use crate::sets::Sets;
+use crate::shown::{Lines, Shown};
 use pay_fix::Fix;
 use pay_money::Pence;
 use pay_numbered::AdditionFault;
@@ -156,4 +161,25 @@ pub trait Fares: Drop {
     fn show(&self, tables: &Tables, day: u32) -> Result<Shown, AllocError>
         requires { IsPricedBy tables.now self.now }
         ensures { IfOk result (λ it. it ≡ shown tables.now (account self.now) (accepted self.now) day) };
+
+    /// What is owed of the week of a service day, counted from 1970-01-01, through that day, and what of it
+    /// each operator gets. An `Err` is want of memory.
+    fn quote(&self, tables: &Tables, through: u32) -> Result<Quote, AllocError>
+        requires numbered { 1 ≤ account self.now }
+        requires is_day { IsDay through }
+        requires priced_by { IsPricedBy tables.now self.now }
+        ensures { IfOk result (λ it. it ≡ quote tables.now (account self.now) (accepted self.now) through) };
+
+    /// The journeys of a week, whose Monday is counted from 1970-01-01, in the order of their first taps. Each
+    /// is shown with the band that gives the price of its own day, where that covers it. An `Err` is want of
+    /// memory.
+    fn lines(&self, tables: &Tables, week: u32) -> Result<Lines, AllocError>
+        requires is_day { IsDay week }
+        requires is_monday { monday week ≡ week }
+        requires priced_by { IsPricedBy tables.now self.now }
+        ensures { IfOk result (λ it. it ≡ week_lines tables.now (accepted self.now) week) };
+
+    /// All that the account has accepted. An `Err` is want of memory.
+    fn sets(&self) -> Result<Sets, AllocError>
+        ensures { IfOk result (λ it. it ≡ sets (account self.now) (accepted self.now)) };
 }

@@ -1,7 +1,8 @@
 //! What the results of taps and corrections mean. Each law is the contract of a function that does nothing: a
 //! caller whose proof needs a law calls its function.
-ghost use Rattle.std.specs.Prelude.{◌≡◌, ◌≢◌, ◌↔◌, ◌≤◌, true, false, List};
+ghost use Rattle.std.specs.Prelude.{◌≡◌, ◌≢◌, ◌↔◌, ◌≤◌, ℕ, true, false, List, length, slice_index, sum};
 ghost use Rattle.std.specs.FinMap as map;
+ghost use Rattle.pay_money.specs.declared.limits.TheConstants.{OPERATORS};
 ghost use Rattle.pay_tables.specs.Words.{FareTables};
 ghost use Rattle.pay_numbered.specs.Words.{IsIn};
 ghost use Rattle.pay_taps.specs.declared.limits.TheConstants.{MOST_TAPS};
@@ -11,7 +12,9 @@ ghost use Rattle.pay_fix.specs.declared.limits.TheConstants.{MOST_FIXES};
 ghost use Rattle.pay_fix.specs.declared.fix.Fix.{Fix};
 ghost use Rattle.pay_fix.specs.Words.{number as fix_number};
 ghost use Rattle.pay_account.specs.declared.fares.Priced.{Priced};
-ghost use Rattle.pay_account.specs.Accepted.{Accepted};
+ghost use Rattle.pay_account.specs.Accepted.{Accepted, touches};
+ghost use Rattle.pay_account.specs.Journeys.{journeys_of};
+ghost use Rattle.pay_account.specs.Quotes.{quote, weights_through};
 ghost use Rattle.pay_account.specs.Places.{is_known, is_known_fix};
 ghost use Rattle.pay_account.specs.TapResults.{tap_result, after_tap};
 ghost use Rattle.pay_account.specs.FixResults.{fix_result, after_fix};
@@ -19,6 +22,7 @@ ghost use Rattle.pay_account.specs.Changes.{Change, AreAccepted, after_all};
 
 use crate::fares::{FixFault, TapFault};
 use pay_fix::Fix;
+use pay_tables::Tables;
 use pay_taps::Tap;
 
 /// When each refusal of a tap comes. Of several that there are, the first here is given.
@@ -79,4 +83,24 @@ pub fn order_forgets_arrival()
 {
     pay_numbered::laws::order_forgets_arrival::<Tap>();
     pay_numbered::laws::order_forgets_arrival::<Fix>();
+}
+
+/// What is owed is shared among the operators to the penny: it is never more than they carried together, the
+/// shares are all of it, and an operator that carried nothing gets nothing.
+pub fn quotes(tables: &Tables)
+    ensures operators { (account : ℕ) (accepted : Accepted) (through : ℕ) → length (quote tables.now account accepted through).shares ≡ OPERATORS }
+    ensures covered { (account : ℕ) (accepted : Accepted) (through : ℕ) →
+        (quote tables.now account accepted through).due ≤ sum (weights_through tables.now (journeys_of tables.now (touches accepted)) through) }
+    ensures together { (account : ℕ) (accepted : Accepted) (through : ℕ) →
+        sum (quote tables.now account accepted through).shares ≡ (quote tables.now account accepted through).due }
+    ensures nothing_for_nothing { (account : ℕ) (accepted : Accepted) (through operator : ℕ) →
+        slice_index (weights_through tables.now (journeys_of tables.now (touches accepted)) through) operator ≡ 0 →
+        slice_index (quote tables.now account accepted through).shares operator ≡ 0 }
+{
+    pay_caps::laws::bounds();
+    pay_week::laws::bounds();
+    pay_shares::laws::nothing_is_lost(tables);
+    pay_money::laws::nothing_is_lost();
+    pay_money::laws::each_in_its_place();
+    pay_money::laws::nothing_for_nothing();
 }

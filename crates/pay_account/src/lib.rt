@@ -8,9 +8,15 @@ pub mod laws;
 mod lines;
 mod places;
 mod prices;
+mod quote;
+mod quoting;
+mod sets;
 mod shown;
 mod week_cells;
+mod week_lines;
 
 pub use account::Account;
 pub use fares::{Fares, FixFault, Priced, TapFault};
+pub use quote::Quote;
+pub use sets::Sets;
 pub use shown::{Line, LineKind, Lines, Shown};

@@ -64,7 +64,7 @@ fn line_band(tables: &Tables, giving: Option<u8>, journey: &Journey) -> Option<u
 }
 
 /// A journey as a line, of a day whose price a band gives, or none.
-fn line_of_journey(tables: &Tables, giving: Option<u8>, journey: &Journey) -> Line
+pub fn line_of_journey(tables: &Tables, giving: Option<u8>, journey: &Journey) -> Line
     ensures { result ≡ line_of_journey tables.now giving journey.now }
 {
     let stamp = journey.first_tap().stamp;
@@ -88,7 +88,7 @@ fn keep_day(list: &mut Vec<Journey>, day: u32)
 }
 
 /// Puts journeys in the order of their first taps.
-fn sort_by_first_tap(list: &mut Vec<Journey>) -> Result<(), AllocError>
+pub fn sort_by_first_tap(list: &mut Vec<Journey>) -> Result<(), AllocError>
     ensures { OnOk result (list.new.items ≡ in_order_by first_tap list.old.items) }
 {
     pay_taps::laws::sorting::<Journey>();

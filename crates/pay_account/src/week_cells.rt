@@ -19,7 +19,7 @@ use pay_tables::Tables;
 use pay_taps::Touch;
 
 /// The sums of the fares of each day of a week, from Monday through Sunday.
-type Week = [Cells; DAYS_PER_WEEK as usize];
+pub type Week = [Cells; DAYS_PER_WEEK as usize];
 
 /// Adds the fare of a journey to the sums of its day, where that is of the week.
 fn add_journey(week: &mut Week, tables: &Tables, journey: &Journey, monday: u32)
@@ -89,6 +89,18 @@ pub fn cells_of_week(tables: &Tables, rail: &[Journey], touches: &[Touch], day: 
     let mut week = [Cells::new(); DAYS_PER_WEEK as usize];
     add_journeys(&mut week, tables, rail, monday);
     add_boardings(&mut week, tables, touches, monday);
+    week
+}
+
+/// The sums of the fares of each day of a day's week, from Monday through Sunday, of all journeys.
+pub fn cells_of_days(tables: &Tables, journeys: &[Journey], day: u32) -> Week
+    requires few { length journeys.now ≤ MOST_TOUCHES }
+    requires is_day { IsDay day }
+    ensures { result ≡ map (λ each. cells_of tables.now (journeys_on journeys.now each)) (days_through (sunday day)) }
+{
+    pay_caps::laws::sums();
+    let mut week = [Cells::new(); DAYS_PER_WEEK as usize];
+    add_journeys(&mut week, tables, journeys, monday(day));
     week
 }
 

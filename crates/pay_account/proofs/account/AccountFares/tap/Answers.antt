@@ -1,14 +1,33 @@
 use Rattle.std.proofs.Common.{◌≡◌, true, false, Ok, ap, sym, ◌∙◌}
 use Rattle.pay_numbered.specs.declared.numbered_set.Addition.{Addition}
 use Rattle.pay_numbered.specs.declared.numbered_set.Addition.TheVariants.{Added, Repeat}
+use Rattle.pay_taps.specs.declared.limits.TheConstants.{MOST_TAPS}
 use Rattle.pay_taps.specs.Words.{Taps, number, judged}
 use Rattle.pay_numbered.specs.Words.{set_after}
 use Rattle.pay_account.specs.Accepted.{Accepted, with_tap}
 use Rattle.pay_account.specs.Places.{is_known}
 use Rattle.pay_account.specs.Prices.{prices}
 use Rattle.pay_account.specs.TapResults.{tap_result}
+use Rattle.pay_account.proofs.Own.{tap_is_own}
 use Rattle.pay_account.proofs.Results.{known}
 use Rattle.pay_account.proofs.account.AccountFares.tap.Goals as goal
+
+-- a tap that is added is of the account, as the others are
+pub invariant_of-self-in-Added : goal.invariant_of-self-in-Added
+invariant_of-self-in-Added c =
+    let tap = c.args.tap in
+    let taps = c.self.inside.taps in
+    let judgement : judged taps tap ≡ Ok Added = c.in_ok-add.ensures.answer ∙ ap Ok c.in-Added.is in
+    tap_is_own c.self.inside.number taps c.add.new.self c.self.inside.fixes tap (c.one_more.ensures.among taps tap) ((c.judgements.ensures.added MOST_TAPS taps tap).0 judgement).0
+    (c.in_ok-add.ensures.after ∙ ap (λ (it : Addition). set_after number (Ok it) taps tap) c.in-Added.is) (c.requires.own ∙ sym (ap (λ a. a.0) c.self.view_is)) c.self.invariant
+
+pub invariant_of-self-in-Ok : goal.invariant_of-self-in-Ok
+invariant_of-self-in-Ok c =
+    let tap = c.args.tap in
+    let taps = c.self.inside.taps in
+    let judgement : judged taps tap ≡ Ok Added = c.in_ok-add.ensures.answer ∙ ap Ok c.in-Added.is in
+    tap_is_own c.self.inside.number taps c.add.new.self c.self.inside.fixes tap (c.one_more.ensures.among taps tap) ((c.judgements.ensures.added MOST_TAPS taps tap).0 judgement).0
+    (c.in_ok-add.ensures.after ∙ ap (λ (it : Addition). set_after number (Ok it) taps tap) c.in-Added.is) (c.requires.own ∙ sym (ap (λ a. a.0) c.self.view_is)) c.self.invariant
 
 pub returns-in_ok-price-in-Repeat-clause-answer : goal.returns-in_ok-price-in-Repeat-clause-answer
 returns-in_ok-price-in-Repeat-clause-answer c =

@@ -1,0 +1,21 @@
+use Rattle.std.proofs.Common.{sym, ◌∙◌, arith}
+use Rattle.std.proofs.lemmas.List.{length-set}
+use Rattle.pay_caps.specs.Words.{no_fares, capped_price_of}
+use Rattle.pay_account.proofs.WeekLines.{of_each, one_band_more}
+use Rattle.pay_account.proofs.week_lines.bands_of.Goals as goal
+
+pub loop-place-preserved : goal.loop-place-preserved
+loop-place-preserved c =
+    let all = c.loop-place.invariant.all in
+    record {
+      all = (all.0, length-set c.loop-place.bands c.loop-place.place _ ∙ all.1);
+      value =
+          one_band_more (λ sums. (capped_price_of c.args.tables.now sums).1) c.args.week.now c.loop-place.bands c.loop-place.place c.band_of.result no_fares c.index-week-place.result
+          (all.1 ∙ sym all.0) (omega (arith, all.0, c.loop-place-test.true)) c.band_of.ensures c.loop-place.invariant.value;
+    }
+
+pub returns : goal.returns
+returns c =
+    let all = c.loop-place.invariant.all in
+    of_each (λ sums. (capped_price_of c.args.tables.now sums).1) c.args.week.now c.loop-place.bands no_fares (all.1 ∙ sym all.0)
+    (λ k below. c.loop-place.invariant.value k (omega (arith, below, all.0, c.loop-place-test.false)))

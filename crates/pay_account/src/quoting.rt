@@ -1,0 +1,88 @@
+ghost use Rattle.std.specs.Prelude.{◌≡◌, ◌≤◌, length, map, filter, sum, sum_by, IfOk};
+ghost use Rattle.pay_day.specs.Words.{IsDay};
+ghost use Rattle.pay_fix.specs.declared.limits.TheConstants.{MOST_TOUCHES};
+ghost use Rattle.pay_fares.specs.Words.{fare};
+ghost use Rattle.pay_money.specs.declared.limits.TheConstants.{MOST_MONEY};
+ghost use Rattle.pay_account.specs.Prices.{is_within, journeys_through, price_of_week};
+ghost use Rattle.pay_account.specs.Quotes.{with_fare, weights_through};
+
+use crate::journeys::day_of;
+use crate::week_cells::cells_of_days;
+use pay_day::{day_of_week, monday};
+use pay_fares::fare;
+use pay_links::Journey;
+use pay_money::Pence;
+use pay_money::limits::OPERATORS;
+use pay_shares::weights;
+use pay_tables::Tables;
+use pay_week::week_price;
+use std::alloc::{AllocError, Global};
+
+/// Whether a journey belongs to one of the days from one through another.
+fn is_within(journey: &Journey, from: u32, through: u32) -> bool
+    ensures { result ≡ is_within from through journey.now }
+{
+    let day = day_of(journey);
+    from <= day && day <= through
+}
+
+/// Leaves the journeys of the days from one through another.
+pub fn keep_days(list: &mut Vec<Journey>, from: u32, through: u32)
+    ensures { list.new.items ≡ filter (is_within from through) list.old.items }
+{
+    list.retain(|journey| is_within(journey, from, through));
+}
+
+/// A journey beside its fare.
+fn with_fare(tables: &Tables, journey: Journey) -> (Journey, Pence)
+    ensures { result ≡ with_fare tables.now journey }
+{
+    let fare = fare(tables, &journey);
+    (journey, fare)
+}
+
+/// Each of some journeys beside its fare.
+fn with_fares(
+    alloc: Global,
+    tables: &Tables,
+    journeys: Vec<Journey>,
+) -> Result<Vec<(Journey, Pence)>, AllocError>
+    ensures { IfOk result (λ list. list.items ≡ map (with_fare tables.now) journeys.items) }
+{
+    journeys
+        .into_iter()
+        .map(|journey| with_fare(tables, journey))
+        .collect(alloc)
+}
+
+/// The price of a day's week through that day, of all journeys.
+pub fn price_through(tables: &Tables, journeys: &[Journey], through: u32) -> Pence
+    requires few { length journeys.now ≤ MOST_TOUCHES }
+    requires is_day { IsDay through }
+    ensures value { result ≡ price_of_week tables.now journeys.now through }
+    ensures no_more { result ≤ sum_by (fare tables.now) (journeys_through journeys.now through) }
+{
+    pay_caps::laws::day_prices(tables);
+    pay_week::laws::week_prices(tables);
+    let week = cells_of_days(tables, journeys, through);
+    week_price(tables, &week[..day_of_week(through) as usize + 1])
+}
+
+/// What each operator carried of all journeys in a day's week from Monday through that day.
+pub fn weights_through(
+    alloc: Global,
+    tables: &Tables,
+    mut journeys: Vec<Journey>,
+    through: u32,
+) -> Result<[u64; OPERATORS], AllocError>
+    requires few { length journeys.items ≤ MOST_TOUCHES }
+    requires is_day { IsDay through }
+    ensures value { IfOk result (λ list. list ≡ weights_through tables.now journeys.items through) }
+    ensures together { IfOk result (λ list. sum list ≡ sum_by (fare tables.now) (journeys_through journeys.items through)) }
+    ensures in_range { IfOk result (λ list. sum list ≤ MOST_MONEY) }
+{
+    pay_fares::laws::fares_within(tables);
+    keep_days(&mut journeys, monday(through), through);
+    let list = with_fares(alloc, tables, journeys)?;
+    Ok(weights(tables, &list))
+}
