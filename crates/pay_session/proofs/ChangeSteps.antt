@@ -20,7 +20,7 @@ use Rattle.pay_session.specs.Accounts.{accepted_of}
 use Rattle.pay_session.specs.Machine.{Machine, Step, refuse, step_tap_answer, step_tap, step_fix_answer, step_fix, step_spelled_what, tap_of_spelled, what_of_spelled, step}
 use Rattle.pay_day.specs.Words.{is_instant, stamp_of}
 use Rattle.pay_session.specs.Outcomes.{is_priced}
-use Rattle.pay_session.proofs.InputLines.{refused_alike, price_refused, show_refused, bye_alike}
+use Rattle.pay_session.proofs.InputLines.{refused_alike, price_refused, show_refused, due_refused, bye_alike}
 use Rattle.pay_session.proofs.AskedChanges.{change_of, fix_in_range}
 
 -- the step of a tap or a correction, where memory suffices
@@ -45,6 +45,7 @@ step_of : (m : Machine) (r : Request) → IsStep m (change_of m.zone r) (step fa
 unfolding step
 step_of m (request.Command (command.Tap line)) = step_of_tap (is_instant line.utc) m (tap_of_spelled line (stamp_of m.zone line.utc))
 step_of m (request.Command (command.Fix line)) = step_of_fix m line (what_of_spelled m.zone line.what)
+step_of m (request.Command (command.Due account day)) = (refl, refl)
 step_of m (request.Command (command.Show account day)) = (refl, refl)
 step_of m (request.Command command.NotYet) = (refl, refl)
 step_of m (request.Command command.Quit) = (refl, refl)
@@ -87,5 +88,6 @@ never_priced m r = by_reply (step false m r).reply refl
     by_reply : (reply : Reply) → (step false m r).reply ≡ reply → is_priced (step true m r).reply ≡ false
     by_reply (replies.Priced priced) e = ap (λ (s : Step). is_priced s.reply) (price_refused m r priced e)
     by_reply (replies.Shown shown) e = ap (λ (s : Step). is_priced s.reply) (show_refused m r shown e)
+    by_reply (replies.Due quote) e = ap (λ (s : Step). is_priced s.reply) (due_refused m r quote e)
     by_reply (replies.No why) e = ap (λ (s : Step). is_priced s.reply) (refused_alike m r why e) ∙ ap is_priced e
     by_reply replies.Bye e = ap (λ (s : Step). is_priced s.reply) (bye_alike m r e) ∙ ap is_priced e

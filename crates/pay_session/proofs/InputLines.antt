@@ -6,7 +6,7 @@ use Rattle.pay_wire.specs.declared.limits.TheConstants.{MOST_LINE_BYTES}
 use Rattle.pay_wire.specs.Words.{command_of, Spells, refusal_of, refusal_of_fix}
 use Rattle.pay_session.specs.Requests.{InputLine, asked, input_lines, rest_of, has_newline, request_of, request_of_rest, is_quit, through_quit, line_requests, requests_of, quits, unread}
 use Rattle.pay_wire.specs.declared.command.Command.{Command}
-use Rattle.pay_wire.specs.declared.command.Command.TheVariants.{Tap, Fix, Show, NotYet, Quit}
+use Rattle.pay_wire.specs.declared.command.Command.TheVariants.{Tap, Fix, Due, Show, NotYet, Quit}
 use Rattle.pay_session.specs.declared.request.Request.{Request}
 use Rattle.pay_session.specs.declared.request.Request.TheVariants as requests
 use Rattle.pay_wire.specs.declared.command.SpelledTap.{SpelledTap}
@@ -22,6 +22,7 @@ use Rattle.pay_day.specs.Words.{is_instant}
 use Rattle.pay_account.specs.Words.{tap_result, fix_result}
 use Rattle.pay_account.specs.declared.fares.Priced.{Priced}
 use Rattle.pay_account.specs.declared.shown.Shown.{Shown}
+use Rattle.pay_account.specs.Words.{QuoteParts}
 use Rattle.pay_account.specs.declared.fares.TapFault.{TapFault}
 use Rattle.pay_account.specs.declared.fares.FixFault.{FixFault}
 use Rattle.pay_day.specs.Words.{stamp_of}
@@ -107,6 +108,7 @@ quit_line spelled z e = at (nat_lt MOST_LINE_BYTES (length z)) (command_of z) re
     at false None is f = cc
     at false (Some (Tap t)) is f = cc
     at false (Some (Fix t)) is f = cc
+    at false (Some (Due account day)) is f = cc
     at false (Some (Show account day)) is f = cc
     at false (Some NotYet) is f = cc
     at false (Some Quit) is f = spelled z Quit is
@@ -236,13 +238,14 @@ abbrev OnlyPricesDiffer : Machine → Step → Step → Type 0
 OnlyPricesDiffer m refused free = (refused.after ≡ m) × ((why : Refusal) → free.reply ≡ replies.No why → refused ≡ free)
     × ((priced : Priced) → free.reply ≡ replies.Priced priced → refused ≡ refuse m refusal.Memory) × (free.reply ≡ replies.Bye → refused ≡ free)
     × ((shown : Shown) → free.reply ≡ replies.Shown shown → refused ≡ refuse m refusal.Memory)
+    × ((quote : QuoteParts) → free.reply ≡ replies.Due quote → refused ≡ refuse m refusal.Memory)
 
 refusal_alike : (m : Machine) (why : Refusal) → OnlyPricesDiffer m (refuse m why) (refuse m why)
-refusal_alike m why = (refl, (λ w e. refl), (λ p e. absurd cc), (λ e. refl), (λ s e. absurd cc))
+refusal_alike m why = (refl, (λ w e. refl), (λ p e. absurd cc), (λ e. refl), (λ s e. absurd cc), (λ q e. absurd cc))
 
 tap_alike : (m : Machine) (tap : TapMade) (r : Result Priced TapFault) → OnlyPricesDiffer m (step_tap_answer true m tap r) (step_tap_answer false m tap r)
 tap_alike m tap (Err why) = refusal_alike m (refusal_of why)
-tap_alike m tap (Ok priced) = (refl, (λ w e. absurd cc), (λ p e. refl), (λ e. absurd cc), (λ s e. absurd cc))
+tap_alike m tap (Ok priced) = (refl, (λ w e. absurd cc), (λ p e. refl), (λ e. absurd cc), (λ s e. absurd cc), (λ q e. absurd cc))
 
 in_time_alike : (b : Bool) (m : Machine) (tap : TapMade) → OnlyPricesDiffer m (if b then step_tap true m tap else refuse m refusal.OutOfTime) (if b then step_tap false m tap else refuse m refusal.OutOfTime)
 in_time_alike true m tap = tap_alike m tap (tap_result m.tables (accepted_of m.accounts tap.account) tap)
@@ -253,7 +256,7 @@ line_alike m line = in_time_alike (is_instant line.utc) m (tap_of_spelled line (
 
 fix_alike : (m : Machine) (fix : FixMade) (r : Result Priced FixFault) → OnlyPricesDiffer m (step_fix_answer true m fix r) (step_fix_answer false m fix r)
 fix_alike m fix (Err why) = refusal_alike m (refusal_of_fix why)
-fix_alike m fix (Ok priced) = (refl, (λ w e. absurd cc), (λ p e. refl), (λ e. absurd cc), (λ s e. absurd cc))
+fix_alike m fix (Ok priced) = (refl, (λ w e. absurd cc), (λ p e. refl), (λ e. absurd cc), (λ s e. absurd cc), (λ q e. absurd cc))
 
 what_alike : (m : Machine) (line : SpelledFix) (what : Result What Refusal) → OnlyPricesDiffer m (step_spelled_what true m line what) (step_spelled_what false m line what)
 what_alike m line (Err why) = refusal_alike m why
@@ -266,9 +269,10 @@ step_alike : (m : Machine) (r : Request) → OnlyPricesDiffer m (step true m r) 
 unfolding step
 step_alike m (requests.Command (Tap line)) = line_alike m line
 step_alike m (requests.Command (Fix line)) = fix_line_alike m line
-step_alike m (requests.Command (Show account day)) = (refl, (λ w e. absurd cc), (λ p e. absurd cc), (λ e. absurd cc), (λ s e. refl))
+step_alike m (requests.Command (Due account day)) = (refl, (λ w e. absurd cc), (λ p e. absurd cc), (λ e. absurd cc), (λ s e. absurd cc), (λ q e. refl))
+step_alike m (requests.Command (Show account day)) = (refl, (λ w e. absurd cc), (λ p e. absurd cc), (λ e. absurd cc), (λ s e. refl), (λ q e. absurd cc))
 step_alike m (requests.Command NotYet) = refusal_alike m refusal.NotYet
-step_alike m (requests.Command Quit) = (refl, (λ w e. absurd cc), (λ p e. absurd cc), (λ e. refl), (λ s e. absurd cc))
+step_alike m (requests.Command Quit) = (refl, (λ w e. absurd cc), (λ p e. absurd cc), (λ e. refl), (λ s e. absurd cc), (λ q e. absurd cc))
 step_alike m requests.BadLine = refusal_alike m refusal.BadLine
 step_alike m requests.LongLine = refusal_alike m refusal.LongLine
 
@@ -286,3 +290,6 @@ bye_alike m r e = (step_alike m r).3 e
 
 pub show_refused : (m : Machine) (r : Request) (shown : Shown) → (step false m r).reply ≡ replies.Shown shown → step true m r ≡ refuse m refusal.Memory
 show_refused m r shown e = (step_alike m r).4 shown e
+
+pub due_refused : (m : Machine) (r : Request) (quote : QuoteParts) → (step false m r).reply ≡ replies.Due quote → step true m r ≡ refuse m refusal.Memory
+due_refused m r quote e = (step_alike m r).5 quote e

@@ -9,7 +9,10 @@ pub mod ChangeSteps
 pub mod Fills
 pub mod InputLines
 pub mod InputPieces
+pub mod Asked
 pub mod Newlines
 pub mod SessionSteps
+pub mod TablesStay
 pub mod UnendedLine
+pub mod WeekTold
 pub mod WholeSession

@@ -14,6 +14,28 @@ use Rattle.pay_wire.specs.declared.reply.Reply.{Reply}
 use Rattle.pay_session.specs.declared.request.Request.{Request}
 use Rattle.pay_session.proofs.InputPieces.{false_or, kept_alike, line_requests_line, unread_line, rest_of_line, has_newline_both, has_newline_kept}
 
+-- ---- marks
+
+abbrev any_of : List Bool → Bool
+any_of = list_any (λ mark. mark)
+
+or_false : (b : Bool) → (b || false) ≡ b
+or_false true = refl
+or_false false = refl
+
+or_assoc : (a b c : Bool) → ((a || b) || c) ≡ (a || (b || c))
+or_assoc true b c = refl
+or_assoc false b c = refl
+
+-- where none is marked, marks change nothing
+pub no_marks : (marks : List Bool) (m : Machine) (rs : List Request) → any_of marks ≡ false → outcome marks m rs ≡ outcome [] m rs
+no_marks [] m rs h = refl
+no_marks (mark ∷ marks) m [] h = refl
+no_marks (mark ∷ marks) m (r ∷ rs) h =
+    let both = false_or mark (any_of marks) h in
+    ap (λ b. reply_then (step b m r).reply (outcome marks (step b m r).after rs)) both.0
+    ∙ ap (reply_then (step false m r).reply) (no_marks marks (step false m r).after rs both.1)
+
 -- ---- outcomes
 
 outcome_append : (marks later : List Bool) (done rs : List Request) (m : Machine) → length marks ≡ length done
@@ -54,6 +76,16 @@ both_written a b c t u f g = subst (Appends a c) (sym (flat_map-append spelling_
 pub one_written : (a b : Option (List ℕ)) (r : Reply) → Appends a b (spelling_of_reply r) → Appends a b (text_of (r ∷ []))
 one_written a b r h = subst (Appends a b) (sym (append-nil (spelling_of_reply r))) h
 
+-- whether memory was lacked
+pub both_lacked : (k m n : Bool) (f g : List Bool) → m ≡ (k || any_of f) → n ≡ (m || any_of g) → n ≡ (k || any_of (f ++ g))
+both_lacked k m n f g e h = h ∙ ap (λ b. b || any_of g) e ∙ or_assoc k (any_of f) (any_of g) ∙ sym (ap (λ b. k || b) (list_any-append (λ mark. mark) f g))
+
+pub one_lacked : (k n mark : Bool) → n ≡ (k || mark) → n ≡ (k || any_of (mark ∷ []))
+one_lacked k n mark e = e ∙ ap (λ b. k || b) (sym (or_false mark))
+
+pub none_lacked : (k : Bool) → k ≡ (k || any_of [])
+none_lacked k = sym (or_false k)
+
 pub both_counted : (k m n : ℕ) (t u : List Reply) → m ≡ k + length t → n ≡ m + length u → n ≡ k + length (t ++ u)
 both_counted k m n t u e f = omega (arith, e, f, length-append t u)
 
@@ -72,6 +104,7 @@ Advances_none p = record {
   gives = refl;
   written = Appends-nil p.written;
   counted = omega arith;
+  lacked = none_lacked p.lacked;
 }
 
 pub Advances_then : (p q r : Position) → Advances p q → Advances q r → Advances p r
@@ -87,6 +120,7 @@ Advances_then p q r f g = record {
   gives = outcome_after f.marks g.marks f.done g.done p.machine q.machine f.replies f.marked f.gives ∙ ap (λ (o : Outcome). record { replies = f.replies ++ o.replies; after = o.after }) g.gives;
   written = both_written p.written q.written r.written f.replies g.replies f.written g.written;
   counted = both_counted p.answered q.answered r.answered f.replies g.replies f.counted g.counted;
+  lacked = both_lacked p.lacked q.lacked r.lacked f.marks g.marks f.lacked g.lacked;
 }
 
 pub Quits_then : (p q r : Position) → Advances p q → Quits q r → Quits p r
@@ -100,6 +134,7 @@ Quits_then p q r f g = record {
   gives = outcome_after f.marks g.marks f.done g.done p.machine q.machine f.replies f.marked f.gives ∙ ap (λ (o : Outcome). record { replies = f.replies ++ o.replies; after = o.after }) g.gives;
   written = both_written p.written q.written r.written f.replies g.replies f.written g.written;
   counted = both_counted p.answered q.answered r.answered f.replies g.replies f.counted g.counted;
+  lacked = both_lacked p.lacked q.lacked r.lacked f.marks g.marks f.lacked g.lacked;
 }
 
 pub Breaks_then : (p q r : Position) → Advances p q → Breaks q r → Breaks p r
@@ -132,6 +167,7 @@ Advances_more p q more f = record {
   gives = f.gives;
   written = f.written;
   counted = f.counted;
+  lacked = f.lacked;
 }
 
 -- a part of a line is kept
@@ -150,6 +186,7 @@ Advances_kept p text h i =
       gives = refl;
       written = Appends-nil p.written;
       counted = omega arith;
+      lacked = none_lacked p.lacked;
     }
 
 -- ---- a line
@@ -174,6 +211,7 @@ record Answered (p q : Position) (request : Request) : Type 0 where
   pub step : step mark p.machine request ≡ record { reply = reply; after = q.machine }
   pub written : Appends p.written q.written (spelling_of_reply reply)
   pub counted : q.answered ≡ p.answered + 1
+  pub lacked : q.lacked ≡ (p.lacked || mark)
 
 Advances_line : (p q : Position) (text rest : List ℕ) → has_newline (p.ahead ++ text) ≡ false → is_quit (request_of (p.ahead ++ text)) ≡ false → Answered p q (request_of (p.ahead ++ text))
     → Advances (facing p (text ++ 10 ∷ rest)) (with_ahead q rest)
@@ -189,6 +227,7 @@ Advances_line p q text rest h going f = record {
   gives = ap (λ (s : Step). reply_then s.reply (outcome [] s.after [])) f.step;
   written = one_written p.written q.written f.reply f.written;
   counted = f.counted;
+  lacked = one_lacked p.lacked q.lacked f.mark f.lacked;
 }
 
 Quits_line : (p q : Position) (text rest : List ℕ) → has_newline (p.ahead ++ text) ≡ false → is_quit (request_of (p.ahead ++ text)) ≡ true → Answered p q (request_of (p.ahead ++ text))
@@ -205,6 +244,7 @@ Quits_line p q text rest h quit f =
       gives = ap (λ (s : Step). reply_then s.reply (outcome [] s.after [])) f.step;
       written = one_written p.written q.written f.reply f.written;
       counted = f.counted;
+      lacked = one_lacked p.lacked q.lacked f.mark f.lacked;
     }
 
 -- a line of which the machine's line buffer was emptied, and its answer
@@ -217,6 +257,7 @@ EndsLine_answered p q text line r quit h asked is f =
       step = subst (λ (r : Request). step f.mark p.machine r ≡ record { reply = f.reply; after = q.machine }) asked f.step;
       written = f.written;
       counted = f.counted;
+      lacked = f.lacked;
     } in
     let quits : is_quit (request_of (p.ahead ++ text)) ≡ quit = sym (is ∙ ap is_quit asked) in
     record {

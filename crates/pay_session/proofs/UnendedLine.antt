@@ -4,28 +4,30 @@ use Rattle.std.specs.Prelude.{Result, OnOk, OnErr}
 use Rattle.std.proofs.KnownBytes.{Appends-nil}
 use Rattle.std.proofs.lemmas.Result.{on_ok_weaker, on_err_weaker}
 use Rattle.pay_session.specs.Requests.{request_of_rest}
-use Rattle.pay_session.specs.Outcomes.{outcome}
+use Rattle.pay_session.specs.Outcomes.{outcome, reply_then}
 use Rattle.pay_session.specs.SessionSteps.{Position, Replies, Falters, EndsRest, FaltersAtRest}
 use Rattle.pay_session.specs.Machine.{Step}
 use Rattle.pay_session.specs.declared.request.Request.{Request}
-use Rattle.pay_session.proofs.SessionSteps.{one_written}
+use Rattle.pay_session.proofs.SessionSteps.{one_written, one_lacked, none_lacked}
 
 pub EndsRest_none : (p : Position) → p.ahead ≡ [] → EndsRest p p
 EndsRest_none p none = record {
   marks = [];
   replies = [];
-  gives = ap (λ l. (outcome [] p.machine (request_of_rest l)).replies) none;
+  gives = ap (λ l. outcome [] p.machine (request_of_rest l)) none;
   written = Appends-nil p.written;
   counted = omega arith;
+  lacked = none_lacked p.lacked;
 }
 
 EndsRest_one : (p q : Position) (r : Request) → request_of_rest p.ahead ≡ r ∷ [] → Replies r p q → EndsRest p q
 EndsRest_one p q r asked f = record {
   marks = f.mark ∷ [];
   replies = f.reply ∷ [];
-  gives = ap (λ rs. (outcome (f.mark ∷ []) p.machine rs).replies) asked ∙ ap (λ (s : Step). s.reply ∷ []) f.step;
+  gives = ap (outcome (f.mark ∷ []) p.machine) asked ∙ ap (λ (s : Step). reply_then s.reply (outcome [] s.after [])) f.step;
   written = one_written p.written q.written f.reply f.written;
   counted = f.counted;
+  lacked = one_lacked p.lacked q.lacked f.mark f.lacked;
 }
 
 pub EndsRest_answered : {T E : Type 0} (result : Result T E) (p q : Position) (r : Request) → request_of_rest p.ahead ≡ r ∷ [] → OnOk result (Replies r p q) → OnOk result (EndsRest p q)

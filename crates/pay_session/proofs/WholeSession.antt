@@ -5,7 +5,7 @@ use Rattle.std.specs.Io.KnownBytes.{Appends}
 use Rattle.pay_wire.specs.declared.limits.TheConstants.{MOST_LINE_BYTES}
 use Rattle.pay_session.specs.Requests.{has_newline, is_quit, line_requests, quits, request_of_rest, requests_of, rest_of, through_quit, unread}
 use Rattle.pay_session.specs.Outcomes.{outcome, Outcome, text_of}
-use Rattle.pay_session.specs.Session.{Ends, StopsReading, StopsWriting, FailsSo}
+use Rattle.pay_session.specs.Session.{EndsAt, StopsReading, StopsWriting, FailsSo}
 use Rattle.pay_session.specs.SessionSteps.{Position, facing, with_ahead, Advances, BringsMore, BringsEnd, BringsQuit, LosesReader, LosesWriter, EndsRest, FaltersAtRest, Brings, Loses}
 use Rattle.pay_session.specs.Stops.{IsWriteFailure, fault_of}
 use Rattle.pay_session.specs.Machine.{Machine, step}
@@ -16,11 +16,11 @@ use Rattle.pay_session.specs.declared.session.Fill.{Fill}
 use Rattle.pay_session.specs.declared.stop.Stop.{Stop}
 use Rattle.pay_session.specs.declared.stop.Stop.TheVariants.{Read, NoMoreFills, Write}
 use Rattle.pay_session.proofs.InputPieces.{line_requests_part, rest_of_part, unread_part}
-use Rattle.pay_session.proofs.SessionSteps.{Advances_none, Advances_then, Advances_more, Quits_then, Breaks_then, both_written, both_counted, outcome_after, replies_before, through_quit_append}
+use Rattle.pay_session.proofs.SessionSteps.{Advances_none, Advances_then, Advances_more, Quits_then, Breaks_then, both_written, both_counted, both_lacked, outcome_after, replies_before, through_quit_append}
 
 -- the position before an input
 abbrev pub beginning : Machine → Option (List ℕ) → List ℕ → Position
-beginning m held input = record { machine = m; ahead = input; written = held; answered = 0 }
+beginning m held input = record { machine = m; ahead = input; written = held; answered = 0; lacked = false }
 
 -- so far: the bytes that were taken from the input, and those that are left
 pub record Underway (m : Machine) (held : Option (List ℕ)) (input : List ℕ) (remaining : Option (List ℕ)) (now : Position) : Type 0 where
@@ -30,22 +30,24 @@ pub record Underway (m : Machine) (held : Option (List ℕ)) (input : List ℕ) 
   pub unread : remaining ≡ Some back
   pub advances : Advances (beginning m held front) now
 
-pub Underway_start : (p : Position) (remaining : Option (List ℕ)) → p.ahead ≡ [] → p.answered ≡ 0 → IfSome remaining (λ input. Underway p.machine p.written input remaining p)
-Underway_start p None none zero = tt
-Underway_start p (Some input) none zero = record {
+pub Underway_start : (p : Position) (remaining : Option (List ℕ)) → p.ahead ≡ [] → p.answered ≡ 0 → p.lacked ≡ false → IfSome remaining (λ input. Underway p.machine p.written input remaining p)
+Underway_start p None none zero ample = tt
+Underway_start p (Some input) none zero ample = record {
   front = [];
   back = input;
   parts = refl;
   unread = refl;
-  advances = from_start p.ahead p.answered none zero;
+  advances = from_start p.ahead p.answered p.lacked none zero ample;
 }
   where
-    now : List ℕ → ℕ → Position
-    now ahead answered = record { machine = p.machine; ahead = ahead; written = p.written; answered = answered }
+    now : List ℕ → ℕ → Bool → Position
+    now ahead answered lacked = record { machine = p.machine; ahead = ahead; written = p.written; answered = answered; lacked = lacked }
 
-    from_start : (ahead : List ℕ) (answered : ℕ) → ahead ≡ [] → answered ≡ 0 → Advances (beginning p.machine p.written []) (now ahead answered)
-    from_start ahead answered e f =
-        subst (λ l. Advances (beginning p.machine p.written []) (now l answered)) (sym e) (subst (λ n. Advances (beginning p.machine p.written []) (now [] n)) (sym f) (Advances_none (beginning p.machine p.written [])))
+    from_start : (ahead : List ℕ) (answered : ℕ) (lacked : Bool) → ahead ≡ [] → answered ≡ 0 → lacked ≡ false → Advances (beginning p.machine p.written []) (now ahead answered lacked)
+    from_start ahead answered lacked e f g =
+        subst (λ l. Advances (beginning p.machine p.written []) (now l answered lacked)) (sym e)
+        (subst (λ n. Advances (beginning p.machine p.written []) (now [] n lacked)) (sym f)
+        (subst (λ b. Advances (beginning p.machine p.written []) (now [] 0 b)) (sym g) (Advances_none (beginning p.machine p.written []))))
 
 -- what is known to be left is left
 same_back : (remaining : Option (List ℕ)) (xs ys : List ℕ) → remaining ≡ Some xs → remaining ≡ Some ys → xs ≡ ys
@@ -85,7 +87,7 @@ Underway_more m held first remaining new p q =
 -- ---- QUIT
 
 quit_ends : (m : Machine) (held remaining new : Option (List ℕ)) (p q : Position) (input left : List ℕ) → remaining ≡ Some left → Underway m held input remaining p → BringsQuit p left new q
-    → Ends m input new held q.written q.answered true
+    → EndsAt m input new held q.written q.answered true q.machine q.lacked
 quit_ends m held remaining new p q input left e u b =
     let taken = u.front ++ b.bytes in
     let parts : input ≡ taken ++ b.more = parts_of input u.front u.back left b.bytes b.more u.parts (same_back remaining left u.back e u.unread) b.parts in
@@ -93,20 +95,24 @@ quit_ends m held remaining new p q input left e u b =
     let asked : requests_of input ≡ all.done = ap (λ l. through_quit (line_requests l ++ request_of_rest (rest_of input))) parts ∙ all.requests b.more (request_of_rest (rest_of input)) in
     let told : all.replies ≡ (outcome all.marks m (requests_of input)).replies = sym (ap (λ rs. (outcome all.marks m rs).replies) asked ∙ ap (λ (o : Outcome). o.replies) all.gives) in
     record {
-      marks = all.marks;
-      written = subst (λ rs. Appends held q.written (text_of rs)) told all.written;
-      counted = all.counted ∙ zero-add _ ∙ ap length told;
-      ended = sym (ap quits' parts ∙ all.quits b.more);
-      unread = b.unread ∙ ap Some (sym (ap unread parts ∙ all.unread b.more));
+      ends = record {
+        marks = all.marks;
+        written = subst (λ rs. Appends held q.written (text_of rs)) told all.written;
+        counted = all.counted ∙ zero-add _ ∙ ap length told;
+        ended = sym (ap quits' parts ∙ all.quits b.more);
+        unread = b.unread ∙ ap Some (sym (ap unread parts ∙ all.unread b.more));
+      };
+      after = ap (λ rs. (outcome all.marks m rs).after) asked ∙ ap (λ (o : Outcome). o.after) all.gives;
+      marked = all.lacked;
     }
   where
     quits' : List ℕ → Bool
     quits' l = list_any is_quit (line_requests l)
 
 pub Ends_quit : (m : Machine) (held first remaining new : Option (List ℕ)) (p q : Position) → IfSome first (λ input. Underway m held input remaining p) → IfSome remaining (λ input. BringsQuit p input new q)
-    → IfSome first (λ input. Ends m input new held q.written q.answered true)
+    → IfSome first (λ input. EndsAt m input new held q.written q.answered true q.machine q.lacked)
 Ends_quit m held first remaining new p q =
-    join first remaining (λ input. Underway m held input remaining p) (λ input. BringsQuit p input new q) (λ input. Ends m input new held q.written q.answered true)
+    join first remaining (λ input. Underway m held input remaining p) (λ input. BringsQuit p input new q) (λ input. EndsAt m input new held q.written q.answered true q.machine q.lacked)
     (λ input u. (u.back, u.unread)) (λ input left e u b. quit_ends m held remaining new p q input left e u b)
 
 -- ---- the end of the input
@@ -129,6 +135,7 @@ pub record AtEnd (m : Machine) (held : Option (List ℕ)) (input : List ℕ) (re
   pub unread : remaining ≡ Some []
   pub written : Appends held now.written (text_of replies)
   pub counted : now.answered ≡ 0 + length replies
+  pub lacked : now.lacked ≡ list_any (λ mark. mark) marks
 
 at_end : (m : Machine) (held new : Option (List ℕ)) (p : Position) (input front : List ℕ) → has_newline p.ahead ≡ false → input ≡ front ++ [] → new ≡ Some [] → Advances (beginning m held front) p → AtEnd m held input new p
 at_end m held new p input front unended parts none f =
@@ -147,6 +154,7 @@ at_end m held new p input front unended parts none f =
       unread = none;
       written = f.written;
       counted = f.counted;
+      lacked = f.lacked;
     }
 
 end_brought : (m : Machine) (held remaining new : Option (List ℕ)) (p q : Position) (input left : List ℕ) → has_newline p.ahead ≡ false → remaining ≡ Some left → Underway m held input remaining p → BringsEnd p left new q
@@ -161,23 +169,28 @@ AtEnd_brought m held first remaining new p q unended =
     join first remaining (λ input. Underway m held input remaining p) (λ input. BringsEnd p input new q) (λ input. AtEnd m held input new q)
     (λ input u. (u.back, u.unread)) (λ input left e u b. end_brought m held remaining new p q input left unended e u b)
 
--- what was asked for behind a whole input but for its rest
-all_replies : (m : Machine) (held new : Option (List ℕ)) (p : Position) (input : List ℕ) (rs : List Request) (later : List Bool) (u : AtEnd m held input new p) → request_of_rest p.ahead ≡ rs
-    → (outcome (u.marks ++ later) m (requests_of input)).replies ≡ u.replies ++ (outcome later p.machine rs).replies
-all_replies m held new p input rs later u asked =
-    ap (λ r. (outcome (u.marks ++ later) m r).replies) (u.requests ∙ ap (λ l. u.done ++ l) asked)
-    ∙ ap (λ (o : Outcome). o.replies) (outcome_after u.marks later u.done rs m p.machine u.replies u.marked u.gives)
+-- what comes of a whole input by what comes of its rest
+whole_outcome : (m : Machine) (held new : Option (List ℕ)) (p : Position) (input : List ℕ) (rs : List Request) (later : List Bool) (u : AtEnd m held input new p) → request_of_rest p.ahead ≡ rs
+    → outcome (u.marks ++ later) m (requests_of input) ≡ record { replies = u.replies ++ (outcome later p.machine rs).replies; after = (outcome later p.machine rs).after }
+whole_outcome m held new p input rs later u asked =
+    ap (outcome (u.marks ++ later) m) (u.requests ∙ ap (λ l. u.done ++ l) asked) ∙ outcome_after u.marks later u.done rs m p.machine u.replies u.marked u.gives
 
-pub Ends_end : (m : Machine) (held first new : Option (List ℕ)) (p q : Position) → IfSome first (λ input. AtEnd m held input new p) → EndsRest p q → IfSome first (λ input. Ends m input new held q.written q.answered false)
+pub Ends_end : (m : Machine) (held first new : Option (List ℕ)) (p q : Position) → IfSome first (λ input. AtEnd m held input new p) → EndsRest p q → IfSome first (λ input. EndsAt m input new held q.written q.answered false q.machine q.lacked)
 Ends_end m held None new p q u f = tt
 Ends_end m held (Some input) new p q u f =
-    let told : u.replies ++ f.replies ≡ (outcome (u.marks ++ f.marks) m (requests_of input)).replies = sym (all_replies m held new p input (request_of_rest p.ahead) f.marks u refl ∙ ap (λ l. u.replies ++ l) f.gives) in
+    let all : outcome (u.marks ++ f.marks) m (requests_of input) ≡ record { replies = u.replies ++ f.replies; after = q.machine } =
+    whole_outcome m held new p input (request_of_rest p.ahead) f.marks u refl ∙ ap (λ (o : Outcome). record { replies = u.replies ++ o.replies; after = o.after }) f.gives in
+    let told : u.replies ++ f.replies ≡ (outcome (u.marks ++ f.marks) m (requests_of input)).replies = sym (ap (λ (o : Outcome). o.replies) all) in
     record {
-      marks = u.marks ++ f.marks;
-      written = subst (λ rs. Appends held q.written (text_of rs)) told (both_written held p.written q.written u.replies f.replies u.written f.written);
-      counted = both_counted 0 p.answered q.answered u.replies f.replies u.counted f.counted ∙ zero-add _ ∙ ap length told;
-      ended = sym u.quits;
-      unread = u.unread ∙ ap Some (sym u.left);
+      ends = record {
+        marks = u.marks ++ f.marks;
+        written = subst (λ rs. Appends held q.written (text_of rs)) told (both_written held p.written q.written u.replies f.replies u.written f.written);
+        counted = both_counted 0 p.answered q.answered u.replies f.replies u.counted f.counted ∙ zero-add _ ∙ ap length told;
+        ended = sym u.quits;
+        unread = u.unread ∙ ap Some (sym u.left);
+      };
+      after = ap (λ (o : Outcome). o.after) all;
+      marked = both_lacked false p.lacked q.lacked u.marks f.marks u.lacked f.lacked;
     }
 
 rest_falters : (m : Machine) (held first new : Option (List ℕ)) (p q : Position) → IfSome first (λ input. AtEnd m held input new p) → FaltersAtRest p q → IfSome first (λ input. StopsWriting m input held q.written q.answered)
@@ -189,7 +202,7 @@ rest_falters m held (Some input) new p q u f =
       told = u.replies;
       next = (step g.mark p.machine f.request).reply;
       others = [];
-      replies = all_replies m held new p input (f.request ∷ []) (g.mark ∷ []) u f.asked;
+      replies = ap (λ (o : Outcome). o.replies) (whole_outcome m held new p input (f.request ∷ []) (g.mark ∷ []) u f.asked);
       whole = p.written;
       written = u.written;
       broken = g.broken;

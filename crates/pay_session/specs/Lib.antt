@@ -6,4 +6,5 @@ pub mod Requests
 pub mod Session
 pub mod SessionSteps
 pub mod Stops
+pub mod Week
 pub mod Words

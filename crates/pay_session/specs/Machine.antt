@@ -8,7 +8,7 @@ use Rattle.pay_taps.specs.declared.tap.Tap.{Tap}
 use Rattle.pay_fix.specs.declared.fix.Fix.{Fix}
 use Rattle.pay_fix.specs.declared.fix.What.{What}
 use Rattle.pay_fix.specs.declared.fix.What.TheVariants as what
-use Rattle.pay_account.specs.Words.{tap_result, fix_result, shown}
+use Rattle.pay_account.specs.Words.{tap_result, fix_result, shown, quote}
 use Rattle.pay_account.specs.declared.fares.Priced.{Priced}
 use Rattle.pay_account.specs.declared.fares.TapFault.{TapFault}
 use Rattle.pay_account.specs.declared.fares.FixFault.{FixFault}
@@ -44,6 +44,11 @@ new_machine zone tables = record { zone = zone; tables = tables; accounts = map.
 pub record Step : Type 0 where
   pub reply : Reply
   pub after : Machine
+
+-- whether a request was refused for want of memory
+abbrev pub lacks_memory : Reply → Bool
+lacks_memory (replies.No refusal.Memory) = true
+lacks_memory _ = false
 
 -- a reply that changes nothing
 abbrev pub refuse : Machine → Refusal → Step
@@ -110,10 +115,16 @@ abbrev pub step_show : Bool → Machine → ℕ → ℕ → Step
 step_show true m account day = refuse m refusal.Memory
 step_show false m account day = record { reply = replies.Shown (shown m.tables account (accepted_of m.accounts account) day); after = m }
 
+-- what an account owes of a week through a day is told, and nothing changes
+abbrev pub step_due : Bool → Machine → ℕ → ℕ → Step
+step_due true m account day = refuse m refusal.Memory
+step_due false m account day = record { reply = replies.Due (quote m.tables account (accepted_of m.accounts account) day); after = m }
+
 abbrev pub step_command : Bool → Machine → Command → Step
 step_command refused_memory m (command.Tap line) = step_spelled_tap refused_memory m line
 step_command refused_memory m (command.Fix line) = step_spelled_fix refused_memory m line
 step_command refused_memory m (command.Show account day) = step_show refused_memory m account day
+step_command refused_memory m (command.Due account day) = step_due refused_memory m account day
 step_command refused_memory m command.NotYet = refuse m refusal.NotYet
 step_command refused_memory m command.Quit = record { reply = replies.Bye; after = m }
 

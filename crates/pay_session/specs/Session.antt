@@ -1,5 +1,6 @@
 -- How a session of lines may end, and what was then written.
-use Rattle.std.specs.Prelude.{◌≡◌, ℕ, Bool, false, List, ◌∷◌, ◌++◌, length, Option, Some}
+use Rattle.std.specs.Prelude.{◌≡◌, ℕ, Bool, false, List, [], ◌∷◌, ◌++◌, length, Option, Some}
+use Rattle.std.specs.List.{list_any}
 use Rattle.std.specs.Io.KnownBytes.{Appends}
 use Rattle.pay_wire.specs.Words.{AppendsFront, spelling_of_reply}
 use Rattle.pay_session.specs.Requests.{line_requests, quits, requests_of, unread}
@@ -16,6 +17,17 @@ pub record Ends (m : Machine) (input : List ℕ) (left held new : Option (List �
   pub written : Appends held new (text_of (outcome marks m (requests_of input)).replies)
   pub counted : answered ≡ length (outcome marks m (requests_of input)).replies
   pub ended : quit ≡ quits input
+  pub unread : left ≡ Some (unread input)
+
+-- The same, with the machine that stands after all that the input asks for, and with whether memory was refused for any of it.
+pub record EndsAt (m : Machine) (input : List ℕ) (left held new : Option (List ℕ)) (answered : ℕ) (quit : Bool) (stands : Machine) (lacked : Bool) : Type 0 where
+  pub ends : Ends m input left held new answered quit
+  pub after : (outcome ends.marks m (requests_of input)).after ≡ stands
+  pub marked : lacked ≡ list_any (λ mark. mark) ends.marks
+
+-- The same, where nobody sees what is written, and memory was refused for nothing.
+pub record IsAfter (m : Machine) (input : List ℕ) (left : Option (List ℕ)) (stands : Machine) : Type 0 where
+  pub after : (outcome [] m (requests_of input)).after ≡ stands
   pub unread : left ≡ Some (unread input)
 
 -- The reader failed, or was tried too often: the replies to the whole lines read so far were written, and nothing else.

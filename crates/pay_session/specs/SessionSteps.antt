@@ -1,6 +1,6 @@
 -- What the steps of a session do, each from one position to another: a line, the bytes of one fill, a fill, the rest. Each
 -- says it for whatever comes behind.
-use Rattle.std.specs.Prelude.{◌≡◌, ℕ, ◌+◌, Bool, true, false, List, [], ◌∷◌, ◌++◌, length, Option, Some}
+use Rattle.std.specs.Prelude.{◌≡◌, ℕ, ◌+◌, Bool, true, false, ◌||◌, List, [], ◌∷◌, ◌++◌, length, Option, Some}
 use Rattle.std.specs.List.{list_any}
 use Rattle.std.specs.Io.KnownBytes.{Appends}
 use Rattle.pay_wire.specs.Words.{AppendsFront, spelling_of_reply}
@@ -22,14 +22,20 @@ pub record Position : Type 0 where
   pub ahead : List ℕ
   pub written : Option (List ℕ)
   pub answered : ℕ
+  -- whether a request was refused for memory
+  pub lacked : Bool
 
 -- where a session stands whose writer holds this
 abbrev pub at : Session → Option (List ℕ) → Position
-at s written = record { machine = machine_of s.desk; ahead = s.line; written = written; answered = s.answered }
+at s written = record { machine = machine_of s.desk; ahead = s.line; written = written; answered = s.answered; lacked = s.lacked_memory }
+
+-- the session lacked memory if it did before, or for a request that is so marked
+abbrev pub IsMarked : Position → Position → List Bool → Type 0
+IsMarked before after marks = after.lacked ≡ (before.lacked || list_any (λ mark. mark) marks)
 
 -- the same with these bytes ahead
 abbrev pub with_ahead : Position → List ℕ → Position
-with_ahead p bytes = record { machine = p.machine; ahead = bytes; written = p.written; answered = p.answered }
+with_ahead p bytes = record { machine = p.machine; ahead = bytes; written = p.written; answered = p.answered; lacked = p.lacked }
 
 -- the same with more bytes ahead
 abbrev pub facing : Position → List ℕ → Position
@@ -48,6 +54,7 @@ pub record Advances (before after : Position) : Type 0 where
   pub gives : outcome marks before.machine done ≡ record { replies = replies; after = after.machine }
   pub written : Appends before.written after.written (text_of replies)
   pub counted : after.answered ≡ before.answered + length replies
+  pub lacked : IsMarked before after marks
 
 -- Some requests were answered, and the last was QUIT: the bytes behind it are ahead.
 pub record Quits (before after : Position) : Type 0 where
@@ -60,6 +67,7 @@ pub record Quits (before after : Position) : Type 0 where
   pub gives : outcome marks before.machine done ≡ record { replies = replies; after = after.machine }
   pub written : Appends before.written after.written (text_of replies)
   pub counted : after.answered ≡ before.answered + length replies
+  pub lacked : IsMarked before after marks
 
 -- Some requests were answered, and the reply to the next one could not be written whole.
 pub record Breaks (before after : Position) : Type 0 where
@@ -84,6 +92,7 @@ pub record Replies (request : Request) (before after : Position) : Type 0 where
   pub step : step mark before.machine request ≡ record { reply = reply; after = after.machine }
   pub written : Appends before.written after.written (spelling_of_reply reply)
   pub counted : after.answered ≡ before.answered + 1
+  pub lacked : after.lacked ≡ (before.lacked || mark)
 
 -- its reply was not written, or in part
 pub record Falters (request : Request) (before after : Position) : Type 0 where
@@ -159,9 +168,10 @@ Loses (Write failure) before input remaining after = LosesWriter before input af
 pub record EndsRest (before after : Position) : Type 0 where
   pub marks : List Bool
   pub replies : List Reply
-  pub gives : (outcome marks before.machine (request_of_rest before.ahead)).replies ≡ replies
+  pub gives : outcome marks before.machine (request_of_rest before.ahead) ≡ record { replies = replies; after = after.machine }
   pub written : Appends before.written after.written (text_of replies)
   pub counted : after.answered ≡ before.answered + length replies
+  pub lacked : IsMarked before after marks
 
 -- it was not answered, or in part
 pub record FaltersAtRest (before after : Position) : Type 0 where

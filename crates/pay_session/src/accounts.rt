@@ -1,9 +1,10 @@
-ghost use Rattle.std.specs.Prelude.{◌≡◌, None, IfOk, OnOk, OnErr};
+ghost use Rattle.std.specs.Prelude.{◌≡◌, ◌≤◌, None, IfOk, OnOk, OnErr};
 ghost use Rattle.std.specs.FinMap as map;
-ghost use Rattle.pay_account.specs.Words.{IsTapResult, IsFixResult, shown};
+ghost use Rattle.pay_day.specs.Words.{IsDay, monday};
+ghost use Rattle.pay_account.specs.Words.{IsTapResult, IsFixResult, shown, week_lines, quote};
 ghost use Rattle.pay_session.specs.Accounts.{accepted_of, after_tap_of, after_fix_of};
 
-use pay_account::{Account, Fares, FixFault, Priced, Shown, TapFault};
+use pay_account::{Account, Fares, FixFault, Lines, Priced, Quote, Shown, TapFault};
 use pay_fix::Fix;
 use pay_tables::Tables;
 use pay_taps::Tap;
@@ -107,6 +108,32 @@ impl Accounts {
         match self.accounts.get(&account) {
             Some(held) => held.show(tables, day),
             None => Account::new(self.alloc, account).show(tables, day),
+        }
+    }
+
+    /// What an account owes of the week of a service day through that day. One that has accepted nothing owes
+    /// nothing.
+    pub fn quote(&self, tables: &Tables, account: u32, through: u32) -> Result<Quote, AllocError>
+        requires numbered { 1 ≤ account }
+        requires is_day { IsDay through }
+        ensures { IfOk result (λ it. it ≡ quote tables.now account (accepted_of self.now account) through) }
+    {
+        match self.accounts.get(&account) {
+            Some(held) => held.quote(tables, through),
+            None => Account::new(self.alloc, account).quote(tables, through),
+        }
+    }
+
+    /// The journeys of a week of an account. The week is named by its Monday. An account that has accepted
+    /// nothing has no journeys.
+    pub fn lines(&self, tables: &Tables, account: u32, week: u32) -> Result<Lines, AllocError>
+        requires is_day { IsDay week }
+        requires is_monday { monday week ≡ week }
+        ensures { IfOk result (λ it. it ≡ week_lines tables.now (accepted_of self.now account) week) }
+    {
+        match self.accounts.get(&account) {
+            Some(held) => held.lines(tables, week),
+            None => Account::new(self.alloc, account).lines(tables, week),
         }
     }
 }

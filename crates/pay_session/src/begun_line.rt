@@ -1,5 +1,5 @@
 ghost use Rattle.std.specs.Prelude.{◌≡◌, ◌≤◌, ◌+◌, [], ◌++◌, List, ℕ, length};
-ghost use Rattle.pay_session.specs.Requests.{kept_of, request_of};
+ghost use Rattle.pay_session.specs.Requests.{kept_of, request_of, IsAsked};
 ghost use Rattle.pay_wire.specs.declared.limits.TheConstants.{MOST_LINE_BYTES};
 
 use crate::request::{Request, request_of};
@@ -53,6 +53,7 @@ impl BegunLine {
     /// What the line asks for that ends with these bytes. A new line begins.
     pub fn finish(&mut self, text: &[u8]) -> Request
         ensures asked { result ≡ request_of (self.old ++ text.now) }
+        ensures in_range { IsAsked result }
         ensures line { self.new ≡ [] }
     {
         // A line that came whole is read where it lies.

@@ -5,6 +5,7 @@ ghost use Rattle.std.specs.List.{AllByRecursion, flat_map};
 ghost use Rattle.pay_numbered.specs.Words.{IsIn};
 ghost use Rattle.pay_account.specs.declared.fares.Priced.{Priced};
 ghost use Rattle.pay_account.specs.declared.shown.Shown.{Shown};
+ghost use Rattle.pay_account.specs.Words.{QuoteParts};
 ghost use Rattle.pay_wire.specs.declared.command.Command.{Command};
 ghost use Rattle.pay_wire.specs.declared.command.Command.TheVariants.{Quit};
 ghost use Rattle.pay_wire.specs.declared.refusal.Refusal.{Refusal};
@@ -74,6 +75,8 @@ pub fn memory_has_no_effect_on_refusals()
         → (step false m r).reply ≡ replies.Priced priced → step true m r ≡ refuse m refusal.Memory }
     ensures shown { (m : Machine) (r : Request) (shown : Shown)
         → (step false m r).reply ≡ replies.Shown shown → step true m r ≡ refuse m refusal.Memory }
+    ensures due { (m : Machine) (r : Request) (quote : QuoteParts)
+        → (step false m r).reply ≡ replies.Due quote → step true m r ≡ refuse m refusal.Memory }
     ensures bye { (m : Machine) (r : Request)
         → (step false m r).reply ≡ replies.Bye → step true m r ≡ step false m r }
 {}

@@ -1,5 +1,5 @@
 ghost use Rattle.std.specs.Prelude.{◌≡◌, ◌<◌, ◌∷◌, [], length};
-ghost use Rattle.pay_session.specs.Requests.{request_of, request_of_rest, is_quit};
+ghost use Rattle.pay_session.specs.Requests.{request_of, request_of_rest, is_quit, IsAsked};
 
 use pay_wire::limits::MOST_LINE_BYTES;
 use pay_wire::{Command, read_command};
@@ -18,8 +18,10 @@ pub enum Request {
 /// What a line asks for, which is given without its newline.
 #[tactic(auto, unfolding(crate::specs::Requests::request_of))]
 pub fn request_of(line: &[u8]) -> Request
-    ensures { result ≡ request_of line.now }
+    ensures value { result ≡ request_of line.now }
+    ensures in_range { IsAsked result }
 {
+    pay_wire::laws::read_as_spelled();
     if line.len() > MOST_LINE_BYTES {
         return Request::LongLine;
     }
@@ -33,7 +35,8 @@ pub fn request_of(line: &[u8]) -> Request
 /// another number.
 pub fn request_of_rest(rest: &[u8]) -> Request
     requires { 0 < length rest.now }
-    ensures { request_of_rest rest.now ≡ result ∷ [] }
+    ensures value { request_of_rest rest.now ≡ result ∷ [] }
+    ensures in_range { IsAsked result }
 {
     if rest.len() > MOST_LINE_BYTES {
         Request::LongLine

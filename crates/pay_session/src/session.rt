@@ -2,10 +2,11 @@
 ghost use Rattle.std.specs.Prelude.{◌≡◌, ◌≢◌, ◌+◌, ◌<◌, ◌≤◌, ◌^◌, ◌++◌, ◌∷◌, [], List, ℕ, length, false, true, IfOk, IfErr, OnOk, OnErr, IfNone, IfSome, Some};
 ghost use Rattle.std.specs.Arc.{arc_value};
 ghost use Rattle.pay_session.specs.Desk.{machine_of};
-ghost use Rattle.pay_session.specs.Machine.{new_machine};
-ghost use Rattle.pay_session.specs.Requests.{has_newline};
-ghost use Rattle.pay_session.specs.Session.{Ends, FailsSo};
+ghost use Rattle.pay_session.specs.Machine.{new_machine, lacks_memory};
+ghost use Rattle.pay_session.specs.Requests.{has_newline, IsAsked};
+ghost use Rattle.pay_session.specs.Session.{Ends, EndsAt, IsAfter, FailsSo};
 ghost use Rattle.pay_session.specs.SessionSteps.{at, facing, Advances, Breaks, Replies, Falters, EndsLine, TakesToQuit, Brings, Loses, EndsRest, FaltersAtRest};
+ghost use Rattle.pay_session.specs.Week.{WeekFails};
 ghost use Rattle.pay_session.specs.Stops.{IsFailure, IsWriteFailure, fault_of};
 
 use crate::begun_line::BegunLine;
@@ -14,10 +15,12 @@ use crate::desk::Desk;
 use crate::limits::MOST_FILLS;
 use crate::request::{Request, request_of_rest};
 use crate::stop::{Stop, unless_interrupted};
+use crate::week::WeekFault;
 use jiff::tz::TimeZone;
 use pay_tables::Tables;
-use pay_wire::send;
+use pay_wire::{Refusal, Reply, send};
 use std::alloc::Global;
+use std::io;
 use std::io::{BufRead, Write};
 use std::sync::Arc;
 
@@ -66,12 +69,32 @@ pub fn run_lines<R: BufRead, W: Write>(
     }
 }
 
+/// A desk after it has answered the lines of a reader, and lacked memory for none of them. Its replies are dropped.
+pub(crate) fn desk_after<'a, R: BufRead>(
+    desk: Desk<'a>,
+    reader: &mut R,
+) -> Result<Desk<'a>, WeekFault>
+    ensures ends { IfOk result (λ after. IfSome (R.remaining reader.old) (λ input.
+        IsAfter (machine_of desk.entry) input (R.remaining reader.new) (machine_of after))) }
+    ensures fails { IfErr result (λ fault. IfSome (R.remaining reader.old) (λ input.
+        WeekFails fault (machine_of desk.entry) input (R.remaining reader.new))) }
+{
+    let mut session = Session::new(desk);
+    match session.serve(reader, &mut io::sink()) {
+        Ok(_) if session.lacked_memory => Err(WeekFault::Memory),
+        Ok(_) => Ok(session.desk),
+        Err(stop) => Err(WeekFault::Session(stop.after(session.answered))),
+    }
+}
+
 /// A session under way.
 #[derive(Drop)]
 struct Session<'a> {
     desk: Desk<'a>,
     line: BegunLine,
     answered: u128,
+    // Whether memory was wanting for a request.
+    lacked_memory: bool,
 }
 
 /// What one fill of a reader's buffer brought.
@@ -91,11 +114,13 @@ impl<'a> Session<'a> {
         ensures desk { machine_of result.desk ≡ machine_of desk.entry }
         ensures line { result.line ≡ [] }
         ensures answered { result.answered ≡ 0 }
+        ensures lacked { result.lacked_memory ≡ false }
     {
         Session {
             desk,
             line: BegunLine::new(),
             answered: 0,
+            lacked_memory: false,
         }
     }
 
@@ -103,8 +128,10 @@ impl<'a> Session<'a> {
     fn serve<R: BufRead, W: Write>(&mut self, reader: &mut R, writer: &mut W) -> Result<bool, Stop>
         requires line { self.old.line ≡ [] }
         requires answered { self.old.answered ≡ 0 }
+        requires lacked { self.old.lacked_memory ≡ false }
         ensures ends { IfOk result (λ quit. IfSome (R.remaining reader.old) (λ input.
-            Ends (machine_of self.old.desk) input (R.remaining reader.new) (W.contents writer.old) (W.contents writer.new) self.new.answered quit)) }
+            EndsAt (machine_of self.old.desk) input (R.remaining reader.new) (W.contents writer.old) (W.contents writer.new) self.new.answered quit
+            (machine_of self.new.desk) self.new.lacked_memory)) }
         ensures fails { IfErr result (λ stop. IfSome (R.remaining reader.old) (λ input.
             FailsSo (fault_of stop self.new.answered) (machine_of self.old.desk) input (R.remaining reader.new)
             (W.contents writer.old) (W.contents writer.new))) }
@@ -219,7 +246,8 @@ impl<'a> Session<'a> {
 
     /// Answers one request.
     fn answer<W: Write>(&mut self, request: Request, writer: &mut W) -> Result<(), Stop>
-        requires { self.old.answered + 1 < 2 ^ 128 }
+        requires asked { IsAsked request }
+        requires count { self.old.answered + 1 < 2 ^ 128 }
         ensures line { self.new.line ≡ self.old.line }
         ensures replies { OnOk result (Replies request (at self.old (W.contents writer.old)) (at self.new (W.contents writer.new))) }
         ensures falters { OnErr result (Falters request (at self.old (W.contents writer.old)) (at self.new (W.contents writer.new))) }
@@ -229,9 +257,17 @@ impl<'a> Session<'a> {
         match send(writer, &reply) {
             Ok(()) => {
                 self.answered += 1;
+                self.lacked_memory |= lacks_memory(&reply);
                 Ok(())
             }
             Err(failure) => Err(Stop::Write(failure)),
         }
     }
+}
+
+/// Whether a request was refused for want of memory.
+fn lacks_memory(reply: &Reply) -> bool
+    ensures { result ≡ lacks_memory reply.now }
+{
+    matches!(reply, Reply::No(Refusal::Memory))
 }

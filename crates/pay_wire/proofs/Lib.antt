@@ -7,4 +7,5 @@ pub mod Numerals
 pub mod Spaces
 pub mod Spelled
 pub mod ReplyStreams
+pub mod ShareWords
 pub mod Visible

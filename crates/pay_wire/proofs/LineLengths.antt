@@ -1,5 +1,5 @@
 -- No line spells two commands, and each spelling is one line.
-use Rattle.std.proofs.Common.{◌≡◌, ℕ, ◌+◌, ◌≤◌, List, [], ◌∷◌, ◌++◌, length, Option, Some, refl, sym, ap, ◌∙◌, arith, codes}
+use Rattle.std.proofs.Common.{◌≡◌, ℕ, ◌+◌, ◌≤◌, true, List, [], ◌∷◌, ◌++◌, length, Option, Some, refl, sym, ap, ◌∙◌, arith, codes}
 use Rattle.std.specs.Prelude.{decimal, ◌≢◌, All}
 use Rattle.std.specs.List.{join_with_byte}
 use Rattle.std.proofs.lemmas.Fmt.{length-decimal-le}
@@ -12,12 +12,12 @@ use Rattle.pay_wire.specs.declared.command.SpelledFix.{SpelledFix}
 use Rattle.pay_wire.specs.declared.command.SpelledWhat.{SpelledWhat}
 use Rattle.pay_wire.specs.declared.command.SpelledWhat.TheVariants as spelled
 use Rattle.pay_wire.specs.declared.command.Command.{Command}
-use Rattle.pay_wire.specs.declared.command.Command.TheVariants.{Tap, Fix, Show, NotYet, Quit}
+use Rattle.pay_wire.specs.declared.command.Command.TheVariants.{Tap, Fix, Due, Show, NotYet, Quit}
 use Rattle.pay_wire.specs.Fields.{words}
-use Rattle.pay_wire.specs.Commands.{tap_of, fix_of, show_of}
-use Rattle.pay_wire.specs.Spellings.{IsSpelledTap, spelling_of_kind, spelling_of_tap, IsSpelledWhat, words_of_what, IsSpelledFix, spelling_of_fix, IsShow, spelling_of_show, Spells, IsLine}
-use Rattle.pay_wire.proofs.Visible.{AllVisible, text_joined}
-use Rattle.pay_wire.proofs.Spelled.{fields_of, tap_visible, tap_words, tap_again, fix_fields, fix_visible, fix_words, fix_again, show_fields, show_visible, show_words, show_again, is_read}
+use Rattle.pay_wire.specs.Commands.{tap_of, fix_of, account_day_of}
+use Rattle.pay_wire.specs.Spellings.{IsSpelledTap, spelling_of_kind, spelling_of_tap, IsSpelledWhat, words_of_what, IsSpelledFix, spelling_of_fix, IsAccountDay, spelling_of_account_day, spelling_of_due, spelling_of_show, Spells, IsLine}
+use Rattle.pay_wire.proofs.Visible.{is_visible, AllVisible, text_joined}
+use Rattle.pay_wire.proofs.Spelled.{fields_of, tap_visible, tap_words, tap_again, fix_fields, fix_visible, fix_words, fix_again, account_day_fields, account_day_visible, account_day_words, account_day_again, is_read}
 
 abbrev some : {A : Type 0} → A → Option A
 some x = Some x
@@ -41,17 +41,26 @@ one_fix a b f g e =
     let fields : fix_fields a ≡ fix_fields b = tails (codes "FIX") (codes "FIX") (fix_fields a) (fix_fields b) (sym (fix_words a f) ∙ ap words e ∙ fix_words b g) in
     some_is a b (sym (fix_again a f) ∙ ap fix_of fields ∙ fix_again b g)
 
-same_show : (account day x y : ℕ) → Show account day ≡ Show x y → (account ≡ x) × (day ≡ y)
-same_show account day x y e = (cc, cc)
+abbrev pair : ℕ → ℕ → ℕ × ℕ
+pair account day = (account, day)
 
-pub one_show : (account day x y : ℕ) → IsShow account day → IsShow x y → spelling_of_show account day ≡ spelling_of_show x y → (account ≡ x) × (day ≡ y)
-one_show account day x y f g e =
-    let fields : show_fields account day ≡ show_fields x y = tails (codes "SHOW") (codes "SHOW") (show_fields account day) (show_fields x y) (sym (show_words account day f) ∙ ap words e ∙ show_words x y g) in
-    same_show account day x y (some_is (Show account day) (Show x y) (sym (show_again account day f) ∙ ap show_of fields ∙ show_again x y g))
+one_account_day : (name : List ℕ) → is_visible name ≡ true → (account day x y : ℕ) → IsAccountDay account day → IsAccountDay x y
+    → spelling_of_account_day name account day ≡ spelling_of_account_day name x y → (account ≡ x) × (day ≡ y)
+one_account_day name seen account day x y f g e =
+    let fields : account_day_fields account day ≡ account_day_fields x y = tails name name (account_day_fields account day) (account_day_fields x y) (sym (account_day_words name seen account day f) ∙ ap words e ∙ account_day_words name seen x y g) in
+    let both = some_is (pair account day) (pair x y) (sym (account_day_again account day f) ∙ ap account_day_of fields ∙ account_day_again x y g) in
+    (ap (λ (p : ℕ × ℕ). p.0) both, ap (λ (p : ℕ × ℕ). p.1) both)
+
+pub one_due : (account day x y : ℕ) → IsAccountDay account day → IsAccountDay x y → spelling_of_due account day ≡ spelling_of_due x y → (account ≡ x) × (day ≡ y)
+one_due = one_account_day (codes "DUE") refl
+
+pub one_show : (account day x y : ℕ) → IsAccountDay account day → IsAccountDay x y → spelling_of_show account day ≡ spelling_of_show x y → (account ≡ x) × (day ≡ y)
+one_show = one_account_day (codes "SHOW") refl
 
 pub one_line : (command : Command) (a b : List ℕ) → command ≢ NotYet → Spells a command → Spells b command → a ≡ b
 one_line (Tap tap) a b some f g = f.1 ∙ sym g.1
 one_line (Fix fix) a b some f g = f.1 ∙ sym g.1
+one_line (Due account day) a b some f g = f.1 ∙ sym g.1
 one_line (Show account day) a b some f g = f.1 ∙ sym g.1
 one_line NotYet a b some f g = absurd (some refl)
 one_line Quit a b some f g = f ∙ sym g
@@ -157,21 +166,17 @@ fix_short fix fits =
 pub fix_is_line : (fix : SpelledFix) → IsSpelledFix fix → IsLine (spelling_of_fix fix)
 fix_is_line fix fits = (fix_short fix fits, no_newline (codes "FIX" ∷ fix_fields fix) (fix_visible fix fits))
 
-show_short : (account day : ℕ) → IsShow account day → length (spelling_of_show account day) ≤ 128
-show_short account day fits =
-    omega (
-      arith,
-      joined_length (codes "SHOW") (decimal account ++ (32 ∷ decimal day)),
-      joined_length (decimal account) (decimal day),
-      number_short account fits.0.1,
-      number_short day (omega (arith, fits.1)),
-    )
-
-pub show_is_line : (account day : ℕ) → IsShow account day → IsLine (spelling_of_show account day)
-show_is_line account day fits = (
-  show_short account day fits,
-  no_newline (codes "SHOW" ∷ show_fields account day) (show_visible account day fits),
+account_day_is_line : (name : List ℕ) → is_visible name ≡ true → length name ≤ 6 → (account day : ℕ) → IsAccountDay account day → IsLine (spelling_of_account_day name account day)
+account_day_is_line name seen short account day fits = (
+  omega (arith, named_short name account day short fits.0.1 (omega (arith, fits.1))),
+  no_newline (name ∷ account_day_fields account day) (account_day_visible name seen account day fits),
 )
+
+pub due_is_line : (account day : ℕ) → IsAccountDay account day → IsLine (spelling_of_due account day)
+due_is_line = account_day_is_line (codes "DUE") refl (omega arith)
+
+pub show_is_line : (account day : ℕ) → IsAccountDay account day → IsLine (spelling_of_show account day)
+show_is_line = account_day_is_line (codes "SHOW") refl (omega arith)
 
 pub quit_is_line : IsLine (codes "QUIT")
 quit_is_line = (omega arith, no_newline (codes "QUIT" ∷ []) (refl, tt))

@@ -12,10 +12,12 @@ use Rattle.pay_account.specs.declared.fares.Priced.{Priced}
 use Rattle.pay_wire.specs.declared.reply.Reply.{Reply}
 use Rattle.pay_wire.specs.declared.reply.Reply.TheVariants as replies
 use Rattle.pay_wire.specs.Fields.{words}
-use Rattle.pay_wire.specs.Replies.{refusal_number, refusal_name, line_of_words, word_of_kind, words_of_journey, words_of_reply, journeys_of_reply, text_of_journeys, spelling_of_reply, journey_as_read, reply_as_read, IsReplyJourney, IsReply}
+use Rattle.pay_wire.specs.Replies.{refusal_number, refusal_name, line_of_words, word_of_kind, words_of_journey, words_of_shares, words_of_due, words_of_reply, journeys_of_reply, text_of_journeys, spelling_of_reply, journey_as_read, reply_as_read, IsReplyJourney, IsReplyQuote, IsReply}
+use Rattle.pay_account.specs.Words.{QuoteParts}
 use Rattle.pay_account.specs.declared.shown.Line.{Line}
 use Rattle.pay_account.specs.declared.shown.LineKind.{LineKind}
 use Rattle.pay_account.specs.declared.shown.LineKind.TheVariants as kind
+use Rattle.pay_wire.proofs.ShareWords.{shares_visible, one_list}
 use Rattle.pay_wire.proofs.Visible.{is_visible, decimal_visible, AllVisible, IsText, words_joined, text_joined, pieces}
 
 -- ---- one reply
@@ -48,11 +50,30 @@ opening_visible : (again : Bool) → is_visible (if again then codes "AGAIN" els
 opening_visible true = refl
 opening_visible false = refl
 
+due_visible : (q : QuoteParts) → IsReplyQuote q → AllVisible (words_of_due q)
+due_visible q fits = (
+  refl,
+  (
+    decimal_visible q.account (omega (arith, fits.account)),
+    (
+      decimal_visible q.week (omega (arith, fits.week)),
+      (
+        decimal_visible q.through (omega (arith, fits.through)),
+        (
+          decimal_visible q.version (omega (arith, fits.version)),
+          (decimal_visible q.due fits.due, shares_visible 1 q.shares (omega (arith, fits.operators)) fits.shares),
+        ),
+      ),
+    ),
+  ),
+)
+
 reply_visible : (r : Reply) → IsReply r → AllVisible (words_of_reply r)
 reply_visible (replies.Priced p) fits =
     (opening_visible p.again, (decimal_visible p.day (omega (arith, fits.0)), (decimal_visible p.day_price (omega (arith, fits.1)), (decimal_visible p.week_price (omega (arith, fits.2)), tt))))
 reply_visible (replies.Shown s) fits =
     (refl, (decimal_visible s.account (omega (arith, fits.0)), (decimal_visible s.day (omega (arith, fits.1)), (decimal_visible (length s.lines) (omega (arith, fits.2)), (decimal_visible s.day_price (omega (arith, fits.3)), tt)))))
+reply_visible (replies.Due q) fits = due_visible q fits
 reply_visible (replies.No r) fits = (refl, (decimal_visible (refusal_number r) (omega (arith, number_small r)), (name_visible r, tt)))
 reply_visible replies.Bye fits = (refl, tt)
 
@@ -60,6 +81,7 @@ reply_visible replies.Bye fits = (refl, tt)
 reply_words : (r : Reply) → IsReply r → words (join_with_byte 32 (words_of_reply r)) ≡ words_of_reply r
 reply_words (replies.Priced p) fits = words_joined (if p.again then codes "AGAIN" else codes "OK") (decimal p.day ∷ decimal p.day_price ∷ decimal p.week_price ∷ []) (reply_visible (replies.Priced p) fits)
 reply_words (replies.Shown s) fits = words_joined (codes "SHOW") (decimal s.account ∷ decimal s.day ∷ decimal (length s.lines) ∷ decimal s.day_price ∷ []) (reply_visible (replies.Shown s) fits)
+reply_words (replies.Due q) fits = words_joined (codes "DUE") (decimal q.account ∷ decimal q.week ∷ decimal q.through ∷ decimal q.version ∷ decimal q.due ∷ words_of_shares 1 q.shares) (due_visible q fits)
 reply_words (replies.No r) fits = words_joined (codes "NO") (decimal (refusal_number r) ∷ refusal_name r ∷ []) (reply_visible (replies.No r) fits)
 reply_words replies.Bye fits = refl
 
@@ -109,6 +131,28 @@ same_fields a b d e x y w z p q r s = rw (p, q, r, s) refl
 one_priced : (p q : Priced) → p.again ≡ q.again → p.day ≡ q.day → p.day_price ≡ q.day_price → p.week_price ≡ q.week_price → p ≡ q
 one_priced p q a d e f = same_fields p.again q.again p.day q.day p.day_price q.day_price p.week_price q.week_price a d e f
 
+abbrev quote : ℕ → ℕ → ℕ → ℕ → ℕ → List ℕ → QuoteParts
+quote account week through version due shares =
+    record { account = account; week = week; through = through; version = version; due = due; shares = shares }
+
+same_quote : (a b w x t u v y d e : ℕ) (xs ys : List ℕ) → a ≡ b → w ≡ x → t ≡ u → v ≡ y → d ≡ e → xs ≡ ys → quote a w t v d xs ≡ quote b x u y e ys
+same_quote a b w x t u v y d e xs ys f g h k l m = rw (f, g, h, k, l, m) refl
+
+one_due : (p q : QuoteParts) → IsReplyQuote p → IsReplyQuote q → words_of_due p ≡ words_of_due q → p ≡ q
+one_due p q f g e =
+    let a = heads _ _ _ _ (heads _ _ _ _ e).1 in
+    let w = heads _ _ _ _ a.1 in
+    let t = heads _ _ _ _ w.1 in
+    let v = heads _ _ _ _ t.1 in
+    let d = heads _ _ _ _ v.1 in
+    same_quote p.account q.account p.week q.week p.through q.through p.version q.version p.due q.due p.shares q.shares
+    (decimal_injective p.account q.account (omega (arith, f.account)) (omega (arith, g.account)) a.0)
+    (decimal_injective p.week q.week (omega (arith, f.week)) (omega (arith, g.week)) w.0)
+    (decimal_injective p.through q.through (omega (arith, f.through)) (omega (arith, g.through)) t.0)
+    (decimal_injective p.version q.version (omega (arith, f.version)) (omega (arith, g.version)) v.0)
+    (decimal_injective p.due q.due f.due g.due d.0)
+    (one_list 1 p.shares q.shares (f.operators ∙ sym g.operators) (omega (arith, f.operators)) f.shares g.shares d.1)
+
 -- what the first line tells of two replies that have the same
 abbrev Alike : Reply → Reply → Type 0
 Alike (replies.Shown s) (replies.Shown t) = (s.account ≡ t.account) × (s.day ≡ t.day) × (length s.lines ≡ length t.lines) × (s.day_price ≡ t.day_price)
@@ -125,6 +169,7 @@ one_from_words (replies.Priced p) (replies.Priced q) f g e =
     (decimal_injective p.day_price q.day_price f.1 g.1 x.0)
     (decimal_injective p.week_price q.week_price f.2 g.2 w.0))
 one_from_words (replies.Priced p) (replies.Shown t) f g e = not_priced p.again 83 _ (heads _ _ _ _ e).0 (λ h. absurd (omega (arith, h))) (λ h. absurd (omega (arith, h)))
+one_from_words (replies.Priced p) (replies.Due q) f g e = not_priced p.again 68 _ (heads _ _ _ _ e).0 (λ h. absurd (omega (arith, h))) (λ h. absurd (omega (arith, h)))
 one_from_words (replies.Priced p) (replies.No s) f g e = not_priced p.again 78 _ (heads _ _ _ _ e).0 (λ h. absurd (omega (arith, h))) (λ h. absurd (omega (arith, h)))
 one_from_words (replies.Priced p) replies.Bye f g e = not_priced p.again 66 _ (heads _ _ _ _ e).0 (λ h. absurd (omega (arith, h))) (λ h. absurd (omega (arith, h)))
 one_from_words (replies.Shown s) (replies.Priced q) f g e = not_priced q.again 83 _ (sym (heads _ _ _ _ e).0) (λ h. absurd (omega (arith, h))) (λ h. absurd (omega (arith, h)))
@@ -138,16 +183,24 @@ one_from_words (replies.Shown s) (replies.Shown t) f g e =
       decimal_injective (length s.lines) (length t.lines) f.2 g.2 n.0,
       decimal_injective s.day_price t.day_price f.3 g.3 x.0,
     )
+one_from_words (replies.Shown s) (replies.Due q) f g e = absurd cc
 one_from_words (replies.Shown s) (replies.No t) f g e = absurd cc
 one_from_words (replies.Shown s) replies.Bye f g e = absurd cc
+one_from_words (replies.Due p) (replies.Priced q) f g e = not_priced q.again 68 _ (sym (heads _ _ _ _ e).0) (λ h. absurd (omega (arith, h))) (λ h. absurd (omega (arith, h)))
+one_from_words (replies.Due p) (replies.Shown t) f g e = absurd cc
+one_from_words (replies.Due p) (replies.Due q) f g e = ap (λ (t : QuoteParts). replies.Due t) (one_due p q f g e)
+one_from_words (replies.Due p) (replies.No s) f g e = absurd cc
+one_from_words (replies.Due p) replies.Bye f g e = absurd cc
 one_from_words (replies.No r) (replies.Priced q) f g e = not_priced q.again 78 _ (sym (heads _ _ _ _ e).0) (λ h. absurd (omega (arith, h))) (λ h. absurd (omega (arith, h)))
 one_from_words (replies.No r) (replies.Shown t) f g e = absurd cc
+one_from_words (replies.No r) (replies.Due q) f g e = absurd cc
 one_from_words (replies.No r) (replies.No s) f g e =
     let n = heads _ _ _ _ (heads _ _ _ _ e).1 in
     ap (λ (t : Refusal). replies.No t) (one_number r s (decimal_injective (refusal_number r) (refusal_number s) (omega (arith, number_small r)) (omega (arith, number_small s)) n.0))
 one_from_words (replies.No r) replies.Bye f g e = absurd cc
 one_from_words replies.Bye (replies.Priced q) f g e = not_priced q.again 66 _ (sym (heads _ _ _ _ e).0) (λ h. absurd (omega (arith, h))) (λ h. absurd (omega (arith, h)))
 one_from_words replies.Bye (replies.Shown t) f g e = absurd cc
+one_from_words replies.Bye (replies.Due q) f g e = absurd cc
 one_from_words replies.Bye (replies.No s) f g e = absurd cc
 one_from_words replies.Bye replies.Bye f g e = refl
 
@@ -258,18 +311,27 @@ alike_as_read (replies.Shown s) (replies.Shown t) x y f g same e =
     let js = one_journeys s.lines t.lines x y same.2 f.4 g.4 e in
     (same_shown s.account t.account s.day t.day s.day_price t.day_price (map journey_as_read s.lines) (map journey_as_read t.lines) same.0 same.1 js.0 same.3, js.1)
 alike_as_read (replies.Shown s) (replies.Priced q) x y f g same e = absurd cc
+alike_as_read (replies.Shown s) (replies.Due q) x y f g same e = absurd cc
 alike_as_read (replies.Shown s) (replies.No r) x y f g same e = absurd cc
 alike_as_read (replies.Shown s) replies.Bye x y f g same e = absurd cc
 alike_as_read (replies.Priced p) (replies.Shown t) x y f g same e = absurd cc
 alike_as_read (replies.Priced p) (replies.Priced q) x y f g same e = (same, e)
+alike_as_read (replies.Priced p) (replies.Due q) x y f g same e = absurd cc
 alike_as_read (replies.Priced p) (replies.No r) x y f g same e = absurd cc
 alike_as_read (replies.Priced p) replies.Bye x y f g same e = absurd cc
+alike_as_read (replies.Due p) (replies.Shown t) x y f g same e = absurd cc
+alike_as_read (replies.Due p) (replies.Priced q) x y f g same e = absurd cc
+alike_as_read (replies.Due p) (replies.Due q) x y f g same e = (same, e)
+alike_as_read (replies.Due p) (replies.No r) x y f g same e = absurd cc
+alike_as_read (replies.Due p) replies.Bye x y f g same e = absurd cc
 alike_as_read (replies.No r) (replies.Shown t) x y f g same e = absurd cc
 alike_as_read (replies.No r) (replies.Priced q) x y f g same e = absurd cc
+alike_as_read (replies.No r) (replies.Due q) x y f g same e = absurd cc
 alike_as_read (replies.No r) (replies.No s) x y f g same e = (same, e)
 alike_as_read (replies.No r) replies.Bye x y f g same e = absurd cc
 alike_as_read replies.Bye (replies.Shown t) x y f g same e = absurd cc
 alike_as_read replies.Bye (replies.Priced q) x y f g same e = absurd cc
+alike_as_read replies.Bye (replies.Due q) x y f g same e = absurd cc
 alike_as_read replies.Bye (replies.No r) x y f g same e = absurd cc
 alike_as_read replies.Bye replies.Bye x y f g same e = (same, e)
 

@@ -1,9 +1,8 @@
 -- A line is read as a command just where it spells it.
-use Rattle.std.proofs.Common.{◌≡◌, ℕ, ◌≤◌, Bool, true, false, cond, ◌||◌, List, [], ◌∷◌, Option, Some, None, refl, sym, ap, ◌∙◌, subst, arith, inl, inr, ◌⊎◌, codes, drop}
+use Rattle.std.proofs.Common.{◌≡◌, ℕ, ◌≤◌, Bool, true, false, cond, List, [], ◌∷◌, Option, Some, None, refl, sym, ap, ◌∙◌, subst, arith, inl, inr, ◌⊎◌, codes, drop}
 use Rattle.std.specs.Prelude.{decimal}
 use Rattle.std.specs.Str.{bytes_eq}
 use Rattle.std.specs.List.{join_with_byte, position_or_len}
-use Rattle.std.proofs.lemmas.Bool.{or_cases}
 use Rattle.std.proofs.lemmas.Option.{cond_some}
 use Rattle.std.proofs.lemmas.List.Splits.{join_with_byte-slice_split}
 use Rattle.std.proofs.lemmas.Slice.Eq.{bytes_eq-Decides}
@@ -18,12 +17,12 @@ use Rattle.pay_wire.specs.declared.command.SpelledWhat.TheVariants as spelled
 use Rattle.pay_wire.specs.declared.command.Form.{Form}
 use Rattle.pay_wire.specs.declared.command.Form.TheVariants as form
 use Rattle.pay_wire.specs.declared.command.Command.{Command}
-use Rattle.pay_wire.specs.declared.command.Command.TheVariants.{Tap, Fix, Show, NotYet, Quit}
+use Rattle.pay_wire.specs.declared.command.Command.TheVariants.{Tap, Fix, Due, Show, NotYet, Quit}
 use Rattle.pay_wire.specs.declared.command.Keyword.{Keyword}
 use Rattle.pay_wire.specs.declared.command.Keyword.TheVariants as keyword
 use Rattle.pay_wire.specs.Fields.{◌>>=◌, is_space, words, words_after, has_none, field}
-use Rattle.pay_wire.specs.Commands.{number_within, kind_of_word, tap_of, named_of, fill_of, credit_of, form_of_word, what_for, what_of, fix_of, show_of, keyword_of, command_for, command_of_words, command_of}
-use Rattle.pay_wire.specs.Spellings.{IsSpelledTap, spelling_of_kind, spelling_of_tap, IsSpelledWhat, words_of_what, IsSpelledFix, spelling_of_fix, IsShow, spelling_of_show, first_word, IsUnserved, Spells}
+use Rattle.pay_wire.specs.Commands.{number_within, kind_of_word, tap_of, named_of, fill_of, credit_of, form_of_word, what_for, what_of, fix_of, account_day_of, keyword_of, command_for, command_of_words, command_of}
+use Rattle.pay_wire.specs.Spellings.{IsSpelledTap, spelling_of_kind, spelling_of_tap, IsSpelledWhat, words_of_what, IsSpelledFix, spelling_of_fix, IsAccountDay, spelling_of_account_day, spelling_of_due, spelling_of_show, first_word, Spells}
 use Rattle.pay_wire.proofs.Spaces.{split_at_end}
 use Rattle.pay_wire.proofs.Numerals.{bind_some, within_again, within_is}
 use Rattle.pay_wire.proofs.Visible.{is_visible, decimal_visible, AllVisible, words_joined}
@@ -148,37 +147,40 @@ fix_again fix fits =
 fix_line_again : (fix : SpelledFix) → IsSpelledFix fix → command_of (spelling_of_fix fix) ≡ Some (Fix fix)
 fix_line_again fix fits = ap command_of_words (fix_words fix fits) ∙ rw (fix_again fix fits) refl
 
-abbrev pub show_fields : ℕ → ℕ → List (List ℕ)
-show_fields account day = decimal account ∷ decimal day ∷ []
+abbrev pub account_day_fields : ℕ → ℕ → List (List ℕ)
+account_day_fields account day = decimal account ∷ decimal day ∷ []
 
-pub show_visible : (account day : ℕ) → IsShow account day → AllVisible (codes "SHOW" ∷ show_fields account day)
-show_visible account day fits =
-    (refl, (decimal_visible account (omega (arith, fits.0)), (decimal_visible day (omega (arith, fits.1)), tt)))
+pub account_day_visible : (name : List ℕ) → is_visible name ≡ true → (account day : ℕ) → IsAccountDay account day → AllVisible (name ∷ account_day_fields account day)
+account_day_visible name seen account day fits = (seen, two_visible account day fits.0.1 (omega (arith, fits.1)))
 
-pub show_words : (account day : ℕ) → IsShow account day → words (spelling_of_show account day) ≡ codes "SHOW" ∷ show_fields account day
-show_words account day fits = words_joined (codes "SHOW") (show_fields account day) (show_visible account day fits)
+pub account_day_words : (name : List ℕ) → is_visible name ≡ true → (account day : ℕ) → IsAccountDay account day → words (spelling_of_account_day name account day) ≡ name ∷ account_day_fields account day
+account_day_words name seen account day fits = words_joined name (account_day_fields account day) (account_day_visible name seen account day fits)
 
-pub show_again : (account day : ℕ) → IsShow account day → show_of (show_fields account day) ≡ Some (Show account day)
-unfolding show_of
-show_again account day fits =
+pub account_day_again : (account day : ℕ) → IsAccountDay account day → account_day_of (account_day_fields account day) ≡ Some (account, day)
+unfolding account_day_of
+account_day_again account day fits =
     rw (
       within_again 1 4_294_967_295 account fits.0.0 fits.0.1 (omega arith),
       within_again 4 50_000 day fits.1.0 fits.1.1 (omega arith),
     ) refl
 
-show_line_again : (account day : ℕ) → IsShow account day → command_of (spelling_of_show account day) ≡ Some (Show account day)
-show_line_again account day fits =
-    ap command_of_words (show_words account day fits) ∙ show_again account day fits
+due_line_again : (account day : ℕ) → IsAccountDay account day → command_of (spelling_of_due account day) ≡ Some (Due account day)
+due_line_again account day fits =
+    ap command_of_words (account_day_words (codes "DUE") refl account day fits) ∙ rw (account_day_again account day fits) refl
 
-unserved_again : (name : List ℕ) → IsUnserved name → keyword_of name ≡ Some keyword.Unserved
-unserved_again name h =
-    elim h [ inl due ↦ rw due refl | inr close ↦ rw close refl ]
+show_line_again : (account day : ℕ) → IsAccountDay account day → command_of (spelling_of_show account day) ≡ Some (Show account day)
+show_line_again account day fits =
+    ap command_of_words (account_day_words (codes "SHOW") refl account day fits) ∙ rw (account_day_again account day fits) refl
+
+close_again : (name : List ℕ) → name ≡ codes "CLOSE" → keyword_of name ≡ Some keyword.Close
+close_again name h = rw h refl
 
 pub is_read : (line : List ℕ) (command : Command) → Spells line command → command_of line ≡ Some command
 is_read line (Tap tap) h = ap command_of h.1 ∙ tap_line_again tap h.0
 is_read line (Fix fix) h = ap command_of h.1 ∙ fix_line_again fix h.0
+is_read line (Due account day) h = ap command_of h.1 ∙ due_line_again account day h.0
 is_read line (Show account day) h = ap command_of h.1 ∙ show_line_again account day h.0
-is_read line NotYet h = ap command_of_words (split_at_end line) ∙ rw (unserved_again (first_word line) h) refl
+is_read line NotYet h = ap command_of_words (split_at_end line) ∙ rw (close_again (first_word line) h) refl
 is_read line Quit h = ap command_of h
 
 -- ---- what is read is spelled
@@ -454,101 +456,96 @@ fix_is ws fix e =
     let spelled : ws ≡ fix_fields read = fix_joined ws f.0 s.0 a.0 w.0 staff.0 seq.0 account.0 what.1 in
     fix_read_as ws read fix fits spelled (some_is read fix w.2)
 
--- a show that is read, step by step
-abbrev at_show_end : NumberAndRest → NumberAndRest → Option Command
-at_show_end account day = cond (has_none day.1) (Some (Show account.0 day.0)) None
+-- an account and a service day that are read, step by step
+abbrev at_day_end : NumberAndRest → NumberAndRest → Option (ℕ × ℕ)
+at_day_end account day = cond (has_none day.1) (Some (account.0, day.0)) None
 
-abbrev at_day : NumberAndRest → Option Command
-at_day account = field (number_within 4 50_000) account.1 >>= at_show_end account
+abbrev at_day : NumberAndRest → Option (ℕ × ℕ)
+at_day account = field (number_within 4 50_000) account.1 >>= at_day_end account
 
-abbrev ShowRead : List (List ℕ) → Command → Type 0
-ShowRead ws command = (account : ℕ) × (day : ℕ) × IsShow account day × (ws ≡ show_fields account day) × (Show account day ≡ command)
+abbrev AccountDayRead : List (List ℕ) → ℕ × ℕ → Type 0
+AccountDayRead ws asked = IsAccountDay asked.0 asked.1 × (ws ≡ account_day_fields asked.0 asked.1)
 
-show_is : (ws : List (List ℕ)) (command : Command) → show_of ws ≡ Some command → ShowRead ws command
-unfolding show_of
-show_is ws command e =
-    let a = bind_some (field (number_within 1 4_294_967_295) ws) at_day command e in
-    let d = bind_some (field (number_within 4 50_000) a.0.1) (at_show_end a.0) command a.2 in
-    let last = cond_some (has_none d.0.1) (Show a.0.0 d.0.0) command d.2 in
+account_day_is : (ws : List (List ℕ)) (asked : ℕ × ℕ) → account_day_of ws ≡ Some asked → AccountDayRead ws asked
+unfolding account_day_of
+account_day_is ws asked e =
+    let a = bind_some (field (number_within 1 4_294_967_295) ws) at_day asked e in
+    let d = bind_some (field (number_within 4 50_000) a.0.1) (at_day_end a.0) asked a.2 in
+    let last = cond_some (has_none d.0.1) (a.0.0, d.0.0) asked d.2 in
     let account = number_is_next 1 4_294_967_295 ws a.0 a.1 in
-    let day = number_is_next 4 50_000 a.0.1 d.0 d.1 in (
-      a.0.0,
-      d.0.0,
-      ((account.1, account.2), (day.1, day.2)),
-      two_joined ws a.0 d.0 account.0 day.0 (none_left d.0.1 last.0),
-      last.1,
-    )
+    let day = number_is_next 4 50_000 a.0.1 d.0 d.1 in
+    subst (λ (r : ℕ × ℕ). AccountDayRead ws r) last.1 (((account.1, account.2), (day.1, day.2)), two_joined ws a.0 d.0 account.0 day.0 (none_left d.0.1 last.0))
 
-abbrev IsKeyword : List ℕ → Keyword → Type 0
-IsKeyword name keyword.Tap = name ≡ codes "TAP"
-IsKeyword name keyword.Fix = name ≡ codes "FIX"
-IsKeyword name keyword.Show = name ≡ codes "SHOW"
-IsKeyword name keyword.Quit = name ≡ codes "QUIT"
-IsKeyword name keyword.Unserved = IsUnserved name
+abbrev keyword_word : Keyword → List ℕ
+keyword_word keyword.Tap = codes "TAP"
+keyword_word keyword.Fix = codes "FIX"
+keyword_word keyword.Due = codes "DUE"
+keyword_word keyword.Show = codes "SHOW"
+keyword_word keyword.Quit = codes "QUIT"
+keyword_word keyword.Close = codes "CLOSE"
 
-abbrev unserved_test : List ℕ → Bool
-unserved_test name = bytes_eq name (codes "DUE") || bytes_eq name (codes "CLOSE")
+same_keyword : (name : List ℕ) (a k : Keyword) → (bytes_eq name (keyword_word a) ≡ true) × (a ≡ k) → name ≡ keyword_word k
+same_keyword name a k h = (bytes_eq-Decides name (keyword_word a)).0 h.0 ∙ ap keyword_word h.1
 
-passes_as : (name word : List ℕ) → bytes_eq name word ≡ true → name ≡ word
-passes_as name word e = (bytes_eq-Decides name word).0 e
+abbrev close_alone : List ℕ → Option Keyword
+close_alone name = cond (bytes_eq name (codes "CLOSE")) (Some keyword.Close) None
 
-unserved_is : (name : List ℕ) → unserved_test name ≡ true → IsUnserved name
-unserved_is name e =
-    elim (or_cases (bytes_eq name (codes "DUE")) (bytes_eq name (codes "CLOSE")) e) [
-      | inl due ↦ inl (passes_as name (codes "DUE") due)
-      | inr close ↦ inr (passes_as name (codes "CLOSE") close)
-    ]
+abbrev from_quit : List ℕ → Option Keyword
+from_quit name = cond (bytes_eq name (codes "QUIT")) (Some keyword.Quit) (close_alone name)
 
-abbrev quit_or_unserved : List ℕ → Option Keyword
-quit_or_unserved name = cond (bytes_eq name (codes "QUIT")) (Some keyword.Quit) (cond (unserved_test name) (Some keyword.Unserved) None)
+abbrev from_show : List ℕ → Option Keyword
+from_show name = cond (bytes_eq name (codes "SHOW")) (Some keyword.Show) (from_quit name)
 
-abbrev show_or_another : List ℕ → Option Keyword
-show_or_another name = cond (bytes_eq name (codes "SHOW")) (Some keyword.Show) (quit_or_unserved name)
+abbrev from_due : List ℕ → Option Keyword
+from_due name = cond (bytes_eq name (codes "DUE")) (Some keyword.Due) (from_show name)
 
-keyword_is : (name : List ℕ) (k : Keyword) → keyword_of name ≡ Some k → IsKeyword name k
+abbrev from_fix : List ℕ → Option Keyword
+from_fix name = cond (bytes_eq name (codes "FIX")) (Some keyword.Fix) (from_due name)
+
+keyword_is : (name : List ℕ) (k : Keyword) → keyword_of name ≡ Some k → name ≡ keyword_word k
 keyword_is name k e =
-    elim (choice (bytes_eq name (codes "TAP")) (cond (bytes_eq name (codes "FIX")) (Some keyword.Fix) (show_or_another name)) keyword.Tap k e) [
-      | inl p ↦ subst (λ (q : Keyword). IsKeyword name q) p.1 (passes_as name (codes "TAP") p.0)
-      | inr others ↦ elim (choice (bytes_eq name (codes "FIX")) (show_or_another name) keyword.Fix k others) [
-        | inl p ↦ subst (λ (q : Keyword). IsKeyword name q) p.1 (passes_as name (codes "FIX") p.0)
-        | inr rest ↦ elim (choice (bytes_eq name (codes "SHOW")) (quit_or_unserved name) keyword.Show k rest) [
-          | inl p ↦ subst (λ (q : Keyword). IsKeyword name q) p.1 (passes_as name (codes "SHOW") p.0)
-          | inr more ↦ elim (choice (bytes_eq name (codes "QUIT")) (cond (unserved_test name) (Some keyword.Unserved) None) keyword.Quit k more) [
-            | inl p ↦ subst (λ (q : Keyword). IsKeyword name q) p.1 (passes_as name (codes "QUIT") p.0)
-            | inr last ↦ let p = cond_some (unserved_test name) keyword.Unserved k last in subst (λ (q : Keyword). IsKeyword name q) p.1 (unserved_is name p.0)
+    elim (choice (bytes_eq name (codes "TAP")) (from_fix name) keyword.Tap k e) [
+      | inl p ↦ same_keyword name keyword.Tap k p
+      | inr after_tap ↦ elim (choice (bytes_eq name (codes "FIX")) (from_due name) keyword.Fix k after_tap) [
+        | inl p ↦ same_keyword name keyword.Fix k p
+        | inr after_fix ↦ elim (choice (bytes_eq name (codes "DUE")) (from_show name) keyword.Due k after_fix) [
+          | inl p ↦ same_keyword name keyword.Due k p
+          | inr after_due ↦ elim (choice (bytes_eq name (codes "SHOW")) (from_quit name) keyword.Show k after_due) [
+            | inl p ↦ same_keyword name keyword.Show k p
+            | inr after_show ↦ elim (choice (bytes_eq name (codes "QUIT")) (close_alone name) keyword.Quit k after_show) [
+              | inl p ↦ same_keyword name keyword.Quit k p
+              | inr last ↦ same_keyword name keyword.Close k (cond_some (bytes_eq name (codes "CLOSE")) keyword.Close k last)
+            ]
           ]
         ]
       ]
     ]
 
 -- a line is its words with one space between each two
-joined_again : (line first : List ℕ) (rest ws : List (List ℕ)) → words line ≡ first ∷ rest → rest ≡ ws → line ≡ join_with_byte 32 (first ∷ ws)
-joined_again line first rest ws split e =
-    sym (join_with_byte-slice_split 32 line) ∙ ap (join_with_byte 32) (split ∙ ap (λ (r : List (List ℕ)). first ∷ r) e)
+joined_again : (line first name : List ℕ) (rest ws : List (List ℕ)) → words line ≡ first ∷ rest → first ≡ name → rest ≡ ws → line ≡ join_with_byte 32 (name ∷ ws)
+joined_again line first name rest ws split f e = sym (join_with_byte-slice_split 32 line) ∙ ap (join_with_byte 32) (split ∙ λ i. f i ∷ e i)
 
-spelled_after : (line : List ℕ) (rest : List (List ℕ)) (k : Keyword) (command : Command) → words line ≡ first_word line ∷ rest → IsKeyword (first_word line) k → command_for k rest ≡ Some command → Spells line command
+spelled_after : (line : List ℕ) (rest : List (List ℕ)) (k : Keyword) (command : Command) → words line ≡ first_word line ∷ rest → first_word line ≡ keyword_word k → command_for k rest ≡ Some command → Spells line command
 spelled_after line rest keyword.Tap command split name e =
     let b = bind_some (tap_of rest) (λ tap. Some (Tap tap)) command e in
-    let tap = b.0 in
-    let t = tap_is rest tap b.1 in
-    let whole : line ≡ spelling_of_tap tap = joined_again line (first_word line) rest (fields_of tap) split t.1 ∙ ap (λ (w : List ℕ). join_with_byte 32 (w ∷ fields_of tap)) name in
-    subst (λ (c : Command). Spells line c) (some_is (Tap tap) command b.2) (t.0, whole)
+    let t = tap_is rest b.0 b.1 in
+    subst (λ (c : Command). Spells line c) (some_is (Tap b.0) command b.2) (t.0, joined_again line (first_word line) (codes "TAP") rest (fields_of b.0) split name t.1)
 spelled_after line rest keyword.Fix command split name e =
     let b = bind_some (fix_of rest) (λ fix. Some (Fix fix)) command e in
-    let fix = b.0 in
-    let f = fix_is rest fix b.1 in
-    let whole : line ≡ spelling_of_fix fix = joined_again line (first_word line) rest (fix_fields fix) split f.1 ∙ ap (λ (w : List ℕ). join_with_byte 32 (w ∷ fix_fields fix)) name in
-    subst (λ (c : Command). Spells line c) (some_is (Fix fix) command b.2) (f.0, whole)
+    let f = fix_is rest b.0 b.1 in
+    subst (λ (c : Command). Spells line c) (some_is (Fix b.0) command b.2) (f.0, joined_again line (first_word line) (codes "FIX") rest (fix_fields b.0) split name f.1)
+spelled_after line rest keyword.Due command split name e =
+    let b = bind_some (account_day_of rest) (λ asked. Some (Due asked.0 asked.1)) command e in
+    let a = account_day_is rest b.0 b.1 in
+    subst (λ (c : Command). Spells line c) (some_is (Due b.0.0 b.0.1) command b.2) (a.0, joined_again line (first_word line) (codes "DUE") rest (account_day_fields b.0.0 b.0.1) split name a.1)
 spelled_after line rest keyword.Show command split name e =
-    let s = show_is rest command e in
-    let account = s.0 in
-    let day = s.1 in
-    let whole : line ≡ spelling_of_show account day = joined_again line (first_word line) rest (show_fields account day) split s.3 ∙ ap (λ (w : List ℕ). join_with_byte 32 (w ∷ show_fields account day)) name in
-    subst (λ (c : Command). Spells line c) s.4 (s.2, whole)
+    let b = bind_some (account_day_of rest) (λ asked. Some (Show asked.0 asked.1)) command e in
+    let a = account_day_is rest b.0 b.1 in
+    subst (λ (c : Command). Spells line c) (some_is (Show b.0.0 b.0.1) command b.2) (a.0, joined_again line (first_word line) (codes "SHOW") rest (account_day_fields b.0.0 b.0.1) split name a.1)
 spelled_after line rest keyword.Quit command split name e =
     let q = cond_some (has_none rest) Quit command e in
-    subst (λ (c : Command). Spells line c) q.1 (joined_again line (first_word line) rest [] split (none_left rest q.0) ∙ name)
-spelled_after line rest keyword.Unserved command split name e =
+    subst (λ (c : Command). Spells line c) q.1 (joined_again line (first_word line) (codes "QUIT") rest [] split name (none_left rest q.0))
+spelled_after line rest keyword.Close command split name e =
     subst (λ (c : Command). Spells line c) (some_is NotYet command e) name
 
 pub is_spelled : (line : List ℕ) (command : Command) → command_of line ≡ Some command → Spells line command

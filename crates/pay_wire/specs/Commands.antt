@@ -1,5 +1,5 @@
 -- The commands that lines spell.
-use Rattle.std.specs.Prelude.{◌≡◌, ℕ, nat_le, ◌&&◌, ◌||◌, List, [], ◌∷◌, ◌++◌, Option, Some, None, if◌then◌else◌, codes, refl}
+use Rattle.std.specs.Prelude.{◌≡◌, ℕ, nat_le, ◌&&◌, List, [], ◌∷◌, ◌++◌, Option, Some, None, if◌then◌else◌, codes, refl}
 use Rattle.std.specs.Str.{bytes_eq}
 use Rattle.pay_taps.specs.declared.tap.Kind.{Kind}
 use Rattle.pay_taps.specs.declared.tap.Kind.TheVariants.{In, Out, Bus}
@@ -12,7 +12,7 @@ use Rattle.pay_wire.specs.declared.command.SpelledWhat.TheVariants as spelled
 use Rattle.pay_wire.specs.declared.command.Form.{Form}
 use Rattle.pay_wire.specs.declared.command.Form.TheVariants as form
 use Rattle.pay_wire.specs.declared.command.Command.{Command}
-use Rattle.pay_wire.specs.declared.command.Command.TheVariants.{Tap, Fix, Show, NotYet, Quit}
+use Rattle.pay_wire.specs.declared.command.Command.TheVariants.{Tap, Fix, Due, Show, NotYet, Quit}
 use Rattle.pay_wire.specs.declared.command.Keyword.{Keyword}
 use Rattle.pay_wire.specs.declared.command.Keyword.TheVariants as keyword
 use Rattle.pay_day.specs.declared.limits.TheConstants.{FIRST_DAY, LAST_DAY}
@@ -106,21 +106,22 @@ fix_of fields = do
   what ← what_of account.1
   Some (record { staff = staff.0; seq = seq.0; account = account.0; what = what })
 
--- the account and the service day whose journeys are shown, each in its range, and no word behind them
-unfoldable pub show_of : List (List ℕ) → Option Command
-show_of fields = do
+-- an account and a service day, each in its range, and no word behind them
+unfoldable pub account_day_of : List (List ℕ) → Option (ℕ × ℕ)
+account_day_of fields = do
   account ← field (number_within 1 MOST_ACCOUNT) fields
   day ← field (number_within FIRST_DAY LAST_DAY) account.1
-  if has_none day.1 then Some (Show account.0 day.0) else None
+  if has_none day.1 then Some (account.0, day.0) else None
 
 -- the first word of a command
 abbrev pub keyword_of : List ℕ → Option Keyword
 keyword_of name =
     if bytes_eq name (codes "TAP") then Some keyword.Tap
     else if bytes_eq name (codes "FIX") then Some keyword.Fix
+    else if bytes_eq name (codes "DUE") then Some keyword.Due
     else if bytes_eq name (codes "SHOW") then Some keyword.Show
     else if bytes_eq name (codes "QUIT") then Some keyword.Quit
-    else if bytes_eq name (codes "DUE") || bytes_eq name (codes "CLOSE") then Some keyword.Unserved
+    else if bytes_eq name (codes "CLOSE") then Some keyword.Close
     else None
 
 -- the command of a keyword and the words behind it; of a command that is not served yet they may be any
@@ -131,9 +132,14 @@ command_for keyword.Tap fields = do
 command_for keyword.Fix fields = do
   fix ← fix_of fields
   Some (Fix fix)
-command_for keyword.Show fields = show_of fields
+command_for keyword.Due fields = do
+  asked ← account_day_of fields
+  Some (Due asked.0 asked.1)
+command_for keyword.Show fields = do
+  asked ← account_day_of fields
+  Some (Show asked.0 asked.1)
 command_for keyword.Quit fields = if has_none fields then Some Quit else None
-command_for keyword.Unserved fields = Some NotYet
+command_for keyword.Close fields = Some NotYet
 
 -- the first word says the command, and the others are its fields
 abbrev pub command_of_words : List (List ℕ) → Option Command
@@ -345,36 +351,71 @@ unfolding fix_of named_of
 drop_with_two_spaces = refl
 
 show_of_a_day : command_of (codes "SHOW 7 19730") ≡ Some (Show 7 19_730)
-unfolding show_of
+unfolding account_day_of
 show_of_a_day = refl
 
 show_of_the_last_day : command_of (codes "SHOW 4294967295 50000") ≡ Some (Show 4_294_967_295 50_000)
-unfolding show_of
+unfolding account_day_of
 show_of_the_last_day = refl
 
 show_of_day_3 : command_of (codes "SHOW 7 3") ≡ None
-unfolding show_of
+unfolding account_day_of
 show_of_day_3 = refl
 
 show_of_day_50_001 : command_of (codes "SHOW 7 50001") ≡ None
-unfolding show_of
+unfolding account_day_of
 show_of_day_50_001 = refl
 
 show_of_account_0 : command_of (codes "SHOW 0 19730") ≡ None
-unfolding show_of
+unfolding account_day_of
 show_of_account_0 = refl
 
 show_with_a_leading_zero : command_of (codes "SHOW 7 019730") ≡ None
-unfolding show_of
+unfolding account_day_of
 show_with_a_leading_zero = refl
 
 show_without_a_day : command_of (codes "SHOW 7") ≡ None
-unfolding show_of
+unfolding account_day_of
 show_without_a_day = refl
 
 show_with_a_further_word : command_of (codes "SHOW 7 19730 1") ≡ None
-unfolding show_of
+unfolding account_day_of
 show_with_a_further_word = refl
+
+due_of_a_day : command_of (codes "DUE 7 19730") ≡ Some (Due 7 19_730)
+unfolding account_day_of
+due_of_a_day = refl
+
+due_of_the_first_day : command_of (codes "DUE 1 4") ≡ Some (Due 1 4)
+unfolding account_day_of
+due_of_the_first_day = refl
+
+due_of_the_last_day : command_of (codes "DUE 4294967295 50000") ≡ Some (Due 4_294_967_295 50_000)
+unfolding account_day_of
+due_of_the_last_day = refl
+
+due_of_day_3 : command_of (codes "DUE 7 3") ≡ None
+unfolding account_day_of
+due_of_day_3 = refl
+
+due_of_day_50_001 : command_of (codes "DUE 7 50001") ≡ None
+unfolding account_day_of
+due_of_day_50_001 = refl
+
+due_of_account_0 : command_of (codes "DUE 0 19730") ≡ None
+unfolding account_day_of
+due_of_account_0 = refl
+
+due_without_a_day : command_of (codes "DUE 7") ≡ None
+unfolding account_day_of
+due_without_a_day = refl
+
+due_with_a_further_word : command_of (codes "DUE 7 19730 1") ≡ None
+unfolding account_day_of
+due_with_a_further_word = refl
+
+due_in_small_letters : command_of (codes "due 7 19730") ≡ None
+due_in_small_letters = refl
 
 quit : command_of (codes "QUIT") ≡ Some Quit
 quit = refl
@@ -387,9 +428,6 @@ quit_with_more = refl
 
 empty_line : command_of [] ≡ None
 empty_line = refl
-
-due_line : command_of (codes "DUE 7 19730") ≡ Some NotYet
-due_line = refl
 
 close_line : command_of (codes "CLOSE") ≡ Some NotYet
 close_line = refl

@@ -1,5 +1,5 @@
 -- The replies as lines.
-use Rattle.std.specs.Prelude.{◌≡◌, ℕ, ◌<◌, ◌^◌, true, false, List, [], ◌∷◌, ◌++◌, length, map, None, if◌then◌else◌, codes, refl, decimal}
+use Rattle.std.specs.Prelude.{◌≡◌, ℕ, ◌+◌, ◌<◌, ◌^◌, ◌==◌, true, false, List, [], ◌∷◌, ◌++◌, length, map, replicate, None, if◌then◌else◌, codes, refl, decimal}
 use Rattle.std.specs.Fmt.{digits}
 use Rattle.std.specs.List.{join_with_byte, flat_map, AllByRecursion}
 use Rattle.pay_wire.specs.declared.refusal.Refusal.{Refusal}
@@ -9,6 +9,8 @@ use Rattle.pay_account.specs.declared.shown.Line.{Line}
 use Rattle.pay_account.specs.declared.shown.LineKind.{LineKind}
 use Rattle.pay_account.specs.declared.shown.LineKind.TheVariants as kind
 use Rattle.pay_account.specs.declared.shown.Shown.{Shown}
+use Rattle.pay_account.specs.Words.{QuoteParts}
+use Rattle.pay_money.specs.declared.limits.TheConstants.{OPERATORS}
 use Rattle.pay_wire.specs.declared.reply.Reply.{Reply}
 use Rattle.pay_wire.specs.declared.reply.Reply.TheVariants as replies
 
@@ -62,16 +64,39 @@ words_of_journey l = codes "JNY" ∷ word_of_kind l.kind ∷ decimal l.from ∷ 
 abbrev pub words_of_shown : Shown → List (List ℕ)
 words_of_shown s = codes "SHOW" ∷ decimal s.account ∷ decimal s.day ∷ decimal (length s.lines) ∷ decimal s.day_price ∷ []
 
+-- an operator and its share, as `operator=pence`
+abbrev pub word_of_share : ℕ → ℕ → List ℕ
+word_of_share operator share = decimal operator ++ codes "=" ++ decimal share
+
+-- a share that is 0 has no word
+abbrev pub words_of_share : ℕ → ℕ → List (List ℕ)
+words_of_share operator share = if share == 0 then [] else word_of_share operator share ∷ []
+
+-- the shares of an operator and of those behind it, in ascending order of operator
+abbrev pub words_of_shares : ℕ → List ℕ → List (List ℕ)
+words_of_shares operator [] = []
+words_of_shares operator (share ∷ more) = words_of_share operator share ++ words_of_shares (operator + 1) more
+
+-- what is due: the account, the week, the day through which it is, the version, the pence, and the shares of the operators from 1 on
+abbrev pub words_of_due : QuoteParts → List (List ℕ)
+words_of_due q =
+    codes "DUE" ∷ decimal q.account ∷ decimal q.week ∷ decimal q.through ∷ decimal q.version ∷ decimal q.due ∷ words_of_shares 1 q.shares
+
 -- the words of the first line of a reply, in order
 abbrev pub words_of_reply : Reply → List (List ℕ)
 words_of_reply (replies.Priced p) = words_of_priced p
 words_of_reply (replies.Shown s) = words_of_shown s
+words_of_reply (replies.Due q) = words_of_due q
 words_of_reply (replies.No r) = words_of_refusal r
 words_of_reply replies.Bye = codes "BYE" ∷ []
 
 -- words as a line: a space between each two, and the newline at the end
 abbrev pub line_of_words : List (List ℕ) → List ℕ
 line_of_words ws = join_with_byte 32 ws ++ codes "\n"
+
+-- further words of a line: a space stands before each
+abbrev pub text_of_fields : List (List ℕ) → List ℕ
+text_of_fields = flat_map (λ word. 32 ∷ word)
 
 -- the journeys that have lines of their own behind the first
 abbrev pub journeys_of_reply : Reply → List Line
@@ -99,10 +124,21 @@ reply_as_read reply = reply
 abbrev pub IsReplyJourney : Line → Type 0
 IsReplyJourney l = (l.from < 2 ^ 16) × (l.to < 2 ^ 16) × (l.utc < 2 ^ 64) × (l.fare < 2 ^ 64)
 
+-- the numbers of a quote are those of its types, and each operator has a share, if only 0
+pub record IsReplyQuote (quote : QuoteParts) : Type 0 where
+  pub account : quote.account < 2 ^ 32
+  pub week : quote.week < 2 ^ 32
+  pub through : quote.through < 2 ^ 32
+  pub version : quote.version < 2 ^ 32
+  pub due : quote.due < 2 ^ 64
+  pub operators : length quote.shares ≡ OPERATORS
+  pub shares : AllByRecursion (λ share. share < 2 ^ 64) quote.shares
+
 -- the numbers of a reply are those of its types
 abbrev pub IsReply : Reply → Type 0
 IsReply (replies.Priced p) = (p.day < 2 ^ 32) × (p.day_price < 2 ^ 64) × (p.week_price < 2 ^ 64)
 IsReply (replies.Shown s) = (s.account < 2 ^ 32) × (s.day < 2 ^ 32) × (length s.lines < 2 ^ 64) × (s.day_price < 2 ^ 64) × AllByRecursion IsReplyJourney s.lines
+IsReply (replies.Due q) = IsReplyQuote q
 IsReply (replies.No r) = Unit {0}
 IsReply replies.Bye = Unit {0}
 
@@ -128,6 +164,35 @@ shown_day = refl
 empty_day : spelling_of_reply (replies.Shown (record { account = 7; day = 19_730; lines = []; day_price = 0 })) ≡ codes "SHOW 7 19730 0 0\n"
 unfolding digits
 empty_day = refl
+
+-- what account 7 owes for a week through one of its days, at a version
+abbrev quoted : ℕ → ℕ → ℕ → ℕ → List ℕ → Reply
+quoted week through version due shares =
+    replies.Due (record { account = 7; week = week; through = through; version = version; due = due; shares = shares })
+
+due_to_one_operator : spelling_of_reply (quoted 19_723 19_729 2 280 (280 ∷ replicate 15 0)) ≡ codes "DUE 7 19723 19729 2 280 1=280\n"
+unfolding digits
+due_to_one_operator = refl
+
+due_to_two_operators : spelling_of_reply (quoted 19_730 19_730 6 890 (593 ∷ 297 ∷ replicate 14 0)) ≡ codes "DUE 7 19730 19730 6 890 1=593 2=297\n"
+unfolding digits
+due_to_two_operators = refl
+
+due_to_three_operators : spelling_of_reply (quoted 19_730 19_730 8 1_050 (595 ∷ 297 ∷ 158 ∷ replicate 13 0)) ≡ codes "DUE 7 19730 19730 8 1050 1=595 2=297 3=158\n"
+unfolding digits
+due_to_three_operators = refl
+
+due_to_operator_4 : spelling_of_reply (quoted 19_730 19_730 1 175 (0 ∷ 0 ∷ 0 ∷ 175 ∷ replicate 12 0)) ≡ codes "DUE 7 19730 19730 1 175 4=175\n"
+unfolding digits
+due_to_operator_4 = refl
+
+due_to_the_last_operator : spelling_of_reply (quoted 19_730 19_734 3 5 (replicate 15 0 ++ 5 ∷ [])) ≡ codes "DUE 7 19730 19734 3 5 16=5\n"
+unfolding digits
+due_to_the_last_operator = refl
+
+nothing_due : spelling_of_reply (quoted 19_730 19_730 0 0 (replicate 16 0)) ≡ codes "DUE 7 19730 19730 0 0\n"
+unfolding digits
+nothing_due = refl
 
 not_served : spelling_of_reply (replies.No NotYet) ≡ codes "NO 60 NotYet\n"
 unfolding digits

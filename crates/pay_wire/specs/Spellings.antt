@@ -1,5 +1,5 @@
 -- What the lines of the commands are, one line for each.
-use Rattle.std.specs.Prelude.{◌≡◌, ℕ, ◌≤◌, ◌≢◌, ◌⊎◌, List, [], ◌∷◌, length, All, codes, decimal}
+use Rattle.std.specs.Prelude.{◌≡◌, ℕ, ◌≤◌, ◌≢◌, List, [], ◌∷◌, length, All, codes, decimal}
 use Rattle.std.specs.List.{before_first, join_with_byte}
 use Rattle.pay_taps.specs.declared.tap.Kind.{Kind}
 use Rattle.pay_taps.specs.declared.tap.Kind.TheVariants.{In, Out, Bus}
@@ -8,7 +8,7 @@ use Rattle.pay_wire.specs.declared.command.SpelledFix.{SpelledFix}
 use Rattle.pay_wire.specs.declared.command.SpelledWhat.{SpelledWhat}
 use Rattle.pay_wire.specs.declared.command.SpelledWhat.TheVariants as spelled
 use Rattle.pay_wire.specs.declared.command.Command.{Command}
-use Rattle.pay_wire.specs.declared.command.Command.TheVariants.{Tap, Fix, Show, NotYet, Quit}
+use Rattle.pay_wire.specs.declared.command.Command.TheVariants.{Tap, Fix, Due, Show, NotYet, Quit}
 use Rattle.pay_wire.specs.declared.command.SpelledCredit.{SpelledCredit}
 use Rattle.pay_fix.specs.declared.limits.TheConstants.{MOST_CREDIT}
 use Rattle.pay_day.specs.declared.limits.TheConstants.{FIRST_DAY, LAST_DAY}
@@ -65,28 +65,33 @@ abbrev pub spelling_of_fix : SpelledFix → List ℕ
 spelling_of_fix fix =
     join_with_byte 32 (codes "FIX" ∷ decimal fix.staff ∷ decimal fix.seq ∷ decimal fix.account ∷ words_of_what fix.what)
 
--- the account and the day of a `SHOW` are in their ranges
-abbrev pub IsShow : ℕ → ℕ → Type 0
-IsShow account day = ((1 ≤ account) × (account ≤ MOST_ACCOUNT)) × ((FIRST_DAY ≤ day) × (day ≤ LAST_DAY))
+-- the account and the service day of a `DUE` or a `SHOW` are in their ranges
+abbrev pub IsAccountDay : ℕ → ℕ → Type 0
+IsAccountDay account day = ((1 ≤ account) × (account ≤ MOST_ACCOUNT)) × ((FIRST_DAY ≤ day) × (day ≤ LAST_DAY))
 
--- `SHOW account day`, with a space between each two words
+-- a keyword, an account and a service day, with a space between each two words
+abbrev pub spelling_of_account_day : List ℕ → ℕ → ℕ → List ℕ
+spelling_of_account_day name account day = join_with_byte 32 (name ∷ decimal account ∷ decimal day ∷ [])
+
+-- `DUE account day`
+abbrev pub spelling_of_due : ℕ → ℕ → List ℕ
+spelling_of_due account day = spelling_of_account_day (codes "DUE") account day
+
+-- `SHOW account day`
 abbrev pub spelling_of_show : ℕ → ℕ → List ℕ
-spelling_of_show account day = join_with_byte 32 (codes "SHOW" ∷ decimal account ∷ decimal day ∷ [])
+spelling_of_show account day = spelling_of_account_day (codes "SHOW") account day
 
 -- the bytes up to the first space, or to the end
 abbrev pub first_word : List ℕ → List ℕ
 first_word line = before_first is_space line
 
--- the first word of a command that is not served yet
-abbrev pub IsUnserved : List ℕ → Type 0
-IsUnserved word = (word ≡ codes "DUE") ⊎ (word ≡ codes "CLOSE")
-
--- what a line has to be to spell a command; of those that are not served yet the first word is enough
+-- what a line has to be to spell a command; of the one that is not served yet the first word is enough
 abbrev pub Spells : List ℕ → Command → Type 0
 Spells line (Tap tap) = IsSpelledTap tap × (line ≡ spelling_of_tap tap)
 Spells line (Fix fix) = IsSpelledFix fix × (line ≡ spelling_of_fix fix)
-Spells line (Show account day) = IsShow account day × (line ≡ spelling_of_show account day)
-Spells line NotYet = IsUnserved (first_word line)
+Spells line (Due account day) = IsAccountDay account day × (line ≡ spelling_of_due account day)
+Spells line (Show account day) = IsAccountDay account day × (line ≡ spelling_of_show account day)
+Spells line NotYet = first_word line ≡ codes "CLOSE"
 Spells line Quit = line ≡ codes "QUIT"
 
 -- one line, and no longer than a line may be

@@ -2,7 +2,7 @@
 ghost use Rattle.std.specs.Prelude.{◌≡◌, ◌≤◌, ◌<◌, ◌^◌, ◌∷◌, [], Some, IfSome, IfNone, option_map};
 ghost use Rattle.std.specs.List.{position_or_len};
 ghost use Rattle.pay_wire.specs.Fields.{is_space, words, words_after, has_none, field};
-ghost use Rattle.pay_wire.specs.Commands.{number_within, kind_of_word, tap_of, named_of, fill_of, credit_of, form_of_word, what_for, what_of, fix_of, show_of, keyword_of, command_for, command_of};
+ghost use Rattle.pay_wire.specs.Commands.{number_within, kind_of_word, tap_of, named_of, fill_of, credit_of, form_of_word, what_for, what_of, fix_of, account_day_of, keyword_of, command_for, command_of};
 
 use crate::limits::{MOST_ACCOUNT, MOST_PLACE, MOST_READER, MOST_SEQ, MOST_STAFF, MOST_UTC};
 use crate::number::read_number;
@@ -69,6 +69,8 @@ pub enum Command {
     Tap(SpelledTap),
     /// `FIX staff seq account`, and what it does: a correction.
     Fix(SpelledFix),
+    /// `DUE account day`: what an account owes for the week of a service day, through that day.
+    Due { account: u32, day: u32 },
     /// `SHOW account day`: the journeys of a service day.
     Show { account: u32, day: u32 },
     /// A command of the protocol that is not served yet.
@@ -82,10 +84,10 @@ pub enum Command {
 enum Keyword {
     Tap,
     Fix,
+    Due,
     Show,
     Quit,
-    /// `DUE` or `CLOSE`.
-    Unserved,
+    Close,
 }
 
 /// The word that says what a correction does.
@@ -114,10 +116,17 @@ fn command_after(keyword: Keyword, fields: &[u8]) -> Option<Command>
     match keyword {
         Keyword::Tap => Some(Command::Tap(read_tap(fields)?)),
         Keyword::Fix => Some(Command::Fix(read_fix(fields)?)),
-        Keyword::Show => read_show(fields),
+        Keyword::Due => {
+            let (account, day) = read_account_day(fields)?;
+            Some(Command::Due { account, day })
+        }
+        Keyword::Show => {
+            let (account, day) = read_account_day(fields)?;
+            Some(Command::Show { account, day })
+        }
         Keyword::Quit if is_end(fields) => Some(Command::Quit),
         Keyword::Quit => None,
-        Keyword::Unserved => Some(Command::NotYet),
+        Keyword::Close => Some(Command::NotYet),
     }
 }
 
@@ -127,9 +136,10 @@ fn read_keyword(name: &[u8]) -> Option<Keyword>
     match name {
         b"TAP" => Some(Keyword::Tap),
         b"FIX" => Some(Keyword::Fix),
+        b"DUE" => Some(Keyword::Due),
         b"SHOW" => Some(Keyword::Show),
         b"QUIT" => Some(Keyword::Quit),
-        b"DUE" | b"CLOSE" => Some(Keyword::Unserved),
+        b"CLOSE" => Some(Keyword::Close),
         _ => None,
     }
 }
@@ -248,15 +258,15 @@ fn read_credit(fields: &[u8]) -> Option<SpelledCredit>
     }
 }
 
-/// The fields of a `SHOW`, to the end of the line.
-#[tactic(auto, unfolding(crate::specs::Commands::show_of))]
-fn read_show(fields: &[u8]) -> Option<Command>
-    ensures { result ≡ show_of (words_after fields.now) }
+/// The account and the service day of a `DUE` or a `SHOW`, to the end of the line.
+#[tactic(auto, unfolding(crate::specs::Commands::account_day_of))]
+fn read_account_day(fields: &[u8]) -> Option<(u32, u32)>
+    ensures { result ≡ account_day_of (words_after fields.now) }
 {
     let (account, rest) = number_field(fields, 1, MOST_ACCOUNT)?;
     let (day, rest) = number_field(rest, FIRST_DAY, LAST_DAY)?;
     if is_end(rest) {
-        Some(Command::Show { account, day })
+        Some((account, day))
     } else {
         None
     }

@@ -10,7 +10,7 @@ ghost use Rattle.pay_wire.specs.declared.reply.Reply.{Reply};
 ghost use Rattle.pay_wire.specs.declared.limits.TheConstants.{MOST_NUMBER};
 ghost use Rattle.pay_wire.specs.Numbers.{number_of};
 ghost use Rattle.pay_wire.specs.Commands.{command_of};
-ghost use Rattle.pay_wire.specs.Spellings.{IsSpelledTap, spelling_of_tap, IsSpelledFix, spelling_of_fix, IsShow, spelling_of_show, Spells, IsLine};
+ghost use Rattle.pay_wire.specs.Spellings.{IsSpelledTap, spelling_of_tap, IsSpelledFix, spelling_of_fix, IsAccountDay, spelling_of_due, spelling_of_show, Spells, IsLine};
 ghost use Rattle.pay_wire.specs.Replies.{spelling_of_reply, reply_as_read, IsReply};
 
 /// A number of a line has one spelling, its decimal digits, which is read as that number.
@@ -37,7 +37,9 @@ pub fn one_command()
         → spelling_of_tap a ≡ spelling_of_tap b → a ≡ b }
     ensures fix { (a b : SpelledFix) → IsSpelledFix a → IsSpelledFix b
         → spelling_of_fix a ≡ spelling_of_fix b → a ≡ b }
-    ensures show { (account day x y : ℕ) → IsShow account day → IsShow x y
+    ensures due { (account day x y : ℕ) → IsAccountDay account day → IsAccountDay x y
+        → spelling_of_due account day ≡ spelling_of_due x y → (account ≡ x) × (day ≡ y) }
+    ensures show { (account day x y : ℕ) → IsAccountDay account day → IsAccountDay x y
         → spelling_of_show account day ≡ spelling_of_show x y → (account ≡ x) × (day ≡ y) }
 {}
 
@@ -45,7 +47,8 @@ pub fn one_command()
 pub fn each_is_a_line()
     ensures tap { (tap : SpelledTap) → IsSpelledTap tap → IsLine (spelling_of_tap tap) }
     ensures fix { (fix : SpelledFix) → IsSpelledFix fix → IsLine (spelling_of_fix fix) }
-    ensures show { (account day : ℕ) → IsShow account day → IsLine (spelling_of_show account day) }
+    ensures due { (account day : ℕ) → IsAccountDay account day → IsLine (spelling_of_due account day) }
+    ensures show { (account day : ℕ) → IsAccountDay account day → IsLine (spelling_of_show account day) }
     ensures quit { IsLine (codes "QUIT") }
 {}
 

@@ -1,18 +1,22 @@
 //! Replies as lines.
-ghost use Rattle.std.specs.Prelude.{◌≡◌, ◌+◌, ◌++◌, ◌∷◌, [], ◌≤◌, ◌<◌, length, decimal};
+ghost use Rattle.std.specs.Prelude.{◌≡◌, ◌+◌, ◌++◌, ◌∷◌, [], ◌*◌, ◌≤◌, ◌<◌, length, decimal};
 ghost use Rattle.arrayvec.specs.ArrayVec.{array_vec_len};
-ghost use Rattle.pay_wire.specs.Replies.{line_of_words, words_of_priced, words_of_shown, words_of_refusal, words_of_reply, word_of_kind, words_of_journey, journeys_of_reply};
+ghost use Rattle.pay_wire.specs.Replies.{line_of_words, text_of_fields, words_of_priced, words_of_shown, words_of_share, words_of_shares, words_of_due, words_of_refusal, words_of_reply, word_of_kind, words_of_journey, journeys_of_reply};
 
 use crate::refusal::Refusal;
 use arrayvec::ArrayVec;
 use itoa::Buffer;
-use pay_account::{Line, LineKind, Priced, Shown};
+use pay_account::{Line, LineKind, Priced, Quote, Shown};
+use pay_money::limits::OPERATORS;
 
 /// No line of a reply is longer, its newline among its bytes.
-pub const REPLY_BYTES: usize = 96;
+pub const REPLY_BYTES: usize = 496;
 
 /// No number of 64 bits has more digits.
 const NUMBER_BYTES: usize = 20;
+
+/// A space, the two digits of an operator, `=` and a number.
+const SHARE_BYTES: usize = 24;
 
 /// A line of a reply.
 pub type SpelledLine = ArrayVec<u8, REPLY_BYTES>;
@@ -24,6 +28,8 @@ pub enum Reply {
     Priced(Priced),
     /// The journeys of a service day.
     Shown(Shown),
+    /// What an account owes for a week through one of its days.
+    Due(Quote),
     /// The line was refused.
     No(Refusal),
     /// The session ends.
@@ -37,7 +43,7 @@ impl Reply {
     {
         match self {
             Reply::Shown(shown) => shown.lines.as_slice(),
-            Reply::Priced(_) | Reply::No(_) | Reply::Bye => &[],
+            Reply::Priced(_) | Reply::Due(_) | Reply::No(_) | Reply::Bye => &[],
         }
     }
 }
@@ -49,6 +55,7 @@ pub fn first_line(reply: &Reply) -> SpelledLine
     match reply {
         Reply::Priced(priced) => render_priced(priced),
         Reply::Shown(shown) => render_shown(shown),
+        Reply::Due(quote) => render_due(quote),
         Reply::No(refusal) => render_refusal(*refusal),
         Reply::Bye => started(b"BYE\n"),
     }
@@ -109,6 +116,21 @@ fn render_priced(priced: &Priced) -> SpelledLine
     line
 }
 
+#[tactic(auto, using(crate::proofs::Fields::five_fields))]
+fn render_due(quote: &Quote) -> SpelledLine
+    ensures { result.items ≡ line_of_words (words_of_due quote.now) }
+{
+    let mut line = started(b"DUE");
+    put_field(&mut line, u64::from(quote.account()));
+    put_field(&mut line, u64::from(quote.week()));
+    put_field(&mut line, u64::from(quote.through()));
+    put_field(&mut line, u64::from(quote.version()));
+    put_field(&mut line, quote.due().pence());
+    put_shares(&mut line, quote.shares());
+    put(&mut line, b"\n");
+    line
+}
+
 fn render_refusal(refusal: Refusal) -> SpelledLine
     ensures { result.items ≡ line_of_words (words_of_refusal refusal) }
 {
@@ -148,6 +170,34 @@ fn put_field(line: &mut SpelledLine, number: u64)
 {
     put(line, b" ");
     put_number(line, number);
+}
+
+/// Puts the shares that are not 0 at the end of a line, in the order of their operators, which count from 1.
+#[tactic(auto, using(crate::proofs::ShareWords::shares_more))]
+fn put_shares(line: &mut SpelledLine, shares: &[u64; OPERATORS])
+    requires { array_vec_len line.old + OPERATORS * SHARE_BYTES ≤ REPLY_BYTES }
+    ensures items { line.new.items ≡ line.old.items ++ text_of_fields (words_of_shares 1 shares.now) }
+    ensures len { array_vec_len line.new ≤ array_vec_len line.old + OPERATORS * SHARE_BYTES }
+{
+    for (i, share) in shares.iter().enumerate() {
+        put_share(line, i as u64 + 1, *share);
+    }
+}
+
+/// Puts a space, an operator, `=` and its share at the end of a line, or nothing where the share is 0.
+#[tactic(auto, using(crate::proofs::ShareWords::operator_short))]
+fn put_share(line: &mut SpelledLine, operator: u64, share: u64)
+    requires operator { operator ≤ OPERATORS }
+    requires room { array_vec_len line.old + SHARE_BYTES ≤ REPLY_BYTES }
+    ensures items { line.new.items ≡ line.old.items ++ text_of_fields (words_of_share operator share) }
+    ensures len { array_vec_len line.new ≤ array_vec_len line.old + SHARE_BYTES }
+{
+    if share == 0 {
+        return;
+    }
+    put_field(line, operator);
+    put(line, b"=");
+    put_number(line, share);
 }
 
 /// Puts bytes at the end of a line.

@@ -1,4 +1,4 @@
-use Rattle.std.proofs.Common.{false, refl}
+use Rattle.std.proofs.Common.{refl}
 use Rattle.pay_session.specs.Machine.{step}
 use Rattle.pay_session.proofs.desk.Desk.answer.Goals as goal
 
@@ -8,8 +8,8 @@ returns-in-Command c = rw c.in-Command.is c.serve.ensures
 
 pub returns-in-BadLine : goal.returns-in-BadLine
 unfolding step
-returns-in-BadLine c = (false, rw c.in-BadLine.is refl)
+returns-in-BadLine c = rw c.in-BadLine.is refl
 
 pub returns-in-LongLine : goal.returns-in-LongLine
 unfolding step
-returns-in-LongLine c = (false, rw c.in-LongLine.is refl)
+returns-in-LongLine c = rw c.in-LongLine.is refl

@@ -8,7 +8,7 @@ pub returns-then-is_empty-clause-ends : goal.returns-then-is_empty-clause-ends
 returns-then-is_empty-clause-ends g c = EndsRest_none _ (sym c.as_slice-rest.ensures.value ∙ nil_from_length _ (eqb-true (length c.as_slice-rest.result.now) 0 (sym c.is_empty.ensures ∙ c.if-is_empty.true)))
 
 pub returns-clause-ends : goal.returns-clause-ends
-returns-clause-ends g c = EndsRest_answered _ _ _ c.request_of_rest-request.result (ap request_of_rest (sym c.as_slice-rest.ensures.value) ∙ c.request_of_rest-request.ensures) c.answer.ensures.replies
+returns-clause-ends g c = EndsRest_answered _ _ _ c.request_of_rest-request.result (ap request_of_rest (sym c.as_slice-rest.ensures.value) ∙ c.request_of_rest-request.ensures.value) c.answer.ensures.replies
 
 pub returns-clause-falters : goal.returns-clause-falters
-returns-clause-falters g c = FaltersAtRest_failed _ _ _ c.request_of_rest-request.result (ap request_of_rest (sym c.as_slice-rest.ensures.value) ∙ c.request_of_rest-request.ensures) c.answer.ensures.falters
+returns-clause-falters g c = FaltersAtRest_failed _ _ _ c.request_of_rest-request.result (ap request_of_rest (sym c.as_slice-rest.ensures.value) ∙ c.request_of_rest-request.ensures.value) c.answer.ensures.falters

@@ -9,7 +9,7 @@ pub loop-init : goal.loop-init
 loop-init g c = record {
   unended = ap has_newline c.requires.line;
   few = omega (arith, c.requires.answered);
-  underway = Underway_start _ _ c.requires.line c.requires.answered;
+  underway = Underway_start _ _ c.requires.line c.requires.answered c.requires.lacked;
 }
 
 pub loop-preserved : goal.loop-preserved
