@@ -1,11 +1,11 @@
 //! The program: its words, its streams and its statuses.
 ghost use Rattle.std.specs.Prelude.{◌≡◌, ◌≢◌};
 ghost use Rattle.std.specs.IoError.{error_kind};
-ghost use Rattle.pay_jobs.specs.Words.{IsWantOfMemory};
+ghost use Rattle.pay_jobs.specs.Words.{IsDay, IsWantOfMemory};
 ghost use Rattle.farebox.specs.NoJob.{IsTextOrFault};
 
-use pay_jobs::{Fault, check_text, run_texts};
-use pay_words::{Job, RunWords, WordsFault, read_words};
+use pay_jobs::{Fault, check_text, run_texts, statement_texts};
+use pay_words::{Job, RunWords, StatementWords, WordsFault, read_words};
 use std::alloc::AllocError;
 use std::io::{BufReader, ErrorKind};
 use std::rt::{Env, Files};
@@ -48,6 +48,7 @@ pub fn execute<R: Env + Files + Input + Print + AllocGlobal>(rt: &R) -> Result<(
     match read_words(rt.alloc(), words.as_slice()) {
         Ok(Job::Run(words)) => run_session(rt, &words),
         Ok(Job::Check { fares }) => check_fares(rt, fares),
+        Ok(Job::Statement(words)) => write_statement(rt, &words),
         Err(none) => {
             let text = text_or_fault(none)?;
             rt.print(text.as_str()).map_err(|_| Fault::Output)
@@ -85,6 +86,24 @@ fn run_session<R: Files + Input + Print + AllocGlobal>(
         run_texts(alloc, fares.as_str(), zone, &mut reader, &mut writer)?;
     }
     Ok(())
+}
+
+/// The statement of an account's week by the lines of standard input, to standard output.
+fn write_statement<R: Files + Input + Print + AllocGlobal>(
+    rt: &R,
+    words: &StatementWords<'_>,
+) -> Result<(), Fault>
+    requires { IsDay words.now.day }
+{
+    let fares = fares_text(rt, words.fares)?;
+    let (alloc, zone, account, day) = (rt.alloc(), words.zone, words.account, words.day);
+    let (fares, mut input, mut writer) = (fares.as_str(), rt.reader(), io::writer(rt));
+    if is_input_a_file(rt) {
+        statement_texts(alloc, fares, zone, account, day, &mut input, &mut writer)
+    } else {
+        let mut reader = BufReader::new(alloc, input).map_err(|_| AllocError)?;
+        statement_texts(alloc, fares, zone, account, day, &mut reader, &mut writer)
+    }
 }
 
 /// Whether standard input is a file. Its reader then shows many bytes at a time, and leaves in the file what is not

@@ -1,2 +1,3 @@
 mod Counting
 pub mod Runs
+mod Statements

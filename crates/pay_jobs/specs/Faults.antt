@@ -4,6 +4,8 @@ use Rattle.pay_jobs.specs.declared.fault.Fault.{Fault}
 use Rattle.pay_jobs.specs.declared.fault.Fault.TheVariants.{Usage, Input, Output, Refused}
 use Rattle.pay_session.specs.declared.session.SessionFault.{SessionFault}
 use Rattle.pay_session.specs.declared.session.SessionFault.TheVariants.{Read, Write}
+use Rattle.pay_session.specs.declared.week.WeekFault.{WeekFault}
+use Rattle.pay_session.specs.declared.week.WeekFault.TheVariants.{Session, Memory}
 
 -- refused words end with 2, and every other fault with 1
 abbrev pub status_of : Fault → ℕ
@@ -23,3 +25,8 @@ IsRefusal _ n text = ⊥
 -- want of memory
 abbrev pub IsWantOfMemory : Fault → Type 0
 IsWantOfMemory fault = IsRefusal fault 90 (codes "Memory")
+
+-- what kept the journeys of a week from being told
+abbrev pub IsWeekFault : WeekFault → Fault → Type 0
+IsWeekFault (Session of) fault = fault ≡ stream_fault of
+IsWeekFault Memory fault = IsWantOfMemory fault

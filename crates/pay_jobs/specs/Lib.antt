@@ -1,4 +1,5 @@
 pub mod Faults
 pub mod Run
 pub mod Check
+pub mod Statement
 pub mod Words

@@ -1,14 +1,12 @@
 //! The job `check`, by the text of its fare file: all that the program does below the reading of files.
-ghost use Rattle.std.specs.Prelude.{◌≡◌, ◌++◌, ◌∷◌, decimal, IfOk, IfErr, OnOk, OnErr};
-ghost use Rattle.std.specs.Io.KnownBytes.{Appends};
+ghost use Rattle.std.specs.Prelude.{◌≡◌, ◌++◌, ◌∷◌, decimal, IfOk, IfErr, OnOk};
 ghost use Rattle.std.specs.String.{string_bytes};
-ghost use Rattle.pay_wire.specs.Words.{AppendsFront};
 ghost use Rattle.pay_jobs.specs.Check.{CheckEnds, CheckFails, IsCounted, counts_line};
 ghost use Rattle.pay_jobs.specs.Run.{IsRefused};
 
 use crate::fault::Fault;
+use crate::output::write_text;
 use pay_tables::{Counts, Tables};
-use pay_wire::send_line;
 use std::alloc::{AllocError, Global};
 use std::io::Write;
 
@@ -18,7 +16,7 @@ pub fn check_text<W: Write>(alloc: Global, fares: &str, writer: &mut W) -> Resul
     ensures fails { IfErr result (λ fault. CheckFails fault fares.now (W.contents writer.old) (W.contents writer.new)) }
 {
     let line = counted(alloc, fares)?;
-    write_line(writer, line.as_str().as_bytes())
+    write_text(writer, line.as_str().as_bytes())
 }
 
 /// The line of the fare file that a text says.
@@ -49,16 +47,4 @@ fn put(line: &mut String, name: &str, number: usize) -> Result<(), AllocError>
     ensures { OnOk result (string_bytes line.new ≡ string_bytes line.old ++ (name.now ++ 32 ∷ decimal number)) }
 {
     write!(line, "{name} {number}")
-}
-
-/// Writes a line and flushes the writer. Where that fails, it has taken a front of the line.
-fn write_line<W: Write>(writer: &mut W, line: &[u8]) -> Result<(), Fault>
-    ensures ok { OnOk result (Appends (W.contents writer.old) (W.contents writer.new) line.now) }
-    ensures err { OnErr result (AppendsFront (W.contents writer.old) (W.contents writer.new) line.now) }
-    ensures fault { IfErr result (λ fault. fault ≡ Fault.Output) }
-{
-    match send_line(writer, line) {
-        Ok(()) => Ok(()),
-        Err(_) => Err(Fault::Output),
-    }
 }

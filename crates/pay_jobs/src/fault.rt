@@ -1,9 +1,9 @@
 //! Why the program fails, and the status that it ends with.
 ghost use Rattle.std.specs.Prelude.{◌≡◌};
-ghost use Rattle.pay_jobs.specs.Faults.{IsRefusal, IsWantOfMemory, status_of, stream_fault};
+ghost use Rattle.pay_jobs.specs.Faults.{IsRefusal, IsWantOfMemory, IsWeekFault, status_of, stream_fault};
 ghost use Rattle.pay_tables.specs.Words.{fault_number, fault_name};
 
-use pay_session::SessionFault;
+use pay_session::{SessionFault, WeekFault};
 use pay_tables::FareFileFault;
 use std::alloc::AllocError;
 use thiserror::Error;
@@ -72,6 +72,17 @@ impl From<SessionFault> for Fault {
         match fault {
             SessionFault::Read { .. } => Fault::Input,
             SessionFault::Write { .. } => Fault::Output,
+        }
+    }
+}
+
+impl From<WeekFault> for Fault {
+    ghost from_gives = { λ of fault. IsWeekFault of fault };
+
+    fn from(fault: WeekFault) -> Fault {
+        match fault {
+            WeekFault::Session(broken) => Fault::from(broken),
+            WeekFault::Memory => Fault::from(AllocError),
         }
     }
 }

@@ -35,7 +35,8 @@ pub fn run_texts<R: BufRead, W: Write>(
     Ok(done)
 }
 
-fn read_fares(alloc: Global, text: &str) -> Result<Arc<Tables>, Fault>
+/// The fare file that a text says.
+pub(crate) fn read_fares(alloc: Global, text: &str) -> Result<Arc<Tables>, Fault>
     ensures ok { IfOk result (λ tables. fare_text text.now ≡ Ok (arc_value tables)) }
     ensures refused { IfErr result (λ fault. IsRefused fault text.now) }
 {
@@ -44,7 +45,8 @@ fn read_fares(alloc: Global, text: &str) -> Result<Arc<Tables>, Fault>
     Ok(shared)
 }
 
-fn read_zone(text: &str) -> Result<TimeZone<'static>, Fault>
+/// The zone of a text, a POSIX rule.
+pub(crate) fn read_zone(text: &str) -> Result<TimeZone<'static>, Fault>
     ensures ok { IfOk result (λ zone. IsPosixZone text.now (plain_zone zone)) }
     ensures bad { IfErr result (λ fault. fault ≡ Fault.BadZone) }
     ensures none { OnErr result (read_whole text.now ≡ None) }

@@ -1,9 +1,10 @@
 -- The words of which a job was made, in their order.
-use Rattle.std.proofs.Common.{◌≡◌, ◌∙◌, ℕ, codes, false, zero, suc, refl, ap, List, [], ◌∷◌, None, inl, inr, drop, slice_index, ◌≢◌}
+use Rattle.std.proofs.Common.{◌≡◌, ◌∙◌, ℕ, Bool, codes, true, false, true≢false, ◌==◌, ◌&&◌, eqb-true, refl, sym, subst, ap, List, [], ◌∷◌, None, inl, inr, drop, slice_index, ◌≢◌}
 use Rattle.clap.specs.Walk.{Text}
 use Rattle.std.specs.Prelude.{⊤}
-use Rattle.pay_words.specs.Asked.{Asked, Word, asked, given, word_kind, option_asked, program_asked, run_asked, run, check_asked, check}
-use Rattle.pay_words.specs.Asked.{Given, all_given, given_by, with_value, values, help, refused, without_dashes}
+use Rattle.pay_words.specs.Asked.{Asked, Word, asked, given, word_kind, option_asked, program_asked, run_asked, run, run_readers, check_asked, check, check_readers, statement_asked, statement, statement_readers, number_of, is_account, is_day}
+use Rattle.clap.specs.ValueTests.{is_unsigned_in}
+use Rattle.pay_words.specs.Asked.{Given, Reader, taken, all_given, given_by, with_value, values, help, refused, without_dashes}
 use Rattle.pay_words.specs.Asked as words
 use Rattle.std.proofs.lemmas.Bool.Decides.{eqb_tells}
 use Rattle.pay_words.proofs.Programs.{by_program}
@@ -21,56 +22,113 @@ one_more word (values more) vs e = (more, refl, ap listed e)
 one_more word help vs e = cc
 one_more word refused vs e = cc
 
-all_are : (n : ℕ) (rest vs : List Text) → all_given n rest ≡ values vs → rest ≡ vs
-all_are n [] vs e = ap listed e
-all_are zero (word ∷ rest) vs e = cc
-all_are (suc n) (word ∷ rest) vs e =
-    let m = one_more word (all_given n rest) vs e in
-    ap (λ (l : List Text). word ∷ l) (all_are n rest m.0 m.1) ∙ m.2
+-- a value that its reader takes, and what is given after it
+one_taken : (reads : Reader) (word : Text) (g : Given) (vs : List Text) → taken reads word g ≡ values vs
+    → (more : List Text) × (g ≡ values more) × (word ∷ more ≡ vs) × (reads word ≡ true)
+one_taken reads word g vs e = go (reads word) refl
+  where
+    go : (fits : Bool) → reads word ≡ fits → (more : List Text) × (g ≡ values more) × (word ∷ more ≡ vs) × (reads word ≡ true)
+    go true is =
+        let m = one_more word g vs (rw is at e) in
+        (m.0, m.1, m.2, is)
+    go false is =
+        let none : refused ≡ values vs = rw is at e in cc
 
-any_row : (word : Text) → Reads run_rules false run_long run_short [] None (word_kind word) word
-any_row word = reads run_rules false run_long run_short [] None refl word
+all_are : (readers : List Reader) (rest vs : List Text) → all_given readers rest ≡ values vs → rest ≡ vs
+all_are readers [] vs e = ap listed e
+all_are [] (word ∷ rest) vs e = cc
+all_are (reads ∷ readers) (word ∷ rest) vs e =
+    let m = one_taken reads word (all_given readers rest) vs e in
+    ap (λ (l : List Text). word ∷ l) (all_are readers rest m.0 m.1) ∙ m.2
+
+any_row : (word : Text) → Reads run_rules false run_long run_short [] [] None (word_kind word) word
+any_row word = reads run_rules false run_long run_short [] [] None refl word
 
 -- the values are the words, but for the first `--`
-given_are : (n : ℕ) (rest vs : List Text) → given n rest ≡ values vs → without_dashes rest ≡ vs
-given_are n [] vs e = ap listed e
-given_are n (word ∷ rest) vs e = go (word_kind word) (any_row word) n e (λ m ws h. given_are m rest ws h)
+given_are : (readers : List Reader) (rest vs : List Text) → given readers rest ≡ values vs → without_dashes rest ≡ vs
+given_are readers [] vs e = ap listed e
+given_are readers (word ∷ rest) vs e = go (word_kind word) (any_row word) readers e (λ others ws h. given_are others rest ws h)
   where
-    go : (k : Word) → Reads run_rules false run_long run_short [] None k word → (n : ℕ) → given_by k n word rest (λ m. given m rest) ≡ values vs
-        → ((m : ℕ) (ws : List Text) → given m rest ≡ values ws → without_dashes rest ≡ ws) → without_dashes (word ∷ rest) ≡ vs
-    go words.value r zero e next = cc
-    go words.value r (suc n) e next =
-        let m = one_more word (given n rest) vs e in
-        rw r.0 (ap (λ (l : List Text). word ∷ l) (next n m.0 m.1) ∙ m.2)
-    go words.dashes r n e next = rw r (all_are n rest vs e)
-    go words.call_for_help r n e next = cc
-    go words.call_for_version r n e next = cc
-    go words.option r n e next = cc
+    go : (k : Word) → Reads run_rules false run_long run_short [] [] None k word → (readers : List Reader) → given_by k readers word rest (λ others. given others rest) ≡ values vs
+        → ((others : List Reader) (ws : List Text) → given others rest ≡ values ws → without_dashes rest ≡ ws) → without_dashes (word ∷ rest) ≡ vs
+    go words.value r [] e next = cc
+    go words.value r (reads ∷ others) e next =
+        let m = one_taken reads word (given others rest) vs e in
+        rw r.0 (ap (λ (l : List Text). word ∷ l) (next others m.0 m.1) ∙ m.2)
+    go words.dashes r readers e next = rw r (all_are readers rest vs e)
+    go words.call_for_help r readers e next = cc
+    go words.call_for_version r readers e next = cc
+    go words.option r readers e next = cc
+
+-- each value is taken by its reader
+abbrev Pass : List Reader → List Text → Type 0
+Pass readers [] = ⊤
+Pass [] (word ∷ more) = ⊥
+Pass (reads ∷ readers) (word ∷ more) = (reads word ≡ true) × Pass readers more
+
+all_pass : (readers : List Reader) (rest vs : List Text) → all_given readers rest ≡ values vs → Pass readers vs
+all_pass readers [] vs e = subst (Pass readers) (ap listed e) tt
+all_pass [] (word ∷ rest) vs e = cc
+all_pass (reads ∷ readers) (word ∷ rest) vs e =
+    let m = one_taken reads word (all_given readers rest) vs e in
+    subst (Pass (reads ∷ readers)) m.2 (m.3, all_pass readers rest m.0 m.1)
+
+given_pass : (readers : List Reader) (rest vs : List Text) → given readers rest ≡ values vs → Pass readers vs
+given_pass readers [] vs e = subst (Pass readers) (ap listed e) tt
+given_pass readers (word ∷ rest) vs e = go (word_kind word) readers e (λ others ws h. given_pass others rest ws h)
+  where
+    go : (k : Word) (readers : List Reader) → given_by k readers word rest (λ others. given others rest) ≡ values vs
+        → ((others : List Reader) (ws : List Text) → given others rest ≡ values ws → Pass others ws) → Pass readers vs
+    go words.value [] e next = cc
+    go words.value (reads ∷ others) e next =
+        let m = one_taken reads word (given others rest) vs e in
+        subst (Pass (reads ∷ others)) m.2 (m.3, next others m.0 m.1)
+    go words.dashes readers e next = all_pass readers rest vs e
+    go words.call_for_help readers e next = cc
+    go words.call_for_version readers e next = cc
+    go words.option readers e next = cc
 
 -- the words after the program's own name, of a job, and what they were where there is none
 abbrev pub AreWordsOf : Asked → List Text → Type 0
 AreWordsOf (run a b) ws = without_dashes ws ≡ codes "run" ∷ a ∷ b ∷ []
 AreWordsOf (check a) ws = without_dashes ws ≡ codes "check" ∷ a ∷ []
+AreWordsOf (statement a b account day) ws = (n : Text) × (d : Text) × (is_account n ≡ true) × (number_of n ≡ account) × (is_day d ≡ true) × (number_of d ≡ day)
+    × (without_dashes ws ≡ codes "statement" ∷ a ∷ b ∷ n ∷ d ∷ [])
 AreWordsOf _ ws = ⊤
 
-after_run : (rest : List Text) → AreWordsOf (run_asked (given 2 rest)) (codes "run" ∷ rest)
-after_run rest = go (given 2 rest) refl
+after_run : (rest : List Text) → AreWordsOf (run_asked (given run_readers rest)) (codes "run" ∷ rest)
+after_run rest = go (given run_readers rest) refl
   where
-    go : (g : Given) → given 2 rest ≡ g → AreWordsOf (run_asked g) (codes "run" ∷ rest)
+    go : (g : Given) → given run_readers rest ≡ g → AreWordsOf (run_asked g) (codes "run" ∷ rest)
     go (values []) e = tt
     go (values (a ∷ [])) e = tt
-    go (values (a ∷ b ∷ [])) e = ap (λ (l : List Text). codes "run" ∷ l) (given_are 2 rest (a ∷ b ∷ []) e)
+    go (values (a ∷ b ∷ [])) e = ap (λ (l : List Text). codes "run" ∷ l) (given_are run_readers rest (a ∷ b ∷ []) e)
     go (values (a ∷ b ∷ c ∷ more)) e = tt
     go help e = tt
     go refused e = tt
 
-after_check : (rest : List Text) → AreWordsOf (check_asked (given 1 rest)) (codes "check" ∷ rest)
-after_check rest = go (given 1 rest) refl
+after_check : (rest : List Text) → AreWordsOf (check_asked (given check_readers rest)) (codes "check" ∷ rest)
+after_check rest = go (given check_readers rest) refl
   where
-    go : (g : Given) → given 1 rest ≡ g → AreWordsOf (check_asked g) (codes "check" ∷ rest)
+    go : (g : Given) → given check_readers rest ≡ g → AreWordsOf (check_asked g) (codes "check" ∷ rest)
     go (values []) e = tt
-    go (values (a ∷ [])) e = ap (λ (l : List Text). codes "check" ∷ l) (given_are 1 rest (a ∷ []) e)
+    go (values (a ∷ [])) e = ap (λ (l : List Text). codes "check" ∷ l) (given_are check_readers rest (a ∷ []) e)
     go (values (a ∷ b ∷ more)) e = tt
+    go help e = tt
+    go refused e = tt
+
+after_statement : (rest : List Text) → AreWordsOf (statement_asked (given statement_readers rest)) (codes "statement" ∷ rest)
+after_statement rest = go (given statement_readers rest) refl
+  where
+    go : (g : Given) → given statement_readers rest ≡ g → AreWordsOf (statement_asked g) (codes "statement" ∷ rest)
+    go (values []) e = tt
+    go (values (a ∷ [])) e = tt
+    go (values (a ∷ b ∷ [])) e = tt
+    go (values (a ∷ b ∷ n ∷ [])) e = tt
+    go (values (a ∷ b ∷ n ∷ d ∷ [])) e =
+        let pass = given_pass statement_readers rest (a ∷ b ∷ n ∷ d ∷ []) e in
+        (n, d, pass.1.1.0, refl, pass.1.1.1.0, refl, ap (λ (l : List Text). codes "statement" ∷ l) (given_are statement_readers rest (a ∷ b ∷ n ∷ d ∷ []) e))
+    go (values (a ∷ b ∷ n ∷ d ∷ c ∷ more)) e = tt
     go help e = tt
     go refused e = tt
 
@@ -85,8 +143,8 @@ after_option words.option ws = tt
 pub in_order : (ws : List Text) → AreWordsOf (asked ws) (drop 1 ws)
 in_order [] = tt
 in_order (name ∷ []) = tt
-in_order (name ∷ word ∷ rest) = by_program (λ (w : Text). AreWordsOf (program_asked w rest) (w ∷ rest)) word (after_run rest) (after_check rest) tt
-    (λ no_run no_check no_help. rw (no_run, no_check, no_help) (after_option (word_kind word) (word ∷ rest)))
+in_order (name ∷ word ∷ rest) = by_program (λ (w : Text). AreWordsOf (program_asked w rest) (w ∷ rest)) word (after_run rest) (after_check rest) (after_statement rest) tt
+    (λ no_run no_check no_statement no_help. rw (no_run, no_check, no_statement, no_help) (after_option (word_kind word) (word ∷ rest)))
 
 -- words with no hyphen before them are values
 no_hyphen : (w : Text) → slice_index w 0 ≢ 45 → word_kind w ≡ words.value
@@ -102,3 +160,22 @@ asks_run ws name fares zone is f z = ap asked is ∙ (rw (no_hyphen fares f, no_
 
 pub asks_check : (ws : List Text) (name fares : Text) → ws ≡ name ∷ codes "check" ∷ fares ∷ [] → slice_index fares 0 ≢ 45 → asked ws ≡ check fares
 asks_check ws name fares is f = ap asked is ∙ (rw (no_hyphen fares f) refl)
+
+not_both : (a b : Bool) → ((a && false) && b) ≡ true → ⊥
+not_both true b e = true≢false (sym e)
+not_both false b e = true≢false (sym e)
+
+-- a number that is taken has no hyphen before it
+number_is_value : (least most : ℕ) (w : Text) → is_unsigned_in least most w ≡ true → word_kind w ≡ words.value
+number_is_value least most [] fits = refl
+number_is_value least most (b ∷ rest) fits = go (b == 45) refl
+  where
+    go : (t : Bool) → (b == 45) ≡ t → word_kind (b ∷ rest) ≡ words.value
+    go true t = absurd (not_both _ _ (rw (eqb-true b 45 t) at fits))
+    go false t = rw t refl
+
+pub asks_statement : (ws : List Text) (name fares zone account day : Text) → ws ≡ name ∷ codes "statement" ∷ fares ∷ zone ∷ account ∷ day ∷ []
+    → slice_index fares 0 ≢ 45 → slice_index zone 0 ≢ 45 → is_account account ≡ true → is_day day ≡ true
+    → asked ws ≡ statement fares zone (number_of account) (number_of day)
+asks_statement ws name fares zone account day is f z a d =
+    ap asked is ∙ (rw (no_hyphen fares f, no_hyphen zone z, number_is_value 1 4_294_967_295 account a, number_is_value 4 50_000 day d, a, d) refl)

@@ -1,9 +1,11 @@
 mod JobWords
+mod Numbers
 mod Programs
 mod Results
 mod WordKinds
 mod WordLevels
 mod WordsAfterCheck
 mod WordsAfterRun
+mod WordsAfterStatement
 mod WordsAsked
 mod WordsOfProgram

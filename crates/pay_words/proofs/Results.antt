@@ -1,27 +1,30 @@
 -- What the clauses of the result say, by what `clap` makes of the words.
-use Rattle.std.proofs.Common.{◌≡◌, ◌∙◌, codes, true, refl, sym, ap, subst, List, [], ◌∷◌, Option, Some, None, ◌⊎◌, inl, inr, true≢false, option_map, drop, Result, Ok, Err, IfOk, IfErr, MatchResult, slice_index, ◌≢◌}
+use Rattle.std.proofs.Common.{◌≡◌, ◌∙◌, ◌≤◌, false, ℕ, codes, true, refl, sym, ap, subst, List, [], ◌∷◌, Option, Some, None, ◌⊎◌, inl, inr, true≢false, option_map, drop, Result, Ok, Err, IfOk, IfErr, MatchResult, slice_index, ◌≢◌}
 use Rattle.clap.specs.Walk.{Row, Text}
 use Rattle.clap.specs.Simple.{subcommand_of}
 use Rattle.clap.specs.Kinds.{Kinds}
 use Rattle.clap.specs.Faults.{fault_of}
 use Rattle.clap.specs.declared.error.kind.ErrorKind.TheVariants.{DisplayHelp, DisplayVersion, InvalidSubcommand, OutOfMemory}
-use Rattle.pay_words.specs.Asked.{Asked, asked, run, check, help_asked, help_named, version_asked, usage, IsFaultOf, job_asked, job_words, without_dashes}
+use Rattle.pay_words.specs.Asked.{Asked, asked, is_account, is_day, number_of, run, check, statement, help_asked, help_named, version_asked, usage, IsFaultOf, job_asked, AreJobWords, IsJobInRange, without_dashes}
 use Rattle.std.specs.List.{list_all}
-use Rattle.clap.specs.Words.{HasMatchesOf, IsAmong, first_of, first_value, rows_of, subcommand_rows_of}
+use Rattle.clap.specs.Words.{HasMatchesOf, IsAmong, first_of, first_value, one_text, rows_of, subcommand_rows_of}
 use Rattle.clap.specs.declared.error.kind.ErrorKind.{ErrorKind}
 use Rattle.clap.specs.declared.parser.matches.ArgMatches.{ArgMatches}
 use Rattle.clap.specs.declared.parser.matches.Found.{Found}
-use Rattle.clap.proofs.WalkLemmas.{both, first_value-rows}
+use Rattle.clap.specs.declared.builder.value_parser.ValueParser.TheVariants as vp
+use Rattle.clap.proofs.ValueTestLemmas.{accepts-Accepts}
+use Rattle.clap.specs.Walk.{one_of}
+use Rattle.clap.proofs.WalkLemmas.{both, first_value-rows, one_text-rows}
 use Rattle.std.specs.Prelude.{IsOkAnd}
 use Rattle.pay_words.specs.declared.words.Job.{Job}
-use Rattle.pay_words.specs.declared.words.Job.TheVariants.{Run, Check}
+use Rattle.pay_words.specs.declared.words.Job.TheVariants.{Run, Check, Statement}
 use Rattle.pay_words.specs.declared.words.WordsFault.{WordsFault}
 use Rattle.pay_words.specs.declared.words.WordsFault.TheVariants.{Help, Version, Usage, Memory}
-use Rattle.pay_words.specs.CommandLine.{GivesCheck, GivesRun, IsFaultOfKind, IsHelpOrMemory, IsVersionOrMemory, farebox_app, values_in}
+use Rattle.pay_words.specs.CommandLine.{GivesCheck, GivesRun, GivesStatement, IsFaultOfKind, IsHelpOrMemory, IsVersionOrMemory, farebox_app, values_in, values_with_numbers}
 use Rattle.pay_words.proofs.WordKinds.{Refuses, is_refusal}
 use Rattle.pay_words.proofs.WordsOfProgram.{Comes}
 use Rattle.pay_words.proofs.WordsAsked.{comes}
-use Rattle.pay_words.proofs.JobWords.{AreWordsOf, asks_check, asks_run, in_order}
+use Rattle.pay_words.proofs.JobWords.{AreWordsOf, asks_check, asks_run, asks_statement, in_order}
 
 -- ---- a parse that succeeds
 
@@ -29,6 +32,7 @@ use Rattle.pay_words.proofs.JobWords.{AreWordsOf, asks_check, asks_run, in_order
 abbrev pub Gives : ArgMatches → Asked → Type 0
 Gives m (run fares zone) = GivesRun m fares zone
 Gives m (check fares) = GivesCheck m fares
+Gives m (statement fares zone account day) = GivesStatement m fares zone account day
 Gives m _ = ⊥
 
 -- a parse that succeeds had the words of a job
@@ -38,6 +42,7 @@ matched ws m none has = go (asked ws) (comes ws)
     go : (x : Asked) → Comes x (fault_of farebox_app ws) (subcommand_of farebox_app ws) → Gives m x
     go (run a b) h = ap (option_map values_in) ((has refl).1 ∙ h.1)
     go (check a) h = ap (option_map values_in) ((has refl).1 ∙ h.1)
+    go (statement a b account day) h = (h.1.0, h.1.1, ap (option_map values_with_numbers) ((has refl).1 ∙ h.1.2), h.1.3, h.1.4, h.1.5, h.1.6)
     go help_asked h =
         let both : [] ≡ DisplayHelp ∷ [] = sym none ∙ h in cc
     go help_named h =
@@ -88,6 +93,7 @@ refused_as ws k fault (inr among) is = go (asked ws) (comes ws)
     go : (x : Asked) → Comes x (fault_of farebox_app ws) (subcommand_of farebox_app ws) → IsFaultOf x fault
     go (run a b) h = absurd (subst (IsAmong k) h.0 among)
     go (check a) h = absurd (subst (IsAmong k) h.0 among)
+    go (statement a b account day) h = absurd (subst (IsAmong k) h.0 among)
     go help_asked h = elim (subst (IsAmong k) h among) [
       | inl e ↦ called_help help_asked fault (inl refl) (subst (λ (y : ErrorKind). IsFaultOfKind y fault) e is)
       | inr bad ↦ absurd bad
@@ -131,6 +137,27 @@ check_value m f fares same gives = go (subcommand_rows_of m) same gives
         let all : values_in p ≡ (codes "check", Some fares, None) = cc in
         first_value-rows f (codes "FARES") ∙ (ap (first_of (codes "FARES")) rows_are ∙ ap (λ (t : Text × Option Text × Option Text). t.1) all)
 
+-- the matches of `statement` have its values, and the words for its numbers
+pub statement_values : (m : ArgMatches) (f : Found) (fares zone : Text) (account day : ℕ) → Some (rows_of f) ≡ option_map (λ p. p.1) (subcommand_rows_of m)
+    → (gives : GivesStatement m fares zone account day)
+    → (first_value f (codes "FARES") ≡ Some fares) × (first_value f (codes "ZONE") ≡ Some zone)
+    × (one_text f (codes "ACCOUNT") ≡ Some gives.0) × (one_text f (codes "DAY") ≡ Some gives.1)
+statement_values m f fares zone account day same gives = go (subcommand_rows_of m) same gives.2
+  where
+    go : (o : Option (Text × List Row)) → Some (rows_of f) ≡ option_map (λ p. p.1) o
+        → option_map values_with_numbers o ≡ Some (codes "statement", Some fares, Some zone, Some gives.0, Some gives.1)
+        → (first_value f (codes "FARES") ≡ Some fares) × (first_value f (codes "ZONE") ≡ Some zone)
+        × (one_text f (codes "ACCOUNT") ≡ Some gives.0) × (one_text f (codes "DAY") ≡ Some gives.1)
+    go None e h = cc
+    go (Some p) e h =
+        let rows_are : rows_of f ≡ p.1 = cc in
+        let all : values_with_numbers p ≡ (codes "statement", Some fares, Some zone, Some gives.0, Some gives.1) = cc in (
+          first_value-rows f (codes "FARES") ∙ (ap (first_of (codes "FARES")) rows_are ∙ ap (λ (t : Text × Option Text × Option Text × Option Text × Option Text). t.1) all),
+          first_value-rows f (codes "ZONE") ∙ (ap (first_of (codes "ZONE")) rows_are ∙ ap (λ (t : Text × Option Text × Option Text × Option Text × Option Text). t.2) all),
+          one_text-rows f (codes "ACCOUNT") ∙ (ap (one_of (codes "ACCOUNT")) rows_are ∙ ap (λ (t : Text × Option Text × Option Text × Option Text × Option Text). t.3) all),
+          one_text-rows f (codes "DAY") ∙ (ap (one_of (codes "DAY")) rows_are ∙ ap (λ (t : Text × Option Text × Option Text × Option Text × Option Text). t.4) all),
+        )
+
 -- ---- the clauses
 
 -- a job is read where its words are asked for
@@ -139,17 +166,20 @@ Reads r x = IsOkAnd r (λ job. job_asked job ≡ x)
 
 pub job_read : (m : ArgMatches) (x : Asked) (r : Result Job WordsFault) → Gives m x
     → ((fares zone : Text) → GivesRun m fares zone → Reads r (run fares zone))
-    → ((fares : Text) → GivesCheck m fares → Reads r (check fares)) → Reads r x
-job_read m (run a b) r h of_run of_check = of_run a b h
-job_read m (check a) r h of_run of_check = of_check a h
-job_read m help_asked r h of_run of_check = absurd h
-job_read m help_named r h of_run of_check = absurd h
-job_read m version_asked r h of_run of_check = absurd h
-job_read m usage r h of_run of_check = absurd h
+    → ((fares : Text) → GivesCheck m fares → Reads r (check fares))
+    → ((fares zone : Text) (account day : ℕ) → GivesStatement m fares zone account day → Reads r (statement fares zone account day)) → Reads r x
+job_read m (run a b) r h of_run of_check of_statement = of_run a b h
+job_read m (check a) r h of_run of_check of_statement = of_check a h
+job_read m (statement a b account day) r h of_run of_check of_statement = of_statement a b account day h
+job_read m help_asked r h of_run of_check of_statement = absurd h
+job_read m help_named r h of_run of_check of_statement = absurd h
+job_read m version_asked r h of_run of_check of_statement = absurd h
+job_read m usage r h of_run of_check of_statement = absurd h
 
-job_words_are : (ws : List Text) (job : Job) → asked ws ≡ job_asked job → without_dashes (drop 1 ws) ≡ job_words job
+job_words_are : (ws : List Text) (job : Job) → asked ws ≡ job_asked job → AreJobWords job (without_dashes (drop 1 ws))
 job_words_are ws (Run w) e = subst (λ (x : Asked). AreWordsOf x (drop 1 ws)) e (in_order ws)
 job_words_are ws (Check fares) e = subst (λ (x : Asked). AreWordsOf x (drop 1 ws)) e (in_order ws)
+job_words_are ws (Statement w) e = subst (λ (x : Asked). AreWordsOf x (drop 1 ws)) e (in_order ws)
 
 run_by_memory : (x : Asked) (a b : Text) (fault : WordsFault) → x ≡ run a b → IsFaultOf x fault → fault ≡ Memory
 run_by_memory x a b (Help text) e (inl h) = cc
@@ -169,6 +199,28 @@ check_by_memory x a Usage e (inl h) = cc
 check_by_memory x a Usage e (inr h) = cc
 check_by_memory x a Memory e h = refl
 
+job_in_range : (ws : List Text) (job : Job) → asked ws ≡ job_asked job → IsJobInRange job
+job_in_range ws (Run w) e = tt
+job_in_range ws (Check fares) e = tt
+job_in_range ws (Statement w) e =
+    let made = job_words_are ws (Statement w) e in
+    let account = accepts-Accepts false (vp.Unsigned 1 4_294_967_295) made.0 made.2 in
+    let day = accepts-Accepts false (vp.Unsigned 4 50_000) made.1 made.4 in
+    (subst (λ (n : ℕ). 1 ≤ n) made.3 account.2, subst (λ (n : ℕ). n ≤ 4_294_967_295) made.3 account.3, subst (λ (n : ℕ). 4 ≤ n) made.5 day.2, subst (λ (n : ℕ). n ≤ 50_000) made.5 day.3)
+
+pub result_in_range : (r : Result Job WordsFault) (ws : List Text) → IfOk r (λ job. asked ws ≡ job_asked job) → IfOk r IsJobInRange
+result_in_range (Ok job) ws h = job_in_range ws job h
+result_in_range (Err fault) ws h = tt
+
+statement_by_memory : (x : Asked) (a b : Text) (account day : ℕ) (fault : WordsFault) → x ≡ statement a b account day → IsFaultOf x fault → fault ≡ Memory
+statement_by_memory x a b account day (Help text) e (inl h) = cc
+statement_by_memory x a b account day (Help text) e (inr h) = cc
+statement_by_memory x a b account day (Version text) e h =
+    let not_both : statement a b account day ≡ version_asked = sym e ∙ h.0 in cc
+statement_by_memory x a b account day Usage e (inl h) = cc
+statement_by_memory x a b account day Usage e (inr h) = cc
+statement_by_memory x a b account day Memory e h = refl
+
 pub result_job : (r : Result Job WordsFault) (x : Asked) → Reads r x → IfOk r (λ job. x ≡ job_asked job)
 result_job (Ok job) x h = sym h
 result_job (Err fault) x h = absurd h
@@ -177,7 +229,7 @@ pub result_no_fault : (r : Result Job WordsFault) (x : Asked) (Q : WordsFault �
 result_no_fault (Ok job) x Q h = tt
 result_no_fault (Err fault) x Q h = absurd h
 
-pub result_words : (r : Result Job WordsFault) (ws : List Text) → IfOk r (λ job. asked ws ≡ job_asked job) → IfOk r (λ job. without_dashes (drop 1 ws) ≡ job_words job)
+pub result_words : (r : Result Job WordsFault) (ws : List Text) → IfOk r (λ job. asked ws ≡ job_asked job) → IfOk r (λ job. AreJobWords job (without_dashes (drop 1 ws)))
 result_words (Ok job) ws h = job_words_are ws job h
 result_words (Err fault) ws h = tt
 
@@ -192,3 +244,11 @@ pub result_check : (r : Result Job WordsFault) (ws : List Text) → IfOk r (λ j
     → MatchResult r (λ job. job_asked job ≡ check fares) (λ fault. fault ≡ Memory)
 result_check (Ok job) ws ok err name fares is f = sym ok ∙ asks_check ws name fares is f
 result_check (Err fault) ws ok err name fares is f = check_by_memory (asked ws) fares fault (asks_check ws name fares is f) err
+
+pub result_statement : (r : Result Job WordsFault) (ws : List Text) → IfOk r (λ job. asked ws ≡ job_asked job) → IfErr r (IsFaultOf (asked ws))
+    → (name fares zone account day : Text) → ws ≡ name ∷ codes "statement" ∷ fares ∷ zone ∷ account ∷ day ∷ [] → slice_index fares 0 ≢ 45 → slice_index zone 0 ≢ 45
+    → is_account account ≡ true → is_day day ≡ true
+    → MatchResult r (λ job. job_asked job ≡ statement fares zone (number_of account) (number_of day)) (λ fault. fault ≡ Memory)
+result_statement (Ok job) ws ok err name fares zone account day is f z a d = sym ok ∙ asks_statement ws name fares zone account day is f z a d
+result_statement (Err fault) ws ok err name fares zone account day is f z a d =
+    statement_by_memory (asked ws) fares zone (number_of account) (number_of day) fault (asks_statement ws name fares zone account day is f z a d) err

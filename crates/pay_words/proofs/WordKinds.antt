@@ -8,7 +8,7 @@ use Rattle.std.proofs.lemmas.Slice.Eq.{bytes_eq-Decides}
 use Rattle.clap.specs.Lexer.{has_byte, long_of}
 use Rattle.clap.specs.Walk.{Held, Row, Rule, Text, idle, value, arg_by_long, arg_by_short, long_or_other, bundle_met}
 use Rattle.clap.specs.Simple.{help_rule, version_rule}
-use Rattle.clap.specs.Kinds.{Kinds}
+use Rattle.clap.specs.Kinds.{Kinds, or_else}
 use Rattle.clap.specs.Faults.{flag_word_fault, long_fault, flags_fault, settle_fault}
 use Rattle.clap.specs.declared.builder.value_parser.ValueParser.TheVariants as vp
 use Rattle.clap.specs.declared.error.kind.ErrorKind.{ErrorKind}
@@ -53,10 +53,15 @@ abbrev pub Refuses : Kinds → Type 0
 Refuses [] = ⊥
 Refuses (k ∷ ks) = list_all is_refusal (k ∷ ks) ≡ true
 
--- what a call for the version comes to: it is an unknown option of a command that has none
-abbrev pub VersionCalled : Bool → Kinds → Type 0
-VersionCalled true ks = ks ≡ DisplayVersion ∷ []
-VersionCalled false ks = Refuses ks
+-- what a call for the version comes to, where a value that waits to be judged comes to `bad`: it is an unknown option of a command that has none
+abbrev pub VersionCalled : Bool → Kinds → Kinds → Type 0
+VersionCalled true bad ks = ks ≡ or_else bad (DisplayVersion ∷ [])
+VersionCalled false bad ks = Refuses ks
+
+-- what comes after the one kind changes nothing
+one_kind : (bad : Kinds) (k : ErrorKind) (next : Kinds) → or_else (or_else bad (k ∷ [])) next ≡ or_else bad (k ∷ [])
+one_kind [] k next = refl
+one_kind (b ∷ bad) k next = refl
 
 pub whole_name : (xs : List ℕ) → has_byte 61 xs ≡ false → before_first (λ x. x == 61) xs ≡ xs
 whole_name [] e = refl
@@ -88,7 +93,7 @@ named : (xs known : List ℕ) → before_first (λ x. x == 61) xs ≡ known → 
 named xs known is none = (bytes_eq-Decides xs known).1 (sym (whole_name xs none) ∙ is)
 
 module _ (c : List Rule) (versioned : Bool) (long : LongOptions c versioned) (short : ShortOptions c versioned)
-    (rows : List Row) (pending : Option (Text × List Text)) where
+    (bad : Kinds) (rows : List Row) (pending : Option (Text × List Text)) where
   abbrev held : Held
   held = record { rows = rows; pending = pending; skip = 0 }
 
@@ -99,14 +104,14 @@ module _ (c : List Rule) (versioned : Bool) (long : LongOptions c versioned) (sh
       × (long_or_other c idle w (long_of w) held ≡ (held, value))
   Reads words.dashes w = bytes_eq w (45 ∷ 45 ∷ []) ≡ true
   Reads words.call_for_help w = (bytes_eq w (45 ∷ 45 ∷ []) ≡ false)
-      × (flag_word_fault c false (long_of w) w held ≡ DisplayHelp ∷ [])
+      × (flag_word_fault c false (long_of w) w held ≡ or_else bad (DisplayHelp ∷ []))
   Reads words.call_for_version w = (bytes_eq w (45 ∷ 45 ∷ []) ≡ false)
-      × VersionCalled versioned (flag_word_fault c false (long_of w) w held)
+      × VersionCalled versioned bad (flag_word_fault c false (long_of w) w held)
   Reads words.option w = (bytes_eq w (45 ∷ 45 ∷ []) ≡ false)
       × Refuses (flag_word_fault c false (long_of w) w held)
 
   -- the first letter after the hyphen
-  letter : (settles : settle_fault c false held ≡ []) (x : ℕ) (xs : List ℕ) (o : Option ℕ) → slice_get (chars (x ∷ xs)) 0 ≡ o → (x == 45) ≡ false
+  letter : (settles : settle_fault c false held ≡ bad) (x : ℕ) (xs : List ℕ) (o : Option ℕ) → slice_get (chars (x ∷ xs)) 0 ≡ o → (x == 45) ≡ false
       → Reads (kind_by_letter o) (45 ∷ x ∷ xs)
   unfolding flags_fault bundle_met
   letter settles x xs None first other = (rw other refl, rw (other, other, first) refl, rw (other, other, first) refl)
@@ -116,10 +121,10 @@ module _ (c : List Rule) (versioned : Bool) (long : LongOptions c versioned) (sh
           → Reads (if t then words.call_for_help else (if u then words.call_for_version else words.option)) (45 ∷ x ∷ xs)
       go true t u e v is =
           let found : arg_by_short c l ≡ Some help_filled = short l ∙ (rw (eqb-true l 104 t) refl) in
-          (rw other refl, rw (other, other, first, found, settles) refl)
+          (rw other refl, rw (other, other, first, found, settles) (one_kind bad DisplayHelp _))
       go false t true e true is =
           let found : arg_by_short c l ≡ Some version_filled = short l ∙ (rw (eqb-true l 86 e, is) refl) in
-          (rw other refl, rw is (rw (other, other, first, found, settles) refl))
+          (rw other refl, rw is (rw (other, other, first, found, settles) (one_kind bad DisplayVersion _)))
       go false t true e false is =
           let none : arg_by_short c l ≡ None = short l ∙ (rw (eqb-true l 86 e, is) refl) in
           (rw other refl, rw is (rw (other, other, first, none) refl))
@@ -159,7 +164,7 @@ module _ (c : List Rule) (versioned : Bool) (long : LongOptions c versioned) (sh
           let so : bytes_eq xs (codes "version") ≡ true = named xs (codes "version") (is ∙ sym same) h in
           absurd (true≢false (sym so ∙ no_version))
 
-  long_version : (settles : settle_fault c false held ≡ []) (v : Bool) → versioned ≡ v → Reads words.call_for_version (codes "--version")
+  long_version : (settles : settle_fault c false held ≡ bad) (v : Bool) → versioned ≡ v → Reads words.call_for_version (codes "--version")
   long_version settles true is =
       let found : arg_by_long c (codes "version") ≡ Some version_filled = long (codes "version") ∙ (rw is refl) in
       (refl, rw is (rw (found, settles) refl))
@@ -167,7 +172,7 @@ module _ (c : List Rule) (versioned : Bool) (long : LongOptions c versioned) (sh
       let none : arg_by_long c (codes "version") ≡ None = long (codes "version") ∙ (rw is refl) in
       (refl, rw is (rw none refl))
 
-  long_word : (settles : settle_fault c false held ≡ []) (xs : List ℕ) → Reads (kind_after_hyphen (45 ∷ xs)) (45 ∷ 45 ∷ xs)
+  long_word : (settles : settle_fault c false held ≡ bad) (xs : List ℕ) → Reads (kind_after_hyphen (45 ∷ xs)) (45 ∷ 45 ∷ xs)
   unfolding chars
   long_word settles [] = refl
   long_word settles (y ∷ ys) = go (bytes_eq (y ∷ ys) (codes "help")) refl (bytes_eq (y ∷ ys) (codes "version")) refl
@@ -181,7 +186,7 @@ module _ (c : List Rule) (versioned : Bool) (long : LongOptions c versioned) (sh
           subst (λ v. Reads (kind_after_hyphen (45 ∷ v)) (45 ∷ 45 ∷ v)) (sym (same_bytes (y ∷ ys) (codes "version") e)) (long_version settles versioned refl)
       go false t false e = rw (t, e) (refl, other_long (y ∷ ys) t e _ refl)
 
-  hyphen : (settles : settle_fault c false held ≡ []) (rest : List ℕ) → Reads (kind_after_hyphen rest) (45 ∷ rest)
+  hyphen : (settles : settle_fault c false held ≡ bad) (rest : List ℕ) → Reads (kind_after_hyphen rest) (45 ∷ rest)
   unfolding chars flags_fault bundle_met
   hyphen settles [] = (refl, refl, refl)
   hyphen settles (x ∷ xs) = go (x == 45) refl
@@ -190,7 +195,7 @@ module _ (c : List Rule) (versioned : Bool) (long : LongOptions c versioned) (sh
       go true t = subst (λ v. Reads (kind_after_hyphen (v ∷ xs)) (45 ∷ v ∷ xs)) (sym (eqb-true x 45 t)) (long_word settles xs)
       go false t = simp t (letter settles x xs _ refl t)
 
-  pub reads : (settles : settle_fault c false held ≡ []) (w : Text) → Reads (word_kind w) w
+  pub reads : (settles : settle_fault c false held ≡ bad) (w : Text) → Reads (word_kind w) w
   reads settles [] = (refl, refl, refl)
   reads settles (b ∷ rest) = go (b == 45) refl
     where

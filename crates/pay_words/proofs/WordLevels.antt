@@ -55,7 +55,7 @@ place rows pending position is_trailing = record {
   stopped = None;
 }
 
-module _ (c : List Rule) (versioned : Bool) (long : LongOptions c versioned) (short : ShortOptions c versioned)
+module _ (c : List Rule) (versioned : Bool) (long : LongOptions c versioned) (short : ShortOptions c versioned) (bad : Kinds)
     (s : Shape) (names : Names) (rows : List Row) (pending : Option (Text × List Text)) (position : ℕ)
     (word : Text) (unmet : subcommand_met names idle word ≡ None) where
   abbrev shape : Shape
@@ -65,7 +65,7 @@ module _ (c : List Rule) (versioned : Bool) (long : LongOptions c versioned) (sh
   here = place rows pending position false
 
   abbrev ReadsAs : Word → Type 0
-  ReadsAs k = Reads c versioned long short rows pending k word
+  ReadsAs k = Reads c versioned long short bad rows pending k word
 
   -- an option that shows a text, and what was asked for
   pub turn_shows : (k : ErrorKind) → bytes_eq word (45 ∷ 45 ∷ []) ≡ false → flag_word_fault c false (long_of word) word here.held ≡ k ∷ []

@@ -6,7 +6,7 @@ use Rattle.clap.specs.Simple.{App, Shape, built, built_leaf, entered, help_shape
 use Rattle.clap.specs.Kinds.{Kinds, or_else}
 use Rattle.clap.specs.Faults.{check_fault, defaults_fault, entered_fault, fault_of, flags_fault, settle_fault, turn_fault, walk_fault}
 use Rattle.clap.specs.declared.error.kind.ErrorKind.TheVariants.{DisplayHelp, DisplayVersion, InvalidSubcommand, UnknownArgument}
-use Rattle.pay_words.specs.Asked.{Asked, Word, asked, check_asked, given, word_kind, option_asked, program_asked, run_asked}
+use Rattle.pay_words.specs.Asked.{Asked, Word, asked, check_asked, check_readers, given, word_kind, option_asked, program_asked, run_asked, run_readers, statement_asked, statement_readers}
 use Rattle.pay_words.specs.Asked as words
 use Rattle.pay_words.specs.CommandLine.{farebox_app}
 use Rattle.pay_words.proofs.Programs.{by_program}
@@ -15,6 +15,7 @@ use Rattle.pay_words.proofs.WordLevels.{Level, place, refuses_first, turn_dashes
 use Rattle.pay_words.proofs.WordsOfProgram.{Comes}
 use Rattle.pay_words.proofs.WordsAfterCheck.{check_ends, check_shape}
 use Rattle.pay_words.proofs.WordsAfterRun.{run_ends, run_shape}
+use Rattle.pay_words.proofs.WordsAfterStatement.{statement_ends, statement_shape}
 
 abbrev top_shape : Shape
 top_shape = record (new_shape (codes "farebox")) { rules = help_filled ∷ version_filled ∷ []; is_leaf = false; has_version = true; subcommand_required = true; is_built = true }
@@ -23,13 +24,13 @@ abbrev help_built : Shape
 help_built = built_leaf (record help_shape { disable_help_subcommand = true })
 
 abbrev farebox_built : App
-farebox_built = record { top = top_shape; subs = run_shape ∷ check_shape ∷ help_built ∷ [] }
+farebox_built = record { top = top_shape; subs = run_shape ∷ check_shape ∷ statement_shape ∷ help_built ∷ [] }
 
 built_farebox : built farebox_app ≡ farebox_built
 built_farebox = refl
 
 abbrev names : Names
-names = (codes "run", []) ∷ (codes "check", []) ∷ (codes "help", []) ∷ []
+names = (codes "run", []) ∷ (codes "check", []) ∷ (codes "statement", []) ∷ (codes "help", []) ∷ []
 
 top_long : LongOptions top_shape.rules true
 top_long name = refl
@@ -61,7 +62,7 @@ fault_is name words = refl
 subcommand_is : (name : Text) (words : List Text) → subcommand_of farebox_app (name ∷ words) ≡ entered farebox_built (end_of start words).stopped
 subcommand_is name words = refl
 
--- ---- `run` and `check`
+-- ---- `run`, `check` and `statement`
 
 -- the walk has met the name of a program, and these words after it
 abbrev met : Text → List Text → Walk
@@ -104,17 +105,30 @@ check_entered : (rest : List Text) → entered farebox_built (end_of start (code
 unfolding walked
 check_entered rest = ap (λ (w : Walk). entered farebox_built w.stopped) (met_words (codes "check") [] rest)
 
+met_statement : (rest : List Text) → whole start (codes "statement" ∷ rest) ≡ below statement_shape rest
+unfolding walked walk_fault defaults_fault
+met_statement rest = ap₂ end_kinds (no_kinds (codes "statement") [] rest) (met_words (codes "statement") [] rest) ∙ or_nothing (below statement_shape rest)
+
+statement_entered : (rest : List Text) → entered farebox_built (end_of start (codes "statement" ∷ rest)).stopped ≡ Some (codes "statement", rows_below statement_shape rest)
+unfolding walked
+statement_entered rest = ap (λ (w : Walk). entered farebox_built w.stopped) (met_words (codes "statement") [] rest)
+
 lifted : (x : Asked) (ks all : Kinds) (sub entry : Option (Text × List Row)) → all ≡ ks → entry ≡ sub → Comes x ks sub → Comes x all entry
 lifted x ks all sub entry same is h =
     subst (λ (k : Kinds). Comes x k entry) (sym same) (subst (λ (e : Option (Text × List Row)). Comes x ks e) (sym is) h)
 
-run_comes : (name : Text) (rest : List Text) → Comes (run_asked (given 2 rest)) (fault_of farebox_app (name ∷ codes "run" ∷ rest)) (subcommand_of farebox_app (name ∷ codes "run" ∷ rest))
-run_comes name rest = lifted (run_asked (given 2 rest)) (below run_shape rest) _ (Some (codes "run", rows_below run_shape rest)) _
+run_comes : (name : Text) (rest : List Text) → Comes (run_asked (given run_readers rest)) (fault_of farebox_app (name ∷ codes "run" ∷ rest)) (subcommand_of farebox_app (name ∷ codes "run" ∷ rest))
+run_comes name rest = lifted (run_asked (given run_readers rest)) (below run_shape rest) _ (Some (codes "run", rows_below run_shape rest)) _
     (fault_is name (codes "run" ∷ rest) ∙ met_run rest) (subcommand_is name (codes "run" ∷ rest) ∙ run_entered rest) (run_ends rest)
 
-check_comes : (name : Text) (rest : List Text) → Comes (check_asked (given 1 rest)) (fault_of farebox_app (name ∷ codes "check" ∷ rest)) (subcommand_of farebox_app (name ∷ codes "check" ∷ rest))
-check_comes name rest = lifted (check_asked (given 1 rest)) (below check_shape rest) _ (Some (codes "check", rows_below check_shape rest)) _
+check_comes : (name : Text) (rest : List Text) → Comes (check_asked (given check_readers rest)) (fault_of farebox_app (name ∷ codes "check" ∷ rest)) (subcommand_of farebox_app (name ∷ codes "check" ∷ rest))
+check_comes name rest = lifted (check_asked (given check_readers rest)) (below check_shape rest) _ (Some (codes "check", rows_below check_shape rest)) _
     (fault_is name (codes "check" ∷ rest) ∙ met_check rest) (subcommand_is name (codes "check" ∷ rest) ∙ check_entered rest) (check_ends rest)
+
+statement_comes : (name : Text) (rest : List Text)
+    → Comes (statement_asked (given statement_readers rest)) (fault_of farebox_app (name ∷ codes "statement" ∷ rest)) (subcommand_of farebox_app (name ∷ codes "statement" ∷ rest))
+statement_comes name rest = lifted (statement_asked (given statement_readers rest)) (below statement_shape rest) _ (Some (codes "statement", rows_below statement_shape rest)) _
+    (fault_is name (codes "statement" ∷ rest) ∙ met_statement rest) (subcommand_is name (codes "statement" ∷ rest) ∙ statement_entered rest) (statement_ends rest)
 
 -- ---- any other word
 
@@ -126,7 +140,7 @@ nothing_named (word ∷ rest) = refl
 
 module _ (name word : Text) (rest : List Text) (unmet : subcommand_met names idle word ≡ None) where
   abbrev TopReads : Word → Type 0
-  TopReads k = Reads top_shape.rules true top_long top_short [] None k word
+  TopReads k = Reads top_shape.rules true top_long top_short [] [] None k word
 
   abbrev after : Walk
   after = walked top_shape.rules names start word
@@ -142,20 +156,20 @@ module _ (name word : Text) (rest : List Text) (unmet : subcommand_met names idl
   option_comes : (k : Word) → TopReads k → Comes (option_asked k) (whole start (word ∷ rest)) (subcommand_of farebox_app (name ∷ word ∷ rest))
   unfolding first_kinds
   option_comes words.call_for_help r =
-      step_kinds ∙ ap (λ (t : Kinds). first_kinds t after) (turn_shows top_shape.rules true top_long top_short top_shape names [] None 1 word unmet DisplayHelp r.0 r.1)
+      step_kinds ∙ ap (λ (t : Kinds). first_kinds t after) (turn_shows top_shape.rules true top_long top_short [] top_shape names [] None 1 word unmet DisplayHelp r.0 r.1)
   option_comes words.call_for_version r =
-      step_kinds ∙ ap (λ (t : Kinds). first_kinds t after) (turn_shows top_shape.rules true top_long top_short top_shape names [] None 1 word unmet DisplayVersion r.0 r.1)
+      step_kinds ∙ ap (λ (t : Kinds). first_kinds t after) (turn_shows top_shape.rules true top_long top_short [] top_shape names [] None 1 word unmet DisplayVersion r.0 r.1)
   option_comes words.option r =
-      let declined = turn_refuses top_shape.rules true top_long top_short top_shape names [] None 1 word unmet r in
+      let declined = turn_refuses top_shape.rules true top_long top_short [] top_shape names [] None 1 word unmet r in
       let t : Kinds = turn_fault top_shape names start word in
       subst Refuses (sym step_kinds) (refuses_first (or_else t (walk_fault top_shape names after rest)) _ (refuses_first t (walk_fault top_shape names after rest) declined))
   option_comes words.value r =
       let stray : turn_fault top_shape names start word ≡ UnknownArgument ∷ InvalidSubcommand ∷ [] =
-      turn_value top_shape.rules true top_long top_short top_shape names [] None 1 word unmet r in
+      turn_value top_shape.rules true top_long top_short [] top_shape names [] None 1 word unmet r in
       subst Refuses (sym (step_kinds ∙ ap (λ (t : Kinds). first_kinds t after) stray)) refl
   option_comes words.dashes r =
-      let passes = turn_dashes top_shape.rules true top_long top_short top_shape names [] None 1 word unmet r in
-      let next = walked_dashes top_shape.rules true top_long top_short top_shape names [] None 1 word unmet r in
+      let passes = turn_dashes top_shape.rules true top_long top_short [] top_shape names [] None 1 word unmet r in
+      let next = walked_dashes top_shape.rules true top_long top_short [] top_shape names [] None 1 word unmet r in
       subst Refuses (sym (step_kinds ∙ ap₂ first_kinds passes next)) (nothing_named rest)
 
 pub comes : (ws : List Text) → Comes (asked ws) (fault_of farebox_app ws) (subcommand_of farebox_app ws)
@@ -163,8 +177,8 @@ unfolding walk_fault flags_fault walked defaults_fault
 comes [] = refl
 comes (name ∷ []) = refl
 comes (name ∷ word ∷ rest) = by_program (λ (w : Text). Comes (program_asked w rest) (fault_of farebox_app (name ∷ w ∷ rest)) (subcommand_of farebox_app (name ∷ w ∷ rest)))
-    word (run_comes name rest) (check_comes name rest) refl (λ no_run no_check no_help.
-    let unmet : subcommand_met names idle word ≡ None = rw (no_run, no_check, no_help) refl in
-    let asks : program_asked word rest ≡ option_asked (word_kind word) = rw (no_run, no_check, no_help) refl in
+    word (run_comes name rest) (check_comes name rest) (statement_comes name rest) refl (λ no_run no_check no_statement no_help.
+    let unmet : subcommand_met names idle word ≡ None = rw (no_run, no_check, no_statement, no_help) refl in
+    let asks : program_asked word rest ≡ option_asked (word_kind word) = rw (no_run, no_check, no_statement, no_help) refl in
     subst (λ (x : Asked). Comes x (fault_of farebox_app (name ∷ word ∷ rest)) (subcommand_of farebox_app (name ∷ word ∷ rest))) (sym asks)
-    (option_comes name word rest unmet (word_kind word) (reads top_shape.rules true top_long top_short [] None refl word)))
+    (option_comes name word rest unmet (word_kind word) (reads top_shape.rules true top_long top_short [] [] None refl word)))

@@ -1,12 +1,15 @@
 -- What the words of the process ask for.
-use Rattle.std.specs.Prelude.{◌≡◌, ◌==◌, ℕ, zero, suc, List, [], ◌∷◌, codes, refl}
-use Rattle.std.specs.Prelude.{◌⊎◌, ⊤, Option, Some, None, slice_get, if◌then◌else◌}
+use Rattle.std.specs.Prelude.{◌≡◌, ◌≤◌, ◌==◌, ℕ, List, [], ◌∷◌, codes, refl}
+use Rattle.std.specs.Prelude.{◌⊎◌, ⊤, Bool, true, Option, Some, None, slice_get, if◌then◌else◌}
 use Rattle.std.specs.Str.{bytes_eq, chars}
+use Rattle.std.specs.Str.Parse.{digits_value, without_leading_plus}
 use Rattle.std.specs.String.{string_bytes}
 use Rattle.pay_words.specs.declared.words.Job.{Job}
-use Rattle.pay_words.specs.declared.words.Job.TheVariants.{Run, Check}
+use Rattle.pay_words.specs.declared.words.Job.TheVariants.{Run, Check, Statement}
 use Rattle.pay_words.specs.declared.words.WordsFault.{WordsFault}
 use Rattle.pay_words.specs.declared.words.WordsFault.TheVariants.{Help, Version, Usage, Memory}
+use Rattle.pay_words.specs.declared.limits.TheConstants.{MOST_ACCOUNT, FIRST_DAY, LAST_DAY}
+use Rattle.clap.specs.ValueTests.{is_unsigned_in}
 
 abbrev pub Text : Type 0
 Text = List ℕ
@@ -43,6 +46,27 @@ abbrev pub word_kind : Text → Word
 word_kind [] = value
 word_kind (b ∷ rest) = if b == 45 then kind_after_hyphen rest else value
 
+-- ---- what a value may be
+
+-- what a value has to be, at its place among the values of a program
+abbrev pub Reader : Type 0
+Reader = Text → Bool
+
+abbrev pub any_text : Reader
+any_text word = true
+
+-- a number in its range, as `clap` reads it: decimal digits, of which the first may be zeros, and
+-- perhaps a plus before them
+abbrev pub is_account : Reader
+is_account word = is_unsigned_in 1 MOST_ACCOUNT word
+
+abbrev pub is_day : Reader
+is_day word = is_unsigned_in FIRST_DAY LAST_DAY word
+
+-- the number that such a word is
+abbrev pub number_of : Text → ℕ
+number_of word = digits_value 10 (without_leading_plus word)
+
 -- ---- the words of a program that takes values alone, and help
 
 -- its values, or what the first word that is refused or calls for help comes to
@@ -56,25 +80,29 @@ with_value word (values rest) = values (word ∷ rest)
 with_value word help = help
 with_value word refused = refused
 
--- words that are all values, of which at most n may be
-abbrev pub all_given : ℕ → List Text → Given
-all_given n [] = values []
-all_given zero (word ∷ rest) = refused
-all_given (suc n) (word ∷ rest) = with_value word (all_given n rest)
+-- a value that has to pass its reader, and what the words after it give
+abbrev pub taken : Reader → Text → Given → Given
+taken reads word after = if reads word then with_value word after else refused
 
--- a word by its kind, where n values may still come, and what the words after it give
-abbrev pub given_by : Word → ℕ → Text → List Text → (ℕ → Given) → Given
-given_by value zero word rest next = refused
-given_by value (suc n) word rest next = with_value word (next n)
-given_by dashes n word rest next = all_given n rest
-given_by call_for_help n word rest next = help
-given_by call_for_version n word rest next = refused
-given_by option n word rest next = refused
+-- words that are all values, each for the next of these readers
+abbrev pub all_given : List Reader → List Text → Given
+all_given readers [] = values []
+all_given [] (word ∷ rest) = refused
+all_given (reads ∷ readers) (word ∷ rest) = taken reads word (all_given readers rest)
 
--- the words, of which at most n may be values
-abbrev pub given : ℕ → List Text → Given
-given n [] = values []
-given n (word ∷ rest) = given_by (word_kind word) n word rest (λ m. given m rest)
+-- a word by its kind, where values for these readers may still come, and what the words after it give
+abbrev pub given_by : Word → List Reader → Text → List Text → (List Reader → Given) → Given
+given_by value [] word rest next = refused
+given_by value (reads ∷ readers) word rest next = taken reads word (next readers)
+given_by dashes readers word rest next = all_given readers rest
+given_by call_for_help readers word rest next = help
+given_by call_for_version readers word rest next = refused
+given_by option readers word rest next = refused
+
+-- the words, of which each that is a value is for the next of these readers
+abbrev pub given : List Reader → List Text → Given
+given readers [] = values []
+given readers (word ∷ rest) = given_by (word_kind word) readers word rest (λ others. given others rest)
 
 -- ---- the words of the process
 
@@ -84,6 +112,8 @@ pub data Asked : Type 0 where
   run : Text → Text → Asked
   -- `check` with its fare file
   check : Text → Asked
+  -- `statement` with its fare file, zone, account and day
+  statement : Text → Text → ℕ → ℕ → Asked
   -- help, by `-h` or `--help`
   help_asked : Asked
   -- the word `help`: help, or usage where a word after it names no program
@@ -105,16 +135,33 @@ check_asked (values (fares ∷ [])) = check fares
 check_asked help = help_asked
 check_asked _ = usage
 
+-- `statement FARES ZONE ACCOUNT DAY`
+abbrev pub statement_asked : Given → Asked
+statement_asked (values (fares ∷ zone ∷ account ∷ day ∷ [])) = statement fares zone (number_of account) (number_of day)
+statement_asked help = help_asked
+statement_asked _ = usage
+
+-- what the values of each program have to be
+abbrev pub run_readers : List Reader
+run_readers = any_text ∷ any_text ∷ []
+
+abbrev pub check_readers : List Reader
+check_readers = any_text ∷ []
+
+abbrev pub statement_readers : List Reader
+statement_readers = any_text ∷ any_text ∷ is_account ∷ is_day ∷ []
+
 abbrev pub option_asked : Word → Asked
 option_asked call_for_help = help_asked
 option_asked call_for_version = version_asked
 option_asked _ = usage
 
 abbrev pub program_asked : Text → List Text → Asked
-program_asked program rest = if bytes_eq (codes "run") program then run_asked (given 2 rest)
-    else (if bytes_eq (codes "check") program then check_asked (given 1 rest)
+program_asked program rest = if bytes_eq (codes "run") program then run_asked (given run_readers rest)
+    else (if bytes_eq (codes "check") program then check_asked (given check_readers rest)
+    else (if bytes_eq (codes "statement") program then statement_asked (given statement_readers rest)
     else (if bytes_eq (codes "help") program then help_named
-    else option_asked (word_kind program)))
+    else option_asked (word_kind program))))
 
 -- the first word is the program's own name, and the second names what it is to do
 abbrev pub asked : List Text → Asked
@@ -130,11 +177,21 @@ version_line = codes "farebox 0.1.0\n"
 abbrev pub job_asked : Job → Asked
 job_asked (Run w) = run w.fares.now w.zone.now
 job_asked (Check fares) = check fares.now
+job_asked (Statement w) = statement w.fares.now w.zone.now w.account w.day
 
--- the words that the job was made of
-abbrev pub job_words : Job → List Text
-job_words (Run w) = codes "run" ∷ w.fares.now ∷ w.zone.now ∷ []
-job_words (Check fares) = codes "check" ∷ fares.now ∷ []
+-- the words that the job was made of; a number may be spelled in several ways
+abbrev pub AreJobWords : Job → List Text → Type 0
+AreJobWords (Run w) words = words ≡ codes "run" ∷ w.fares.now ∷ w.zone.now ∷ []
+AreJobWords (Check fares) words = words ≡ codes "check" ∷ fares.now ∷ []
+AreJobWords (Statement w) words = (account : Text) × (day : Text)
+    × (is_account account ≡ true) × (number_of account ≡ w.account) × (is_day day ≡ true) × (number_of day ≡ w.day)
+    × (words ≡ codes "statement" ∷ w.fares.now ∷ w.zone.now ∷ account ∷ day ∷ [])
+
+-- the numbers of a job are in their ranges
+abbrev pub IsJobInRange : Job → Type 0
+IsJobInRange (Run w) = ⊤
+IsJobInRange (Check fares) = ⊤
+IsJobInRange (Statement w) = (1 ≤ w.account) × (w.account ≤ MOST_ACCOUNT) × (FIRST_DAY ≤ w.day) × (w.day ≤ LAST_DAY)
 
 -- what the fault says of the words; memory may be refused at any words
 abbrev pub IsFaultOf : Asked → WordsFault → Type 0
@@ -187,6 +244,59 @@ check_dashes_row = refl
 check_zone_row : row (codes "check" ∷ codes "a" ∷ codes "b" ∷ []) ≡ usage
 unfolding chars
 check_zone_row = refl
+
+abbrev statement_words : Text → Text → List Text
+statement_words account day = codes "statement" ∷ codes "a" ∷ codes "b" ∷ account ∷ day ∷ []
+
+statement_row : row (statement_words (codes "7") (codes "19730")) ≡ statement (codes "a") (codes "b") 7 19_730
+unfolding chars
+statement_row = refl
+
+greatest_account_row : row (statement_words (codes "4294967295") (codes "50000")) ≡ statement (codes "a") (codes "b") 4_294_967_295 50_000
+unfolding chars
+greatest_account_row = refl
+
+-- a number may have a plus and zeros before it
+plus_row : row (statement_words (codes "+7") (codes "004")) ≡ statement (codes "a") (codes "b") 7 4
+unfolding chars
+plus_row = refl
+
+account_0_row : row (statement_words (codes "0") (codes "19730")) ≡ usage
+unfolding chars
+account_0_row = refl
+
+account_beyond_row : row (statement_words (codes "4294967296") (codes "19730")) ≡ usage
+unfolding chars
+account_beyond_row = refl
+
+day_3_row : row (statement_words (codes "7") (codes "3")) ≡ usage
+unfolding chars
+day_3_row = refl
+
+day_beyond_row : row (statement_words (codes "7") (codes "50001")) ≡ usage
+unfolding chars
+day_beyond_row = refl
+
+no_number_row : row (statement_words (codes "x") (codes "19730")) ≡ usage
+unfolding chars
+no_number_row = refl
+
+no_day_row : row (codes "statement" ∷ codes "a" ∷ codes "b" ∷ codes "7" ∷ []) ≡ usage
+unfolding chars
+no_day_row = refl
+
+one_more_row : row (codes "statement" ∷ codes "a" ∷ codes "b" ∷ codes "7" ∷ codes "19730" ∷ codes "8" ∷ []) ≡ usage
+unfolding chars
+one_more_row = refl
+
+-- a number that is refused comes before a call for help behind it
+refused_before_help_row : row (codes "statement" ∷ codes "a" ∷ codes "b" ∷ codes "0" ∷ codes "-h" ∷ []) ≡ usage
+unfolding chars
+refused_before_help_row = refl
+
+statement_help_row : row (codes "statement" ∷ codes "a" ∷ codes "b" ∷ codes "7" ∷ codes "-h" ∷ []) ≡ help_asked
+unfolding chars
+statement_help_row = refl
 
 check_help_row : row (codes "check" ∷ codes "-h" ∷ []) ≡ help_asked
 unfolding chars

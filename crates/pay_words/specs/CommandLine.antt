@@ -1,16 +1,19 @@
 -- What the command line takes, as `clap` has it, and what its matches and errors come to.
-use Rattle.std.specs.Prelude.{◌≡◌, ⊤, true, codes, List, Option, Some, None, option_map}
+use Rattle.std.specs.Prelude.{◌≡◌, ℕ, ⊤, true, codes, List, Option, Some, None, option_map}
 use Rattle.std.specs.String.{string_bytes}
 use Rattle.clap.specs.Words.{App, Row, Rule, Text, first_of, new_app, new_rule, subcommand_rows_of}
 use Rattle.clap.specs.Words.{with_rule, with_subcommand}
+use Rattle.clap.specs.Walk.{one_of}
 use Rattle.clap.specs.Simple.{on_top}
+use Rattle.clap.specs.declared.builder.value_parser.ValueParser.TheVariants as vp
 use Rattle.clap.specs.declared.error.kind.ErrorKind.{ErrorKind}
 use Rattle.clap.specs.declared.error.kind.ErrorKind.TheVariants.{DisplayHelp, DisplayVersion}
 use Rattle.clap.specs.declared.error.kind.ErrorKind.TheVariants.{OutOfMemory}
 use Rattle.clap.specs.declared.parser.matches.ArgMatches.{ArgMatches}
 use Rattle.pay_words.specs.declared.words.WordsFault.{WordsFault}
 use Rattle.pay_words.specs.declared.words.WordsFault.TheVariants.{Help, Version, Usage, Memory}
-use Rattle.pay_words.specs.Asked.{version_line}
+use Rattle.pay_words.specs.declared.limits.TheConstants.{MOST_ACCOUNT, FIRST_DAY, LAST_DAY}
+use Rattle.pay_words.specs.Asked.{version_line, is_account, is_day, number_of}
 
 -- a word that has to be there
 abbrev pub required_word : Text → Rule
@@ -25,12 +28,22 @@ run_app = with_rule (with_rule (new_app (codes "run")) (required_word (codes "FA
 abbrev pub check_app : App
 check_app = with_rule (new_app (codes "check")) (required_word (codes "FARES"))
 
+-- a number in its range, which has to be there
+abbrev pub required_number : Text → ℕ → ℕ → Rule
+required_number name least most = record (required_word name) { parser = Some (vp.Unsigned least most) }
+
+-- `statement FARES ZONE ACCOUNT DAY`
+abbrev pub statement_app : App
+statement_app = with_rule (with_rule (with_rule (with_rule (new_app (codes "statement"))
+    (required_word (codes "FARES"))) (required_word (codes "ZONE")))
+    (required_number (codes "ACCOUNT") 1 MOST_ACCOUNT)) (required_number (codes "DAY") FIRST_DAY LAST_DAY)
+
 -- the program, which has a version, and wants one of its programs named
 abbrev pub farebox_app : App
-farebox_app = with_subcommand (with_subcommand
+farebox_app = with_subcommand (with_subcommand (with_subcommand
     (on_top (λ top. record top { has_version = true; subcommand_required = true })
     (new_app (codes "farebox")))
-    run_app.top) check_app.top
+    run_app.top) check_app.top) statement_app.top
 
 -- the subcommand that the matches have, with its values
 abbrev pub values_in : Text × List Row → Text × Option Text × Option Text
@@ -45,6 +58,17 @@ GivesRun m fares zone =
 abbrev pub GivesCheck : ArgMatches → Text → Type 0
 GivesCheck m fares =
     option_map values_in (subcommand_rows_of m) ≡ Some (codes "check", Some fares, None)
+
+-- its values with numbers among them
+abbrev pub values_with_numbers : Text × List Row → Text × Option Text × Option Text × Option Text × Option Text
+values_with_numbers p =
+    (p.0, first_of (codes "FARES") p.1, first_of (codes "ZONE") p.1, one_of (codes "ACCOUNT") p.1, one_of (codes "DAY") p.1)
+
+-- the matches are those of `statement` with these values, and words in their ranges for the numbers
+abbrev pub GivesStatement : ArgMatches → Text → Text → ℕ → ℕ → Type 0
+GivesStatement m fares zone account day = (n : Text) × (d : Text)
+    × (option_map values_with_numbers (subcommand_rows_of m) ≡ Some (codes "statement", Some fares, Some zone, Some n, Some d))
+    × (is_account n ≡ true) × (number_of n ≡ account) × (is_day d ≡ true) × (number_of d ≡ day)
 
 -- help was asked for, or memory was refused
 abbrev pub IsHelpOrMemory : WordsFault → Type 0

@@ -11,6 +11,10 @@ pub const CHECK: &str = "\
 Read a fare file, and print how many places, bands, interchanges and holidays it has,
 or its first fault";
 
+/// What `statement` does.
+pub const STATEMENT: &str = "\
+Read taps from standard input, and print the statement of an account's week as CSV";
+
 /// What the word FARES is.
 pub const FARES: &str = "The fare file, a TOML document";
 
@@ -18,11 +22,20 @@ pub const FARES: &str = "The fare file, a TOML document";
 pub const ZONE: &str = "The time zone, a POSIX rule text such as GMT0BST,M3.5.0/1,M10.5.0
 (a name such as Europe/London is none)";
 
+/// What the word ACCOUNT is.
+pub const ACCOUNT: &str = "The account, a number from 1 to 4294967295";
+
+/// What the word DAY is.
+pub const DAY: &str = "\
+A service day of the week, counted from 1970-01-01: a number from 4 to 50000";
+
 /// What stands below the program's own help.
 pub const BELOW_PROGRAM: &str = "\
-Words of run (FARES ZONE) and of check (FARES):
-  FARES  the fare file, a TOML document
-  ZONE   the time zone, a POSIX rule text (a name such as Europe/London is none)
+Words of run (FARES ZONE), of check (FARES) and of statement (FARES ZONE ACCOUNT DAY):
+  FARES    the fare file, a TOML document
+  ZONE     the time zone, a POSIX rule text (a name such as Europe/London is none)
+  ACCOUNT  the account, a number from 1 to 4294967295
+  DAY      a service day of the week, counted from 1970-01-01
 
 Example: account 7 boards a bus in London on Monday 8 January 2024 at 07:00. The reply names the
 day, counted from 1970-01-01, and what the account owes for it and for its week, in pence.
@@ -64,3 +77,19 @@ Statuses:
   2  the words were refused
 
 The fare file and the faults are described in docs/FORMATS.md.";
+
+/// What stands below the help of `statement`.
+pub const BELOW_STATEMENT: &str = "\
+Example: account 7 boards a bus in London on Monday 8 January 2024 at 07:00. No replies are
+printed; at the end of input the journeys of its week are, a row for each.
+  $ farebox statement examples/bus.toml GMT0BST,M3.5.0/1,M10.5.0 7 19730
+  TAP 1 1 7 1704697200 50 BUS
+  day,kind,from,to,start,fare,band
+  19730,BUS,50,0,07:00:00,175,-
+
+Statuses:
+  0  all right
+  1  a fault, which one line on standard error names
+  2  the words were refused
+
+The lines, the fare file, the statement and the faults are described in docs/FORMATS.md.";

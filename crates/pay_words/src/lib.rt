@@ -2,6 +2,7 @@
 #![tactic(auto)]
 
 mod help;
+pub mod limits;
 mod words;
 
-pub use words::{Job, RunWords, WordsFault, read_words};
+pub use words::{Job, RunWords, StatementWords, WordsFault, read_words};

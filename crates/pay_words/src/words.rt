@@ -1,17 +1,24 @@
 //! The words that the program is started with, and the job that they ask for.
-ghost use Rattle.std.specs.Prelude.{◌≡◌, ◌≢◌, [], ◌∷◌, false, codes, drop, slice_index};
+ghost use Rattle.std.specs.Prelude.{◌≡◌, ◌≢◌, ℕ, ◌≤◌, [], ◌∷◌, true, false, codes, drop, slice_index};
 ghost use Rattle.std.specs.Prelude.{IfOk, IfErr, IsOkAnd, MatchResult};
 ghost use Rattle.clap.specs.Walk.{texts};
-ghost use Rattle.clap.specs.Words.{app_of, first_value, found_of, kind_of};
+ghost use Rattle.clap.specs.Words.{app_of, first_value, found_of, kind_of, one_text};
 ghost use Rattle.clap.specs.declared.builder.command.Command.TheViews.{out-Command as fields_of};
-ghost use Rattle.pay_words.specs.CommandLine.{GivesCheck, GivesRun};
+ghost use Rattle.pay_words.specs.CommandLine.{GivesCheck, GivesRun, GivesStatement};
 ghost use Rattle.pay_words.specs.CommandLine.{IsFaultOfKind, IsHelpOrMemory, IsVersionOrMemory};
-ghost use Rattle.pay_words.specs.CommandLine.{check_app, farebox_app, run_app};
-ghost use Rattle.pay_words.specs.Asked.{IsFaultOf, Text, asked, job_asked, job_words};
+ghost use Rattle.pay_words.specs.CommandLine.{check_app, farebox_app, run_app, statement_app};
+ghost use Rattle.pay_words.specs.CommandLine.{required_number, required_word};
+ghost use Rattle.clap.specs.Words.{shape_of, with_rule, with_subcommand};
+ghost use Rattle.clap.specs.ValueTests.{is_unsigned_in};
+ghost use Rattle.clap.specs.Walk.{rule_of};
+ghost use Rattle.pay_words.specs.Asked.{IsFaultOf, Text, asked, job_asked, AreJobWords, IsJobInRange};
 ghost use Rattle.pay_words.specs.Asked.{check as check_asked, run as run_asked, without_dashes};
+ghost use Rattle.pay_words.specs.Asked.{statement as statement_asked, is_account, is_day, number_of};
 ghost use Rattle.pay_words.specs.declared.words.WordsFault.TheVariants.{Memory};
 
 use crate::help;
+use crate::limits::{FIRST_DAY, LAST_DAY, MOST_ACCOUNT};
+use clap::builder::ValueParser;
 use clap::error::ErrorKind;
 use clap::{Arg, ArgMatches, Command, Error};
 use std::alloc::{AllocError, Global};
@@ -26,6 +33,9 @@ pub enum Job<'a> {
     Run(RunWords<'a>),
     /// `check FARES`: how many of each thing the fare file of this path has.
     Check { fares: &'a str },
+    /// `statement FARES ZONE ACCOUNT DAY`: the statement of an account's week, by the lines of standard
+    /// input.
+    Statement(StatementWords<'a>),
 }
 
 /// The values of `run FARES ZONE`.
@@ -35,6 +45,19 @@ pub struct RunWords<'a> {
     pub fares: &'a str,
     /// The text of the time zone, a POSIX rule.
     pub zone: &'a str,
+}
+
+/// The values of `statement FARES ZONE ACCOUNT DAY`.
+#[derive(Clone, Copy, Debug, PartialEq, Eq)]
+pub struct StatementWords<'a> {
+    /// The path of the fare file.
+    pub fares: &'a str,
+    /// The text of the time zone, a POSIX rule.
+    pub zone: &'a str,
+    /// The account: 1 to 4,294,967,295.
+    pub account: u32,
+    /// A service day of the week that is asked for, counted from 1970-01-01: 4 to 50,000.
+    pub day: u32,
 }
 
 /// Why the words give no job.
@@ -61,14 +84,17 @@ impl From<AllocError> for WordsFault {
 /// Reads the words of the process, of which the first is the program's own name.
 ///
 /// A word that begins with a hyphen and goes on is an option: help, or in the place of a program
-/// the version, and no other. `--` says that each word after it is a value.
+/// the version, and no other. `--` says that each word after it is a value. An account and a day are
+/// decimal digits, which may have a plus and zeros before them; one outside its range is refused as `Usage`.
 pub fn read_words<'a>(alloc: Global, words: &'a [&'a str]) -> Result<Job<'a>, WordsFault>
     ensures job { IfOk result (λ job. asked (texts words.entry.now) ≡ job_asked job) }
     ensures refused { IfErr result (IsFaultOf (asked (texts words.entry.now))) }
 
+    ensures in_range { IfOk result IsJobInRange }
+
     // But for the program's own name and a `--`, the words are the job's, in order.
     ensures words { IfOk result (λ job.
-        without_dashes (drop 1 (texts words.entry.now)) ≡ job_words job) }
+        AreJobWords job (without_dashes (drop 1 (texts words.entry.now)))) }
 
     // Two words with no hyphen (45) before them are the values of `run`.
     ensures run { (name fares zone : Text)
@@ -81,6 +107,15 @@ pub fn read_words<'a>(alloc: Global, words: &'a [&'a str]) -> Result<Job<'a>, Wo
     ensures check { (name fares : Text) → texts words.entry.now ≡ name ∷ codes "check" ∷ fares ∷ []
         → slice_index fares 0 ≢ 45
         → MatchResult result (λ job. job_asked job ≡ check_asked fares)
+        (λ fault. fault ≡ Memory) }
+
+    // Two words with no hyphen before them and two numbers in their ranges are the values of `statement`.
+    ensures statement { (name fares zone account day : Text)
+        → texts words.entry.now ≡ name ∷ codes "statement" ∷ fares ∷ zone ∷ account ∷ day ∷ []
+        → slice_index fares 0 ≢ 45 → slice_index zone 0 ≢ 45
+        → is_account account ≡ true → is_day day ≡ true
+        → MatchResult result (λ job.
+        job_asked job ≡ statement_asked fares zone (number_of account) (number_of day))
         (λ fault. fault ≡ Memory) }
 {
     let command = farebox_command(alloc)?;
@@ -95,26 +130,49 @@ fn farebox_command<'a>(alloc: Global) -> Result<Command<'a>, AllocError>
 {
     let run = run_command(alloc)?;
     let check = check_command(alloc)?;
-    Command::new(alloc, "farebox")
+    let statement = statement_command(alloc)?;
+    let farebox = Command::new(alloc, "farebox")
         .version(VERSION)
         .about(help::PROGRAM)
         .after_help(help::BELOW_PROGRAM)
-        .subcommand_required(true)
-        .subcommand(run)?
-        .subcommand(check)
+        .subcommand_required(true);
+    with_programs(farebox, run, check)?.subcommand(statement)
+}
+
+/// A command with two programs more.
+fn with_programs<'a>(
+    command: Command<'a>,
+    first: Command<'a>,
+    second: Command<'a>,
+) -> Result<Command<'a>, AllocError>
+    requires first { (fields_of first).has_globals ≡ false }
+    requires second { (fields_of second).has_globals ≡ false }
+    ensures { IfOk result (λ r. app_of r ≡ with_subcommand
+        (with_subcommand (app_of command.entry) (shape_of first.entry)) (shape_of second.entry)) }
+{
+    command.subcommand(first)?.subcommand(second)
 }
 
 fn run_command<'a>(alloc: Global) -> Result<Command<'a>, AllocError>
     ensures app { IfOk result (λ command. app_of command ≡ run_app) }
     ensures local { IfOk result (λ command. (fields_of command).has_globals ≡ false) }
 {
+    let command = Command::new(alloc, "run")
+        .about(help::RUN)
+        .after_help(help::BELOW_RUN);
+    with_fares_and_zone(alloc, command)
+}
+
+/// A command with the words FARES and ZONE, after those that it has.
+fn with_fares_and_zone<'a>(alloc: Global, command: Command<'a>) -> Result<Command<'a>, AllocError>
+    requires { (fields_of command).has_globals ≡ false }
+    ensures app { IfOk result (λ r. app_of r ≡ with_rule
+        (with_rule (app_of command.entry) (required_word (codes "FARES"))) (required_word (codes "ZONE"))) }
+    ensures local { IfOk result (λ r. (fields_of r).has_globals ≡ false) }
+{
     let fares = Arg::new(alloc, "FARES").required(true).help(help::FARES);
     let zone = Arg::new(alloc, "ZONE").required(true).help(help::ZONE);
-    Command::new(alloc, "run")
-        .about(help::RUN)
-        .after_help(help::BELOW_RUN)
-        .arg(fares)?
-        .arg(zone)
+    command.arg(fares)?.arg(zone)
 }
 
 fn check_command<'a>(alloc: Global) -> Result<Command<'a>, AllocError>
@@ -128,15 +186,41 @@ fn check_command<'a>(alloc: Global) -> Result<Command<'a>, AllocError>
         .arg(fares)
 }
 
+fn statement_command<'a>(alloc: Global) -> Result<Command<'a>, AllocError>
+    ensures app { IfOk result (λ command. app_of command ≡ statement_app) }
+    ensures local { IfOk result (λ command. (fields_of command).has_globals ≡ false) }
+{
+    let command = Command::new(alloc, "statement")
+        .about(help::STATEMENT)
+        .after_help(help::BELOW_STATEMENT);
+    let account = number_word(alloc, "ACCOUNT", 1, MOST_ACCOUNT).help(help::ACCOUNT);
+    let day = number_word(alloc, "DAY", FIRST_DAY, LAST_DAY).help(help::DAY);
+    with_fares_and_zone(alloc, command)?.arg(account)?.arg(day)
+}
+
+/// A number in its range, which has to be there.
+fn number_word<'a>(alloc: Global, name: &'a str, least: u64, most: u64) -> Arg<'a>
+    ensures rule { rule_of result ≡ required_number name.entry.now least most }
+    ensures local { result.global ≡ false }
+{
+    Arg::new(alloc, name)
+        .required(true)
+        .value_parser(ValueParser::unsigned(least, most))
+}
+
 fn job_of<'a>(matches: &ArgMatches<'a>) -> Result<Job<'a>, WordsFault>
     ensures run { (fares zone : Text) → GivesRun matches.now fares zone
         → IsOkAnd result (λ job. job_asked job ≡ run_asked fares zone) }
     ensures check { (fares : Text) → GivesCheck matches.now fares
         → IsOkAnd result (λ job. job_asked job ≡ check_asked fares) }
+    ensures statement { (fares zone : Text) (account day : ℕ)
+        → GivesStatement matches.now fares zone account day
+        → IsOkAnd result (λ job. job_asked job ≡ statement_asked fares zone account day) }
 {
     match matches.subcommand() {
         Some(("run", run)) => run_job(run),
         Some(("check", check)) => check_job(check),
+        Some(("statement", statement)) => statement_job(statement),
         _ => Err(WordsFault::Usage),
     }
 }
@@ -161,6 +245,55 @@ fn check_job<'a>(check: &ArgMatches<'a>) -> Result<Job<'a>, WordsFault>
         Some(fares) => Ok(Job::Check { fares }),
         None => Err(WordsFault::Usage),
     }
+}
+
+fn statement_job<'a>(statement: &ArgMatches<'a>) -> Result<Job<'a>, WordsFault>
+    ensures { (fares zone account day : Text)
+        → first_value (found_of statement.now) (codes "FARES") ≡ Some fares
+        → first_value (found_of statement.now) (codes "ZONE") ≡ Some zone
+        → one_text (found_of statement.now) (codes "ACCOUNT") ≡ Some account
+        → one_text (found_of statement.now) (codes "DAY") ≡ Some day
+        → is_account account ≡ true → is_day day ≡ true
+        → IsOkAnd result (λ job.
+        job_asked job ≡ statement_asked fares zone (number_of account) (number_of day)) }
+{
+    let account = number_of(statement, "ACCOUNT");
+    let day = number_of(statement, "DAY");
+    match (statement.get_str("FARES"), statement.get_str("ZONE")) {
+        (Some(fares), Some(zone)) => statement_of(fares, zone, account, day),
+        _ => Err(WordsFault::Usage),
+    }
+}
+
+/// The job of a statement, where its numbers were read.
+fn statement_of<'a>(
+    fares: &'a str,
+    zone: &'a str,
+    account: Option<u32>,
+    day: Option<u32>,
+) -> Result<Job<'a>, WordsFault>
+    ensures { (a d : ℕ) → account ≡ Some a → day ≡ Some d
+        → IsOkAnd result (λ job.
+        job_asked job ≡ statement_asked fares.entry.now zone.entry.now a d) }
+{
+    match (account, day) {
+        (Some(account), Some(day)) => Ok(Job::Statement(StatementWords {
+            fares,
+            zone,
+            account,
+            day,
+        })),
+        _ => Err(WordsFault::Usage),
+    }
+}
+
+/// The number of this name, of those that the matches have.
+fn number_of(matches: &ArgMatches<'_>, name: &str) -> Option<u32>
+    ensures { (word : Text) (least most : ℕ) → one_text (found_of matches.now) name.now ≡ Some word
+        → is_unsigned_in least most word ≡ true → most ≤ MOST_ACCOUNT
+        → result ≡ Some (number_of word) }
+{
+    matches.get_one(name)
 }
 
 fn fault_of(alloc: Global, error: &Error) -> WordsFault

@@ -1,5 +1,5 @@
 use Rattle.clap.specs.Words.{found_of}
-use Rattle.pay_words.proofs.Results.{check_value, run_values}
+use Rattle.pay_words.proofs.Results.{check_value, run_values, statement_values}
 use Rattle.pay_words.proofs.words.job_of.Goals as goal
 
 pub returns-in-Some-run-default-clause-run : goal.returns-in-Some-run-default-clause-run
@@ -10,3 +10,9 @@ returns-in-Some-run-default-clause-run c = λ fares zone gives.
 pub returns-in-Some-check-default-clause-check : goal.returns-in-Some-check-default-clause-check
 returns-in-Some-check-default-clause-check c = λ fares gives.
     c.check_job.ensures fares (check_value c.args.matches.now (found_of c.in-Some-check-default.check.now) fares c.in-Some-check-default.ensures.rows gives)
+
+pub returns-in-Some-statement-default-clause-statement : goal.returns-in-Some-statement-default-clause-statement
+returns-in-Some-statement-default-clause-statement c = λ fares zone account day gives.
+    let found = found_of c.in-Some-statement-default.statement.now in
+    let values = statement_values c.args.matches.now found fares zone account day c.in-Some-statement-default.ensures.rows gives in
+    rw (← gives.4, ← gives.6) (c.statement_job.ensures fares zone gives.0 gives.1 values.0 values.1 values.2 values.3 gives.3 gives.5)

@@ -1,0 +1,68 @@
+//! The job `statement`, by the texts of its fare file and its zone: all that the program does below the reading of files.
+ghost use Rattle.std.specs.Prelude.{◌≡◌, IfOk, IfErr, OnOk};
+ghost use Rattle.pay_day.specs.Words.{IsDay};
+ghost use Rattle.pay_statement.specs.Words.{statement_text};
+ghost use Rattle.pay_jobs.specs.Statement.{IsPage, StatementEnds, StatementFails, PageFails};
+
+use crate::fault::Fault;
+use crate::output::write_text;
+use crate::run::{read_fares, read_zone};
+use pay_account::Line;
+use pay_session::week_by_lines;
+use pay_statement::write_csv;
+use pay_tables::Tables;
+use std::alloc::{AllocError, Global};
+use std::io::{BufRead, Write};
+
+/// Writes the statement of the week that holds a service day, counted from 1970-01-01, of an account that has
+/// accepted what the lines of a reader ask for. The fare file is read before the zone, both before the first
+/// line, and all of them before anything is written.
+pub fn statement_texts<R: BufRead, W: Write>(
+    alloc: Global,
+    fares: &str,
+    zone: &str,
+    account: u32,
+    day: u32,
+    reader: &mut R,
+    writer: &mut W,
+) -> Result<(), Fault>
+    requires { IsDay day }
+    ensures ends { OnOk result (StatementEnds fares.now zone.now account day (R.remaining reader.old) (R.remaining reader.new)
+        (W.contents writer.old) (W.contents writer.new)) }
+    ensures fails { IfErr result (λ fault. StatementFails fault fares.now zone.now account day (R.remaining reader.old) (R.remaining reader.new)
+        (W.contents writer.old) (W.contents writer.new)) }
+{
+    let page = read_page(alloc, fares, zone, account, day, reader)?;
+    write_text(writer, &page)
+}
+
+/// The text of the statement.
+fn read_page<R: BufRead>(
+    alloc: Global,
+    fares: &str,
+    zone: &str,
+    account: u32,
+    day: u32,
+    reader: &mut R,
+) -> Result<Vec<u8>, Fault>
+    requires { IsDay day }
+    ensures page { IfOk result (λ page. IsPage fares.now zone.now account day (R.remaining reader.old) (R.remaining reader.new) page.items) }
+    ensures fails { IfErr result (λ fault. PageFails fault fares.now zone.now (R.remaining reader.old) (R.remaining reader.new)) }
+{
+    let tables = read_fares(alloc, fares)?;
+    let zone = read_zone(zone)?;
+    let lines = week_by_lines(alloc, reader, &zone, &tables, account, day)?;
+    let page = page_of(alloc, &tables, lines.as_slice())?;
+    Ok(page)
+}
+
+/// The text of the statement of journeys.
+fn page_of(alloc: Global, tables: &Tables, lines: &[Line]) -> Result<Vec<u8>, AllocError>
+    ensures { IfOk result (λ page. page.items ≡ statement_text tables.now lines.now) }
+{
+    // A vector takes all bytes, as far as there is memory.
+    match write_csv(tables, lines, Vec::new(alloc)) {
+        Ok(page) => Ok(page),
+        Err(_) => Err(AllocError),
+    }
+}
