@@ -1,9 +1,9 @@
-"""The taps and corrections that are measured, in the order of their arrival. They are the same for the same seed."""
+"""The taps, corrections and questions that are measured, in the order of their arrival. They are the same for the same seed."""
 
 import random
 from typing import Callable, NamedTuple
 
-from rules import A_DAY, BUS, ROUTE, SAMPLE, Band, Fix, Tap, parts, service_day
+from rules import A_DAY, BUS, ROUTE, SAMPLE, Band, Due, Fix, Tap, parts, service_day
 
 # Service day 19730 begins on Monday 2024-01-08 at 04:30:00.
 MONDAY, BEGINS, DAYS = 19730, 1704688200, 7
@@ -139,6 +139,14 @@ def corrected_week(draw, accounts):
     return [command for _, command in sorted(made, key=lambda it: it[0])]
 
 
+def quoted_week(draw, accounts):
+    """The taps of the week, and then two questions about each account, what it owes through a day."""
+    taps = week_taps(draw, accounts)
+    asked = [Due(account, MONDAY + draw.randrange(DAYS)) for account in range(1, accounts + 1) for _ in range(2)]
+    draw.shuffle(asked)
+    return taps + asked
+
+
 class Load(NamedTuple):
     name: str
     title: str
@@ -157,4 +165,5 @@ CAPPED_DAY = DAY._replace(name="capped-day", fares="sample.toml")
 CAPPED_WEEK = WEEK._replace(name="capped-week", fares="sample.toml")
 BANDED_WEEK = WEEK._replace(name="banded-week", fares="twelve-bands.toml")
 CORRECTED_WEEK = CAPPED_WEEK._replace(name="corrected-week", title=f"{WEEK.title}, with corrections among them", arrivals=corrected_week)
-LOADS = {load.name: load for load in (DAY, WEEK, CAPPED_DAY, CAPPED_WEEK, BANDED_WEEK, CORRECTED_WEEK)}
+QUOTED_WEEK = CAPPED_WEEK._replace(name="quoted-week", title=f"{WEEK.title}, and then two quotes of each account", arrivals=quoted_week, days_shown=range(0))
+LOADS = {load.name: load for load in (DAY, WEEK, CAPPED_DAY, CAPPED_WEEK, BANDED_WEEK, CORRECTED_WEEK, QUOTED_WEEK)}

@@ -1,5 +1,6 @@
-"""The replies that docs/RULES.md gives, priced from scratch by a table of fares. The clock is London's in winter, which is UTC."""
+"""The replies and statements that docs/RULES.md gives, priced from scratch by a table of fares. The clock is London's in winter, which is UTC."""
 
+import itertools
 from typing import NamedTuple
 
 
@@ -10,6 +11,10 @@ class Band(NamedTuple):
     high: int
     day: int
     week: int
+
+    @property
+    def name(self):
+        return f"{self.low}-{self.high}" if self.low else "bus"
 
 
 class Fares(NamedTuple):
@@ -26,6 +31,8 @@ class Fares(NamedTuple):
     routes: list
     # Between which stations a journey goes on, and for how many seconds.
     interchanges: dict
+    # To whom the fares of each station and route fall, 1 to 16.
+    operators: dict
     bus: int = 175
     maximum: int = 860
     hopper: int = 3_600
@@ -43,10 +50,12 @@ BUS = Fares(
     stations={10: (1, 1), 11: (1, 2), 12: (2, 2), 13: (2, 3), 14: (3, 3)},
     routes=[ROUTE],
     interchanges={frozenset((10, 12)): 1_200},
+    operators={10: 1, 11: 1, 12: 2, 13: 2, 14: 3, ROUTE: 4},
 )
 SAMPLE = BUS._replace(bands=[Band(0, 0, 525, 2_470), Band(1, 2, 890, 4_470), Band(1, 3, 1_050, 5_250)])
 
-A_DAY, DAY_BEGINS = 86_400, 16_200
+A_DAY, A_WEEK, DAY_BEGINS = 86_400, 7, 16_200
+OPERATORS = range(1, 17)
 FIRST_INSTANT, LAST_INSTANT = 604_800, 4_102_444_799
 MOST_TAPS, MOST_FIXES = 16_384, 1_024
 MORNING, EVENING = (23_400, 34_200), (57_600, 68_400)
@@ -82,6 +91,13 @@ class Fix(NamedTuple):
         return self.staff, self.seq
 
 
+class Due(NamedTuple):
+    """A question: what an account owes of the week of a day through that day."""
+
+    account: int
+    day: int
+
+
 class Account(NamedTuple):
     """What is kept of an account: its accepted taps and corrections, by their numbers."""
 
@@ -111,6 +127,8 @@ class Journey(NamedTuple):
     start: int
     end: int
     fare: int
+    # Where each of its legs began; of a lone tap and of a boarding the one place.
+    origins: tuple
     span: tuple = BY_BUS
 
 
@@ -179,17 +197,17 @@ def runs(fares, parts):
 
 
 def rail_journey(fares, run):
-    taps = [tap for part in run for tap in part]
+    taps, origins = [tap for part in run for tap in part], tuple(part[0].place for part in run)
     first, last = taps[0], taps[-1]
     if first is last:
         start, end = (0, first.place) if first.kind == "OUT" else (first.place, 0)
-        return Journey(first.utc, "LONE", start, end, fares.maximum)
+        return Journey(first.utc, "LONE", start, end, fares.maximum, origins)
     zones = span(fares, [tap.place for tap in taps])
     peak, off = fares.single[zones]
     fare = peak if is_peak(fares, taps) else off
     if len(taps) == 2 and first.place == last.place:
-        return Journey(first.utc, "SAME", first.place, last.place, 0 if last.utc - first.utc <= fares.same_free else fare, zones)
-    return Journey(first.utc, "RAIL", first.place, last.place, fare, zones)
+        return Journey(first.utc, "SAME", first.place, last.place, 0 if last.utc - first.utc <= fares.same_free else fare, origins, zones)
+    return Journey(first.utc, "RAIL", first.place, last.place, fare, origins, zones)
 
 
 def boardings(fares, taps):
@@ -198,7 +216,7 @@ def boardings(fares, taps):
     for tap in taps:
         pays = paid is None or tap.utc - paid > fares.hopper
         paid = tap.utc if pays else paid
-        yield tap, Journey(tap.utc, "BUS", tap.place, 0, fares.bus if pays else 0)
+        yield tap, Journey(tap.utc, "BUS", tap.place, 0, fares.bus if pays else 0, (tap.place,))
 
 
 def journeys(fares, taps):
@@ -220,14 +238,30 @@ def sums(journeys):
     return fares, lone
 
 
+def covers(band, span):
+    """Whether a band covers the journeys of this span, or those by bus. Of lone taps, which none covers, it is not asked."""
+    return span == BY_BUS or band.low <= span[0] and span[1] <= band.high
+
+
 def outside(band, day):
     """Those of a day's fares that a band does not cover."""
-    return {span: pence for span, pence in day.items() if span != BY_BUS and not (band.low <= span[0] and span[1] <= band.high)}
+    return {span: pence for span, pence in day.items() if not covers(band, span)}
+
+
+def offers(bands, day):
+    """What a day's fares come to without a band, and by each."""
+    return [sum(day.values()), *(band.day + sum(outside(band, day).values()) for band in bands)]
 
 
 def capped(bands, day):
     """The price of a day's fares."""
-    return min([sum(day.values()), *(band.day + sum(outside(band, day).values()) for band in bands)])
+    return min(offers(bands, day))
+
+
+def winner(bands, day):
+    """The band that gives that price, the first of several. None where no band does, which comes before all of them."""
+    each = offers(bands, day)
+    return [None, *bands][each.index(min(each))]
 
 
 def capped_week(bands, days):
@@ -248,14 +282,18 @@ def week_price(fares, days):
     return capped_week(fares.bands, days) + sum(lone)
 
 
+def standing(account):
+    """The Voids, Fills and Credits that no Drop names. Every Drop counts, also one that another names."""
+    dropped = {fix.words for fix in account.fixes.values() if fix.form == "DROP"}
+    return [fix for fix in account.fixes.values() if fix.form != "DROP" and fix.number not in dropped]
+
+
 def effective(account):
     """The taps that are priced: the accepted ones that no standing Void names, and those of standing Fills."""
-    # Every Drop counts, also one that another names.
-    dropped = {fix.words for fix in account.fixes.values() if fix.form == "DROP"}
-    standing = [fix for fix in account.fixes.values() if fix.number not in dropped]
-    voided = {fix.words for fix in standing if fix.form == "VOID"}
+    fixes = standing(account)
+    voided = {fix.words for fix in fixes if fix.form == "VOID"}
     touches = [Touch(tap.utc, False, tap.number, tap.place, tap.kind) for tap in account.taps.values() if tap.number not in voided]
-    for fix in standing:
+    for fix in fixes:
         if fix.form == "FILL":
             utc, place, kind = fix.words
             touches.append(Touch(utc, True, fix.number, place, kind))
@@ -300,17 +338,64 @@ def refusal(fares, account, command):
     return full if len(kept) == most else None
 
 
+def by_days(fares, account, first, last):
+    """The journeys of each service day from the first through the last."""
+    days = {day: [] for day in range(first, last + 1)}
+    for journey in journeys(fares, effective(account)):
+        if service_day(journey.utc) in days:
+            days[service_day(journey.utc)].append(journey)
+    return days
+
+
+def of_week(fares, account, day):
+    """The journeys of each of the seven days of a day's week."""
+    return by_days(fares, account, monday(day), monday(day) + A_WEEK - 1)
+
+
 def prices(fares, account, day):
     """The price of a day and that of its week."""
-    days = {}
-    for journey in journeys(fares, effective(account)):
-        days.setdefault(service_day(journey.utc), []).append(journey)
-    week = [made for on, made in days.items() if monday(on) == monday(day)]
-    return day_price(fares, days.get(day, [])), week_price(fares, week or [[]])
+    week = of_week(fares, account, day)
+    return day_price(fares, week[day]), week_price(fares, week.values())
+
+
+def divided(total, weights):
+    """A total in whole pence by weights: to all up to each falls their proportion, rounded down."""
+    whole = sum(weights)
+    ends = [total * upto // whole if whole else 0 for upto in itertools.accumulate(weights)]
+    return [end - begin for begin, end in zip([0, *ends], ends)]
+
+
+def carried(fares, journeys):
+    """What of the fares of journeys falls to each operator."""
+    pence = dict.fromkeys(OPERATORS, 0)
+    for journey in journeys:
+        for place, part in zip(journey.origins, divided(journey.fare, [1] * len(journey.origins))):
+            pence[fares.operators[place]] += part
+    return pence
+
+
+def owed(fares, account, through):
+    """What is due of a day's week through that day, and each operator's share of it."""
+    days = by_days(fares, account, monday(through), through)
+    credits = sum(fix.words[1] for fix in standing(account) if fix.form == "CREDIT" and fix.words[0] in days)
+    due = max(0, week_price(fares, days.values()) - credits)
+    weights = carried(fares, itertools.chain(*days.values()))
+    return due, dict(zip(OPERATORS, divided(due, weights.values())))
+
+
+def quoted(fares, accounts, asked):
+    """The reply to DUE."""
+    account = accounts.get(asked.account, Account({}, {}))
+    due, shares = owed(fares, account, asked.day)
+    words = ["DUE", asked.account, monday(asked.day), asked.day, len(account.taps) + len(account.fixes), due]
+    words += (f"{operator}={pence}" for operator, pence in shares.items() if pence)
+    return " ".join(map(str, words)) + "\n"
 
 
 def reply(fares, accounts, command):
-    """The reply to a tap or a correction, which is kept in `accounts` if it is accepted."""
+    """The reply to a tap or a correction, which is kept in `accounts` if it is accepted, or to DUE."""
+    if isinstance(command, Due):
+        return quoted(fares, accounts, command)
     account = accounts.get(command.account, Account({}, {}))
     refused = refusal(fares, account, command)
     if refused:
@@ -332,9 +417,33 @@ def shown(fares, accounts, number, day):
     return [head] + [f"JNY {it.kind} {it.start} {it.end} {it.utc} {it.fare}\n" for it in listed]
 
 
+COLUMNS = ["day", "kind", "from", "to", "start", "fare", "band"]
+
+
+def clock(utc):
+    """The time of day, as `07:00:00`."""
+    return f"{utc // 3_600 % 24:02}:{utc // 60 % 60:02}:{utc % 60:02}"
+
+
+def statement(fares, accounts, number, day):
+    """The rows of a statement: the journeys of the week of a day of the account of this number."""
+    days = of_week(fares, accounts.get(number, Account({}, {})), day)
+    winners = {on: winner(fares.bands, sums(made)[0]) for on, made in days.items()}
+    # What an account's days have in turn are its journeys in the order of their first taps.
+    rows = [COLUMNS]
+    for on, made in days.items():
+        for it in made:
+            band = winners[on] if it.kind != "LONE" else None
+            name = band.name if band and covers(band, it.span) else "-"
+            rows.append([str(on), it.kind, str(it.start), str(it.end), clock(it.utc), str(it.fare), name])
+    return rows
+
+
 def line(command):
-    """The spelling of a tap or a correction."""
-    if isinstance(command, Tap):
+    """The spelling of a tap, a correction or a question."""
+    if isinstance(command, Due):
+        words = ("DUE", *command)
+    elif isinstance(command, Tap):
         words = ("TAP", *command.number, command.account, command.utc, command.place, command.kind)
     else:
         words = ("FIX", *command.number, command.account, command.form, *command.words)
@@ -349,8 +458,8 @@ def fare_file(fares):
     """The text of a fare file that says this."""
     singles = (f"{{ from = {low}, to = {high}, peak = {peak}, off = {off} }}" for (low, high), (peak, off) in fares.single.items())
     bands = (f"{{ from = {it.low}, to = {it.high}, day = {it.day}, week = {it.week} }}" for it in fares.bands)
-    stations = (f"{{ place = {place}, low = {low}, high = {high}, operator = 16 }}" for place, (low, high) in fares.stations.items())
-    routes = (f"{{ place = {place}, operator = 1 }}" for place in fares.routes)
+    stations = (f"{{ place = {place}, low = {low}, high = {high}, operator = {fares.operators[place]} }}" for place, (low, high) in fares.stations.items())
+    routes = (f"{{ place = {place}, operator = {fares.operators[place]} }}" for place in fares.routes)
     interchanges = (f"{{ a = {min(pair)}, b = {max(pair)}, seconds = {seconds} }}" for pair, seconds in fares.interchanges.items())
     return f"""\
 zones = {len(fares.minutes)}

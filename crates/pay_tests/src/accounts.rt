@@ -18,6 +18,7 @@ use std::process::Abort;
 fn sent<F: Fares>(account: &mut F, tables: &Tables, tap: &Tap) -> Result<Priced, TapFault>
     requires own { tap.now.account ≡ F.account account.old }
     requires priced_by { F.IsPricedBy tables.now account.old }
+    ensures { F.account account.new ≡ F.account account.old }
 {
     match account.tap(tables, *tap) {
         Err(TapFault::Memory) => account.tap(tables, *tap),
@@ -47,7 +48,9 @@ fn shown<F: Fares>(account: &F, tables: &Tables, day: u32) -> Result<Shown, Allo
 }
 
 /// Sends a tap, and compares the price of the day.
-fn expect_price<R: Abort>(rt: &R, account: &mut Account, tables: &Tables, tap: Tap, pence: u64) {
+pub fn expect_price<R: Abort>(rt: &R, account: &mut Account, tables: &Tables, tap: Tap, pence: u64)
+    ensures { account.new.0 ≡ account.old.0 }
+{
     let tap = Tap {
         account: account.number(),
         ..tap
@@ -142,7 +145,7 @@ fn expect_shown<R: Abort>(rt: &R, account: &Account, tables: &Tables) {
 }
 
 /// Sends a correction by staff 3, and compares the day that it names and the day's price.
-fn expect_fixed<R: Abort>(
+pub fn expect_fixed<R: Abort>(
     rt: &R,
     account: &mut Account,
     tables: &Tables,

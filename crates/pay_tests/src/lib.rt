@@ -21,6 +21,8 @@ mod given;
 #[cfg(test)]
 mod journeys;
 #[cfg(test)]
+mod quotes;
+#[cfg(test)]
 mod sessions;
 #[cfg(test)]
 mod shares;

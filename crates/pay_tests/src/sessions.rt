@@ -4,7 +4,7 @@
 use crate::given::{expect_same, sample};
 use crate::streams::{Letters, Scripted, Trickle};
 use jiff::tz::TimeZone;
-use pay_session::{Done, SessionFault, run_lines};
+use pay_session::{Done, SessionFault, WeekFault, run_lines, week_by_lines};
 use std::io::{BufRead, ErrorKind, Write};
 use std::process::Abort;
 use std::sync::Arc;
@@ -105,6 +105,25 @@ fn stops_where_the_reader_fails(rt: HostRuntime) {
         let (replies, bytes) = lines_within(until);
         expect_read_fault(&rt, until, replies, bytes);
     }
+}
+
+/// How many journeys the account of the lines has in its week by what a reader gives until it fails, or why none are told.
+fn week_until<H: Abort + AllocGlobal>(rt: &H, until: usize) -> Result<usize, WeekFault> {
+    let mut reader = Trickle {
+        until,
+        ..all_lines()
+    };
+    let tables = Arc::new(rt.alloc(), sample(rt)).expect(rt, "memory");
+    let zone = TimeZone::posix("GMT0BST,M3.5.0/1,M10.5.0").expect(rt, "a rule");
+    let lines = week_by_lines(rt.alloc(), &mut reader, &zone, &tables, 7, 19_736)?;
+    Ok(lines.as_slice().len())
+}
+
+#[test]
+fn tells_a_week_where_the_reader_ends(rt: HostRuntime) {
+    expect_same(&rt, week_until(&rt, usize::MAX), Ok(4));
+    let stopped = SessionFault::Read { answered: 2 };
+    expect_same(&rt, week_until(&rt, 60), Err(WeekFault::Session(stopped)));
 }
 
 #[test]

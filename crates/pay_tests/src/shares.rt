@@ -17,7 +17,7 @@ const THREE_CARRIED: [u64; OPERATORS] = [680, 340, 180, 0, 0, 0, 0, 0, 0, 0, 0, 
 const NONE_CARRIED: [u64; OPERATORS] = [0; OPERATORS];
 
 /// What the first four operators have, where the others have nothing.
-fn first_four(one: u64, two: u64, three: u64, four: u64) -> [u64; OPERATORS] {
+pub fn first_four(one: u64, two: u64, three: u64, four: u64) -> [u64; OPERATORS] {
     let mut all = [0; OPERATORS];
     all[0] = one;
     all[1] = two;

@@ -71,7 +71,8 @@ fn by_rail() -> [Line; 4] {
     ]
 }
 
-const BY_RAIL: &str = "day,kind,from,to,start,fare,band
+/// Their statement.
+pub const BY_RAIL: &str = "day,kind,from,to,start,fare,band
 19730,RAIL,10,12,07:00:00,340,1-2
 19730,RAIL,12,10,07:30:00,340,1-2
 19730,RAIL,10,12,08:00:00,340,1-2
@@ -95,7 +96,8 @@ const OTHERS: &str = "day,kind,from,to,start,fare,band
 19730,LONE,0,11,23:59:59,860,-
 ";
 
-fn expect_statement<R: Abort + AllocGlobal>(rt: &R, lines: &[Line], wanted: &str) {
+/// So this is the statement of these journeys.
+pub fn expect_statement<R: Abort + AllocGlobal>(rt: &R, lines: &[Line], wanted: &str) {
     let held = write_csv(&sample(rt), lines, Vec::new(rt.alloc())).expect(rt, "a statement");
     expect_same(rt, held.as_slice(), wanted.as_bytes());
 }

@@ -27,7 +27,12 @@ fn reads_commands(rt: HostRuntime) {
         day: 19_730,
     };
     expect_same(&rt, read_command(b"SHOW 7 19730"), Some(show));
-    expect_same(&rt, read_command(b"DUE 7 19730"), Some(Command::NotYet));
+    let due = Command::Due {
+        account: 7,
+        day: 19_730,
+    };
+    expect_same(&rt, read_command(b"DUE 7 19730"), Some(due));
+    expect_same(&rt, read_command(b"CLOSE 19730"), Some(Command::NotYet));
     expect_same(&rt, read_command(b"QUIT"), Some(Command::Quit));
     expect_same(&rt, read_command(b"QUIT "), None);
 }

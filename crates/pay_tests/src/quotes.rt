@@ -1,0 +1,123 @@
+//! What an account owes, what it has of a week, and what it has accepted. By the sample fare file.
+
+ghost use Rattle.std.specs.Prelude.{◌≡◌, ◌≤◌};
+ghost use Rattle.pay_day.specs.Words.{IsDay, monday};
+
+use crate::accounts::{expect_fixed, expect_price};
+use crate::given::{MONDAY, expect_same, sample, tap_at};
+use crate::shares::first_four;
+use crate::statements::{BY_RAIL, expect_statement};
+use pay_account::*;
+use pay_fix::What;
+use pay_money::Pence;
+use pay_tables::Tables;
+use pay_taps::Kind;
+use std::alloc::AllocError;
+use std::process::Abort;
+
+// What follows asks again where memory is wanting once, as for the prices of accounts.
+
+/// What an account owes through a service day.
+fn quoted<F: Fares>(account: &F, tables: &Tables, through: u32) -> Result<Quote, AllocError>
+    requires numbered { 1 ≤ F.account account.now }
+    requires is_day { IsDay through }
+    requires priced_by { F.IsPricedBy tables.now account.now }
+{
+    match account.quote(tables, through) {
+        Err(AllocError) => account.quote(tables, through),
+        quote => quote,
+    }
+}
+
+/// The journeys of a week, whose Monday is this day.
+fn listed<F: Fares>(account: &F, tables: &Tables, week: u32) -> Result<Lines, AllocError>
+    requires is_day { IsDay week }
+    requires is_monday { monday week ≡ week }
+    requires priced_by { F.IsPricedBy tables.now account.now }
+{
+    match account.lines(tables, week) {
+        Err(AllocError) => account.lines(tables, week),
+        lines => lines,
+    }
+}
+
+/// All that an account has accepted.
+fn kept<F: Fares>(account: &F) -> Result<Sets, AllocError> {
+    match account.sets() {
+        Err(AllocError) => account.sets(),
+        sets => sets,
+    }
+}
+
+/// Account 7 after three journeys by rail at 340 pence each, which the band of zones 1 to 2 caps at 890.
+fn three_rides<R: Abort + AllocGlobal>(rt: &R, tables: &Tables) -> Account
+    ensures { result.0 ≡ 7 }
+{
+    let mut account: Account = Fares::new(rt.alloc(), 7);
+    ride(rt, &mut account, tables, 1, 25_200, (10, 12), (860, 340));
+    ride(rt, &mut account, tables, 3, 27_000, (12, 10), (1_200, 680));
+    ride(rt, &mut account, tables, 5, 28_800, (10, 12), (1_540, 890));
+    account
+}
+
+/// Sends the taps of a leg of 20 minutes, and compares the price of the day after each.
+fn ride<R: Abort>(
+    rt: &R,
+    account: &mut Account,
+    tables: &Tables,
+    seq: u32,
+    second: u32,
+    stations: (u16, u16),
+    prices: (u64, u64),
+)
+    requires second { second ≤ 40_000 }
+    requires seq { seq ≤ 40_000 }
+    ensures { account.new.0 ≡ account.old.0 }
+{
+    let entry = tap_at(rt, seq, second, stations.0, Kind::In);
+    let exit = tap_at(rt, seq + 1, second + 1_200, stations.1, Kind::Out);
+    expect_price(rt, account, tables, entry, prices.0);
+    expect_price(rt, account, tables, exit, prices.1);
+}
+
+#[test]
+fn quotes_what_is_due(rt: HostRuntime) {
+    let tables = sample(&rt);
+    let account = three_rides(&rt, &tables);
+    let quote = quoted(&account, &tables, MONDAY).expect(&rt, "memory");
+    expect_same(
+        &rt,
+        (quote.account(), quote.week(), quote.through()),
+        (7, MONDAY, MONDAY),
+    );
+    expect_same(&rt, (quote.version(), quote.due()), (6, Pence::new(890)));
+    expect_same(&rt, *quote.shares(), first_four(593, 297, 0, 0));
+}
+
+#[test]
+fn lists_a_week(rt: HostRuntime) {
+    let tables = sample(&rt);
+    let mut account = three_rides(&rt, &tables);
+    let lone = tap_at(&rt, 7, 43_200, 10, Kind::In);
+    expect_price(&rt, &mut account, &tables, lone, 1_750);
+    let lines = listed(&account, &tables, MONDAY).expect(&rt, "memory");
+    expect_statement(&rt, lines.as_slice(), BY_RAIL);
+}
+
+#[test]
+fn keeps_what_was_accepted(rt: HostRuntime) {
+    let tables = sample(&rt);
+    let mut account: Account = Fares::new(rt.alloc(), 7);
+    let tap = tap_at(&rt, 1, 25_200, 10, Kind::In);
+    expect_price(&rt, &mut account, &tables, tap, 860);
+    let void = What::Void(1, 1);
+    expect_fixed(&rt, &mut account, &tables, 1, void, (MONDAY, 0));
+    let sets = kept(&account).expect(&rt, "memory");
+    expect_same(&rt, sets.account(), 7);
+    expect_same(
+        &rt,
+        (sets.taps().first(), sets.taps().len()),
+        (Some(&tap), 1),
+    );
+    expect_same(&rt, sets.fixes().len(), 1);
+}
