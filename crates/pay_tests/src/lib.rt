@@ -25,6 +25,8 @@ mod quotes;
 #[cfg(test)]
 mod sessions;
 #[cfg(test)]
+mod shards;
+#[cfg(test)]
 mod shares;
 #[cfg(test)]
 mod statements;

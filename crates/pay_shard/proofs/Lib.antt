@@ -1,0 +1,9 @@
+pub mod AcceptedChanges
+pub mod AccountChanges
+pub mod ArrivalOrder
+pub mod AskedChanges
+pub mod Batches
+pub mod FirstOnes
+pub mod Journals
+pub mod Merging
+pub mod Places

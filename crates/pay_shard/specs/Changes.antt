@@ -1,0 +1,30 @@
+-- The taps and corrections of a journal that are accepted.
+use Rattle.std.specs.Prelude.{◌≡◌, Bool, true, false, if◌then◌else◌, List, [], ◌∷◌, refl}
+use Rattle.pay_tables.specs.Words.{FareTables}
+use Rattle.pay_account.specs.declared.fares.Priced.{Priced}
+use Rattle.pay_shard.specs.State.{State}
+use Rattle.pay_shard.specs.Runs.{run}
+use Rattle.pay_shard.specs.declared.asked.Asked.{Asked}
+use Rattle.pay_shard.specs.declared.item.Item.{Item}
+use Rattle.pay_shard.specs.declared.refusal.Refusal.TheVariants as refusal
+use Rattle.pay_shard.specs.declared.reply.Reply.{Reply}
+use Rattle.pay_shard.specs.declared.reply.Reply.TheVariants as replies
+
+-- an accepted tap or correction is answered by prices, and so is a repeat of it; nothing else is
+abbrev pub is_priced : Reply → Bool
+is_priced (replies.Priced priced) = true
+is_priced _ = false
+
+-- what was asked by the items whose replies are prices
+abbrev pub with_prices : List Item → List Reply → List Asked
+with_prices (item ∷ items) (reply ∷ later) = if is_priced reply then item.entry.command ∷ with_prices items later else with_prices items later
+with_prices _ _ = []
+
+-- the taps and corrections of a journal that are accepted, and their repeats, in the order in which they came
+abbrev pub accepted_asked : FareTables → State → List Item → List Asked
+accepted_asked tables state items = with_prices items (run tables state items).replies
+
+-- a tap, one that is refused, the first again, and it again where memory was wanting
+repeat_and_marked : (tap other marked : Item) (first repeat : Priced)
+    → with_prices (tap ∷ other ∷ tap ∷ marked ∷ []) (replies.Priced first ∷ replies.No refusal.Conflict ∷ replies.Priced repeat ∷ replies.Memory ∷ []) ≡ tap.entry.command ∷ tap.entry.command ∷ []
+repeat_and_marked tap other marked first repeat = refl

@@ -1,0 +1,38 @@
+-- How accounts are kept: one beside another, and of each number its place.
+use Rattle.std.specs.Prelude.{◌≡◌, ℕ, suc, ◌≤◌, cond, List, [], ◌∷◌, map, Option, Some, None, option_map, refl}
+use Rattle.std.specs.BTreeMap.{is_at}
+use Rattle.std.specs.Coded.{Coded, code_by, coded×}
+use Rattle.std.specs.FinMap as finite
+use Rattle.std.specs.List.{AllByRecursion}
+use Rattle.std.specs.Map.{lookup}
+use Rattle.std.specs.Ordering.{nat_cmp, eq_by_cmp}
+use Rattle.pay_tables.specs.Codes.{fare_tables_code}
+use Rattle.pay_tables.specs.Words.{FareTables}
+use Rattle.pay_account.specs.Words.{Accepted}
+use Rattle.pay_shard.specs.State.{State, state_code}
+
+-- the fare file by which they are priced, and what they have accepted
+pub record Held : Type 0 where
+  pub tables : FareTables
+  pub state : State
+
+abbrev pub held_code : Coded Held
+held_code = code_by (FareTables × State) (coded× fare_tables_code state_code) (λ h. (h.tables, h.state)) (λ p. record { tables = p.0; state = p.1 }) (λ _. refl)
+
+-- where a number stands first
+abbrev pub place_of : ℕ → List ℕ → Option ℕ
+place_of q [] = None
+place_of q (n ∷ ns) = cond (eq_by_cmp nat_cmp q n) (Some 0) (option_map suc (place_of q ns))
+
+-- each number's place is known
+abbrev pub ArePlaces : List (ℕ × ℕ) → List ℕ → Type 0
+ArePlaces places numbers = (q : ℕ) → lookup (is_at (nat_cmp q)) places ≡ place_of q numbers
+
+module _ {F : Type 0} (account : F → ℕ) (accepted : F → Accepted) where
+  -- what accounts have accepted, by their numbers
+  unfoldable pub state_of : List F → State
+  state_of accounts = finite.from_entries (map (λ a. (account a, accepted a)) accounts)
+
+-- each account may be priced by the fare file, and they count from 1
+abbrev pub ArePriced : {F : Type 0} → (F → ℕ) → (F → Type 0) → List F → Type 0
+ArePriced account IsPriced = AllByRecursion (λ a. (1 ≤ account a) × IsPriced a)

@@ -1,0 +1,12 @@
+pub mod Ranges
+pub mod State
+pub mod Selection
+pub mod BatchParts
+pub mod Faults
+pub mod Machine
+pub mod Runs
+pub mod Held
+pub mod ShardParts
+pub mod Merges
+pub mod Changes
+pub mod Words

@@ -1,0 +1,75 @@
+-- What the machine replies to the items of a journal, one after another.
+use Rattle.std.specs.Prelude.{◌≡◌, ℕ, ◌+◌, true, false, List, [], ◌∷◌, ⊤, refl}
+use Rattle.pay_tables.specs.Words.{FareTables}
+use Rattle.pay_account.specs.Words.{shown, quote}
+use Rattle.pay_shard.specs.State.{State, accepted_of}
+use Rattle.pay_shard.specs.Machine.{step, item_step, is_refusal}
+use Rattle.pay_shard.specs.declared.asked.Asked.TheVariants as asked
+use Rattle.pay_shard.specs.declared.item.Entry.{Entry}
+use Rattle.pay_shard.specs.declared.item.Item.{Item}
+use Rattle.pay_shard.specs.declared.reply.Reply.{Reply}
+use Rattle.pay_shard.specs.declared.reply.Reply.TheVariants as replies
+use Rattle.pay_shard.specs.declared.reply.Answer.{Answer}
+
+-- the replies to a list of items, and the state after them
+pub record Run : Type 0 where
+  pub replies : List Reply
+  pub after : State
+
+-- a reply before those of a run
+abbrev pub reply_then : Reply → Run → Run
+reply_then reply later = record { replies = reply ∷ later.replies; after = later.after }
+
+abbrev pub run : FareTables → State → List Item → Run
+run tables state [] = record { replies = []; after = state }
+run tables state (item ∷ items) = reply_then (item_step tables state item).reply (run tables (item_step tables state item).after items)
+
+-- the state that a run ends in
+abbrev pub replay : FareTables → State → List Item → State
+replay tables state items = (run tables state items).after
+
+-- the answer to an item at a place of a shard's journal
+abbrev pub answer_at : ℕ → ℕ → FareTables → State → Item → Answer
+answer_at shard place tables state item = record {
+  shard = shard;
+  place = place;
+  ticket = item.entry.ticket;
+  command = item.entry.command;
+  reply = (item_step tables state item).reply;
+}
+
+-- the answers to the items from a place on
+abbrev pub answers_from : ℕ → ℕ → FareTables → State → List Item → List Answer
+answers_from shard place tables state [] = []
+answers_from shard place tables state (item ∷ items) = answer_at shard place tables state item ∷ answers_from shard (place + 1) tables (item_step tables state item).after items
+
+-- the answers of a shard, whose first item is at place 0
+abbrev pub answers : ℕ → FareTables → State → List Item → List Answer
+answers shard tables state items = answers_from shard 0 tables state items
+
+-- what was to be refused is refused: it takes no memory
+abbrev pub IsMarkedRightly : FareTables → State → Item → Type 0
+IsMarkedRightly tables state item = item.refused_memory ≡ true → is_refusal (step tables state item.entry.command).reply ≡ false
+
+-- a list of items as a journal may have it
+abbrev pub IsHistory : FareTables → State → List Item → Type 0
+IsHistory tables state [] = ⊤
+IsHistory tables state (item ∷ items) = IsMarkedRightly tables state item × IsHistory tables (item_step tables state item).after items
+
+-- an entry whose command was refused for memory
+abbrev refused : Entry → Item
+refused entry = record { entry = entry; refused_memory = true }
+
+-- two of them change nothing, and are answered at their places in order
+two_refused : (tables : FareTables) (state : State) (first second : Entry) → replay tables state (refused first ∷ refused second ∷ []) ≡ state
+two_refused tables state first second = refl
+
+two_answers : (tables : FareTables) (state : State) (first second : Entry) → answers 3 tables state (refused first ∷ refused second ∷ [])
+    ≡ record { shard = 3; place = 0; ticket = first.ticket; command = first.command; reply = replies.Memory } ∷ record { shard = 3; place = 1; ticket = second.ticket; command = second.command; reply = replies.Memory } ∷ []
+two_answers tables state first second = refl
+
+-- what is due and what is shown is of the state before it, which it leaves
+due_and_shown : (tables : FareTables) (state : State) (lane ticket : ℕ)
+    → run tables state (record { entry = record { lane = lane; ticket = ticket; command = asked.Due 7 19_730 }; refused_memory = false } ∷ record { entry = record { lane = lane; ticket = ticket; command = asked.Show 7 19_730 }; refused_memory = false } ∷ [])
+    ≡ record { replies = replies.Due (quote tables 7 (accepted_of state 7) 19_730) ∷ replies.Shown (shown tables 7 (accepted_of state 7) 19_730) ∷ []; after = state }
+due_and_shown tables state lane ticket = refl

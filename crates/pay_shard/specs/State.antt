@@ -1,0 +1,41 @@
+-- What the machine keeps: of each account what it has accepted.
+use Rattle.std.specs.Prelude.{ℕ, Bool, false, not, Result, Ok, Err, unwrap_or, if◌then◌else◌}
+use Rattle.std.specs.Coded.{Coded, coded_ℕ}
+use Rattle.std.specs.FinMap as map
+use Rattle.std.specs.FinMap.{FinMap}
+use Rattle.std.specs.Ordering.{nat_cmp}
+use Rattle.pay_taps.specs.declared.tap.Tap.{Tap}
+use Rattle.pay_fix.specs.declared.fix.Fix.{Fix}
+use Rattle.pay_account.specs.Words.{Accepted, accepted_code, nothing, after_tap, after_fix}
+use Rattle.pay_account.specs.declared.fares.Priced.{Priced}
+use Rattle.pay_account.specs.declared.fares.TapFault.{TapFault}
+use Rattle.pay_account.specs.declared.fares.FixFault.{FixFault}
+
+-- an account that has accepted nothing counts like one that is not in the map
+abbrev pub State : Type 0
+State = FinMap nat_cmp Accepted
+
+-- the code that a model of this type needs
+abbrev pub state_code : Coded State
+state_code = map.code coded_ℕ accepted_code
+
+-- what an account has accepted
+abbrev pub accepted_of : State → ℕ → Accepted
+accepted_of state account = unwrap_or (map.get state account) nothing
+
+-- whether something was accepted that was not there before
+abbrev pub is_new : {E : Type 0} → Result Priced E → Bool
+is_new (Ok priced) = not priced.again
+is_new (Err fault) = false
+
+-- the accounts with what one of them has accepted now, if that is something new
+abbrev pub kept : Bool → State → ℕ → Accepted → State
+kept new state account accepted = if new then map.insert state account accepted else state
+
+-- the accounts after the result of a tap: an accepted tap is kept, a repeat and a refusal change nothing
+abbrev pub after_tap_of : Result Priced TapFault → State → Tap → State
+after_tap_of result state tap = kept (is_new result) state tap.account (after_tap result (accepted_of state tap.account) tap)
+
+-- and after the result of a correction
+abbrev pub after_fix_of : Result Priced FixFault → State → Fix → State
+after_fix_of result state fix = kept (is_new result) state fix.account (after_fix result (accepted_of state fix.account) fix)

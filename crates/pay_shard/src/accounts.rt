@@ -1,0 +1,242 @@
+ghost use Rattle.std.specs.Prelude.{◌≡◌, ◌<◌, ◌≤◌, map as each, IfOk, IfErr, IfSome, IfNone, OnOk, OnErr, None};
+ghost use Rattle.std.specs.Arc.{arc_value};
+ghost use Rattle.std.specs.FinMap as map;
+ghost use Rattle.std.specs.List.{IsDistinct};
+ghost use Rattle.std.specs.Ordering.{nat_cmp, eq_by_cmp};
+ghost use Rattle.pay_day.specs.Words.{IsDay};
+ghost use Rattle.pay_account.specs.Words.{IsTapResult, IsFixResult, shown, quote};
+ghost use Rattle.pay_shard.specs.State.{accepted_of, after_tap_of, after_fix_of};
+ghost use Rattle.pay_shard.specs.BatchParts.{batch, batch_if_quoted, batch_with};
+ghost use Rattle.pay_shard.specs.Held.{ArePlaces, ArePriced, state_of};
+
+use crate::batch::Batch;
+use crate::selection::is_quoted;
+use pay_account::{Fares, FixFault, Priced, Quote, Shown, TapFault};
+use pay_fix::Fix;
+use pay_tables::Tables;
+use pay_taps::Tap;
+use std::alloc::{AllocError, AllocFailed, Global};
+use std::collections::BTreeMap;
+use std::marker::Model;
+use std::sync::Arc;
+
+/// Accounts that are priced by one fare file, each at a number of its own. In a contract they are that fare file and the
+/// finite map from each account to what it has accepted.
+#[derive(Drop)]
+pub struct Accounts<F: Fares> {
+    alloc: Global,
+    tables: Arc<Tables>,
+    // The place of each account by its number.
+    places: BTreeMap<u32, usize>,
+    accounts: Vec<F>,
+}
+
+impl<F: Fares> Model for Accounts<F> {
+    ghost use Rattle.std.specs.Prelude.{map};
+    ghost use Rattle.std.specs.Arc.{arc_value};
+    ghost use Rattle.pay_shard.specs.Held.{Held, held_code, ArePlaces, ArePriced, state_of};
+
+    ghost Value = { Held };
+
+    ghost coded = { held_code };
+
+    ghost view = { λ a. record { tables = arc_value a.tables; state = state_of F.account F.accepted a.accounts.items } };
+
+    ghost invariant = { λ a. ArePlaces a.places.entries (map F.account a.accounts.items)
+        × ArePriced F.account (F.IsPricedBy (arc_value a.tables)) a.accounts.items };
+}
+
+/// The place of each account by its number. An `Err` is want of memory.
+fn places_of<F: Fares>(alloc: Global, accounts: &[F]) -> Result<BTreeMap<u32, usize>, AllocError>
+    requires { IsDistinct (eq_by_cmp nat_cmp) (each F.account accounts.now) }
+    ensures { IfOk result (λ places. ArePlaces places.entries (each F.account accounts.now)) }
+{
+    let mut places = BTreeMap::new(alloc);
+    for place in 0..accounts.len() {
+        places.insert(accounts[place].number(), place)?;
+    }
+    Ok(places)
+}
+
+/// Quotes an account in a batch, if it has a tap or a Fill on a day of the week through that day.
+fn add_if_quoted<F: Fares>(
+    batch: &mut Batch,
+    tables: &Tables,
+    held: &F,
+    through: u32,
+) -> Result<(), AllocError>
+    requires numbered { 1 ≤ F.account held.now }
+    requires is_day { IsDay through }
+    requires priced_by { F.IsPricedBy tables.now held.now }
+    ensures { OnOk result (batch.new ≡ batch_if_quoted tables.now through batch.old (F.account held.now) (F.accepted held.now)) }
+{
+    let sets = held.sets()?;
+    if !is_quoted(&sets, through) {
+        return Ok(());
+    }
+    let quote = held.quote(tables, through)?;
+    batch.push(quote, sets)
+}
+
+impl<F: Fares> Accounts<F> {
+    /// These accounts. `Memory` gives them back.
+    pub fn new(
+        alloc: Global,
+        tables: Arc<Tables>,
+        accounts: Vec<F>,
+    ) -> Result<Accounts<F>, AllocFailed<Vec<F>>>
+        requires distinct { IsDistinct (eq_by_cmp nat_cmp) (each F.account accounts.items) }
+        requires priced { ArePriced F.account (F.IsPricedBy (arc_value tables)) accounts.items }
+        ensures ok { IfOk result (λ made. made ≡ record { tables = arc_value tables; state = state_of F.account F.accepted accounts.items }) }
+        ensures given_back { IfErr result (λ failed. failed.value ≡ accounts) }
+    {
+        match places_of(alloc, &accounts) {
+            Ok(places) => Ok(Accounts {
+                alloc,
+                tables,
+                places,
+                accounts,
+            }),
+            Err(_) => Err(AllocFailed { value: accounts }),
+        }
+    }
+
+    /// An account by its number.
+    pub fn get(&self, number: u32) -> Option<&F>
+        ensures some { IfSome result (λ it. map.get self.now.state number ≡ Some (F.accepted it.now)) }
+        ensures own { IfSome result (λ it. F.account it.now ≡ number) }
+        ensures numbered { IfSome result (λ it. 1 ≤ F.account it.now) }
+        ensures priced_by { IfSome result (λ it. F.IsPricedBy self.now.tables it.now) }
+        ensures none { IfNone result (map.get self.now.state number ≡ None) }
+    {
+        let place = *self.places.get(&number)?;
+        self.accounts.get(place)
+    }
+
+    /// Keeps an account at its number, where none is.
+    fn keep(&mut self, account: F) -> Result<(), AllocError>
+        requires absent { map.get self.old.state (F.account account) ≡ None }
+        requires numbered { 1 ≤ F.account account }
+        requires priced_by { F.IsPricedBy self.old.tables account }
+        ensures kept { OnOk result (self.new ≡ record { tables = self.old.tables; state = map.insert self.old.state (F.account account) (F.accepted account) }) }
+        ensures err { OnErr result (self.new ≡ self.old) }
+    {
+        let number = account.number();
+        let place = self.accounts.len();
+        self.accounts.push(account)?;
+        match self.places.insert(number, place) {
+            Ok(_) => Ok(()),
+            Err(_) => {
+                self.accounts.pop();
+                Err(AllocError)
+            }
+        }
+    }
+
+    /// Hands a tap to its account, which is opened by the first that it accepts: a refused tap leaves no account behind.
+    pub fn tap(&mut self, tap: Tap) -> Result<Priced, TapFault>
+        requires { 1 ≤ tap.account }
+        ensures answer { IsTapResult result self.old.tables (accepted_of self.old.state tap.account) tap }
+        ensures after { self.new ≡ record { tables = self.old.tables; state = after_tap_of result self.old.state tap } }
+    {
+        match self.places.get(&tap.account) {
+            Some(place) => self.accounts[*place].tap(&self.tables, tap),
+            None => self.open_by_tap(tap),
+        }
+    }
+
+    /// Hands a tap to a new account, and keeps the account if the tap is accepted.
+    fn open_by_tap(&mut self, tap: Tap) -> Result<Priced, TapFault>
+        requires numbered { 1 ≤ tap.account }
+        requires absent { map.get self.old.state tap.account ≡ None }
+        ensures answer { IsTapResult result self.old.tables (accepted_of self.old.state tap.account) tap }
+        ensures after { self.new ≡ record { tables = self.old.tables; state = after_tap_of result self.old.state tap } }
+    {
+        let mut account = F::new(self.alloc, tap.account);
+        let priced = account.tap(&self.tables, tap)?;
+        self.keep(account)?;
+        Ok(priced)
+    }
+
+    /// Hands a correction to its account, which is opened by the first that it accepts, as by a tap.
+    pub fn fix(&mut self, fix: Fix) -> Result<Priced, FixFault>
+        requires { 1 ≤ fix.account }
+        ensures answer { IsFixResult result self.old.tables (accepted_of self.old.state fix.account) fix }
+        ensures after { self.new ≡ record { tables = self.old.tables; state = after_fix_of result self.old.state fix } }
+    {
+        match self.places.get(&fix.account) {
+            Some(place) => self.accounts[*place].fix(&self.tables, fix),
+            None => self.open_by_fix(fix),
+        }
+    }
+
+    /// Hands a correction to a new account, and keeps the account if the correction is accepted.
+    fn open_by_fix(&mut self, fix: Fix) -> Result<Priced, FixFault>
+        requires numbered { 1 ≤ fix.account }
+        requires absent { map.get self.old.state fix.account ≡ None }
+        ensures answer { IsFixResult result self.old.tables (accepted_of self.old.state fix.account) fix }
+        ensures after { self.new ≡ record { tables = self.old.tables; state = after_fix_of result self.old.state fix } }
+    {
+        let mut account = F::new(self.alloc, fix.account);
+        let priced = account.fix(&self.tables, fix)?;
+        self.keep(account)?;
+        Ok(priced)
+    }
+
+    /// Shows a service day of an account. One that has accepted nothing has no journeys.
+    pub fn show(&self, account: u32, day: u32) -> Result<Shown, AllocError>
+        ensures { IfOk result (λ it. it ≡ shown self.now.tables account (accepted_of self.now.state account) day) }
+    {
+        match self.get(account) {
+            Some(held) => held.show(&self.tables, day),
+            None => F::new(self.alloc, account).show(&self.tables, day),
+        }
+    }
+
+    /// What an account owes of the week of a service day, through that day. One that has accepted nothing owes nothing.
+    pub fn quote(&self, account: u32, through: u32) -> Result<Quote, AllocError>
+        requires numbered { 1 ≤ account }
+        requires is_day { IsDay through }
+        ensures { IfOk result (λ it. it ≡ quote self.now.tables account (accepted_of self.now.state account) through) }
+    {
+        match self.get(account) {
+            Some(held) => held.quote(&self.tables, through),
+            None => F::new(self.alloc, account).quote(&self.tables, through),
+        }
+    }
+
+    /// Quotes an account in a batch, if it is the shard's and is quoted.
+    fn add_account(
+        &self,
+        batch: &mut Batch,
+        account: u32,
+        through: u32,
+        shard: u8,
+        of: u8,
+    ) -> Result<(), AllocError>
+        requires is_day { IsDay through }
+        requires shards { 0 < of }
+        ensures { OnOk result (batch.new ≡ batch_with self.now.tables self.now.state through shard of batch.old account) }
+    {
+        if account % u32::from(of) != u32::from(shard) {
+            return Ok(());
+        }
+        match self.get(account) {
+            Some(held) => add_if_quoted(batch, &self.tables, held, through),
+            None => Ok(()),
+        }
+    }
+
+    /// Quotes the accounts of a shard that have a tap or a Fill on a day of the week through that day.
+    pub fn quotes(&self, through: u32, shard: u8, of: u8) -> Result<Batch, AllocError>
+        requires is_day { IsDay through }
+        requires shards { 0 < of }
+        ensures { IfOk result (λ it. it ≡ batch self.now.tables self.now.state through shard of) }
+    {
+        let mut batch = Batch::new(self.alloc);
+        for account in self.places.keys() {
+            self.add_account(&mut batch, *account, through, shard, of)?;
+        }
+        Ok(batch)
+    }
+}

@@ -1,0 +1,25 @@
+//! A shard of the accounts: commands as plain numbers, the machine that answers them, and the journal of what was asked.
+//! [`Shard`] keeps the accounts beside the journal, of which they are the replay. `laws` says what several shards come to,
+//! and `limits` how many there may be.
+#![tactic(auto)]
+
+mod accounts;
+mod answering;
+mod asked;
+mod batch;
+mod command;
+mod item;
+pub mod laws;
+pub mod limits;
+mod refusal;
+mod reply;
+mod selection;
+mod shard;
+
+pub use asked::Asked;
+pub use batch::Batch;
+pub use command::Command;
+pub use item::{Entry, Item};
+pub use refusal::Refusal;
+pub use reply::{Answer, Reply};
+pub use shard::Shard;

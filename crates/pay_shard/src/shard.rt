@@ -1,0 +1,176 @@
+ghost use Rattle.std.specs.Prelude.{◌≡◌, ◌+◌, ◌≤◌, ◌<◌, map as each, [], None, Some, IsOk, IfOk, IfErr, IfSome, IfNone, OnOk, OnErr, ◌++◌, ◌∷◌};
+ghost use Rattle.std.specs.Arc.{arc_value};
+ghost use Rattle.std.specs.FinMap as map;
+ghost use Rattle.std.specs.List.{IsDistinct};
+ghost use Rattle.std.specs.Ordering.{nat_cmp, eq_by_cmp};
+ghost use Rattle.std.specs.Vec.{vec_capacity, vec_len};
+ghost use Rattle.pay_account.specs.Words.{nothing};
+ghost use Rattle.pay_shard.specs.State.{accepted_of};
+ghost use Rattle.pay_shard.specs.Held.{ArePriced, state_of};
+ghost use Rattle.pay_shard.specs.Machine.{is_memory};
+ghost use Rattle.pay_shard.specs.Runs.{IsHistory, IsMarkedRightly};
+ghost use Rattle.pay_shard.specs.ShardParts.{state_now, answers_given, next_answer, item_of, with_item, with_room};
+
+use crate::accounts::Accounts;
+use crate::item::{Entry, Item};
+use crate::reply::{Answer, Reply};
+use pay_account::Fares;
+use pay_tables::Tables;
+use std::alloc::{AllocError, AllocFailed, Global};
+use std::marker::Model;
+use std::snapshot::Snapshot;
+use std::sync::Arc;
+
+/// A shard: its accounts, and the journal of what was asked of it. What the accounts have accepted is the replay of the
+/// journal from what they had accepted when it began. In a contract it is its number, the fare file, that beginning, the
+/// journal, and the room that the journal has.
+#[derive(Drop)]
+pub struct Shard<F: Fares> {
+    number: u8,
+    accounts: Accounts<F>,
+    journal: Vec<Item>,
+    base: Snapshot<Accounts<F>>,
+}
+
+impl<F: Fares> Model for Shard<F> {
+    ghost use Rattle.std.specs.Prelude.{◌≡◌, ◌-◌};
+    ghost use Rattle.std.specs.Vec.{vec_capacity, vec_len};
+    ghost use Rattle.pay_shard.specs.Runs.{replay, IsHistory};
+    ghost use Rattle.pay_shard.specs.ShardParts.{ShardParts, shard_code};
+
+    ghost Value = { ShardParts };
+
+    ghost coded = { shard_code };
+
+    ghost view = { λ s. record {
+      number = s.number;
+      tables = s.accounts.tables;
+      base = s.base.value.state;
+      journal = s.journal.items;
+      room = vec_capacity s.journal - vec_len s.journal;
+    } };
+
+    ghost invariant = { λ s. (s.accounts.state ≡ replay s.accounts.tables s.base.value.state s.journal.items)
+        × IsHistory s.accounts.tables s.base.value.state s.journal.items };
+}
+
+/// Whether a reply says that memory was refused.
+fn is_memory(reply: &Reply) -> bool
+    ensures { result ≡ is_memory reply.now }
+{
+    matches!(reply, Reply::Memory)
+}
+
+/// Adds an item to a journal that has room for it.
+fn add(journal: &mut Vec<Item>, item: Item)
+    requires { vec_len journal.old < vec_capacity journal.old }
+    ensures items { journal.new.items ≡ journal.old.items ++ item ∷ [] }
+    ensures len { vec_len journal.new ≡ vec_len journal.old + 1 }
+    ensures capacity { vec_capacity journal.old ≤ vec_capacity journal.new }
+{
+    match journal.push(item) {
+        Ok(()) => {}
+        Err(_) => unreachable!(),
+    }
+}
+
+impl<F: Fares> Shard<F> {
+    /// A shard of this number with an empty journal, which begins with accounts of distinct numbers from 1, each priced by
+    /// this fare file. `Memory` gives the accounts back.
+    pub fn new(
+        alloc: Global,
+        number: u8,
+        tables: Arc<Tables>,
+        base: Vec<F>,
+    ) -> Result<Shard<F>, AllocFailed<Vec<F>>>
+        requires distinct { IsDistinct (eq_by_cmp nat_cmp) (each F.account base.items) }
+        requires priced { ArePriced F.account (F.IsPricedBy (arc_value tables)) base.items }
+        ensures number { IfOk result (λ shard. shard.number ≡ number) }
+        ensures tables { IfOk result (λ shard. shard.tables ≡ arc_value tables) }
+        ensures base { IfOk result (λ shard. shard.base ≡ state_of F.account F.accepted base.items) }
+        ensures journal { IfOk result (λ shard. shard.journal ≡ []) }
+        ensures given_back { IfErr result (λ failed. failed.value ≡ base) }
+    {
+        let accounts = Accounts::new(alloc, tables, base)?;
+        Ok(Shard {
+            number,
+            base: Snapshot::of(&accounts),
+            accounts,
+            journal: Vec::new(alloc),
+        })
+    }
+
+    /// Its number.
+    pub fn number(&self) -> u8
+        ensures { result ≡ self.now.number }
+    {
+        self.number
+    }
+
+    /// How many more items the journal takes without memory.
+    pub fn room(&self) -> usize
+        ensures { result ≡ self.now.room }
+    {
+        self.journal.capacity() - self.journal.len()
+    }
+
+    /// Makes room for so many more items. An `Err` is want of memory.
+    pub fn reserve(&mut self, items: usize) -> Result<(), AllocError>
+        ensures same { self.new ≡ with_room self.old self.new.room }
+        ensures ok { OnOk result (items ≤ self.new.room) }
+        ensures no_less { self.old.room ≤ self.new.room }
+        ensures succeeds { items ≤ self.old.room → IsOk result }
+    {
+        self.journal.reserve(items)
+    }
+
+    /// All that was asked, in order.
+    pub fn journal(&self) -> &[Item]
+        ensures value { result.now ≡ self.now.journal }
+        ensures history { IsHistory self.now.tables self.now.base result.now }
+    {
+        &self.journal
+    }
+
+    /// An account by its number. `None` is given only where it has accepted nothing.
+    pub fn account(&self, number: u32) -> Option<&F>
+        ensures own { IfSome result (λ it. F.account it.now ≡ number) }
+        ensures numbered { IfSome result (λ it. 1 ≤ F.account it.now) }
+        ensures priced_by { IfSome result (λ it. F.IsPricedBy self.now.tables it.now) }
+
+        // It is lent just where the replay of the journal has it, as it is there.
+        ensures some { IfSome result (λ it. map.get (state_now self.now) number ≡ Some (F.accepted it.now)) }
+        ensures accepted { IfSome result (λ it. F.accepted it.now ≡ accepted_of (state_now self.now) number) }
+        ensures none { IfNone result (map.get (state_now self.now) number ≡ None) }
+        ensures nothing { IfNone result (accepted_of (state_now self.now) number ≡ nothing) }
+    {
+        self.accounts.get(number)
+    }
+
+    /// Answers an entry, which is one more item of the journal. Where memory for it is refused, the item is so marked, and
+    /// the accounts are as before; what is to be refused is refused all the same.
+    pub fn apply(&mut self, entry: Entry) -> Answer
+        requires { 0 < self.old.room }
+        ensures journal { self.new ≡ with_item self.old (item_of entry (is_memory result.reply)) self.new.room }
+        ensures room { self.old.room ≤ self.new.room + 1 }
+        ensures answer { result ≡ next_answer self.old (item_of entry (is_memory result.reply)) }
+        ensures answers { answers_given self.new ≡ answers_given self.old ++ result ∷ [] }
+        ensures refusals { IsMarkedRightly self.old.tables (state_now self.old) (item_of entry (is_memory result.reply)) }
+    {
+        let entry = &entry;
+        let place = self.journal.len();
+        let reply = self.accounts.answer(entry.command.asked());
+        let item = Item {
+            entry: *entry,
+            refused_memory: is_memory(&reply),
+        };
+        add(&mut self.journal, item);
+        Answer {
+            shard: self.number,
+            place,
+            ticket: entry.ticket,
+            command: entry.command,
+            reply,
+        }
+    }
+}
