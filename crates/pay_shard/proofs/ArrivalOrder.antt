@@ -10,11 +10,12 @@ use Rattle.pay_numbered.specs.Words.{IsIn}
 use Rattle.pay_tables.specs.Words.{FareTables}
 use Rattle.pay_account.specs.Words.{Accepted}
 use Rattle.pay_account.specs.Changes.{Change, after_all, AreAccepted}
-use Rattle.pay_shard.specs.Changes.{is_priced, accepted_asked}
+use Rattle.pay_shard.specs.Changes.{is_priced, AreAllPriced, asked_by, AreUnmarked, accepted_asked}
 use Rattle.pay_shard.specs.Machine.{Step, step, marked_step, item_step}
-use Rattle.pay_shard.specs.Runs.{replay}
+use Rattle.pay_shard.specs.Runs.{run, replay}
 use Rattle.pay_shard.specs.State.{State, accepted_of}
 use Rattle.pay_shard.specs.declared.asked.Asked.{Asked}
+use Rattle.pay_shard.specs.declared.item.Entry.{Entry}
 use Rattle.pay_shard.specs.declared.item.Item.{Item}
 use Rattle.pay_shard.proofs.AskedChanges.{account_of, change_of, asks, step_is, unchanged, if_own, changes_of, same_changes}
 use Rattle.pay_shard.proofs.AcceptedChanges.{Accepts, accepts, priced_if_accepted}
@@ -34,9 +35,9 @@ end_of tables state [] = state
 end_of tables state (a ∷ list) = end_of tables (step tables state a).after list
 
 -- each is answered by prices
-abbrev AreAllPriced : FareTables → State → List Asked → Type 0
-AreAllPriced tables state [] = ⊤
-AreAllPriced tables state (a ∷ list) = (is_priced (step tables state a).reply ≡ true) × AreAllPriced tables (step tables state a).after list
+abbrev AreStepsPriced : FareTables → State → List Asked → Type 0
+AreStepsPriced tables state [] = ⊤
+AreStepsPriced tables state (a ∷ list) = (is_priced (step tables state a).reply ≡ true) × AreStepsPriced tables (step tables state a).after list
 
 changes_from : (account : ℕ) (a : Asked) (list : List Asked) (change : Change) → change_of a ≡ Some change → changes_of account (a ∷ list) ≡ own_first change (changes_of account list) (is_own account change)
 changes_from account a list change e = ap (λ o. cons_option (if_own account o) (changes_of account list)) e
@@ -51,7 +52,7 @@ record Ran (tables : FareTables) (state : State) (list : List Asked) : Type 0 wh
   pub each : (account : ℕ) → Leads tables (map.get state account) (changes_of account list) (map.get (end_of tables state list) account)
   pub asked : (a : Asked) → IsIn list a → Asks a
 
-ran : (tables : FareTables) (state : State) (list : List Asked) → AreAllPriced tables state list → Ran tables state list
+ran : (tables : FareTables) (state : State) (list : List Asked) → AreStepsPriced tables state list → Ran tables state list
 ran tables state [] all = record { each = λ account. record { are = tt; ends = refl }; asked = λ a h. absurd h }
 ran tables state (a ∷ list) all =
     let asked = asks tables state a all.0 in
@@ -67,7 +68,7 @@ ran tables state (a ∷ list) all =
 
 -- and where each account accepts its own, all are answered by prices
 all_priced : (tables : FareTables) (state : State) (list : List Asked) → ((a : Asked) → IsIn list a → Asks a)
-    → ((account : ℕ) → AreAccepted tables (accepted_of state account) (changes_of account list)) → AreAllPriced tables state list
+    → ((account : ℕ) → AreAccepted tables (accepted_of state account) (changes_of account list)) → AreStepsPriced tables state list
 all_priced tables state [] asked are = tt
 all_priced tables state (a ∷ list) asked are =
     let change : Change = (asked a (inl refl)).0 in
@@ -89,23 +90,25 @@ abbrev AccountForgets : Type 0
 AccountForgets = (tables : FareTables) (accepted : Accepted) (list other : List Change) → ((change : Change) → IsIn list change ↔ IsIn other change) → AreAccepted tables accepted list
     → AreAccepted tables accepted other × (after_all tables accepted other ≡ after_all tables accepted list)
 
-forgets : AccountForgets → (tables : FareTables) (state : State) (list other : List Asked) → ((a : Asked) → IsIn list a ↔ IsIn other a) → AreAllPriced tables state list → end_of tables state other ≡ end_of tables state list
+forgets : AccountForgets → (tables : FareTables) (state : State) (list other : List Asked) → ((a : Asked) → IsIn list a ↔ IsIn other a) → AreStepsPriced tables state list
+    → AreStepsPriced tables state other × (end_of tables state other ≡ end_of tables state list)
 forgets account_forgets tables state list other alike all =
     let first = ran tables state list all in
     let same = λ (account : ℕ). same_changes account list other alike in
     let by_account = λ (account : ℕ). account_forgets tables (accepted_of state account) (changes_of account list) (changes_of account other) (same account) (first.each account).are in
     let again = all_priced tables state other (λ a h. first.asked a ((alike a).1 h)) (λ account. (by_account account).0) in
     let second = ran tables state other again in
-    same_map nat_cmp_total nat_cmp-IsAntisymmetric (end_of tables state other) (end_of tables state list) (λ account.
+    let ends : end_of tables state other ≡ end_of tables state list = same_map nat_cmp_total nat_cmp-IsAntisymmetric (end_of tables state other) (end_of tables state list) (λ account.
     (second.each account).ends
     ∙ same_held tables (map.get state account) (changes_of account list) (changes_of account other) (same account) (by_account account).1
-    ∙ sym (first.each account).ends)
+    ∙ sym (first.each account).ends) in
+    (again, ends)
 
 -- ---- among items that change nothing
 
 -- all of a list are answered by prices, and lead from one state to the other
 abbrev Reaches : FareTables → State → List Asked → State → Type 0
-Reaches tables state list end = AreAllPriced tables state list × (end_of tables state list ≡ end)
+Reaches tables state list end = AreStepsPriced tables state list × (end_of tables state list ≡ end)
 
 reaches_on : (mark : Bool) (tables : FareTables) (state : State) (a : Asked) (later : List Asked) (end : State) → Reaches tables (marked_step mark tables state a).after later end
     → Reaches tables state (if is_priced (marked_step mark tables state a).reply then a ∷ later else later) end
@@ -127,4 +130,41 @@ pub forgets_among : AccountForgets → (tables : FareTables) (state : State) (li
 forgets_among account_forgets tables state list other alike =
     let first = reaches tables state list in
     let second = reaches tables state other in
-    sym second.1 ∙ forgets account_forgets tables state (accepted_asked tables state list) (accepted_asked tables state other) alike first.0 ∙ first.1
+    sym second.1 ∙ (forgets account_forgets tables state (accepted_asked tables state list) (accepted_asked tables state other) alike first.0).1 ∙ first.1
+
+-- ---- where memory suffices
+
+priced_on : (mark : Bool) (tables : FareTables) (state : State) (a : Asked) (later : List Asked) (end : State) → is_priced (marked_step mark tables state a).reply ≡ true
+    → Reaches tables (marked_step mark tables state a).after later end → Reaches tables state (a ∷ later) end
+priced_on true tables state a later end priced reaches = absurd (cc)
+priced_on false tables state a later end priced reaches = ((priced, reaches.0), reaches.1)
+
+-- a journal that is answered by prices alone does as what it asks for
+asked_priced : (tables : FareTables) (state : State) (items : List Item) → AreAllPriced (run tables state items).replies → Reaches tables state (asked_by items) (replay tables state items)
+asked_priced tables state [] all = (tt, refl)
+asked_priced tables state (item ∷ items) all =
+    let next = (item_step tables state item).after in
+    priced_on item.refused_memory tables state item.entry.command (asked_by items) (replay tables next items) all.0 (asked_priced tables next items all.1)
+
+-- a journal is answered by prices alone, and ends where what it asks for does
+abbrev Runs : FareTables → State → List Item → Type 0
+Runs tables state items = AreAllPriced (run tables state items).replies × (replay tables state items ≡ end_of tables state (asked_by items))
+
+unmarked_on : (mark : Bool) (tables : FareTables) (state : State) (entry : Entry) (items : List Item) → mark ≡ false → is_priced (step tables state entry.command).reply ≡ true
+    → Runs tables (step tables state entry.command).after items → Runs tables state (record { entry = entry; refused_memory = mark } ∷ items)
+unmarked_on true tables state entry items is priced runs = absurd (cc)
+unmarked_on false tables state entry items is priced runs = ((priced, runs.0), runs.1)
+
+-- and one without marks does so where each of these is answered by prices
+unmarked_priced : (tables : FareTables) (state : State) (items : List Item) → AreUnmarked items → AreStepsPriced tables state (asked_by items) → Runs tables state items
+unmarked_priced tables state [] are all = (tt, refl)
+unmarked_priced tables state (item ∷ items) are all =
+    unmarked_on item.refused_memory tables state item.entry items are.0 all.0 (unmarked_priced tables (step tables state item.entry.command).after items are.1 all.1)
+
+pub accepted : AccountForgets → (tables : FareTables) (state : State) (list other : List Item) → ((a : Asked) → IsIn (asked_by list) a ↔ IsIn (asked_by other) a) → AreUnmarked other
+    → AreAllPriced (run tables state list).replies → AreAllPriced (run tables state other).replies × (replay tables state other ≡ replay tables state list)
+accepted account_forgets tables state list other alike are all =
+    let first = asked_priced tables state list all in
+    let both = forgets account_forgets tables state (asked_by list) (asked_by other) alike first.0 in
+    let second = unmarked_priced tables state other are both.0 in
+    (second.0, second.1 ∙ both.1 ∙ first.1)

@@ -1,9 +1,10 @@
 -- A journal with one more item.
-use Rattle.std.proofs.Common.{◌≡◌, ℕ, ◌+◌, Bool, List, [], ◌∷◌, ◌++◌, length, refl, sym, ap, ◌∙◌, subst, arith}
+use Rattle.std.proofs.Common.{◌≡◌, ℕ, zero, suc, ◌+◌, Bool, List, [], ◌∷◌, ◌++◌, map, length, Some, refl, sym, ap, ◌∙◌, subst, arith}
+use Rattle.std.specs.List.{slice_get}
 use Rattle.pay_tables.specs.Words.{FareTables}
 use Rattle.pay_shard.specs.State.{State}
 use Rattle.pay_shard.specs.Machine.{Step, step, marked_step, item_step, is_memory, is_refusal, IsAnswered}
-use Rattle.pay_shard.specs.Runs.{replay, answer_at, answers_from, answers, IsMarkedRightly, IsHistory}
+use Rattle.pay_shard.specs.Runs.{run, replay, answer_at, answers_from, answers, reply_at, answer_to, IsMarkedRightly, IsHistory}
 use Rattle.pay_shard.specs.ShardParts.{item_of}
 use Rattle.pay_shard.specs.declared.asked.Asked.{Asked}
 use Rattle.pay_shard.specs.declared.item.Entry.{Entry}
@@ -29,6 +30,29 @@ pub answers_more : (shard : ℕ) (tables : FareTables) (state : State) (items : 
 answers_more shard tables state items item =
     let none : 0 + length items ≡ length items = omega arith in
     answers_from_more shard 0 tables state items item ∙ ap (λ n. answers_from shard 0 tables state items ++ answer_at shard n tables (replay tables state items) item ∷ []) none
+
+-- ---- answers and replies
+
+pub replies_answered : (shard place : ℕ) (tables : FareTables) (state : State) (items : List Item) → map (λ (a : Answer). a.reply) (answers_from shard place tables state items) ≡ (run tables state items).replies
+replies_answered shard place tables state [] = refl
+replies_answered shard place tables state (item ∷ items) = ap (λ (l : List Reply). (item_step tables state item).reply ∷ l) (replies_answered shard (place + 1) tables (item_step tables state item).after items)
+
+answered_from : (shard from : ℕ) (tables : FareTables) (state : State) (items : List Item) (place : ℕ)
+    → slice_get (answers_from shard from tables state items) place ≡ answer_to shard (from + place) (slice_get items place) (reply_at tables state items place)
+answered_from shard from tables state [] place = refl
+answered_from shard from tables state (item ∷ items) zero = let at : from ≡ from + 0 = omega arith in ap (λ n. Some (answer_at shard n tables state item)) at
+answered_from shard from tables state (item ∷ items) (suc place) =
+    let after = (item_step tables state item).after in
+    let at : from + 1 + place ≡ from + suc place = omega arith in
+    answered_from shard (from + 1) tables after items place ∙ ap (λ n. answer_to shard n (slice_get items place) (reply_at tables after items place)) at
+
+pub answered_at : (shard : ℕ) (tables : FareTables) (state : State) (items : List Item) (place : ℕ)
+    → slice_get (answers_from shard 0 tables state items) place ≡ answer_to shard place (slice_get items place) (reply_at tables state items place)
+answered_at shard tables state items place =
+    let at : 0 + place ≡ place = omega arith in
+    answered_from shard 0 tables state items place ∙ ap (λ n. answer_to shard n (slice_get items place) (reply_at tables state items place)) at
+
+-- ---- one item more
 
 pub history_more : (tables : FareTables) (state : State) (items : List Item) (item : Item) → IsHistory tables state items → IsMarkedRightly tables (replay tables state items) item → IsHistory tables state (items ++ item ∷ [])
 history_more tables state [] item are is = (is, tt)

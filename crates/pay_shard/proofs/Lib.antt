@@ -5,5 +5,6 @@ pub mod AskedChanges
 pub mod Batches
 pub mod FirstOnes
 pub mod Journals
+pub mod LocalDesks
 pub mod Merging
 pub mod Places

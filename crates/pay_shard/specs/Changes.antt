@@ -1,5 +1,6 @@
 -- The taps and corrections of a journal that are accepted.
-use Rattle.std.specs.Prelude.{◌≡◌, Bool, true, false, if◌then◌else◌, List, [], ◌∷◌, refl}
+use Rattle.std.specs.Prelude.{◌≡◌, Bool, true, false, if◌then◌else◌, List, [], ◌∷◌, map, refl}
+use Rattle.std.specs.List.{AllByRecursion}
 use Rattle.pay_tables.specs.Words.{FareTables}
 use Rattle.pay_account.specs.declared.fares.Priced.{Priced}
 use Rattle.pay_shard.specs.State.{State}
@@ -14,6 +15,18 @@ use Rattle.pay_shard.specs.declared.reply.Reply.TheVariants as replies
 abbrev pub is_priced : Reply → Bool
 is_priced (replies.Priced priced) = true
 is_priced _ = false
+
+-- each reply is prices
+abbrev pub AreAllPriced : List Reply → Type 0
+AreAllPriced = AllByRecursion (λ reply. is_priced reply ≡ true)
+
+-- what a journal asks for
+abbrev pub asked_by : List Item → List Asked
+asked_by items = map (λ (i : Item). i.entry.command) items
+
+-- memory was refused for no item
+abbrev pub AreUnmarked : List Item → Type 0
+AreUnmarked = AllByRecursion (λ (i : Item). i.refused_memory ≡ false)
 
 -- what was asked by the items whose replies are prices
 abbrev pub with_prices : List Item → List Reply → List Asked

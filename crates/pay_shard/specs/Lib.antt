@@ -9,4 +9,6 @@ pub mod Held
 pub mod ShardParts
 pub mod Merges
 pub mod Changes
+pub mod Desks
+pub mod LocalParts
 pub mod Words

@@ -1,5 +1,6 @@
 -- What the machine replies to the items of a journal, one after another.
-use Rattle.std.specs.Prelude.{◌≡◌, ℕ, ◌+◌, true, false, List, [], ◌∷◌, ⊤, refl}
+use Rattle.std.specs.Prelude.{◌≡◌, ℕ, ◌+◌, true, false, List, [], ◌∷◌, Option, Some, None, ⊤, refl}
+use Rattle.std.specs.List.{slice_get}
 use Rattle.pay_tables.specs.Words.{FareTables}
 use Rattle.pay_account.specs.Words.{shown, quote}
 use Rattle.pay_shard.specs.State.{State, accepted_of}
@@ -46,6 +47,15 @@ answers_from shard place tables state (item ∷ items) = answer_at shard place t
 -- the answers of a shard, whose first item is at place 0
 abbrev pub answers : ℕ → FareTables → State → List Item → List Answer
 answers shard tables state items = answers_from shard 0 tables state items
+
+-- the reply at a place of the run, where there is one
+abbrev pub reply_at : FareTables → State → List Item → ℕ → Option Reply
+reply_at tables state items place = slice_get (run tables state items).replies place
+
+-- a reply to an item as the answer of a shard at a place, where there are both
+abbrev pub answer_to : ℕ → ℕ → Option Item → Option Reply → Option Answer
+answer_to shard place (Some item) (Some reply) = Some (record { shard = shard; place = place; ticket = item.entry.ticket; command = item.entry.command; reply = reply })
+answer_to shard place _ _ = None
 
 -- what was to be refused is refused: it takes no memory
 abbrev pub IsMarkedRightly : FareTables → State → Item → Type 0

@@ -1,4 +1,4 @@
-ghost use Rattle.std.specs.Prelude.{◌≡◌, ◌<◌, ◌≤◌, map as each, IfOk, IfErr, IfSome, IfNone, OnOk, OnErr, None};
+ghost use Rattle.std.specs.Prelude.{◌≡◌, ◌<◌, ◌≤◌, map as each, [], IsOk, IfOk, IfErr, IfSome, IfNone, OnOk, OnErr, None};
 ghost use Rattle.std.specs.Arc.{arc_value};
 ghost use Rattle.std.specs.FinMap as map;
 ghost use Rattle.std.specs.List.{IsDistinct};
@@ -49,7 +49,8 @@ impl<F: Fares> Model for Accounts<F> {
 /// The place of each account by its number. An `Err` is want of memory.
 fn places_of<F: Fares>(alloc: Global, accounts: &[F]) -> Result<BTreeMap<u32, usize>, AllocError>
     requires { IsDistinct (eq_by_cmp nat_cmp) (each F.account accounts.now) }
-    ensures { IfOk result (λ places. ArePlaces places.entries (each F.account accounts.now)) }
+    ensures ok { IfOk result (λ places. ArePlaces places.entries (each F.account accounts.now)) }
+    ensures none { accounts.now ≡ [] → IsOk result }
 {
     let mut places = BTreeMap::new(alloc);
     for place in 0..accounts.len() {
@@ -79,7 +80,7 @@ fn add_if_quoted<F: Fares>(
 }
 
 impl<F: Fares> Accounts<F> {
-    /// These accounts. `Memory` gives them back.
+    /// These accounts. `Memory` gives them back; no accounts take no memory.
     pub fn new(
         alloc: Global,
         tables: Arc<Tables>,
@@ -89,6 +90,7 @@ impl<F: Fares> Accounts<F> {
         requires priced { ArePriced F.account (F.IsPricedBy (arc_value tables)) accounts.items }
         ensures ok { IfOk result (λ made. made ≡ record { tables = arc_value tables; state = state_of F.account F.accepted accounts.items }) }
         ensures given_back { IfErr result (λ failed. failed.value ≡ accounts) }
+        ensures none { accounts.items ≡ [] → IsOk result }
     {
         match places_of(alloc, &accounts) {
             Ok(places) => Ok(Accounts {
@@ -99,6 +101,13 @@ impl<F: Fares> Accounts<F> {
             }),
             Err(_) => Err(AllocFailed { value: accounts }),
         }
+    }
+
+    /// The fare file by which they are priced.
+    pub fn tables(&self) -> &Tables
+        ensures { result.now ≡ self.now.tables }
+    {
+        &self.tables
     }
 
     /// An account by its number.

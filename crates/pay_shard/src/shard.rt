@@ -76,7 +76,7 @@ fn add(journal: &mut Vec<Item>, item: Item)
 
 impl<F: Fares> Shard<F> {
     /// A shard of this number with an empty journal, which begins with accounts of distinct numbers from 1, each priced by
-    /// this fare file. `Memory` gives the accounts back.
+    /// this fare file. `Memory` gives the accounts back; a shard of none takes no memory.
     pub fn new(
         alloc: Global,
         number: u8,
@@ -90,6 +90,7 @@ impl<F: Fares> Shard<F> {
         ensures base { IfOk result (λ shard. shard.base ≡ state_of F.account F.accepted base.items) }
         ensures journal { IfOk result (λ shard. shard.journal ≡ []) }
         ensures given_back { IfErr result (λ failed. failed.value ≡ base) }
+        ensures of_none { base.items ≡ [] → IsOk result }
     {
         let accounts = Accounts::new(alloc, tables, base)?;
         Ok(Shard {
@@ -105,6 +106,13 @@ impl<F: Fares> Shard<F> {
         ensures { result ≡ self.now.number }
     {
         self.number
+    }
+
+    /// The fare file by which it prices.
+    pub fn tables(&self) -> &Tables
+        ensures { result.now ≡ self.now.tables }
+    {
+        self.accounts.tables()
     }
 
     /// How many more items the journal takes without memory.

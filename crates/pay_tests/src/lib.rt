@@ -13,6 +13,8 @@ mod caps;
 #[cfg(test)]
 mod days;
 #[cfg(test)]
+mod desks;
+#[cfg(test)]
 mod fare_files;
 #[cfg(test)]
 mod fixes;

@@ -4,10 +4,11 @@
 ghost use Rattle.std.specs.Prelude.{◌≤◌, ◌<◌};
 
 use crate::given::{MONDAY, expect_same, sample, tap_at};
-use pay_account::Account;
+use crate::shares::first_four;
+use pay_account::{Account, Priced, Quote};
 use pay_fix::{Fix, What};
 use pay_money::Pence;
-use pay_shard::{Asked, Command, Entry, Refusal, Reply, Shard};
+use pay_shard::{Asked, Batch, Command, Entry, Refusal, Reply, Shard};
 use pay_tables::Tables;
 use pay_taps::{Kind, Tap};
 use std::process::Abort;
@@ -40,7 +41,7 @@ fn reply<R: Abort>(rt: &R, shard: &mut Shard<Account>, asked: Asked) -> Reply {
 }
 
 /// The price of the day that a reply tells.
-fn day_price(reply: &Reply) -> Option<u64> {
+pub fn day_price(reply: &Reply) -> Option<u64> {
     match reply {
         Reply::Priced(priced) => Some(priced.day_price.pence()),
         _ => None,
@@ -55,23 +56,33 @@ fn refusal(reply: &Reply) -> Option<Refusal> {
     }
 }
 
-/// What is due by a reply.
-fn due(reply: &Reply) -> Option<Pence> {
+/// The quote that is a reply.
+fn quote_of(reply: &Reply) -> Option<&Quote> {
     match reply {
-        Reply::Due(quote) => Some(quote.due()),
+        Reply::Due(quote) => Some(quote),
+        _ => None,
+    }
+}
+
+/// What is due by a reply.
+pub fn due(reply: &Reply) -> Option<Pence> {
+    let quote = quote_of(reply)?;
+    Some(quote.due())
+}
+
+/// The batch that is a reply.
+fn batch_of(reply: &Reply) -> Option<&Batch> {
+    match reply {
+        Reply::Quotes(batch) => Some(batch),
         _ => None,
     }
 }
 
 /// How many accounts a reply quotes, and the first of them.
-fn quoted(reply: &Reply) -> Option<(usize, u32)> {
-    match reply {
-        Reply::Quotes(batch) => {
-            let first = batch.quotes().first()?;
-            Some((batch.quotes().len(), first.account()))
-        }
-        _ => None,
-    }
+pub fn quoted(reply: &Reply) -> Option<(usize, u32)> {
+    let batch = batch_of(reply)?;
+    let first = batch.quotes().first()?;
+    Some((batch.quotes().len(), first.account()))
 }
 
 /// A tap of an account.
@@ -129,43 +140,139 @@ fn a_shard_quotes(rt: HostRuntime) {
     expect_same(&rt, quoted(&batch), Some((2, 7)));
 }
 
-/// The price of the Monday after six taps of an account, three journeys by rail, at a shard of its own number.
-fn price_of_rides<R: Abort>(rt: &R, shard: &mut Shard<Account>, account: u32) -> Option<u64> {
-    let rides = [
-        (1, 25_200, 10, Kind::In),
-        (2, 26_400, 12, Kind::Out),
-        (3, 27_000, 12, Kind::In),
-        (4, 28_200, 10, Kind::Out),
-        (5, 28_800, 10, Kind::In),
-        (6, 30_000, 12, Kind::Out),
-    ];
-    let mut price = None;
-    for (seq, second, place, kind) in rides {
-        let tap = tap_at(rt, seq, second, place, kind);
-        let told = reply(rt, shard, tap_of(account, tap));
-        price = day_price(&told);
+/// Three journeys by rail: of each tap its number, its second of the Monday, its place and its kind, and the price of the
+/// day and of the week after it.
+static RIDES: [(u32, u32, u16, Kind, u64); 6] = [
+    (1, 25_200, 10, Kind::In, 860),
+    (2, 26_400, 12, Kind::Out, 340),
+    (3, 27_000, 12, Kind::In, 1_200),
+    (4, 28_200, 10, Kind::Out, 680),
+    (5, 28_800, 10, Kind::In, 1_540),
+    (6, 30_000, 12, Kind::Out, 890),
+];
+
+/// So many shards with no accounts, the one of each number at its place.
+fn empty_shards<R: Abort + AllocGlobal>(rt: &R, of: u8) -> Vec<Shard<Account>> {
+    let mut shards = Vec::new(rt.alloc());
+    for number in 0..of {
+        let shard = empty_shard(rt, sample(rt), number);
+        shards.push(shard).expect(rt, "memory");
     }
-    price
+    shards
+}
+
+/// The reply of the shard at a place.
+fn reply_of<R: Abort>(
+    rt: &R,
+    shards: &mut Vec<Shard<Account>>,
+    number: usize,
+    asked: Asked,
+) -> Reply {
+    let shard = shards.get_mut(number).expect(rt, "a shard");
+    reply(rt, shard, asked)
+}
+
+/// The prices that a reply tells.
+fn priced(reply: &Reply) -> Option<Priced> {
+    match reply {
+        Reply::Priced(priced) => Some(*priced),
+        _ => None,
+    }
+}
+
+/// So a quote is what an account owes after the three journeys.
+fn expect_owed<R: Abort>(rt: &R, quote: &Quote, account: u32) {
+    expect_same(
+        rt,
+        (quote.account(), quote.week(), quote.through()),
+        (account, MONDAY, MONDAY),
+    );
+    expect_same(rt, (quote.version(), quote.due()), (6, Pence::new(890)));
+    expect_same(rt, *quote.shares(), first_four(593, 297, 0, 0));
+}
+
+/// Sends a tap of each of the accounts 1 to 8 to its shard.
+fn expect_taps<R: Abort>(rt: &R, shards: &mut Vec<Shard<Account>>, of: u32, tap: &Tap, pence: u64)
+    requires { 0 < of }
+{
+    for account in 1..9_u32 {
+        let told = reply_of(rt, shards, (account % of) as usize, tap_of(account, *tap));
+        let wanted = Priced {
+            again: false,
+            day: MONDAY,
+            day_price: Pence::new(pence),
+            week_price: Pence::new(pence),
+        };
+        expect_same(rt, priced(&told), Some(wanted));
+    }
+}
+
+/// Asks what each of these accounts owes at its shard.
+fn expect_due<R: Abort>(rt: &R, shards: &mut Vec<Shard<Account>>, of: u32)
+    requires { 0 < of }
+{
+    for account in 1..9_u32 {
+        let asked = Asked::Due {
+            account,
+            day: MONDAY,
+        };
+        let told = reply_of(rt, shards, (account % of) as usize, asked);
+        expect_owed(rt, quote_of(&told).expect(rt, "a quote"), account);
+    }
+}
+
+/// So a batch has the quote and the sets of each of these accounts that is the shard's, in ascending order, and of no other.
+fn expect_batch<R: Abort>(rt: &R, batch: &Batch, number: u32, of: u32)
+    requires { 0 < of }
+{
+    let mut quotes = batch.quotes().iter();
+    let mut sets = batch.sets().iter();
+    for account in 1..9_u32 {
+        if account % of == number {
+            expect_owed(rt, quotes.next().expect(rt, "a quote"), account);
+            let held = sets.next().expect(rt, "sets");
+            expect_same(rt, (held.account(), held.taps().len()), (account, 6));
+        }
+    }
+    expect_same(
+        rt,
+        (quotes.next().is_none(), sets.next().is_none()),
+        (true, true),
+    );
+}
+
+/// Asks each shard for its quotes.
+fn expect_quotes<R: Abort>(rt: &R, shards: &mut Vec<Shard<Account>>, of: u8)
+    requires { 0 < of }
+{
+    for number in 0..of {
+        let asked = Asked::Quotes {
+            day: MONDAY,
+            shard: number,
+            of,
+        };
+        let told = reply_of(rt, shards, usize::from(number), asked);
+        let batch = batch_of(&told).expect(rt, "a batch");
+        expect_batch(rt, batch, u32::from(number), u32::from(of));
+    }
+}
+
+/// The same commands to so many shards, each to that of its account, and the same replies.
+fn expect_over<R: Abort + AllocGlobal>(rt: &R, of: u8)
+    requires { 0 < of }
+{
+    let mut shards = empty_shards(rt, of);
+    for (seq, second, place, kind, pence) in RIDES {
+        let tap = tap_at(rt, seq, second, place, kind);
+        expect_taps(rt, &mut shards, u32::from(of), &tap, pence);
+    }
+    expect_due(rt, &mut shards, u32::from(of));
+    expect_quotes(rt, &mut shards, of);
 }
 
 #[test]
-fn any_number_of_shards(rt: HostRuntime) {
-    let mut one = empty_shard(&rt, sample(&rt), 0);
-    let mut first = empty_shard(&rt, sample(&rt), 0);
-    let mut second = empty_shard(&rt, sample(&rt), 1);
-    for account in 1..5 {
-        expect_same(&rt, price_of_rides(&rt, &mut one, account), Some(890));
-    }
-    for account in [2, 4] {
-        expect_same(&rt, price_of_rides(&rt, &mut first, account), Some(890));
-    }
-    for account in [1, 3] {
-        expect_same(&rt, price_of_rides(&rt, &mut second, account), Some(890));
-    }
-    expect_same(&rt, one.journal().len(), 24);
-    expect_same(
-        &rt,
-        (first.journal().len(), second.journal().len()),
-        (12, 12),
-    );
+fn over_any_number_of_shards(rt: HostRuntime) {
+    expect_over(&rt, 1);
+    expect_over(&rt, 2);
+    expect_over(&rt, 16);
 }

@@ -18,7 +18,7 @@ loop-place-preserved g c =
     (subst (λ n. here < n) (sym (length-map c.args.accounts.now g.F.Fares.account)) c.loop-place-test.true)
     (c.number.ensures ∙ number_at g.F.Fares.account c.args.accounts.now here c.index-accounts-place.result c.loop-place-test.true c.index-accounts-place.is) c.loop-place.invariant c.in_ok-insert.ensures.updates.0
 
-pub returns : goal.returns
-returns g c =
+pub returns-clause-ok : goal.returns-clause-ok
+returns-clause-ok g c =
     let numbers = each g.F.Fares.account c.args.accounts.now in
     subst (ArePlaces c.loop-place.places.entries) (take_all numbers c.loop-place.place (subst (λ n. n ≤ c.loop-place.place) (sym (length-map c.args.accounts.now g.F.Fares.account)) c.loop-place-test.false)) c.loop-place.invariant

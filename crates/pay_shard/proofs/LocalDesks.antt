@@ -1,0 +1,234 @@
+-- A desk over one shard: one command more, and one reply less.
+use Rattle.std.proofs.Common.{◌≡◌, inl, inr, ℕ, zero, suc, ◌+◌, ◌<◌, ◌==◌, Bool, true, false, not, cond, List, [], ◌∷◌, ◌++◌, length, nat_lt, Some, None, refl, sym, ap, ◌∙◌, subst, arith}
+use Rattle.std.specs.List.{AllByRecursion, IsDistinct, find, position, position_or_len, remove, slice_get, slice_index_or}
+use Rattle.std.specs.Option.{option_map}
+use Rattle.std.proofs.lemmas.Bool.{lt-ltb, eqb-true, eq-eqb}
+use Rattle.std.proofs.lemmas.List.{map-append}
+use Rattle.pay_numbered.specs.Words.{IsIn}
+use Rattle.pay_tables.specs.Words.{FareTables}
+use Rattle.pay_shard.specs.Desks.{IsAfterAll, without, AreKept}
+use Rattle.pay_shard.specs.LocalParts.{commands_of, reply_of, AreInPlace, tickets_of, AreDistinct, AreOfRun, answers_without, IsLocal}
+use Rattle.pay_shard.specs.Machine.{item_step}
+use Rattle.pay_shard.specs.Runs.{run, replay, reply_at}
+use Rattle.pay_shard.specs.ShardParts.{ShardParts, next_answer, item_of, with_item, with_room}
+use Rattle.pay_shard.specs.State.{State}
+use Rattle.pay_shard.specs.declared.item.Entry.{Entry}
+use Rattle.pay_shard.specs.declared.item.Item.{Item}
+use Rattle.pay_shard.specs.declared.reply.Answer.{Answer}
+use Rattle.pay_shard.specs.declared.reply.Reply.{Reply}
+use Rattle.pay_shard.proofs.Places.{all_more}
+
+-- ---- the answer to a ticket is taken out
+
+module _ (ticket : ℕ) where
+  abbrev pub is_its : Answer → Bool
+  is_its a = a.ticket == ticket
+
+  before : (answers : List Answer) → IsIn (tickets_of answers) ticket → position_or_len is_its answers < length answers
+  before [] waits = absurd waits
+  before (a ∷ answers) waits = by (a.ticket == ticket) refl (before answers)
+    where
+      by : (b : Bool) → (a.ticket == ticket) ≡ b → (IsIn (tickets_of answers) ticket → position_or_len is_its answers < length answers) → cond (not b) (1 + position_or_len is_its answers) 0 < suc (length answers)
+      by true is rest = omega arith
+      by false off rest = elim waits [ inl same ↦ (let here = eq-eqb a.ticket ticket same in absurd (cc)) | inr later ↦ (let less = rest later in omega (arith, less)) ]
+
+  pub some_stands : (answers : List Answer) → IsIn (tickets_of answers) ticket → position is_its answers ≡ None → ⊥
+  some_stands answers waits none =
+      let n = position_or_len is_its answers in
+      let here = ap (λ (b : Bool). cond b (Some n) None) (lt-ltb n (length answers) (before answers waits)) in
+      absurd (cc)
+
+  place_is : (b : Bool) (n place : ℕ) → cond b (Some n) None ≡ Some place → n ≡ place
+  place_is true n place e = cc
+  place_is false n place e = absurd (cc)
+
+  one_more : (n : ℕ) → 1 + n ≡ suc n
+  one_more n = omega arith
+
+  removed : (answers : List Answer) → remove answers (position_or_len is_its answers) ≡ answers_without ticket answers
+  removed [] = refl
+  removed (a ∷ answers) = by (a.ticket == ticket) (removed answers)
+    where
+      by : (b : Bool) → remove answers (position_or_len is_its answers) ≡ answers_without ticket answers → remove (a ∷ answers) (cond (not b) (1 + position_or_len is_its answers) 0) ≡ cond b answers (a ∷ answers_without ticket answers)
+      by true rest = refl
+      by false rest = ap (remove (a ∷ answers)) (one_more (position_or_len is_its answers)) ∙ ap (λ l. a ∷ l) rest
+
+  pub removed_at : (answers : List Answer) (place : ℕ) → position is_its answers ≡ Some place → remove answers place ≡ answers_without ticket answers
+  removed_at answers place e = ap (remove answers) (sym (place_is (nat_lt (position_or_len is_its answers) (length answers)) (position_or_len is_its answers) place e)) ∙ removed answers
+
+  found : (answers : List Answer) (r : Answer) → position_or_len is_its answers < length answers → r ≡ slice_index_or answers (position_or_len is_its answers) r
+      → option_map (λ (a : Answer). a.reply) (find is_its answers) ≡ Some r.reply
+  found [] r here e = absurd (omega (arith, here))
+  found (a ∷ answers) r here e = by (a.ticket == ticket) (found answers r) here e
+    where
+      by : (b : Bool) → (position_or_len is_its answers < length answers → r ≡ slice_index_or answers (position_or_len is_its answers) r → option_map (λ (a : Answer). a.reply) (find is_its answers) ≡ Some r.reply)
+          → cond (not b) (1 + position_or_len is_its answers) 0 < suc (length answers) → r ≡ slice_index_or (a ∷ answers) (cond (not b) (1 + position_or_len is_its answers) 0) r
+          → option_map (λ (a : Answer). a.reply) (cond b (Some a) (find is_its answers)) ≡ Some r.reply
+      by true rest here e = ap (λ (x : Answer). Some x.reply) (sym e)
+      by false rest here e = rest (omega (arith, here)) (e ∙ ap (λ n. slice_index_or (a ∷ answers) n r) (one_more (position_or_len is_its answers)))
+
+  pub found_at : (answers : List Answer) (place : ℕ) (r : Answer) → IsIn (tickets_of answers) ticket → position is_its answers ≡ Some place → r ≡ slice_index_or answers place r
+      → option_map (λ (a : Answer). a.reply) (find is_its answers) ≡ Some r.reply
+  found_at answers place r waits e is =
+      let n = position_or_len is_its answers in
+      found answers r (before answers waits) (is ∙ ap (λ p. slice_index_or answers p r) (sym (place_is (nat_lt n (length answers)) n place e)))
+
+  -- ---- and what stays is of the run
+
+  pub reply_found : (s : ShardParts) (answers : List Answer) (reply : Reply) → AreOfRun s answers → option_map (λ (a : Answer). a.reply) (find is_its answers) ≡ Some reply → reply_of s ticket ≡ Some reply
+  reply_found s [] reply of e = absurd (cc)
+  reply_found s (a ∷ answers) reply of e = by (a.ticket == ticket) refl (reply_found s answers reply of.1) e
+    where
+      by : (b : Bool) → (a.ticket == ticket) ≡ b → (option_map (λ (a : Answer). a.reply) (find is_its answers) ≡ Some reply → reply_of s ticket ≡ Some reply)
+          → option_map (λ (a : Answer). a.reply) (cond b (Some a) (find is_its answers)) ≡ Some reply → reply_of s ticket ≡ Some reply
+      by true is rest e = ap (reply_of s) (sym (eqb-true a.ticket ticket is)) ∙ of.0 ∙ e
+      by false off rest e = rest e
+
+  all_still : (P : Answer → Type 0) (answers : List Answer) → AllByRecursion P answers → AllByRecursion P (answers_without ticket answers)
+  all_still P [] all = tt
+  all_still P (a ∷ answers) all = by (a.ticket == ticket) (all_still P answers all.1)
+    where
+      by : (b : Bool) → AllByRecursion P (answers_without ticket answers) → AllByRecursion P (cond b answers (a ∷ answers_without ticket answers))
+      by true rest = all.1
+      by false rest = (all.0, rest)
+
+  tickets_still : (P : ℕ → Type 0) (answers : List Answer) → AllByRecursion P (tickets_of answers) → AllByRecursion P (tickets_of (answers_without ticket answers))
+  tickets_still P [] all = tt
+  tickets_still P (a ∷ answers) all = by (a.ticket == ticket) (tickets_still P answers all.1)
+    where
+      by : (b : Bool) → AllByRecursion P (tickets_of (answers_without ticket answers)) → AllByRecursion P (tickets_of (cond b answers (a ∷ answers_without ticket answers)))
+      by true rest = all.1
+      by false rest = (all.0, rest)
+
+  distinct_still : (answers : List Answer) → AreDistinct (tickets_of answers) → AreDistinct (tickets_of (answers_without ticket answers))
+  unfolding IsDistinct
+  distinct_still [] distinct = tt
+  distinct_still (a ∷ answers) distinct = by (a.ticket == ticket) (distinct_still answers distinct.1)
+    where
+      by : (b : Bool) → AreDistinct (tickets_of (answers_without ticket answers)) → AreDistinct (tickets_of (cond b answers (a ∷ answers_without ticket answers)))
+      by true rest = distinct.1
+      by false rest = (tickets_still (λ y. (y == a.ticket) ≡ false) answers distinct.0, rest)
+
+  pub local_still : (s : ShardParts) (answers left : List Answer) → IsLocal s answers → left ≡ answers_without ticket answers → IsLocal s left
+  local_still s answers left is same =
+      subst (IsLocal s) (sym same) (is.0, (all_still (λ (a : Answer). reply_of s a.ticket ≡ Some a.reply) answers is.1.0, distinct_still answers is.1.1))
+
+  none_left : (tickets : List ℕ) → AllByRecursion (λ y. (y == ticket) ≡ false) tickets → tickets ≡ without ticket tickets
+  none_left [] off = refl
+  none_left (t ∷ tickets) off = by (t == ticket) off.0 (none_left tickets off.1)
+    where
+      by : (b : Bool) → b ≡ false → tickets ≡ without ticket tickets → t ∷ tickets ≡ cond (not b) (t ∷ without ticket tickets) (without ticket tickets)
+      by true e rest = absurd (cc)
+      by false e rest = ap (λ l. t ∷ l) rest
+
+  pub tickets_left : (answers : List Answer) → AreDistinct (tickets_of answers) → tickets_of (answers_without ticket answers) ≡ without ticket (tickets_of answers)
+  unfolding IsDistinct
+  tickets_left [] distinct = refl
+  tickets_left (a ∷ answers) distinct = by (a.ticket == ticket) refl (tickets_left answers distinct.1)
+    where
+      by : (b : Bool) → (a.ticket == ticket) ≡ b → tickets_of (answers_without ticket answers) ≡ without ticket (tickets_of answers) → tickets_of (cond b answers (a ∷ answers_without ticket answers)) ≡ cond (not b) (a.ticket ∷ without ticket (tickets_of answers)) (without ticket (tickets_of answers))
+      by true is rest = none_left (tickets_of answers) (subst (λ n. AllByRecursion (λ y. (y == n) ≡ false) (tickets_of answers)) (eqb-true a.ticket ticket is) distinct.0)
+      by false off rest = ap (λ l. a.ticket ∷ l) rest
+
+-- ---- one more item
+
+pub replies_more : (tables : FareTables) (state : State) (items : List Item) (item : Item)
+    → (run tables state (items ++ item ∷ [])).replies ≡ (run tables state items).replies ++ (item_step tables (replay tables state items) item).reply ∷ []
+replies_more tables state [] item = refl
+replies_more tables state (first ∷ items) item = ap (λ (l : List Reply). (item_step tables state first).reply ∷ l) (replies_more tables (item_step tables state first).after items item)
+
+pub as_many_replies : (tables : FareTables) (state : State) (items : List Item) → length (run tables state items).replies ≡ length items
+as_many_replies tables state [] = refl
+as_many_replies tables state (item ∷ items) = ap suc (as_many_replies tables (item_step tables state item).after items)
+
+still_there : (list more : List Reply) (place : ℕ) (reply : Reply) → slice_get list place ≡ Some reply → slice_get (list ++ more) place ≡ Some reply
+still_there [] more place reply e = absurd (cc)
+still_there (x ∷ list) more zero reply e = e
+still_there (x ∷ list) more (suc place) reply e = still_there list more place reply e
+
+the_last : (list : List Reply) (reply : Reply) → slice_get (list ++ reply ∷ []) (length list) ≡ Some reply
+the_last [] reply = refl
+the_last (x ∷ list) reply = the_last list reply
+
+within : (list : List Reply) (place : ℕ) (reply : Reply) → slice_get list place ≡ Some reply → place < length list
+within [] place reply e = absurd (cc)
+within (x ∷ list) zero reply e = omega arith
+within (x ∷ list) (suc place) reply e = let rest = within list place reply e in omega (arith, rest)
+
+replies_kept : (tables : FareTables) (base : State) (items : List Item) (item : Item) → AreKept (reply_at tables base items) (reply_at tables base (items ++ item ∷ []))
+replies_kept tables base items item ticket reply e =
+    ap (λ l. slice_get l ticket) (replies_more tables base items item) ∙ still_there (run tables base items).replies ((item_step tables (replay tables base items) item).reply ∷ []) ticket reply e
+
+next_reply : (tables : FareTables) (base : State) (items : List Item) (item : Item) → reply_at tables base (items ++ item ∷ []) (length items) ≡ Some (item_step tables (replay tables base items) item).reply
+next_reply tables base items item =
+    let replies = (run tables base items).replies in
+    (λ i. slice_get (replies_more tables base items item i) (sym (as_many_replies tables base items) i)) ∙ the_last replies (item_step tables (replay tables base items) item).reply
+
+in_place_more : (place : ℕ) (items : List Item) (item : Item) → AreInPlace place items → item.entry.lane ≡ 0 → item.entry.ticket ≡ place + length items → AreInPlace place (items ++ item ∷ [])
+in_place_more place [] item are lane ticket = ((lane, omega (arith, ticket)), tt)
+in_place_more place (first ∷ items) item are lane ticket = (are.0, in_place_more (place + 1) items item are.1 lane (omega (arith, ticket)))
+
+all_below : (place limit : ℕ) (items : List Item) → AreInPlace place items → place + length items ≡ limit → IsAfterAll limit (commands_of items)
+all_below place limit [] are e = tt
+all_below place limit (item ∷ items) are e = let here = are.0.1 in (omega (arith, here, e), all_below (place + 1) limit items are.1 (omega (arith, e)))
+
+pub after_all : (items : List Item) (ticket : ℕ) → AreInPlace 0 items → ticket ≡ length items → IsAfterAll ticket (commands_of items)
+after_all items ticket are e = all_below 0 ticket items are (omega (arith, e))
+
+distinct_more : (tickets : List ℕ) (ticket : ℕ) → AreDistinct tickets → AllByRecursion (λ t. (ticket == t) ≡ false) tickets → AreDistinct (tickets ++ ticket ∷ [])
+unfolding IsDistinct
+distinct_more [] ticket distinct off = (tt, tt)
+distinct_more (t ∷ tickets) ticket distinct off = (all_more (λ y. (y == t) ≡ false) tickets ticket distinct.0 off.0, distinct_more tickets ticket distinct.1 off.1)
+
+-- a ticket that is no place yet is none of those that have a reply
+all_new : (s : ShardParts) (ticket : ℕ) (answers : List Answer) → AreOfRun s answers → ticket ≡ length s.journal → AllByRecursion (λ t. (ticket == t) ≡ false) (tickets_of answers)
+all_new s ticket [] of e = tt
+all_new s ticket (a ∷ answers) of e = (by (ticket == a.ticket) refl, all_new s ticket answers of.1 e)
+  where
+    by : (b : Bool) → (ticket == a.ticket) ≡ b → b ≡ false
+    by true same =
+        let is = eqb-true ticket a.ticket same in
+        let below = within (run s.tables s.base s.journal).replies a.ticket a.reply of.0 in
+        let many = as_many_replies s.tables s.base s.journal in
+        absurd (omega (arith, is, below, many, e))
+    by false off = refl
+
+of_run_more : (s : ShardParts) (item : Item) (room : ℕ) (answers : List Answer) → AreOfRun s answers → AreOfRun (with_item s item room) answers
+of_run_more s item room [] of = tt
+of_run_more s item room (a ∷ answers) of = (replies_kept s.tables s.base s.journal item a.ticket a.reply of.0, of_run_more s item room answers of.1)
+
+local_more : (s : ShardParts) (answers : List Answer) (entry : Entry) (mark : Bool) (room : ℕ) → IsLocal s answers → entry.lane ≡ 0 → entry.ticket ≡ length s.journal
+    → IsLocal (with_item s (item_of entry mark) room) (answers ++ next_answer s (item_of entry mark) ∷ [])
+local_more s answers entry mark room is lane ticket =
+    let item = item_of entry mark in
+    let answer = next_answer s item in
+    let its_reply = ap (reply_at s.tables s.base (s.journal ++ item ∷ [])) ticket ∙ next_reply s.tables s.base s.journal item in (
+      (is.0.0, in_place_more 0 s.journal item is.0.1 lane (omega (arith, ticket))),
+      (
+        all_more (λ (a : Answer). reply_of (with_item s item room) a.ticket ≡ Some a.reply) answers answer (of_run_more s item room answers is.1.0) its_reply,
+        subst AreDistinct (sym (map-append (λ (a : Answer). a.ticket) answers (answer ∷ []))) (distinct_more (tickets_of answers) entry.ticket is.1.1 (all_new s entry.ticket answers is.1.0 ticket)),
+      ),
+    )
+
+-- ---- a command was put
+
+module _ (s reserved after : ShardParts) (entry : Entry) (mark : Bool) (room later_room : ℕ) (same : reserved ≡ with_room s room) (applied : after ≡ with_item reserved (item_of entry mark) later_room) where
+  is_more : after ≡ with_item s (item_of entry mark) later_room
+  is_more = applied ∙ ap (λ t. with_item t (item_of entry mark) later_room) same
+
+  pub local_after_put : (answers now later : List Answer) (answer : Answer) → IsLocal s answers → entry.lane ≡ 0 → entry.ticket ≡ length reserved.journal
+      → answer ≡ next_answer reserved (item_of entry mark) → now ≡ answers → later ≡ now ++ answer ∷ [] → IsLocal after later
+  local_after_put answers now later answer is lane ticket answered kept added =
+      let many = ap (λ (t : ShardParts). length t.journal) same in
+      let as_kept : later ≡ answers ++ next_answer s (item_of entry mark) ∷ [] = added ∙ (λ i. kept i ++ (answered ∙ ap (λ t. next_answer t (item_of entry mark)) same) i ∷ []) in
+      let more = local_more s answers entry mark later_room is lane (ticket ∙ many) in
+      subst (λ t. IsLocal t later) (sym is_more) (subst (IsLocal (with_item s (item_of entry mark) later_room)) (sym as_kept) more)
+
+  pub replies_after_put : AreKept (reply_of s) (reply_of after)
+  replies_after_put ticket reply e = ap (λ t. reply_of t ticket) is_more ∙ replies_kept s.tables s.base s.journal (item_of entry mark) ticket reply e
+
+-- ---- a desk begins
+
+pub local_new : (s : ShardParts) (answers : List Answer) → s.number ≡ 0 → s.journal ≡ [] → answers ≡ [] → IsLocal s answers
+unfolding IsDistinct
+local_new s answers number journal none = subst (IsLocal s) (sym none) ((number, subst (AreInPlace 0) (sym journal) tt), (tt, tt))

@@ -1,0 +1,5 @@
+use Rattle.pay_shard.proofs.LocalDesks.{local_new}
+use Rattle.pay_shard.proofs.local_desk.LocalDesk.new.Goals as goal
+
+pub invariant_of-result : goal.invariant_of-result
+invariant_of-result g c = local_new c.in_ok-shard.shard c.new-2.result.items c.in_ok-shard.ensures.number c.in_ok-shard.ensures.journal c.new-2.ensures.items

@@ -1,0 +1,24 @@
+use Rattle.std.proofs.Common.{refl, ap, ◌∙◌, length, subst}
+use Rattle.pay_shard.specs.Desks.{IsAfterAll, AreKept}
+use Rattle.pay_shard.specs.LocalParts.{LocalParts, commands_of, reply_of}
+use Rattle.pay_shard.specs.Machine.{is_memory}
+use Rattle.pay_shard.specs.ShardParts.{ShardParts}
+use Rattle.pay_shard.proofs.LocalDesks.{local_after_put, replies_after_put, after_all}
+use Rattle.pay_shard.proofs.local_desk.LocalDeskDesk.put.Goals as goal
+
+pub invariant_of-self-2 : goal.invariant_of-self-2
+invariant_of-self-2 g c =
+    local_after_put c.self.inside.shard c.reserve-2.new.self c.apply.new.self (record { lane = 0; ticket = length c.journal.result.now; command = c.args.command }) (is_memory c.apply.result.reply)
+    c.reserve-2.new.self.room c.apply.new.self.room c.in_ok-reserve-2.ensures.same c.apply.ensures.journal
+    c.self.inside.kept.items c.reserve.new.self.items c.keep.new.kept.items c.apply.result c.self.invariant refl (ap length c.journal.ensures.value) c.apply.ensures.answer c.reserve.ensures.items c.keep.ensures
+
+pub returns-clause-later : goal.returns-clause-later
+returns-clause-later g c =
+    let many = c.of.ensures ∙ ap length c.journal.ensures.value ∙ ap (λ (s : ShardParts). length s.journal) c.in_ok-reserve-2.ensures.same in
+    subst (λ (d : LocalParts). IsAfterAll c.of.result (commands_of d.shard.journal)) c.self.view_is (after_all c.self.inside.shard.journal c.of.result c.self.invariant.0.1 many)
+
+pub returns-clause-transcript : goal.returns-clause-transcript
+returns-clause-transcript g c =
+    subst (λ (d : LocalParts). AreKept (reply_of d.shard) (reply_of c.apply.new.self)) c.self.view_is
+    (replies_after_put c.self.inside.shard c.reserve-2.new.self c.apply.new.self (record { lane = 0; ticket = length c.journal.result.now; command = c.args.command }) (is_memory c.apply.result.reply)
+    c.reserve-2.new.self.room c.apply.new.self.room c.in_ok-reserve-2.ensures.same c.apply.ensures.journal)

@@ -1,0 +1,53 @@
+-- What a desk over one shard keeps.
+use Rattle.std.specs.Prelude.{◌≡◌, ℕ, ◌+◌, ◌==◌, cond, List, [], ◌∷◌, map, Option, Some, ⊤, refl}
+use Rattle.std.specs.Coded.{Coded, code_by, coded×, coded_ℕ, coded_list}
+use Rattle.std.specs.List.{AllByRecursion, IsDistinct}
+use Rattle.pay_shard.specs.Runs.{reply_at}
+use Rattle.pay_shard.specs.ShardParts.{ShardParts, shard_code}
+use Rattle.pay_shard.specs.declared.asked.Asked.{Asked}
+use Rattle.pay_shard.specs.declared.item.Item.{Item}
+use Rattle.pay_shard.specs.declared.reply.Reply.{Reply}
+use Rattle.pay_shard.specs.declared.reply.Answer.{Answer}
+
+pub record LocalParts : Type 0 where
+  pub shard : ShardParts
+  -- the tickets of the replies that were not asked for yet
+  pub waiting : List ℕ
+
+-- it is stored as the pair of the two
+abbrev pub local_code : Coded LocalParts
+local_code = code_by (ShardParts × List ℕ) (coded× shard_code (coded_list coded_ℕ)) (λ l. (l.shard, l.waiting)) (λ p. record { shard = p.0; waiting = p.1 }) (λ _. refl)
+
+-- the commands of a journal, each with its ticket
+abbrev pub commands_of : List Item → List (ℕ × Asked)
+commands_of items = map (λ (i : Item). (i.entry.ticket, i.entry.command)) items
+
+-- the reply to a ticket, which is a place of the shard's journal
+abbrev pub reply_of : ShardParts → ℕ → Option Reply
+reply_of s ticket = reply_at s.tables s.base s.journal ticket
+
+-- each entry is of lane 0, and its ticket is its place, from a place on
+abbrev pub AreInPlace : ℕ → List Item → Type 0
+AreInPlace place [] = ⊤
+AreInPlace place (item ∷ items) = ((item.entry.lane ≡ 0) × (item.entry.ticket ≡ place)) × AreInPlace (place + 1) items
+
+-- the tickets of answers
+abbrev pub tickets_of : List Answer → List ℕ
+tickets_of answers = map (λ (a : Answer). a.ticket) answers
+
+-- no ticket stands twice
+abbrev pub AreDistinct : List ℕ → Type 0
+AreDistinct tickets = IsDistinct (λ x y. y == x) tickets
+
+-- each answer is that of the run
+abbrev pub AreOfRun : ShardParts → List Answer → Type 0
+AreOfRun s answers = AllByRecursion (λ (a : Answer). reply_of s a.ticket ≡ Some a.reply) answers
+
+-- answers without the first to a ticket
+abbrev pub answers_without : ℕ → List Answer → List Answer
+answers_without ticket [] = []
+answers_without ticket (answer ∷ answers) = cond (answer.ticket == ticket) answers (answer ∷ answers_without ticket answers)
+
+-- what such a desk may keep: a shard of number 0, and answers to some of its tickets
+abbrev pub IsLocal : ShardParts → List Answer → Type 0
+IsLocal s answers = ((s.number ≡ 0) × AreInPlace 0 s.journal) × (AreOfRun s answers × AreDistinct (tickets_of answers))

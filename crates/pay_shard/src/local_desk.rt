@@ -1,0 +1,149 @@
+ghost use Rattle.std.specs.Prelude.{◌≡◌, ◌<◌, ◌==◌, ℕ, map as each, List, [], ◌∷◌, ◌++◌, Some, IsOk, IfOk, IfErr};
+ghost use Rattle.std.specs.Arc.{arc_value};
+ghost use Rattle.std.specs.List.{IsDistinct, find, position};
+ghost use Rattle.std.specs.Option.{option_map};
+ghost use Rattle.std.specs.Ordering.{nat_cmp, eq_by_cmp};
+ghost use Rattle.std.specs.Vec.{vec_capacity, vec_len};
+ghost use Rattle.pay_numbered.specs.Words.{IsIn};
+ghost use Rattle.pay_tables.specs.Words.{FareTables};
+ghost use Rattle.pay_shard.specs.State.{State};
+ghost use Rattle.pay_shard.specs.Held.{ArePriced, state_of};
+ghost use Rattle.pay_shard.specs.LocalParts.{commands_of, reply_of, tickets_of, answers_without, AreInPlace};
+ghost use Rattle.pay_shard.specs.declared.desk.DeskFault.TheVariants.{Memory};
+ghost use Rattle.pay_shard.specs.declared.reply.Answer.{Answer};
+
+use crate::command::Command;
+use crate::desk::{Desk, DeskFault};
+use crate::item::Entry;
+use crate::reply::{Answer, Reply};
+use crate::shard::Shard;
+use crate::ticket::Ticket;
+use pay_account::Fares;
+use pay_tables::Tables;
+use std::alloc::{AllocFailed, Global};
+use std::marker::Model;
+use std::sync::Arc;
+
+/// A desk over one shard, of number 0, which answers at once. A command's ticket is its place in the shard's journal. In a
+/// contract it is the shard, and the tickets whose replies were not got.
+#[derive(Drop)]
+pub struct LocalDesk<F: Fares> {
+    shard: Shard<F>,
+    // The answers that were not got.
+    kept: Vec<Answer>,
+}
+
+impl<F: Fares> Model for LocalDesk<F> {
+    ghost use Rattle.pay_shard.specs.LocalParts.{LocalParts, local_code, tickets_of, IsLocal};
+
+    ghost Value = { LocalParts };
+
+    ghost coded = { local_code };
+
+    ghost view = { λ d. record { shard = d.shard; waiting = tickets_of d.kept.items } };
+
+    ghost invariant = { λ d. IsLocal d.shard d.kept.items };
+}
+
+/// Adds an answer to a list that has room for it.
+fn keep(kept: &mut Vec<Answer>, answer: Answer)
+    requires { vec_len kept.old < vec_capacity kept.old }
+    ensures { kept.new.items ≡ kept.old.items ++ answer ∷ [] }
+{
+    match kept.push(answer) {
+        Ok(()) => {}
+        Err(_) => unreachable!(),
+    }
+}
+
+/// Where the first answer to a ticket stands.
+fn place_of(kept: &[Answer], ticket: u64) -> Option<usize>
+    ensures { result ≡ position (λ a. a.ticket == ticket) kept.now }
+{
+    kept.iter().position(|answer| answer.ticket == ticket)
+}
+
+/// Takes the answer to a ticket out, and gives its reply.
+fn take_out(kept: &mut Vec<Answer>, ticket: u64) -> Reply
+    requires { IsIn (tickets_of kept.old.items) ticket }
+    ensures reply { option_map (λ (a : Answer). a.reply) (find (λ (a : Answer). a.ticket == ticket) kept.old.items) ≡ Some result }
+    ensures rest { kept.new.items ≡ answers_without ticket kept.old.items }
+{
+    match place_of(kept, ticket) {
+        Some(place) => kept.remove(place).reply,
+        None => unreachable!(),
+    }
+}
+
+impl<F: Fares> LocalDesk<F> {
+    /// A desk over a shard with an empty journal, which begins with accounts of distinct numbers from 1, each priced by this
+    /// fare file. `Memory` gives the accounts back; a desk of none takes no memory.
+    pub fn new(
+        alloc: Global,
+        tables: Arc<Tables>,
+        base: Vec<F>,
+    ) -> Result<LocalDesk<F>, AllocFailed<Vec<F>>>
+        requires distinct { IsDistinct (eq_by_cmp nat_cmp) (each F.account base.items) }
+        requires priced { ArePriced F.account (F.IsPricedBy (arc_value tables)) base.items }
+        ensures tables { IfOk result (λ desk. desk.shard.tables ≡ arc_value tables) }
+        ensures base { IfOk result (λ desk. desk.shard.base ≡ state_of F.account F.accepted base.items) }
+        ensures journal { IfOk result (λ desk. desk.shard.journal ≡ []) }
+        ensures waiting { IfOk result (λ desk. desk.waiting ≡ []) }
+        ensures given_back { IfErr result (λ failed. failed.value ≡ base) }
+        ensures of_none { base.items ≡ [] → IsOk result }
+    {
+        let shard = Shard::new(alloc, 0, tables, base)?;
+        Ok(LocalDesk {
+            shard,
+            kept: Vec::new(alloc),
+        })
+    }
+
+    /// Its shard. Each entry of the journal is of lane 0, and its ticket is its place.
+    pub fn shard(&self) -> &Shard<F>
+        ensures value { result.now ≡ self.now.shard }
+        ensures number { result.now.number ≡ 0 }
+        ensures in_place { AreInPlace 0 result.now.journal }
+    {
+        &self.shard
+    }
+}
+
+impl<F: Fares> Desk for LocalDesk<F> {
+    ghost Origin = { FareTables × State };
+
+    ghost origin = { λ d. (d.shard.tables, d.shard.base) };
+
+    ghost shards_of = { λ d. 1 };
+
+    ghost taken = { λ d. commands_of d.shard.journal };
+
+    ghost reply_to = { λ d. reply_of d.shard };
+
+    ghost waiting = { λ d. d.waiting };
+
+    ghost MayRefuse = { λ d fault. fault ≡ Memory };
+
+    ghost MayBeLate = { λ d. ⊥ };
+
+    fn shards(&self) -> u8 {
+        1
+    }
+
+    fn put(&mut self, command: Command) -> Result<Ticket, DeskFault> {
+        self.kept.reserve(1)?;
+        self.shard.reserve(1)?;
+        let ticket = self.shard.journal().len() as u64;
+        let entry = Entry {
+            lane: 0,
+            ticket,
+            command,
+        };
+        keep(&mut self.kept, self.shard.apply(entry));
+        Ok(Ticket::of(ticket))
+    }
+
+    fn get(&mut self, ticket: Ticket) -> Result<Reply, DeskFault> {
+        Ok(take_out(&mut self.kept, ticket.number()))
+    }
+}
