@@ -11,6 +11,7 @@ pub mod TapResults
 pub mod FixResults
 pub mod Changes
 pub mod QuoteParts
+pub mod PostingsCode
 pub mod SetsParts
 pub mod Quotes
 pub mod Words

@@ -7,6 +7,7 @@ mod journeys;
 pub mod laws;
 mod lines;
 mod places;
+mod posting;
 mod prices;
 mod quote;
 mod quoting;
@@ -17,6 +18,7 @@ mod week_lines;
 
 pub use account::Account;
 pub use fares::{Fares, FixFault, Priced, TapFault};
+pub use posting::{Posting, Postings};
 pub use quote::Quote;
 pub use sets::Sets;
 pub use shown::{Line, LineKind, Lines, Shown};

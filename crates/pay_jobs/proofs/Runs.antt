@@ -2,8 +2,8 @@
 use Rattle.std.proofs.Common.{ℕ, List, Option}
 use Rattle.pay_jobs.specs.Faults.{stream_fault}
 use Rattle.pay_jobs.specs.Run.{RunFails, SessionFails}
-use Rattle.pay_session.specs.declared.session.SessionFault.{SessionFault}
-use Rattle.pay_session.specs.declared.session.SessionFault.TheVariants.{Read, Write}
+use Rattle.pay_session.specs.declared.stop.SessionFault.{SessionFault}
+use Rattle.pay_session.specs.declared.stop.SessionFault.TheVariants.{Read, Write}
 
 pub RunFails_session : (fault : SessionFault) (fares zone : List ℕ) (remaining left held written : Option (List ℕ)) → SessionFails fault fares zone remaining left held written
     → RunFails (stream_fault fault) fares zone remaining left held written

@@ -7,11 +7,11 @@ use Rattle.jiff.specs.Words.{read_whole}
 use Rattle.pay_tables.specs.Words.{fare_text, FareTables, fault_number, fault_name}
 use Rattle.pay_tables.specs.declared.fault.FareFileFault.{FareFileFault}
 use Rattle.pay_jobs.specs.Faults.{IsRefusal, IsWantOfMemory}
-use Rattle.pay_session.specs.Words.{Machine, Ends, FailsSo}
+use Rattle.pay_run.specs.Words.{Machine, Ends, FailsSo}
 use Rattle.pay_jobs.specs.declared.fault.Fault.{Fault}
 use Rattle.pay_jobs.specs.declared.fault.Fault.TheVariants.{Usage, CannotReadFares, BadZone, Input, Output, Refused}
-use Rattle.pay_session.specs.declared.session.SessionFault.{SessionFault}
-use Rattle.pay_session.specs.declared.session.SessionFault.TheVariants.{Read, Write}
+use Rattle.pay_session.specs.declared.stop.SessionFault.{SessionFault}
+use Rattle.pay_session.specs.declared.stop.SessionFault.TheVariants.{Read, Write}
 
 -- a machine that has accepted nothing, with the fare file that the first text says, and the zone of the second, a POSIX rule
 pub record Begins (fares zone : List ℕ) (m : Machine) : Type 0 where

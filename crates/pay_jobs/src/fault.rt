@@ -3,7 +3,8 @@ ghost use Rattle.std.specs.Prelude.{◌≡◌};
 ghost use Rattle.pay_jobs.specs.Faults.{IsRefusal, IsWantOfMemory, IsWeekFault, status_of, stream_fault};
 ghost use Rattle.pay_tables.specs.Words.{fault_number, fault_name};
 
-use pay_session::{SessionFault, WeekFault};
+use pay_run::WeekFault;
+use pay_session::SessionFault;
 use pay_tables::FareFileFault;
 use std::alloc::AllocError;
 use thiserror::Error;

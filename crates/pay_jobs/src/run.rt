@@ -9,7 +9,8 @@ ghost use Rattle.pay_jobs.specs.Run.{IsRefused, RunEnds, RunFails};
 
 use crate::fault::Fault;
 use jiff::tz::TimeZone;
-use pay_session::{Done, run_lines};
+use pay_run::run_lines;
+use pay_session::Done;
 use pay_tables::Tables;
 use std::alloc::{AllocError, Global};
 use std::io::{BufRead, Write};
@@ -31,7 +32,7 @@ pub fn run_texts<R: BufRead, W: Write>(
 {
     let tables = read_fares(alloc, fares)?;
     let zone = read_zone(zone)?;
-    let done = run_lines(alloc, reader, writer, &zone, &tables)?;
+    let done = run_lines(alloc, reader, writer, &zone, tables)?;
     Ok(done)
 }
 

@@ -1,5 +1,6 @@
 //! The job `statement`, by the texts of its fare file and its zone: all that the program does below the reading of files.
 ghost use Rattle.std.specs.Prelude.{◌≡◌, IfOk, IfErr, OnOk};
+ghost use Rattle.std.specs.Arc.{arc_value};
 ghost use Rattle.pay_day.specs.Words.{IsDay};
 ghost use Rattle.pay_statement.specs.Words.{statement_text};
 ghost use Rattle.pay_jobs.specs.Statement.{IsPage, StatementEnds, StatementFails, PageFails};
@@ -8,11 +9,12 @@ use crate::fault::Fault;
 use crate::output::write_text;
 use crate::run::{read_fares, read_zone};
 use pay_account::Line;
-use pay_session::week_by_lines;
+use pay_run::week_by_lines;
 use pay_statement::write_csv;
 use pay_tables::Tables;
 use std::alloc::{AllocError, Global};
 use std::io::{BufRead, Write};
+use std::sync::Arc;
 
 /// Writes the statement of the week that holds a service day, counted from 1970-01-01, of an account that has
 /// accepted what the lines of a reader ask for. The fare file is read before the zone, both before the first
@@ -51,9 +53,17 @@ fn read_page<R: BufRead>(
 {
     let tables = read_fares(alloc, fares)?;
     let zone = read_zone(zone)?;
-    let lines = week_by_lines(alloc, reader, &zone, &tables, account, day)?;
+    let shared = share(&tables)?;
+    let lines = week_by_lines(alloc, reader, &zone, shared, account, day)?;
     let page = page_of(alloc, &tables, lines.as_slice())?;
     Ok(page)
+}
+
+/// The same tables once more.
+fn share(tables: &Arc<Tables>) -> Result<Arc<Tables>, AllocError>
+    ensures { IfOk result (λ shared. arc_value shared ≡ arc_value tables.now) }
+{
+    Arc::clone(tables)
 }
 
 /// The text of the statement of journeys.

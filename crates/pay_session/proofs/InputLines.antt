@@ -1,32 +1,13 @@
 -- An input by its lines: how it is cut, what QUIT ends, and that a line leaves those behind it alone.
-use Rattle.std.proofs.Common.{◌≡◌, ℕ, ◌<◌, ◌≤◌, Bool, true, false, ◌||◌, cond, nat_lt, eqb, List, [], ◌∷◌, ◌++◌, map, length, Option, Some, None, Result, Ok, Err, if◌then◌else◌, sym, ap, ◌∙◌, subst, refl, arith, le-ltb, lt-ltb, append_assoc, append-nil, eqb-true, codes}
+use Rattle.std.proofs.Common.{◌≡◌, ℕ, ◌<◌, ◌≤◌, Bool, true, false, ◌||◌, cond, nat_lt, eqb, List, [], ◌∷◌, ◌++◌, map, length, Option, Some, None, sym, ap, ◌∙◌, subst, refl, arith, le-ltb, lt-ltb, append_assoc, append-nil, eqb-true, codes}
 use Rattle.std.specs.Prelude.{◌≢◌}
 use Rattle.std.specs.List.{list_any, AllByRecursion, flat_map}
 use Rattle.pay_wire.specs.declared.limits.TheConstants.{MOST_LINE_BYTES}
-use Rattle.pay_wire.specs.Words.{command_of, Spells, refusal_of, refusal_of_fix}
+use Rattle.pay_wire.specs.Words.{command_of, Spells}
 use Rattle.pay_session.specs.Requests.{InputLine, asked, input_lines, rest_of, has_newline, request_of, request_of_rest, is_quit, through_quit, line_requests, requests_of, quits, unread}
 use Rattle.pay_wire.specs.declared.command.Command.{Command}
-use Rattle.pay_wire.specs.declared.command.Command.TheVariants.{Tap, Fix, Due, Show, NotYet, Quit}
-use Rattle.pay_session.specs.declared.request.Request.{Request}
+use Rattle.pay_wire.specs.declared.command.Command.TheVariants.{Tap, Fix, Due, Show, Close, Quit}
 use Rattle.pay_session.specs.declared.request.Request.TheVariants as requests
-use Rattle.pay_wire.specs.declared.command.SpelledTap.{SpelledTap}
-use Rattle.pay_wire.specs.declared.command.SpelledFix.{SpelledFix}
-use Rattle.pay_fix.specs.declared.fix.Fix.{Fix as FixMade}
-use Rattle.pay_fix.specs.declared.fix.What.{What}
-use Rattle.pay_wire.specs.declared.refusal.Refusal.{Refusal}
-use Rattle.pay_wire.specs.declared.refusal.Refusal.TheVariants as refusal
-use Rattle.pay_wire.specs.declared.reply.Reply.TheVariants as replies
-use Rattle.pay_session.specs.Accounts.{accepted_of}
-use Rattle.pay_session.specs.Machine.{Machine, Step, refuse, tap_of_spelled, step_tap_answer, step_tap, step_spelled_tap, what_of_spelled, fix_of_spelled, step_fix_answer, step_spelled_what, step_spelled_fix, step}
-use Rattle.pay_day.specs.Words.{is_instant}
-use Rattle.pay_account.specs.Words.{tap_result, fix_result}
-use Rattle.pay_account.specs.declared.fares.Priced.{Priced}
-use Rattle.pay_account.specs.declared.shown.Shown.{Shown}
-use Rattle.pay_account.specs.Words.{QuoteParts}
-use Rattle.pay_account.specs.declared.fares.TapFault.{TapFault}
-use Rattle.pay_account.specs.declared.fares.FixFault.{FixFault}
-use Rattle.pay_day.specs.Words.{stamp_of}
-use Rattle.pay_taps.specs.declared.tap.Tap.{Tap as TapMade}
 use Rattle.pay_session.proofs.InputPieces.{false_or, lines_of_line, lines_of_part, rest_of_line, rest_of_part, has_newline_both, line_requests_line, line_requests_part, unread_line, unread_part}
 
 -- what holds of a text that no newline ends, and of a line in front of what it holds of, holds of each input
@@ -110,8 +91,8 @@ quit_line spelled z e = at (nat_lt MOST_LINE_BYTES (length z)) (command_of z) re
     at false (Some (Fix t)) is f = cc
     at false (Some (Due account day)) is f = cc
     at false (Some (Show account day)) is f = cc
-    at false (Some NotYet) is f = cc
-    at false (Some Quit) is f = spelled z Quit is
+    at false (Some (Close day)) is f = cc
+    at false (Some Quit) is f = (spelled z Quit is).1
 
 quit_asks : request_of (codes "QUIT") ≡ requests.Command Quit
 unfolding request_of
@@ -189,7 +170,7 @@ goes_on spelled line more h other =
 
 pub bad_goes_on : ReadAsSpelled → (line more : List ℕ) → has_newline line ≡ false → length line ≤ MOST_LINE_BYTES → ((command : Command) → Spells line command → ⊥) → requests_of (line ++ codes "\n" ++ more) ≡ requests.BadLine ∷ requests_of more
 bad_goes_on spelled line more h short none =
-    goes_on spelled line more h (none Quit) ∙ ap (λ r. r ∷ requests_of more) (no_command spelled line short none)
+    goes_on spelled line more h (λ e. none Quit (tt, e)) ∙ ap (λ r. r ∷ requests_of more) (no_command spelled line short none)
 
 pub long_goes_on : ReadAsSpelled → (line more : List ℕ) → has_newline line ≡ false → MOST_LINE_BYTES < length line → requests_of (line ++ codes "\n" ++ more) ≡ requests.LongLine ∷ requests_of more
 long_goes_on spelled line more h long =
@@ -231,65 +212,3 @@ leaves_behind_quit before x e none = ap unread (append_assoc before (codes "QUIT
 
 pub same_before_quit : (before x y : List ℕ) → quits before ≡ false → rest_of before ≡ [] → requests_of (before ++ codes "QUIT\n" ++ x) ≡ requests_of (before ++ codes "QUIT\n" ++ y)
 same_before_quit before x y e none = stops_at_quit before x e none ∙ sym (stops_at_quit before y e none)
-
--- ---- a step for which memory was refused
-
-abbrev OnlyPricesDiffer : Machine → Step → Step → Type 0
-OnlyPricesDiffer m refused free = (refused.after ≡ m) × ((why : Refusal) → free.reply ≡ replies.No why → refused ≡ free)
-    × ((priced : Priced) → free.reply ≡ replies.Priced priced → refused ≡ refuse m refusal.Memory) × (free.reply ≡ replies.Bye → refused ≡ free)
-    × ((shown : Shown) → free.reply ≡ replies.Shown shown → refused ≡ refuse m refusal.Memory)
-    × ((quote : QuoteParts) → free.reply ≡ replies.Due quote → refused ≡ refuse m refusal.Memory)
-
-refusal_alike : (m : Machine) (why : Refusal) → OnlyPricesDiffer m (refuse m why) (refuse m why)
-refusal_alike m why = (refl, (λ w e. refl), (λ p e. absurd cc), (λ e. refl), (λ s e. absurd cc), (λ q e. absurd cc))
-
-tap_alike : (m : Machine) (tap : TapMade) (r : Result Priced TapFault) → OnlyPricesDiffer m (step_tap_answer true m tap r) (step_tap_answer false m tap r)
-tap_alike m tap (Err why) = refusal_alike m (refusal_of why)
-tap_alike m tap (Ok priced) = (refl, (λ w e. absurd cc), (λ p e. refl), (λ e. absurd cc), (λ s e. absurd cc), (λ q e. absurd cc))
-
-in_time_alike : (b : Bool) (m : Machine) (tap : TapMade) → OnlyPricesDiffer m (if b then step_tap true m tap else refuse m refusal.OutOfTime) (if b then step_tap false m tap else refuse m refusal.OutOfTime)
-in_time_alike true m tap = tap_alike m tap (tap_result m.tables (accepted_of m.accounts tap.account) tap)
-in_time_alike false m tap = refusal_alike m refusal.OutOfTime
-
-line_alike : (m : Machine) (line : SpelledTap) → OnlyPricesDiffer m (step_spelled_tap true m line) (step_spelled_tap false m line)
-line_alike m line = in_time_alike (is_instant line.utc) m (tap_of_spelled line (stamp_of m.zone line.utc))
-
-fix_alike : (m : Machine) (fix : FixMade) (r : Result Priced FixFault) → OnlyPricesDiffer m (step_fix_answer true m fix r) (step_fix_answer false m fix r)
-fix_alike m fix (Err why) = refusal_alike m (refusal_of_fix why)
-fix_alike m fix (Ok priced) = (refl, (λ w e. absurd cc), (λ p e. refl), (λ e. absurd cc), (λ s e. absurd cc), (λ q e. absurd cc))
-
-what_alike : (m : Machine) (line : SpelledFix) (what : Result What Refusal) → OnlyPricesDiffer m (step_spelled_what true m line what) (step_spelled_what false m line what)
-what_alike m line (Err why) = refusal_alike m why
-what_alike m line (Ok does) = fix_alike m (fix_of_spelled line does) (fix_result m.tables (accepted_of m.accounts line.account) (fix_of_spelled line does))
-
-fix_line_alike : (m : Machine) (line : SpelledFix) → OnlyPricesDiffer m (step_spelled_fix true m line) (step_spelled_fix false m line)
-fix_line_alike m line = what_alike m line (what_of_spelled m.zone line.what)
-
-step_alike : (m : Machine) (r : Request) → OnlyPricesDiffer m (step true m r) (step false m r)
-unfolding step
-step_alike m (requests.Command (Tap line)) = line_alike m line
-step_alike m (requests.Command (Fix line)) = fix_line_alike m line
-step_alike m (requests.Command (Due account day)) = (refl, (λ w e. absurd cc), (λ p e. absurd cc), (λ e. absurd cc), (λ s e. absurd cc), (λ q e. refl))
-step_alike m (requests.Command (Show account day)) = (refl, (λ w e. absurd cc), (λ p e. absurd cc), (λ e. absurd cc), (λ s e. refl), (λ q e. absurd cc))
-step_alike m (requests.Command NotYet) = refusal_alike m refusal.NotYet
-step_alike m (requests.Command Quit) = (refl, (λ w e. absurd cc), (λ p e. absurd cc), (λ e. refl), (λ s e. absurd cc), (λ q e. absurd cc))
-step_alike m requests.BadLine = refusal_alike m refusal.BadLine
-step_alike m requests.LongLine = refusal_alike m refusal.LongLine
-
-pub nothing_kept : (m : Machine) (r : Request) → (step true m r).after ≡ m
-nothing_kept m r = (step_alike m r).0
-
-pub refused_alike : (m : Machine) (r : Request) (why : Refusal) → (step false m r).reply ≡ replies.No why → step true m r ≡ step false m r
-refused_alike m r why e = (step_alike m r).1 why e
-
-pub price_refused : (m : Machine) (r : Request) (priced : Priced) → (step false m r).reply ≡ replies.Priced priced → step true m r ≡ refuse m refusal.Memory
-price_refused m r priced e = (step_alike m r).2 priced e
-
-pub bye_alike : (m : Machine) (r : Request) → (step false m r).reply ≡ replies.Bye → step true m r ≡ step false m r
-bye_alike m r e = (step_alike m r).3 e
-
-pub show_refused : (m : Machine) (r : Request) (shown : Shown) → (step false m r).reply ≡ replies.Shown shown → step true m r ≡ refuse m refusal.Memory
-show_refused m r shown e = (step_alike m r).4 shown e
-
-pub due_refused : (m : Machine) (r : Request) (quote : QuoteParts) → (step false m r).reply ≡ replies.Due quote → step true m r ≡ refuse m refusal.Memory
-due_refused m r quote e = (step_alike m r).5 quote e

@@ -1,10 +1,9 @@
-pub mod Accounts
-pub mod Desk
-pub mod Machine
-pub mod Outcomes
 pub mod Requests
+pub mod Asks
+pub mod Events
+pub mod Served
+pub mod Serving
 pub mod Session
 pub mod SessionSteps
 pub mod Stops
-pub mod Week
 pub mod Words

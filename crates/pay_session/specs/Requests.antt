@@ -2,9 +2,9 @@
 use Rattle.std.specs.Prelude.{ℕ, ◌+◌, Bool, true, false, nat_lt, ◌==◌, List, [], ◌∷◌, ◌++◌, map, length, take, Option, Some, None, if◌then◌else◌}
 use Rattle.std.specs.List.{list_any}
 use Rattle.pay_wire.specs.declared.limits.TheConstants.{MOST_LINE_BYTES}
-use Rattle.pay_wire.specs.Words.{command_of, IsAccountDay}
+use Rattle.pay_wire.specs.Words.{command_of, IsSpelled}
 use Rattle.pay_wire.specs.declared.command.Command.{Command}
-use Rattle.pay_wire.specs.declared.command.Command.TheVariants.{Due, Quit}
+use Rattle.pay_wire.specs.declared.command.Command.TheVariants.{Quit}
 use Rattle.pay_session.specs.declared.request.Request.{Request}
 use Rattle.pay_session.specs.declared.request.Request.TheVariants as requests
 
@@ -65,9 +65,9 @@ abbrev pub through_quit : List Request → List Request
 through_quit [] = []
 through_quit (r ∷ rs) = if is_quit r then r ∷ [] else r ∷ through_quit rs
 
--- of what is asked the numbers are in their ranges, as far as answering it wants that
+-- the numbers of what is asked are in their ranges
 abbrev pub IsAsked : Request → Type 0
-IsAsked (requests.Command (Due account day)) = IsAccountDay account day
+IsAsked (requests.Command c) = IsSpelled c
 IsAsked _ = Unit {0}
 
 -- what the lines ask for

@@ -1,59 +1,73 @@
--- How a session of lines may end, and what was then written.
-use Rattle.std.specs.Prelude.{◌≡◌, ℕ, Bool, false, List, [], ◌∷◌, ◌++◌, length, Option, Some}
-use Rattle.std.specs.List.{list_any}
+-- How a session over a desk and a till may end, and what was then written and taken.
+use Rattle.std.specs.Prelude.{◌≡◌, ℕ, Bool, false, List, [], ◌∷◌, ◌++◌, length, Option, Some, Result}
 use Rattle.std.specs.Io.KnownBytes.{Appends}
+use Rattle.jiff.specs.declared.tz.timezone.TimeZone.{TimeZone}
+use Rattle.pay_account.specs.declared.posting.Posting.{Posting}
+use Rattle.pay_shard.specs.declared.asked.Asked.{Asked}
+use Rattle.pay_shard.specs.declared.desk.DeskFault.{DeskFault}
+use Rattle.pay_shard.specs.declared.reply.Reply.{Reply as DeskReply}
 use Rattle.pay_wire.specs.Words.{AppendsFront, spelling_of_reply}
+use Rattle.pay_session.specs.Events.{Taken, Event, text_of, all_put, commands_of, AreSaid, any_lacks_memory}
 use Rattle.pay_session.specs.Requests.{line_requests, quits, requests_of, unread}
-use Rattle.pay_session.specs.Outcomes.{outcome, text_of}
-use Rattle.pay_session.specs.Machine.{Machine}
-use Rattle.pay_wire.specs.declared.reply.Reply.{Reply}
-use Rattle.pay_session.specs.declared.session.SessionFault.{SessionFault}
-use Rattle.pay_session.specs.declared.session.SessionFault.TheVariants.{Read, Write}
+use Rattle.pay_session.specs.Served.{AreServed}
+use Rattle.pay_session.specs.declared.stop.SessionFault.{SessionFault}
+use Rattle.pay_session.specs.declared.stop.SessionFault.TheVariants.{Read, Write}
+use Rattle.pay_session.specs.declared.request.Request.{Request}
+use Rattle.pay_session.specs.declared.till.CloseFault.{CloseFault}
 
--- The session ended by itself: the machine's replies to all that the input asks for were written, and nothing else.
-pub record Ends (m : Machine) (input : List ℕ) (left held new : Option (List ℕ)) (answered : ℕ) (quit : Bool) : Type 0 where
-  -- of each request, whether it was refused for memory
-  pub marks : List Bool
-  pub written : Appends held new (text_of (outcome marks m (requests_of input)).replies)
-  pub counted : answered ≡ length (outcome marks m (requests_of input)).replies
-  pub ended : quit ≡ quits input
-  pub unread : left ≡ Some (unread input)
+-- what a desk and a till were before a session and are after it: what the desk took, its transcript after, and the till
+pub record Sides (T : Type 0) : Type 0 where
+  pub taken_before : List (ℕ × Asked)
+  pub taken_after : List (ℕ × Asked)
+  pub transcript : ℕ → Option DeskReply
+  pub till_before : T
+  pub till_after : T
 
--- The same, with the machine that stands after all that the input asks for, and with whether memory was refused for any of it.
-pub record EndsAt (m : Machine) (input : List ℕ) (left held new : Option (List ℕ)) (answered : ℕ) (quit : Bool) (stands : Machine) (lacked : Bool) : Type 0 where
-  pub ends : Ends m input left held new answered quit
-  pub after : (outcome ends.marks m (requests_of input)).after ≡ stands
-  pub marked : lacked ≡ list_any (λ mark. mark) ends.marks
+module _ {T : Type 0} (zone : TimeZone) (of : ℕ) (Refuses : DeskFault → Type 0) (Late : Type 0) (Closes : T → ℕ → ℕ → List Taken → Result (List Posting) CloseFault → T → Type 0) where
+  -- These requests were answered by these events, in order; the desk took the events' commands, each once and in order, and
+  -- nothing else; and the replies that came are the transcript's.
+  pub record IsSession (sides : Sides T) (requests : List Request) (events : List Event) : Type 0 where
+    pub served : AreServed zone of Refuses Late Closes sides.till_before requests events sides.till_after
+    pub taken : sides.taken_after ≡ sides.taken_before ++ commands_of (all_put events)
+    pub said : AreSaid sides.transcript (all_put events)
 
--- The same, where nobody sees what is written, and memory was refused for nothing.
-pub record IsAfter (m : Machine) (input : List ℕ) (left : Option (List ℕ)) (stands : Machine) : Type 0 where
-  pub after : (outcome [] m (requests_of input)).after ≡ stands
-  pub unread : left ≡ Some (unread input)
+  -- The session ended by itself: all that the input asks for was answered, the replies were written, and nothing else.
+  pub record Ends (sides : Sides T) (input : List ℕ) (left held new : Option (List ℕ)) (answered : ℕ) (quit lacked_memory : Bool) : Type 0 where
+    pub events : List Event
+    pub session : IsSession sides (requests_of input) events
+    pub written : Appends held new (text_of events)
+    pub counted : answered ≡ length events
+    pub lacked : lacked_memory ≡ any_lacks_memory events
+    pub ended : quit ≡ quits input
+    pub unread : left ≡ Some (unread input)
 
--- The reader failed, or was tried too often: the replies to the whole lines read so far were written, and nothing else.
-pub record StopsReading (m : Machine) (input : List ℕ) (left held new : Option (List ℕ)) (answered : ℕ) : Type 0 where
-  pub front : List ℕ
-  pub back : List ℕ
-  pub parts : input ≡ front ++ back
-  pub unread : left ≡ Some back
-  pub goes_on : quits front ≡ false
-  pub marks : List Bool
-  pub written : Appends held new (text_of (outcome marks m (line_requests front)).replies)
-  pub counted : answered ≡ length (outcome marks m (line_requests front)).replies
+  -- The reader failed, or was tried too often: the whole lines read so far were answered, the replies were written, and
+  -- nothing else.
+  pub record StopsReading (sides : Sides T) (input : List ℕ) (left held new : Option (List ℕ)) (answered : ℕ) : Type 0 where
+    pub front : List ℕ
+    pub back : List ℕ
+    pub parts : input ≡ front ++ back
+    pub unread : left ≡ Some back
+    pub goes_on : quits front ≡ false
+    pub events : List Event
+    pub session : IsSession sides (line_requests front) events
+    pub written : Appends held new (text_of events)
+    pub counted : answered ≡ length events
 
--- The writer failed: the first replies were written whole, and of the next one no more than a front.
-pub record StopsWriting (m : Machine) (input : List ℕ) (held new : Option (List ℕ)) (answered : ℕ) : Type 0 where
-  pub marks : List Bool
-  pub told : List Reply
-  pub next : Reply
-  pub others : List Reply
-  pub replies : (outcome marks m (requests_of input)).replies ≡ told ++ next ∷ others
-  pub whole : Option (List ℕ)
-  pub written : Appends held whole (text_of told)
-  pub broken : AppendsFront whole new (spelling_of_reply next)
-  pub counted : answered ≡ length told
+  -- The writer failed: the first replies were written whole, and of the next one no more than a front.
+  pub record StopsWriting (sides : Sides T) (input : List ℕ) (held new : Option (List ℕ)) (answered : ℕ) : Type 0 where
+    pub done : List Request
+    pub others : List Request
+    pub requests : requests_of input ≡ done ++ others
+    pub events : List Event
+    pub next : Event
+    pub session : IsSession sides done (events ++ next ∷ [])
+    pub whole : Option (List ℕ)
+    pub written : Appends held whole (text_of events)
+    pub broken : AppendsFront whole new (spelling_of_reply next.reply)
+    pub counted : answered ≡ length events
 
--- how a session that did not end by itself ended
-abbrev pub FailsSo : SessionFault → Machine → List ℕ → Option (List ℕ) → Option (List ℕ) → Option (List ℕ) → Type 0
-FailsSo (Read answered) m input remaining held taken = StopsReading m input remaining held taken answered
-FailsSo (Write answered) m input remaining held taken = StopsWriting m input held taken answered
+  -- how a session that did not end by itself ended
+  abbrev pub FailsSo : SessionFault → Sides T → List ℕ → Option (List ℕ) → Option (List ℕ) → Option (List ℕ) → Type 0
+  FailsSo (Read answered) sides input left held new = StopsReading sides input left held new answered
+  FailsSo (Write answered) sides input left held new = StopsWriting sides input held new answered

@@ -2,8 +2,8 @@
 use Rattle.std.specs.Prelude.{◌≢◌, ℕ}
 use Rattle.std.specs.declared.io.ErrorKind.TheVariants.{Interrupted}
 use Rattle.pay_wire.specs.declared.output.WriteFault.TheVariants.{Failed}
-use Rattle.pay_session.specs.declared.session.SessionFault.{SessionFault}
-use Rattle.pay_session.specs.declared.session.SessionFault.TheVariants as fault
+use Rattle.pay_session.specs.declared.stop.SessionFault.{SessionFault}
+use Rattle.pay_session.specs.declared.stop.SessionFault.TheVariants as fault
 use Rattle.pay_session.specs.declared.stop.Stop.{Stop}
 use Rattle.pay_session.specs.declared.stop.Stop.TheVariants.{Read, NoMoreFills, Write}
 

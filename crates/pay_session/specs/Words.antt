@@ -1,4 +1,7 @@
--- Words for the crate above: the machine that answers, how a session of lines may end, and what is told of a week after one.
-pub use Rattle.pay_session.specs.Machine.{Machine, new_machine}
-pub use Rattle.pay_session.specs.Session.{Ends, FailsSo}
-pub use Rattle.pay_session.specs.Week.{TellsWeek, WeekFails}
+-- Words for the crates above: what requests are and come to, what comes of them over a desk and a till, and how a session may end.
+pub use Rattle.pay_session.specs.Requests.{input_lines, rest_of, has_newline, request_of, line_requests, requests_of, quits, unread}
+pub use Rattle.pay_session.specs.Asks.{asks_of}
+pub use Rattle.pay_session.specs.Events.{Taken, Event, refusal_of, refusal_of_desk, refusal_of_close, said, said_of_close, text_of, all_put, commands_of, AreSaid, lacks_memory, any_lacks_memory}
+pub use Rattle.pay_session.specs.Served.{AreQuotes, IsClosed, IsReplied, IsTaken, IsRefused, IsTillClosed, IsServedAs, IsServed, AreServed}
+pub use Rattle.pay_session.specs.Serving.{MaySometimeRefuse, MaySometimeBeLate}
+pub use Rattle.pay_session.specs.Session.{Sides, IsSession, Ends, StopsReading, StopsWriting, FailsSo}

@@ -1,18 +1,21 @@
-//! A session of lines: [`run_lines`] answers those of a reader, and keeps the accounts by number; after such a session
-//! [`week_by_lines`] tells what an account has of a week. `laws` says what the cutting of lines and the machine mean, and
-//! `limits` how long a session may last.
+//! A session of lines: [`session`] answers those of a reader over any desk and any till. `laws` says what the cutting of lines
+//! means, and `limits` how long a session may last.
 #![tactic(auto)]
 
-mod accounts;
+mod asks;
 mod begun_line;
 mod cut;
-mod desk;
 pub mod laws;
 pub mod limits;
+mod progress;
 mod request;
-mod session;
+mod service;
+mod sessions;
 mod stop;
-mod week;
+mod till;
 
-pub use session::{Done, SessionFault, run_lines};
-pub use week::{WeekFault, week_by_lines};
+pub use asks::Asks;
+pub use request::Request;
+pub use sessions::{Done, session};
+pub use stop::SessionFault;
+pub use till::{CloseFault, NoTill, Till};

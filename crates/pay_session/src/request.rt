@@ -21,7 +21,6 @@ pub fn request_of(line: &[u8]) -> Request
     ensures value { result ≡ request_of line.now }
     ensures in_range { IsAsked result }
 {
-    pay_wire::laws::read_as_spelled();
     if line.len() > MOST_LINE_BYTES {
         return Request::LongLine;
     }

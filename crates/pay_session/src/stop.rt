@@ -3,10 +3,18 @@ ghost use Rattle.std.specs.Prelude.{◌≡◌, ◌↔◌, IsOk, IfOk, IfErr};
 ghost use Rattle.std.specs.IoError.{error_kind};
 ghost use Rattle.pay_session.specs.Stops.{IsFailure, fault_of};
 
-use crate::session::SessionFault;
 use pay_wire::WriteFault;
 use std::io;
 use std::io::ErrorKind;
+
+/// What broke a session off. `answered` counts the replies that were written and flushed before.
+#[derive(Clone, Copy, Debug, PartialEq, Eq)]
+pub enum SessionFault {
+    /// The reader failed, or its buffer was filled [`MOST_FILLS`](crate::limits::MOST_FILLS) times without an end.
+    Read { answered: u128 },
+    /// The writer failed. Of the next reply it may hold a front.
+    Write { answered: u128 },
+}
 
 /// Why a session stops before its end.
 #[derive(Clone, Copy, Debug, PartialEq, Eq)]

@@ -37,6 +37,8 @@ mod streams;
 #[cfg(test)]
 mod taps;
 #[cfg(test)]
+mod tills;
+#[cfg(test)]
 mod wire;
 #[cfg(test)]
 mod words;

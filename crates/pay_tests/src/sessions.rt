@@ -4,7 +4,8 @@
 use crate::given::{expect_same, sample};
 use crate::streams::{Letters, Scripted, Trickle};
 use jiff::tz::TimeZone;
-use pay_session::{Done, SessionFault, WeekFault, run_lines, week_by_lines};
+use pay_run::{WeekFault, run_lines, week_by_lines};
+use pay_session::{Done, SessionFault};
 use std::io::{BufRead, ErrorKind, Write};
 use std::process::Abort;
 use std::sync::Arc;
@@ -36,7 +37,7 @@ fn serve<H: Abort + AllocGlobal, R: BufRead, W: Write>(
 ) -> Result<Done, SessionFault> {
     let tables = Arc::new(rt.alloc(), sample(rt)).expect(rt, "memory");
     let zone = TimeZone::posix("GMT0BST,M3.5.0/1,M10.5.0").expect(rt, "a rule");
-    run_lines(rt.alloc(), reader, writer, &zone, &tables)
+    run_lines(rt.alloc(), reader, writer, &zone, tables)
 }
 
 /// All lines, and an end.
@@ -52,6 +53,7 @@ fn all_lines<'a>() -> Trickle<'a> {
 const DONE: Result<Done, SessionFault> = Ok(Done {
     answered: 6,
     quit: false,
+    lacked_memory: false,
 });
 
 /// What a session over a reader comes to whose writer takes all: how it ends, and how many bytes it wrote, each reply
@@ -115,7 +117,7 @@ fn week_until<H: Abort + AllocGlobal>(rt: &H, until: usize) -> Result<usize, Wee
     };
     let tables = Arc::new(rt.alloc(), sample(rt)).expect(rt, "memory");
     let zone = TimeZone::posix("GMT0BST,M3.5.0/1,M10.5.0").expect(rt, "a rule");
-    let lines = week_by_lines(rt.alloc(), &mut reader, &zone, &tables, 7, 19_736)?;
+    let lines = week_by_lines(rt.alloc(), &mut reader, &zone, tables, 7, 19_736)?;
     Ok(lines.as_slice().len())
 }
 
@@ -228,6 +230,7 @@ fn ends_at_quit(rt: HostRuntime) {
     let wanted = Done {
         answered: 1,
         quit: true,
+        lacked_memory: false,
     };
     expect_same(&rt, serve(&rt, &mut reader, &mut writer), Ok(wanted));
     expect_same(
@@ -258,6 +261,7 @@ fn ends_at_the_last_fill(rt: HostRuntime) {
     let wanted = Done {
         answered: 1,
         quit: false,
+        lacked_memory: false,
     };
     expect_spelled(&rt, MOST_FILLS - 1, Ok(wanted), 15);
 }

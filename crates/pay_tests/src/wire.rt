@@ -1,6 +1,6 @@
 use crate::given::{MONDAY, expect_same};
 use crate::streams::Scripted;
-use pay_account::{FixFault, Line, LineKind, Lines, Priced, Shown, TapFault};
+use pay_account::{Line, LineKind, Lines, Priced, Shown};
 use pay_money::Pence;
 use pay_taps::Kind;
 use pay_wire::*;
@@ -32,7 +32,10 @@ fn reads_commands(rt: HostRuntime) {
         day: 19_730,
     };
     expect_same(&rt, read_command(b"DUE 7 19730"), Some(due));
-    expect_same(&rt, read_command(b"CLOSE 19730"), Some(Command::NotYet));
+    let close = Command::Close { day: 19_730 };
+    expect_same(&rt, read_command(b"CLOSE 19730"), Some(close));
+    expect_same(&rt, read_command(b"CLOSE 3"), None);
+    expect_same(&rt, read_command(b"CLOSE"), None);
     expect_same(&rt, read_command(b"QUIT"), Some(Command::Quit));
     expect_same(&rt, read_command(b"QUIT "), None);
 }
@@ -200,24 +203,22 @@ fn expect_refusal<R: Abort>(rt: &R, refusal: Refusal, number: u16, name: &str) {
 #[test]
 fn gives_refusals_their_numbers(rt: HostRuntime) {
     expect_refusal(&rt, Refusal::OutOfTime, 1, "OutOfTime");
-    expect_refusal(
-        &rt,
-        Refusal::from(TapFault::UnknownPlace),
-        15,
-        "UnknownPlace",
-    );
-    expect_refusal(&rt, Refusal::from(TapFault::Conflict), 20, "Conflict");
-    expect_refusal(&rt, Refusal::from(TapFault::AccountFull), 21, "AccountFull");
-    expect_refusal(
-        &rt,
-        Refusal::from(FixFault::UnknownPlace),
-        15,
-        "UnknownPlace",
-    );
-    expect_refusal(&rt, Refusal::from(FixFault::FixConflict), 22, "FixConflict");
-    expect_refusal(&rt, Refusal::from(FixFault::FixesFull), 23, "FixesFull");
-    expect_refusal(&rt, Refusal::from(FixFault::Memory), 90, "Memory");
+    expect_refusal(&rt, Refusal::UnknownPlace, 15, "UnknownPlace");
+    expect_refusal(&rt, Refusal::Conflict, 20, "Conflict");
+    expect_refusal(&rt, Refusal::AccountFull, 21, "AccountFull");
+    expect_refusal(&rt, Refusal::FixConflict, 22, "FixConflict");
+    expect_refusal(&rt, Refusal::FixesFull, 23, "FixesFull");
+    expect_refusal(&rt, Refusal::Busy, 30, "Busy");
+    expect_refusal(&rt, Refusal::Window, 31, "Window");
+    expect_refusal(&rt, Refusal::NotHere, 34, "NotHere");
+    expect_refusal(&rt, Refusal::StaleQuote, 42, "StaleQuote");
+    expect_refusal(&rt, Refusal::Store, 43, "Store");
+    expect_refusal(&rt, Refusal::DeskFault, 44, "DeskFault");
+    expect_refusal(&rt, Refusal::BadArchive, 45, "BadArchive");
+    expect_refusal(&rt, Refusal::ArchiveConflict, 46, "ArchiveConflict");
+    expect_refusal(&rt, Refusal::QuoteDiffers, 47, "QuoteDiffers");
     expect_refusal(&rt, Refusal::BadLine, 50, "BadLine");
-    expect_refusal(&rt, Refusal::NotYet, 60, "NotYet");
-    expect_refusal(&rt, Refusal::from(TapFault::Memory), 90, "Memory");
+    expect_refusal(&rt, Refusal::LongLine, 51, "LongLine");
+    expect_refusal(&rt, Refusal::Late, 52, "Late");
+    expect_refusal(&rt, Refusal::Memory, 90, "Memory");
 }

@@ -1,7 +1,8 @@
 -- Words put behind one another are a line.
-use Rattle.std.proofs.Common.{◌≡◌, ℕ, List, [], ◌∷◌, ◌++◌, append_assoc, ap, ◌∙◌}
+use Rattle.std.proofs.Common.{◌≡◌, ℕ, List, [], ◌∷◌, ◌++◌, append_assoc, sym, ap, ◌∙◌}
 use Rattle.std.specs.Prelude.{decimal}
 use Rattle.std.specs.List.{join_with_byte}
+use Rattle.std.proofs.lemmas.Grind.{flat_map-append}
 use Rattle.std.proofs.lemmas.List.{append-nil}
 use Rattle.pay_wire.specs.Replies.{line_of_words, text_of_fields}
 
@@ -22,18 +23,36 @@ first_and_fields : (w : List ℕ) (ws : List (List ℕ)) → w ++ text_of_fields
 first_and_fields w [] = append-nil w
 first_and_fields w (v ∷ vs) = ap (λ (r : List ℕ). w ++ 32 ∷ r) (first_and_fields v vs)
 
--- a word and five fields, and further ones behind them, each put behind the line so far, and the newline
-pub five_fields : (w a b c d e : List ℕ) (ws : List (List ℕ))
-    → ((((((w ++ 32 ∷ a) ++ 32 ∷ b) ++ 32 ∷ c) ++ 32 ∷ d) ++ 32 ∷ e) ++ text_of_fields ws) ++ 10 ∷ [] ≡ line_of_words (w ∷ a ∷ b ∷ c ∷ d ∷ e ∷ ws)
-five_fields w a b c d e ws =
-    let four = (((w ++ 32 ∷ a) ++ 32 ∷ b) ++ 32 ∷ c) ++ 32 ∷ d in
-    let last = join_with_byte 32 (e ∷ ws) in
-    ap (λ (t : List ℕ). t ++ 10 ∷ []) (append_assoc four (32 ∷ e) (text_of_fields ws) ∙ ap (λ (t : List ℕ). four ++ 32 ∷ t) (first_and_fields e ws)
-    ∙ grouped (w ++ 32 ∷ a) b c d last ∙ step w a (b ++ 32 ∷ (c ++ 32 ∷ (d ++ 32 ∷ last))))
+-- a word put behind a line, and further ones behind it
+one_more : (l a : List ℕ) (ws : List (List ℕ)) → (l ++ 32 ∷ a) ++ text_of_fields ws ≡ l ++ text_of_fields (a ∷ ws)
+one_more l a ws = append_assoc l (32 ∷ a) (text_of_fields ws)
 
--- a number put behind a line, where both are known
-pub field_is : {l m : List ℕ} {a b : ℕ} → l ≡ m → a ≡ b → l ++ 32 ∷ decimal a ≡ m ++ 32 ∷ decimal b
-field_is e f i = e i ++ 32 ∷ decimal (f i)
+-- five fields, each put behind the line so far
+pub quote_fields : (l a b c d e : List ℕ) → ((((l ++ 32 ∷ a) ++ 32 ∷ b) ++ 32 ∷ c) ++ 32 ∷ d) ++ 32 ∷ e ≡ l ++ text_of_fields (a ∷ b ∷ c ∷ d ∷ e ∷ [])
+quote_fields l a b c d e =
+    let la = l ++ 32 ∷ a in
+    let lb = la ++ 32 ∷ b in
+    let lc = lb ++ 32 ∷ c in
+    ap (λ (t : List ℕ). (lc ++ 32 ∷ d) ++ t) (sym (append-nil (32 ∷ e))) ∙ one_more lc d (e ∷ []) ∙ one_more lb c (d ∷ e ∷ []) ∙ one_more la b (c ∷ d ∷ e ∷ []) ∙ one_more l a (b ∷ c ∷ d ∷ e ∷ [])
+
+-- a word, and fields in two pieces, put behind one another
+two_pieces : (w : List ℕ) (ws vs : List (List ℕ)) → (w ++ text_of_fields ws) ++ text_of_fields vs ≡ join_with_byte 32 (w ∷ ws ++ vs)
+two_pieces w ws vs =
+    append_assoc w (text_of_fields ws) (text_of_fields vs) ∙ ap (λ (t : List ℕ). w ++ t) (sym (flat_map-append (λ (v : List ℕ). 32 ∷ v) ws vs)) ∙ first_and_fields w (ws ++ vs)
+
+-- a word, five fields and further ones, put behind it, and the newline
+pub due_fields : (w a b c d e : List ℕ) (ws : List (List ℕ)) → ((w ++ text_of_fields (a ∷ b ∷ c ∷ d ∷ e ∷ [])) ++ text_of_fields ws) ++ 10 ∷ [] ≡ line_of_words (w ∷ a ∷ b ∷ c ∷ d ∷ e ∷ ws)
+due_fields w a b c d e ws = ap (λ (t : List ℕ). t ++ 10 ∷ []) (two_pieces w (a ∷ b ∷ c ∷ d ∷ e ∷ []) ws)
+
+-- a word, five fields, one more and further ones, put behind it, and the newline
+pub posting_fields : (w a b c d e f : List ℕ) (ws : List (List ℕ))
+    → (((w ++ text_of_fields (a ∷ b ∷ c ∷ d ∷ e ∷ [])) ++ 32 ∷ f) ++ text_of_fields ws) ++ 10 ∷ [] ≡ line_of_words (w ∷ a ∷ b ∷ c ∷ d ∷ e ∷ f ∷ ws)
+posting_fields w a b c d e f ws =
+    ap (λ (t : List ℕ). t ++ 10 ∷ []) (one_more (w ++ text_of_fields (a ∷ b ∷ c ∷ d ∷ e ∷ [])) f ws ∙ two_pieces w (a ∷ b ∷ c ∷ d ∷ e ∷ []) (f ∷ ws))
+
+-- a number put behind a line that is known
+pub field_is : {l m : List ℕ} (a : ℕ) → l ≡ m → l ++ 32 ∷ decimal a ≡ m ++ 32 ∷ decimal a
+field_is a e i = e i ++ 32 ∷ decimal a
 
 pub two_are : {l m a b : List ℕ} → l ≡ m → a ≡ b → l ++ a ≡ m ++ b
 two_are e f i = e i ++ f i

@@ -5,9 +5,8 @@ use Rattle.std.proofs.lemmas.List.{take_min, take-append-le, take-append-drop}
 use Rattle.std.proofs.KnownBytes.{Appends-trans}
 use Rattle.std.specs.Io.KnownBytes.{Appends}
 use Rattle.std.proofs.lemmas.Grind.{flat_map-append}
-use Rattle.pay_account.specs.declared.shown.Line.{Line}
 use Rattle.pay_wire.specs.Output.{AppendsFront}
-use Rattle.pay_wire.specs.Replies.{line_of_words, words_of_journey, text_of_journeys}
+use Rattle.std.specs.List.{flat_map}
 
 -- a front of the bytes and then a front of the others are a front of the bytes
 pub Appends_fronts : (a b c : Option (List ℕ)) (i n : ℕ) (bytes : List ℕ) → Appends a b (take i bytes) → Appends b c (take n (take (length bytes - i) (drop i bytes))) → Appends a c (take (i + n) bytes)
@@ -16,7 +15,7 @@ Appends_fronts a b c i n bytes p q =
     subst (Appends a c) (sym (take-add i n bytes)) (Appends-trans a b c _ _ p (subst (λ l. Appends b c (take n l)) others q))
 
 -- a piece that was taken whole, and then a front of what is behind it
-front_then : (old mid new : Option (List ℕ)) (a b : List ℕ) → Appends old mid a → AppendsFront mid new b → AppendsFront old new (a ++ b)
+pub front_then : (old mid new : Option (List ℕ)) (a b : List ℕ) → Appends old mid a → AppendsFront mid new b → AppendsFront old new (a ++ b)
 front_then old mid new a b whole (n, front) =
     (length a + n, subst (Appends old new) (sym (take-append-add a b n)) (Appends-trans old mid new a (take n b) whole front))
 
@@ -31,20 +30,15 @@ pub on_err : {T E : Type 0} {P : Type 0} (r : Result T E) → P → OnErr r P
 on_err (Ok x) h = tt
 on_err (Err e) h = h
 
--- the journeys before one, that one, and those behind it
-journeys_at : (js : List Line) (i : ℕ) (l : Line) → i < length js → l ≡ get_or js i l → text_of_journeys js ≡ text_of_journeys (take i js) ++ (line_of_words (words_of_journey l) ++ text_of_journeys (drop (suc i) js))
-journeys_at js i l low is =
-    ap text_of_journeys (sym (take-append-drop i js)) ∙ flat_map-append (λ (j : Line). line_of_words (words_of_journey j)) (take i js) (drop i js)
-    ∙ ap (λ r. text_of_journeys (take i js) ++ text_of_journeys r) (drop-cons js i l low ∙ ap (λ (x : Line). x ∷ drop (suc i) js) (sym is))
+-- the rows before one, that one, and those behind it
+rows_at : {A : Type 0} (row : A → List ℕ) (all : List A) (i : ℕ) (a : A) → i < length all → a ≡ get_or all i a → flat_map row all ≡ flat_map row (take i all) ++ (row a ++ flat_map row (drop (suc i) all))
+rows_at {A} row all i a low is =
+    ap (flat_map row) (sym (take-append-drop i all)) ∙ flat_map-append row (take i all) (drop i all)
+    ∙ ap (λ r. flat_map row (take i all) ++ flat_map row r) (drop-cons all i a low ∙ ap (λ (x : A). x ∷ drop (suc i) all) (sym is))
 
--- the lines of the first journeys, and then a front of the next one's
-pub front_of_journeys : (old mid new : Option (List ℕ)) (js : List Line) (i : ℕ) (l : Line) → i < length js → l ≡ get_or js i l
-    → Appends old mid (text_of_journeys (take i js)) → AppendsFront mid new (line_of_words (words_of_journey l)) → AppendsFront old new (text_of_journeys js)
-front_of_journeys old mid new js i l low is whole front =
-    subst (AppendsFront old new) (sym (journeys_at js i l low is))
-    (front_then old mid new (text_of_journeys (take i js)) (line_of_words (words_of_journey l) ++ text_of_journeys (drop (suc i) js)) whole
-    (front_more mid new (line_of_words (words_of_journey l)) (text_of_journeys (drop (suc i) js)) front))
-
--- a first line that was taken whole, and then a front of the journeys behind it
-pub front_behind : (old mid new : Option (List ℕ)) (a : List ℕ) (js told : List Line) → js ≡ told → Appends old mid a → AppendsFront mid new (text_of_journeys js) → AppendsFront old new (a ++ text_of_journeys told)
-front_behind old mid new a js told e whole front = front_then old mid new a (text_of_journeys told) whole (subst (λ (l : List Line). AppendsFront mid new (text_of_journeys l)) e front)
+-- the first rows, and then a front of the next one
+pub front_of_rows : {A : Type 0} (row : A → List ℕ) (old mid new : Option (List ℕ)) (all : List A) (i : ℕ) (a : A) → i < length all → a ≡ get_or all i a
+    → Appends old mid (flat_map row (take i all)) → AppendsFront mid new (row a) → AppendsFront old new (flat_map row all)
+front_of_rows row old mid new all i a low is whole front =
+    subst (AppendsFront old new) (sym (rows_at row all i a low is))
+    (front_then old mid new (flat_map row (take i all)) (row a ++ flat_map row (drop (suc i) all)) whole (front_more mid new (row a) (flat_map row (drop (suc i) all)) front))

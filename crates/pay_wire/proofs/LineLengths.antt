@@ -1,10 +1,11 @@
 -- No line spells two commands, and each spelling is one line.
 use Rattle.std.proofs.Common.{◌≡◌, ℕ, ◌+◌, ◌≤◌, true, List, [], ◌∷◌, ◌++◌, length, Option, Some, refl, sym, ap, ◌∙◌, arith, codes}
-use Rattle.std.specs.Prelude.{decimal, ◌≢◌, All}
+use Rattle.std.specs.Prelude.{decimal, All, ◌≢◌}
 use Rattle.std.specs.List.{join_with_byte}
 use Rattle.std.proofs.lemmas.Fmt.{length-decimal-le}
 use Rattle.std.proofs.lemmas.List.{length-append}
 use Rattle.std.proofs.lemmas.List.Elements.{All-from_recursion, All-weaker}
+use Rattle.pay_day.specs.Words.{IsDay}
 use Rattle.pay_taps.specs.declared.tap.Kind.{Kind}
 use Rattle.pay_taps.specs.declared.tap.Kind.TheVariants.{In, Out, Bus}
 use Rattle.pay_wire.specs.declared.command.SpelledTap.{SpelledTap}
@@ -12,12 +13,11 @@ use Rattle.pay_wire.specs.declared.command.SpelledFix.{SpelledFix}
 use Rattle.pay_wire.specs.declared.command.SpelledWhat.{SpelledWhat}
 use Rattle.pay_wire.specs.declared.command.SpelledWhat.TheVariants as spelled
 use Rattle.pay_wire.specs.declared.command.Command.{Command}
-use Rattle.pay_wire.specs.declared.command.Command.TheVariants.{Tap, Fix, Due, Show, NotYet, Quit}
 use Rattle.pay_wire.specs.Fields.{words}
-use Rattle.pay_wire.specs.Commands.{tap_of, fix_of, account_day_of}
-use Rattle.pay_wire.specs.Spellings.{IsSpelledTap, spelling_of_kind, spelling_of_tap, IsSpelledWhat, words_of_what, IsSpelledFix, spelling_of_fix, IsAccountDay, spelling_of_account_day, spelling_of_due, spelling_of_show, Spells, IsLine}
+use Rattle.pay_wire.specs.Commands.{tap_of, fix_of, account_day_of, day_of}
+use Rattle.pay_wire.specs.Spellings.{IsSpelledTap, spelling_of_kind, spelling_of_tap, IsSpelledWhat, words_of_what, IsSpelledFix, spelling_of_fix, IsAccountDay, spelling_of_account_day, spelling_of_due, spelling_of_show, spelling_of_close, Spells, IsLine}
 use Rattle.pay_wire.proofs.Visible.{is_visible, AllVisible, text_joined}
-use Rattle.pay_wire.proofs.Spelled.{fields_of, tap_visible, tap_words, tap_again, fix_fields, fix_visible, fix_words, fix_again, account_day_fields, account_day_visible, account_day_words, account_day_again, is_read}
+use Rattle.pay_wire.proofs.Spelled.{fields_of, tap_visible, tap_words, tap_again, fix_fields, fix_visible, fix_words, fix_again, account_day_fields, account_day_visible, account_day_words, account_day_again, day_fields, close_visible, close_words, day_again, is_read}
 
 abbrev some : {A : Type 0} → A → Option A
 some x = Some x
@@ -57,13 +57,13 @@ one_due = one_account_day (codes "DUE") refl
 pub one_show : (account day x y : ℕ) → IsAccountDay account day → IsAccountDay x y → spelling_of_show account day ≡ spelling_of_show x y → (account ≡ x) × (day ≡ y)
 one_show = one_account_day (codes "SHOW") refl
 
-pub one_line : (command : Command) (a b : List ℕ) → command ≢ NotYet → Spells a command → Spells b command → a ≡ b
-one_line (Tap tap) a b some f g = f.1 ∙ sym g.1
-one_line (Fix fix) a b some f g = f.1 ∙ sym g.1
-one_line (Due account day) a b some f g = f.1 ∙ sym g.1
-one_line (Show account day) a b some f g = f.1 ∙ sym g.1
-one_line NotYet a b some f g = absurd (some refl)
-one_line Quit a b some f g = f ∙ sym g
+pub one_close : (day x : ℕ) → IsDay day → IsDay x → spelling_of_close day ≡ spelling_of_close x → day ≡ x
+one_close day x f g e =
+    let fields : day_fields day ≡ day_fields x = tails (codes "CLOSE") (codes "CLOSE") (day_fields day) (day_fields x) (sym (close_words day f) ∙ ap words e ∙ close_words x g) in
+    some_is day x (sym (day_again day f) ∙ ap day_of fields ∙ day_again x g)
+
+pub one_line : (command : Command) (a b : List ℕ) → Spells a command → Spells b command → a ≡ b
+one_line command a b f g = f.1 ∙ sym g.1
 
 kind_short : (kind : Kind) → length (spelling_of_kind kind) ≤ 3
 kind_short In = omega arith
@@ -177,6 +177,12 @@ due_is_line = account_day_is_line (codes "DUE") refl (omega arith)
 
 pub show_is_line : (account day : ℕ) → IsAccountDay account day → IsLine (spelling_of_show account day)
 show_is_line = account_day_is_line (codes "SHOW") refl (omega arith)
+
+pub close_is_line : (day : ℕ) → IsDay day → IsLine (spelling_of_close day)
+close_is_line day fits = (
+  omega (arith, joined_length (codes "CLOSE") (decimal day), number_short day (omega (arith, fits))),
+  no_newline (codes "CLOSE" ∷ day_fields day) (close_visible day fits),
+)
 
 pub quit_is_line : IsLine (codes "QUIT")
 quit_is_line = (omega arith, no_newline (codes "QUIT" ∷ []) (refl, tt))

@@ -1,11 +1,12 @@
 -- A line is read as a command just where it spells it.
 use Rattle.std.proofs.Common.{◌≡◌, ℕ, ◌≤◌, Bool, true, false, cond, List, [], ◌∷◌, Option, Some, None, refl, sym, ap, ◌∙◌, subst, arith, inl, inr, ◌⊎◌, codes, drop}
-use Rattle.std.specs.Prelude.{decimal}
+use Rattle.std.specs.Prelude.{decimal, IfSome}
 use Rattle.std.specs.Str.{bytes_eq}
-use Rattle.std.specs.List.{join_with_byte, position_or_len}
+use Rattle.std.specs.List.{before_first, join_with_byte, position_or_len}
 use Rattle.std.proofs.lemmas.Option.{cond_some}
 use Rattle.std.proofs.lemmas.List.Splits.{join_with_byte-slice_split}
 use Rattle.std.proofs.lemmas.Slice.Eq.{bytes_eq-Decides}
+use Rattle.pay_day.specs.Words.{IsDay}
 use Rattle.pay_taps.specs.declared.tap.Kind.{Kind}
 use Rattle.pay_taps.specs.declared.tap.Kind.TheVariants.{In, Out, Bus}
 use Rattle.pay_wire.specs.declared.command.SpelledCredit.{SpelledCredit}
@@ -17,12 +18,12 @@ use Rattle.pay_wire.specs.declared.command.SpelledWhat.TheVariants as spelled
 use Rattle.pay_wire.specs.declared.command.Form.{Form}
 use Rattle.pay_wire.specs.declared.command.Form.TheVariants as form
 use Rattle.pay_wire.specs.declared.command.Command.{Command}
-use Rattle.pay_wire.specs.declared.command.Command.TheVariants.{Tap, Fix, Due, Show, NotYet, Quit}
+use Rattle.pay_wire.specs.declared.command.Command.TheVariants.{Tap, Fix, Due, Show, Close, Quit}
 use Rattle.pay_wire.specs.declared.command.Keyword.{Keyword}
 use Rattle.pay_wire.specs.declared.command.Keyword.TheVariants as keyword
 use Rattle.pay_wire.specs.Fields.{◌>>=◌, is_space, words, words_after, has_none, field}
-use Rattle.pay_wire.specs.Commands.{number_within, kind_of_word, tap_of, named_of, fill_of, credit_of, form_of_word, what_for, what_of, fix_of, account_day_of, keyword_of, command_for, command_of_words, command_of}
-use Rattle.pay_wire.specs.Spellings.{IsSpelledTap, spelling_of_kind, spelling_of_tap, IsSpelledWhat, words_of_what, IsSpelledFix, spelling_of_fix, IsAccountDay, spelling_of_account_day, spelling_of_due, spelling_of_show, first_word, Spells}
+use Rattle.pay_wire.specs.Commands.{number_within, kind_of_word, tap_of, named_of, fill_of, credit_of, form_of_word, what_for, what_of, fix_of, account_day_of, day_of, keyword_of, command_for, command_of_words, command_of}
+use Rattle.pay_wire.specs.Spellings.{IsSpelledTap, spelling_of_kind, spelling_of_tap, IsSpelledWhat, words_of_what, IsSpelledFix, spelling_of_fix, IsAccountDay, spelling_of_account_day, spelling_of_due, spelling_of_show, spelling_of_close, IsSpelled, Spells}
 use Rattle.pay_wire.proofs.Spaces.{split_at_end}
 use Rattle.pay_wire.proofs.Numerals.{bind_some, within_again, within_is}
 use Rattle.pay_wire.proofs.Visible.{is_visible, decimal_visible, AllVisible, words_joined}
@@ -172,16 +173,29 @@ show_line_again : (account day : ℕ) → IsAccountDay account day → command_o
 show_line_again account day fits =
     ap command_of_words (account_day_words (codes "SHOW") refl account day fits) ∙ rw (account_day_again account day fits) refl
 
-close_again : (name : List ℕ) → name ≡ codes "CLOSE" → keyword_of name ≡ Some keyword.Close
-close_again name h = rw h refl
+abbrev pub day_fields : ℕ → List (List ℕ)
+day_fields day = decimal day ∷ []
+
+pub close_visible : (day : ℕ) → IsDay day → AllVisible (codes "CLOSE" ∷ day_fields day)
+close_visible day fits = (refl, (decimal_visible day (omega (arith, fits)), tt))
+
+pub close_words : (day : ℕ) → IsDay day → words (spelling_of_close day) ≡ codes "CLOSE" ∷ day_fields day
+close_words day fits = words_joined (codes "CLOSE") (day_fields day) (close_visible day fits)
+
+pub day_again : (day : ℕ) → IsDay day → day_of (day_fields day) ≡ Some day
+unfolding day_of
+day_again day fits = rw (within_again 4 50_000 day fits.0 fits.1 (omega arith)) refl
+
+close_line_again : (day : ℕ) → IsDay day → command_of (spelling_of_close day) ≡ Some (Close day)
+close_line_again day fits = ap command_of_words (close_words day fits) ∙ rw (day_again day fits) refl
 
 pub is_read : (line : List ℕ) (command : Command) → Spells line command → command_of line ≡ Some command
 is_read line (Tap tap) h = ap command_of h.1 ∙ tap_line_again tap h.0
 is_read line (Fix fix) h = ap command_of h.1 ∙ fix_line_again fix h.0
 is_read line (Due account day) h = ap command_of h.1 ∙ due_line_again account day h.0
 is_read line (Show account day) h = ap command_of h.1 ∙ show_line_again account day h.0
-is_read line NotYet h = ap command_of_words (split_at_end line) ∙ rw (close_again (first_word line) h) refl
-is_read line Quit h = ap command_of h
+is_read line (Close day) h = ap command_of h.1 ∙ close_line_again day h.0
+is_read line Quit h = ap command_of h.1
 
 -- ---- what is read is spelled
 
@@ -476,25 +490,43 @@ account_day_is ws asked e =
     let day = number_is_next 4 50_000 a.0.1 d.0 d.1 in
     subst (λ (r : ℕ × ℕ). AccountDayRead ws r) last.1 (((account.1, account.2), (day.1, day.2)), two_joined ws a.0 d.0 account.0 day.0 (none_left d.0.1 last.0))
 
+-- a service day that is read, step by step
+abbrev at_close_end : NumberAndRest → Option ℕ
+at_close_end day = cond (has_none day.1) (Some day.0) None
+
+abbrev DayRead : List (List ℕ) → ℕ → Type 0
+DayRead ws day = IsDay day × (ws ≡ day_fields day)
+
+one_joined : (ws : List (List ℕ)) (a : NumberAndRest) → ws ≡ decimal a.0 ∷ a.1 → a.1 ≡ [] → ws ≡ decimal a.0 ∷ []
+one_joined ws a f g = rw (f, g) refl
+
+day_is : (ws : List (List ℕ)) (day : ℕ) → day_of ws ≡ Some day → DayRead ws day
+unfolding day_of
+day_is ws day e =
+    let d = bind_some (field (number_within 4 50_000) ws) at_close_end day e in
+    let last = cond_some (has_none d.0.1) d.0.0 day d.2 in
+    let read = number_is_next 4 50_000 ws d.0 d.1 in
+    subst (λ (n : ℕ). DayRead ws n) last.1 ((read.1, read.2), one_joined ws d.0 read.0 (none_left d.0.1 last.0))
+
 abbrev keyword_word : Keyword → List ℕ
 keyword_word keyword.Tap = codes "TAP"
 keyword_word keyword.Fix = codes "FIX"
 keyword_word keyword.Due = codes "DUE"
 keyword_word keyword.Show = codes "SHOW"
-keyword_word keyword.Quit = codes "QUIT"
 keyword_word keyword.Close = codes "CLOSE"
+keyword_word keyword.Quit = codes "QUIT"
 
 same_keyword : (name : List ℕ) (a k : Keyword) → (bytes_eq name (keyword_word a) ≡ true) × (a ≡ k) → name ≡ keyword_word k
 same_keyword name a k h = (bytes_eq-Decides name (keyword_word a)).0 h.0 ∙ ap keyword_word h.1
 
-abbrev close_alone : List ℕ → Option Keyword
-close_alone name = cond (bytes_eq name (codes "CLOSE")) (Some keyword.Close) None
+abbrev quit_alone : List ℕ → Option Keyword
+quit_alone name = cond (bytes_eq name (codes "QUIT")) (Some keyword.Quit) None
 
-abbrev from_quit : List ℕ → Option Keyword
-from_quit name = cond (bytes_eq name (codes "QUIT")) (Some keyword.Quit) (close_alone name)
+abbrev from_close : List ℕ → Option Keyword
+from_close name = cond (bytes_eq name (codes "CLOSE")) (Some keyword.Close) (quit_alone name)
 
 abbrev from_show : List ℕ → Option Keyword
-from_show name = cond (bytes_eq name (codes "SHOW")) (Some keyword.Show) (from_quit name)
+from_show name = cond (bytes_eq name (codes "SHOW")) (Some keyword.Show) (from_close name)
 
 abbrev from_due : List ℕ → Option Keyword
 from_due name = cond (bytes_eq name (codes "DUE")) (Some keyword.Due) (from_show name)
@@ -510,16 +542,20 @@ keyword_is name k e =
         | inl p ↦ same_keyword name keyword.Fix k p
         | inr after_fix ↦ elim (choice (bytes_eq name (codes "DUE")) (from_show name) keyword.Due k after_fix) [
           | inl p ↦ same_keyword name keyword.Due k p
-          | inr after_due ↦ elim (choice (bytes_eq name (codes "SHOW")) (from_quit name) keyword.Show k after_due) [
+          | inr after_due ↦ elim (choice (bytes_eq name (codes "SHOW")) (from_close name) keyword.Show k after_due) [
             | inl p ↦ same_keyword name keyword.Show k p
-            | inr after_show ↦ elim (choice (bytes_eq name (codes "QUIT")) (close_alone name) keyword.Quit k after_show) [
-              | inl p ↦ same_keyword name keyword.Quit k p
-              | inr last ↦ same_keyword name keyword.Close k (cond_some (bytes_eq name (codes "CLOSE")) keyword.Close k last)
+            | inr after_show ↦ elim (choice (bytes_eq name (codes "CLOSE")) (quit_alone name) keyword.Close k after_show) [
+              | inl p ↦ same_keyword name keyword.Close k p
+              | inr last ↦ same_keyword name keyword.Quit k (cond_some (bytes_eq name (codes "QUIT")) keyword.Quit k last)
             ]
           ]
         ]
       ]
     ]
+
+-- the bytes up to the first space, or to the end
+abbrev first_word : List ℕ → List ℕ
+first_word line = before_first is_space line
 
 -- a line is its words with one space between each two
 joined_again : (line first name : List ℕ) (rest ws : List (List ℕ)) → words line ≡ first ∷ rest → first ≡ name → rest ≡ ws → line ≡ join_with_byte 32 (name ∷ ws)
@@ -542,11 +578,13 @@ spelled_after line rest keyword.Show command split name e =
     let b = bind_some (account_day_of rest) (λ asked. Some (Show asked.0 asked.1)) command e in
     let a = account_day_is rest b.0 b.1 in
     subst (λ (c : Command). Spells line c) (some_is (Show b.0.0 b.0.1) command b.2) (a.0, joined_again line (first_word line) (codes "SHOW") rest (account_day_fields b.0.0 b.0.1) split name a.1)
+spelled_after line rest keyword.Close command split name e =
+    let b = bind_some (day_of rest) (λ day. Some (Close day)) command e in
+    let d = day_is rest b.0 b.1 in
+    subst (λ (c : Command). Spells line c) (some_is (Close b.0) command b.2) (d.0, joined_again line (first_word line) (codes "CLOSE") rest (day_fields b.0) split name d.1)
 spelled_after line rest keyword.Quit command split name e =
     let q = cond_some (has_none rest) Quit command e in
-    subst (λ (c : Command). Spells line c) q.1 (joined_again line (first_word line) (codes "QUIT") rest [] split name (none_left rest q.0))
-spelled_after line rest keyword.Close command split name e =
-    subst (λ (c : Command). Spells line c) (some_is NotYet command e) name
+    subst (λ (c : Command). Spells line c) q.1 (tt, joined_again line (first_word line) (codes "QUIT") rest [] split name (none_left rest q.0))
 
 pub is_spelled : (line : List ℕ) (command : Command) → command_of line ≡ Some command → Spells line command
 is_spelled line command e =
@@ -554,3 +592,10 @@ is_spelled line command e =
     let rest = words_after (drop (position_or_len is_space line) line) in
     let b = bind_some (keyword_of (first_word line)) (λ k. command_for k rest) command (ap command_of_words (sym split) ∙ e) in
     spelled_after line rest b.0 command split (keyword_is (first_word line) b.0 b.1) b.2
+
+-- what is read of a keyword and the words behind it is in its ranges
+pub in_range : (line name : List ℕ) (rest : List (List ℕ)) (k : Keyword) (command : Option Command) → words line ≡ name ∷ rest → keyword_of name ≡ Some k → command ≡ command_for k rest → IfSome command IsSpelled
+in_range line name rest k (Some command) split keyword e =
+    let read : command_of_words (name ∷ rest) ≡ Some command = rw keyword (sym e) in
+    (is_spelled line command (ap command_of_words split ∙ read)).0
+in_range line name rest k None split keyword e = tt

@@ -12,7 +12,7 @@ use Rattle.pay_wire.specs.declared.command.SpelledWhat.TheVariants as spelled
 use Rattle.pay_wire.specs.declared.command.Form.{Form}
 use Rattle.pay_wire.specs.declared.command.Form.TheVariants as form
 use Rattle.pay_wire.specs.declared.command.Command.{Command}
-use Rattle.pay_wire.specs.declared.command.Command.TheVariants.{Tap, Fix, Due, Show, NotYet, Quit}
+use Rattle.pay_wire.specs.declared.command.Command.TheVariants.{Tap, Fix, Due, Show, Close, Quit}
 use Rattle.pay_wire.specs.declared.command.Keyword.{Keyword}
 use Rattle.pay_wire.specs.declared.command.Keyword.TheVariants as keyword
 use Rattle.pay_day.specs.declared.limits.TheConstants.{FIRST_DAY, LAST_DAY}
@@ -113,6 +113,12 @@ account_day_of fields = do
   day ← field (number_within FIRST_DAY LAST_DAY) account.1
   if has_none day.1 then Some (account.0, day.0) else None
 
+-- a service day in its range, and no word behind it
+unfoldable pub day_of : List (List ℕ) → Option ℕ
+day_of fields = do
+  day ← field (number_within FIRST_DAY LAST_DAY) fields
+  if has_none day.1 then Some day.0 else None
+
 -- the first word of a command
 abbrev pub keyword_of : List ℕ → Option Keyword
 keyword_of name =
@@ -120,11 +126,11 @@ keyword_of name =
     else if bytes_eq name (codes "FIX") then Some keyword.Fix
     else if bytes_eq name (codes "DUE") then Some keyword.Due
     else if bytes_eq name (codes "SHOW") then Some keyword.Show
-    else if bytes_eq name (codes "QUIT") then Some keyword.Quit
     else if bytes_eq name (codes "CLOSE") then Some keyword.Close
+    else if bytes_eq name (codes "QUIT") then Some keyword.Quit
     else None
 
--- the command of a keyword and the words behind it; of a command that is not served yet they may be any
+-- the command of a keyword and the words behind it
 abbrev pub command_for : Keyword → List (List ℕ) → Option Command
 command_for keyword.Tap fields = do
   tap ← tap_of fields
@@ -138,8 +144,10 @@ command_for keyword.Due fields = do
 command_for keyword.Show fields = do
   asked ← account_day_of fields
   Some (Show asked.0 asked.1)
+command_for keyword.Close fields = do
+  day ← day_of fields
+  Some (Close day)
 command_for keyword.Quit fields = if has_none fields then Some Quit else None
-command_for keyword.Close fields = Some NotYet
 
 -- the first word says the command, and the others are its fields
 abbrev pub command_of_words : List (List ℕ) → Option Command
@@ -417,6 +425,41 @@ due_with_a_further_word = refl
 due_in_small_letters : command_of (codes "due 7 19730") ≡ None
 due_in_small_letters = refl
 
+close_of_a_day : command_of (codes "CLOSE 19730") ≡ Some (Close 19_730)
+unfolding day_of
+close_of_a_day = refl
+
+close_of_the_first_day : command_of (codes "CLOSE 4") ≡ Some (Close 4)
+unfolding day_of
+close_of_the_first_day = refl
+
+close_of_the_last_day : command_of (codes "CLOSE 50000") ≡ Some (Close 50_000)
+unfolding day_of
+close_of_the_last_day = refl
+
+close_of_day_3 : command_of (codes "CLOSE 3") ≡ None
+unfolding day_of
+close_of_day_3 = refl
+
+close_of_day_50_001 : command_of (codes "CLOSE 50001") ≡ None
+unfolding day_of
+close_of_day_50_001 = refl
+
+close_alone : command_of (codes "CLOSE") ≡ None
+unfolding day_of
+close_alone = refl
+
+close_with_a_leading_zero : command_of (codes "CLOSE 019730") ≡ None
+unfolding day_of
+close_with_a_leading_zero = refl
+
+close_with_a_further_word : command_of (codes "CLOSE 19730 1") ≡ None
+unfolding day_of
+close_with_a_further_word = refl
+
+close_in_small_letters : command_of (codes "close 19730") ≡ None
+close_in_small_letters = refl
+
 quit : command_of (codes "QUIT") ≡ Some Quit
 quit = refl
 
@@ -428,9 +471,6 @@ quit_with_more = refl
 
 empty_line : command_of [] ≡ None
 empty_line = refl
-
-close_line : command_of (codes "CLOSE") ≡ Some NotYet
-close_line = refl
 
 fix_and_a_letter : command_of (codes "FIXX") ≡ None
 fix_and_a_letter = refl

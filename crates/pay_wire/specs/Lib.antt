@@ -2,7 +2,6 @@ pub mod Commands
 pub mod Fields
 pub mod Numbers
 pub mod Output
-pub mod Refusals
 pub mod Replies
 pub mod Spellings
 pub mod Words

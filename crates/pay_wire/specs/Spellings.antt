@@ -1,6 +1,6 @@
 -- What the lines of the commands are, one line for each.
 use Rattle.std.specs.Prelude.{◌≡◌, ℕ, ◌≤◌, ◌≢◌, List, [], ◌∷◌, length, All, codes, decimal}
-use Rattle.std.specs.List.{before_first, join_with_byte}
+use Rattle.std.specs.List.{join_with_byte}
 use Rattle.pay_taps.specs.declared.tap.Kind.{Kind}
 use Rattle.pay_taps.specs.declared.tap.Kind.TheVariants.{In, Out, Bus}
 use Rattle.pay_wire.specs.declared.command.SpelledTap.{SpelledTap}
@@ -8,12 +8,11 @@ use Rattle.pay_wire.specs.declared.command.SpelledFix.{SpelledFix}
 use Rattle.pay_wire.specs.declared.command.SpelledWhat.{SpelledWhat}
 use Rattle.pay_wire.specs.declared.command.SpelledWhat.TheVariants as spelled
 use Rattle.pay_wire.specs.declared.command.Command.{Command}
-use Rattle.pay_wire.specs.declared.command.Command.TheVariants.{Tap, Fix, Due, Show, NotYet, Quit}
+use Rattle.pay_wire.specs.declared.command.Command.TheVariants.{Tap, Fix, Due, Show, Close, Quit}
 use Rattle.pay_wire.specs.declared.command.SpelledCredit.{SpelledCredit}
 use Rattle.pay_fix.specs.declared.limits.TheConstants.{MOST_CREDIT}
-use Rattle.pay_day.specs.declared.limits.TheConstants.{FIRST_DAY, LAST_DAY}
+use Rattle.pay_day.specs.Words.{IsDay}
 use Rattle.pay_wire.specs.declared.limits.TheConstants.{MOST_LINE_BYTES, MOST_READER, MOST_STAFF, MOST_SEQ, MOST_ACCOUNT, MOST_UTC, MOST_PLACE}
-use Rattle.pay_wire.specs.Fields.{is_space}
 
 -- each number of a tap is in its range
 pub record IsSpelledTap (tap : SpelledTap) : Type 0 where
@@ -35,7 +34,7 @@ spelling_of_tap tap =
 
 -- a service day, and one penny or more
 pub record IsSpelledCredit (credit : SpelledCredit) : Type 0 where
-  pub day : (FIRST_DAY ≤ credit.day) × (credit.day ≤ LAST_DAY)
+  pub day : IsDay credit.day
   pub some : 1 ≤ credit.pence
   pub within : credit.pence ≤ MOST_CREDIT
 
@@ -67,7 +66,7 @@ spelling_of_fix fix =
 
 -- the account and the service day of a `DUE` or a `SHOW` are in their ranges
 abbrev pub IsAccountDay : ℕ → ℕ → Type 0
-IsAccountDay account day = ((1 ≤ account) × (account ≤ MOST_ACCOUNT)) × ((FIRST_DAY ≤ day) × (day ≤ LAST_DAY))
+IsAccountDay account day = ((1 ≤ account) × (account ≤ MOST_ACCOUNT)) × IsDay day
 
 -- a keyword, an account and a service day, with a space between each two words
 abbrev pub spelling_of_account_day : List ℕ → ℕ → ℕ → List ℕ
@@ -81,18 +80,31 @@ spelling_of_due account day = spelling_of_account_day (codes "DUE") account day
 abbrev pub spelling_of_show : ℕ → ℕ → List ℕ
 spelling_of_show account day = spelling_of_account_day (codes "SHOW") account day
 
--- the bytes up to the first space, or to the end
-abbrev pub first_word : List ℕ → List ℕ
-first_word line = before_first is_space line
+-- `CLOSE day`
+abbrev pub spelling_of_close : ℕ → List ℕ
+spelling_of_close day = join_with_byte 32 (codes "CLOSE" ∷ decimal day ∷ [])
 
--- what a line has to be to spell a command; of the one that is not served yet the first word is enough
+-- each number of a command is in its range
+abbrev pub IsSpelled : Command → Type 0
+IsSpelled (Tap tap) = IsSpelledTap tap
+IsSpelled (Fix fix) = IsSpelledFix fix
+IsSpelled (Due account day) = IsAccountDay account day
+IsSpelled (Show account day) = IsAccountDay account day
+IsSpelled (Close day) = IsDay day
+IsSpelled Quit = Unit {0}
+
+-- the one line that spells a command
+abbrev pub spelling_of_command : Command → List ℕ
+spelling_of_command (Tap tap) = spelling_of_tap tap
+spelling_of_command (Fix fix) = spelling_of_fix fix
+spelling_of_command (Due account day) = spelling_of_due account day
+spelling_of_command (Show account day) = spelling_of_show account day
+spelling_of_command (Close day) = spelling_of_close day
+spelling_of_command Quit = codes "QUIT"
+
+-- what a line has to be to spell a command
 abbrev pub Spells : List ℕ → Command → Type 0
-Spells line (Tap tap) = IsSpelledTap tap × (line ≡ spelling_of_tap tap)
-Spells line (Fix fix) = IsSpelledFix fix × (line ≡ spelling_of_fix fix)
-Spells line (Due account day) = IsAccountDay account day × (line ≡ spelling_of_due account day)
-Spells line (Show account day) = IsAccountDay account day × (line ≡ spelling_of_show account day)
-Spells line NotYet = first_word line ≡ codes "CLOSE"
-Spells line Quit = line ≡ codes "QUIT"
+Spells line command = IsSpelled command × (line ≡ spelling_of_command command)
 
 -- one line, and no longer than a line may be
 abbrev pub IsLine : List ℕ → Type 0

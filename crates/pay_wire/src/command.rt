@@ -2,7 +2,8 @@
 ghost use Rattle.std.specs.Prelude.{◌≡◌, ◌≤◌, ◌<◌, ◌^◌, ◌∷◌, [], Some, IfSome, IfNone, option_map};
 ghost use Rattle.std.specs.List.{position_or_len};
 ghost use Rattle.pay_wire.specs.Fields.{is_space, words, words_after, has_none, field};
-ghost use Rattle.pay_wire.specs.Commands.{number_within, kind_of_word, tap_of, named_of, fill_of, credit_of, form_of_word, what_for, what_of, fix_of, account_day_of, keyword_of, command_for, command_of};
+ghost use Rattle.pay_wire.specs.Commands.{number_within, kind_of_word, tap_of, named_of, fill_of, credit_of, form_of_word, what_for, what_of, fix_of, account_day_of, day_of, keyword_of, command_for, command_of};
+ghost use Rattle.pay_wire.specs.Spellings.{IsSpelled};
 
 use crate::limits::{MOST_ACCOUNT, MOST_PLACE, MOST_READER, MOST_SEQ, MOST_STAFF, MOST_UTC};
 use crate::number::read_number;
@@ -73,8 +74,8 @@ pub enum Command {
     Due { account: u32, day: u32 },
     /// `SHOW account day`: the journeys of a service day.
     Show { account: u32, day: u32 },
-    /// A command of the protocol that is not served yet.
-    NotYet,
+    /// `CLOSE day`: the posting of what is due for the week of a service day, through that day.
+    Close { day: u32 },
     /// `QUIT`: the end of the session.
     Quit,
 }
@@ -86,8 +87,8 @@ enum Keyword {
     Fix,
     Due,
     Show,
-    Quit,
     Close,
+    Quit,
 }
 
 /// The word that says what a correction does.
@@ -102,8 +103,10 @@ enum Form {
 /// The command that a line spells, without its newline. `None` is a bad line: words stand with one
 /// space between them and none at either end, numbers are as `read_number` takes them, and each is in
 /// the range that the command names.
+#[tactic(auto, using(crate::proofs::Spelled::in_range))]
 pub fn read_command(line: &[u8]) -> Option<Command>
-    ensures { result ≡ command_of line.now }
+    ensures value { result ≡ command_of line.now }
+    ensures in_range { IfSome result IsSpelled }
 {
     let (name, fields) = split_word(line);
     command_after(read_keyword(name)?, fields)
@@ -124,9 +127,12 @@ fn command_after(keyword: Keyword, fields: &[u8]) -> Option<Command>
             let (account, day) = read_account_day(fields)?;
             Some(Command::Show { account, day })
         }
+        Keyword::Close => {
+            let day = read_day(fields)?;
+            Some(Command::Close { day })
+        }
         Keyword::Quit if is_end(fields) => Some(Command::Quit),
         Keyword::Quit => None,
-        Keyword::Close => Some(Command::NotYet),
     }
 }
 
@@ -138,8 +144,8 @@ fn read_keyword(name: &[u8]) -> Option<Keyword>
         b"FIX" => Some(Keyword::Fix),
         b"DUE" => Some(Keyword::Due),
         b"SHOW" => Some(Keyword::Show),
-        b"QUIT" => Some(Keyword::Quit),
         b"CLOSE" => Some(Keyword::Close),
+        b"QUIT" => Some(Keyword::Quit),
         _ => None,
     }
 }
@@ -270,6 +276,15 @@ fn read_account_day(fields: &[u8]) -> Option<(u32, u32)>
     } else {
         None
     }
+}
+
+/// The service day of a `CLOSE`, to the end of the line.
+#[tactic(auto, unfolding(crate::specs::Commands::day_of))]
+fn read_day(fields: &[u8]) -> Option<u32>
+    ensures { result ≡ day_of (words_after fields.now) }
+{
+    let (day, rest) = number_field(fields, FIRST_DAY, LAST_DAY)?;
+    if is_end(rest) { Some(day) } else { None }
 }
 
 /// The number in the next word, if it is in the range, and what follows.

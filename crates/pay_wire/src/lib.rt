@@ -14,5 +14,5 @@ mod sending;
 pub use command::{Command, SpelledCredit, SpelledFix, SpelledTap, SpelledWhat, read_command};
 pub use output::WriteFault;
 pub use refusal::Refusal;
-pub use reply::Reply;
+pub use reply::{Closed, Reply};
 pub use sending::{send, send_line};

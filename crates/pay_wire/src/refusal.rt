@@ -1,8 +1,6 @@
-//! Refusals by number and name, and those of an account among them.
+//! Refusals by number and name.
 ghost use Rattle.std.specs.Prelude.{◌≡◌, ◌≤◌, length};
 ghost use Rattle.pay_wire.specs.Replies.{refusal_number, refusal_name};
-
-use pay_account::{FixFault, TapFault};
 
 /// Why a line is refused.
 #[derive(Clone, Copy, Debug, PartialEq, Eq)]
@@ -19,12 +17,30 @@ pub enum Refusal {
     FixConflict,
     /// 23: the account holds as many corrections as it can.
     FixesFull,
+    /// 30: the queue to the account's shard is full.
+    Busy,
+    /// 31: as many commands wait for their replies as may.
+    Window,
+    /// 34: nothing is closed in this session.
+    NotHere,
+    /// 42: a later quote was posted already.
+    StaleQuote,
+    /// 43: the ledger's store failed.
+    Store,
+    /// 44: the quotes of a close did not come.
+    DeskFault,
+    /// 45: the ledger holds what is no posting or no archive.
+    BadArchive,
+    /// 46: the archive has another tap or correction of that number.
+    ArchiveConflict,
+    /// 47: what is due differs from what was posted for the same quote.
+    QuoteDiffers,
     /// 50: the line spells no command.
     BadLine,
     /// 51: the line has more than [`MOST_LINE_BYTES`](crate::limits::MOST_LINE_BYTES) bytes.
     LongLine,
-    /// 60: the command is not served yet.
-    NotYet,
+    /// 52: the reply has not come in time; the command may have taken effect.
+    Late,
     /// 90: the memory for it was refused.
     Memory,
 }
@@ -41,9 +57,18 @@ impl Refusal {
             Refusal::AccountFull => 21,
             Refusal::FixConflict => 22,
             Refusal::FixesFull => 23,
+            Refusal::Busy => 30,
+            Refusal::Window => 31,
+            Refusal::NotHere => 34,
+            Refusal::StaleQuote => 42,
+            Refusal::Store => 43,
+            Refusal::DeskFault => 44,
+            Refusal::BadArchive => 45,
+            Refusal::ArchiveConflict => 46,
+            Refusal::QuoteDiffers => 47,
             Refusal::BadLine => 50,
             Refusal::LongLine => 51,
-            Refusal::NotYet => 60,
+            Refusal::Late => 52,
             Refusal::Memory => 90,
         }
     }
@@ -51,7 +76,7 @@ impl Refusal {
     /// The name that a reply gives.
     pub fn name(self) -> &'static str
         ensures value { result.now ≡ refusal_name self }
-        ensures short { length result.now ≤ 12 }
+        ensures short { length result.now ≤ 15 }
     {
         match self {
             Refusal::OutOfTime => "OutOfTime",
@@ -60,42 +85,19 @@ impl Refusal {
             Refusal::AccountFull => "AccountFull",
             Refusal::FixConflict => "FixConflict",
             Refusal::FixesFull => "FixesFull",
+            Refusal::Busy => "Busy",
+            Refusal::Window => "Window",
+            Refusal::NotHere => "NotHere",
+            Refusal::StaleQuote => "StaleQuote",
+            Refusal::Store => "Store",
+            Refusal::DeskFault => "DeskFault",
+            Refusal::BadArchive => "BadArchive",
+            Refusal::ArchiveConflict => "ArchiveConflict",
+            Refusal::QuoteDiffers => "QuoteDiffers",
             Refusal::BadLine => "BadLine",
             Refusal::LongLine => "LongLine",
-            Refusal::NotYet => "NotYet",
+            Refusal::Late => "Late",
             Refusal::Memory => "Memory",
-        }
-    }
-}
-
-impl From<TapFault> for Refusal {
-    ghost use Rattle.std.specs.Prelude.{◌≡◌};
-    ghost use Rattle.pay_wire.specs.Refusals.{refusal_of};
-
-    ghost from_gives = { λ fault refusal. refusal ≡ refusal_of fault };
-
-    fn from(fault: TapFault) -> Refusal {
-        match fault {
-            TapFault::UnknownPlace => Refusal::UnknownPlace,
-            TapFault::Conflict => Refusal::Conflict,
-            TapFault::AccountFull => Refusal::AccountFull,
-            TapFault::Memory => Refusal::Memory,
-        }
-    }
-}
-
-impl From<FixFault> for Refusal {
-    ghost use Rattle.std.specs.Prelude.{◌≡◌};
-    ghost use Rattle.pay_wire.specs.Refusals.{refusal_of_fix};
-
-    ghost from_gives = { λ fault refusal. refusal ≡ refusal_of_fix fault };
-
-    fn from(fault: FixFault) -> Refusal {
-        match fault {
-            FixFault::UnknownPlace => Refusal::UnknownPlace,
-            FixFault::FixConflict => Refusal::FixConflict,
-            FixFault::FixesFull => Refusal::FixesFull,
-            FixFault::Memory => Refusal::Memory,
         }
     }
 }

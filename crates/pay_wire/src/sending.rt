@@ -2,11 +2,11 @@
 ghost use Rattle.std.specs.Prelude.{◌≡◌, ◌≢◌, ◌<◌, ◌≤◌, false, length, take, OnOk, OnErr, IfOk, IfErr};
 ghost use Rattle.std.specs.Io.KnownBytes.{Appends, Keeps};
 ghost use Rattle.pay_wire.specs.Output.{AppendsFront, has_failed};
-ghost use Rattle.pay_wire.specs.Replies.{spelling_of_reply, text_of_journeys};
+ghost use Rattle.pay_wire.specs.Replies.{spelling_of_reply, ending_of_reply, text_of_postings, text_of_journeys};
 
 use crate::output::{Output, State, WriteFault};
-use crate::reply::{Reply, first_line, journey_line};
-use pay_account::Line;
+use crate::reply::{Reply, journey_line, main_line, posting_line};
+use pay_account::{Line, Posting};
 use std::io::{ErrorKind, Write};
 
 /// Writes some of the bytes, and says how many. An interrupted writer has taken none and is not at fault.
@@ -51,6 +51,25 @@ fn write_whole<W: Write>(output: &mut Output<'_, W>, bytes: &[u8]) -> Result<(),
     Err(WriteFault::NeverDone)
 }
 
+/// Writes the lines of postings. Where the writer fails, it has taken a front of them.
+fn write_postings<W: Write>(
+    output: &mut Output<'_, W>,
+    postings: &[Posting],
+) -> Result<(), WriteFault>
+    requires { has_failed output.old.state ≡ false }
+    ensures same_writer { output.new.writer.ghost_name ≡ output.old.writer.ghost_name }
+    ensures ok { OnOk result (Appends (W.contents output.old.writer.now) (W.contents output.new.writer.now) (text_of_postings postings.now)) }
+    ensures err { OnErr result (AppendsFront (W.contents output.old.writer.now) (W.contents output.new.writer.now) (text_of_postings postings.now)) }
+    ensures not_failed { OnOk result (has_failed output.new.state ≡ false) }
+    ensures fault { IfErr result (λ fault. fault ≢ WriteFault.NeverDone → output.new.state ≡ State.Failed fault) }
+    ensures not_interrupted { IfErr result (λ fault. fault ≢ WriteFault.Failed ErrorKind.Interrupted) }
+{
+    for posting in postings {
+        write_whole(output, posting_line(posting).as_slice())?;
+    }
+    Ok(())
+}
+
 /// Writes the lines of journeys. Where the writer fails, it has taken a front of them.
 fn write_journeys<W: Write>(output: &mut Output<'_, W>, journeys: &[Line]) -> Result<(), WriteFault>
     requires { has_failed output.old.state ≡ false }
@@ -67,6 +86,20 @@ fn write_journeys<W: Write>(output: &mut Output<'_, W>, journeys: &[Line]) -> Re
     Ok(())
 }
 
+/// Writes the lines of a reply behind its postings. Where the writer fails, it has taken a front of them.
+fn write_ending<W: Write>(output: &mut Output<'_, W>, reply: &Reply) -> Result<(), WriteFault>
+    requires { has_failed output.old.state ≡ false }
+    ensures same_writer { output.new.writer.ghost_name ≡ output.old.writer.ghost_name }
+    ensures ok { OnOk result (Appends (W.contents output.old.writer.now) (W.contents output.new.writer.now) (ending_of_reply reply.now)) }
+    ensures err { OnErr result (AppendsFront (W.contents output.old.writer.now) (W.contents output.new.writer.now) (ending_of_reply reply.now)) }
+    ensures not_failed { OnOk result (has_failed output.new.state ≡ false) }
+    ensures fault { IfErr result (λ fault. fault ≢ WriteFault.NeverDone → output.new.state ≡ State.Failed fault) }
+    ensures not_interrupted { IfErr result (λ fault. fault ≢ WriteFault.Failed ErrorKind.Interrupted) }
+{
+    write_whole(output, main_line(reply).as_slice())?;
+    write_journeys(output, reply.journeys())
+}
+
 /// Writes the lines of a reply. Where the writer fails, it has taken a front of them.
 fn write_reply<W: Write>(output: &mut Output<'_, W>, reply: &Reply) -> Result<(), WriteFault>
     requires { has_failed output.old.state ≡ false }
@@ -77,8 +110,8 @@ fn write_reply<W: Write>(output: &mut Output<'_, W>, reply: &Reply) -> Result<()
     ensures fault { IfErr result (λ fault. fault ≢ WriteFault.NeverDone → output.new.state ≡ State.Failed fault) }
     ensures not_interrupted { IfErr result (λ fault. fault ≢ WriteFault.Failed ErrorKind.Interrupted) }
 {
-    write_whole(output, first_line(reply).as_slice())?;
-    write_journeys(output, reply.journeys())
+    write_postings(output, reply.postings())?;
+    write_ending(output, reply)
 }
 
 /// Writes the lines of a reply and flushes the writer. Where that fails, it has taken a front of them.

@@ -1,7 +1,7 @@
 use Rattle.std.proofs.Common.{refl}
 use Rattle.std.proofs.lemmas.Result.{err_from_is_err_and}
 use Rattle.std.specs.Arc.{arc_value}
-use Rattle.pay_session.specs.Words.{new_machine}
+use Rattle.pay_run.specs.Words.{new_machine}
 use Rattle.pay_jobs.proofs.Runs.{RunFails_session}
 use Rattle.pay_jobs.proofs.run.run_texts.Goals as goal
 

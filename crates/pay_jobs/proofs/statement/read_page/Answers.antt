@@ -1,8 +1,8 @@
-use Rattle.std.proofs.Common.{◌∙◌, ap, refl}
+use Rattle.std.proofs.Common.{◌∙◌, ap, sym, refl, Ok}
 use Rattle.std.proofs.lemmas.Result.{err_from_is_err_and}
 use Rattle.std.specs.Arc.{arc_value}
 use Rattle.pay_statement.specs.Words.{statement_text}
-use Rattle.pay_session.specs.Words.{new_machine}
+use Rattle.pay_run.specs.Words.{new_machine}
 use Rattle.pay_jobs.proofs.Statements.{not_told, not_spelled}
 use Rattle.pay_jobs.proofs.statement.read_page.Goals as goal
 
@@ -16,21 +16,21 @@ pub returns-in_err-lines-clause-fails : goal.returns-in_err-lines-clause-fails
 returns-in_err-lines-clause-fails g c =
     let p = err_from_is_err_and c.from_residual-in_err-lines.result c.from_residual-in_err-lines.ensures.1 in
     rw p.1 (not_told _ _ _ _ _ _ p.2 record {
-      machine = new_machine c.in_ok-zone.zone (arc_value c.in_ok-tables.tables);
-      begins = record { says = c.in_ok-tables.ensures.ok; rule = c.in_ok-zone.ensures.ok; new = refl };
+      machine = new_machine c.in_ok-zone.zone (arc_value c.in_ok-shared.shared);
+      begins = record { says = c.in_ok-tables.ensures.ok ∙ ap Ok (sym c.in_ok-shared.ensures); rule = c.in_ok-zone.ensures.ok; new = refl };
       fails = c.in_err-lines.ensures.fails;
     })
 
 pub returns-in_err-page-clause-fails : goal.returns-in_err-page-clause-fails
 returns-in_err-page-clause-fails g c =
     let p = err_from_is_err_and c.from_residual-in_err-page.result c.from_residual-in_err-page.ensures.1 in
-    rw p.1 (not_spelled _ _ _ _ _ _ _ (new_machine c.in_ok-zone.zone (arc_value c.in_ok-tables.tables)) _ p.2 (record { says = c.in_ok-tables.ensures.ok; rule = c.in_ok-zone.ensures.ok; new = refl }) c.in_ok-lines.ensures.week)
+    rw p.1 (not_spelled _ _ _ _ _ _ _ (new_machine c.in_ok-zone.zone (arc_value c.in_ok-shared.shared)) _ p.2 (record { says = c.in_ok-tables.ensures.ok ∙ ap Ok (sym c.in_ok-shared.ensures); rule = c.in_ok-zone.ensures.ok; new = refl }) c.in_ok-lines.ensures.week)
 
 pub returns-clause-page : goal.returns-clause-page
 returns-clause-page g c = record {
-  machine = new_machine c.in_ok-zone.zone (arc_value c.in_ok-tables.tables);
-  begins = record { says = c.in_ok-tables.ensures.ok; rule = c.in_ok-zone.ensures.ok; new = refl };
+  machine = new_machine c.in_ok-zone.zone (arc_value c.in_ok-shared.shared);
+  begins = record { says = c.in_ok-tables.ensures.ok ∙ ap Ok (sym c.in_ok-shared.ensures); rule = c.in_ok-zone.ensures.ok; new = refl };
   lines = c.in_ok-lines.lines;
   tells = c.in_ok-lines.ensures.week;
-  says = c.in_ok-page.ensures ∙ ap (statement_text c.deref.result.now) c.as_slice.ensures ∙ ap (λ tables. statement_text tables c.in_ok-lines.lines) c.deref.ensures;
+  says = c.in_ok-page.ensures ∙ ap (statement_text c.deref.result.now) c.as_slice.ensures ∙ ap (λ tables. statement_text tables c.in_ok-lines.lines) (c.deref.ensures ∙ sym c.in_ok-shared.ensures);
 }

@@ -9,5 +9,5 @@ returns c =
     let j = c.args.journey.now in
     let begun = c.put.ensures.items ∙ two_are c.started-line.ensures c.kind_word.ensures.word in
     four_fields (codes "JNY " ++ word_of_kind j.kind) (decimal j.from) (decimal j.to) (decimal j.utc) (decimal j.fare) _ _ _ _ _
-    (c.put_field.ensures.items ∙ field_is begun c.from.ensures) (c.put_field-2.ensures.items ∙ number_is c.put_field.new.line.items c.from-2.ensures)
+    (c.put_field.ensures.items ∙ field_is j.from begun) c.put_field-2.ensures.items
     c.put_field-3.ensures.items (c.put_field-4.ensures.items ∙ number_is c.put_field-3.new.line.items c.pence.ensures) c.put-2.ensures.items

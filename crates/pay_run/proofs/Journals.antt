@@ -1,0 +1,26 @@
+-- A journal by its front and what is behind it.
+use Rattle.std.proofs.Common.{◌≡◌, ℕ, ◌+◌, List, [], ◌∷◌, ◌++◌, length, refl, ap, arith, Some}
+use Rattle.pay_tables.specs.Words.{FareTables}
+use Rattle.pay_shard.specs.Words.{State, item_step, replay, reply_at, AreInPlace}
+use Rattle.pay_shard.specs.declared.item.Item.{Item}
+
+-- what is behind a front is replayed from where the front ends
+pub replay_behind : (tables : FareTables) (base : State) (front back : List Item) → replay tables base (front ++ back) ≡ replay tables (replay tables base front) back
+replay_behind tables base [] back = refl
+replay_behind tables base (item ∷ front) back = replay_behind tables (item_step tables base item).after front back
+
+-- the reply behind a front
+pub reply_behind : (tables : FareTables) (base : State) (front : List Item) (item : Item) (back : List Item)
+    → reply_at tables base (front ++ item ∷ back) (length front) ≡ Some (item_step tables (replay tables base front) item).reply
+reply_behind tables base [] item back = refl
+reply_behind tables base (first ∷ front) item back = reply_behind tables (item_step tables base first).after front item back
+
+-- the ticket behind a front
+pub ticket_behind : (place : ℕ) (front : List Item) (item : Item) (back : List Item) → AreInPlace place (front ++ item ∷ back) → item.entry.ticket ≡ place + length front
+ticket_behind place [] item back are = omega (arith, are.0.1)
+ticket_behind place (first ∷ front) item back are = omega (arith, ticket_behind (place + 1) front item back are.1)
+
+-- one more of a front
+pub one_more : (front : List Item) (item : Item) (back : List Item) → front ++ item ∷ back ≡ (front ++ item ∷ []) ++ back
+one_more [] item back = refl
+one_more (first ∷ front) item back = ap (λ l. first ∷ l) (one_more front item back)

@@ -1,0 +1,5 @@
+pub mod Machine
+pub mod Outcomes
+pub mod Run
+pub mod Week
+pub mod Words

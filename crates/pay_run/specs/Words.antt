@@ -1,0 +1,4 @@
+-- Words for the crate above: the machine that answers, how a run of lines may end, and what is told of a week after one.
+pub use Rattle.pay_run.specs.Machine.{Machine, new_machine}
+pub use Rattle.pay_run.specs.Run.{Ends, FailsSo}
+pub use Rattle.pay_run.specs.Week.{TellsWeek, WeekFails}

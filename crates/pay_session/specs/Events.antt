@@ -1,0 +1,98 @@
+-- What came of a request: what was replied, and which commands a desk took for it.
+use Rattle.std.specs.Prelude.{◌≡◌, ℕ, Bool, true, false, List, map, Option, Some, IfSome, Result, Ok, Err}
+use Rattle.std.specs.List.{AllByRecursion, flat_map, list_any}
+use Rattle.pay_account.specs.declared.posting.Posting.{Posting}
+use Rattle.pay_shard.specs.declared.asked.Asked.{Asked}
+use Rattle.pay_shard.specs.declared.desk.DeskFault.{DeskFault}
+use Rattle.pay_shard.specs.declared.desk.DeskFault.TheVariants as desk_fault
+use Rattle.pay_shard.specs.declared.refusal.Refusal.{Refusal as ShardRefusal}
+use Rattle.pay_shard.specs.declared.refusal.Refusal.TheVariants as shard_refusal
+use Rattle.pay_shard.specs.declared.reply.Reply.{Reply as DeskReply}
+use Rattle.pay_shard.specs.declared.reply.Reply.TheVariants as desk_reply
+use Rattle.pay_wire.specs.declared.refusal.Refusal.{Refusal}
+use Rattle.pay_wire.specs.declared.refusal.Refusal.TheVariants as refusal
+use Rattle.pay_wire.specs.declared.reply.Reply.{Reply}
+use Rattle.pay_wire.specs.declared.reply.Reply.TheVariants as replies
+use Rattle.pay_wire.specs.Words.{spelling_of_reply}
+use Rattle.pay_session.specs.declared.till.CloseFault.{CloseFault}
+use Rattle.pay_session.specs.declared.till.CloseFault.TheVariants as close_fault
+
+-- a command that a desk took, and its reply, where it came
+pub record Taken : Type 0 where
+  pub ticket : ℕ
+  pub asked : Asked
+  pub reply : Option DeskReply
+
+-- what was replied to a request, and the commands that a desk took for it
+pub record Event : Type 0 where
+  pub reply : Reply
+  pub put : List Taken
+
+-- ---- replies as lines say them
+
+-- a shard's refusal
+abbrev pub refusal_of : ShardRefusal → Refusal
+refusal_of shard_refusal.UnknownPlace = refusal.UnknownPlace
+refusal_of shard_refusal.Conflict = refusal.Conflict
+refusal_of shard_refusal.AccountFull = refusal.AccountFull
+refusal_of shard_refusal.FixConflict = refusal.FixConflict
+refusal_of shard_refusal.FixesFull = refusal.FixesFull
+
+-- a desk's fault
+abbrev pub refusal_of_desk : DeskFault → Refusal
+refusal_of_desk desk_fault.Busy = refusal.Busy
+refusal_of_desk desk_fault.Window = refusal.Window
+refusal_of_desk desk_fault.Late = refusal.Late
+refusal_of_desk desk_fault.Memory = refusal.Memory
+
+-- why a day was not closed
+abbrev pub refusal_of_close : CloseFault → Refusal
+refusal_of_close close_fault.NotHere = refusal.NotHere
+refusal_of_close close_fault.StaleQuote = refusal.StaleQuote
+refusal_of_close close_fault.Store = refusal.Store
+refusal_of_close close_fault.DeskFault = refusal.DeskFault
+refusal_of_close close_fault.BadArchive = refusal.BadArchive
+refusal_of_close close_fault.ArchiveConflict = refusal.ArchiveConflict
+refusal_of_close close_fault.QuoteDiffers = refusal.QuoteDiffers
+refusal_of_close close_fault.Memory = refusal.Memory
+
+-- A desk's reply. Quotes are the reply to no line: a desk that gives them has failed.
+abbrev pub said : DeskReply → Reply
+said (desk_reply.Priced priced) = replies.Priced priced
+said (desk_reply.No why) = replies.No (refusal_of why)
+said (desk_reply.Due quote) = replies.Due quote
+said (desk_reply.Shown shown) = replies.Shown shown
+said (desk_reply.Quotes batch) = replies.No refusal.DeskFault
+said desk_reply.Memory = replies.No refusal.Memory
+
+-- what a close of a day came to
+abbrev pub said_of_close : ℕ → Result (List Posting) CloseFault → Reply
+said_of_close day (Ok postings) = replies.Closed (record { day = day; postings = postings })
+said_of_close day (Err why) = replies.No (refusal_of_close why)
+
+-- ---- lists of events
+
+-- what is written for events
+abbrev pub text_of : List Event → List ℕ
+text_of = flat_map (λ (e : Event). spelling_of_reply e.reply)
+
+-- what was taken for events, in order
+abbrev pub all_put : List Event → List Taken
+all_put = flat_map (λ (e : Event). e.put)
+
+-- the commands, each with its ticket
+abbrev pub commands_of : List Taken → List (ℕ × Asked)
+commands_of = map (λ (t : Taken). (t.ticket, t.asked))
+
+-- each reply that came is the transcript's at its ticket
+abbrev pub AreSaid : (ℕ → Option DeskReply) → List Taken → Type 0
+AreSaid reply_to = AllByRecursion (λ (t : Taken). IfSome t.reply (λ reply. reply_to t.ticket ≡ Some reply))
+
+-- whether memory was wanting for a request
+abbrev pub lacks_memory : Reply → Bool
+lacks_memory (replies.No refusal.Memory) = true
+lacks_memory _ = false
+
+-- or for any of these
+abbrev pub any_lacks_memory : List Event → Bool
+any_lacks_memory = list_any (λ (e : Event). lacks_memory e.reply)

@@ -1,0 +1,78 @@
+-- How requests are answered over a desk and a till.
+use Rattle.std.specs.Prelude.{◌≡◌, ◌⊎◌, ℕ, ◌≤◌, suc, List, [], ◌∷◌, ◌++◌, Option, Some, None, Result, ⊤}
+use Rattle.jiff.specs.declared.tz.timezone.TimeZone.{TimeZone}
+use Rattle.pay_account.specs.declared.posting.Posting.{Posting}
+use Rattle.pay_shard.specs.declared.asked.Asked.{Asked}
+use Rattle.pay_shard.specs.declared.asked.Asked.TheVariants as asked
+use Rattle.pay_shard.specs.declared.desk.DeskFault.{DeskFault}
+use Rattle.pay_shard.specs.declared.reply.Reply.{Reply as DeskReply}
+use Rattle.pay_wire.specs.declared.refusal.Refusal.TheVariants as refusal
+use Rattle.pay_wire.specs.declared.reply.Reply.{Reply}
+use Rattle.pay_wire.specs.declared.reply.Reply.TheVariants as replies
+use Rattle.pay_session.specs.declared.asks.Asks.{Asks}
+use Rattle.pay_session.specs.declared.asks.Asks.TheVariants as asks
+use Rattle.pay_session.specs.declared.request.Request.{Request}
+use Rattle.pay_session.specs.declared.till.CloseFault.{CloseFault}
+use Rattle.pay_session.specs.Asks.{asks_of}
+use Rattle.pay_session.specs.Events.{Taken, Event, said, refusal_of_desk, said_of_close, commands_of, AreSaid}
+
+-- a close puts Quotes of its day, at most one to each shard, in ascending order of shard from one on
+abbrev pub AreQuotes : ℕ → ℕ → ℕ → List Taken → Type 0
+AreQuotes day of from [] = ⊤
+AreQuotes day of from (t ∷ ts) = (shard : ℕ) × (from ≤ shard) × (t.asked ≡ asked.Quotes day shard of) × AreQuotes day of (suc shard) ts
+
+-- What a close did over a desk: what was put for it was taken, the replies are the transcript's, and this is what the till
+-- says of a close with these.
+pub record IsClosed (Closes : List Taken → Type 0) (day of : ℕ) (before after : List (ℕ × Asked)) (reply_to : ℕ → Option DeskReply) : Type 0 where
+  pub put : List Taken
+  pub quotes : AreQuotes day of 0 put
+  pub added : after ≡ before ++ commands_of put
+  pub said : AreSaid reply_to put
+  pub closes : Closes put
+
+-- With `Refuses` for how a desk may refuse a command, and `Late` for whether a reply of it may be late.
+module _ (Refuses : DeskFault → Type 0) (Late : Type 0) where
+  -- the reply that came, or that it did not come in time
+  abbrev pub IsReplied : Option DeskReply → Reply → Type 0
+  IsReplied (Some reply) line = line ≡ said reply
+  IsReplied None line = (line ≡ replies.No refusal.Late) × Late
+
+  -- the desk took the command, once
+  pub record IsTaken (a : Asked) (event : Event) : Type 0 where
+    pub taken : Taken
+    pub once : event.put ≡ taken ∷ []
+    pub same : taken.asked ≡ a
+    pub replied : IsReplied taken.reply event.reply
+
+  -- or refused it
+  pub record IsRefused (event : Event) : Type 0 where
+    pub fault : DeskFault
+    pub refuses : Refuses fault
+    pub told : event ≡ record { reply = replies.No (refusal_of_desk fault); put = [] }
+
+-- With `Closes` for what the till says of a close: the till before, the day, how many shards answer, what was put, the answer,
+-- the till after.
+module _ {T : Type 0} (zone : TimeZone) (of : ℕ) (Refuses : DeskFault → Type 0) (Late : Type 0) (Closes : T → ℕ → ℕ → List Taken → Result (List Posting) CloseFault → T → Type 0) where
+  -- a close, by the till
+  pub record IsTillClosed (day : ℕ) (event : Event) (before after : T) : Type 0 where
+    pub result : Result (List Posting) CloseFault
+    pub quotes : AreQuotes day of 0 event.put
+    pub closes : Closes before day of event.put result after
+    pub told : event.reply ≡ said_of_close day result
+
+  -- by what a request comes to; the till changes at a close alone
+  abbrev pub IsServedAs : Asks → Event → T → T → Type 0
+  IsServedAs (asks.Put a) event before after = (IsTaken Refuses Late a event ⊎ IsRefused Refuses Late event) × (after ≡ before)
+  IsServedAs (asks.Close day) event before after = IsTillClosed day event before after
+  IsServedAs asks.Quit event before after = (event ≡ record { reply = replies.Bye; put = [] }) × (after ≡ before)
+  IsServedAs (asks.No why) event before after = (event ≡ record { reply = replies.No why; put = [] }) × (after ≡ before)
+
+  -- what a request may come to, with the till before it and after it
+  abbrev pub IsServed : Request → Event → T → T → Type 0
+  IsServed request event before after = IsServedAs (asks_of zone request) event before after
+
+  -- each of a list of requests, in order
+  abbrev pub AreServed : T → List Request → List Event → T → Type 0
+  AreServed before [] [] after = after ≡ before
+  AreServed before (r ∷ rs) (e ∷ es) after = (between : T) × IsServed r e before between × AreServed between rs es after
+  AreServed before _ _ after = ⊥

@@ -1,0 +1,245 @@
+//! How far a session of lines is, and its steps from there.
+ghost use Rattle.std.specs.Prelude.{◌≡◌, ◌≢◌, ◌+◌, ◌<◌, ◌≤◌, ◌^◌, ◌++◌, ◌∷◌, [], List, ℕ, length, false, true, IfOk, IfErr, OnOk, OnErr, IfNone, IfSome};
+ghost use Rattle.pay_session.specs.Events.{lacks_memory};
+ghost use Rattle.pay_session.specs.Requests.{has_newline, IsAsked};
+ghost use Rattle.pay_session.specs.SessionSteps.{at, facing, Advances, Breaks, Replies, Falters, EndsLine, TakesToQuit, Brings, Loses, EndsRest, FaltersAtRest, Ran, RunsToEnd, RunsSo};
+ghost use Rattle.pay_session.specs.Stops.{IsFailure, IsWriteFailure, fault_of};
+
+use crate::begun_line::BegunLine;
+use crate::cut::cut;
+use crate::limits::MOST_FILLS;
+use crate::request::{Request, request_of_rest};
+use crate::service::Answers;
+use crate::sessions::Done;
+use crate::stop::{Stop, unless_interrupted};
+use pay_wire::{Refusal, Reply, send};
+use std::io::{BufRead, Write};
+
+/// How far a session is.
+#[derive(Drop)]
+pub(crate) struct Progress {
+    line: BegunLine,
+    answered: u128,
+    // Whether memory was wanting for a request.
+    lacked_memory: bool,
+}
+
+/// What one fill of a reader's buffer brought.
+#[derive(Clone, Copy, Debug, PartialEq, Eq)]
+enum Fill {
+    /// Bytes, all of which were taken.
+    More,
+    /// The end of the input.
+    End,
+    /// A line that asked to quit.
+    Quit,
+}
+
+impl Progress {
+    /// Before the first line.
+    pub fn new() -> Progress
+        ensures line { result.line ≡ [] }
+        ensures answered { result.answered ≡ 0 }
+        ensures lacked { result.lacked_memory ≡ false }
+    {
+        Progress {
+            line: BegunLine::new(),
+            answered: 0,
+            lacked_memory: false,
+        }
+    }
+
+    /// How many replies were written and flushed.
+    pub fn answered(&self) -> u128
+        ensures { result ≡ self.now.answered }
+    {
+        self.answered
+    }
+
+    /// The end of the session, by a `QUIT` or without one.
+    pub fn done(&self, quit: bool) -> Done
+        ensures { result ≡ record { answered = self.now.answered; quit = quit; lacked_memory = self.now.lacked_memory } }
+    {
+        Done {
+            answered: self.answered,
+            quit,
+            lacked_memory: self.lacked_memory,
+        }
+    }
+
+    /// Answers the lines of a reader up to a `QUIT` or to the end of the input, and says whether it was a `QUIT`.
+    pub fn serve<A: Answers, R: BufRead, W: Write>(
+        &mut self,
+        answers: &mut A,
+        reader: &mut R,
+        writer: &mut W,
+    ) -> Result<bool, Stop>
+        requires line { self.old.line ≡ [] }
+        requires answered { self.old.answered ≡ 0 }
+        requires lacked { self.old.lacked_memory ≡ false }
+        ensures ends { IfOk result (λ quit. IfSome (R.remaining reader.old) (λ input.
+            RunsToEnd A.Serves answers.old input (R.remaining reader.new) (W.contents writer.old) (W.contents writer.new) self.new.answered quit self.new.lacked_memory answers.new)) }
+        ensures fails { IfErr result (λ stop. IfSome (R.remaining reader.old) (λ input.
+            RunsSo A.Serves (fault_of stop self.new.answered) answers.old input (R.remaining reader.new) (W.contents writer.old) (W.contents writer.new) answers.new)) }
+        ensures ran { Ran A.Serves answers.old answers.new }
+        ensures cause { IfErr result (λ stop. stop ≢ Stop.NoMoreFills → IsFailure stop) }
+    {
+        for _ in 0..MOST_FILLS {
+            match self.turn(answers, reader, writer)? {
+                Fill::More => {}
+                Fill::End => {
+                    self.end(answers, writer)?;
+                    return Ok(false);
+                }
+                Fill::Quit => return Ok(true),
+            }
+        }
+        Err(Stop::NoMoreFills)
+    }
+
+    /// Takes what one fill of the reader's buffer shows.
+    fn turn<A: Answers, R: BufRead, W: Write>(
+        &mut self,
+        answers: &mut A,
+        reader: &mut R,
+        writer: &mut W,
+    ) -> Result<Fill, Stop>
+        requires begun { has_newline self.old.line ≡ false }
+        requires count { self.old.answered + 2 ^ 64 < 2 ^ 128 }
+        ensures line { OnOk result (has_newline self.new.line ≡ false) }
+        ensures counted { OnOk result (self.new.answered ≤ self.old.answered + 2 ^ 64) }
+        ensures brings { IfOk result (λ fill. IfSome (R.remaining reader.old) (λ input.
+            Brings A.Serves fill (at self.old answers.old (W.contents writer.old)) input (R.remaining reader.new) (at self.new answers.new (W.contents writer.new)))) }
+        ensures loses { IfErr result (λ stop. IfSome (R.remaining reader.old) (λ input.
+            Loses A.Serves stop (at self.old answers.old (W.contents writer.old)) input (R.remaining reader.new) (at self.new answers.new (W.contents writer.new)))) }
+        ensures ran { Ran A.Serves answers.old answers.new }
+        ensures cause { IfErr result IsFailure }
+    {
+        let shown = match reader.fill_buf() {
+            Ok(shown) => shown,
+            Err(error) => {
+                unless_interrupted(&error)?;
+                return Ok(Fill::More);
+            }
+        };
+        if shown.is_empty() {
+            return Ok(Fill::End);
+        }
+        let len = shown.len();
+        match self.take(answers, shown, writer)? {
+            None => {
+                reader.consume(len);
+                Ok(Fill::More)
+            }
+            Some(left) => {
+                reader.consume(len - left);
+                Ok(Fill::Quit)
+            }
+        }
+    }
+
+    /// Takes the bytes, and answers each line that ends in them. Where one asks to quit, the answer
+    /// is how many bytes are left behind it.
+    fn take<A: Answers, W: Write>(
+        &mut self,
+        answers: &mut A,
+        bytes: &[u8],
+        writer: &mut W,
+    ) -> Result<Option<usize>, Stop>
+        requires begun { has_newline self.old.line ≡ false }
+        requires count { self.old.answered + length bytes.now < 2 ^ 128 }
+        ensures line { OnOk result (has_newline self.new.line ≡ false) }
+        ensures all { IfOk result (λ left. IfNone left (Advances A.Serves (facing (at self.old answers.old (W.contents writer.old)) bytes.now)
+            (at self.new answers.new (W.contents writer.new)))) }
+        ensures quit { IfOk result (λ left. IfSome left (λ n. TakesToQuit A.Serves (at self.old answers.old (W.contents writer.old)) bytes.now n
+            (at self.new answers.new (W.contents writer.new)))) }
+        ensures within { IfOk result (λ left. IfSome left (λ n. n ≤ length bytes.now)) }
+        ensures counted { OnOk result (self.new.answered ≤ self.old.answered + length bytes.now) }
+        ensures breaks { OnErr result (Breaks A.Serves (facing (at self.old answers.old (W.contents writer.old)) bytes.now)
+            (at self.new answers.new (W.contents writer.new))) }
+        ensures ran { Ran A.Serves answers.old answers.new }
+        ensures cause { IfErr result IsWriteFailure }
+    {
+        let mut ahead = bytes;
+        while let Some((text, rest)) = cut(ahead) {
+            if self.end_line(answers, text, writer)? {
+                return Ok(Some(rest.len()));
+            }
+            ahead = rest;
+        }
+        self.line.extend(ahead);
+        Ok(None)
+    }
+
+    /// Answers the line that ends with this text, and says whether it asked to quit.
+    fn end_line<A: Answers, W: Write>(
+        &mut self,
+        answers: &mut A,
+        text: &[u8],
+        writer: &mut W,
+    ) -> Result<bool, Stop>
+        requires begun { has_newline self.old.line ≡ false }
+        requires text { has_newline text.now ≡ false }
+        requires count { self.old.answered + 1 < 2 ^ 128 }
+        ensures line { OnOk result (self.new.line ≡ []) }
+        ensures ends { IfOk result (λ quit. EndsLine A.Serves (at self.old answers.old (W.contents writer.old)) text.now (at self.new answers.new (W.contents writer.new)) quit) }
+        ensures counted { OnOk result (self.new.answered ≡ self.old.answered + 1) }
+        ensures breaks { OnErr result ((rest : List ℕ) → Breaks A.Serves (facing (at self.old answers.old (W.contents writer.old)) (text.now ++ 10 ∷ rest))
+            (at self.new answers.new (W.contents writer.new))) }
+        ensures ran { Ran A.Serves answers.old answers.new }
+        ensures cause { IfErr result IsWriteFailure }
+    {
+        let request = self.line.finish(text);
+        self.answer(answers, request, writer)?;
+        Ok(request.is_quit())
+    }
+
+    /// Answers what no newline ended.
+    fn end<A: Answers, W: Write>(&mut self, answers: &mut A, writer: &mut W) -> Result<(), Stop>
+        requires count { self.old.answered + 1 < 2 ^ 128 }
+        ensures ends { OnOk result (EndsRest A.Serves (at self.old answers.old (W.contents writer.old)) (at self.new answers.new (W.contents writer.new))) }
+        ensures falters { OnErr result (FaltersAtRest A.Serves (at self.old answers.old (W.contents writer.old)) (at self.new answers.new (W.contents writer.new))) }
+        ensures ran { Ran A.Serves answers.old answers.new }
+        ensures cause { IfErr result IsWriteFailure }
+    {
+        let rest = self.line.as_slice();
+        if rest.is_empty() {
+            return Ok(());
+        }
+        let request = request_of_rest(rest);
+        self.answer(answers, request, writer)
+    }
+
+    /// Answers one request.
+    fn answer<A: Answers, W: Write>(
+        &mut self,
+        answers: &mut A,
+        request: Request,
+        writer: &mut W,
+    ) -> Result<(), Stop>
+        requires asked { IsAsked request }
+        requires count { self.old.answered + 1 < 2 ^ 128 }
+        ensures line { self.new.line ≡ self.old.line }
+        ensures replies { OnOk result (Replies A.Serves request (at self.old answers.old (W.contents writer.old)) (at self.new answers.new (W.contents writer.new))) }
+        ensures falters { OnErr result (Falters A.Serves request (at self.old answers.old (W.contents writer.old)) (at self.new answers.new (W.contents writer.new))) }
+        ensures ran { Ran A.Serves answers.old answers.new }
+        ensures cause { IfErr result IsWriteFailure }
+    {
+        let reply = answers.answer(request);
+        match send(writer, &reply) {
+            Ok(()) => {
+                self.answered += 1;
+                self.lacked_memory |= lacks_memory(&reply);
+                Ok(())
+            }
+            Err(failure) => Err(Stop::Write(failure)),
+        }
+    }
+}
+
+/// Whether a request was refused for want of memory.
+fn lacks_memory(reply: &Reply) -> bool
+    ensures { result ≡ lacks_memory reply.now }
+{
+    matches!(reply, Reply::No(Refusal::Memory))
+}

@@ -1,0 +1,155 @@
+//! What answers the requests of a session: a zone, a desk and a till.
+ghost use Rattle.std.specs.Prelude.{◌≡◌, ◌≤◌};
+ghost use Rattle.pay_day.specs.declared.limits.TheConstants.{FIRST_DAY, LAST_DAY};
+ghost use Rattle.pay_shard.specs.declared.asked.Asked.{Asked};
+ghost use Rattle.pay_shard.specs.Words.{AreKept};
+ghost use Rattle.pay_session.specs.Asks.{IsOfAccount};
+ghost use Rattle.pay_session.specs.Events.{Event, refusal_of, refusal_of_desk, refusal_of_close, said, said_of_close};
+ghost use Rattle.pay_session.specs.Requests.{IsAsked};
+ghost use Rattle.pay_session.specs.Serving.{IsPut, IsCloseSaid, IsStep, MaySometimeRefuse, MaySometimeBeLate};
+ghost use Rattle.pay_session.specs.SessionSteps.{IsAnswered};
+ghost use Rattle.pay_session.specs.declared.request.Request.{Request};
+
+use crate::asks::{Asks, asks_of};
+use crate::request::Request;
+use crate::till::{CloseFault, Till};
+use jiff::tz::TimeZone;
+use pay_account::Postings;
+use pay_shard::{Command, Desk, DeskFault};
+use pay_wire::{Closed, Refusal, Reply};
+
+/// Answers requests, one after another.
+pub(crate) trait Answers: Drop {
+    /// What may come of a request: what answers before it, the event, and what answers after it.
+    ghost Serves: { Self → Request → Event → Self → Type 0 };
+
+    /// Answers a request.
+    fn answer(&mut self, request: Request) -> Reply
+        requires { IsAsked request }
+        ensures { IsAnswered Serves request self.old self.new result };
+}
+
+/// A zone, a desk and a till.
+#[derive(Drop)]
+pub(crate) struct Service<'a, D, T> {
+    zone: &'a TimeZone<'a>,
+    desk: &'a mut D,
+    till: &'a mut T,
+}
+
+impl<'a, D: Desk, T: Till> Service<'a, D, T> {
+    /// The three together.
+    pub fn new(zone: &'a TimeZone<'a>, desk: &'a mut D, till: &'a mut T) -> Service<'a, D, T>
+        ensures zone { result.zone.now ≡ zone.now }
+        ensures same_desk { result.desk.ghost_name ≡ desk.entry.ghost_name }
+        ensures desk { result.desk.now ≡ desk.old }
+        ensures same_till { result.till.ghost_name ≡ till.entry.ghost_name }
+        ensures till { result.till.now ≡ till.old }
+    {
+        Service { zone, desk, till }
+    }
+}
+
+impl<'a, D: Desk, T: Till> Answers for Service<'a, D, T> {
+    ghost use Rattle.pay_session.specs.Serving.{IsStep};
+
+    ghost Serves = { λ before request event after.
+        IsStep D.shards_of D.taken D.reply_to D.origin D.MayRefuse D.MayBeLate T.Closes before.zone.now request event before.desk.now before.till.now after.desk.now after.till.now
+        × (after.desk.ghost_name ≡ before.desk.ghost_name) × (after.till.ghost_name ≡ before.till.ghost_name) × (after.zone ≡ before.zone) };
+
+    fn answer(&mut self, request: Request) -> Reply {
+        match asks_of(self.zone, request) {
+            Asks::Put(command) => put(self.desk, command),
+            Asks::Close(day) => close(self.till, self.desk, day),
+            Asks::Quit => Reply::Bye,
+            Asks::No(why) => Reply::No(why),
+        }
+    }
+}
+
+/// Hands a command to a desk and says its reply.
+fn put<D: Desk>(desk: &mut D, command: Command) -> Reply
+    requires { IsOfAccount command }
+    ensures put { IsPut (MaySometimeRefuse D.MayRefuse) (MaySometimeBeLate D.MayBeLate) command (D.taken desk.old) (D.taken desk.new) (D.reply_to desk.new) result }
+    ensures transcript { AreKept (D.reply_to desk.old) (D.reply_to desk.new) }
+    ensures same_shards { D.shards_of desk.new ≡ D.shards_of desk.old }
+    ensures same_origin { D.origin desk.new ≡ D.origin desk.old }
+{
+    let ticket = match desk.put(command) {
+        Ok(ticket) => ticket,
+        Err(fault) => return Reply::No(refusal_of_desk(fault)),
+    };
+    match desk.get(ticket) {
+        Ok(reply) => said(reply),
+        Err(fault) => Reply::No(refusal_of_desk(fault)),
+    }
+}
+
+/// Has a till close a day over a desk, and says what came of it.
+fn close<D: Desk, T: Till>(till: &mut T, desk: &mut D, day: u32) -> Reply
+    requires { (FIRST_DAY ≤ day) × (day ≤ LAST_DAY) }
+    ensures closed { IsCloseSaid (λ put answer. T.Closes till.old day (D.shards_of desk.old) put answer till.new) day (D.shards_of desk.old) (D.taken desk.old) (D.taken desk.new) (D.reply_to desk.new) result }
+    ensures transcript { AreKept (D.reply_to desk.old) (D.reply_to desk.new) }
+    ensures same_shards { D.shards_of desk.new ≡ D.shards_of desk.old }
+    ensures same_origin { D.origin desk.new ≡ D.origin desk.old }
+{
+    match till.close(desk, day) {
+        Ok(postings) => Reply::Closed(Closed { day, postings }),
+        Err(fault) => Reply::No(refusal_of_close(fault)),
+    }
+}
+
+/// A desk's reply, as a line says it.
+fn said(reply: pay_shard::Reply) -> Reply
+    ensures { result ≡ said reply }
+{
+    match reply {
+        pay_shard::Reply::Priced(priced) => Reply::Priced(priced),
+        pay_shard::Reply::No(why) => Reply::No(refusal_of(why)),
+        pay_shard::Reply::Due(quote) => Reply::Due(quote),
+        pay_shard::Reply::Shown(shown) => Reply::Shown(shown),
+        pay_shard::Reply::Quotes(_) => Reply::No(Refusal::DeskFault),
+        pay_shard::Reply::Memory => Reply::No(Refusal::Memory),
+    }
+}
+
+/// A shard's refusal, as a line says it.
+fn refusal_of(why: pay_shard::Refusal) -> Refusal
+    ensures { result ≡ refusal_of why }
+{
+    match why {
+        pay_shard::Refusal::UnknownPlace => Refusal::UnknownPlace,
+        pay_shard::Refusal::Conflict => Refusal::Conflict,
+        pay_shard::Refusal::AccountFull => Refusal::AccountFull,
+        pay_shard::Refusal::FixConflict => Refusal::FixConflict,
+        pay_shard::Refusal::FixesFull => Refusal::FixesFull,
+    }
+}
+
+/// A desk's fault, as a line says it.
+fn refusal_of_desk(fault: DeskFault) -> Refusal
+    ensures { result ≡ refusal_of_desk fault }
+{
+    match fault {
+        DeskFault::Busy => Refusal::Busy,
+        DeskFault::Window => Refusal::Window,
+        DeskFault::Late => Refusal::Late,
+        DeskFault::Memory => Refusal::Memory,
+    }
+}
+
+/// Why a day is not closed, as a line says it.
+fn refusal_of_close(fault: CloseFault) -> Refusal
+    ensures { result ≡ refusal_of_close fault }
+{
+    match fault {
+        CloseFault::NotHere => Refusal::NotHere,
+        CloseFault::StaleQuote => Refusal::StaleQuote,
+        CloseFault::Store => Refusal::Store,
+        CloseFault::DeskFault => Refusal::DeskFault,
+        CloseFault::BadArchive => Refusal::BadArchive,
+        CloseFault::ArchiveConflict => Refusal::ArchiveConflict,
+        CloseFault::QuoteDiffers => Refusal::QuoteDiffers,
+        CloseFault::Memory => Refusal::Memory,
+    }
+}

@@ -1,0 +1,322 @@
+//! Sessions over a desk that refuses, is late and wants memory, and over a till that posts and refuses.
+
+ghost use Rattle.std.specs.Prelude.{◌≤◌};
+
+use crate::accounts::expect_price;
+use crate::given::{MONDAY, expect_same, sample, tap_at};
+use crate::streams::{Scripted, Trickle};
+use jiff::tz::TimeZone;
+use pay_account::{Account, Fares, Posting, Postings};
+use pay_money::limits::OPERATORS;
+use pay_session::{CloseFault, Done, SessionFault, Till, session};
+use pay_shard::{Command, Desk, DeskFault, LocalDesk, Reply, Ticket};
+use pay_tables::Tables;
+use pay_taps::Kind;
+use std::process::Abort;
+use std::sync::Arc;
+
+/// Refuses its first, second and fourth command, is late with its reply to the third, and replies to the others that memory
+/// is wanting. It counts the commands.
+#[derive(Drop)]
+struct Unwilling {
+    local: LocalDesk<Account>,
+    asked: u8,
+}
+
+impl Desk for Unwilling {
+    ghost use Rattle.std.specs.Prelude.{Some, ⊤};
+    ghost use Rattle.pay_shard.specs.Words.{commands_of};
+    ghost use Rattle.pay_shard.specs.declared.reply.Reply.TheVariants.{Memory};
+
+    ghost Origin = { ⊤ };
+
+    ghost origin = { λ d. tt };
+
+    ghost shards_of = { λ d. 1 };
+
+    ghost taken = { λ d. commands_of d.local.shard.journal };
+
+    ghost reply_to = { λ d ticket. Some Memory };
+
+    ghost waiting = { λ d. d.local.waiting };
+
+    ghost MayRefuse = { λ d fault. ⊤ };
+
+    ghost MayBeLate = { λ d. ⊤ };
+
+    fn shards(&self) -> u8 {
+        1
+    }
+
+    fn put(&mut self, command: Command) -> Result<Ticket, DeskFault> {
+        self.asked = self.asked.saturating_add(1);
+        match self.asked {
+            1 => Err(DeskFault::Busy),
+            2 => Err(DeskFault::Window),
+            4 => Err(DeskFault::Memory),
+            _ => self.local.put(command),
+        }
+    }
+
+    fn get(&mut self, ticket: Ticket) -> Result<Reply, DeskFault> {
+        self.local.get(ticket)?;
+        if self.asked == 3 {
+            Err(DeskFault::Late)
+        } else {
+            Ok(Reply::Memory)
+        }
+    }
+}
+
+/// Posts what it holds at its first close, and refuses the others by these faults in turn. It asks its desk for nothing, and
+/// counts the closes.
+#[derive(Drop)]
+struct Prepared<'a> {
+    postings: Option<Postings>,
+    faults: &'a [CloseFault],
+    closes: usize,
+}
+
+impl Prepared<'_> {
+    fn next_fault(&mut self) -> CloseFault {
+        match self.faults {
+            [] => CloseFault::NotHere,
+            [fault, faults @ ..] => {
+                self.faults = faults;
+                *fault
+            }
+        }
+    }
+}
+
+impl Till for Prepared<'_> {
+    ghost use Rattle.std.specs.Prelude.{◌≡◌, []};
+
+    ghost Closes = { λ before day of put result after. put ≡ [] };
+
+    fn close<D: Desk>(&mut self, _: &mut D, _: u32) -> Result<Postings, CloseFault> {
+        self.closes = self.closes.saturating_add(1);
+        match self.postings.take() {
+            Some(postings) => Ok(postings),
+            None => Err(self.next_fault()),
+        }
+    }
+}
+
+/// The faults at the closes behind the first, which posts.
+static FAULTS: [CloseFault; 8] = [
+    CloseFault::NotHere,
+    CloseFault::StaleQuote,
+    CloseFault::Store,
+    CloseFault::DeskFault,
+    CloseFault::BadArchive,
+    CloseFault::ArchiveConflict,
+    CloseFault::QuoteDiffers,
+    CloseFault::Memory,
+];
+
+/// A command for each of the desk's replies, a close for each of the till's, and the end.
+const LINES: &str =
+    "DUE 7 19730\nDUE 7 19730\nTAP 1 1 7 1704697200 50 BUS\nSHOW 7 19730\nSHOW 7 19730\nCLOSE 19730\nCLOSE 19730\nCLOSE 19730\nCLOSE 19730\nCLOSE 19730\nCLOSE 19730\nCLOSE 19730\nCLOSE 19730\nCLOSE 19730\nQUIT\n";
+
+/// The replies.
+const REPLIES: &str =
+    "NO 30 Busy\nNO 31 Window\nNO 52 Late\nNO 90 Memory\nNO 90 Memory\nPAY 7 19730 19730 1 175 175 4=175\nPAY 8 19730 19730 1 175 -25 1=-20 4=-5\nDONE 19730 2\nNO 34 NotHere\nNO 42 StaleQuote\nNO 43 Store\nNO 44 DeskFault\nNO 45 BadArchive\nNO 46 ArchiveConflict\nNO 47 QuoteDiffers\nNO 90 Memory\nBYE\n";
+
+/// What is posted for a boarding of an account.
+fn posting<R: Abort + AllocGlobal>(
+    rt: &R,
+    tables: &Tables,
+    number: u32,
+    amount: i64,
+    share_amounts: [i64; OPERATORS],
+) -> Posting
+    requires { 1 ≤ number }
+{
+    let mut account: Account = Fares::new(rt.alloc(), number);
+    let tap = tap_at(rt, 1, 25_200, 50, Kind::Bus);
+    expect_price(rt, &mut account, tables, tap, 175);
+    let quote = account.quote(tables, MONDAY).expect(rt, "memory");
+    Posting {
+        quote,
+        amount,
+        share_amounts,
+    }
+}
+
+/// A till with two postings: what is charged, and what is given back.
+fn till<'a, R: Abort + AllocGlobal>(rt: &R, tables: &Tables) -> Prepared<'a> {
+    let mut charged = [0; OPERATORS];
+    charged[3] = 175;
+    let mut given_back = [0; OPERATORS];
+    given_back[0] = -20;
+    given_back[3] = -5;
+    let mut postings = Vec::new(rt.alloc());
+    postings
+        .push(posting(rt, tables, 7, 175, charged))
+        .expect(rt, "memory");
+    postings
+        .push(posting(rt, tables, 8, -25, given_back))
+        .expect(rt, "memory");
+    Prepared {
+        postings: Some(Postings::from(postings)),
+        faults: &FAULTS,
+        closes: 0,
+    }
+}
+
+/// A desk that was asked for nothing.
+fn desk<R: Abort + AllocGlobal>(rt: &R, tables: Tables) -> Unwilling {
+    let tables = Arc::new(rt.alloc(), tables).expect(rt, "memory");
+    let none: Vec<Account> = Vec::new(rt.alloc());
+    let local = LocalDesk::new(rt.alloc(), tables, none).expect(rt, "memory");
+    Unwilling { local, asked: 0 }
+}
+
+/// What a session came to: how it ended, how many commands its desk was asked, and how many closes its till.
+#[derive(Clone, Copy, Debug, PartialEq, Eq)]
+struct Ended {
+    result: Result<Done, SessionFault>,
+    asked: u8,
+    closes: usize,
+}
+
+/// A session of a reader and a writer comes to this, and the writer holds the first bytes of the replies.
+fn expect_ended<R: Abort + AllocGlobal>(
+    rt: &R,
+    mut reader: Trickle<'_>,
+    mut writer: Scripted<'_>,
+    wanted: Ended,
+    bytes: usize,
+) {
+    let tables = sample(rt);
+    let mut till = till(rt, &tables);
+    let mut desk = desk(rt, tables);
+    let zone = TimeZone::posix("GMT0BST,M3.5.0/1,M10.5.0").expect(rt, "a rule");
+    let result = session(&mut reader, &mut writer, &zone, &mut desk, &mut till);
+    let ended = Ended {
+        result,
+        asked: desk.asked,
+        closes: till.closes,
+    };
+    expect_same(rt, ended, wanted);
+    expect_same(rt, writer.held.len(), bytes);
+    assert!(rt; REPLIES.as_bytes().starts_with(&writer.held));
+}
+
+/// A reader of the lines that fails behind so many bytes.
+fn lines_until<'a>(until: usize) -> Trickle<'a> {
+    Trickle {
+        bytes: LINES.as_bytes(),
+        until,
+        interrupted: false,
+        calls: 0,
+    }
+}
+
+/// What all lines come to.
+const ALL: Ended = Ended {
+    result: Ok(Done {
+        answered: 15,
+        quit: true,
+        lacked_memory: true,
+    }),
+    asked: 5,
+    closes: 9,
+};
+
+#[test]
+fn says_what_a_desk_and_a_till_say(rt: HostRuntime) {
+    let writer = Scripted::new(rt.alloc(), &[]);
+    expect_ended(&rt, lines_until(usize::MAX), writer, ALL, 281);
+}
+
+#[test]
+fn closes_where_it_was_interrupted(rt: HostRuntime) {
+    let reader = Trickle {
+        interrupted: true,
+        ..lines_until(usize::MAX)
+    };
+    let writer = Scripted {
+        interrupted: true,
+        most: 5,
+        ..Scripted::new(rt.alloc(), &[])
+    };
+    expect_ended(&rt, reader, writer, ALL, 281);
+}
+
+/// The reader fails behind so many bytes: the lines before are answered, and no other is asked for.
+fn expect_read_fault<R: Abort + AllocGlobal>(
+    rt: &R,
+    until: usize,
+    replies: u8,
+    bytes: usize,
+    closes: usize,
+) {
+    let wanted = Ended {
+        result: Err(SessionFault::Read {
+            answered: u128::from(replies),
+        }),
+        asked: replies.min(5),
+        closes,
+    };
+    let writer = Scripted::new(rt.alloc(), &[]);
+    expect_ended(rt, lines_until(until), writer, wanted, bytes);
+}
+
+#[test]
+fn closes_until_the_reader_fails(rt: HostRuntime) {
+    expect_read_fault(&rt, 0, 0, 0, 0);
+    expect_read_fault(&rt, 11, 0, 0, 0);
+    expect_read_fault(&rt, 52, 3, 35, 0);
+    expect_read_fault(&rt, 89, 5, 61, 0);
+    expect_read_fault(&rt, 90, 6, 147, 1);
+    expect_read_fault(&rt, 187, 14, 277, 9);
+}
+
+/// The writer fails behind so many bytes: the next line was asked for, and the lines behind it were not.
+fn expect_write_fault<R: Abort + AllocGlobal>(rt: &R, room: usize, replies: u8, closes: usize) {
+    let wanted = Ended {
+        result: Err(SessionFault::Write {
+            answered: u128::from(replies),
+        }),
+        asked: replies.saturating_add(1).min(5),
+        closes,
+    };
+    let writer = Scripted {
+        room,
+        ..Scripted::new(rt.alloc(), &[])
+    };
+    expect_ended(rt, lines_until(usize::MAX), writer, wanted, room);
+}
+
+#[test]
+fn closes_until_the_writer_fails(rt: HostRuntime) {
+    expect_write_fault(&rt, 0, 0, 0);
+    expect_write_fault(&rt, 30, 2, 0);
+    // Before the first posting and within it, before the second and within it, within the line behind them, and behind that.
+    expect_write_fault(&rt, 61, 5, 1);
+    expect_write_fault(&rt, 62, 5, 1);
+    expect_write_fault(&rt, 95, 5, 1);
+    expect_write_fault(&rt, 100, 5, 1);
+    expect_write_fault(&rt, 140, 5, 1);
+    expect_write_fault(&rt, 147, 6, 2);
+}
+
+#[test]
+fn tells_that_memory_was_not_wanting(rt: HostRuntime) {
+    let reader = Trickle {
+        bytes: &LINES.as_bytes()[..52],
+        ..lines_until(usize::MAX)
+    };
+    let wanted = Ended {
+        result: Ok(Done {
+            answered: 3,
+            quit: false,
+            lacked_memory: false,
+        }),
+        asked: 3,
+        closes: 0,
+    };
+    expect_ended(&rt, reader, Scripted::new(rt.alloc(), &[]), wanted, 35);
+}
