@@ -20,10 +20,10 @@ pub record Begins (fares zone : List ℕ) (m : Machine) : Type 0 where
   pub new : m.accounts ≡ map.empty
 
 -- The job ended by itself: the session of such a machine did.
-pub record RunEnds (fares zone : List ℕ) (remaining left held written : Option (List ℕ)) (answered : ℕ) (quit : Bool) : Type 0 where
+pub record RunEnds (fares zone : List ℕ) (remaining left held written : Option (List ℕ)) (answered : ℕ) (quit lacked_memory : Bool) : Type 0 where
   pub machine : Machine
   pub begins : Begins fares zone machine
-  pub ends : IfSome remaining (λ input. Ends machine input left held written answered quit)
+  pub ends : IfSome remaining (λ input. Ends machine input left held written answered quit lacked_memory)
 
 -- the session of such a machine was broken off
 pub record SessionFails (fault : SessionFault) (fares zone : List ℕ) (remaining left held written : Option (List ℕ)) : Type 0 where

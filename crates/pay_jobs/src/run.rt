@@ -26,7 +26,7 @@ pub fn run_texts<R: BufRead, W: Write>(
     writer: &mut W,
 ) -> Result<Done, Fault>
     ensures ends { IfOk result (λ done. RunEnds fares.now zone.now (R.remaining reader.old) (R.remaining reader.new)
-        (W.contents writer.old) (W.contents writer.new) done.answered done.quit) }
+        (W.contents writer.old) (W.contents writer.new) done.answered done.quit done.lacked_memory) }
     ensures fails { IfErr result (λ fault. RunFails fault fares.now zone.now (R.remaining reader.old) (R.remaining reader.new)
         (W.contents writer.old) (W.contents writer.new)) }
 {

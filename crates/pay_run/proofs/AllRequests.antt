@@ -8,15 +8,16 @@ use Rattle.pay_tables.specs.Words.{FareTables}
 use Rattle.pay_shard.specs.declared.asked.Asked.{Asked}
 use Rattle.pay_shard.specs.declared.desk.DeskFault.{DeskFault}
 use Rattle.pay_shard.specs.declared.item.Item.{Item}
-use Rattle.pay_shard.specs.Words.{State, reply_at, AreInPlace}
+use Rattle.pay_shard.specs.Words.{State, AreInPlace}
+use Rattle.pay_shard.specs.declared.reply.Answer.{Answer}
 use Rattle.pay_shard.specs.Words.{commands_of as commands_of_items}
 use Rattle.pay_wire.specs.declared.reply.Reply.{Reply}
-use Rattle.pay_session.specs.Words.{asks_of, Taken, Event, all_put, commands_of, AreSaid, lacks_memory, any_lacks_memory, AreServed}
+use Rattle.pay_session.specs.Words.{asks_of, Taken, Event, all_put, commands_of, AreAnswered, lacks_memory, any_lacks_memory, AreServed}
 use Rattle.pay_session.specs.declared.request.Request.{Request}
 use Rattle.pay_session.specs.declared.till.CloseFault.{CloseFault}
 use Rattle.pay_run.specs.Machine.{Machine, Step, step, step_asks}
 use Rattle.pay_run.specs.Outcomes.{outcome, reply_then}
-use Rattle.pay_run.proofs.OneRequest.{IsPlain, machine_at, one_steps}
+use Rattle.pay_run.proofs.OneRequest.{IsPlain, machine_at, one_steps, transcript}
 
 -- what was replied
 abbrev pub replies_of : List Event → List Reply
@@ -33,13 +34,13 @@ commands_append : (xs ys : List Taken) → commands_of (xs ++ ys) ≡ commands_o
 commands_append [] ys = refl
 commands_append (x ∷ xs) ys = ap (λ l. (x.ticket, x.asked) ∷ l) (commands_append xs ys)
 
-said_first : (reply_to : ℕ → Option _) (xs ys : List Taken) → AreSaid reply_to (xs ++ ys) → AreSaid reply_to xs
-said_first reply_to [] ys h = tt
-said_first reply_to (x ∷ xs) ys h = (h.0, said_first reply_to xs ys h.1)
+said_first : (transcript_of : ℕ → Option Answer) (xs ys : List Taken) → AreAnswered transcript_of (xs ++ ys) → AreAnswered transcript_of xs
+said_first transcript_of [] ys h = tt
+said_first transcript_of (x ∷ xs) ys h = (h.0, said_first transcript_of xs ys h.1)
 
-said_rest : (reply_to : ℕ → Option _) (xs ys : List Taken) → AreSaid reply_to (xs ++ ys) → AreSaid reply_to ys
-said_rest reply_to [] ys h = h
-said_rest reply_to (x ∷ xs) ys h = said_rest reply_to xs ys h.1
+said_rest : (transcript_of : ℕ → Option Answer) (xs ys : List Taken) → AreAnswered transcript_of (xs ++ ys) → AreAnswered transcript_of ys
+said_rest transcript_of [] ys h = h
+said_rest transcript_of (x ∷ xs) ys h = said_rest transcript_of xs ys h.1
 
 both_false : (a b : Bool) → (a || b) ≡ false → (a ≡ false) × (b ≡ false)
 both_false false b h = (refl, h)
@@ -62,22 +63,22 @@ stepped : (mark : Bool) (r : Request) (m : Machine) (s : Step) → step_asks mar
 unfolding step
 stepped mark r m s h = h
 
-pub all_run : {T : Type 0} (zone : TimeZone) (of : ℕ) (tables : FareTables) (base : State) (front back journal : List Item) (requests : List Request) (events : List Event) (Refuses : DeskFault → Type 0) (Late : Type 0) (Closes : T → ℕ → ℕ → List Taken → Result (List Posting) CloseFault → T → Type 0)
+pub all_run : {T : Type 0} (number : ℕ) (zone : TimeZone) (of : ℕ) (tables : FareTables) (base : State) (front back journal : List Item) (requests : List Request) (events : List Event) (Refuses : DeskFault → Type 0) (Late : Type 0) (Closes : T → ℕ → ℕ → List Taken → Result (List Posting) CloseFault → T → Type 0)
     (before after : T) → IsPlain Refuses Late Closes → AreInPlace 0 journal → journal ≡ front ++ back → AreServed zone of Refuses Late Closes before requests events after
-    → commands_of_items back ≡ commands_of (all_put events) → AreSaid (reply_at tables base journal) (all_put events) → RunsTo zone tables base front back requests events
-all_run zone of tables base front back journal [] [] Refuses Late Closes before after plain placed whole served commands said_so = record {
+    → commands_of_items back ≡ commands_of (all_put events) → AreAnswered (transcript number tables base journal) (all_put events) → RunsTo zone tables base front back requests events
+all_run number zone of tables base front back journal [] [] Refuses Late Closes before after plain placed whole served commands said_so = record {
   marks = [];
   marked = refl;
   gives = ap (λ l. record { replies = []; after = machine_at zone tables base l }) (sym (ap (λ l. front ++ l) (none_left back commands) ∙ append-nil front));
   ample = λ e. refl;
 }
-all_run zone of tables base front back journal [] (e ∷ es) Refuses Late Closes before after plain placed whole served commands said_so = absurd served
-all_run zone of tables base front back journal (r ∷ rs) [] Refuses Late Closes before after plain placed whole served commands said_so = absurd served
-all_run zone of tables base front back journal (r ∷ rs) (e ∷ es) Refuses Late Closes before after plain placed whole served commands said_so =
-    let reply_to = reply_at tables base journal in
-    let one = one_steps zone of tables base front back journal (asks_of zone r) e (commands_of (all_put es)) Refuses Late Closes before served.0 plain placed whole served.1 (commands ∙ commands_append e.put (all_put es)) (said_first reply_to e.put (all_put es) said_so) in
+all_run number zone of tables base front back journal [] (e ∷ es) Refuses Late Closes before after plain placed whole served commands said_so = absurd served
+all_run number zone of tables base front back journal (r ∷ rs) [] Refuses Late Closes before after plain placed whole served commands said_so = absurd served
+all_run number zone of tables base front back journal (r ∷ rs) (e ∷ es) Refuses Late Closes before after plain placed whole served commands said_so =
+    let transcript_of = transcript number tables base journal in
+    let one = one_steps number zone of tables base front back journal (asks_of zone r) e (commands_of (all_put es)) Refuses Late Closes before served.0 plain placed whole served.1 (commands ∙ commands_append e.put (all_put es)) (said_first transcript_of e.put (all_put es) said_so) in
     let whole_behind : journal ≡ (front ++ one.own) ++ one.rest = whole ∙ ap (λ l. front ++ l) one.parts ∙ sym (append_assoc front one.own one.rest) in
-    let later = all_run zone of tables base (front ++ one.own) one.rest journal rs es Refuses Late Closes served.0 after plain placed whole_behind served.2 one.commands (said_rest reply_to e.put (all_put es) said_so) in
+    let later = all_run number zone of tables base (front ++ one.own) one.rest journal rs es Refuses Late Closes served.0 after plain placed whole_behind served.2 one.commands (said_rest transcript_of e.put (all_put es) said_so) in
     let first : step one.mark (machine_at zone tables base front) r ≡ record { reply = e.reply; after = machine_at zone tables base (front ++ one.own) } = stepped one.mark r (machine_at zone tables base front) _ one.step in
     record {
       marks = one.mark ∷ later.marks;

@@ -1,7 +1,10 @@
 -- A journal by its front and what is behind it.
+use Rattle.std.specs.List.{slice_get}
+use Rattle.std.specs.Option.{option_map}
 use Rattle.std.proofs.Common.{◌≡◌, ℕ, ◌+◌, List, [], ◌∷◌, ◌++◌, length, refl, ap, arith, Some}
 use Rattle.pay_tables.specs.Words.{FareTables}
-use Rattle.pay_shard.specs.Words.{State, item_step, replay, reply_at, AreInPlace}
+use Rattle.pay_shard.specs.Words.{State, item_step, replay, answers_from, AreInPlace}
+use Rattle.pay_shard.specs.declared.reply.Answer.{Answer}
 use Rattle.pay_shard.specs.declared.item.Item.{Item}
 
 -- what is behind a front is replayed from where the front ends
@@ -10,10 +13,10 @@ replay_behind tables base [] back = refl
 replay_behind tables base (item ∷ front) back = replay_behind tables (item_step tables base item).after front back
 
 -- the reply behind a front
-pub reply_behind : (tables : FareTables) (base : State) (front : List Item) (item : Item) (back : List Item)
-    → reply_at tables base (front ++ item ∷ back) (length front) ≡ Some (item_step tables (replay tables base front) item).reply
-reply_behind tables base [] item back = refl
-reply_behind tables base (first ∷ front) item back = reply_behind tables (item_step tables base first).after front item back
+pub reply_behind : (number place : ℕ) (tables : FareTables) (base : State) (front : List Item) (item : Item) (back : List Item)
+    → option_map (λ (a : Answer). a.reply) (slice_get (answers_from number place tables base (front ++ item ∷ back)) (length front)) ≡ Some (item_step tables (replay tables base front) item).reply
+reply_behind number place tables base [] item back = refl
+reply_behind number place tables base (first ∷ front) item back = reply_behind number (place + 1) tables (item_step tables base first).after front item back
 
 -- the ticket behind a front
 pub ticket_behind : (place : ℕ) (front : List Item) (item : Item) (back : List Item) → AreInPlace place (front ++ item ∷ back) → item.entry.ticket ≡ place + length front

@@ -1,6 +1,8 @@
 -- What came of one request over a desk of one shard and no till is a step of the machine.
 use Rattle.std.proofs.Common.{◌≡◌, ℕ, Bool, true, false, List, [], ◌∷◌, ◌++◌, length, refl, sym, ap, ◌∙◌, subst, append-nil, zero-add, inl, inr, Option, Some, None, IfSome}
 use Rattle.std.specs.Prelude.{Result, Err}
+use Rattle.std.specs.List.{slice_get}
+use Rattle.std.specs.Option.{option_map}
 use Rattle.jiff.specs.declared.tz.timezone.TimeZone.{TimeZone}
 use Rattle.pay_account.specs.declared.posting.Posting.{Posting}
 use Rattle.pay_tables.specs.Words.{FareTables}
@@ -8,13 +10,14 @@ use Rattle.pay_shard.specs.declared.asked.Asked.{Asked}
 use Rattle.pay_shard.specs.declared.desk.DeskFault.{DeskFault}
 use Rattle.pay_shard.specs.declared.desk.DeskFault.TheVariants.{Memory}
 use Rattle.pay_shard.specs.declared.item.Item.{Item}
+use Rattle.pay_shard.specs.declared.reply.Answer.{Answer}
 use Rattle.pay_shard.specs.declared.reply.Reply.{Reply as DeskReply}
-use Rattle.pay_shard.specs.Words.{State, item_step, replay, reply_at, AreInPlace}
+use Rattle.pay_shard.specs.Words.{State, item_step, replay, answers, AreInPlace}
 use Rattle.pay_shard.specs.Words.{commands_of as commands_of_items}
 use Rattle.pay_wire.specs.declared.refusal.Refusal.TheVariants as refusal
 use Rattle.pay_wire.specs.declared.reply.Reply.{Reply}
 use Rattle.pay_wire.specs.declared.reply.Reply.TheVariants as replies
-use Rattle.pay_session.specs.Words.{Taken, Event, said, refusal_of_desk, said_of_close, commands_of, AreSaid, lacks_memory, IsReplied, IsTaken, IsRefused, IsServedAs}
+use Rattle.pay_session.specs.Words.{Taken, Event, said, refusal_of_desk, said_of_close, commands_of, AreAnswered, lacks_memory, IsReplied, IsTaken, IsRefused, IsServedAs}
 use Rattle.pay_session.specs.declared.asks.Asks.{Asks}
 use Rattle.pay_session.specs.declared.asks.Asks.TheVariants as asks
 use Rattle.pay_session.specs.declared.till.CloseFault.{CloseFault}
@@ -93,28 +96,33 @@ first_of (item ∷ rest) taken later e =
     tails : (x y : ℕ × Asked) (xs ys : List (ℕ × Asked)) → x ∷ xs ≡ y ∷ ys → xs ≡ ys
     tails x y xs ys e = cc
 
+-- the answers of a shard's journal, by their places
+abbrev pub transcript : ℕ → FareTables → State → List Item → ℕ → Option Answer
+transcript number tables base journal place = slice_get (answers number tables base journal) place
+
 -- the reply that was said is the transcript's
-replied : (Refuses : DeskFault → Type 0) (Late : Type 0) → (Late → ⊥) → (o : Option DeskReply) (line : Reply) (found : Option DeskReply) (reply : DeskReply)
-    → IsReplied Refuses Late o line → IfSome o (λ r. found ≡ Some r) → found ≡ Some reply → line ≡ said reply
+replied : (Refuses : DeskFault → Type 0) (Late : Type 0) → (Late → ⊥) → (o : Option Answer) (line : Reply) (found : Option Answer) (reply : DeskReply)
+    → IsReplied Refuses Late o line → IfSome o (λ a. found ≡ Some a) → option_map (λ (a : Answer). a.reply) found ≡ Some reply → line ≡ said reply
 replied Refuses Late never None line found reply h i j = absurd (never h.1)
-replied Refuses Late never (Some r) line found reply h i j = h ∙ ap said (same r reply (sym i ∙ j))
+replied Refuses Late never (Some a) line found reply h i j = h ∙ ap said (same a.reply reply (sym (ap (option_map (λ (a : Answer). a.reply)) i) ∙ j))
   where
     same : (x y : DeskReply) → ◌≡◌ {A = Option DeskReply} (Some x) (Some y) → x ≡ y
     same x y e = cc
 
 -- the desk took the command
-taken_steps : (zone : TimeZone) (tables : FareTables) (base : State) (front back journal : List Item) (a : Asked) (event : Event) (later : List (ℕ × Asked)) (Refuses : DeskFault → Type 0) (Late : Type 0) (never : Late → ⊥)
+taken_steps : (number : ℕ) (zone : TimeZone) (tables : FareTables) (base : State) (front back journal : List Item) (a : Asked) (event : Event) (later : List (ℕ × Asked)) (Refuses : DeskFault → Type 0) (Late : Type 0) (never : Late → ⊥)
     → AreInPlace 0 journal → journal ≡ front ++ back → IsTaken Refuses Late a event → commands_of_items back ≡ commands_of event.put ++ later
-    → AreSaid (reply_at tables base journal) event.put → StepsTo zone tables base front back (asks.Put a) event later
-taken_steps zone tables base front back journal a event later Refuses Late never placed whole is commands said_so =
+    → AreAnswered (transcript number tables base journal) event.put → StepsTo zone tables base front back (asks.Put a) event later
+taken_steps number zone tables base front back journal a event later Refuses Late never placed whole is commands said_so =
     let taken = is.taken in
     let f = first_of back taken later (commands ∙ ap (λ p. commands_of p ++ later) is.once) in
     let parts : journal ≡ front ++ f.item ∷ f.rest = whole ∙ ap (λ l. front ++ l) f.parts in
     let place : taken.ticket ≡ length front = sym f.ticket ∙ ticket_behind 0 front f.item f.rest (subst (AreInPlace 0) parts placed) ∙ zero-add _ in
-    let one : AreSaid (reply_at tables base journal) (taken ∷ []) = subst (AreSaid (reply_at tables base journal)) is.once said_so in
-    let there : reply_at tables base journal taken.ticket ≡ Some (item_step tables (replay tables base front) f.item).reply =
-    ap (reply_at tables base journal) place ∙ ap (λ l. reply_at tables base l (length front)) parts ∙ reply_behind tables base front f.item f.rest in
-    let told : event.reply ≡ said (item_step tables (replay tables base front) f.item).reply = replied Refuses Late never taken.reply event.reply _ _ is.replied one.0 there in
+    let one : AreAnswered (transcript number tables base journal) (taken ∷ []) = subst (AreAnswered (transcript number tables base journal)) is.once said_so in
+    let there : option_map (λ (a : Answer). a.reply) (transcript number tables base journal taken.ticket) ≡ Some (item_step tables (replay tables base front) f.item).reply =
+    ap (λ n. option_map (λ (a : Answer). a.reply) (transcript number tables base journal n)) place ∙ ap (λ l. option_map (λ (a : Answer). a.reply) (transcript number tables base l (length front))) parts
+    ∙ reply_behind number 0 tables base front f.item f.rest in
+    let told : event.reply ≡ said (item_step tables (replay tables base front) f.item).reply = replied Refuses Late never taken.answer event.reply _ _ is.replied one.0 there in
     record {
       mark = f.item.refused_memory;
       own = f.item ∷ [];
@@ -149,20 +157,20 @@ refused_steps zone tables base front back a event later Refuses Late memory is c
     (λ e. absurd (true_false (ap lacks_memory (ap (λ (e : Event). e.reply) (sym told)) ∙ e)))
 
 -- one request, by what it comes to
-pub one_steps : {T : Type 0} (zone : TimeZone) (of : ℕ) (tables : FareTables) (base : State) (front back journal : List Item) (a : Asks) (event : Event) (later : List (ℕ × Asked)) (Refuses : DeskFault → Type 0) (Late : Type 0) (Closes : T → ℕ → ℕ → List Taken → Result (List Posting) CloseFault → T → Type 0)
+pub one_steps : {T : Type 0} (number : ℕ) (zone : TimeZone) (of : ℕ) (tables : FareTables) (base : State) (front back journal : List Item) (a : Asks) (event : Event) (later : List (ℕ × Asked)) (Refuses : DeskFault → Type 0) (Late : Type 0) (Closes : T → ℕ → ℕ → List Taken → Result (List Posting) CloseFault → T → Type 0)
     (before after : T) → IsPlain Refuses Late Closes → AreInPlace 0 journal → journal ≡ front ++ back → IsServedAs zone of Refuses Late Closes a event before after → commands_of_items back ≡ commands_of event.put ++ later
-    → AreSaid (reply_at tables base journal) event.put → StepsTo zone tables base front back a event later
-one_steps zone of tables base front back journal (asks.Put a) event later Refuses Late Closes before after plain placed whole (inl is, same) commands said_so =
-    taken_steps zone tables base front back journal a event later Refuses Late plain.never placed whole is commands said_so
-one_steps zone of tables base front back journal (asks.Put a) event later Refuses Late Closes before after plain placed whole (inr is, same) commands said_so =
+    → AreAnswered (transcript number tables base journal) event.put → StepsTo zone tables base front back a event later
+one_steps number zone of tables base front back journal (asks.Put a) event later Refuses Late Closes before after plain placed whole (inl is, same) commands said_so =
+    taken_steps number zone tables base front back journal a event later Refuses Late plain.never placed whole is commands said_so
+one_steps number zone of tables base front back journal (asks.Put a) event later Refuses Late Closes before after plain placed whole (inr is, same) commands said_so =
     refused_steps zone tables base front back a event later Refuses Late plain.memory is commands
-one_steps zone of tables base front back journal (asks.Close day) event later Refuses Late Closes before after plain placed whole is commands said_so =
-    let nothing = plain.closes before after day of event.put is.result is.closes in
+one_steps number zone of tables base front back journal (asks.Close day) event later Refuses Late Closes before after plain placed whole is commands said_so =
+    let nothing = plain.closes before after day of event.put is.result is.close.closes in
     nothing_taken zone tables base front back (asks.Close day) event later false nothing.0 commands
     (ap (λ (r : Reply). record { reply = r; after = machine_at zone tables base front }) (sym (is.told ∙ ap (said_of_close day) nothing.1))) (λ e. refl)
-one_steps zone of tables base front back journal asks.Quit event later Refuses Late Closes before after plain placed whole is commands said_so =
+one_steps number zone of tables base front back journal asks.Quit event later Refuses Late Closes before after plain placed whole is commands said_so =
     nothing_taken zone tables base front back asks.Quit event later false (ap (λ (e : Event). e.put) is.0) commands
     (ap (λ (r : Reply). record { reply = r; after = machine_at zone tables base front }) (ap (λ (e : Event). e.reply) (sym is.0))) (λ e. refl)
-one_steps zone of tables base front back journal (asks.No why) event later Refuses Late Closes before after plain placed whole is commands said_so =
+one_steps number zone of tables base front back journal (asks.No why) event later Refuses Late Closes before after plain placed whole is commands said_so =
     nothing_taken zone tables base front back (asks.No why) event later false (ap (λ (e : Event). e.put) is.0) commands
     (ap (λ (r : Reply). record { reply = r; after = machine_at zone tables base front }) (ap (λ (e : Event). e.reply) (sym is.0))) (λ e. refl)

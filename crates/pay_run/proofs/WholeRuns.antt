@@ -1,5 +1,5 @@
 -- How a session over a desk of one shard and no till ends, as the machine tells it.
-use Rattle.std.proofs.Common.{◌≡◌, ℕ, Bool, true, false, List, [], ◌∷◌, ◌++◌, length, refl, sym, ap, ◌∙◌, subst, append_assoc, arith, Option, Some, None, IfSome}
+use Rattle.std.proofs.Common.{◌≡◌, ℕ, Bool, true, false, ◌||◌, List, [], ◌∷◌, ◌++◌, length, refl, sym, ap, ◌∙◌, subst, append_assoc, arith, Option, Some, None, IfSome}
 use Rattle.std.specs.Prelude.{Result, Ok, Err, IfOk, IfErr}
 use Rattle.pay_day.specs.Words.{monday}
 use Rattle.pay_account.specs.Words.{Accepted, week_lines}
@@ -20,10 +20,10 @@ use Rattle.pay_account.specs.declared.posting.Posting.{Posting}
 use Rattle.pay_tables.specs.Words.{FareTables}
 use Rattle.pay_shard.specs.declared.desk.DeskFault.{DeskFault}
 use Rattle.pay_shard.specs.declared.item.Item.{Item}
-use Rattle.pay_shard.specs.Words.{ShardParts, State, reply_of, AreInPlace}
+use Rattle.pay_shard.specs.Words.{ShardParts, State, Standing, transcript_of, AreInPlace}
 use Rattle.pay_shard.specs.Words.{commands_of as commands_of_items}
 use Rattle.pay_wire.specs.Words.{spelling_of_reply}
-use Rattle.pay_session.specs.Words.{requests_of, line_requests, Taken, Event, any_lacks_memory, Sides, IsSession}
+use Rattle.pay_session.specs.Words.{requests_of, line_requests, Taken, Event, lacks_memory, any_lacks_memory, Sides, IsSession}
 use Rattle.pay_session.specs.Words.{text_of as text_of_events, Ends as SessionEnds, StopsReading as SessionStopsReading, StopsWriting as SessionStopsWriting, FailsSo as SessionFailsSo}
 use Rattle.pay_session.specs.declared.request.Request.{Request}
 use Rattle.pay_session.specs.declared.stop.SessionFault.{SessionFault}
@@ -39,6 +39,11 @@ use Rattle.pay_run.proofs.OneRequest.{IsPlain, machine_at}
 text_alike : (events : List Event) → text_of_events events ≡ text_of (replies_of events)
 text_alike [] = refl
 text_alike (e ∷ es) = ap (λ l. spelling_of_reply e.reply ++ l) (text_alike es)
+
+-- whether memory was wanting shows in the replies
+any_alike : (events : List Event) → any_lacks_memory events ≡ list_any lacks_memory (replies_of events)
+any_alike [] = refl
+any_alike (e ∷ es) = ap (λ b. lacks_memory e.reply || b) (any_alike es)
 
 replies_append : (xs ys : List Event) → replies_of (xs ++ ys) ≡ replies_of xs ++ replies_of ys
 replies_append [] ys = refl
@@ -71,13 +76,13 @@ pub record IsFresh (tables : FareTables) (shard : ShardParts) : Type 0 where
 module _ {T : Type 0} (zone : TimeZone) (of : ℕ) (Refuses : DeskFault → Type 0) (Late : Type 0) (Closes : T → ℕ → ℕ → List Taken → Result (List Posting) CloseFault → T → Type 0) (plain : IsPlain Refuses Late Closes) where
   -- the sides of a session at such a shard
   abbrev sides_of : ShardParts → T → T → Sides T
-  sides_of shard before after = record { taken_before = []; taken_after = commands_of_items shard.journal; transcript = reply_of shard; till_before = before; till_after = after }
+  sides_of shard before after = record { taken_before = []; taken_after = commands_of_items shard.journal; transcript = transcript_of shard; till_before = before; till_after = after }
 
   -- a session's requests are run by the machine
   runs : (shard : ShardParts) (before after : T) (requests : List Request) (events : List Event) → AreInPlace 0 shard.journal → IsSession zone of Refuses Late Closes (sides_of shard before after) requests events
       → RunsTo zone shard.tables shard.base [] shard.journal requests events
   runs shard before after requests events placed s =
-      all_run zone of shard.tables shard.base [] shard.journal shard.journal requests events Refuses Late Closes before after plain placed refl s.served s.taken s.said
+      all_run shard.number zone of shard.tables shard.base [] shard.journal shard.journal requests events Refuses Late Closes before after plain placed refl s.served s.taken s.said
 
   told : (tables : FareTables) (base : State) (journal : List Item) (requests : List Request) (events : List Event) (r : RunsTo zone tables base [] journal requests events) → (outcome r.marks (machine_at zone tables base []) requests).replies ≡ replies_of events
   told tables base journal requests events r = ap (λ (o : Outcome). o.replies) r.gives
@@ -100,7 +105,7 @@ module _ {T : Type 0} (zone : TimeZone) (of : ℕ) (Refuses : DeskFault → Type
   begins tables shard fresh = ap (λ b. record { zone = zone; tables = shard.tables; accounts = b }) fresh.from_nothing ∙ ap (λ t. new_machine zone t) fresh.same_tables
 
   ends_first : (shard : ShardParts) (before after : T) (input : List ℕ) (left held new : Option (List ℕ)) (answered : ℕ) (quit lacked : Bool) → AreInPlace 0 shard.journal
-      → SessionEnds zone of Refuses Late Closes (sides_of shard before after) input left held new answered quit lacked → Ends (first shard) input left held new answered quit
+      → SessionEnds zone of Refuses Late Closes (sides_of shard before after) input left held new answered quit lacked → Ends (first shard) input left held new answered quit lacked
   ends_first shard before after input left held new answered quit lacked placed e =
       let r = runs shard before after (requests_of input) e.events placed e.session in
       let t = told shard.tables shard.base shard.journal (requests_of input) e.events r in
@@ -108,6 +113,8 @@ module _ {T : Type 0} (zone : TimeZone) (of : ℕ) (Refuses : DeskFault → Type
         marks = r.marks;
         written = subst (λ (l : List ℕ). Appends held new l) (text_alike e.events ∙ ap text_of (sym t)) e.written;
         counted = e.counted ∙ sym (ap length t ∙ length-map e.events (λ (e : Event). e.reply));
+        lacked = e.lacked ∙ any_alike e.events ∙ ap (list_any lacks_memory) (sym t);
+        ample = λ h. no_marks r.marks (first shard) (requests_of input) (r.ample (sym e.lacked ∙ h));
         ended = e.ended;
         unread = e.unread;
       }
@@ -151,9 +158,9 @@ module _ {T : Type 0} (zone : TimeZone) (of : ℕ) (Refuses : DeskFault → Type
   -- ---- from a new machine
 
   pub run_ends : (tables : FareTables) (shard : ShardParts) (before after : T) (input : List ℕ) (left held new : Option (List ℕ)) (answered : ℕ) (quit lacked : Bool) → IsFresh tables shard
-      → SessionEnds zone of Refuses Late Closes (sides_of shard before after) input left held new answered quit lacked → Ends (new_machine zone tables) input left held new answered quit
+      → SessionEnds zone of Refuses Late Closes (sides_of shard before after) input left held new answered quit lacked → Ends (new_machine zone tables) input left held new answered quit lacked
   run_ends tables shard before after input left held new answered quit lacked fresh e =
-      subst (λ (m : Machine). Ends m input left held new answered quit) (begins tables shard fresh) (ends_first shard before after input left held new answered quit lacked fresh.in_place e)
+      subst (λ (m : Machine). Ends m input left held new answered quit lacked) (begins tables shard fresh) (ends_first shard before after input left held new answered quit lacked fresh.in_place e)
 
   pub run_fails : (fault : SessionFault) (tables : FareTables) (shard : ShardParts) (before after : T) (input : List ℕ) (left held new : Option (List ℕ)) → IsFresh tables shard
       → SessionFailsSo zone of Refuses Late Closes fault (sides_of shard before after) input left held new → FailsSo fault (new_machine zone tables) input left held new
@@ -174,7 +181,7 @@ module _ {T : Type 0} (zone : TimeZone) (of : ℕ) (Refuses : DeskFault → Type
 
   -- a session at a desk whose journal was empty
   abbrev from_journal : List Item → ShardParts → T → T → Sides T
-  from_journal journal shard before after = record { taken_before = commands_of_items journal; taken_after = commands_of_items shard.journal; transcript = reply_of shard; till_before = before; till_after = after }
+  from_journal journal shard before after = record { taken_before = commands_of_items journal; taken_after = commands_of_items shard.journal; transcript = transcript_of shard; till_before = before; till_after = after }
 
   from_nothing : (journal : List Item) (shard : ShardParts) (before after : T) → journal ≡ [] → from_journal journal shard before after ≡ sides_of shard before after
   from_nothing journal shard before after none = ap (λ l. from_journal l shard before after) none
@@ -182,7 +189,7 @@ module _ {T : Type 0} (zone : TimeZone) (of : ℕ) (Refuses : DeskFault → Type
   pub lines_end : (result : Result Done SessionFault) (known left held new : Option (List ℕ)) (tables : FareTables) (begun shard : ShardParts) (before after : T) → begun.tables ≡ tables → begun.base ≡ finite.empty → begun.journal ≡ [] → AreInPlace 0 shard.journal
       → ◌≡◌ {A = FareTables × State} (shard.tables, shard.base) (begun.tables, begun.base)
       → IfOk result (λ done. IfSome known (λ input. SessionEnds zone of Refuses Late Closes (from_journal begun.journal shard before after) input left held new done.answered done.quit done.lacked_memory))
-      → IfOk result (λ done. IfSome known (λ input. Ends (new_machine zone tables) input left held new done.answered done.quit))
+      → IfOk result (λ done. IfSome known (λ input. Ends (new_machine zone tables) input left held new done.answered done.quit done.lacked_memory))
   lines_end (Err fault) known left held new tables begun shard before after same nothing none placed origin h = tt
   lines_end (Ok done) None left held new tables begun shard before after same nothing none placed origin h = tt
   lines_end (Ok done) (Some input) left held new tables begun shard before after same nothing none placed origin h =
@@ -215,9 +222,15 @@ module _ {T : Type 0} (zone : TimeZone) (of : ℕ) (Refuses : DeskFault → Type
         unread = e.unread;
       }
 
+-- how a desk over one shard stands
+abbrev pub local_standing : LocalParts → Standing (FareTables × State)
+local_standing d = record { origin = (d.shard.tables, d.shard.base); shards = 1; waiting = d.waiting }
+
 -- a desk over one shard, and no till
-pub local_plain : IsPlain {T = NoTill} (MaySometimeRefuse {D = LocalParts} (λ desk fault. fault ≡ Memory)) (MaySometimeBeLate {D = LocalParts} (λ desk. ⊥)) (λ before day of put result after. (put ≡ []) × (result ≡ Err NotHere) × (after ≡ before))
-local_plain = record { memory = λ fault h. h.1; never = λ h. h.1; closes = λ before after day of put result h. (h.0, h.1) }
+pub local_plain : (before : Standing (FareTables × State))
+    → IsPlain {T = NoTill} (MaySometimeRefuse local_standing (λ desk fault. fault ≡ Memory) before) (MaySometimeBeLate local_standing (λ desk. ⊥) before) (λ before day of put result after. (put ≡ []) × (result ≡ Err NotHere) × (after ≡ before))
+unfolding MaySometimeRefuse MaySometimeBeLate
+local_plain before = record { memory = λ fault h. h.2; never = λ h. h.3; closes = λ before after day of put result h. (h.0, h.1) }
 
 -- journeys of a week, of the same by the same fare file
 pub told_as : {E : Type 0} (result : Result (List Line) E) (t u : FareTables) (x y : Accepted) (week : ℕ) → t ≡ u → x ≡ y → IfOk result (λ it. it ≡ week_lines t x week) → IfOk result (λ it. it ≡ week_lines u y week)

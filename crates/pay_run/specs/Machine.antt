@@ -5,7 +5,6 @@ use Rattle.jiff.specs.declared.tz.timezone.TimeZone.{TimeZone}
 use Rattle.pay_tables.specs.Words.{FareTables}
 use Rattle.pay_shard.specs.Words.{State}
 use Rattle.pay_shard.specs.Words.{Step as ShardStep, step as shard_step}
-use Rattle.pay_wire.specs.declared.refusal.Refusal.{Refusal}
 use Rattle.pay_wire.specs.declared.refusal.Refusal.TheVariants as refusal
 use Rattle.pay_wire.specs.declared.reply.Reply.{Reply}
 use Rattle.pay_wire.specs.declared.reply.Reply.TheVariants as replies

@@ -1,20 +1,24 @@
 -- How a run of lines may end, and what was then written.
 use Rattle.std.specs.Prelude.{◌≡◌, ℕ, Bool, false, List, [], ◌∷◌, ◌++◌, length, Option, Some}
+use Rattle.std.specs.List.{list_any}
 use Rattle.std.specs.Io.KnownBytes.{Appends}
 use Rattle.pay_wire.specs.Words.{AppendsFront, spelling_of_reply}
 use Rattle.pay_wire.specs.declared.reply.Reply.{Reply}
-use Rattle.pay_session.specs.Words.{line_requests, quits, requests_of, unread}
+use Rattle.pay_session.specs.Words.{line_requests, quits, requests_of, unread, lacks_memory}
 use Rattle.pay_session.specs.declared.stop.SessionFault.{SessionFault}
 use Rattle.pay_session.specs.declared.stop.SessionFault.TheVariants.{Read, Write}
 use Rattle.pay_run.specs.Machine.{Machine}
 use Rattle.pay_run.specs.Outcomes.{outcome, text_of}
 
--- The run ended by itself: the machine's replies to all that the input asks for were written, and nothing else.
-pub record Ends (m : Machine) (input : List ℕ) (left held new : Option (List ℕ)) (answered : ℕ) (quit : Bool) : Type 0 where
+-- The run ended by itself: the machine's replies to all that the input asks for were written, and nothing else. Where none of them
+-- tells of want of memory, memory was refused for nothing.
+pub record Ends (m : Machine) (input : List ℕ) (left held new : Option (List ℕ)) (answered : ℕ) (quit lacked_memory : Bool) : Type 0 where
   -- of each request, whether it was refused for memory
   pub marks : List Bool
   pub written : Appends held new (text_of (outcome marks m (requests_of input)).replies)
   pub counted : answered ≡ length (outcome marks m (requests_of input)).replies
+  pub lacked : lacked_memory ≡ list_any lacks_memory (outcome marks m (requests_of input)).replies
+  pub ample : lacked_memory ≡ false → outcome marks m (requests_of input) ≡ outcome [] m (requests_of input)
   pub ended : quit ≡ quits input
   pub unread : left ≡ Some (unread input)
 

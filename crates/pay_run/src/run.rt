@@ -38,7 +38,7 @@ pub fn run_lines<R: BufRead, W: Write>(
 ) -> Result<Done, SessionFault>
     ensures ends { IfOk result (λ done. IfSome (R.remaining reader.old) (λ input.
         Ends (new_machine zone.now (arc_value tables)) input (R.remaining reader.new)
-        (W.contents writer.old) (W.contents writer.new) done.answered done.quit)) }
+        (W.contents writer.old) (W.contents writer.new) done.answered done.quit done.lacked_memory)) }
     ensures fails { IfErr result (λ fault. IfSome (R.remaining reader.old) (λ input.
         FailsSo fault (new_machine zone.now (arc_value tables)) input (R.remaining reader.new)
         (W.contents writer.old) (W.contents writer.new))) }

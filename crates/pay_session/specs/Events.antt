@@ -7,6 +7,7 @@ use Rattle.pay_shard.specs.declared.desk.DeskFault.{DeskFault}
 use Rattle.pay_shard.specs.declared.desk.DeskFault.TheVariants as desk_fault
 use Rattle.pay_shard.specs.declared.refusal.Refusal.{Refusal as ShardRefusal}
 use Rattle.pay_shard.specs.declared.refusal.Refusal.TheVariants as shard_refusal
+use Rattle.pay_shard.specs.declared.reply.Answer.{Answer}
 use Rattle.pay_shard.specs.declared.reply.Reply.{Reply as DeskReply}
 use Rattle.pay_shard.specs.declared.reply.Reply.TheVariants as desk_reply
 use Rattle.pay_wire.specs.declared.refusal.Refusal.{Refusal}
@@ -17,11 +18,11 @@ use Rattle.pay_wire.specs.Words.{spelling_of_reply}
 use Rattle.pay_session.specs.declared.till.CloseFault.{CloseFault}
 use Rattle.pay_session.specs.declared.till.CloseFault.TheVariants as close_fault
 
--- a command that a desk took, and its reply, where it came
+-- a command that a desk took, and the answer to it, where it came
 pub record Taken : Type 0 where
   pub ticket : ℕ
   pub asked : Asked
-  pub reply : Option DeskReply
+  pub answer : Option Answer
 
 -- what was replied to a request, and the commands that a desk took for it
 pub record Event : Type 0 where
@@ -84,9 +85,9 @@ all_put = flat_map (λ (e : Event). e.put)
 abbrev pub commands_of : List Taken → List (ℕ × Asked)
 commands_of = map (λ (t : Taken). (t.ticket, t.asked))
 
--- each reply that came is the transcript's at its ticket
-abbrev pub AreSaid : (ℕ → Option DeskReply) → List Taken → Type 0
-AreSaid reply_to = AllByRecursion (λ (t : Taken). IfSome t.reply (λ reply. reply_to t.ticket ≡ Some reply))
+-- each answer that came is the transcript's at its ticket
+abbrev pub AreAnswered : (ℕ → Option Answer) → List Taken → Type 0
+AreAnswered transcript = AllByRecursion (λ (t : Taken). IfSome t.answer (λ answer. transcript t.ticket ≡ Some answer))
 
 -- whether memory was wanting for a request
 abbrev pub lacks_memory : Reply → Bool

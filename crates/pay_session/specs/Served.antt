@@ -1,11 +1,14 @@
 -- How requests are answered over a desk and a till.
-use Rattle.std.specs.Prelude.{◌≡◌, ◌⊎◌, ℕ, ◌≤◌, suc, List, [], ◌∷◌, ◌++◌, Option, Some, None, Result, ⊤}
+use Rattle.std.specs.Prelude.{◌≡◌, ◌⊎◌, ℕ, ◌<◌, suc, Bool, true, false, not, List, [], ◌∷◌, ◌++◌, Option, Some, None, IfNone, Result, Err, ⊤}
+use Rattle.std.specs.List.{AllByRecursion, list_any}
 use Rattle.jiff.specs.declared.tz.timezone.TimeZone.{TimeZone}
 use Rattle.pay_account.specs.declared.posting.Posting.{Posting}
 use Rattle.pay_shard.specs.declared.asked.Asked.{Asked}
 use Rattle.pay_shard.specs.declared.asked.Asked.TheVariants as asked
 use Rattle.pay_shard.specs.declared.desk.DeskFault.{DeskFault}
+use Rattle.pay_shard.specs.declared.reply.Answer.{Answer}
 use Rattle.pay_shard.specs.declared.reply.Reply.{Reply as DeskReply}
+use Rattle.pay_shard.specs.declared.reply.Reply.TheVariants as desk_reply
 use Rattle.pay_wire.specs.declared.refusal.Refusal.TheVariants as refusal
 use Rattle.pay_wire.specs.declared.reply.Reply.{Reply}
 use Rattle.pay_wire.specs.declared.reply.Reply.TheVariants as replies
@@ -13,28 +16,51 @@ use Rattle.pay_session.specs.declared.asks.Asks.{Asks}
 use Rattle.pay_session.specs.declared.asks.Asks.TheVariants as asks
 use Rattle.pay_session.specs.declared.request.Request.{Request}
 use Rattle.pay_session.specs.declared.till.CloseFault.{CloseFault}
+use Rattle.pay_session.specs.declared.till.CloseFault.TheVariants as close_fault
 use Rattle.pay_session.specs.Asks.{asks_of}
-use Rattle.pay_session.specs.Events.{Taken, Event, said, refusal_of_desk, said_of_close, commands_of, AreSaid}
+use Rattle.pay_session.specs.Events.{Taken, Event, said, refusal_of_desk, said_of_close, commands_of, AreAnswered}
 
--- a close puts Quotes of its day, at most one to each shard, in ascending order of shard from one on
+-- a close asks the shards for the quotes of its day, each once, from one on in ascending order, as far as it comes
 abbrev pub AreQuotes : ℕ → ℕ → ℕ → List Taken → Type 0
 AreQuotes day of from [] = ⊤
-AreQuotes day of from (t ∷ ts) = (shard : ℕ) × (from ≤ shard) × (t.asked ≡ asked.Quotes day shard of) × AreQuotes day of (suc shard) ts
+AreQuotes day of from (t ∷ ts) = (from < of) × (t.asked ≡ asked.Quotes day from of) × AreQuotes day of (suc from) ts
 
--- What a close did over a desk: what was put for it was taken, the replies are the transcript's, and this is what the till
--- says of a close with these.
-pub record IsClosed (Closes : List Taken → Type 0) (day of : ℕ) (before after : List (ℕ × Asked)) (reply_to : ℕ → Option DeskReply) : Type 0 where
-  pub put : List Taken
-  pub quotes : AreQuotes day of 0 put
-  pub added : after ≡ before ++ commands_of put
-  pub said : AreSaid reply_to put
-  pub closes : Closes put
+-- whether quotes came
+abbrev pub gives_quotes : DeskReply → Bool
+gives_quotes (desk_reply.Quotes batch) = true
+gives_quotes _ = false
+
+abbrev pub brings_quotes : Option Answer → Bool
+brings_quotes (Some answer) = gives_quotes answer.reply
+brings_quotes None = false
 
 -- With `Refuses` for how a desk may refuse a command, and `Late` for whether a reply of it may be late.
 module _ (Refuses : DeskFault → Type 0) (Late : Type 0) where
+  -- an answer is missing where it may be late alone
+  abbrev pub AreInTime : List Taken → Type 0
+  AreInTime = AllByRecursion (λ (t : Taken). IfNone t.answer Late)
+
+  -- Why the quotes are not all there: the desk refused to take a command for them, or some that were put brought none.
+  abbrev pub IsShort : List Taken → Type 0
+  IsShort put = ((fault : DeskFault) × Refuses fault) ⊎ (list_any (λ (t : Taken). not (brings_quotes t.answer)) put ≡ true)
+
+  -- A close, with `Closes` for what the till says of it: what was put, and the answer.
+  pub record IsClose (Closes : List Taken → Result (List Posting) CloseFault → Type 0) (day of : ℕ) (put : List Taken) (result : Result (List Posting) CloseFault) : Type 0 where
+    pub quotes : AreQuotes day of 0 put
+    pub in_time : AreInTime put
+    pub short : result ≡ Err close_fault.DeskFault → IsShort put
+    pub closes : Closes put result
+
+  -- What a close did over a desk: what was put for it was taken, and the answers are the transcript's.
+  pub record IsClosed (Closes : List Taken → Result (List Posting) CloseFault → Type 0) (day of : ℕ) (before after : List (ℕ × Asked)) (transcript : ℕ → Option Answer) (result : Result (List Posting) CloseFault) : Type 0 where
+    pub put : List Taken
+    pub close : IsClose Closes day of put result
+    pub added : after ≡ before ++ commands_of put
+    pub answered : AreAnswered transcript put
+
   -- the reply that came, or that it did not come in time
-  abbrev pub IsReplied : Option DeskReply → Reply → Type 0
-  IsReplied (Some reply) line = line ≡ said reply
+  abbrev pub IsReplied : Option Answer → Reply → Type 0
+  IsReplied (Some answer) line = line ≡ said answer.reply
   IsReplied None line = (line ≡ replies.No refusal.Late) × Late
 
   -- the desk took the command, once
@@ -42,7 +68,7 @@ module _ (Refuses : DeskFault → Type 0) (Late : Type 0) where
     pub taken : Taken
     pub once : event.put ≡ taken ∷ []
     pub same : taken.asked ≡ a
-    pub replied : IsReplied taken.reply event.reply
+    pub replied : IsReplied taken.answer event.reply
 
   -- or refused it
   pub record IsRefused (event : Event) : Type 0 where
@@ -56,8 +82,7 @@ module _ {T : Type 0} (zone : TimeZone) (of : ℕ) (Refuses : DeskFault → Type
   -- a close, by the till
   pub record IsTillClosed (day : ℕ) (event : Event) (before after : T) : Type 0 where
     pub result : Result (List Posting) CloseFault
-    pub quotes : AreQuotes day of 0 event.put
-    pub closes : Closes before day of event.put result after
+    pub close : IsClose Refuses Late (λ put answer. Closes before day of put answer after) day of event.put result
     pub told : event.reply ≡ said_of_close day result
 
   -- by what a request comes to; the till changes at a close alone

@@ -5,9 +5,9 @@ use Rattle.jiff.specs.declared.tz.timezone.TimeZone.{TimeZone}
 use Rattle.pay_account.specs.declared.posting.Posting.{Posting}
 use Rattle.pay_shard.specs.declared.asked.Asked.{Asked}
 use Rattle.pay_shard.specs.declared.desk.DeskFault.{DeskFault}
-use Rattle.pay_shard.specs.declared.reply.Reply.{Reply as DeskReply}
+use Rattle.pay_shard.specs.declared.reply.Answer.{Answer}
 use Rattle.pay_wire.specs.Words.{AppendsFront, spelling_of_reply}
-use Rattle.pay_session.specs.Events.{Taken, Event, text_of, all_put, commands_of, AreSaid, any_lacks_memory}
+use Rattle.pay_session.specs.Events.{Taken, Event, text_of, all_put, commands_of, AreAnswered, any_lacks_memory}
 use Rattle.pay_session.specs.Requests.{line_requests, quits, requests_of, unread}
 use Rattle.pay_session.specs.Served.{AreServed}
 use Rattle.pay_session.specs.declared.stop.SessionFault.{SessionFault}
@@ -19,17 +19,17 @@ use Rattle.pay_session.specs.declared.till.CloseFault.{CloseFault}
 pub record Sides (T : Type 0) : Type 0 where
   pub taken_before : List (ℕ × Asked)
   pub taken_after : List (ℕ × Asked)
-  pub transcript : ℕ → Option DeskReply
+  pub transcript : ℕ → Option Answer
   pub till_before : T
   pub till_after : T
 
 module _ {T : Type 0} (zone : TimeZone) (of : ℕ) (Refuses : DeskFault → Type 0) (Late : Type 0) (Closes : T → ℕ → ℕ → List Taken → Result (List Posting) CloseFault → T → Type 0) where
   -- These requests were answered by these events, in order; the desk took the events' commands, each once and in order, and
-  -- nothing else; and the replies that came are the transcript's.
+  -- nothing else; and the answers that came are the transcript's.
   pub record IsSession (sides : Sides T) (requests : List Request) (events : List Event) : Type 0 where
     pub served : AreServed zone of Refuses Late Closes sides.till_before requests events sides.till_after
     pub taken : sides.taken_after ≡ sides.taken_before ++ commands_of (all_put events)
-    pub said : AreSaid sides.transcript (all_put events)
+    pub said : AreAnswered sides.transcript (all_put events)
 
   -- The session ended by itself: all that the input asks for was answered, the replies were written, and nothing else.
   pub record Ends (sides : Sides T) (input : List ℕ) (left held new : Option (List ℕ)) (answered : ℕ) (quit lacked_memory : Bool) : Type 0 where

@@ -54,8 +54,8 @@ impl<'a, D: Desk, T: Till> Answers for Service<'a, D, T> {
     ghost use Rattle.pay_session.specs.Serving.{IsStep};
 
     ghost Serves = { λ before request event after.
-        IsStep D.shards_of D.taken D.reply_to D.origin D.MayRefuse D.MayBeLate T.Closes before.zone.now request event before.desk.now before.till.now after.desk.now after.till.now
-        × (after.desk.ghost_name ≡ before.desk.ghost_name) × (after.till.ghost_name ≡ before.till.ghost_name) × (after.zone ≡ before.zone) };
+        IsStep D.standing D.taken D.transcript D.MayRefuse D.MayBeLate T.Closes before.zone.now request event before.desk.now before.till.now after.desk.now after.till.now
+        × (after.desk.ghost_name ≡ before.desk.ghost_name) × (after.till.ghost_name ≡ before.till.ghost_name) × (after.zone ≡ before.zone) × (T.origin after.till.now ≡ T.origin before.till.now) };
 
     fn answer(&mut self, request: Request) -> Reply {
         match asks_of(self.zone, request) {
@@ -70,10 +70,9 @@ impl<'a, D: Desk, T: Till> Answers for Service<'a, D, T> {
 /// Hands a command to a desk and says its reply.
 fn put<D: Desk>(desk: &mut D, command: Command) -> Reply
     requires { IsOfAccount command }
-    ensures put { IsPut (MaySometimeRefuse D.MayRefuse) (MaySometimeBeLate D.MayBeLate) command (D.taken desk.old) (D.taken desk.new) (D.reply_to desk.new) result }
-    ensures transcript { AreKept (D.reply_to desk.old) (D.reply_to desk.new) }
-    ensures same_shards { D.shards_of desk.new ≡ D.shards_of desk.old }
-    ensures same_origin { D.origin desk.new ≡ D.origin desk.old }
+    ensures put { IsPut (MaySometimeRefuse D.standing D.MayRefuse (D.standing desk.old)) (MaySometimeBeLate D.standing D.MayBeLate (D.standing desk.old)) command (D.taken desk.old) (D.taken desk.new) (D.transcript desk.new) result }
+    ensures transcript { AreKept (D.transcript desk.old) (D.transcript desk.new) }
+    ensures same_desk { D.standing desk.new ≡ D.standing desk.old }
 {
     let ticket = match desk.put(command) {
         Ok(ticket) => ticket,
@@ -88,10 +87,11 @@ fn put<D: Desk>(desk: &mut D, command: Command) -> Reply
 /// Has a till close a day over a desk, and says what came of it.
 fn close<D: Desk, T: Till>(till: &mut T, desk: &mut D, day: u32) -> Reply
     requires { (FIRST_DAY ≤ day) × (day ≤ LAST_DAY) }
-    ensures closed { IsCloseSaid (λ put answer. T.Closes till.old day (D.shards_of desk.old) put answer till.new) day (D.shards_of desk.old) (D.taken desk.old) (D.taken desk.new) (D.reply_to desk.new) result }
-    ensures transcript { AreKept (D.reply_to desk.old) (D.reply_to desk.new) }
-    ensures same_shards { D.shards_of desk.new ≡ D.shards_of desk.old }
-    ensures same_origin { D.origin desk.new ≡ D.origin desk.old }
+    ensures closed { IsCloseSaid (MaySometimeRefuse D.standing D.MayRefuse (D.standing desk.old)) (MaySometimeBeLate D.standing D.MayBeLate (D.standing desk.old))
+        (λ put answer. T.Closes till.old day (D.standing desk.old).shards put answer till.new) day (D.standing desk.old).shards (D.taken desk.old) (D.taken desk.new) (D.transcript desk.new) result }
+    ensures transcript { AreKept (D.transcript desk.old) (D.transcript desk.new) }
+    ensures same_desk { D.standing desk.new ≡ D.standing desk.old }
+    ensures same_till { T.origin till.new ≡ T.origin till.old }
 {
     match till.close(desk, day) {
         Ok(postings) => Reply::Closed(Closed { day, postings }),

@@ -34,16 +34,16 @@ pub fn session<R: BufRead, W: Write, D: Desk, T: Till>(
     till: &mut T,
 ) -> Result<Done, SessionFault>
     ensures ends { IfOk result (λ done. IfSome (R.remaining reader.old) (λ input.
-        Ends zone.now (D.shards_of desk.old) (MaySometimeRefuse D.MayRefuse) (MaySometimeBeLate D.MayBeLate) T.Closes
-        (record { taken_before = D.taken desk.old; taken_after = D.taken desk.new; transcript = D.reply_to desk.new; till_before = till.old; till_after = till.new })
+        Ends zone.now (D.standing desk.old).shards (MaySometimeRefuse D.standing D.MayRefuse (D.standing desk.old)) (MaySometimeBeLate D.standing D.MayBeLate (D.standing desk.old)) T.Closes
+        (record { taken_before = D.taken desk.old; taken_after = D.taken desk.new; transcript = D.transcript desk.new; till_before = till.old; till_after = till.new })
         input (R.remaining reader.new) (W.contents writer.old) (W.contents writer.new) done.answered done.quit done.lacked_memory)) }
     ensures fails { IfErr result (λ fault. IfSome (R.remaining reader.old) (λ input.
-        FailsSo zone.now (D.shards_of desk.old) (MaySometimeRefuse D.MayRefuse) (MaySometimeBeLate D.MayBeLate) T.Closes fault
-        (record { taken_before = D.taken desk.old; taken_after = D.taken desk.new; transcript = D.reply_to desk.new; till_before = till.old; till_after = till.new })
+        FailsSo zone.now (D.standing desk.old).shards (MaySometimeRefuse D.standing D.MayRefuse (D.standing desk.old)) (MaySometimeBeLate D.standing D.MayBeLate (D.standing desk.old)) T.Closes fault
+        (record { taken_before = D.taken desk.old; taken_after = D.taken desk.new; transcript = D.transcript desk.new; till_before = till.old; till_after = till.new })
         input (R.remaining reader.new) (W.contents writer.old) (W.contents writer.new))) }
-    ensures transcript { AreKept (D.reply_to desk.old) (D.reply_to desk.new) }
-    ensures same_shards { D.shards_of desk.new ≡ D.shards_of desk.old }
-    ensures same_origin { D.origin desk.new ≡ D.origin desk.old }
+    ensures transcript { AreKept (D.transcript desk.old) (D.transcript desk.new) }
+    ensures same_desk { D.standing desk.new ≡ D.standing desk.old }
+    ensures same_till { T.origin till.new ≡ T.origin till.old }
 {
     session_by(&mut Service::new(zone, desk, till), reader, writer)
 }
@@ -54,19 +54,19 @@ fn session_by<R: BufRead, W: Write, D: Desk, T: Till>(
     reader: &mut R,
     writer: &mut W,
 ) -> Result<Done, SessionFault>
-    ensures same_desk { service.new.desk.ghost_name ≡ service.old.desk.ghost_name }
-    ensures same_till { service.new.till.ghost_name ≡ service.old.till.ghost_name }
+    ensures desk_name { service.new.desk.ghost_name ≡ service.old.desk.ghost_name }
+    ensures till_name { service.new.till.ghost_name ≡ service.old.till.ghost_name }
     ensures ends { IfOk result (λ done. IfSome (R.remaining reader.old) (λ input.
-        Ends service.old.zone.now (D.shards_of service.old.desk.now) (MaySometimeRefuse D.MayRefuse) (MaySometimeBeLate D.MayBeLate) T.Closes
-        (record { taken_before = D.taken service.old.desk.now; taken_after = D.taken service.new.desk.now; transcript = D.reply_to service.new.desk.now; till_before = service.old.till.now; till_after = service.new.till.now })
+        Ends service.old.zone.now (D.standing service.old.desk.now).shards (MaySometimeRefuse D.standing D.MayRefuse (D.standing service.old.desk.now)) (MaySometimeBeLate D.standing D.MayBeLate (D.standing service.old.desk.now)) T.Closes
+        (record { taken_before = D.taken service.old.desk.now; taken_after = D.taken service.new.desk.now; transcript = D.transcript service.new.desk.now; till_before = service.old.till.now; till_after = service.new.till.now })
         input (R.remaining reader.new) (W.contents writer.old) (W.contents writer.new) done.answered done.quit done.lacked_memory)) }
     ensures fails { IfErr result (λ fault. IfSome (R.remaining reader.old) (λ input.
-        FailsSo service.old.zone.now (D.shards_of service.old.desk.now) (MaySometimeRefuse D.MayRefuse) (MaySometimeBeLate D.MayBeLate) T.Closes fault
-        (record { taken_before = D.taken service.old.desk.now; taken_after = D.taken service.new.desk.now; transcript = D.reply_to service.new.desk.now; till_before = service.old.till.now; till_after = service.new.till.now })
+        FailsSo service.old.zone.now (D.standing service.old.desk.now).shards (MaySometimeRefuse D.standing D.MayRefuse (D.standing service.old.desk.now)) (MaySometimeBeLate D.standing D.MayBeLate (D.standing service.old.desk.now)) T.Closes fault
+        (record { taken_before = D.taken service.old.desk.now; taken_after = D.taken service.new.desk.now; transcript = D.transcript service.new.desk.now; till_before = service.old.till.now; till_after = service.new.till.now })
         input (R.remaining reader.new) (W.contents writer.old) (W.contents writer.new))) }
-    ensures transcript { AreKept (D.reply_to service.old.desk.now) (D.reply_to service.new.desk.now) }
-    ensures same_shards { D.shards_of service.new.desk.now ≡ D.shards_of service.old.desk.now }
-    ensures same_origin { D.origin service.new.desk.now ≡ D.origin service.old.desk.now }
+    ensures transcript { AreKept (D.transcript service.old.desk.now) (D.transcript service.new.desk.now) }
+    ensures same_desk { D.standing service.new.desk.now ≡ D.standing service.old.desk.now }
+    ensures same_till { T.origin service.new.till.now ≡ T.origin service.old.till.now }
 {
     let mut progress = Progress::new();
     match progress.serve(service, reader, writer) {

@@ -5,6 +5,7 @@ ghost use Rattle.pay_day.specs.declared.limits.TheConstants.{FIRST_DAY, LAST_DAY
 ghost use Rattle.pay_shard.specs.Words.{AreKept};
 ghost use Rattle.pay_session.specs.Events.{Taken};
 ghost use Rattle.pay_session.specs.Served.{IsClosed};
+ghost use Rattle.pay_session.specs.Serving.{MaySometimeRefuse, MaySometimeBeLate};
 ghost use Rattle.pay_session.specs.declared.till.CloseFault.{CloseFault};
 ghost use Rattle.pay_session.specs.declared.till.CloseFault.TheVariants.{NotHere};
 
@@ -35,18 +36,26 @@ pub enum CloseFault {
 
 /// Closes days: asks a desk for the quotes of all accounts, and posts them.
 pub trait Till: Drop {
+    /// What a till begins with and keeps.
+    ghost Origin: { Type 0 };
+
+    /// What this till began with.
+    ghost origin: { Self → Self.Origin };
+
     /// What a close comes to: the till before it, the service day, how many shards answer, what was put, the answer, and the
     /// till after it.
     ghost Closes: { Self → ℕ → ℕ → List Taken → Result (List Posting) CloseFault → Self → Type 0 };
 
-    /// Closes a service day, counted from 1970-01-01, over a desk: nothing is put but Quotes of that day, at most one for each
-    /// shard, and the postings are given in ascending order of account.
+    /// Closes a service day, counted from 1970-01-01, over a desk: nothing is put but Quotes of that day, one for each shard in
+    /// order, as far as it comes, and each is got. It answers `DeskFault` only where the desk took one of them not, or some
+    /// brought no quotes.
     fn close<D: Desk>(&mut self, desk: &mut D, day: u32) -> Result<Postings, CloseFault>
         requires { (FIRST_DAY ≤ day) × (day ≤ LAST_DAY) }
-        ensures closed { IsClosed (λ put. Closes self.old day (D.shards_of desk.old) put result self.new) day (D.shards_of desk.old) (D.taken desk.old) (D.taken desk.new) (D.reply_to desk.new) }
-        ensures transcript { AreKept (D.reply_to desk.old) (D.reply_to desk.new) }
-        ensures same_shards { D.shards_of desk.new ≡ D.shards_of desk.old }
-        ensures same_origin { D.origin desk.new ≡ D.origin desk.old };
+        ensures closed { IsClosed (MaySometimeRefuse D.standing D.MayRefuse (D.standing desk.old)) (MaySometimeBeLate D.standing D.MayBeLate (D.standing desk.old))
+            (λ put answer. Closes self.old day (D.standing desk.old).shards put answer self.new) day (D.standing desk.old).shards (D.taken desk.old) (D.taken desk.new) (D.transcript desk.new) result }
+        ensures transcript { AreKept (D.transcript desk.old) (D.transcript desk.new) }
+        ensures same_desk { D.standing desk.new ≡ D.standing desk.old }
+        ensures same_till { origin self.new ≡ origin self.old };
 }
 
 /// A till that closes nothing.
@@ -54,8 +63,12 @@ pub trait Till: Drop {
 pub struct NoTill;
 
 impl Till for NoTill {
-    ghost use Rattle.std.specs.Prelude.{◌≡◌, [], Err};
+    ghost use Rattle.std.specs.Prelude.{◌≡◌, [], Err, ⊤};
     ghost use Rattle.pay_session.specs.declared.till.CloseFault.TheVariants.{NotHere};
+
+    ghost Origin = { ⊤ };
+
+    ghost origin = { λ t. tt };
 
     ghost Closes = { λ before day of put result after. (put ≡ []) × (result ≡ Err NotHere) × (after ≡ before) };
 

@@ -6,16 +6,17 @@ use Rattle.std.proofs.lemmas.Bool.{lt-ltb, eqb-true, eq-eqb}
 use Rattle.std.proofs.lemmas.List.{map-append}
 use Rattle.pay_numbered.specs.Words.{IsIn}
 use Rattle.pay_tables.specs.Words.{FareTables}
-use Rattle.pay_shard.specs.Desks.{IsAfterAll, without, AreKept}
-use Rattle.pay_shard.specs.LocalParts.{commands_of, reply_of, AreInPlace, tickets_of, AreDistinct, AreOfRun, answers_without, IsLocal}
+use Rattle.pay_shard.specs.Desks.{IsAfterAll, IsNoneOf, without, AreKept}
+use Rattle.pay_shard.specs.LocalParts.{commands_of, transcript_of, AreInPlace, tickets_of, AreDistinct, AreOfRun, answers_without, IsLocal}
 use Rattle.pay_shard.specs.Machine.{item_step}
-use Rattle.pay_shard.specs.Runs.{run, replay, reply_at}
-use Rattle.pay_shard.specs.ShardParts.{ShardParts, next_answer, item_of, with_item, with_room}
+use Rattle.pay_shard.specs.Runs.{answers_from}
+use Rattle.pay_shard.specs.ShardParts.{ShardParts, answers_given, next_answer, item_of, with_item, with_room}
 use Rattle.pay_shard.specs.State.{State}
 use Rattle.pay_shard.specs.declared.item.Entry.{Entry}
 use Rattle.pay_shard.specs.declared.item.Item.{Item}
 use Rattle.pay_shard.specs.declared.reply.Answer.{Answer}
 use Rattle.pay_shard.specs.declared.reply.Reply.{Reply}
+use Rattle.pay_shard.proofs.Journals.{answers_more}
 use Rattle.pay_shard.proofs.Places.{all_more}
 
 -- ---- the answer to a ticket is taken out
@@ -75,13 +76,13 @@ module _ (ticket : ℕ) where
 
   -- ---- and what stays is of the run
 
-  pub reply_found : (s : ShardParts) (answers : List Answer) (reply : Reply) → AreOfRun s answers → option_map (λ (a : Answer). a.reply) (find is_its answers) ≡ Some reply → reply_of s ticket ≡ Some reply
+  pub reply_found : (s : ShardParts) (answers : List Answer) (reply : Reply) → AreOfRun s answers → option_map (λ (a : Answer). a.reply) (find is_its answers) ≡ Some reply → option_map (λ (a : Answer). a.reply) (transcript_of s ticket) ≡ Some reply
   reply_found s [] reply of e = absurd (cc)
   reply_found s (a ∷ answers) reply of e = by (a.ticket == ticket) refl (reply_found s answers reply of.1) e
     where
-      by : (b : Bool) → (a.ticket == ticket) ≡ b → (option_map (λ (a : Answer). a.reply) (find is_its answers) ≡ Some reply → reply_of s ticket ≡ Some reply)
-          → option_map (λ (a : Answer). a.reply) (cond b (Some a) (find is_its answers)) ≡ Some reply → reply_of s ticket ≡ Some reply
-      by true is rest e = ap (reply_of s) (sym (eqb-true a.ticket ticket is)) ∙ of.0 ∙ e
+      by : (b : Bool) → (a.ticket == ticket) ≡ b → (option_map (λ (a : Answer). a.reply) (find is_its answers) ≡ Some reply → option_map (λ (a : Answer). a.reply) (transcript_of s ticket) ≡ Some reply)
+          → option_map (λ (a : Answer). a.reply) (cond b (Some a) (find is_its answers)) ≡ Some reply → option_map (λ (a : Answer). a.reply) (transcript_of s ticket) ≡ Some reply
+      by true is rest e = ap (λ n. option_map (λ (a : Answer). a.reply) (transcript_of s n)) (sym (eqb-true a.ticket ticket is)) ∙ ap (option_map (λ (a : Answer). a.reply)) of.0 ∙ e
       by false off rest e = rest e
 
   all_still : (P : Answer → Type 0) (answers : List Answer) → AllByRecursion P answers → AllByRecursion P (answers_without ticket answers)
@@ -111,7 +112,7 @@ module _ (ticket : ℕ) where
 
   pub local_still : (s : ShardParts) (answers left : List Answer) → IsLocal s answers → left ≡ answers_without ticket answers → IsLocal s left
   local_still s answers left is same =
-      subst (IsLocal s) (sym same) (is.0, (all_still (λ (a : Answer). reply_of s a.ticket ≡ Some a.reply) answers is.1.0, distinct_still answers is.1.1))
+      subst (IsLocal s) (sym same) (is.0, (all_still (λ (a : Answer). transcript_of s a.ticket ≡ Some a) answers is.1.0, distinct_still answers is.1.1))
 
   none_left : (tickets : List ℕ) → AllByRecursion (λ y. (y == ticket) ≡ false) tickets → tickets ≡ without ticket tickets
   none_left [] off = refl
@@ -132,37 +133,33 @@ module _ (ticket : ℕ) where
 
 -- ---- one more item
 
-pub replies_more : (tables : FareTables) (state : State) (items : List Item) (item : Item)
-    → (run tables state (items ++ item ∷ [])).replies ≡ (run tables state items).replies ++ (item_step tables (replay tables state items) item).reply ∷ []
-replies_more tables state [] item = refl
-replies_more tables state (first ∷ items) item = ap (λ (l : List Reply). (item_step tables state first).reply ∷ l) (replies_more tables (item_step tables state first).after items item)
+as_many_answers : (shard place : ℕ) (tables : FareTables) (state : State) (items : List Item) → length (answers_from shard place tables state items) ≡ length items
+as_many_answers shard place tables state [] = refl
+as_many_answers shard place tables state (item ∷ items) = ap suc (as_many_answers shard (place + 1) tables (item_step tables state item).after items)
 
-pub as_many_replies : (tables : FareTables) (state : State) (items : List Item) → length (run tables state items).replies ≡ length items
-as_many_replies tables state [] = refl
-as_many_replies tables state (item ∷ items) = ap suc (as_many_replies tables (item_step tables state item).after items)
+still_there : (list more : List Answer) (place : ℕ) (a : Answer) → slice_get list place ≡ Some a → slice_get (list ++ more) place ≡ Some a
+still_there [] more place a e = absurd (cc)
+still_there (x ∷ list) more zero a e = e
+still_there (x ∷ list) more (suc place) a e = still_there list more place a e
 
-still_there : (list more : List Reply) (place : ℕ) (reply : Reply) → slice_get list place ≡ Some reply → slice_get (list ++ more) place ≡ Some reply
-still_there [] more place reply e = absurd (cc)
-still_there (x ∷ list) more zero reply e = e
-still_there (x ∷ list) more (suc place) reply e = still_there list more place reply e
+the_last : (list : List Answer) (a : Answer) → slice_get (list ++ a ∷ []) (length list) ≡ Some a
+the_last [] a = refl
+the_last (x ∷ list) a = the_last list a
 
-the_last : (list : List Reply) (reply : Reply) → slice_get (list ++ reply ∷ []) (length list) ≡ Some reply
-the_last [] reply = refl
-the_last (x ∷ list) reply = the_last list reply
+within : (list : List Answer) (place : ℕ) (a : Answer) → slice_get list place ≡ Some a → place < length list
+within [] place a e = absurd (cc)
+within (x ∷ list) zero a e = omega arith
+within (x ∷ list) (suc place) a e = let rest = within list place a e in omega (arith, rest)
 
-within : (list : List Reply) (place : ℕ) (reply : Reply) → slice_get list place ≡ Some reply → place < length list
-within [] place reply e = absurd (cc)
-within (x ∷ list) zero reply e = omega arith
-within (x ∷ list) (suc place) reply e = let rest = within list place reply e in omega (arith, rest)
+answers_with : (s : ShardParts) (item : Item) (room : ℕ) → answers_given (with_item s item room) ≡ answers_given s ++ next_answer s item ∷ []
+answers_with s item room = answers_more s.number s.tables s.base s.journal item
 
-replies_kept : (tables : FareTables) (base : State) (items : List Item) (item : Item) → AreKept (reply_at tables base items) (reply_at tables base (items ++ item ∷ []))
-replies_kept tables base items item ticket reply e =
-    ap (λ l. slice_get l ticket) (replies_more tables base items item) ∙ still_there (run tables base items).replies ((item_step tables (replay tables base items) item).reply ∷ []) ticket reply e
+answers_kept : (s : ShardParts) (item : Item) (room : ℕ) → AreKept (transcript_of s) (transcript_of (with_item s item room))
+answers_kept s item room ticket a e = ap (λ l. slice_get l ticket) (answers_with s item room) ∙ still_there (answers_given s) (next_answer s item ∷ []) ticket a e
 
-next_reply : (tables : FareTables) (base : State) (items : List Item) (item : Item) → reply_at tables base (items ++ item ∷ []) (length items) ≡ Some (item_step tables (replay tables base items) item).reply
-next_reply tables base items item =
-    let replies = (run tables base items).replies in
-    (λ i. slice_get (replies_more tables base items item i) (sym (as_many_replies tables base items) i)) ∙ the_last replies (item_step tables (replay tables base items) item).reply
+next_stands : (s : ShardParts) (item : Item) (room : ℕ) → transcript_of (with_item s item room) (length s.journal) ≡ Some (next_answer s item)
+next_stands s item room =
+    (λ i. slice_get (answers_with s item room i) (sym (as_many_answers s.number 0 s.tables s.base s.journal) i)) ∙ the_last (answers_given s) (next_answer s item)
 
 in_place_more : (place : ℕ) (items : List Item) (item : Item) → AreInPlace place items → item.entry.lane ≡ 0 → item.entry.ticket ≡ place + length items → AreInPlace place (items ++ item ∷ [])
 in_place_more place [] item are lane ticket = ((lane, omega (arith, ticket)), tt)
@@ -180,7 +177,7 @@ unfolding IsDistinct
 distinct_more [] ticket distinct off = (tt, tt)
 distinct_more (t ∷ tickets) ticket distinct off = (all_more (λ y. (y == t) ≡ false) tickets ticket distinct.0 off.0, distinct_more tickets ticket distinct.1 off.1)
 
--- a ticket that is no place yet is none of those that have a reply
+-- a ticket that is no place yet is none of those that have an answer
 all_new : (s : ShardParts) (ticket : ℕ) (answers : List Answer) → AreOfRun s answers → ticket ≡ length s.journal → AllByRecursion (λ t. (ticket == t) ≡ false) (tickets_of answers)
 all_new s ticket [] of e = tt
 all_new s ticket (a ∷ answers) of e = (by (ticket == a.ticket) refl, all_new s ticket answers of.1 e)
@@ -188,24 +185,36 @@ all_new s ticket (a ∷ answers) of e = (by (ticket == a.ticket) refl, all_new s
     by : (b : Bool) → (ticket == a.ticket) ≡ b → b ≡ false
     by true same =
         let is = eqb-true ticket a.ticket same in
-        let below = within (run s.tables s.base s.journal).replies a.ticket a.reply of.0 in
-        let many = as_many_replies s.tables s.base s.journal in
+        let below = within (answers_given s) a.ticket a of.0 in
+        let many = as_many_answers s.number 0 s.tables s.base s.journal in
+        absurd (omega (arith, is, below, many, e))
+    by false off = refl
+
+pub none_of : (s : ShardParts) (ticket : ℕ) (answers : List Answer) → AreOfRun s answers → ticket ≡ length s.journal → IsNoneOf ticket (tickets_of answers)
+none_of s ticket [] of e = tt
+none_of s ticket (a ∷ answers) of e = (by (a.ticket == ticket) refl, none_of s ticket answers of.1 e)
+  where
+    by : (b : Bool) → (a.ticket == ticket) ≡ b → b ≡ false
+    by true same =
+        let is = eqb-true a.ticket ticket same in
+        let below = within (answers_given s) a.ticket a of.0 in
+        let many = as_many_answers s.number 0 s.tables s.base s.journal in
         absurd (omega (arith, is, below, many, e))
     by false off = refl
 
 of_run_more : (s : ShardParts) (item : Item) (room : ℕ) (answers : List Answer) → AreOfRun s answers → AreOfRun (with_item s item room) answers
 of_run_more s item room [] of = tt
-of_run_more s item room (a ∷ answers) of = (replies_kept s.tables s.base s.journal item a.ticket a.reply of.0, of_run_more s item room answers of.1)
+of_run_more s item room (a ∷ answers) of = (answers_kept s item room a.ticket a of.0, of_run_more s item room answers of.1)
 
 local_more : (s : ShardParts) (answers : List Answer) (entry : Entry) (mark : Bool) (room : ℕ) → IsLocal s answers → entry.lane ≡ 0 → entry.ticket ≡ length s.journal
     → IsLocal (with_item s (item_of entry mark) room) (answers ++ next_answer s (item_of entry mark) ∷ [])
 local_more s answers entry mark room is lane ticket =
     let item = item_of entry mark in
     let answer = next_answer s item in
-    let its_reply = ap (reply_at s.tables s.base (s.journal ++ item ∷ [])) ticket ∙ next_reply s.tables s.base s.journal item in (
+    let its = ap (transcript_of (with_item s item room)) ticket ∙ next_stands s item room in (
       (is.0.0, in_place_more 0 s.journal item is.0.1 lane (omega (arith, ticket))),
       (
-        all_more (λ (a : Answer). reply_of (with_item s item room) a.ticket ≡ Some a.reply) answers answer (of_run_more s item room answers is.1.0) its_reply,
+        all_more (λ (a : Answer). transcript_of (with_item s item room) a.ticket ≡ Some a) answers answer (of_run_more s item room answers is.1.0) its,
         subst AreDistinct (sym (map-append (λ (a : Answer). a.ticket) answers (answer ∷ []))) (distinct_more (tickets_of answers) entry.ticket is.1.1 (all_new s entry.ticket answers is.1.0 ticket)),
       ),
     )
@@ -224,8 +233,8 @@ module _ (s reserved after : ShardParts) (entry : Entry) (mark : Bool) (room lat
       let more = local_more s answers entry mark later_room is lane (ticket ∙ many) in
       subst (λ t. IsLocal t later) (sym is_more) (subst (IsLocal (with_item s (item_of entry mark) later_room)) (sym as_kept) more)
 
-  pub replies_after_put : AreKept (reply_of s) (reply_of after)
-  replies_after_put ticket reply e = ap (λ t. reply_of t ticket) is_more ∙ replies_kept s.tables s.base s.journal (item_of entry mark) ticket reply e
+  pub answers_after_put : AreKept (transcript_of s) (transcript_of after)
+  answers_after_put ticket a e = ap (λ t. transcript_of t ticket) is_more ∙ answers_kept s (item_of entry mark) later_room ticket a e
 
 -- ---- a desk begins
 

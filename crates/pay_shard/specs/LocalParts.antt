@@ -1,12 +1,10 @@
 -- What a desk over one shard keeps.
 use Rattle.std.specs.Prelude.{◌≡◌, ℕ, ◌+◌, ◌==◌, cond, List, [], ◌∷◌, map, Option, Some, ⊤, refl}
 use Rattle.std.specs.Coded.{Coded, code_by, coded×, coded_ℕ, coded_list}
-use Rattle.std.specs.List.{AllByRecursion, IsDistinct}
-use Rattle.pay_shard.specs.Runs.{reply_at}
-use Rattle.pay_shard.specs.ShardParts.{ShardParts, shard_code}
+use Rattle.std.specs.List.{AllByRecursion, IsDistinct, slice_get}
+use Rattle.pay_shard.specs.ShardParts.{ShardParts, shard_code, answers_given}
 use Rattle.pay_shard.specs.declared.asked.Asked.{Asked}
 use Rattle.pay_shard.specs.declared.item.Item.{Item}
-use Rattle.pay_shard.specs.declared.reply.Reply.{Reply}
 use Rattle.pay_shard.specs.declared.reply.Answer.{Answer}
 
 pub record LocalParts : Type 0 where
@@ -22,9 +20,9 @@ local_code = code_by (ShardParts × List ℕ) (coded× shard_code (coded_list co
 abbrev pub commands_of : List Item → List (ℕ × Asked)
 commands_of items = map (λ (i : Item). (i.entry.ticket, i.entry.command)) items
 
--- the reply to a ticket, which is a place of the shard's journal
-abbrev pub reply_of : ShardParts → ℕ → Option Reply
-reply_of s ticket = reply_at s.tables s.base s.journal ticket
+-- the answer to a ticket, which is a place of the shard's journal
+abbrev pub transcript_of : ShardParts → ℕ → Option Answer
+transcript_of s ticket = slice_get (answers_given s) ticket
 
 -- each entry is of lane 0, and its ticket is its place, from a place on
 abbrev pub AreInPlace : ℕ → List Item → Type 0
@@ -41,7 +39,7 @@ AreDistinct tickets = IsDistinct (λ x y. y == x) tickets
 
 -- each answer is that of the run
 abbrev pub AreOfRun : ShardParts → List Answer → Type 0
-AreOfRun s answers = AllByRecursion (λ (a : Answer). reply_of s a.ticket ≡ Some a.reply) answers
+AreOfRun s answers = AllByRecursion (λ (a : Answer). transcript_of s a.ticket ≡ Some a) answers
 
 -- answers without the first to a ticket
 abbrev pub answers_without : ℕ → List Answer → List Answer

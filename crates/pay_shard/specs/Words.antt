@@ -1,5 +1,5 @@
--- Words for the crates above: what a command may ask, the machine that answers, what a shard keeps, what a merge of several is, and what a desk
--- took and replied.
+-- Words for the crates above: what a command may ask, the machine that answers, what a shard keeps, what a merge of several is, and how a desk
+-- stands, what it took and what it answered.
 pub use Rattle.pay_shard.specs.Ranges.{IsInRange}
 pub use Rattle.pay_shard.specs.State.{State, accepted_of}
 pub use Rattle.pay_shard.specs.Selection.{is_of, is_quoted, quoted}
@@ -11,5 +11,5 @@ pub use Rattle.pay_shard.specs.Held.{ArePriced}
 pub use Rattle.pay_shard.specs.ShardParts.{ShardParts, shard_code, state_now, answers_given, next_answer, item_of, with_item, with_room}
 pub use Rattle.pay_shard.specs.Changes.{is_priced, AreAllPriced, asked_by, AreUnmarked, accepted_asked}
 pub use Rattle.pay_shard.specs.Merges.{items_of, all_items, replies_of, IsAskedOf, AreAskedOf, IsWhole}
-pub use Rattle.pay_shard.specs.Desks.{IsForShards, IsAfterAll, without, AreKept}
-pub use Rattle.pay_shard.specs.LocalParts.{LocalParts, local_code, commands_of, reply_of, AreInPlace}
+pub use Rattle.pay_shard.specs.Desks.{Standing, with_waiting, IsForShards, IsAfterAll, IsNoneOf, without, AreKept}
+pub use Rattle.pay_shard.specs.LocalParts.{LocalParts, local_code, commands_of, transcript_of, AreInPlace}

@@ -8,7 +8,7 @@ ghost use Rattle.pay_numbered.specs.Words.{IsIn};
 ghost use Rattle.pay_tables.specs.Words.{FareTables};
 ghost use Rattle.pay_shard.specs.State.{State};
 ghost use Rattle.pay_shard.specs.Held.{ArePriced, state_of};
-ghost use Rattle.pay_shard.specs.LocalParts.{commands_of, reply_of, tickets_of, answers_without, AreInPlace};
+ghost use Rattle.pay_shard.specs.LocalParts.{commands_of, transcript_of, tickets_of, answers_without, AreInPlace};
 ghost use Rattle.pay_shard.specs.declared.desk.DeskFault.TheVariants.{Memory};
 ghost use Rattle.pay_shard.specs.declared.reply.Answer.{Answer};
 
@@ -112,15 +112,11 @@ impl<F: Fares> LocalDesk<F> {
 impl<F: Fares> Desk for LocalDesk<F> {
     ghost Origin = { FareTables × State };
 
-    ghost origin = { λ d. (d.shard.tables, d.shard.base) };
-
-    ghost shards_of = { λ d. 1 };
+    ghost standing = { λ d. record { origin = (d.shard.tables, d.shard.base); shards = 1; waiting = d.waiting } };
 
     ghost taken = { λ d. commands_of d.shard.journal };
 
-    ghost reply_to = { λ d. reply_of d.shard };
-
-    ghost waiting = { λ d. d.waiting };
+    ghost transcript = { λ d. transcript_of d.shard };
 
     ghost MayRefuse = { λ d fault. fault ≡ Memory };
 

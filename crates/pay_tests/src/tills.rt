@@ -1,6 +1,7 @@
 //! Sessions over a desk that refuses, is late and wants memory, and over a till that posts and refuses.
 
-ghost use Rattle.std.specs.Prelude.{◌≤◌};
+ghost use Rattle.std.specs.Prelude.{◌≤◌, ◌≢◌};
+ghost use Rattle.pay_session.specs.declared.till.CloseFault.TheVariants as close_fault;
 
 use crate::accounts::expect_price;
 use crate::given::{MONDAY, expect_same, sample, tap_at};
@@ -26,19 +27,16 @@ struct Unwilling {
 impl Desk for Unwilling {
     ghost use Rattle.std.specs.Prelude.{Some, ⊤};
     ghost use Rattle.pay_shard.specs.Words.{commands_of};
+    ghost use Rattle.pay_shard.specs.declared.asked.Asked.TheVariants.{Due};
     ghost use Rattle.pay_shard.specs.declared.reply.Reply.TheVariants.{Memory};
 
     ghost Origin = { ⊤ };
 
-    ghost origin = { λ d. tt };
-
-    ghost shards_of = { λ d. 1 };
+    ghost standing = { λ d. record { origin = tt; shards = 1; waiting = d.local.waiting } };
 
     ghost taken = { λ d. commands_of d.local.shard.journal };
 
-    ghost reply_to = { λ d ticket. Some Memory };
-
-    ghost waiting = { λ d. d.local.waiting };
+    ghost transcript = { λ d ticket. Some (record { shard = 0; place = 0; ticket = ticket; command = Due 7 19_730; reply = Memory }) };
 
     ghost MayRefuse = { λ d fault. ⊤ };
 
@@ -68,8 +66,8 @@ impl Desk for Unwilling {
     }
 }
 
-/// Posts what it holds at its first close, and refuses the others by these faults in turn. It asks its desk for nothing, and
-/// counts the closes.
+/// Posts what it holds at its first close, and refuses the others by these faults in turn. It asks its desk for nothing, so
+/// that no fault is the desk's, and counts the closes.
 #[derive(Drop)]
 struct Prepared<'a> {
     postings: Option<Postings>,
@@ -78,19 +76,28 @@ struct Prepared<'a> {
 }
 
 impl Prepared<'_> {
-    fn next_fault(&mut self) -> CloseFault {
+    fn next_fault(&mut self) -> CloseFault
+        ensures { result ≢ close_fault.DeskFault }
+    {
         match self.faults {
             [] => CloseFault::NotHere,
             [fault, faults @ ..] => {
                 self.faults = faults;
-                *fault
+                match *fault {
+                    CloseFault::DeskFault => CloseFault::NotHere,
+                    fault => fault,
+                }
             }
         }
     }
 }
 
 impl Till for Prepared<'_> {
-    ghost use Rattle.std.specs.Prelude.{◌≡◌, []};
+    ghost use Rattle.std.specs.Prelude.{◌≡◌, [], ⊤};
+
+    ghost Origin = { ⊤ };
+
+    ghost origin = { λ t. tt };
 
     ghost Closes = { λ before day of put result after. put ≡ [] };
 
@@ -104,11 +111,10 @@ impl Till for Prepared<'_> {
 }
 
 /// The faults at the closes behind the first, which posts.
-static FAULTS: [CloseFault; 8] = [
+static FAULTS: [CloseFault; 7] = [
     CloseFault::NotHere,
     CloseFault::StaleQuote,
     CloseFault::Store,
-    CloseFault::DeskFault,
     CloseFault::BadArchive,
     CloseFault::ArchiveConflict,
     CloseFault::QuoteDiffers,
@@ -117,11 +123,11 @@ static FAULTS: [CloseFault; 8] = [
 
 /// A command for each of the desk's replies, a close for each of the till's, and the end.
 const LINES: &str =
-    "DUE 7 19730\nDUE 7 19730\nTAP 1 1 7 1704697200 50 BUS\nSHOW 7 19730\nSHOW 7 19730\nCLOSE 19730\nCLOSE 19730\nCLOSE 19730\nCLOSE 19730\nCLOSE 19730\nCLOSE 19730\nCLOSE 19730\nCLOSE 19730\nCLOSE 19730\nQUIT\n";
+    "DUE 7 19730\nDUE 7 19730\nTAP 1 1 7 1704697200 50 BUS\nSHOW 7 19730\nSHOW 7 19730\nCLOSE 19730\nCLOSE 19730\nCLOSE 19730\nCLOSE 19730\nCLOSE 19730\nCLOSE 19730\nCLOSE 19730\nCLOSE 19730\nQUIT\n";
 
 /// The replies.
 const REPLIES: &str =
-    "NO 30 Busy\nNO 31 Window\nNO 52 Late\nNO 90 Memory\nNO 90 Memory\nPAY 7 19730 19730 1 175 175 4=175\nPAY 8 19730 19730 1 175 -25 1=-20 4=-5\nDONE 19730 2\nNO 34 NotHere\nNO 42 StaleQuote\nNO 43 Store\nNO 44 DeskFault\nNO 45 BadArchive\nNO 46 ArchiveConflict\nNO 47 QuoteDiffers\nNO 90 Memory\nBYE\n";
+    "NO 30 Busy\nNO 31 Window\nNO 52 Late\nNO 90 Memory\nNO 90 Memory\nPAY 7 19730 19730 1 175 175 4=175\nPAY 8 19730 19730 1 175 -25 1=-20 4=-5\nDONE 19730 2\nNO 34 NotHere\nNO 42 StaleQuote\nNO 43 Store\nNO 45 BadArchive\nNO 46 ArchiveConflict\nNO 47 QuoteDiffers\nNO 90 Memory\nBYE\n";
 
 /// What is posted for a boarding of an account.
 fn posting<R: Abort + AllocGlobal>(
@@ -217,18 +223,18 @@ fn lines_until<'a>(until: usize) -> Trickle<'a> {
 /// What all lines come to.
 const ALL: Ended = Ended {
     result: Ok(Done {
-        answered: 15,
+        answered: 14,
         quit: true,
         lacked_memory: true,
     }),
     asked: 5,
-    closes: 9,
+    closes: 8,
 };
 
 #[test]
 fn says_what_a_desk_and_a_till_say(rt: HostRuntime) {
     let writer = Scripted::new(rt.alloc(), &[]);
-    expect_ended(&rt, lines_until(usize::MAX), writer, ALL, 281);
+    expect_ended(&rt, lines_until(usize::MAX), writer, ALL, 265);
 }
 
 #[test]
@@ -242,7 +248,7 @@ fn closes_where_it_was_interrupted(rt: HostRuntime) {
         most: 5,
         ..Scripted::new(rt.alloc(), &[])
     };
-    expect_ended(&rt, reader, writer, ALL, 281);
+    expect_ended(&rt, reader, writer, ALL, 265);
 }
 
 /// The reader fails behind so many bytes: the lines before are answered, and no other is asked for.
@@ -271,7 +277,7 @@ fn closes_until_the_reader_fails(rt: HostRuntime) {
     expect_read_fault(&rt, 52, 3, 35, 0);
     expect_read_fault(&rt, 89, 5, 61, 0);
     expect_read_fault(&rt, 90, 6, 147, 1);
-    expect_read_fault(&rt, 187, 14, 277, 9);
+    expect_read_fault(&rt, 175, 13, 261, 8);
 }
 
 /// The writer fails behind so many bytes: the next line was asked for, and the lines behind it were not.

@@ -1,4 +1,4 @@
-use Rattle.std.proofs.Common.{inl, inr, List, [], ◌∷◌, ◌++◌, refl, sym, subst}
+use Rattle.std.proofs.Common.{inl, inr, List, [], ◌∷◌, ◌++◌, refl, sym, subst, ap}
 use Rattle.pay_numbered.specs.Words.{IsIn}
 use Rattle.pay_tests.proofs.desks.answered.Goals as goal
 
@@ -8,4 +8,4 @@ is_last [] x = inl refl
 is_last (y ∷ list) x = inr (is_last list x)
 
 pub get-requires : goal.get-requires
-get-requires c = subst (λ waiting. IsIn waiting c.in-Ok.ticket) (sym c.in-Ok.ensures.waits) (is_last _ c.in-Ok.ticket)
+get-requires c = subst (λ waiting. IsIn waiting c.in-Ok.ticket) (sym (ap (λ s. s.waiting) c.in-Ok.ensures.waits)) (is_last _ c.in-Ok.ticket)

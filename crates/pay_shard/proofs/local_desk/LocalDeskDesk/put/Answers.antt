@@ -1,9 +1,9 @@
 use Rattle.std.proofs.Common.{refl, ap, ◌∙◌, length, subst}
-use Rattle.pay_shard.specs.Desks.{IsAfterAll, AreKept}
-use Rattle.pay_shard.specs.LocalParts.{LocalParts, commands_of, reply_of}
+use Rattle.pay_shard.specs.Desks.{IsAfterAll, IsNoneOf, AreKept}
+use Rattle.pay_shard.specs.LocalParts.{LocalParts, commands_of, transcript_of}
 use Rattle.pay_shard.specs.Machine.{is_memory}
 use Rattle.pay_shard.specs.ShardParts.{ShardParts}
-use Rattle.pay_shard.proofs.LocalDesks.{local_after_put, replies_after_put, after_all}
+use Rattle.pay_shard.proofs.LocalDesks.{local_after_put, answers_after_put, after_all, none_of}
 use Rattle.pay_shard.proofs.local_desk.LocalDeskDesk.put.Goals as goal
 
 pub invariant_of-self-2 : goal.invariant_of-self-2
@@ -19,6 +19,11 @@ returns-clause-later g c =
 
 pub returns-clause-transcript : goal.returns-clause-transcript
 returns-clause-transcript g c =
-    subst (λ (d : LocalParts). AreKept (reply_of d.shard) (reply_of c.apply.new.self)) c.self.view_is
-    (replies_after_put c.self.inside.shard c.reserve-2.new.self c.apply.new.self (record { lane = 0; ticket = length c.journal.result.now; command = c.args.command }) (is_memory c.apply.result.reply)
+    subst (λ (d : LocalParts). AreKept (transcript_of d.shard) (transcript_of c.apply.new.self)) c.self.view_is
+    (answers_after_put c.self.inside.shard c.reserve-2.new.self c.apply.new.self (record { lane = 0; ticket = length c.journal.result.now; command = c.args.command }) (is_memory c.apply.result.reply)
     c.reserve-2.new.self.room c.apply.new.self.room c.in_ok-reserve-2.ensures.same c.apply.ensures.journal)
+
+pub returns-clause-fresh : goal.returns-clause-fresh
+returns-clause-fresh g c =
+    let many = c.of.ensures ∙ ap length c.journal.ensures.value ∙ ap (λ (s : ShardParts). length s.journal) c.in_ok-reserve-2.ensures.same in
+    subst (λ (d : LocalParts). IsNoneOf c.of.result d.waiting) c.self.view_is (none_of c.self.inside.shard c.of.result c.self.inside.kept.items c.self.invariant.1.0 many)
