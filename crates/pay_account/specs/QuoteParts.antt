@@ -1,7 +1,7 @@
 -- The numbers of a quote, and their ranges.
 use Rattle.std.specs.Prelude.{◌≡◌, ℕ, ◌+◌, ◌≤◌, List, length, sum, refl}
 use Rattle.std.specs.Coded.{Coded, code_by, coded×, coded_ℕ, coded_list}
-use Rattle.pay_day.specs.Words.{IsDay}
+use Rattle.pay_day.specs.Words.{IsDay, monday}
 use Rattle.pay_taps.specs.declared.limits.TheConstants.{MOST_TAPS}
 use Rattle.pay_fix.specs.declared.limits.TheConstants.{MOST_FIXES}
 use Rattle.pay_money.specs.declared.limits.TheConstants.{OPERATORS, MOST_MONEY}
@@ -28,11 +28,15 @@ quote_code =
     (λ p. record { account = p.0; week = p.1.0; through = p.1.1.0; version = p.1.1.1.0; due = p.1.1.1.1.0; shares = p.1.1.1.1.1 })
     (λ _. refl)
 
+-- a week, told by its Monday, and a day of it through which it may be quoted
+pub record IsWeekThrough (week through : ℕ) : Type 0 where
+  pub through_day : IsDay through
+  pub its_monday : week ≡ monday through
+
 -- each number is in its range, and the shares are all that is due
 pub record IsQuote (quote : QuoteParts) : Type 0 where
   pub of_account : 1 ≤ quote.account
-  pub of_week : IsDay quote.week
-  pub through_day : IsDay quote.through
+  pub of_week : IsWeekThrough quote.week quote.through
   pub at_version : quote.version ≤ MOST_TAPS + MOST_FIXES
   pub in_range : quote.due ≤ MOST_MONEY
   pub operators : length quote.shares ≡ OPERATORS

@@ -40,6 +40,13 @@ impl Postings {
     {
         &self.postings
     }
+
+    /// The postings, which takes no memory.
+    pub fn into_vec(self) -> Vec<Posting>
+        ensures { result.items ≡ self }
+    {
+        self.postings
+    }
 }
 
 /// Postings are made of a vector, which takes no memory.

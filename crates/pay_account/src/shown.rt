@@ -62,6 +62,13 @@ impl Lines {
     {
         &self.lines
     }
+
+    /// The lines, which takes no memory.
+    pub fn into_vec(self) -> Vec<Line>
+        ensures { result.items ≡ self }
+    {
+        self.lines
+    }
 }
 
 /// Lines are made of a vector, which takes no memory.

@@ -25,6 +25,8 @@ mod journeys;
 #[cfg(test)]
 mod quotes;
 #[cfg(test)]
+mod records;
+#[cfg(test)]
 mod sessions;
 #[cfg(test)]
 mod shards;

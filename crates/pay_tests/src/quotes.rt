@@ -10,6 +10,7 @@ use crate::statements::{BY_RAIL, expect_statement};
 use pay_account::*;
 use pay_fix::What;
 use pay_money::Pence;
+use pay_money::limits::OPERATORS;
 use pay_tables::Tables;
 use pay_taps::Kind;
 use std::alloc::AllocError;
@@ -120,4 +121,39 @@ fn keeps_what_was_accepted(rt: HostRuntime) {
         (Some(&tap), 1),
     );
     expect_same(&rt, sets.fixes().len(), 1);
+}
+
+/// Whether the numbers of a quote of an account, at a version, for the week of the Monday through a day give one.
+fn is_rebuilt(
+    account: u32,
+    through: u32,
+    version: u32,
+    due: u64,
+    shares: [u64; OPERATORS],
+) -> bool {
+    Quote::rebuilt(account, MONDAY, through, version, Pence::new(due), shares).is_some()
+}
+
+#[test]
+fn rebuilds_quotes(rt: HostRuntime) {
+    let shared = first_four(593, 297, 0, 0);
+    let most = first_four(4_000_000_000, 0, 0, 0);
+    let more = first_four(4_000_000_000, 0, 0, 1);
+    let wrapped = first_four(u64::MAX, 891, 0, 0);
+    let found = [
+        is_rebuilt(7, MONDAY, 6, 890, shared),
+        is_rebuilt(4_294_967_295, MONDAY + 6, 17_408, 4_000_000_000, most),
+        is_rebuilt(0, MONDAY, 6, 890, shared),
+        is_rebuilt(7, MONDAY + 7, 6, 890, shared),
+        is_rebuilt(7, MONDAY, 17_409, 890, shared),
+        is_rebuilt(7, MONDAY, 6, 889, shared),
+        is_rebuilt(7, MONDAY, 6, 891, shared),
+        is_rebuilt(7, MONDAY, 6, 890, wrapped),
+        is_rebuilt(7, MONDAY, 6, 4_000_000_001, more),
+    ];
+    expect_same(
+        &rt,
+        found,
+        [true, true, false, false, false, false, false, false, false],
+    );
 }

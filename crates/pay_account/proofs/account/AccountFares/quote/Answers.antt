@@ -14,8 +14,7 @@ use Rattle.pay_account.proofs.account.AccountFares.quote.Goals as goal
 pub new-requires : goal.new-requires
 new-requires c = record {
   of_account = omega (arith, c.requires.numbered, ap (λ a. a.0) c.self.view_is);
-  of_week = (omega (arith, c.monday-week.ensures.is_monday, c.requires.is_day), omega (arith, c.monday-week.ensures.not_after, c.requires.is_day));
-  through_day = c.requires.is_day;
+  of_week = record { through_day = c.requires.is_day; its_monday = c.monday-week.ensures.value };
   at_version = c.version.ensures.in_range;
   in_range =
       omega (

@@ -1,0 +1,11 @@
+mod Creates
+mod Adds
+mod Returns
+mod Rises
+mod Selects
+mod Numbers
+mod Texts
+mod Added
+mod Posted
+mod Kept
+mod Made

@@ -1,0 +1,61 @@
+-- The rows of the ledger, and what it is for a database to hold them.
+use Rattle.std.specs.Prelude.{◌≡◌, ◌<ℤ◌, ℤ, pos, List, [], ◌∷◌, map, drop, codes}
+use Rattle.sqlite.specs.declared.types.Value.TheVariants.{Null, Int, Text}
+use Rattle.sqlite.specs.Order.{Row}
+use Rattle.sqlite.specs.Tree.{rowid}
+use Rattle.sqlite.specs.Effect.{Database}
+use Rattle.pay_records.specs.declared.row.PostingRow.{PostingRow}
+use Rattle.pay_records.specs.declared.row.ShareRow.{ShareRow}
+use Rattle.pay_records.specs.declared.row.TapRow.{TapRow}
+use Rattle.pay_records.specs.declared.row.FixRow.{FixRow}
+use Rattle.pay_records.specs.Tables.{ledger_schema, meta_tree, postings_tree, shares_tree, taps_tree, fixes_tree}
+
+-- All that a ledger has written, each table in the order in which it was: a posting beside its number and its account, a tap and a correction beside the account.
+pub record LedgerRows : Type 0 where
+  pub postings : List (ℤ × ℤ × PostingRow)
+  pub shares : List ShareRow
+  pub taps : List (ℤ × TapRow)
+  pub fixes : List (ℤ × FixRow)
+
+-- the columns of a table behind its rowid
+abbrev pub meta_columns : Row
+meta_columns = Text (codes "farebox") ∷ Int (pos 1) ∷ []
+
+abbrev pub share_numbers : ShareRow → List ℤ
+share_numbers s = s.posting ∷ s.operator ∷ s.amount ∷ []
+
+abbrev pub tap_numbers : ℤ × TapRow → List ℤ
+tap_numbers (account, t) = account ∷ t.reader ∷ t.seq ∷ t.utc ∷ t.day ∷ t.second ∷ t.place ∷ t.kind ∷ []
+
+abbrev pub fix_numbers : ℤ × FixRow → List ℤ
+fix_numbers (account, f) = account ∷ f.staff ∷ f.seq ∷ f.what ∷ f.a ∷ f.b ∷ f.c ∷ f.d ∷ f.e ∷ []
+
+abbrev pub posting_numbers : ℤ → PostingRow → List ℤ
+posting_numbers account p = account ∷ p.week ∷ p.through ∷ p.version ∷ p.due ∷ p.amount ∷ []
+
+-- the number of a posting is its rowid, and its column of that name is empty
+abbrev pub posting_row : ℤ × ℤ × PostingRow → Row
+posting_row (id, account, p) = Int id ∷ Null ∷ map Int (posting_numbers account p)
+
+-- the rowids rise from above this number on
+abbrev pub RiseFrom : ℤ → List Row → Type 0
+RiseFrom low [] = Unit {0}
+RiseFrom low (r ∷ rs) = (id : ℤ) × (rowid r ≡ Int id) × (low <ℤ id) × RiseFrom id rs
+
+-- rows of whole numbers, whatever their rowids are
+pub record AreNumbers (rows : List Row) (numbers : List (List ℤ)) : Type 0 where
+  pub rising : RiseFrom (pos 0) rows
+  pub are : map (drop 1) rows ≡ map (map Int) numbers
+
+-- a database that is a ledger with these rows, and nothing beside it
+pub record HoldsRows (db : Database) (rows : LedgerRows) : Type 0 where
+  pub schema_is : db.schema ≡ ledger_schema
+  pub meta : map (drop 1) (db.trees meta_tree) ≡ meta_columns ∷ []
+  pub postings : db.trees postings_tree ≡ map posting_row rows.postings
+  pub postings_rise : RiseFrom (pos 0) (db.trees postings_tree)
+  pub shares : AreNumbers (db.trees shares_tree) (map share_numbers rows.shares)
+  pub taps : AreNumbers (db.trees taps_tree) (map tap_numbers rows.taps)
+  pub fixes : AreNumbers (db.trees fixes_tree) (map fix_numbers rows.fixes)
+
+abbrev pub no_rows : LedgerRows
+no_rows = record { postings = []; shares = []; taps = []; fixes = [] }
