@@ -5,9 +5,9 @@ use Rattle.sqlite.specs.declared.types.Value.TheVariants.{Null, Int}
 use Rattle.sqlite.specs.declared.error.Error.{Error}
 use Rattle.sqlite.specs.Order.{Row}
 use Rattle.sqlite.specs.State.{State, ExecutesInside}
-use Rattle.pay_records.specs.declared.row.ShareRow.{ShareRow}
-use Rattle.pay_records.specs.declared.row.TapRow.{TapRow}
-use Rattle.pay_records.specs.declared.row.FixRow.{FixRow}
+use Rattle.pay_rows.specs.declared.row.ShareRow.{ShareRow}
+use Rattle.pay_rows.specs.declared.row.TapRow.{TapRow}
+use Rattle.pay_rows.specs.declared.row.FixRow.{FixRow}
 use Rattle.pay_records.specs.Tables.{ledger_schema, shares_columns, taps_columns, fixes_columns}
 use Rattle.pay_records.specs.Rows.{LedgerRows, HoldsRows, AreNumbers, RiseFrom, share_numbers, tap_numbers, fix_numbers}
 use Rattle.pay_records.specs.Steps.{Changes}

@@ -1,5 +1,5 @@
 -- What was committed stays, whatever a statement in a transaction does.
-use Rattle.std.proofs.Common.{◌⊎◌, inl, inr, ℕ, List, [], Some, None, Option, true, Ok, Err, Result, IsTrue, refl}
+use Rattle.std.proofs.Common.{◌≡◌, OnOk, ◌⊎◌, inl, inr, ℕ, List, [], Some, None, Option, true, Ok, Err, Result, IsTrue, refl}
 use Rattle.sqlite_resolve.specs.declared.compiled.Compiled.{Compiled}
 use Rattle.sqlite_schema.specs.declared.command.Returning.{Returning}
 use Rattle.sqlite.specs.declared.error.Error.{Error}
@@ -16,14 +16,14 @@ kept_inside held sql params old new (Err e) (inr (escapes, refused, same)) = rec
 pub kept_same : (old : State) → KeepsCommit old old
 kept_same old = record { was_open = λ live. live; committed = λ _. refl }
 
-kept_unchanged : (old new : State) → IsUnchanged old new → KeepsCommit old new
+pub kept_unchanged : (old new : State) → IsUnchanged old new → KeepsCommit old new
 kept_unchanged old new same = record { was_open = λ _. same.0.was_open; committed = λ _. same.0.committed_is }
 
 kept_undone : (old new : State) → IsRolledBack old new → KeepsCommit old new
 kept_undone old new undone = record { was_open = undone.was_open; committed = λ live. (undone.undone live).1 }
 
 module _ (old new : State) (sql : List ℕ) where
-  kept_not_run : (params : Row) (e : Error) → IsNotRun old new sql params e → KeepsCommit old new
+  pub kept_not_run : (params : Row) (e : Error) → IsNotRun old new sql params e → KeepsCommit old new
   unfolding IsNotRun
   kept_not_run params e (inl refused) = kept_unchanged old new refused.1
   kept_not_run params e (inr fails) = kept_undone old new fails.3
@@ -65,3 +65,21 @@ module _ (old new : State) (sql : List ℕ) where
 
 pub went_on : (old new : State) → Shows old new new.now old.committed true → IsTrue old.in_transaction → GoesOn old new
 went_on old new h inside = record { before = inside; after = h.mode; was_open = h.was_open; is_open = h.is_open; committed = h.committed_is }
+
+-- a query goes on in the transaction in which it began
+inside_by : (old new : State) (sql : List ℕ) (c : Compiled) (params : Row) (rows : List Row) (returning : Option Returning) → ShowsRows old new sql c params rows returning → new.in_transaction ≡ old.in_transaction
+inside_by old new sql c params rows None h = h.3.0.mode
+inside_by old new sql c params rows (Some what) h = h.1.shown.mode
+
+pub inside_shown : (old new : State) (sql : List ℕ) (params : Row) (rows : List Row) → Shown sql params old new rows → new.in_transaction ≡ old.in_transaction
+unfolding Shown
+inside_shown old new sql params rows h = inside_by old new sql h.0 _ rows h.0.returning h.2
+
+pub inside_row : (old new : State) (sql : List ℕ) (params : Row) (row : Row) → QueriesRow sql params old new (Ok row) → new.in_transaction ≡ old.in_transaction
+unfolding QueriesRow
+inside_row old new sql params row (inl h) = h.1.0.mode
+inside_row old new sql params row (inr h) = inside_shown old new sql params h.0 h.1
+
+pub on_ok : {A : Type 0} (P : Type 0) (r : Result A Error) → P → OnOk r P
+on_ok P (Ok x) h = h
+on_ok P (Err e) h = tt

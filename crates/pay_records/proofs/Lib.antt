@@ -3,6 +3,10 @@ mod Adds
 mod Returns
 mod Rises
 mod Selects
+mod SelectTexts
+mod Answered
+mod Tells
+mod Kinded
 mod Numbers
 mod Texts
 mod Added

@@ -10,7 +10,7 @@ use Rattle.sqlite.specs.Tree.{Trees, put_row}
 use Rattle.sqlite.specs.Cast.{cast_row}
 use Rattle.sqlite.specs.Rowids.TheVariants.{Above}
 use Rattle.sqlite.specs.Edit.{with_rowid, next_rowid, at_least}
-use Rattle.pay_records.specs.declared.row.PostingRow.{PostingRow}
+use Rattle.pay_rows.specs.declared.row.PostingRow.{PostingRow}
 use Rattle.pay_records.specs.Tables.{postings_columns, ledger_schema}
 use Rattle.pay_records.specs.Rows.{LedgerRows, HoldsRows, AreNumbers, RiseFrom, posting_row, posting_numbers, share_numbers, tap_numbers, fix_numbers}
 use Rattle.sqlite_resolve.specs.declared.compiled.Compiled.{Compiled}

@@ -12,7 +12,7 @@ use Rattle.pay_records.specs.Rows.{RiseFrom}
 abbrev pub next_from : ℤ → List Row → ℤ
 next_from start rows = fold (λ _ r. id_in (rowid r) +ℤ pos 1) start rows
 
-below : (m n : ℤ) → m <ℤ n → value_cmp (Int m) (Int n) ≡ Less
+pub below : (m n : ℤ) → m <ℤ n → value_cmp (Int m) (Int n) ≡ Less
 below m n h = value_cmp-Int m n ∙ grind (arith, ints, nat_tests)
 
 -- the last of rowids that rise is the start or above it

@@ -7,7 +7,8 @@ use Rattle.sqlite.specs.Schema.{Schema}
 use Rattle.sqlite.specs.Order.{Row}
 use Rattle.sqlite.specs.Tree.{Trees}
 use Rattle.sqlite.specs.Term.{Term}
-use Rattle.sqlite.specs.Query.{Query, Output, IsAnswer, output, output_cmp, inner, end, matches}
+use Rattle.sqlite_sql.specs.Query.{Join}
+use Rattle.sqlite.specs.Query.{Query, Output, IsAnswer, output, output_cmp, matches}
 use Rattle.sqlite.specs.Program.{overlay}
 use Rattle.sqlite.specs.declared.types.Value.TheVariants.{Null, Int}
 use Rattle.sqlite.specs.Term.{lit}
@@ -20,10 +21,10 @@ module _ (text : List ℕ) (schema : Schema) (q : Query) (names : List (List ℕ
   pub answers : (params : Row) (old new : State) (rows : List Row) → old.now.schema ≡ schema → Shown text params old new rows → IsAnswer q (overlay old.now.trees []) params rows
   answers params old new rows has h = (reads_as text params old new schema has (Select (record { lets = []; body = q }) names) command plain unlisted rows h).answer Null
 
--- all rows of a table that pass a test, in order
-abbrev pub simple : ℕ → List Term → List Term → List (Term × Key) → Query
-simple tree test project order = record {
-  from = inner tree end;
+-- all rows of a table, or of tables side by side, that pass a test, in order
+abbrev pub simple : Join → List Term → List Term → List (Term × Key) → Query
+simple from test project order = record {
+  from = from;
   filter = test;
   group = None;
   project = project;
@@ -41,9 +42,9 @@ pub record AreOutputs (q : Query) (all : List Output) (rows : List Row) : Type 0
   pub sorted : IsSorted (output_cmp q) ordered
   pub shown : rows ≡ map (λ o. o.1) ordered
 
-pub simply : (tree : ℕ) (test project : List Term) (order : List (Term × Key)) (db : Trees) (params : Row) (rows : List Row) → IsAnswer (simple tree test project order) db params rows
-    → AreOutputs (simple tree test project order) (map (output (simple tree test project order)) (matches db test (inner tree end) (params ∷ []))) rows
-simply tree test project order db params rows a =
-    let q = simple tree test project order in
-    let kept : a.kept ≡ map (output q) (matches db test (inner tree end) (params ∷ [])) = a.distinct ∙ ap (map (output q)) a.grouped in
+pub simply : (from : Join) (test project : List Term) (order : List (Term × Key)) (db : Trees) (params : Row) (rows : List Row) → IsAnswer (simple from test project order) db params rows
+    → AreOutputs (simple from test project order) (map (output (simple from test project order)) (matches db test from (params ∷ []))) rows
+simply from test project order db params rows a =
+    let q = simple from test project order in
+    let kept : a.kept ≡ map (output q) (matches db test from (params ∷ [])) = a.distinct ∙ ap (map (output q)) a.grouped in
     record { ordered = a.ordered; same = subst (λ k. IsPermutation k a.ordered) kept a.same; sorted = a.sorted; shown = a.shown }

@@ -4,10 +4,10 @@ use Rattle.sqlite.specs.declared.types.Value.TheVariants.{Null, Int, Text}
 use Rattle.sqlite.specs.Order.{Row}
 use Rattle.sqlite.specs.Tree.{rowid}
 use Rattle.sqlite.specs.Effect.{Database}
-use Rattle.pay_records.specs.declared.row.PostingRow.{PostingRow}
-use Rattle.pay_records.specs.declared.row.ShareRow.{ShareRow}
-use Rattle.pay_records.specs.declared.row.TapRow.{TapRow}
-use Rattle.pay_records.specs.declared.row.FixRow.{FixRow}
+use Rattle.pay_rows.specs.declared.row.PostingRow.{PostingRow}
+use Rattle.pay_rows.specs.declared.row.ShareRow.{ShareRow}
+use Rattle.pay_rows.specs.declared.row.TapRow.{TapRow}
+use Rattle.pay_rows.specs.declared.row.FixRow.{FixRow}
 use Rattle.pay_records.specs.Tables.{ledger_schema, meta_tree, postings_tree, shares_tree, taps_tree, fixes_tree}
 
 -- All that a ledger has written, each table in the order in which it was: a posting beside its number and its account, a tap and a correction beside the account.

@@ -1,11 +1,15 @@
-//! The five tables of the ledger in a database: making them, and adding rows.
+//! The five tables of the ledger in a database: making them, adding rows and reading them.
 #![tactic(auto)]
 
+mod fault;
+mod kind;
 mod read;
-mod row;
 mod tables;
+mod told;
 mod write;
 
-pub use row::{FixRow, PostingRow, ShareRow, TapRow};
+pub use fault::ReadFault;
+pub use kind::Kind;
+pub use read::{all_fixes, all_taps, fixes_of, postings_of, shares_of, taps_of};
 pub use tables::make;
 pub use write::{add_fix, add_posting, add_share, add_tap};

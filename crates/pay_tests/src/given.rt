@@ -13,6 +13,29 @@ pub fn expect_same<R: Abort, T: Copy + PartialEq + Debug>(rt: &R, found: T, want
     assert_eq!(rt; found, wanted);
 }
 
+/// So a list was found, and these are its items.
+pub fn expect_list<R: Abort, T: PartialEq + Debug + Drop, F: Copy + PartialEq + Debug>(
+    rt: &R,
+    found: Result<Vec<T>, F>,
+    wanted: Result<&[T], F>,
+) {
+    match found {
+        Ok(list) => expect_same(rt, Ok(list.as_slice()), wanted),
+        Err(fault) => expect_same(rt, Err(fault), wanted),
+    }
+}
+
+/// So a list was found, and these are its items in some order.
+pub fn expect_members<R: Abort, T: PartialEq + Drop, F: Debug>(
+    rt: &R,
+    found: Result<Vec<T>, F>,
+    wanted: &[T],
+) {
+    let list = found.expect(rt, "a list");
+    expect_same(rt, list.len(), wanted.len());
+    expect_same(rt, wanted.iter().all(|item| list.contains(item)), true);
+}
+
 /// Monday, 2024-01-08.
 pub const MONDAY: u32 = 19_730;
 

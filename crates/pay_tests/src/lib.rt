@@ -23,6 +23,10 @@ mod given;
 #[cfg(test)]
 mod journeys;
 #[cfg(test)]
+mod ledger_rows;
+#[cfg(test)]
+mod postings;
+#[cfg(test)]
 mod quotes;
 #[cfg(test)]
 mod records;

@@ -1,7 +1,9 @@
-//! The ledger's tables, over a database in memory, and what SQL shows of them.
+//! The ledger's tables, over a database in memory: what SQL shows of them, and what is read back.
 
-use crate::given::expect_same;
+use crate::given::{expect_list, expect_members, expect_same};
+use crate::ledger_rows::{CHARGED, GIVEN_BACK, TAPPED, row_of};
 use pay_records::*;
+use pay_rows::{FixRow, PostingRow, ShareRow, TapRow};
 use sqlite::{Connection, Error, MemStore, Transaction};
 use std::process::Abort;
 
@@ -15,58 +17,74 @@ fn expect_number<R: Abort>(rt: &R, conn: &mut Connection<MemStore>, sql: &str, w
     expect_same(rt, found, wanted);
 }
 
-/// Two postings of one week, with the shares of an operator, a tap, and a correction of each column.
-fn written(tx: &mut Transaction<'_, MemStore>) -> Result<(i64, i64), Error> {
-    make(tx)?;
-    let charged = PostingRow {
-        week: 19730,
-        through: 19731,
-        version: 1,
-        due: 860,
+/// The only posting of account 8.
+const OTHER: PostingRow = PostingRow {
+    week: 19_730,
+    through: 19_731,
+    version: 1,
+    due: 175,
+    amount: 175,
+};
+
+/// What of the three postings fell to operator 3.
+static SHARES: [ShareRow; 3] = [
+    ShareRow {
+        posting: 1,
+        operator: 3,
         amount: 860,
-    };
-    let given_back = PostingRow {
-        week: 19730,
-        through: 19732,
-        version: 2,
-        due: 340,
+    },
+    ShareRow {
+        posting: 2,
+        operator: 3,
+        amount: 175,
+    },
+    ShareRow {
+        posting: 3,
+        operator: 3,
         amount: -520,
-    };
-    let first = add_posting(tx, 7, &charged)?;
-    let second = add_posting(tx, 7, &given_back)?;
-    add_rest(tx, first, second)?;
-    Ok((first, second))
+    },
+];
+
+/// The tap of account 8.
+const BOARDED: TapRow = TapRow {
+    place: 50,
+    kind: 2,
+    ..TAPPED
+};
+
+/// A correction of each account.
+fn fixes() -> [FixRow; 2] {
+    [
+        row_of(1, (1_704_699_000, 19_730, 27_000, 12, 1)),
+        row_of(0, (1, 2, 0, 0, 0)),
+    ]
 }
 
-fn add_rest(tx: &mut Transaction<'_, MemStore>, first: i64, second: i64) -> Result<(), Error> {
-    let share = |posting, amount| ShareRow {
-        posting,
-        operator: 3,
-        amount,
-    };
-    add_share(tx, &share(first, 860))?;
-    add_share(tx, &share(second, -520))?;
-    let tap = TapRow {
-        reader: 1,
-        seq: 2,
-        utc: 1704697200,
-        day: 19730,
-        second: 25200,
-        place: 10,
-        kind: 0,
-    };
-    add_tap(tx, 7, &tap)?;
-    let fix = FixRow {
-        staff: 3,
-        seq: 4,
-        what: 1,
-        a: 1704699000,
-        b: 19730,
-        c: 27000,
-        d: 12,
-        e: 1,
-    };
+/// Two postings of one week of account 7, and one of account 8 between them.
+fn written(tx: &mut Transaction<'_, MemStore>) -> Result<(i64, i64, i64), Error> {
+    make(tx)?;
+    let first = add_posting(tx, 7, &CHARGED)?;
+    let other = add_posting(tx, 8, &OTHER)?;
+    let second = add_posting(tx, 7, &GIVEN_BACK)?;
+    add_shares(tx)?;
+    add_sets(tx)?;
+    Ok((first, other, second))
+}
+
+fn add_shares(tx: &mut Transaction<'_, MemStore>) -> Result<(), Error> {
+    for share in &SHARES {
+        add_share(tx, share)?;
+    }
+    Ok(())
+}
+
+/// A tap and a correction of each account.
+fn add_sets(tx: &mut Transaction<'_, MemStore>) -> Result<(), Error> {
+    let [fix, other] = fixes();
+    add_tap(tx, 8, &BOARDED)?;
+    add_tap(tx, 7, &TAPPED)?;
     add_fix(tx, 7, &fix)?;
+    add_fix(tx, 8, &other)?;
     Ok(())
 }
 
@@ -75,7 +93,7 @@ fn rows_of_a_ledger(rt: HostRuntime) {
     let mut conn = Connection::open_in_memory(rt.alloc()).expect(&rt, "a database");
     let mut tx = conn.transaction();
     let numbers = written(&mut tx).expect(&rt, "rows");
-    expect_same(&rt, numbers, (1, 2));
+    expect_same(&rt, numbers, (1, 2, 3));
     tx.commit().expect(&rt, "a commit");
     for (sql, wanted) in [
         ("SELECT version FROM meta WHERE name = 'farebox'", 1),
@@ -84,11 +102,11 @@ fn rows_of_a_ledger(rt: HostRuntime) {
             340,
         ),
         (
-            "SELECT due FROM postings WHERE id = 2 AND through = 19732 AND version = 2",
+            "SELECT due FROM postings WHERE id = 3 AND through = 19732 AND version = 2",
             340,
         ),
-        ("SELECT sum(amount) FROM shares WHERE operator = 3", 340),
-        ("SELECT amount FROM shares WHERE posting = 2", -520),
+        ("SELECT sum(amount) FROM shares WHERE operator = 3", 515),
+        ("SELECT amount FROM shares WHERE posting = 3", -520),
         (
             "SELECT place FROM taps WHERE account = 7 AND reader = 1 AND seq = 2 AND utc = 1704697200 AND day = 19730 AND second = 25200 AND kind = 0",
             10,
@@ -100,4 +118,60 @@ fn rows_of_a_ledger(rt: HostRuntime) {
     ] {
         expect_number(&rt, &mut conn, sql, wanted);
     }
+}
+
+/// What is read of the tables by the rows of account 7, and of all.
+fn expect_read<R: Abort + AllocGlobal>(rt: &R, tx: &mut Transaction<'_, MemStore>) {
+    let postings = postings_of(rt.alloc(), tx, 7);
+    expect_list(rt, postings, Ok(&[(1, CHARGED), (3, GIVEN_BACK)]));
+    expect_members(rt, shares_of(rt.alloc(), tx, 7), &[SHARES[0], SHARES[2]]);
+    expect_members(rt, taps_of(rt.alloc(), tx, 7), &[TAPPED]);
+    expect_members(rt, all_taps(rt.alloc(), tx), &[(7, TAPPED), (8, BOARDED)]);
+}
+
+/// And of its corrections.
+fn expect_fixes_read<R: Abort + AllocGlobal>(rt: &R, tx: &mut Transaction<'_, MemStore>) {
+    let [fix, other] = fixes();
+    expect_members(rt, fixes_of(rt.alloc(), tx, 7), &[fix]);
+    expect_members(rt, all_fixes(rt.alloc(), tx), &[(7, fix), (8, other)]);
+}
+
+#[test]
+fn rows_read_back(rt: HostRuntime) {
+    let mut conn = Connection::open_in_memory(rt.alloc()).expect(&rt, "a database");
+    let mut tx = conn.transaction();
+    written(&mut tx).expect(&rt, "rows");
+    expect_read(&rt, &mut tx);
+    expect_fixes_read(&rt, &mut tx);
+}
+
+/// Another's table of postings, in which an amount is no number.
+fn write_other(tx: &mut Transaction<'_, MemStore>) -> Result<(), Error> {
+    tx.execute(
+        "CREATE TABLE postings (id INTEGER PRIMARY KEY, account INTEGER, week INTEGER, through INTEGER, version INTEGER, due INTEGER, amount)",
+        &[],
+    )?;
+    tx.execute(
+        "INSERT INTO postings VALUES (1, 7, 19730, 19731, 1, 860, 'much')",
+        &[],
+    )?;
+    Ok(())
+}
+
+#[test]
+fn no_rows_of_a_ledger(rt: HostRuntime) {
+    let mut conn = Connection::open_in_memory(rt.alloc()).expect(&rt, "a database");
+    let mut tx = conn.transaction();
+    expect_list(
+        &rt,
+        postings_of(rt.alloc(), &mut tx, 7),
+        Err(ReadFault::Store),
+    );
+    write_other(&mut tx).expect(&rt, "a table");
+    expect_list(
+        &rt,
+        postings_of(rt.alloc(), &mut tx, 7),
+        Err(ReadFault::BadArchive),
+    );
+    expect_list(&rt, postings_of(rt.alloc(), &mut tx, 8), Ok(&[]));
 }

@@ -1,6 +1,6 @@
-use Rattle.std.proofs.Common.{rules}
+use Rattle.std.proofs.Common.{rules, IsTrue, subst, sym}
 use Rattle.sqlite.specs.Held.{state}
-use Rattle.pay_records.proofs.Kept.{kept_row}
+use Rattle.pay_records.proofs.Kept.{kept_row, inside_row, on_ok}
 use Rattle.pay_records.proofs.Posted.{posting_told}
 use Rattle.pay_records.proofs.write.add_posting.Goals as goal
 
@@ -16,3 +16,7 @@ returns-clause-adds g c clean inside =
 pub returns-clause-kept : goal.returns-clause-kept
 returns-clause-kept g c clean inside =
     kept_row (state g.S.Store c.args.tx.now.conn.now) (state g.S.Store c.query_row.new.self.conn.now) _ inside _ c.query_row.result (c.query_row.ensures.row clean)
+
+pub returns-clause-inside : goal.returns-clause-inside
+returns-clause-inside g c clean inside =
+    on_ok _ c.number_at.result (subst IsTrue (sym (inside_row (state g.S.Store c.args.tx.now.conn.now) (state g.S.Store c.query_row.new.self.conn.now) _ _ _ (c.in_ok-shown.ensures.row clean))) inside)

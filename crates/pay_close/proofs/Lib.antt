@@ -1,0 +1,8 @@
+pub mod Entries
+pub mod Answering
+pub mod Growing
+pub mod Agreeing
+pub mod Settling
+pub mod Closing
+pub mod Histories
+pub mod Rows

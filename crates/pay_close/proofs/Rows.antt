@@ -1,0 +1,37 @@
+-- Worked rows: closes of small books, and which refusals say that a close comes too late.
+use Rattle.std.proofs.Common.{◌≡◌, ℕ, true, cond, ◌&&◌, List, [], ◌∷◌, filter, Ok, refl, sym, ap, ◌∙◌, arith}
+use Rattle.std.specs.Cmp.{nat_cmp_total}
+use Rattle.std.specs.FinMap.{empty, entries, insert, put, entries-insert, len-empty, len-entries}
+use Rattle.std.specs.Ordering.{nat_cmp}
+use Rattle.pay_tables.specs.Words.{FareTables}
+use Rattle.pay_account.specs.Words.{Accepted, quote, sets}
+use Rattle.pay_postings.specs.Ledger.{posted}
+use Rattle.pay_postings.specs.declared.fault.PostFault.TheVariants.{StaleQuote}
+use Rattle.pay_shard.specs.BatchParts.{batch_of}
+use Rattle.pay_shard.specs.Selection.{is_of, is_quoted}
+use Rattle.pay_close.specs.Close.{new_books, batch_of_all, close, IsLate}
+use Rattle.pay_close.proofs.Closing.{nothing_there}
+
+abbrev chosen : ℕ → List (ℕ × Accepted) → List (ℕ × Accepted)
+chosen day es = filter (λ (e : ℕ × Accepted). is_of 0 1 e.0 && is_quoted day (sets e.0 e.1)) es
+
+no_entries : entries (empty {X = Accepted} {R = nat_cmp}) ≡ []
+no_entries = nothing_there (entries empty) (sym (len-entries empty) ∙ len-empty nat_cmp Accepted)
+
+-- where no account has accepted anything, any day is closed without a posting
+first_close : (tables : FareTables) (day : ℕ) → close tables new_books day ≡ Ok ([], new_books.ledger)
+first_close tables day = ap (λ (es : List (ℕ × Accepted)). posted new_books.ledger (batch_of tables day (chosen day es)).quotes (batch_of tables day (chosen day es)).sets) no_entries
+
+-- one account with a tap of that week is quoted, and its sets are archived
+one_account_quoted : (tables : FareTables) (accepted : Accepted) (day : ℕ) → is_quoted day (sets 7 accepted) ≡ true
+    → batch_of_all tables (insert empty 7 accepted) day ≡ record { quotes = quote tables 7 accepted day ∷ []; sets = sets 7 accepted ∷ [] }
+one_account_quoted tables accepted day is =
+    ap (λ (es : List (ℕ × Accepted)). batch_of tables day (chosen day es)) (entries-insert nat_cmp_total empty 7 accepted ∙ ap (put nat_cmp 7 accepted) no_entries)
+    ∙ ap (λ b. batch_of tables day (cond b ((7, accepted) ∷ []) [])) is
+
+-- Monday 2024-01-08 is closed too late once the Tuesday was, and not because of the Monday after
+after_tuesday : IsLate 19_730 (StaleQuote 7 2 19_731)
+after_tuesday = (omega arith, refl)
+
+another_week : ¬ IsLate 19_730 (StaleQuote 7 2 19_737)
+another_week late = omega (arith, late.1)

@@ -1,0 +1,92 @@
+-- The close of a day, and what commands and closes come to.
+use Rattle.std.specs.Prelude.{◌≡◌, ◌<◌, ⊤, ℕ, true, List, [], ◌∷◌, Result, Ok, Err, refl}
+use Rattle.std.specs.List.{AllByRecursion}
+use Rattle.std.specs.FinMap as map
+use Rattle.pay_day.specs.Words.{monday}
+use Rattle.pay_tables.specs.Words.{FareTables}
+use Rattle.pay_account.specs.Words.{Accepted, IsQuote}
+use Rattle.pay_account.specs.declared.posting.Posting.{Posting}
+use Rattle.pay_postings.specs.Words.{LedgerParts, posted}
+use Rattle.pay_postings.specs.declared.fault.PostFault.{PostFault}
+use Rattle.pay_postings.specs.declared.fault.PostFault.TheVariants.{StaleQuote, QuoteDiffers}
+use Rattle.pay_shard.specs.Words.{State, accepted_of, BatchParts, batch, item_step}
+use Rattle.pay_shard.specs.declared.item.Entry.{Entry}
+use Rattle.pay_shard.specs.declared.item.Item.{Item}
+
+-- what every account has accepted, and what was posted
+pub record Books : Type 0 where
+  pub state : State
+  pub ledger : LedgerParts
+
+-- no account has accepted anything, and nothing was posted
+abbrev pub new_books : Books
+new_books = record { state = map.empty; ledger = record { postings = []; taps = []; fixes = [] } }
+
+-- the quotes and the sets of all accounts that are quoted through a day, in ascending order of account
+abbrev pub batch_of_all : FareTables → State → ℕ → BatchParts
+batch_of_all tables state day = batch tables state day 0 1
+
+-- The close of a day: each of these quotes is posted, one after another, and then the sets are archived.
+abbrev pub close : FareTables → Books → ℕ → Result (List Posting × LedgerParts) PostFault
+close tables books day = posted books.ledger (batch_of_all tables books.state day).quotes (batch_of_all tables books.state day).sets
+
+-- the ledger after a close: a refusal leaves it as it was
+abbrev pub ledger_after : LedgerParts → Result (List Posting × LedgerParts) PostFault → LedgerParts
+ledger_after ledger (Ok answer) = answer.1
+ledger_after ledger (Err fault) = ledger
+
+-- the refusal of a close that comes too late: a later day of its week was posted
+abbrev pub IsLate : ℕ → PostFault → Type 0
+IsLate day (StaleQuote account version through) = (day < through) × (monday through ≡ monday day)
+IsLate day _ = ⊥
+
+-- a command is answered, or a day is closed; a close for which memory is wanting changes nothing, and is none
+pub data Event : Type 0 where
+  Answered : Item → Event
+  Closed : ℕ → Event
+
+-- a command changes what its account has accepted, and a close changes the ledger
+abbrev pub after : FareTables → Books → Event → Books
+after tables books (Answered item) = record { state = (item_step tables books.state item).after; ledger = books.ledger }
+after tables books (Closed day) = record { state = books.state; ledger = ledger_after books.ledger (close tables books day) }
+
+abbrev pub after_all : FareTables → Books → List Event → Books
+after_all tables books [] = books
+after_all tables books (event ∷ later) = after_all tables (after tables books event) later
+
+-- what a history comes to: commands and closes, one after another, from the beginning
+abbrev pub history : FareTables → List Event → Books
+history tables events = after_all tables new_books events
+
+-- all postings by then, and what an account has accepted
+abbrev pub postings_after : FareTables → List Event → List Posting
+postings_after tables events = (history tables events).ledger.postings
+
+abbrev pub accepted_after : FareTables → List Event → ℕ → Accepted
+accepted_after tables events account = accepted_of (history tables events).state account
+
+-- the commands among the events, in order
+abbrev pub answered : List Event → List Item
+answered [] = []
+answered (Answered item ∷ later) = item ∷ answered later
+answered (Closed day ∷ later) = answered later
+
+-- each quote of each close has its numbers in their ranges, as the type of a quote says
+abbrev pub AreQuotes : FareTables → Books → List Event → Type 0
+AreQuotes tables books [] = ⊤
+AreQuotes tables books (Answered item ∷ later) = AreQuotes tables (after tables books (Answered item)) later
+AreQuotes tables books (Closed day ∷ later) = AllByRecursion IsQuote (batch_of_all tables books.state day).quotes × AreQuotes tables (after tables books (Closed day)) later
+
+-- ---- worked rows
+
+-- a command for which memory was wanting changes nothing
+refused_for_memory : (tables : FareTables) (entry : Entry) → history tables (Answered (record { entry = entry; refused_memory = true }) ∷ []) ≡ new_books
+refused_for_memory tables entry = refl
+
+-- nor does a close that is refused
+refused_close : (ledger : LedgerParts) → ledger_after ledger (Err QuoteDiffers) ≡ ledger
+refused_close ledger = refl
+
+-- a day of which no account is quoted is closed without a posting
+nobody_quoted : (ledger : LedgerParts) → posted ledger [] [] ≡ Ok ([], ledger)
+nobody_quoted ledger = refl

@@ -1,0 +1,306 @@
+-- What each SELECT of the ledger shows.
+use Rattle.std.proofs.Common.{◌≡◌, ℕ, ℤ, pos, Bool, true, false, cond, ◌&&◌, ◌<ℤ◌, Ok, List, [], ◌∷◌, ◌++◌, map, filter, flat_map, drop, Some, refl, sym, ap, ap₂, subst, ◌∙◌, arith, Less, Equal, IsPermutation}
+use Rattle.std.specs.List.{AllByRecursion, list_all}
+use Rattle.std.specs.Ordering.{int_eq, is_eq, ordering_then}
+use Rattle.pay_records.proofs.Rises.{below}
+use Rattle.std.proofs.lemmas.Int.{ints}
+use Rattle.std.proofs.lemmas.List.Sorted.{IsPermutation-map, All-permutation}
+use Rattle.sqlite_trees.specs.Tree.{IsAscending}
+use Rattle.sqlite_value.proofs.OrderLemmas.{value_cmp-Int}
+use Rattle.sqlite_keyed.proofs.ListLemmas.{map-map, map_same, filter-map, flat_map-map, ascending-map, ascending-filter, ascending_weaker, all_weaker, all-map, filter_same, map-flat_map, flat_map_same_on}
+use Rattle.std.proofs.lemmas.List.Elements.{recursion_from_All, All-from_recursion}
+use Rattle.sqlite_keyed.proofs.SortLemmas.{sorted_unique}
+use Rattle.sqlite_sql.specs.Query.{Output, matches_as}
+use Rattle.sqlite_sql.proofs.QueryLemmas.{output_cmp_total}
+use Rattle.sqlite_sql.specs.Term.{holds, eval_all}
+use Rattle.sqlite.specs.declared.types.Value.{Value}
+use Rattle.sqlite.specs.declared.types.Value.TheVariants.{Null, Int}
+use Rattle.sqlite.specs.Order.{Row, value_cmp, column}
+use Rattle.sqlite.specs.Tree.{Trees}
+use Rattle.sqlite.specs.Term.{Term, Env}
+use Rattle.sqlite.specs.Query.{Query, IsAnswer, output, output_cmp, inner, end, matches}
+use Rattle.sqlite_sql.specs.Ops.{binary, is_true, from_truth}
+use Rattle.sqlite_sql.specs.declared.ops.CompareOp.TheVariants.{Eq}
+use Rattle.sqlite_sql.specs.declared.ops.BinaryOp.TheVariants.{Compare}
+use Rattle.sqlite_value.specs.declared.keys.Collation.TheVariants.{Binary}
+use Rattle.sqlite.specs.Clock.{timed}
+use Rattle.sqlite.specs.Listing.{understood}
+use Rattle.sqlite.specs.State.{State, Shown, ShowsRows, IsUnchanged}
+use Rattle.sqlite.specs.Program.{overlay}
+use Rattle.sqlite.proofs.Callers.{IsPlain}
+use Rattle.pay_rows.specs.declared.row.PostingRow.{PostingRow}
+use Rattle.pay_rows.specs.declared.row.ShareRow.{ShareRow}
+use Rattle.pay_rows.specs.declared.row.TapRow.{TapRow}
+use Rattle.pay_rows.specs.declared.row.FixRow.{FixRow}
+use Rattle.pay_records.specs.Tables.{ledger_schema, postings_tree, shares_tree, taps_tree, fixes_tree}
+use Rattle.pay_records.specs.Rows.{LedgerRows, HoldsRows, RiseFrom, AreNumbers, share_numbers, tap_numbers, fix_numbers, posting_row}
+use Rattle.pay_records.specs.Found.{shares_of}
+use Rattle.pay_records.proofs.SelectTexts.{IsQuery, is_given, by_rowid, select_postings, select_shares, select_taps, select_fixes, select_all_taps, select_all_fixes, postings_query, shares_query, taps_query, fixes_query, all_taps_query, all_fixes_query, select_postings_is, select_shares_is, select_taps_is, select_fixes_is, select_all_taps_is, select_all_fixes_is}
+use Rattle.pay_records.proofs.Selects.{simple, simply, answers}
+
+-- each way to put a table's rows beside what stands already that passes a test
+passing : {X : Type 0} (tree : ℕ) (test : List Term) (env : Env) (db : Trees) (row : X → Row) (pass : X → Bool) → ((x : X) → list_all (holds (env ++ row x ∷ [])) test ≡ pass x)
+    → (list : List X) → db tree ≡ map row list → matches db test (inner tree end) env ≡ map (λ x. env ++ row x ∷ []) (filter pass list)
+passing {X} tree test env db row pass agrees list is =
+    ap (flat_map (λ r. matches_as Null db test end (env ++ r ∷ []))) is ∙ go list
+  where
+    go : (list : List X) → flat_map (λ r. matches_as Null db test end (env ++ r ∷ [])) (map row list) ≡ map (λ x. env ++ row x ∷ []) (filter pass list)
+    go [] = refl
+    go (x ∷ xs) =
+        ap₂ (λ b (l : List Env). cond b ((env ++ row x ∷ []) ∷ []) [] ++ l) (agrees x) (go xs)
+        ∙ elim (pass x) as (λ b. cond b ((env ++ row x ∷ []) ∷ []) [] ++ map (λ x. env ++ row x ∷ []) (filter pass xs) ≡ map (λ x. env ++ row x ∷ []) (cond b (x ∷ filter pass xs) (filter pass xs))) [ true ↦ refl | false ↦ refl ]
+
+-- rows of whole numbers, each with its rowid
+numbered : {X : Type 0} (numbers : X → List ℤ) (low : ℤ) (rows : List Row) (list : List X) → RiseFrom low rows → map (drop 1) rows ≡ map (λ x. map Int (numbers x)) list
+    → (ids : List (ℤ × X)) × (rows ≡ map (λ (p : ℤ × X). Int p.0 ∷ map Int (numbers p.1)) ids) × (map (λ (p : ℤ × X). p.1) ids ≡ list)
+numbered numbers low [] [] up is = ([], refl, refl)
+numbered numbers low [] (x ∷ xs) up is = absurd (cc)
+numbered numbers low (r ∷ rs) [] up is = absurd (cc)
+numbered numbers low ([] ∷ rs) (x ∷ xs) up is = absurd (let e = up.1 in cc)
+numbered numbers low ((v ∷ vs) ∷ rs) (x ∷ xs) up is =
+    let rest = numbered numbers up.0 rs xs up.3 (cc) in
+    let id : v ≡ Int up.0 = up.1 in
+    let tail : vs ≡ map Int (numbers x) = cc in
+    ((up.0, x) ∷ rest.0, ap₂ (λ (r : Row) (l : List Row). r ∷ l) (ap₂ (λ (a : Value) (b : Row). a ∷ b) id tail) rest.1, ap (λ l. x ∷ l) rest.2)
+
+-- a column that is the parameter, or that of another table
+same_number : (a b : ℤ) → is_true (binary (Compare Eq Binary) (Int a) (Int b)) ≡ int_eq a b
+unfolding binary
+same_number a b = go (is_eq (value_cmp (Int a) (Int b))) ∙ ap is_eq (value_cmp-Int a b)
+  where
+    go : (b : Bool) → is_true (from_truth (Some b)) ≡ b
+    go true = refl
+    go false = refl
+
+and_true : (b : Bool) → b && true ≡ b
+and_true true = refl
+and_true false = refl
+
+and_false : (b : Bool) → b && false ≡ false
+and_false true = refl
+and_false false = refl
+
+-- what a query of the ledger shows, and that it changes nothing
+pub shown_by_query : (text : List ℕ) (q : Query) (names : List (List ℕ)) → IsQuery text q names → (params : Row) (old new : State) (rows : List Row) → old.now.schema ≡ ledger_schema
+    → Shown text params old new rows → IsAnswer q (overlay old.now.trees []) params rows × IsUnchanged old new
+unfolding Shown
+shown_by_query text q names it params old new rows has h =
+    let known : understood ledger_schema text ≡ Ok h.0 = sym (ap (λ s. understood s text) has) ∙ h.1.is in
+    let none = (subst IsPlain known it.plain).0 in
+    (answers text ledger_schema q names it.command it.plain it.unlisted params old new rows has h, (subst (ShowsRows old new text h.0 (timed params h.0.formats h.1.now) rows) none h.2).3)
+
+-- Rows of these whole numbers were shown, in some order, and nothing changed.
+pub record Shows {X : Type 0} (shown : X → List ℤ) (found : List X) (old new : State) (rows : List Row) : Type 0 where
+  pub same : IsPermutation (map (λ x. map Int (shown x)) found) rows
+  pub unchanged : IsUnchanged old new
+
+-- what they tell is what they were
+pub told_in_some_order : {X Y : Type 0} (shown : X → List ℤ) (tell : Row → Y) (of : X → Y) → ((x : X) → tell (map Int (shown x)) ≡ of x) → (found : List X) (old new : State) (rows : List Row)
+    → Shows shown found old new rows → IsPermutation (map of found) (map tell rows)
+told_in_some_order shown tell of tells found old new rows h =
+    subst (λ l. IsPermutation l (map tell rows)) (map-map tell (λ x. map Int (shown x)) found ∙ map_same (λ x. tell (map Int (shown x))) of tells found) (IsPermutation-map tell _ _ h.same)
+
+pub each_shown : {X : Type 0} (shown : X → List ℤ) (P : Row → Type 0) → ((x : X) → P (map Int (shown x))) → (found : List X) (old new : State) (rows : List Row) → Shows shown found old new rows → AllByRecursion P rows
+each_shown shown P each found old new rows h = recursion_from_All P rows (All-permutation P _ rows h.same (All-from_recursion P _ (all-map P (λ x. map Int (shown x)) each found)))
+
+-- what is shown of a table of whole numbers
+module _ {X : Type 0} (numbers shown : X → List ℤ) (pass : X → Bool) (tree : ℕ) (test project : List Term) (params : Row) where
+  shows : ((id : ℤ) (x : X) → list_all (holds (params ∷ (Int id ∷ map Int (numbers x)) ∷ [])) test ≡ pass x)
+      → ((id : ℤ) (x : X) → eval_all project (params ∷ (Int id ∷ map Int (numbers x)) ∷ []) ≡ map Int (shown x))
+      → (db : Trees) (list : List X) → AreNumbers (db tree) (map numbers list) → (rows : List Row) → IsAnswer (simple (inner tree end) test project []) db params rows
+      → IsPermutation (map (λ x. map Int (shown x)) (filter pass list)) rows
+  shows agrees told db list are rows answer =
+      let q = simple (inner tree end) test project [] in
+      let row : ℤ × X → Row = λ (p : ℤ × X). Int p.0 ∷ map Int (numbers p.1) in
+      let env : ℤ × X → Env = λ (p : ℤ × X). params ∷ row p ∷ [] in
+      let it = simply (inner tree end) test project [] db params rows answer in
+      let known = numbered numbers (pos 0) (db tree) list are.rising (are.are ∙ map-map (map Int) numbers list) in
+      let found = passing tree test (params ∷ []) db row (λ p. pass p.1) (λ p. agrees p.0 p.1) known.0 known.1 in
+      let seen : map (λ (o : Output). o.1) (map (output q) (matches db test (inner tree end) (params ∷ []))) ≡ map (λ x. map Int (shown x)) (filter pass list) =
+      ap (λ l. map (λ (o : Output). o.1) (map (output q) l)) found
+      ∙ ap (map (λ (o : Output). o.1)) (map-map (output q) env (filter (λ p. pass p.1) known.0))
+      ∙ map-map (λ (o : Output). o.1) (λ p. output q (env p)) (filter (λ p. pass p.1) known.0)
+      ∙ map_same (λ p. eval_all project (env p)) (λ (p : ℤ × X). map Int (shown p.1)) (λ p. told p.0 p.1) (filter (λ p. pass p.1) known.0)
+      ∙ sym (map-map (λ x. map Int (shown x)) (λ (p : ℤ × X). p.1) (filter (λ p. pass p.1) known.0))
+      ∙ ap (map (λ x. map Int (shown x))) (sym (filter-map pass (λ (p : ℤ × X). p.1) known.0) ∙ ap (filter pass) known.2) in
+      subst (λ l. IsPermutation l rows) seen (subst (λ r. IsPermutation (map (λ (o : Output). o.1) (map (output q) (matches db test (inner tree end) (params ∷ [])))) r) (sym it.shown) (IsPermutation-map (λ (o : Output). o.1) _ _ it.same))
+
+every : {X : Type 0} (xs : List X) → filter (λ _. true) xs ≡ xs
+every [] = refl
+every (x ∷ xs) = ap (λ l. x ∷ l) (every xs)
+
+pub all_taps_shown : (old new : State) (rows : List Row) → Shown select_all_taps [] old new rows → (l : LedgerRows) → HoldsRows old.now l → Shows tap_numbers l.taps old new rows
+all_taps_shown old new rows h l held =
+    let it = shown_by_query select_all_taps all_taps_query _ select_all_taps_is [] old new rows held.schema_is h in
+    record {
+      same = subst (λ f. IsPermutation (map (λ t. map Int (tap_numbers t)) f) rows) (every l.taps)
+          (shows tap_numbers tap_numbers (λ _. true) taps_tree [] all_taps_query.project [] (λ id t. refl) (λ id t. refl) (overlay old.now.trees []) l.taps held.taps rows it.0);
+      unchanged = it.1;
+    }
+
+pub all_fixes_shown : (old new : State) (rows : List Row) → Shown select_all_fixes [] old new rows → (l : LedgerRows) → HoldsRows old.now l → Shows fix_numbers l.fixes old new rows
+all_fixes_shown old new rows h l held =
+    let it = shown_by_query select_all_fixes all_fixes_query _ select_all_fixes_is [] old new rows held.schema_is h in
+    record {
+      same = subst (λ f. IsPermutation (map (λ t. map Int (fix_numbers t)) f) rows) (every l.fixes)
+          (shows fix_numbers fix_numbers (λ _. true) fixes_tree [] all_fixes_query.project [] (λ id t. refl) (λ id t. refl) (overlay old.now.trees []) l.fixes held.fixes rows it.0);
+      unchanged = it.1;
+    }
+
+-- ---- shares: each posting of the account beside each of its shares
+
+share_env : Row → ℤ × ℤ × PostingRow → ℤ × ShareRow → Env
+share_env params p s = params ∷ posting_row p ∷ (Int s.0 ∷ map Int (share_numbers s.1)) ∷ []
+
+passes : ℤ → ℤ × ℤ × PostingRow → ShareRow → Bool
+passes account p s = int_eq s.posting p.0 && int_eq p.1 account
+
+picked : (account : ℤ) (shares : List ShareRow) (postings : List (ℤ × ℤ × PostingRow))
+    → flat_map (λ p. filter (passes account p) shares) postings
+    ≡ flat_map (λ (p : ℤ × PostingRow). filter (λ (s : ShareRow). int_eq s.posting p.0) shares) (map (λ (p : ℤ × ℤ × PostingRow). (p.0, p.2)) (filter (λ (p : ℤ × ℤ × PostingRow). int_eq p.1 account) postings))
+unfolding passes
+picked account shares [] = refl
+picked account shares (p ∷ ps) =
+    ap₂ ◌++◌ (filter_same (passes account p) (λ s. int_eq s.posting p.0 && int_eq p.1 account) (λ s. refl) shares) (picked account shares ps)
+    ∙ here (int_eq p.1 account)
+  where
+    rest : List ShareRow
+    rest = flat_map (λ (p : ℤ × PostingRow). filter (λ (s : ShareRow). int_eq s.posting p.0) shares) (map (λ (p : ℤ × ℤ × PostingRow). (p.0, p.2)) (filter (λ (p : ℤ × ℤ × PostingRow). int_eq p.1 account) ps))
+
+    none : (ss : List ShareRow) → filter (λ s. int_eq s.posting p.0 && false) ss ≡ []
+    none [] = refl
+    none (s ∷ ss) = ap (λ b. cond b (s ∷ filter (λ s. int_eq s.posting p.0 && false) ss) (filter (λ s. int_eq s.posting p.0 && false) ss)) (and_false (int_eq s.posting p.0)) ∙ none ss
+
+    here : (b : Bool) → filter (λ s. int_eq s.posting p.0 && b) shares ++ flat_map (λ (p : ℤ × PostingRow). filter (λ (s : ShareRow). int_eq s.posting p.0) shares) (map (λ (p : ℤ × ℤ × PostingRow). (p.0, p.2)) (filter (λ (p : ℤ × ℤ × PostingRow). int_eq p.1 account) ps))
+        ≡ flat_map (λ (p : ℤ × PostingRow). filter (λ (s : ShareRow). int_eq s.posting p.0) shares) (map (λ (p : ℤ × ℤ × PostingRow). (p.0, p.2)) (cond b (p ∷ filter (λ (p : ℤ × ℤ × PostingRow). int_eq p.1 account) ps) (filter (λ (p : ℤ × ℤ × PostingRow). int_eq p.1 account) ps)))
+    here true = ap (λ l. l ++ flat_map (λ (p : ℤ × PostingRow). filter (λ (s : ShareRow). int_eq s.posting p.0) shares) (map (λ (p : ℤ × ℤ × PostingRow). (p.0, p.2)) (filter (λ (p : ℤ × ℤ × PostingRow). int_eq p.1 account) ps)))
+        (filter_same (λ s. int_eq s.posting p.0 && true) (λ (s : ShareRow). int_eq s.posting p.0) (λ s. and_true _) shares)
+    here false = ap (λ l. l ++ flat_map (λ (p : ℤ × PostingRow). filter (λ (s : ShareRow). int_eq s.posting p.0) shares) (map (λ (p : ℤ × ℤ × PostingRow). (p.0, p.2)) (filter (λ (p : ℤ × ℤ × PostingRow). int_eq p.1 account) ps)))
+        (none shares)
+
+pub shares_shown : (account : ℤ) (old new : State) (rows : List Row) → Shown select_shares (Int account ∷ []) old new rows → (l : LedgerRows) → HoldsRows old.now l
+    → Shows share_numbers (shares_of account l) old new rows
+unfolding passes share_env
+shares_shown account old new rows h l held =
+    let params = Int account ∷ [] in
+    let db = overlay old.now.trees [] in
+    let it = shown_by_query select_shares shares_query _ select_shares_is params old new rows held.schema_is h in
+    let q = shares_query in
+    let found = simply q.from q.filter q.project [] db params rows it.0 in
+    let known = numbered share_numbers (pos 0) (db shares_tree) l.shares held.shares.rising (held.shares.are ∙ map-map (map Int) share_numbers l.shares) in
+    let row : ℤ × ShareRow → Row = λ (s : ℤ × ShareRow). Int s.0 ∷ map Int (share_numbers s.1) in
+    let of : Row → List Env = λ r. matches db q.filter (inner shares_tree end) (params ∷ r ∷ []) in
+    let show : Env → Row = λ env. (output q env).1 in
+    let one : (p : ℤ × ℤ × PostingRow) → map show (of (posting_row p)) ≡ map (λ s. map Int (share_numbers s)) (filter (passes account p) l.shares) = λ p.
+    ap (map show) (passing shares_tree q.filter (params ∷ posting_row p ∷ []) db row (λ s. passes account p s.1) (λ s. ap₂ ◌&&◌ (same_number s.1.posting p.0) (and_true _ ∙ same_number p.1 account)) known.0 known.1)
+    ∙ map-map show (share_env params p) (filter (λ s. passes account p s.1) known.0)
+    ∙ sym (map-map (λ x. map Int (share_numbers x)) (λ (s : ℤ × ShareRow). s.1) (filter (λ s. passes account p s.1) known.0))
+    ∙ ap (map (λ x. map Int (share_numbers x))) (sym (filter-map (passes account p) (λ (s : ℤ × ShareRow). s.1) known.0) ∙ ap (filter (passes account p)) known.2) in
+    let seen : map (λ (o : Output). o.1) (map (output q) (matches db q.filter q.from (params ∷ []))) ≡ map (λ s. map Int (share_numbers s)) (shares_of account l) =
+    map-map (λ (o : Output). o.1) (output q) _
+    ∙ ap (λ r. map show (flat_map of r)) held.postings
+    ∙ map-flat_map show of (map posting_row l.postings)
+    ∙ flat_map-map (λ r. map show (of r)) posting_row l.postings
+    ∙ flat_map_same_on (λ p. map show (of (posting_row p))) (λ p. map (λ s. map Int (share_numbers s)) (filter (passes account p) l.shares)) one l.postings
+    ∙ sym (map-flat_map (λ s. map Int (share_numbers s)) (λ p. filter (passes account p) l.shares) l.postings)
+    ∙ ap (map (λ s. map Int (share_numbers s))) (picked account l.shares l.postings) in
+    record {
+      same = subst (λ l. IsPermutation l rows) seen (subst (λ r. IsPermutation (map (λ (o : Output). o.1) (map (output q) (matches db q.filter q.from (params ∷ [])))) r) (sym found.shown) (IsPermutation-map (λ (o : Output). o.1) _ _ found.same));
+      unchanged = it.1;
+    }
+
+-- ---- in the order in which rows were written
+
+module _ {Y : Type 0} (row : Y → Row) (id : Y → ℤ) (id_is : (y : Y) → column (row y) 0 ≡ Int (id y)) where
+  abbrev rises : Y → Y → Type 0
+  rises y z = id y <ℤ id z
+
+  ascending : (low : ℤ) (ys : List Y) → RiseFrom low (map row ys) → AllByRecursion (λ y. low <ℤ id y) ys × IsAscending rises ys
+  ascending low [] up = (tt, tt)
+  ascending low (y ∷ ys) up =
+      let same : id y ≡ up.0 = let e = sym (id_is y) ∙ up.1 in cc in
+      let rest = ascending up.0 ys up.3 in
+      let first : low <ℤ id y = subst (λ n. low <ℤ n) (sym same) up.2 in
+      ((first, all_weaker (λ z. up.0 <ℤ id z) (λ z. low <ℤ id z) (λ z more. let here = up.2 in omega (arith, ints)) ys rest.0), (subst (λ n. AllByRecursion (λ z. n <ℤ id z) ys) (sym same) rest.0, rest.1))
+
+  in_order : (tree : ℕ) (test project : List Term) (params : Row) (db : Trees) (pass : Y → Bool) → ((y : Y) → list_all (holds (params ∷ row y ∷ [])) test ≡ pass y) → (list : List Y) → db tree ≡ map row list
+      → RiseFrom (pos 0) (map row list) → (rows : List Row) → IsAnswer (simple (inner tree end) test project by_rowid) db params rows → rows ≡ map (λ y. eval_all project (params ∷ row y ∷ [])) (filter pass list)
+  in_order tree test project params db pass agrees list is up rows answer =
+      let q = simple (inner tree end) test project by_rowid in
+      let found = simply q.from test project by_rowid db params rows answer in
+      let env : Y → Env = λ y. params ∷ row y ∷ [] in
+      let shown = filter pass list in
+      let all : map (output q) (matches db test q.from (params ∷ [])) ≡ map (λ y. output q (env y)) shown = ap (map (output q)) (passing tree test (params ∷ []) db row pass agrees list is) ∙ map-map (output q) env shown in
+      let strict : IsAscending (λ a b. output_cmp q a b ≡ Less) (map (λ y. output q (env y)) shown) =
+      ascending-map (λ a b. output_cmp q a b ≡ Less) (λ y. output q (env y)) shown (ascending_weaker rises (λ a b. output_cmp q (output q (env a)) (output q (env b)) ≡ Less)
+      (λ a b less. ap₂ (λ v w. ordering_then (value_cmp v w) Equal) (id_is a) (id_is b) ∙ ap (λ o. ordering_then o Equal) (below (id a) (id b) less)) shown (ascending-filter rises pass list (ascending (pos 0) list up).1)) in
+      let only : found.ordered ≡ map (λ y. output q (env y)) shown = sorted_unique (output_cmp q) (output_cmp_total q) _ _ strict (subst (λ l. IsPermutation l found.ordered) all found.same) found.sorted in
+      found.shown ∙ ap (map (λ (o : Output). o.1)) only ∙ map-map (λ (o : Output). o.1) (λ y. output q (env y)) shown
+
+-- Rows of these whole numbers were shown, in this order, and nothing changed.
+pub record ShowsInOrder {X : Type 0} (shown : X → List ℤ) (found : List X) (old new : State) (rows : List Row) : Type 0 where
+  pub are : rows ≡ map (λ x. map Int (shown x)) found
+  pub unchanged : IsUnchanged old new
+
+-- what they tell is what they were
+pub told_in_order : {X Y : Type 0} (shown : X → List ℤ) (tell : Row → Y) (of : X → Y) → ((x : X) → tell (map Int (shown x)) ≡ of x) → (found : List X) (old new : State) (rows : List Row)
+    → ShowsInOrder shown found old new rows → map tell rows ≡ map of found
+told_in_order shown tell of tells found old new rows h = ap (map tell) h.are ∙ map-map tell (λ x. map Int (shown x)) found ∙ map_same (λ x. tell (map Int (shown x))) of tells found
+
+pub each_in_order : {X : Type 0} (shown : X → List ℤ) (P : Row → Type 0) → ((x : X) → P (map Int (shown x))) → (found : List X) (old new : State) (rows : List Row) → ShowsInOrder shown found old new rows → AllByRecursion P rows
+each_in_order shown P each found old new rows h = subst (AllByRecursion P) (sym h.are) (all-map P (λ x. map Int (shown x)) each found)
+
+-- what is shown of a table of whole numbers in the order of its rowids
+module _ {X : Type 0} (numbers shown : X → List ℤ) (pass : X → Bool) (tree : ℕ) (test project : List Term) (params : Row) where
+  shows_in_order : ((id : ℤ) (x : X) → list_all (holds (params ∷ (Int id ∷ map Int (numbers x)) ∷ [])) test ≡ pass x)
+      → ((id : ℤ) (x : X) → eval_all project (params ∷ (Int id ∷ map Int (numbers x)) ∷ []) ≡ map Int (shown x))
+      → (db : Trees) (list : List X) → AreNumbers (db tree) (map numbers list) → (rows : List Row) → IsAnswer (simple (inner tree end) test project by_rowid) db params rows
+      → rows ≡ map (λ x. map Int (shown x)) (filter pass list)
+  shows_in_order agrees told db list are rows answer =
+      let row : ℤ × X → Row = λ (p : ℤ × X). Int p.0 ∷ map Int (numbers p.1) in
+      let known = numbered numbers (pos 0) (db tree) list are.rising (are.are ∙ map-map (map Int) numbers list) in
+      in_order row (λ (p : ℤ × X). p.0) (λ p. refl) tree test project params db (λ p. pass p.1) (λ p. agrees p.0 p.1) known.0 known.1 (subst (RiseFrom (pos 0)) known.1 are.rising) rows answer
+      ∙ map_same (λ (p : ℤ × X). eval_all project (params ∷ row p ∷ [])) (λ (p : ℤ × X). map Int (shown p.1)) (λ p. told p.0 p.1) (filter (λ p. pass p.1) known.0)
+      ∙ sym (map-map (λ x. map Int (shown x)) (λ (p : ℤ × X). p.1) (filter (λ p. pass p.1) known.0))
+      ∙ ap (map (λ x. map Int (shown x))) (sym (filter-map pass (λ (p : ℤ × X). p.1) known.0) ∙ ap (filter pass) known.2)
+
+abbrev pub tap_shown : ℤ × TapRow → List ℤ
+tap_shown t = drop 1 (tap_numbers t)
+
+abbrev pub fix_shown : ℤ × FixRow → List ℤ
+fix_shown f = drop 1 (fix_numbers f)
+
+pub taps_shown : (account : ℤ) (old new : State) (rows : List Row) → Shown select_taps (Int account ∷ []) old new rows → (l : LedgerRows) → HoldsRows old.now l
+    → ShowsInOrder tap_shown (filter (λ (t : ℤ × TapRow). int_eq t.0 account) l.taps) old new rows
+taps_shown account old new rows h l held =
+    let it = shown_by_query select_taps taps_query _ select_taps_is (Int account ∷ []) old new rows held.schema_is h in
+    record {
+      are = shows_in_order tap_numbers tap_shown (λ (t : ℤ × TapRow). int_eq t.0 account) taps_tree (is_given 1 ∷ []) taps_query.project (Int account ∷ [])
+          (λ id t. and_true _ ∙ same_number t.0 account) (λ id t. refl) (overlay old.now.trees []) l.taps held.taps rows it.0;
+      unchanged = it.1;
+    }
+
+pub fixes_shown : (account : ℤ) (old new : State) (rows : List Row) → Shown select_fixes (Int account ∷ []) old new rows → (l : LedgerRows) → HoldsRows old.now l
+    → ShowsInOrder fix_shown (filter (λ (f : ℤ × FixRow). int_eq f.0 account) l.fixes) old new rows
+fixes_shown account old new rows h l held =
+    let it = shown_by_query select_fixes fixes_query _ select_fixes_is (Int account ∷ []) old new rows held.schema_is h in
+    record {
+      are = shows_in_order fix_numbers fix_shown (λ (f : ℤ × FixRow). int_eq f.0 account) fixes_tree (is_given 1 ∷ []) fixes_query.project (Int account ∷ [])
+          (λ id f. and_true _ ∙ same_number f.0 account) (λ id f. refl) (overlay old.now.trees []) l.fixes held.fixes rows it.0;
+      unchanged = it.1;
+    }
+
+-- ---- postings
+
+abbrev pub posting_shown : ℤ × ℤ × PostingRow → List ℤ
+posting_shown p = p.0 ∷ p.2.week ∷ p.2.through ∷ p.2.version ∷ p.2.due ∷ p.2.amount ∷ []
+
+pub postings_shown : (account : ℤ) (old new : State) (rows : List Row) → Shown select_postings (Int account ∷ []) old new rows → (l : LedgerRows) → HoldsRows old.now l
+    → ShowsInOrder posting_shown (filter (λ (p : ℤ × ℤ × PostingRow). int_eq p.1 account) l.postings) old new rows
+postings_shown account old new rows h l held =
+    let it = shown_by_query select_postings postings_query _ select_postings_is (Int account ∷ []) old new rows held.schema_is h in
+    record {
+      are = in_order posting_row (λ (p : ℤ × ℤ × PostingRow). p.0) (λ p. refl) postings_tree postings_query.filter postings_query.project (Int account ∷ []) (overlay old.now.trees [])
+          (λ (p : ℤ × ℤ × PostingRow). int_eq p.1 account) (λ p. and_true _ ∙ same_number p.1 account) l.postings held.postings (subst (RiseFrom (pos 0)) held.postings held.postings_rise) rows it.0;
+      unchanged = it.1;
+    }

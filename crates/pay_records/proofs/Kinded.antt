@@ -1,0 +1,147 @@
+-- Of what kind a database is.
+use Rattle.std.proofs.Common.{◌≡◌, ◌⊎◌, inl, inr, ℕ, ℤ, pos, List, [], ◌∷◌, map, drop, Ok, Err, Result, IfOk, IfErr, refl, sym, ap, ap₂, subst, ◌∙◌, IsPermutation}
+use Rattle.std.proofs.lemmas.List.Sorted.{IsPermutation-map}
+use Rattle.sqlite_resolve.specs.declared.compiled.Compiled.{Compiled}
+use Rattle.sqlite_resolve.specs.declared.error.CompileError.{CompileError}
+use Rattle.sqlite_resolve.specs.declared.error.CompileError.TheVariants.{NoSuchTable, NoSuchColumn}
+use Rattle.sqlite_tied.specs.Compute.{everything}
+use Rattle.sqlite_trees.specs.declared.error.StoreError.{StoreError}
+use Rattle.sqlite_trees.specs.declared.error.StoreError.TheVariants as store
+use Rattle.sqlite_sql.specs.Query.{Output}
+use Rattle.sqlite.specs.declared.error.Error.{Error}
+use Rattle.sqlite.specs.declared.error.Error.TheVariants.{SqlInputError}
+use Rattle.sqlite.specs.declared.types.Value.TheVariants.{Int, Text}
+use Rattle.sqlite.specs.Listing.{understood, listing_schema}
+use Rattle.sqlite.specs.Order.{Row}
+use Rattle.sqlite.specs.Outline.{Outline}
+use Rattle.sqlite.specs.Schema.{Schema}
+use Rattle.sqlite.specs.Effect.{Database}
+use Rattle.sqlite.specs.Program.{overlay}
+use Rattle.sqlite.specs.Query.{output, matches, inner, end}
+use Rattle.sqlite.specs.State.{State, Shown, IsUnchanged, IsNotRun, IsNoStatement, Fails, store_error, KeepsCommit}
+use Rattle.sqlite.specs.Steps.{Outlines}
+use Rattle.sqlite.proofs.Callers.{one_permutation, unchanged_then}
+use Rattle.pay_records.specs.declared.fault.ReadFault.{ReadFault}
+use Rattle.pay_records.specs.declared.kind.Kind.{Kind}
+use Rattle.pay_records.specs.declared.kind.Kind.TheVariants as kind
+use Rattle.pay_records.specs.declared.kind.Presence.{Presence}
+use Rattle.pay_records.specs.declared.kind.Presence.TheVariants.{Missing, There}
+use Rattle.pay_records.specs.Kinds.{presence_of, is_there, together, IsToldBy, tables_in, kind_by, IsKindBy, IsKindOf}
+use Rattle.pay_records.specs.Rows.{LedgerRows, HoldsRows}
+use Rattle.pay_records.specs.Tables.{no_schema, ledger_schema, meta_tree}
+use Rattle.pay_records.proofs.Kept.{kept_unchanged, kept_not_run}
+use Rattle.pay_records.proofs.Selects.{simply}
+use Rattle.pay_records.proofs.SelectTexts.{select_meta, meta_query, select_meta_is}
+use Rattle.pay_records.proofs.Answered.{shown_by_query}
+
+outlined : (u : Result Compiled CompileError) (s : Outline) → Outlines u s → presence_of u ≡ There
+outlined (Ok c) s h = refl
+outlined (Err e) s h = absurd h
+
+no_store_error : (cause : StoreError) (e : CompileError) → SqlInputError e ≡ store_error cause → ⊥
+no_store_error store.OutOfMemory e is = cc
+no_store_error store.Io e is = cc
+no_store_error store.Corrupt e is = cc
+no_store_error store.Full e is = cc
+no_store_error store.Broken e is = cc
+no_store_error store.Unstorable e is = cc
+
+-- a text that is refused as no statement is not understood
+refused : (old new : State) (sql : List ℕ) (e : CompileError) → ((params : Row) → IsNotRun old new sql params (SqlInputError e)) → (understood old.now.schema sql ≡ Err e) × IsUnchanged old new
+unfolding IsNotRun
+refused old new sql e h = go (h [])
+  where
+    go : (IsNoStatement old sql [] (SqlInputError e) × IsUnchanged old new) ⊎ Fails old new ⊥ (SqlInputError e) → (understood old.now.schema sql ≡ Err e) × IsUnchanged old new
+    go (inl (inl none, same)) = let is : none.0 ≡ e = let e = none.2 in cc in (none.1 ∙ ap (λ f. Err f) is, same)
+    go (inl (inr (c, is, inl more), same)) = absurd (let e = more.1 in cc)
+    go (inl (inr (c, is, inr (inl count)), same)) = absurd (let e = count.1 in cc)
+    go (inl (inr (c, is, inr (inr clock)), same)) = absurd (let e = clock.1 in cc)
+    go (inr fails) = absurd (no_store_error fails.0 e fails.1)
+
+module _ (old new : State) (sql : List ℕ) where
+  found_by : (r : Result Outline Error) → IfOk r (λ s. (s.text ≡ sql) × IsUnchanged old new) → IfOk r (Outlines (understood old.now.schema sql)) → IfErr r (λ e. (params : Row) → IsNotRun old new sql params e)
+      → (p : Presence) → IsToldBy p r → (p ≡ presence_of (understood old.now.schema sql)) × IsUnchanged old new
+  found_by (Ok s) ok shape err p (inl told) = (told.2 ∙ sym (outlined _ s shape), ok.1)
+  found_by (Ok s) ok shape err p (inr (inl told)) = absurd (let e = told.0 in cc)
+  found_by (Ok s) ok shape err p (inr (inr told)) = absurd (let e = told.0 in cc)
+  found_by (Err e) ok shape err p (inl told) = absurd (let e = told.1 in cc)
+  found_by (Err e) ok shape err p (inr (inl told)) =
+      let is : e ≡ SqlInputError NoSuchTable = let e = told.0 in cc in
+      let it = refused old new sql NoSuchTable (subst (λ e. (params : Row) → IsNotRun old new sql params e) is err) in
+      (told.1 ∙ sym (ap presence_of it.0), it.1)
+  found_by (Err e) ok shape err p (inr (inr told)) =
+      let is : e ≡ SqlInputError NoSuchColumn = let e = told.0 in cc in
+      let it = refused old new sql NoSuchColumn (subst (λ e. (params : Row) → IsNotRun old new sql params e) is err) in
+      (told.1 ∙ sym (ap presence_of it.0), it.1)
+
+  pub presence_told : (r : Result Outline Error) → IfOk r (λ s. (s.text ≡ sql) × IsUnchanged old new) → IfOk r (Outlines (understood old.now.schema sql)) → IfErr r (λ e. (params : Row) → IsNotRun old new sql params e)
+      → (a : Result Presence ReadFault) → IfOk a (λ p. IsToldBy p r) → IfOk a (λ p. (p ≡ presence_of (understood old.now.schema sql)) × IsUnchanged old new)
+  presence_told r ok shape err (Ok p) told = found_by r ok shape err p told
+  presence_told r ok shape err (Err e) told = tt
+
+  pub kept_prepared : (r : Result Outline Error) → IfOk r (λ s. (s.text ≡ sql) × IsUnchanged old new) → IfErr r (λ e. (params : Row) → IsNotRun old new sql params e) → KeepsCommit old new
+  kept_prepared (Ok s) ok err = kept_unchanged old new ok.1
+  kept_prepared (Err e) ok err = kept_not_run old new sql [] e (err [])
+
+pub blank_tables : tables_in no_schema ≡ Missing
+unfolding understood everything listing_schema
+blank_tables = refl
+
+pub ledger_tables : tables_in ledger_schema ≡ There
+unfolding understood everything
+ledger_tables = refl
+
+-- the one row of `meta`
+one_row : (rows : List Row) (columns : Row) → map (drop 1) rows ≡ columns ∷ [] → (r : Row) × (rows ≡ r ∷ []) × (drop 1 r ≡ columns)
+one_row [] columns is = absurd (cc)
+one_row (r ∷ []) columns is = (r, refl, cc)
+one_row (r ∷ s ∷ rows) columns is = absurd (cc)
+
+columns_behind : (name : List ℕ) (version : ℤ) (r : Row) → drop 1 r ≡ Text name ∷ Int version ∷ [] → map (λ (o : Output). o.1) (output meta_query ([] ∷ r ∷ []) ∷ []) ≡ (Text name ∷ Int version ∷ []) ∷ []
+columns_behind name version [] is = absurd (cc)
+columns_behind name version (x ∷ r) is = ap (λ r. map (λ (o : Output). o.1) (output meta_query ([] ∷ (x ∷ r) ∷ []) ∷ [])) is
+
+meta_shown : (old new : State) (rows : List Row) → Shown select_meta [] old new rows → old.now.schema ≡ ledger_schema → (name : List ℕ) (version : ℤ) → map (drop 1) (old.now.trees meta_tree) ≡ (Text name ∷ Int version ∷ []) ∷ []
+    → (rows ≡ (Text name ∷ Int version ∷ []) ∷ []) × IsUnchanged old new
+meta_shown old new rows h has name version is =
+    let it = shown_by_query select_meta meta_query _ select_meta_is [] old new rows has h in
+    let db = overlay old.now.trees [] in
+    let found = simply meta_query.from [] meta_query.project [] db [] rows it.0 in
+    let one = one_row (db meta_tree) (Text name ∷ Int version ∷ []) is in
+    let seen : map (λ (o : Output). o.1) (map (output meta_query) (matches db [] (inner meta_tree end) ([] ∷ []))) ≡ (Text name ∷ Int version ∷ []) ∷ [] =
+    ap (λ r. map (λ (o : Output). o.1) (map (output meta_query) (Rattle.std.proofs.Common.flat_map (λ r. ([] ∷ r ∷ []) ∷ []) r))) one.1 ∙ columns_behind name version one.0 one.2 in
+    let same = IsPermutation-map (λ (o : Output). o.1) _ _ found.same in
+    (found.shown ∙ one_permutation (Text name ∷ Int version ∷ []) _ (subst (λ l. IsPermutation l (map (λ (o : Output). o.1) found.ordered)) seen same), it.1)
+
+module _ (old between new : State) where
+  pub kind_where_all : IsUnchanged old between → (rows : List Row) → Shown select_meta [] between new rows → There ≡ tables_in old.now.schema → (k : Kind) → k ≡ kind_by rows → IsKindOf old new k
+  kind_where_all first rows h there k told =
+      let same : between.now ≡ old.now = first.0.now_is in
+      subst (λ p. IsKindBy old new p k) there (λ has name version is.
+      let it = meta_shown between new rows h (ap (λ d. d.schema) same ∙ has) name version (ap (λ d. map (drop 1) (d.trees meta_tree)) same ∙ is) in
+      (told ∙ ap kind_by it.0, unchanged_then old between new first it.1))
+
+module _ (old new : State) where
+  pub kind_of_blank : (k : Kind) → IsKindOf old new k → old.now.schema ≡ no_schema → (k ≡ kind.Blank) × IsUnchanged old new
+  kind_of_blank k h has = subst (λ p. IsKindBy old new p k) (ap tables_in has ∙ blank_tables) h
+
+  pub kind_of_ledger : (k : Kind) → IsKindOf old new k → (rows : LedgerRows) → HoldsRows old.now rows → (k ≡ kind.Ledger) × IsUnchanged old new
+  kind_of_ledger k h rows held = (subst (λ p. IsKindBy old new p k) (ap tables_in held.schema_is ∙ ledger_tables) h) held.schema_is _ _ held.meta
+
+-- tables beside others, each asked for in its turn
+module _ (asked : Schema → Presence) (old first second third : State) (other another : List ℕ) (a b c : Presence) where
+  pub three_more : (a ≡ asked old.now.schema) × IsUnchanged old first → (b ≡ presence_of (understood first.now.schema other)) × IsUnchanged first second → (c ≡ presence_of (understood second.now.schema another)) × IsUnchanged second third
+      → (two all : Presence) → two ≡ together a b → all ≡ together two c
+      → (all ≡ together (together (asked old.now.schema) (is_there old.now.schema other)) (is_there old.now.schema another)) × IsUnchanged old third
+  three_more one next last two all two_are all_are =
+      let begun : first.now ≡ old.now = one.1.0.now_is in
+      let gone : second.now ≡ old.now = next.1.0.now_is ∙ begun in
+      let there : b ≡ is_there old.now.schema other = next.0 ∙ ap (λ (d : Database). is_there d.schema other) begun in
+      let behind : c ≡ is_there old.now.schema another = last.0 ∙ ap (λ (d : Database). is_there d.schema another) gone in
+      (all_are ∙ ap₂ together (two_are ∙ ap₂ together one.0 there) behind, unchanged_then old second third (unchanged_then old first second one.1 next.1) last.1)
+
+module _ (old first second third : State) (text other another : List ℕ) (a b c : Presence) where
+  pub three_tables : (a ≡ presence_of (understood old.now.schema text)) × IsUnchanged old first → (b ≡ presence_of (understood first.now.schema other)) × IsUnchanged first second → (c ≡ presence_of (understood second.now.schema another)) × IsUnchanged second third
+      → (two all : Presence) → two ≡ together a b → all ≡ together two c
+      → (all ≡ together (together (is_there old.now.schema text) (is_there old.now.schema other)) (is_there old.now.schema another)) × IsUnchanged old third
+  three_tables = three_more (λ schema. is_there schema text) old first second third other another a b c

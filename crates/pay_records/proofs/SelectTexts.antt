@@ -1,0 +1,97 @@
+-- What each SELECT of the ledger means over its tables.
+use Rattle.std.proofs.Common.{◌≡◌, ℕ, false, List, [], ◌∷◌, codes, refl}
+use Rattle.sqlite_tied.specs.Compute.{everything}
+use Rattle.sqlite_value.specs.declared.keys.Key.{Key}
+use Rattle.sqlite_value.specs.declared.keys.Collation.TheVariants.{Binary}
+use Rattle.sqlite_sql.specs.declared.ops.CompareOp.TheVariants.{Eq}
+use Rattle.sqlite_sql.specs.declared.ops.BinaryOp.TheVariants.{Compare}
+use Rattle.sqlite.specs.Command.TheVariants.{Select}
+use Rattle.sqlite.specs.Term.{Term, col, op2}
+use Rattle.sqlite.specs.Query.{Query, inner, end}
+use Rattle.sqlite.specs.Listing.{understood, reads_listing}
+use Rattle.sqlite.proofs.Callers.{IsPlain, command_of}
+use Rattle.pay_records.specs.Tables.{ledger_schema, meta_tree, postings_tree, shares_tree, taps_tree, fixes_tree, taps_columns, fixes_columns}
+use Rattle.pay_records.proofs.Selects.{simple}
+
+abbrev pub select_postings : List ℕ
+select_postings = codes "SELECT id, week, through, version, due, amount FROM postings WHERE account = ?1 ORDER BY id"
+
+abbrev pub select_shares : List ℕ
+select_shares = codes "SELECT posting, operator, shares.amount FROM postings JOIN shares ON shares.posting = postings.id WHERE account = ?1"
+
+abbrev pub select_taps : List ℕ
+select_taps = codes "SELECT reader, seq, utc, day, second, place, kind FROM taps WHERE account = ?1 ORDER BY rowid"
+
+abbrev pub select_fixes : List ℕ
+select_fixes = codes "SELECT staff, seq, what, a, b, c, d, e FROM fixes WHERE account = ?1 ORDER BY rowid"
+
+abbrev pub select_all_taps : List ℕ
+select_all_taps = codes "SELECT account, reader, seq, utc, day, second, place, kind FROM taps"
+
+abbrev pub select_all_fixes : List ℕ
+select_all_fixes = codes "SELECT account, staff, seq, what, a, b, c, d, e FROM fixes"
+
+abbrev pub select_meta : List ℕ
+select_meta = codes "SELECT name, version FROM meta"
+
+-- a column of the first table is the parameter
+abbrev pub is_given : ℕ → Term
+is_given at = op2 (Compare Eq Binary) (col 1 at) (col 0 0)
+
+abbrev pub by_rowid : List (Term × Key)
+by_rowid = (col 1 0, record { collation = Binary; descending = false }) ∷ []
+
+abbrev pub postings_query : Query
+postings_query = simple (inner postings_tree end) (is_given 2 ∷ []) (col 1 0 ∷ col 1 3 ∷ col 1 4 ∷ col 1 5 ∷ col 1 6 ∷ col 1 7 ∷ []) by_rowid
+
+abbrev pub shares_query : Query
+shares_query = simple (inner postings_tree (inner shares_tree end)) (op2 (Compare Eq Binary) (col 2 1) (col 1 0) ∷ is_given 2 ∷ []) (col 2 1 ∷ col 2 2 ∷ col 2 3 ∷ []) []
+
+abbrev pub taps_query : Query
+taps_query = simple (inner taps_tree end) (is_given 1 ∷ []) (col 1 2 ∷ col 1 3 ∷ col 1 4 ∷ col 1 5 ∷ col 1 6 ∷ col 1 7 ∷ col 1 8 ∷ []) by_rowid
+
+abbrev pub fixes_query : Query
+fixes_query = simple (inner fixes_tree end) (is_given 1 ∷ []) (col 1 2 ∷ col 1 3 ∷ col 1 4 ∷ col 1 5 ∷ col 1 6 ∷ col 1 7 ∷ col 1 8 ∷ col 1 9 ∷ []) by_rowid
+
+abbrev pub all_taps_query : Query
+all_taps_query = simple (inner taps_tree end) [] (col 1 1 ∷ col 1 2 ∷ col 1 3 ∷ col 1 4 ∷ col 1 5 ∷ col 1 6 ∷ col 1 7 ∷ col 1 8 ∷ []) []
+
+abbrev pub all_fixes_query : Query
+all_fixes_query = simple (inner fixes_tree end) [] (col 1 1 ∷ col 1 2 ∷ col 1 3 ∷ col 1 4 ∷ col 1 5 ∷ col 1 6 ∷ col 1 7 ∷ col 1 8 ∷ col 1 9 ∷ []) []
+
+abbrev pub meta_query : Query
+meta_query = simple (inner meta_tree end) [] (col 1 1 ∷ col 1 2 ∷ []) []
+
+-- a text is this query, and nothing else
+pub record IsQuery (text : List ℕ) (q : Query) (names : List (List ℕ)) : Type 0 where
+  pub command : command_of (understood ledger_schema text) ≡ Select (record { lets = []; body = q }) names
+  pub plain : IsPlain (understood ledger_schema text)
+  pub unlisted : reads_listing ledger_schema text ≡ false
+
+pub select_postings_is : IsQuery select_postings postings_query (codes "id" ∷ codes "week" ∷ codes "through" ∷ codes "version" ∷ codes "due" ∷ codes "amount" ∷ [])
+unfolding understood everything
+select_postings_is = record { command = refl; plain = (refl, refl); unlisted = refl }
+
+pub select_shares_is : IsQuery select_shares shares_query (codes "posting" ∷ codes "operator" ∷ codes "amount" ∷ [])
+unfolding understood everything
+select_shares_is = record { command = refl; plain = (refl, refl); unlisted = refl }
+
+pub select_taps_is : IsQuery select_taps taps_query (codes "reader" ∷ codes "seq" ∷ codes "utc" ∷ codes "day" ∷ codes "second" ∷ codes "place" ∷ codes "kind" ∷ [])
+unfolding understood everything
+select_taps_is = record { command = refl; plain = (refl, refl); unlisted = refl }
+
+pub select_fixes_is : IsQuery select_fixes fixes_query (codes "staff" ∷ codes "seq" ∷ codes "what" ∷ codes "a" ∷ codes "b" ∷ codes "c" ∷ codes "d" ∷ codes "e" ∷ [])
+unfolding understood everything
+select_fixes_is = record { command = refl; plain = (refl, refl); unlisted = refl }
+
+pub select_all_taps_is : IsQuery select_all_taps all_taps_query taps_columns
+unfolding understood everything
+select_all_taps_is = record { command = refl; plain = (refl, refl); unlisted = refl }
+
+pub select_all_fixes_is : IsQuery select_all_fixes all_fixes_query fixes_columns
+unfolding understood everything
+select_all_fixes_is = record { command = refl; plain = (refl, refl); unlisted = refl }
+
+pub select_meta_is : IsQuery select_meta meta_query (codes "name" ∷ codes "version" ∷ [])
+unfolding understood everything
+select_meta_is = record { command = refl; plain = (refl, refl); unlisted = refl }

@@ -1,0 +1,92 @@
+-- What the rows that each SELECT shows tell.
+use Rattle.std.proofs.Common.{◌≡◌, ℕ, ℤ, List, [], ◌∷◌, map, refl, sym, ap, subst, ◌∙◌, IsPermutation}
+use Rattle.std.specs.List.{AllByRecursion}
+use Rattle.sqlite.specs.declared.types.Value.TheVariants.{Int}
+use Rattle.sqlite.specs.Order.{Row, column}
+use Rattle.sqlite.specs.State.{State, Shown}
+use Rattle.pay_rows.specs.declared.row.PostingRow.{PostingRow}
+use Rattle.pay_rows.specs.declared.row.ShareRow.{ShareRow}
+use Rattle.pay_rows.specs.declared.row.TapRow.{TapRow}
+use Rattle.pay_rows.specs.declared.row.FixRow.{FixRow}
+use Rattle.pay_records.specs.Rows.{LedgerRows, HoldsRows, share_numbers, tap_numbers, fix_numbers}
+use Rattle.pay_records.specs.Told.{IsWhole, AreWhole, whole_in, posting_at, share_at, tap_at, fix_at}
+use Rattle.pay_records.specs.Found.{Finds, postings_of, shares_of, taps_of, fixes_of}
+use Rattle.pay_records.proofs.SelectTexts.{select_postings, select_shares, select_taps, select_fixes, select_all_taps, select_all_fixes}
+use Rattle.pay_records.proofs.Answered.{told_in_some_order, told_in_order, each_shown, each_in_order, tap_shown, fix_shown, posting_shown, taps_shown, fixes_shown, all_taps_shown, all_fixes_shown, shares_shown, postings_shown}
+
+itself : {X : Type 0} (xs : List X) → map (λ x. x) xs ≡ xs
+itself [] = refl
+itself (x ∷ xs) = ap (λ l. x ∷ l) (itself xs)
+
+-- as the code has it: the parameters and the rows by other names
+module _ (old new : State) (given : Row) (rows held : List Row) where
+  pub record IsShown (text : List ℕ) (params : Row) : Type 0 where
+    pub shown : Shown text given old new rows
+    pub params_are : given ≡ params
+    pub rows_are : held ≡ rows
+
+  shown_rows : (text : List ℕ) (params : Row) → IsShown text params → Shown text params old new held
+  shown_rows text params h = subst (λ r. Shown text params old new r) (sym h.rows_are) (subst (λ p. Shown text p old new rows) h.params_are h.shown)
+
+  pub taps_told : (account : ℤ) (list : List TapRow) → IsShown select_taps (Int account ∷ []) → list ≡ map (tap_at 0) held → Finds old new (λ l. list ≡ taps_of account l)
+  taps_told account list is told l holds =
+      let h = taps_shown account old new held (shown_rows select_taps (Int account ∷ []) is) l holds in
+      (told ∙ told_in_order tap_shown (tap_at 0) (λ (t : ℤ × TapRow). t.1) (λ x. refl) _ old new held h, h.unchanged)
+
+  pub taps_whole : (account : ℤ) → IsShown select_taps (Int account ∷ []) → (l : LedgerRows) → HoldsRows old.now l → AllByRecursion (AreWhole 0 7) held
+  taps_whole account is l holds =
+      let h = taps_shown account old new held (shown_rows select_taps (Int account ∷ []) is) l holds in
+      each_in_order tap_shown (AreWhole 0 7) (λ x. ((_, refl), ((_, refl), ((_, refl), ((_, refl), ((_, refl), ((_, refl), ((_, refl), tt)))))))) _ old new held h
+
+  pub fixes_told : (account : ℤ) (list : List FixRow) → IsShown select_fixes (Int account ∷ []) → list ≡ map (fix_at 0) held → Finds old new (λ l. list ≡ fixes_of account l)
+  fixes_told account list is told l holds =
+      let h = fixes_shown account old new held (shown_rows select_fixes (Int account ∷ []) is) l holds in
+      (told ∙ told_in_order fix_shown (fix_at 0) (λ (f : ℤ × FixRow). f.1) (λ x. refl) _ old new held h, h.unchanged)
+
+  pub fixes_whole : (account : ℤ) → IsShown select_fixes (Int account ∷ []) → (l : LedgerRows) → HoldsRows old.now l → AllByRecursion (AreWhole 0 8) held
+  fixes_whole account is l holds =
+      let h = fixes_shown account old new held (shown_rows select_fixes (Int account ∷ []) is) l holds in
+      each_in_order fix_shown (AreWhole 0 8) (λ x. ((_, refl), ((_, refl), ((_, refl), ((_, refl), ((_, refl), ((_, refl), ((_, refl), ((_, refl), tt))))))))) _ old new held h
+
+  pub postings_told : (account : ℤ) (list : List (ℤ × PostingRow)) → IsShown select_postings (Int account ∷ []) → list ≡ map (λ r. (whole_in (column r 0), posting_at 1 r)) held → Finds old new (λ l. list ≡ postings_of account l)
+  postings_told account list is told l holds =
+      let h = postings_shown account old new held (shown_rows select_postings (Int account ∷ []) is) l holds in
+      (told ∙ told_in_order posting_shown (λ r. (whole_in (column r 0), posting_at 1 r)) (λ (p : ℤ × ℤ × PostingRow). (p.0, p.2)) (λ x. refl) _ old new held h, h.unchanged)
+
+  pub postings_whole : (account : ℤ) → IsShown select_postings (Int account ∷ []) → (l : LedgerRows) → HoldsRows old.now l → AllByRecursion (λ r. IsWhole (column r 0) × AreWhole 1 5 r) held
+  postings_whole account is l holds =
+      let h = postings_shown account old new held (shown_rows select_postings (Int account ∷ []) is) l holds in
+      each_in_order posting_shown (λ r. IsWhole (column r 0) × AreWhole 1 5 r) (λ x. ((_, refl), ((_, refl), ((_, refl), ((_, refl), ((_, refl), ((_, refl), tt))))))) _ old new held h
+
+  pub shares_told : (account : ℤ) (list : List ShareRow) → IsShown select_shares (Int account ∷ []) → list ≡ map (share_at 0) held → Finds old new (λ l. IsPermutation (shares_of account l) list)
+  shares_told account list is told l holds =
+      let h = shares_shown account old new held (shown_rows select_shares (Int account ∷ []) is) l holds in
+      let same = told_in_some_order share_numbers (share_at 0) (λ (s : ShareRow). s) (λ x. refl) _ old new held h in
+      (subst (IsPermutation (shares_of account l)) (sym told) (subst (λ f. IsPermutation f (map (share_at 0) held)) (itself (shares_of account l)) same), h.unchanged)
+
+  pub shares_whole : (account : ℤ) → IsShown select_shares (Int account ∷ []) → (l : LedgerRows) → HoldsRows old.now l → AllByRecursion (AreWhole 0 3) held
+  shares_whole account is l holds =
+      let h = shares_shown account old new held (shown_rows select_shares (Int account ∷ []) is) l holds in
+      each_shown share_numbers (AreWhole 0 3) (λ x. ((_, refl), ((_, refl), ((_, refl), tt)))) _ old new held h
+
+  pub all_taps_told : (list : List (ℤ × TapRow)) → IsShown select_all_taps [] → list ≡ map (λ r. (whole_in (column r 0), tap_at 1 r)) held → Finds old new (λ l. IsPermutation l.taps list)
+  all_taps_told list is told l holds =
+      let h = all_taps_shown old new held (shown_rows select_all_taps [] is) l holds in
+      let same = told_in_some_order tap_numbers (λ r. (whole_in (column r 0), tap_at 1 r)) (λ (t : ℤ × TapRow). t) (λ x. refl) _ old new held h in
+      (subst (IsPermutation l.taps) (sym told) (subst (λ f. IsPermutation f (map (λ r. (whole_in (column r 0), tap_at 1 r)) held)) (itself l.taps) same), h.unchanged)
+
+  pub all_taps_whole : IsShown select_all_taps [] → (l : LedgerRows) → HoldsRows old.now l → AllByRecursion (λ r. IsWhole (column r 0) × AreWhole 1 7 r) held
+  all_taps_whole is l holds =
+      let h = all_taps_shown old new held (shown_rows select_all_taps [] is) l holds in
+      each_shown tap_numbers (λ r. IsWhole (column r 0) × AreWhole 1 7 r) (λ x. ((_, refl), ((_, refl), ((_, refl), ((_, refl), ((_, refl), ((_, refl), ((_, refl), ((_, refl), tt))))))))) _ old new held h
+
+  pub all_fixes_told : (list : List (ℤ × FixRow)) → IsShown select_all_fixes [] → list ≡ map (λ r. (whole_in (column r 0), fix_at 1 r)) held → Finds old new (λ l. IsPermutation l.fixes list)
+  all_fixes_told list is told l holds =
+      let h = all_fixes_shown old new held (shown_rows select_all_fixes [] is) l holds in
+      let same = told_in_some_order fix_numbers (λ r. (whole_in (column r 0), fix_at 1 r)) (λ (t : ℤ × FixRow). t) (λ x. refl) _ old new held h in
+      (subst (IsPermutation l.fixes) (sym told) (subst (λ f. IsPermutation f (map (λ r. (whole_in (column r 0), fix_at 1 r)) held)) (itself l.fixes) same), h.unchanged)
+
+  pub all_fixes_whole : IsShown select_all_fixes [] → (l : LedgerRows) → HoldsRows old.now l → AllByRecursion (λ r. IsWhole (column r 0) × AreWhole 1 8 r) held
+  all_fixes_whole is l holds =
+      let h = all_fixes_shown old new held (shown_rows select_all_fixes [] is) l holds in
+      each_shown fix_numbers (λ r. IsWhole (column r 0) × AreWhole 1 8 r) (λ x. ((_, refl), ((_, refl), ((_, refl), ((_, refl), ((_, refl), ((_, refl), ((_, refl), ((_, refl), ((_, refl), tt)))))))))) _ old new held h

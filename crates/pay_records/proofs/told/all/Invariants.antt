@@ -1,0 +1,5 @@
+use Rattle.std.proofs.Common.{◌≡◌, map, take}
+use Rattle.pay_records.proofs.told.all.Given as goal
+
+abbrev pub invariant-loop-row : goal.invariant-loop-row
+invariant-loop-row g l = l.list.items ≡ map (g.T.Told.told_at 0) (take l.row-index l.rows)

@@ -1,0 +1,29 @@
+-- What is found in the tables of a ledger.
+use Rattle.std.specs.Prelude.{ℤ, List, map, filter, flat_map}
+use Rattle.std.specs.Ordering.{int_eq}
+use Rattle.sqlite.specs.State.{State, IsUnchanged}
+use Rattle.pay_rows.specs.declared.row.PostingRow.{PostingRow}
+use Rattle.pay_rows.specs.declared.row.ShareRow.{ShareRow}
+use Rattle.pay_rows.specs.declared.row.TapRow.{TapRow}
+use Rattle.pay_rows.specs.declared.row.FixRow.{FixRow}
+use Rattle.pay_records.specs.Rows.{LedgerRows, HoldsRows}
+
+-- where the database is a ledger, this is so of its rows, and nothing changes
+abbrev pub Finds : State → State → (LedgerRows → Type 0) → Type 0
+Finds old new Found = (rows : LedgerRows) → HoldsRows old.now rows → Found rows × IsUnchanged old new
+
+-- the postings of an account, each beside its number
+abbrev pub postings_of : ℤ → LedgerRows → List (ℤ × PostingRow)
+postings_of account l = map (λ (p : ℤ × ℤ × PostingRow). (p.0, p.2)) (filter (λ (p : ℤ × ℤ × PostingRow). int_eq p.1 account) l.postings)
+
+-- and the shares of these
+abbrev pub shares_of : ℤ → LedgerRows → List ShareRow
+shares_of account l = flat_map (λ (p : ℤ × PostingRow). filter (λ (s : ShareRow). int_eq s.posting p.0) l.shares) (postings_of account l)
+
+-- the archived taps of an account
+abbrev pub taps_of : ℤ → LedgerRows → List TapRow
+taps_of account l = map (λ (t : ℤ × TapRow). t.1) (filter (λ (t : ℤ × TapRow). int_eq t.0 account) l.taps)
+
+-- and its corrections
+abbrev pub fixes_of : ℤ → LedgerRows → List FixRow
+fixes_of account l = map (λ (f : ℤ × FixRow). f.1) (filter (λ (f : ℤ × FixRow). int_eq f.0 account) l.fixes)

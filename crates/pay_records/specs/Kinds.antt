@@ -1,0 +1,73 @@
+-- What a database is to a ledger.
+use Rattle.std.specs.Prelude.{bytes_eq, ◌≡◌, ◌⊎◌, ℤ, pos, map, drop, if◌then◌else◌, ℕ, List, [], ◌∷◌, codes, Result, Ok, Err}
+use Rattle.std.specs.Ordering.{int_eq}
+use Rattle.sqlite_resolve.specs.declared.compiled.Compiled.{Compiled}
+use Rattle.sqlite_resolve.specs.declared.error.CompileError.{CompileError}
+use Rattle.sqlite_resolve.specs.declared.error.CompileError.TheVariants.{NoSuchTable, NoSuchColumn}
+use Rattle.sqlite.specs.declared.types.Value.{Value}
+use Rattle.sqlite.specs.declared.types.Value.TheVariants.{Int, Text}
+use Rattle.sqlite.specs.Order.{Row, column}
+use Rattle.sqlite.specs.Schema.{Schema}
+use Rattle.sqlite.specs.State.{State, IsUnchanged}
+use Rattle.sqlite.specs.declared.error.Error.{Error}
+use Rattle.sqlite.specs.declared.error.Error.TheVariants.{SqlInputError}
+use Rattle.sqlite.specs.Outline.{Outline}
+use Rattle.sqlite.specs.Listing.{understood}
+use Rattle.pay_records.specs.Tables.{ledger_schema, meta_tree}
+use Rattle.pay_records.specs.declared.kind.Kind.{Kind}
+use Rattle.pay_records.specs.declared.kind.Kind.TheVariants.{Blank, Ledger, Version, Other}
+use Rattle.pay_records.specs.declared.kind.Presence.{Presence}
+use Rattle.pay_records.specs.declared.kind.Presence.TheVariants.{Missing, There, Partly}
+
+-- a table is there where a query of its columns is understood, and missing where there is no table of its name
+abbrev pub presence_of : Result Compiled CompileError → Presence
+presence_of (Ok c) = There
+presence_of (Err NoSuchTable) = Missing
+presence_of (Err _) = Partly
+
+-- tables together
+abbrev pub together : Presence → Presence → Presence
+together There There = There
+together Missing Missing = Missing
+together _ _ = Partly
+
+-- what it tells of a table that a query of it was prepared, or was not
+abbrev pub IsToldBy : Presence → Result Outline Error → Type 0
+IsToldBy p r =
+    ((statement : Outline) × (r ≡ Ok statement) × (p ≡ There))
+    ⊎ (((r ≡ Err (SqlInputError NoSuchTable)) × (p ≡ Missing)) ⊎ ((r ≡ Err (SqlInputError NoSuchColumn)) × (p ≡ Partly)))
+
+abbrev pub is_there : Schema → List ℕ → Presence
+is_there schema text = presence_of (understood schema text)
+
+abbrev pub posting_tables_in : Schema → Presence
+posting_tables_in schema =
+    together (together (is_there schema (codes "SELECT name, version FROM meta")) (is_there schema (codes "SELECT id, account, week, through, version, due, amount FROM postings")))
+    (is_there schema (codes "SELECT posting, operator, amount FROM shares"))
+
+-- whether all five tables are there, with their columns
+abbrev pub tables_in : Schema → Presence
+tables_in schema =
+    together (together (posting_tables_in schema) (is_there schema (codes "SELECT account, reader, seq, utc, day, second, place, kind FROM taps")))
+    (is_there schema (codes "SELECT account, staff, seq, what, a, b, c, d, e FROM fixes"))
+
+-- by a name and a version
+abbrev pub kind_of_row : Value → Value → Kind
+kind_of_row (Text name) (Int version) = if bytes_eq name (codes "farebox") then (if int_eq version (pos 1) then Ledger else Version) else Other
+kind_of_row _ _ = Other
+
+-- by the rows of `meta`, of which there has to be one
+abbrev pub kind_by : List Row → Kind
+kind_by (row ∷ []) = kind_of_row (column row 0) (column row 1)
+kind_by _ = Other
+
+-- by the tables that are there, and where they are a ledger's by the row of `meta`
+abbrev pub IsKindBy : State → State → Presence → Kind → Type 0
+IsKindBy old new Missing kind = (kind ≡ Blank) × IsUnchanged old new
+IsKindBy old new Partly kind = (kind ≡ Other) × IsUnchanged old new
+IsKindBy old new There kind =
+    old.now.schema ≡ ledger_schema → (name : List ℕ) (version : ℤ) → map (drop 1) (old.now.trees meta_tree) ≡ (Text name ∷ Int version ∷ []) ∷ []
+    → (kind ≡ kind_of_row (Text name) (Int version)) × IsUnchanged old new
+
+abbrev pub IsKindOf : State → State → Kind → Type 0
+IsKindOf old new kind = IsKindBy old new (tables_in old.now.schema) kind

@@ -1,0 +1,285 @@
+//! Postings, taps and corrections as rows of the ledger, both ways.
+
+use crate::given::{MONDAY, expect_list, expect_same, tap_at};
+use crate::postings::quote;
+use pay_account::Posting;
+use pay_fix::{Credit, Fix, What};
+use pay_postings::{PostFault, Posted};
+use pay_rows::*;
+use pay_taps::{Kind, Tap};
+use std::process::Abort;
+
+/// The first posting of account 7: 860 are due through the Tuesday.
+pub const CHARGED: PostingRow = PostingRow {
+    week: 19_730,
+    through: 19_731,
+    version: 1,
+    due: 860,
+    amount: 860,
+};
+
+/// The second: 340 are due through the Wednesday.
+pub const GIVEN_BACK: PostingRow = PostingRow {
+    week: 19_730,
+    through: 19_732,
+    version: 2,
+    due: 340,
+    amount: -520,
+};
+
+/// The two postings: of the first 593 are operator 1's and 267 operator 2's, and then all is operator 1's.
+fn both<R: Abort + AllocGlobal>(rt: &R) -> Posted {
+    let mut postings = Posted::new(rt.alloc());
+    for (of, due) in [
+        ((7, MONDAY, 19_731, 1), (860, 593, 267)),
+        ((7, MONDAY, 19_732, 2), (340, 340, 0)),
+    ] {
+        let _ = postings.post(&quote(rt, of, due)).expect(rt, "a posting");
+    }
+    postings
+}
+
+/// The rows of the shares, in no order.
+const SHARES: [ShareRow; 4] = [
+    ShareRow {
+        posting: 12,
+        operator: 2,
+        amount: -267,
+    },
+    ShareRow {
+        posting: 11,
+        operator: 1,
+        amount: 593,
+    },
+    ShareRow {
+        posting: 12,
+        operator: 1,
+        amount: -253,
+    },
+    ShareRow {
+        posting: 11,
+        operator: 2,
+        amount: 267,
+    },
+];
+
+/// A posting has this row, and its shares have these.
+fn expect_rows<R: Abort + AllocGlobal>(
+    rt: &R,
+    posting: Option<&Posting>,
+    row: PostingRow,
+    shares: &[ShareRow],
+) {
+    let posting = posting.expect(rt, "a posting");
+    expect_same(rt, posting_row(posting), row);
+    let rows = share_rows(rt.alloc(), 12, posting).expect(rt, "memory");
+    expect_same(rt, rows.as_slice(), shares);
+}
+
+#[test]
+fn postings_there_and_back(rt: HostRuntime) {
+    let postings = both(&rt);
+    let shares = [SHARES[2], SHARES[0]];
+    expect_rows(&rt, postings.as_slice().get(1), GIVEN_BACK, &shares);
+    let rows = [(11, CHARGED), (12, GIVEN_BACK)];
+    let back = postings_from_rows(rt.alloc(), 7, &rows, &SHARES).expect(&rt, "postings");
+    expect_same(&rt, back.as_slice(), postings.as_slice());
+}
+
+/// A row of a posting by its week, day, due and amount; the row of its share of operator 2, or what stands there; and
+/// how many postings are read of them.
+type Case = (
+    (i64, i64, i64, i64),
+    (i64, i64, i64),
+    Result<usize, PostFault>,
+);
+
+const BAD: Result<usize, PostFault> = Err(PostFault::BadArchive);
+
+static CASES: [Case; 10] = [
+    ((19_730, 19_731, 860, 860), (11, 2, 267), Ok(1)),
+    // Operators 17 and 0, and the share of another posting.
+    ((19_730, 19_731, 860, 860), (11, 17, 267), BAD),
+    ((19_730, 19_731, 860, 860), (11, 0, 267), BAD),
+    ((19_730, 19_731, 860, 860), (12, 2, 267), BAD),
+    // Too much, either way.
+    ((19_730, 19_731, 860, 4_000_000_001), (11, 2, 267), BAD),
+    ((19_730, 19_731, 860, -4_000_000_001), (11, 2, 267), BAD),
+    ((19_730, 19_731, 860, 860), (11, 2, 4_000_000_001), BAD),
+    // No sum of the shares.
+    ((19_730, 19_731, 861, 860), (11, 2, 267), BAD),
+    // The last service day and the day behind it, both of the week of day 49,998.
+    ((49_998, 50_000, 860, 860), (11, 2, 267), Ok(1)),
+    ((49_998, 50_001, 860, 860), (11, 2, 267), BAD),
+];
+
+/// Reads the row of a case, beside 593 for operator 1.
+fn expect_read<R: Abort + AllocGlobal>(rt: &R, case: &Case) {
+    let row = PostingRow {
+        week: case.0.0,
+        through: case.0.1,
+        version: 1,
+        due: case.0.2,
+        amount: case.0.3,
+    };
+    let share = ShareRow {
+        posting: case.1.0,
+        operator: case.1.1,
+        amount: case.1.2,
+    };
+    let found = match postings_from_rows(rt.alloc(), 7, &[(11, row)], &[SHARES[1], share]) {
+        Ok(postings) => Ok(postings.as_slice().len()),
+        Err(fault) => Err(fault),
+    };
+    expect_same(rt, found, case.2);
+}
+
+#[test]
+fn bad_rows_of_postings(rt: HostRuntime) {
+    for case in &CASES {
+        expect_read(&rt, case);
+    }
+}
+
+/// The row of the tap of reader 1 at station 10, at seven on the Monday.
+pub const TAPPED: TapRow = TapRow {
+    reader: 1,
+    seq: 2,
+    utc: 1_704_697_200,
+    day: 19_730,
+    second: 25_200,
+    place: 10,
+    kind: 0,
+};
+
+#[test]
+fn taps_there_and_back(rt: HostRuntime) {
+    let tap = tap_at(&rt, 2, 25_200, 10, Kind::In);
+    let boarded = Tap {
+        kind: Kind::Bus,
+        ..tap
+    };
+    expect_same(&rt, tap_row(&tap), TAPPED);
+    for (row, wanted) in [
+        (TAPPED, Some(tap)),
+        (TapRow { kind: 2, ..TAPPED }, Some(boarded)),
+        (TapRow { kind: 3, ..TAPPED }, None),
+        (
+            TapRow {
+                reader: 0,
+                ..TAPPED
+            },
+            None,
+        ),
+    ] {
+        expect_same(&rt, tap_from_row(7, &row), wanted);
+    }
+}
+
+/// A correction of account 7 by staff 3.
+fn fix(what: What) -> Fix {
+    Fix {
+        account: 7,
+        staff: 3,
+        seq: 4,
+        what,
+    }
+}
+
+/// Its row, by what it does and the numbers from a to e.
+pub fn row_of(what: i64, of: (i64, i64, i64, i64, i64)) -> FixRow {
+    FixRow {
+        staff: 3,
+        seq: 4,
+        what,
+        a: of.0,
+        b: of.1,
+        c: of.2,
+        d: of.3,
+        e: of.4,
+    }
+}
+
+/// A correction has this row, which is read back as the correction.
+fn expect_fix<R: Abort>(rt: &R, fix: &Fix, row: &FixRow) {
+    expect_same(rt, fix_row(fix), *row);
+    expect_same(rt, fix_from_row(7, row), Some(*fix));
+}
+
+#[test]
+fn corrections_there_and_back(rt: HostRuntime) {
+    let stamp = tap_at(&rt, 2, 27_000, 12, Kind::Out).stamp;
+    let credit = Credit::from_parts(MONDAY, 1_200).expect(&rt, "a credit");
+    for (what, row) in [
+        (What::Void(5, 6), row_of(0, (5, 6, 0, 0, 0))),
+        (
+            What::Fill(stamp, 12, Kind::Out),
+            row_of(1, (1_704_699_000, 19_730, 27_000, 12, 1)),
+        ),
+        (What::Credit(credit), row_of(2, (19_730, 1_200, 0, 0, 0))),
+        (What::Drop(3, 9), row_of(3, (3, 9, 0, 0, 0))),
+    ] {
+        expect_fix(&rt, &fix(what), &row);
+    }
+}
+
+/// Rows that are no correction: a form that there is not, and a number where the form has none.
+static NO_FIXES: [(i64, (i64, i64, i64, i64, i64)); 5] = [
+    (4, (5, 6, 0, 0, 0)),
+    (0, (5, 6, 1, 0, 0)),
+    (0, (5, 6, 0, 1, 0)),
+    (2, (19_730, 1_200, 0, 0, 1)),
+    (3, (3, 9, 0, 0, 1)),
+];
+
+#[test]
+fn rows_of_no_correction(rt: HostRuntime) {
+    for (what, of) in &NO_FIXES {
+        expect_same(&rt, fix_from_row(7, &row_of(*what, *of)), None);
+    }
+}
+
+/// These taps of account 7 are new beside the archived one.
+fn expect_new_taps<R: Abort + AllocGlobal>(
+    rt: &R,
+    taps: &[Tap],
+    wanted: Result<&[Tap], PostFault>,
+) {
+    expect_list(rt, new_taps(rt.alloc(), &[TAPPED], taps), wanted);
+}
+
+#[test]
+fn taps_that_are_new(rt: HostRuntime) {
+    let taps = [
+        tap_at(&rt, 2, 25_200, 10, Kind::In),
+        tap_at(&rt, 3, 27_000, 12, Kind::Out),
+    ];
+    let other = [tap_at(&rt, 2, 25_200, 11, Kind::In)];
+    let new = [tap_at(&rt, 3, 27_000, 12, Kind::Out)];
+    expect_new_taps(&rt, &taps[..1], Ok(&[]));
+    expect_new_taps(&rt, &taps, Ok(&new));
+    expect_new_taps(&rt, &other, Err(PostFault::ArchiveConflict));
+}
+
+/// And these corrections.
+fn expect_new_fixes<R: Abort + AllocGlobal>(
+    rt: &R,
+    fixes: &[Fix],
+    wanted: Result<&[Fix], PostFault>,
+) {
+    let archived = [row_of(0, (5, 6, 0, 0, 0))];
+    expect_list(rt, new_fixes(rt.alloc(), &archived, fixes), wanted);
+}
+
+#[test]
+fn corrections_that_are_new(rt: HostRuntime) {
+    let new = [Fix {
+        seq: 5,
+        ..fix(What::Void(5, 6))
+    }];
+    let fixes = [fix(What::Void(5, 6)), new[0]];
+    let other = [fix(What::Drop(5, 6))];
+    expect_new_fixes(&rt, &fixes[..1], Ok(&[]));
+    expect_new_fixes(&rt, &fixes, Ok(&new));
+    expect_new_fixes(&rt, &other, Err(PostFault::ArchiveConflict));
+}
