@@ -1,0 +1,4 @@
+pub mod Archived
+pub mod Ledger
+mod WorkedRows
+pub mod Words

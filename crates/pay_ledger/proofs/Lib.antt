@@ -1,0 +1,4 @@
+mod Along
+mod Written
+mod Reading
+mod Gathered

@@ -1,0 +1,188 @@
+-- What is read of an account is what the ledger has of it.
+use Rattle.std.proofs.Common.{◌≡◌, ◌==◌, ◌+◌, ◌<ℤ◌, ℕ, ℤ, pos, Bool, true, false, cond, List, [], ◌∷◌, ◌++◌, length, map, filter, flat_map, Some, None, Option, ◌≢◌, Ok, Err, Result, IsErrAnd, IfErr, IsTrue, refl, sym, ap, ap₂, subst, ◌⊎◌, inl, inr, ◌∙◌, arith, append-nil, IsPermutation}
+use Rattle.std.specs.List.{zip, AllByRecursion}
+use Rattle.std.specs.Ordering.{int_eq}
+use Rattle.std.proofs.lemmas.Int.{ints}
+use Rattle.std.proofs.lemmas.List.Elements.{filter-append}
+use Rattle.std.proofs.lemmas.Bool.Decides.{nat_tests}
+use Rattle.sqlite_keyed.proofs.ListLemmas.{map-map, filter-map, filter_same, flat_map-map, all_weaker, filter_all, filter_none, all-filter}
+use Rattle.pay_taps.specs.declared.tap.Tap.{Tap}
+use Rattle.pay_fix.specs.declared.fix.Fix.{Fix}
+use Rattle.pay_account.specs.declared.posting.Posting.{Posting}
+use Rattle.pay_postings.specs.Words.{LedgerParts, AreKept}
+use Rattle.pay_rows.specs.declared.row.PostingRow.{PostingRow}
+use Rattle.pay_rows.specs.declared.row.ShareRow.{ShareRow}
+use Rattle.pay_rows.specs.declared.row.TapRow.{TapRow}
+use Rattle.pay_rows.specs.declared.row.FixRow.{FixRow}
+use Rattle.pay_rows.specs.PostingRows.{posting_row, share_rows, share_rows_from}
+use Rattle.pay_rows.specs.SetRows.{tap_row, fix_row}
+use Rattle.pay_rows.specs.PostingRows.{postings_from_rows}
+use Rattle.pay_rows.specs.AccountRows.{is_of_account, of_account, numbered_of, rows_of, shares_of, RiseBehind, HasAmounts}
+use Rattle.pay_records.specs.Rows.{LedgerRows, HoldsRows, RiseFrom, posting_row as stored}
+use Rattle.pay_records.specs.Found as found
+use Rattle.sqlite.specs.State.{State, IsUnchanged}
+use Rattle.pay_postings.specs.declared.fault.PostFault.{PostFault}
+use Rattle.pay_postings.specs.declared.fault.PostFault.TheVariants.{BadArchive, StaleQuote, QuoteDiffers, ArchiveConflict, Memory}
+use Rattle.pay_ledger.specs.declared.fault.LedgerFault.{LedgerFault}
+use Rattle.pay_ledger.specs.declared.fault.LedgerFault.TheVariants.{Refused}
+use Rattle.pay_ledger.specs.Faults.{is_of_store}
+use Rattle.pay_ledger.specs.Steps.{Tells}
+use Rattle.pay_batch.specs.Words.{taps_of, fixes_of}
+use Rattle.pay_ledger.specs.Keeps.{IsLedger, AreRowsOf, row_of_posting, row_of_tap, row_of_fix}
+
+same_account : (a b : ℕ) → int_eq (pos a) (pos b) ≡ (a == b)
+same_account a b = grind (arith, ints, nat_tests)
+
+pub taps_read : (account : ℕ) (ledger : LedgerParts) (rows : LedgerRows) → AreRowsOf ledger rows → found.taps_of (pos account) rows ≡ map tap_row (taps_of account ledger.taps)
+taps_read account ledger rows are =
+    ap (λ l. map (λ (t : ℤ × TapRow). t.1) (filter (λ (t : ℤ × TapRow). int_eq t.0 (pos account)) l)) are.taps
+    ∙ ap (map (λ (t : ℤ × TapRow). t.1)) (filter-map (λ (t : ℤ × TapRow). int_eq t.0 (pos account)) row_of_tap ledger.taps)
+    ∙ map-map (λ (t : ℤ × TapRow). t.1) row_of_tap (filter (λ (t : Tap). int_eq (pos t.account) (pos account)) ledger.taps)
+    ∙ ap (map tap_row) (filter_same (λ (t : Tap). int_eq (pos t.account) (pos account)) (λ (t : Tap). t.account == account) (λ t. same_account t.account account) ledger.taps)
+
+pub fixes_read : (account : ℕ) (ledger : LedgerParts) (rows : LedgerRows) → AreRowsOf ledger rows → found.fixes_of (pos account) rows ≡ map fix_row (fixes_of account ledger.fixes)
+fixes_read account ledger rows are =
+    ap (λ l. map (λ (t : ℤ × FixRow). t.1) (filter (λ (t : ℤ × FixRow). int_eq t.0 (pos account)) l)) are.fixes
+    ∙ ap (map (λ (t : ℤ × FixRow). t.1)) (filter-map (λ (t : ℤ × FixRow). int_eq t.0 (pos account)) row_of_fix ledger.fixes)
+    ∙ map-map (λ (t : ℤ × FixRow). t.1) row_of_fix (filter (λ (t : Fix). int_eq (pos t.account) (pos account)) ledger.fixes)
+    ∙ ap (map fix_row) (filter_same (λ (t : Fix). int_eq (pos t.account) (pos account)) (λ (t : Fix). t.account == account) (λ t. same_account t.account account) ledger.fixes)
+
+pub postings_read : (account : ℕ) (ledger : LedgerParts) (rows : LedgerRows) → (are : AreRowsOf ledger rows) → found.postings_of (pos account) rows ≡ rows_of account are.ids ledger.postings
+postings_read account ledger rows are =
+    ap (λ l. map (λ (p : ℤ × ℤ × PostingRow). (p.0, p.2)) (filter (λ (p : ℤ × ℤ × PostingRow). int_eq p.1 (pos account)) l)) are.postings
+    ∙ ap (map (λ (p : ℤ × ℤ × PostingRow). (p.0, p.2))) (filter-map (λ (p : ℤ × ℤ × PostingRow). int_eq p.1 (pos account)) row_of_posting (zip are.ids ledger.postings))
+    ∙ map-map (λ (p : ℤ × ℤ × PostingRow). (p.0, p.2)) row_of_posting (filter (λ (n : ℤ × Posting). int_eq (pos n.1.quote.account) (pos account)) (zip are.ids ledger.postings))
+    ∙ ap (map (λ (n : ℤ × Posting). (n.0, posting_row n.1)))
+    (filter_same (λ (n : ℤ × Posting). int_eq (pos n.1.quote.account) (pos account)) (λ (n : ℤ × Posting). is_of_account account n.1) (λ n. same_account n.1.quote.account account) (zip are.ids ledger.postings))
+
+-- numbers that rise, as the rows of postings have them
+pub ids_rise : (low : ℤ) (ids : List ℤ) (list : List Posting) → length ids ≡ length list → RiseFrom low (map stored (map row_of_posting (zip ids list))) → RiseBehind low ids
+ids_rise low [] [] same up = tt
+ids_rise low [] (p ∷ list) same up = absurd (omega (arith, same))
+ids_rise low (id ∷ ids) [] same up = absurd (omega (arith, same))
+ids_rise low (id ∷ ids) (p ∷ list) same up =
+    let is : id ≡ up.0 = let e = up.1 in cc in
+    (subst (λ n. low <ℤ n) (sym is) up.2, subst (λ n. RiseBehind n ids) (sym is) (ids_rise up.0 ids list (omega (arith, same)) up.3))
+
+-- all shares of a posting have its number, and those of others have not
+abbrev of_number : ℤ → ShareRow → Bool
+of_number id s = int_eq s.posting id
+
+own : (id : ℤ) (operator : ℕ) (amounts : List ℤ) → AllByRecursion (λ (s : ShareRow). s.posting ≡ id) (share_rows_from id operator amounts)
+own id operator [] = tt
+own id operator (amount ∷ amounts) = go (int_eq amount (pos 0)) (own id (operator + 1) amounts)
+  where
+    go : (b : Bool) → AllByRecursion (λ (s : ShareRow). s.posting ≡ id) (share_rows_from id (operator + 1) amounts)
+        → AllByRecursion (λ (s : ShareRow). s.posting ≡ id) (cond b [] (record { posting = id; operator = pos operator; amount = amount } ∷ []) ++ share_rows_from id (operator + 1) amounts)
+    go true rest = rest
+    go false rest = (refl, rest)
+
+itself : (n : ℤ) → int_eq n n ≡ true
+itself n = grind (arith, ints, nat_tests)
+
+apart : (m n : ℤ) → m <ℤ n → int_eq m n ≡ false
+apart m n less = grind (arith, ints, nat_tests)
+
+above : (m n : ℤ) → n <ℤ m → int_eq m n ≡ false
+above m n less = grind (arith, ints, nat_tests)
+
+abbrev shares_of_each : List (ℤ × Posting) → List ShareRow
+shares_of_each list = flat_map (λ n. share_rows n.0 n.1) list
+
+-- of shares whose numbers are all greater none has a number
+none_above : (low : ℤ) (ids : List ℤ) (list : List Posting) (id : ℤ) → RiseBehind low ids → (id <ℤ low) ⊎ (id ≡ low) → filter (of_number id) (shares_of_each (zip ids list)) ≡ []
+none_above low [] list id up below = refl
+none_above low (next ∷ ids) [] id up below = refl
+none_above low (next ∷ ids) (p ∷ list) id up below =
+    let less : id <ℤ next = let first = up.0 in elim below [ inl h ↦ omega (arith, ints) | inr h ↦ omega (arith, ints) ] in
+    filter-append (of_number id) (share_rows next p) (shares_of_each (zip ids list))
+    ∙ ap₂ ◌++◌ (filter_none (of_number id) (share_rows next p) (all_weaker (λ (s : ShareRow). s.posting ≡ next) (λ s. of_number id s ≡ false) (λ s is. ap (λ n. int_eq n id) is ∙ above next id less) (share_rows next p) (own next 1 p.share_amounts)))
+    (none_above next ids list id up.1 (inl less))
+
+-- the shares of one posting among those of all
+one_number : (low : ℤ) (ids : List ℤ) (list : List Posting) → length ids ≡ length list → RiseBehind low ids
+    → AllByRecursion (λ (n : ℤ × Posting). filter (of_number n.0) (shares_of_each (zip ids list)) ≡ share_rows n.0 n.1) (zip ids list)
+one_number low [] list same up = tt
+one_number low (id ∷ ids) [] same up = tt
+one_number low (id ∷ ids) (p ∷ list) same up =
+    let rest = one_number id ids list (omega (arith, same)) up.1 in
+    let mine : filter (of_number id) (share_rows id p) ≡ share_rows id p = filter_all (of_number id) (share_rows id p) (all_weaker (λ (s : ShareRow). s.posting ≡ id) (λ s. of_number id s ≡ true) (λ s is. ap (λ n. int_eq n id) is ∙ itself id) (share_rows id p) (own id 1 p.share_amounts)) in
+    let first = filter-append (of_number id) (share_rows id p) (shares_of_each (zip ids list)) ∙ ap₂ ◌++◌ mine (none_above id ids list id up.1 (inr refl)) ∙ append-nil (share_rows id p) in
+    (first, others (zip ids list) (later id ids list up.1) rest)
+  where
+    later : (low : ℤ) (ids : List ℤ) (list : List Posting) → RiseBehind low ids → AllByRecursion (λ (n : ℤ × Posting). low <ℤ n.0) (zip ids list)
+    later low [] list up = tt
+    later low (id ∷ ids) [] up = tt
+    later low (id ∷ ids) (p ∷ list) up =
+        (up.0, all_weaker (λ (n : ℤ × Posting). id <ℤ n.0) (λ (n : ℤ × Posting). low <ℤ n.0) (λ n more. let here = up.0 in omega (arith, ints)) (zip ids list) (later id ids list up.1))
+
+    others : (ns : List (ℤ × Posting)) → AllByRecursion (λ (n : ℤ × Posting). id <ℤ n.0) ns → AllByRecursion (λ (n : ℤ × Posting). filter (of_number n.0) (shares_of_each (zip ids list)) ≡ share_rows n.0 n.1) ns
+        → AllByRecursion (λ (n : ℤ × Posting). filter (of_number n.0) (share_rows id p ++ shares_of_each (zip ids list)) ≡ share_rows n.0 n.1) ns
+    others [] greater rest = tt
+    others (n ∷ ns) greater rest = (
+      filter-append (of_number n.0) (share_rows id p) (shares_of_each (zip ids list))
+          ∙ ap₂ ◌++◌ (filter_none (of_number n.0) (share_rows id p) (all_weaker (λ (s : ShareRow). s.posting ≡ id) (λ s. of_number n.0 s ≡ false) (λ s is. ap (λ m. int_eq m n.0) is ∙ apart id n.0 greater.0) (share_rows id p) (own id 1 p.share_amounts))) rest.0,
+      others ns greater.1 rest.1,
+    )
+
+each_of : {X Y : Type 0} (f g : X → List Y) (xs : List X) → AllByRecursion (λ x. f x ≡ g x) xs → flat_map f xs ≡ flat_map g xs
+each_of f g [] h = refl
+each_of f g (x ∷ xs) h = ap₂ ◌++◌ h.0 (each_of f g xs h.1)
+
+pub shares_read : (account : ℕ) (ledger : LedgerParts) (rows : LedgerRows) → (are : AreRowsOf ledger rows) → RiseBehind (pos 0) are.ids → found.shares_of (pos account) rows ≡ shares_of account are.ids ledger.postings
+shares_read account ledger rows are up =
+    let numbered = numbered_of account are.ids ledger.postings in
+    ap (λ l. flat_map (λ (p : ℤ × PostingRow). filter (λ (s : ShareRow). int_eq s.posting p.0) rows.shares) l) (postings_read account ledger rows are)
+    ∙ flat_map-map (λ (p : ℤ × PostingRow). filter (λ (s : ShareRow). int_eq s.posting p.0) rows.shares) (λ (n : ℤ × Posting). (n.0, posting_row n.1)) numbered
+    ∙ ap (λ r. flat_map (λ (n : ℤ × Posting). filter (of_number n.0) r) numbered) are.shares
+    ∙ each_of (λ (n : ℤ × Posting). filter (of_number n.0) (shares_of_each (zip are.ids ledger.postings))) (λ (n : ℤ × Posting). share_rows n.0 n.1) numbered
+    (all-filter (λ (n : ℤ × Posting). filter (of_number n.0) (shares_of_each (zip are.ids ledger.postings)) ≡ share_rows n.0 n.1) (λ (n : ℤ × Posting). is_of_account account n.1) (zip are.ids ledger.postings) (one_number (pos 0) are.ids ledger.postings are.as_long up))
+
+-- where nothing changed, a ledger is still there
+pub still_ledger : (old new : State) (ledger : LedgerParts) → IsUnchanged old new → IsLedger old.now ledger → IsLedger new.now ledger
+still_ledger old new ledger same is = subst (λ d. IsLedger d ledger) (sym same.0.now_is) is
+
+pub taps_told : (old new : State) (account : ℕ) (number : ℤ) (list : List TapRow) → number ≡ pos account → found.Finds old new (λ rows. list ≡ found.taps_of number rows) → Tells old new (λ ledger. list ≡ map tap_row (taps_of account ledger.taps))
+taps_told old new account number list is told ledger k =
+    let it = told k.keeps.rows k.keeps.held in
+    (it.0 ∙ ap (λ n. found.taps_of n k.keeps.rows) is ∙ taps_read account ledger k.keeps.rows k.keeps.are, still_ledger old new ledger it.1 k)
+
+pub fixes_told : (old new : State) (account : ℕ) (number : ℤ) (list : List FixRow) → number ≡ pos account → found.Finds old new (λ rows. list ≡ found.fixes_of number rows) → Tells old new (λ ledger. list ≡ map fix_row (fixes_of account ledger.fixes))
+fixes_told old new account number list is told ledger k =
+    let it = told k.keeps.rows k.keeps.held in
+    (it.0 ∙ ap (λ n. found.fixes_of n k.keeps.rows) is ∙ fixes_read account ledger k.keeps.rows k.keeps.are, still_ledger old new ledger it.1 k)
+
+-- the two reads of what was posted: rows in order, and those of their shares in any order
+pub posted_told : ((account : ℕ) (before : ℤ) (ids : List ℤ) (list : List Posting) (shares : List ShareRow) → AreKept list → AllByRecursion HasAmounts list → length ids ≡ length list → RiseBehind before ids
+    → IsPermutation (shares_of account ids list) shares → postings_from_rows account (rows_of account ids list) shares ≡ Some (of_account account list))
+    → (old between new : State) (account : ℕ) (number other : ℤ) (list : List (ℤ × PostingRow)) (shares : List ShareRow) → number ≡ pos account → other ≡ pos account
+    → found.Finds old between (λ rows. list ≡ found.postings_of number rows) → found.Finds between new (λ rows. IsPermutation (found.shares_of other rows) shares)
+    → Tells old new (λ ledger. postings_from_rows account list shares ≡ Some (of_account account ledger.postings))
+posted_told back old between new account number other list shares is same told beside ledger k =
+    let rows = k.keeps.rows in
+    let are = k.keeps.are in
+    let one = told rows k.keeps.held in
+    let held : HoldsRows between.now rows = subst (λ d. HoldsRows d rows) (sym one.1.0.now_is) k.keeps.held in
+    let two = beside rows held in
+    let up = ids_rise (pos 0) are.ids ledger.postings are.as_long (subst (λ l. RiseFrom (pos 0) (map stored l)) are.postings (subst (RiseFrom (pos 0)) k.keeps.held.postings k.keeps.held.postings_rise)) in
+    let rows_are : list ≡ rows_of account are.ids ledger.postings = one.0 ∙ ap (λ n. found.postings_of n rows) is ∙ postings_read account ledger rows are in
+    let shares_are : IsPermutation (shares_of account are.ids ledger.postings) shares = subst (λ l. IsPermutation l shares) (ap (λ n. found.shares_of n rows) same ∙ shares_read account ledger rows are up) two.0 in (
+      ap (λ l. postings_from_rows account l shares) rows_are ∙ back account (pos 0) are.ids ledger.postings shares k.kept k.amounts are.as_long up shares_are,
+      still_ledger between new ledger two.1 (still_ledger old between ledger one.1 k),
+    )
+
+pub same_some : {X : Type 0} {x y : X} → Some x ≡ Some y → x ≡ y
+same_some e = cc
+
+-- what is refused where there is a value wants memory
+pub only_memory : {X : Type 0} (o : Option X) (x : X) (fault : PostFault) → (fault ≢ Memory → (fault ≡ BadArchive) × (o ≡ None)) → o ≡ Some x → IsTrue (is_of_store (Refused fault))
+only_memory o x BadArchive h is = absurd (let none = (h (λ e. cc)).1 in cc)
+only_memory o x (StaleQuote account version through) h is = absurd (let none = (h (λ e. cc)).1 in cc)
+only_memory o x QuoteDiffers h is = absurd (let none = (h (λ e. cc)).1 in cc)
+only_memory o x ArchiveConflict h is = absurd (let none = (h (λ e. cc)).1 in cc)
+only_memory o x Memory h is = refl
+
+pub by_post_fault : {A : Type 0} (r : Result A LedgerFault) (Told : LedgerParts → Type 0) (fault : PostFault) → IsErrAnd r (λ f. f ≡ Refused fault) → ((ledger : LedgerParts) → Told ledger → IsTrue (is_of_store (Refused fault)))
+    → IfErr r (λ f. (ledger : LedgerParts) → Told ledger → IsTrue (is_of_store f))
+by_post_fault (Ok x) Told fault is h = tt
+by_post_fault (Err f) Told fault is h = λ ledger k. subst (λ f. IsTrue (is_of_store f)) (sym is) (h ledger k)

@@ -1,0 +1,28 @@
+use Rattle.std.proofs.Common.{rules, subst, ◌∙◌}
+use Rattle.sqlite.specs.Held.{state}
+use Rattle.pay_account.specs.Words.{SetsParts}
+use Rattle.pay_batch.specs.Words.{IsThere}
+use Rattle.pay_ledger.proofs.Along.{goes_then, stays_then, on_err}
+use Rattle.pay_ledger.proofs.Gathered.{reads_then, all_there}
+use Rattle.pay_ledger.proofs.read.read_sets.Goals as goal
+
+pub returns-in_err-read_into-clause-err : goal.returns-in_err-read_into-clause-err
+returns-in_err-read_into-clause-err g c =
+    let first = state g.S.Store c.args.tx.now.conn.now in
+    let before = state g.S.Store c.loop-set.tx.conn.now in
+    let after = state g.S.Store c.read_into.new.tx.conn.now in
+    on_err _ c.from_residual.result (stays_then first before after c.loop-set.invariant.1 c.in_err-read_into.ensures.err)
+
+pub loop-set-preserved : goal.loop-set-preserved
+loop-set-preserved g c =
+    let first = state g.S.Store c.args.tx.now.conn.now in
+    let before = state g.S.Store c.loop-set.tx.conn.now in
+    let after = state g.S.Store c.read_into.new.tx.conn.now in
+    let on = c.in_ok-read_into.ensures.ok in
+    let told = c.in_ok-read_into.ensures.told in (
+      c.read_into.ensures.same_reference ∙ c.loop-set.invariant.0,
+      goes_then first before after c.loop-set.invariant.1 on,
+      reads_then first before after _ _ _ c.loop-set.invariant.2 told on,
+      all_there (λ (x : SetsParts). x.account) _ _ c.args.sets.now c.loop-set.set-index c.set-item.result c.loop-set-test.true told.stay c.loop-set.invariant.3
+          (subst (IsThere c.read_into.new.accounts) (search rules) c.in_ok-read_into.ensures.there),
+    )

@@ -1,0 +1,47 @@
+-- What it is for a database to be a ledger: its rows are those of postings and of an archive.
+use Rattle.std.specs.Prelude.{◌≡◌, ℤ, pos, List, length, map, flat_map}
+use Rattle.std.specs.List.{zip, AllByRecursion}
+use Rattle.sqlite.specs.Effect.{Database}
+use Rattle.pay_taps.specs.declared.tap.Tap.{Tap}
+use Rattle.pay_fix.specs.declared.fix.Fix.{Fix}
+use Rattle.pay_account.specs.declared.posting.Posting.{Posting}
+use Rattle.pay_postings.specs.Words.{LedgerParts, AreKept}
+use Rattle.pay_rows.specs.declared.row.PostingRow.{PostingRow}
+use Rattle.pay_rows.specs.declared.row.TapRow.{TapRow}
+use Rattle.pay_rows.specs.declared.row.FixRow.{FixRow}
+use Rattle.pay_rows.specs.PostingRows.{posting_row, share_rows}
+use Rattle.pay_rows.specs.SetRows.{tap_row, fix_row}
+use Rattle.pay_rows.specs.AccountRows.{HasAmounts}
+use Rattle.pay_records.specs.Rows.{LedgerRows, HoldsRows}
+
+-- a posting by its number, a tap and a correction, each as its row beside the account
+abbrev pub row_of_posting : ℤ × Posting → ℤ × ℤ × PostingRow
+row_of_posting n = (n.0, pos n.1.quote.account, posting_row n.1)
+
+abbrev pub row_of_tap : Tap → ℤ × TapRow
+row_of_tap tap = (pos tap.account, tap_row tap)
+
+abbrev pub row_of_fix : Fix → ℤ × FixRow
+row_of_fix fix = (pos fix.account, fix_row fix)
+
+-- these rows are those of a ledger, whose postings have these numbers
+pub record AreRowsOf (ledger : LedgerParts) (rows : LedgerRows) : Type 0 where
+  pub ids : List ℤ
+  pub as_long : length ids ≡ length ledger.postings
+  pub postings : rows.postings ≡ map row_of_posting (zip ids ledger.postings)
+  pub shares : rows.shares ≡ flat_map (λ n. share_rows n.0 n.1) (zip ids ledger.postings)
+  pub taps : rows.taps ≡ map row_of_tap ledger.taps
+  pub fixes : rows.fixes ≡ map row_of_fix ledger.fixes
+
+-- a database that is this ledger
+pub record Keeps (db : Database) (ledger : LedgerParts) : Type 0 where
+  pub rows : LedgerRows
+  pub held : HoldsRows db rows
+  pub are : AreRowsOf ledger rows
+
+-- a ledger whose postings were posted one after another
+pub record IsLedger (db : Database) (ledger : LedgerParts) : Type 0 where
+  pub keeps : Keeps db ledger
+  pub kept : AreKept ledger.postings
+  -- each posting has an amount for each operator
+  pub amounts : AllByRecursion HasAmounts ledger.postings

@@ -1,0 +1,145 @@
+ghost use Rattle.std.specs.Prelude.{◌≡◌};
+ghost use Rattle.pay_ledger.specs.Faults.{open_fault_number, open_fault_name, ledger_fault_number, ledger_fault_name};
+
+use pay_postings::PostFault;
+use pay_records::ReadFault;
+use sqlite::Error;
+use std::alloc::AllocError;
+
+/// Why a database is not opened as a ledger.
+#[derive(Clone, Copy, Debug, PartialEq, Eq)]
+pub enum OpenFault {
+    /// 40: it has some of a ledger's tables and not all, or its one row that names it is wanting.
+    NotALedger,
+    /// 41: it is a ledger of another version.
+    Version,
+    /// 43: a call of the database failed.
+    Store,
+    /// 90: the memory for it was refused.
+    Memory,
+}
+
+impl OpenFault {
+    /// The number that is printed.
+    pub fn number(self) -> u16
+        ensures { result ≡ open_fault_number self }
+    {
+        match self {
+            OpenFault::NotALedger => 40,
+            OpenFault::Version => 41,
+            OpenFault::Store => 43,
+            OpenFault::Memory => 90,
+        }
+    }
+
+    /// The name that is printed.
+    pub fn name(self) -> &'static str
+        ensures { result.now ≡ open_fault_name self }
+    {
+        match self {
+            OpenFault::NotALedger => "NotALedger",
+            OpenFault::Version => "Version",
+            OpenFault::Store => "Store",
+            OpenFault::Memory => "Memory",
+        }
+    }
+}
+
+/// A read that failed. What is not read of a column is refused where the tables are told apart.
+impl From<ReadFault> for OpenFault {
+    ghost use Rattle.std.specs.Prelude.{◌≡◌};
+    ghost use Rattle.pay_ledger.specs.Faults.{open_fault_of_read};
+
+    ghost from_gives = { λ read fault. fault ≡ open_fault_of_read read };
+
+    fn from(fault: ReadFault) -> OpenFault {
+        match fault {
+            ReadFault::BadArchive => OpenFault::NotALedger,
+            ReadFault::Store => OpenFault::Store,
+            ReadFault::Memory => OpenFault::Memory,
+        }
+    }
+}
+
+/// Why a ledger does not post, nor tell what was posted. It stays as it was.
+#[derive(Clone, Copy, Debug, PartialEq, Eq)]
+pub enum LedgerFault {
+    /// 43: a call of the database failed.
+    Store,
+    /// 42, 45, 46, 47 or 90.
+    Refused(PostFault),
+}
+
+impl LedgerFault {
+    /// The number that is printed.
+    pub fn number(self) -> u16
+        ensures { result ≡ ledger_fault_number self }
+    {
+        match self {
+            LedgerFault::Store => 43,
+            LedgerFault::Refused(fault) => fault.number(),
+        }
+    }
+
+    /// The name that is printed.
+    pub fn name(self) -> &'static str
+        ensures { result.now ≡ ledger_fault_name self }
+    {
+        match self {
+            LedgerFault::Store => "Store",
+            LedgerFault::Refused(fault) => fault.name(),
+        }
+    }
+}
+
+/// A refusal by what was posted.
+impl From<PostFault> for LedgerFault {
+    ghost use Rattle.std.specs.Prelude.{◌≡◌};
+    ghost use Rattle.pay_ledger.specs.declared.fault.LedgerFault.TheVariants.{Refused};
+
+    ghost from_gives = { λ refused fault. fault ≡ Refused refused };
+
+    fn from(fault: PostFault) -> LedgerFault {
+        LedgerFault::Refused(fault)
+    }
+}
+
+/// A growth that was refused.
+impl From<AllocError> for LedgerFault {
+    ghost use Rattle.std.specs.Prelude.{◌≡◌};
+    ghost use Rattle.pay_ledger.specs.Faults.{wants_memory};
+
+    ghost from_gives = { λ _ fault. fault ≡ wants_memory };
+
+    fn from(_: AllocError) -> LedgerFault {
+        LedgerFault::Refused(PostFault::Memory)
+    }
+}
+
+/// A read that failed.
+impl From<ReadFault> for LedgerFault {
+    ghost use Rattle.std.specs.Prelude.{◌≡◌};
+    ghost use Rattle.pay_ledger.specs.Faults.{ledger_fault_of_read};
+
+    ghost from_gives = { λ read fault. fault ≡ ledger_fault_of_read read };
+
+    fn from(fault: ReadFault) -> LedgerFault {
+        match fault {
+            ReadFault::BadArchive => LedgerFault::Refused(PostFault::BadArchive),
+            ReadFault::Store => LedgerFault::Store,
+            ReadFault::Memory => LedgerFault::Refused(PostFault::Memory),
+        }
+    }
+}
+
+/// A write that failed.
+impl From<Error> for LedgerFault {
+    ghost use Rattle.std.specs.Prelude.{◌≡◌, IsTrue};
+    ghost use Rattle.pay_ledger.specs.Faults.{is_of_store};
+
+    ghost from_gives = { λ _ fault. IsTrue (is_of_store fault) };
+
+    fn from(error: Error) -> LedgerFault {
+        LedgerFault::from(ReadFault::from(error))
+    }
+}

@@ -1,0 +1,153 @@
+ghost use Rattle.std.specs.Prelude.{◌≡◌, pos, map, IfOk, IfErr, OnOk, OnErr, IsTrue};
+ghost use Rattle.sqlite.specs.Held.{state};
+ghost use Rattle.sqlite.specs.State.{HasCleanDisk};
+ghost use Rattle.pay_postings.specs.Words.{LedgerParts};
+ghost use Rattle.pay_rows.specs.SetRows.{tap_row, fix_row};
+ghost use Rattle.pay_rows.specs.AccountRows.{of_account};
+ghost use Rattle.std.specs.List.{AllByRecursion};
+ghost use Rattle.pay_account.specs.Words.{QuoteParts, SetsParts};
+ghost use Rattle.pay_batch.specs.Words.{parts, taps_of, fixes_of, archived_of, IsThere};
+ghost use Rattle.pay_ledger.specs.Keeps.{IsLedger};
+ghost use Rattle.pay_ledger.specs.Steps.{Stays, GoesOn, Tells, ReadsInto};
+ghost use Rattle.pay_ledger.specs.Faults.{is_of_store};
+
+use crate::fault::LedgerFault;
+use pay_account::{Quote, Sets};
+use pay_batch::{Accounts, Archived};
+use pay_postings::Posted;
+use pay_records::{fixes_of, postings_of, shares_of, taps_of};
+use pay_rows::{FixRow, TapRow, postings_from_rows};
+use sqlite::{Alter, Transaction};
+use std::alloc::Global;
+
+/// The rows of an account's archived taps.
+fn read_taps<S: Alter>(
+    alloc: Global,
+    tx: &mut Transaction<'_, S>,
+    account: u32,
+) -> Result<Vec<TapRow>, LedgerFault>
+    ensures same_reference { tx.new.conn.ghost_name ≡ tx.old.conn.ghost_name }
+    ensures told { HasCleanDisk (state S.Store tx.new.conn.now) → IfOk result (λ found. Tells (state S.Store tx.old.conn.now) (state S.Store tx.new.conn.now) (λ ledger. found.items ≡ map tap_row (taps_of account ledger.taps))) }
+    ensures never_bad { HasCleanDisk (state S.Store tx.new.conn.now) → IfErr result (λ fault. (ledger : LedgerParts) → IsLedger (state S.Store tx.old.conn.now).now ledger → IsTrue (is_of_store fault)) }
+    ensures ok { OnOk result (GoesOn (state S.Store tx.old.conn.now) (state S.Store tx.new.conn.now)) }
+    ensures err { OnErr result (Stays (state S.Store tx.old.conn.now) (state S.Store tx.new.conn.now)) }
+{
+    Ok(taps_of(alloc, tx, i64::from(account))?)
+}
+
+/// The rows of its archived corrections.
+fn read_fixes<S: Alter>(
+    alloc: Global,
+    tx: &mut Transaction<'_, S>,
+    account: u32,
+) -> Result<Vec<FixRow>, LedgerFault>
+    ensures same_reference { tx.new.conn.ghost_name ≡ tx.old.conn.ghost_name }
+    ensures told { HasCleanDisk (state S.Store tx.new.conn.now) → IfOk result (λ found. Tells (state S.Store tx.old.conn.now) (state S.Store tx.new.conn.now) (λ ledger. found.items ≡ map fix_row (fixes_of account ledger.fixes))) }
+    ensures never_bad { HasCleanDisk (state S.Store tx.new.conn.now) → IfErr result (λ fault. (ledger : LedgerParts) → IsLedger (state S.Store tx.old.conn.now).now ledger → IsTrue (is_of_store fault)) }
+    ensures ok { OnOk result (GoesOn (state S.Store tx.old.conn.now) (state S.Store tx.new.conn.now)) }
+    ensures err { OnErr result (Stays (state S.Store tx.old.conn.now) (state S.Store tx.new.conn.now)) }
+{
+    Ok(fixes_of(alloc, tx, i64::from(account))?)
+}
+
+/// What was posted for an account.
+pub(crate) fn read_posted<S: Alter>(
+    alloc: Global,
+    tx: &mut Transaction<'_, S>,
+    account: u32,
+) -> Result<Posted, LedgerFault>
+    ensures same_reference { tx.new.conn.ghost_name ≡ tx.old.conn.ghost_name }
+    ensures told { HasCleanDisk (state S.Store tx.new.conn.now) → IfOk result (λ found. Tells (state S.Store tx.old.conn.now) (state S.Store tx.new.conn.now) (λ ledger. found ≡ of_account account ledger.postings)) }
+    ensures never_bad { HasCleanDisk (state S.Store tx.new.conn.now) → IfErr result (λ fault. (ledger : LedgerParts) → IsLedger (state S.Store tx.old.conn.now).now ledger → IsTrue (is_of_store fault)) }
+    ensures ok { OnOk result (GoesOn (state S.Store tx.old.conn.now) (state S.Store tx.new.conn.now)) }
+    ensures err { OnErr result (Stays (state S.Store tx.old.conn.now) (state S.Store tx.new.conn.now)) }
+{
+    let rows = postings_of(alloc, tx, i64::from(account))?;
+    let shares = shares_of(alloc, tx, i64::from(account))?;
+    pay_rows::laws::postings_back();
+    Ok(postings_from_rows(alloc, account, &rows, &shares)?)
+}
+
+/// All that the ledger has of an account.
+pub(crate) fn read_account<S: Alter>(
+    alloc: Global,
+    tx: &mut Transaction<'_, S>,
+    account: u32,
+) -> Result<Archived, LedgerFault>
+    ensures same_reference { tx.new.conn.ghost_name ≡ tx.old.conn.ghost_name }
+    ensures told { HasCleanDisk (state S.Store tx.new.conn.now) → IfOk result (λ found. Tells (state S.Store tx.old.conn.now) (state S.Store tx.new.conn.now) (λ ledger. parts found ≡ archived_of account ledger)) }
+    ensures never_bad { HasCleanDisk (state S.Store tx.new.conn.now) → IfErr result (λ fault. (ledger : LedgerParts) → IsLedger (state S.Store tx.old.conn.now).now ledger → IsTrue (is_of_store fault)) }
+    ensures ok { OnOk result (GoesOn (state S.Store tx.old.conn.now) (state S.Store tx.new.conn.now)) }
+    ensures err { OnErr result (Stays (state S.Store tx.old.conn.now) (state S.Store tx.new.conn.now)) }
+{
+    let posted = read_posted(alloc, tx, account)?;
+    let taps = read_taps(alloc, tx, account)?;
+    let fixes = read_fixes(alloc, tx, account)?;
+    Ok(Archived {
+        posted,
+        taps,
+        fixes,
+    })
+}
+
+/// Reads an account into those that are there, unless it is.
+fn read_into<S: Alter>(
+    alloc: Global,
+    tx: &mut Transaction<'_, S>,
+    accounts: &mut Accounts,
+    account: u32,
+) -> Result<(), LedgerFault>
+    ensures same_reference { tx.new.conn.ghost_name ≡ tx.old.conn.ghost_name }
+    ensures told { OnOk result (ReadsInto (state S.Store tx.old.conn.now) (state S.Store tx.new.conn.now) accounts.old accounts.new) }
+    ensures there { OnOk result (IsThere accounts.new account) }
+    ensures never_bad { HasCleanDisk (state S.Store tx.new.conn.now) → IfErr result (λ fault. (ledger : LedgerParts) → IsLedger (state S.Store tx.old.conn.now).now ledger → IsTrue (is_of_store fault)) }
+    ensures ok { OnOk result (GoesOn (state S.Store tx.old.conn.now) (state S.Store tx.new.conn.now)) }
+    ensures err { OnErr result (Stays (state S.Store tx.old.conn.now) (state S.Store tx.new.conn.now)) }
+{
+    if accounts.has(account) {
+        return Ok(());
+    }
+    let archived = read_account(alloc, tx, account)?;
+    accounts.add(account, archived)?;
+    Ok(())
+}
+
+/// Reads the accounts of quotes.
+fn read_quoted<S: Alter>(
+    alloc: Global,
+    tx: &mut Transaction<'_, S>,
+    accounts: &mut Accounts,
+    quotes: &[Quote],
+) -> Result<(), LedgerFault>
+    ensures same_reference { tx.new.conn.ghost_name ≡ tx.old.conn.ghost_name }
+    ensures told { OnOk result (ReadsInto (state S.Store tx.old.conn.now) (state S.Store tx.new.conn.now) accounts.old accounts.new) }
+    ensures there { OnOk result (AllByRecursion (λ (q : QuoteParts). IsThere accounts.new q.account) quotes.now) }
+    ensures never_bad { HasCleanDisk (state S.Store tx.new.conn.now) → IfErr result (λ fault. (ledger : LedgerParts) → IsLedger (state S.Store tx.old.conn.now).now ledger → IsTrue (is_of_store fault)) }
+    ensures ok { OnOk result (GoesOn (state S.Store tx.old.conn.now) (state S.Store tx.new.conn.now)) }
+    ensures err { OnErr result (Stays (state S.Store tx.old.conn.now) (state S.Store tx.new.conn.now)) }
+{
+    for quote in quotes {
+        read_into(alloc, tx, accounts, quote.account())?;
+    }
+    Ok(())
+}
+
+/// Reads the accounts of sets.
+fn read_sets<S: Alter>(
+    alloc: Global,
+    tx: &mut Transaction<'_, S>,
+    accounts: &mut Accounts,
+    sets: &[Sets],
+) -> Result<(), LedgerFault>
+    ensures same_reference { tx.new.conn.ghost_name ≡ tx.old.conn.ghost_name }
+    ensures told { OnOk result (ReadsInto (state S.Store tx.old.conn.now) (state S.Store tx.new.conn.now) accounts.old accounts.new) }
+    ensures there { OnOk result (AllByRecursion (λ (s : SetsParts). IsThere accounts.new s.account) sets.now) }
+    ensures never_bad { HasCleanDisk (state S.Store tx.new.conn.now) → IfErr result (λ fault. (ledger : LedgerParts) → IsLedger (state S.Store tx.old.conn.now).now ledger → IsTrue (is_of_store fault)) }
+    ensures ok { OnOk result (GoesOn (state S.Store tx.old.conn.now) (state S.Store tx.new.conn.now)) }
+    ensures err { OnErr result (Stays (state S.Store tx.old.conn.now) (state S.Store tx.new.conn.now)) }
+{
+    for set in sets {
+        read_into(alloc, tx, accounts, set.account())?;
+    }
+    Ok(())
+}
