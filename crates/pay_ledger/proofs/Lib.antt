@@ -2,3 +2,5 @@ mod Along
 mod Written
 mod Reading
 mod Gathered
+mod Batched
+mod Looking

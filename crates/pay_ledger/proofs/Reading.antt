@@ -17,7 +17,7 @@ use Rattle.pay_rows.specs.declared.row.FixRow.{FixRow}
 use Rattle.pay_rows.specs.PostingRows.{posting_row, share_rows, share_rows_from}
 use Rattle.pay_rows.specs.SetRows.{tap_row, fix_row}
 use Rattle.pay_rows.specs.PostingRows.{postings_from_rows}
-use Rattle.pay_rows.specs.AccountRows.{is_of_account, of_account, numbered_of, rows_of, shares_of, RiseBehind, HasAmounts}
+use Rattle.pay_rows.specs.AccountRows.{is_of_account, of_account, numbered_of, rows_of, shares_of, RiseBehind}
 use Rattle.pay_records.specs.Rows.{LedgerRows, HoldsRows, RiseFrom, posting_row as stored}
 use Rattle.pay_records.specs.Found as found
 use Rattle.sqlite.specs.State.{State, IsUnchanged}
@@ -153,7 +153,7 @@ fixes_told old new account number list is told ledger k =
     (it.0 ∙ ap (λ n. found.fixes_of n k.keeps.rows) is ∙ fixes_read account ledger k.keeps.rows k.keeps.are, still_ledger old new ledger it.1 k)
 
 -- the two reads of what was posted: rows in order, and those of their shares in any order
-pub posted_told : ((account : ℕ) (before : ℤ) (ids : List ℤ) (list : List Posting) (shares : List ShareRow) → AreKept list → AllByRecursion HasAmounts list → length ids ≡ length list → RiseBehind before ids
+pub posted_told : ((account : ℕ) (before : ℤ) (ids : List ℤ) (list : List Posting) (shares : List ShareRow) → AreKept list → length ids ≡ length list → RiseBehind before ids
     → IsPermutation (shares_of account ids list) shares → postings_from_rows account (rows_of account ids list) shares ≡ Some (of_account account list))
     → (old between new : State) (account : ℕ) (number other : ℤ) (list : List (ℤ × PostingRow)) (shares : List ShareRow) → number ≡ pos account → other ≡ pos account
     → found.Finds old between (λ rows. list ≡ found.postings_of number rows) → found.Finds between new (λ rows. IsPermutation (found.shares_of other rows) shares)
@@ -167,7 +167,7 @@ posted_told back old between new account number other list shares is same told b
     let up = ids_rise (pos 0) are.ids ledger.postings are.as_long (subst (λ l. RiseFrom (pos 0) (map stored l)) are.postings (subst (RiseFrom (pos 0)) k.keeps.held.postings k.keeps.held.postings_rise)) in
     let rows_are : list ≡ rows_of account are.ids ledger.postings = one.0 ∙ ap (λ n. found.postings_of n rows) is ∙ postings_read account ledger rows are in
     let shares_are : IsPermutation (shares_of account are.ids ledger.postings) shares = subst (λ l. IsPermutation l shares) (ap (λ n. found.shares_of n rows) same ∙ shares_read account ledger rows are up) two.0 in (
-      ap (λ l. postings_from_rows account l shares) rows_are ∙ back account (pos 0) are.ids ledger.postings shares k.kept k.amounts are.as_long up shares_are,
+      ap (λ l. postings_from_rows account l shares) rows_are ∙ back account (pos 0) are.ids ledger.postings shares k.kept are.as_long up shares_are,
       still_ledger between new ledger two.1 (still_ledger old between ledger one.1 k),
     )
 

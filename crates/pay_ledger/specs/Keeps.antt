@@ -1,6 +1,6 @@
 -- What it is for a database to be a ledger: its rows are those of postings and of an archive.
 use Rattle.std.specs.Prelude.{◌≡◌, ℤ, pos, List, length, map, flat_map}
-use Rattle.std.specs.List.{zip, AllByRecursion}
+use Rattle.std.specs.List.{zip}
 use Rattle.sqlite.specs.Effect.{Database}
 use Rattle.pay_taps.specs.declared.tap.Tap.{Tap}
 use Rattle.pay_fix.specs.declared.fix.Fix.{Fix}
@@ -11,7 +11,6 @@ use Rattle.pay_rows.specs.declared.row.TapRow.{TapRow}
 use Rattle.pay_rows.specs.declared.row.FixRow.{FixRow}
 use Rattle.pay_rows.specs.PostingRows.{posting_row, share_rows}
 use Rattle.pay_rows.specs.SetRows.{tap_row, fix_row}
-use Rattle.pay_rows.specs.AccountRows.{HasAmounts}
 use Rattle.pay_records.specs.Rows.{LedgerRows, HoldsRows}
 
 -- a posting by its number, a tap and a correction, each as its row beside the account
@@ -43,5 +42,3 @@ pub record Keeps (db : Database) (ledger : LedgerParts) : Type 0 where
 pub record IsLedger (db : Database) (ledger : LedgerParts) : Type 0 where
   pub keeps : Keeps db ledger
   pub kept : AreKept ledger.postings
-  -- each posting has an amount for each operator
-  pub amounts : AllByRecursion HasAmounts ledger.postings

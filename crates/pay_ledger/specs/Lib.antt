@@ -1,3 +1,4 @@
 pub mod Faults
 pub mod Keeps
+pub mod Opening
 pub mod Steps

@@ -1,8 +1,16 @@
--- What a part of a transaction does to a ledger.
-use Rattle.std.specs.Prelude.{IsTrue, ℕ}
+-- What a part of a transaction does to a ledger, and what all of it does.
+use Rattle.std.specs.Prelude.{◌≡◌, ◌⊎◌, ℕ, List, Result, Ok, Err, IsTrue}
 use Rattle.sqlite.specs.State.{State, HasCleanDisk, KeepsCommit, Survives}
-use Rattle.pay_postings.specs.Words.{LedgerParts}
+use Rattle.sqlite.specs.Tree.{Trees}
+use Rattle.sqlite.specs.Effect.{Database}
+use Rattle.pay_account.specs.declared.posting.Posting.{Posting}
+use Rattle.pay_account.specs.Words.{QuoteParts, SetsParts}
+use Rattle.pay_postings.specs.declared.fault.PostFault.{PostFault}
+use Rattle.pay_postings.specs.Words.{LedgerParts, posted}
 use Rattle.pay_batch.specs.Words.{AccountsParts, Agrees, IsThere}
+use Rattle.pay_ledger.specs.declared.fault.LedgerFault.{LedgerFault}
+use Rattle.pay_ledger.specs.declared.fault.LedgerFault.TheVariants.{Refused}
+use Rattle.pay_ledger.specs.Faults.{is_of_store}
 use Rattle.pay_ledger.specs.Keeps.{Keeps, IsLedger}
 
 -- nothing is committed by it, and a crash leaves what it would have left before
@@ -27,3 +35,25 @@ Tells old new Told = (ledger : LedgerParts) → IsLedger old.now ledger → Told
 pub record ReadsInto (old new : State) (before after : AccountsParts) : Type 0 where
   pub agrees : HasCleanDisk new → Tells old new (λ ledger. Agrees before ledger → Agrees after ledger)
   pub stay : (account : ℕ) → IsThere before account → IsThere after account
+
+-- a fault is one that the database gives, or the refusal that is answered
+abbrev pub IsRefused : {A : Type 0} → LedgerFault → Result A PostFault → Type 0
+IsRefused fault answer = IsTrue (is_of_store fault) ⊎ ((why : PostFault) × (fault ≡ Refused why) × (answer ≡ Err why))
+
+-- quotes were posted and sets archived, and it is committed: of a ledger the database has become the one that the definition says
+pub record Posts (old new : State) (quotes : List QuoteParts) (sets : List SetsParts) (given : List Posting) : Type 0 where
+  pub was_open : IsTrue old.is_open
+  pub is_open : IsTrue new.is_open
+  pub committed : new.committed ≡ new.now
+  pub ledger : (ledger : LedgerParts) → IsLedger old.now ledger → (after : LedgerParts) × (posted ledger quotes sets ≡ Ok (given, after)) × IsLedger new.now after
+
+-- nothing was
+pub record IsAsBefore (old new : State) : Type 0 where
+  pub was_open : IsTrue old.is_open
+  pub now : new.now ≡ old.now
+  pub committed : new.committed ≡ old.committed
+
+-- what a crash may leave of it, beside what it left before: all that the definition says
+abbrev pub MayLeave : State → List QuoteParts → List SetsParts → Trees → Type 0
+MayLeave old quotes sets trees =
+    (db : Database) × (trees ≡ db.trees) × ((ledger : LedgerParts) → IsLedger old.now ledger → (answer : List Posting × LedgerParts) × (posted ledger quotes sets ≡ Ok answer) × IsLedger db answer.1)

@@ -61,6 +61,18 @@ impl From<ReadFault> for OpenFault {
     }
 }
 
+/// A table that was not made, or a commit that failed.
+impl From<Error> for OpenFault {
+    ghost use Rattle.std.specs.Prelude.{◌≡◌, ◌⊎◌};
+    ghost use Rattle.pay_ledger.specs.declared.fault.OpenFault.TheVariants.{Store, Memory};
+
+    ghost from_gives = { λ _ fault. (fault ≡ Store) ⊎ (fault ≡ Memory) };
+
+    fn from(error: Error) -> OpenFault {
+        OpenFault::from(ReadFault::from(error))
+    }
+}
+
 /// Why a ledger does not post, nor tell what was posted. It stays as it was.
 #[derive(Clone, Copy, Debug, PartialEq, Eq)]
 pub enum LedgerFault {

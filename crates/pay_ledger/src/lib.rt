@@ -2,7 +2,12 @@
 #![tactic(auto)]
 
 mod fault;
+mod ledger;
+mod lookup;
+mod opening;
+mod post;
 mod read;
 mod write;
 
 pub use fault::{LedgerFault, OpenFault};
+pub use ledger::Ledger;

@@ -113,7 +113,7 @@ fn read_into<S: Alter>(
 }
 
 /// Reads the accounts of quotes.
-fn read_quoted<S: Alter>(
+pub(crate) fn read_quoted<S: Alter>(
     alloc: Global,
     tx: &mut Transaction<'_, S>,
     accounts: &mut Accounts,
@@ -133,7 +133,7 @@ fn read_quoted<S: Alter>(
 }
 
 /// Reads the accounts of sets.
-fn read_sets<S: Alter>(
+pub(crate) fn read_sets<S: Alter>(
     alloc: Global,
     tx: &mut Transaction<'_, S>,
     accounts: &mut Accounts,

@@ -1,7 +1,8 @@
-ghost use Rattle.std.specs.Prelude.{◌≡◌, ◌++◌, ◌∷◌, [], IsTrue, OnOk, OnErr};
+ghost use Rattle.std.specs.Prelude.{◌≡◌, ◌++◌, ◌∷◌, [], IsTrue, IfErr, OnOk, OnErr};
 ghost use Rattle.sqlite.specs.Held.{state};
 ghost use Rattle.sqlite.specs.State.{HasCleanDisk};
 ghost use Rattle.pay_records.specs.Rows.{LedgerRows, HoldsRows};
+ghost use Rattle.pay_ledger.specs.Faults.{is_of_store};
 ghost use Rattle.pay_ledger.specs.Steps.{Grows, Stays, GoesOn};
 
 use crate::fault::LedgerFault;
@@ -21,6 +22,7 @@ fn write_shares<S: Alter>(
     ensures same_reference { tx.new.conn.ghost_name ≡ tx.old.conn.ghost_name }
     ensures writes { HasCleanDisk (state S.Store tx.new.conn.now) → OnOk result ((l : LedgerRows) → HoldsRows (state S.Store tx.old.conn.now).now l → HoldsRows (state S.Store tx.new.conn.now).now (record l { shares = l.shares ++ shares.now })) }
     ensures ok { OnOk result (GoesOn (state S.Store tx.old.conn.now) (state S.Store tx.new.conn.now)) }
+    ensures of_store { IfErr result (λ fault. IsTrue (is_of_store fault)) }
     ensures err { OnErr result (Stays (state S.Store tx.old.conn.now) (state S.Store tx.new.conn.now)) }
 {
     for share in shares {
@@ -38,6 +40,7 @@ fn write_posting<S: Alter>(
     ensures same_reference { tx.new.conn.ghost_name ≡ tx.old.conn.ghost_name }
     ensures writes { HasCleanDisk (state S.Store tx.new.conn.now) → IsTrue (state S.Store tx.old.conn.now).in_transaction → OnOk result (Grows (state S.Store tx.old.conn.now) (state S.Store tx.new.conn.now) (λ ledger. record ledger { postings = ledger.postings ++ posting.now ∷ [] })) }
     ensures ok { OnOk result (GoesOn (state S.Store tx.old.conn.now) (state S.Store tx.new.conn.now)) }
+    ensures of_store { IfErr result (λ fault. IsTrue (is_of_store fault)) }
     ensures err { OnErr result (Stays (state S.Store tx.old.conn.now) (state S.Store tx.new.conn.now)) }
 {
     let id = add_posting(
@@ -58,6 +61,7 @@ pub(crate) fn write_postings<S: Alter>(
     ensures same_reference { tx.new.conn.ghost_name ≡ tx.old.conn.ghost_name }
     ensures writes { HasCleanDisk (state S.Store tx.new.conn.now) → IsTrue (state S.Store tx.old.conn.now).in_transaction → OnOk result (Grows (state S.Store tx.old.conn.now) (state S.Store tx.new.conn.now) (λ ledger. record ledger { postings = ledger.postings ++ postings.now })) }
     ensures ok { OnOk result (GoesOn (state S.Store tx.old.conn.now) (state S.Store tx.new.conn.now)) }
+    ensures of_store { IfErr result (λ fault. IsTrue (is_of_store fault)) }
     ensures err { OnErr result (Stays (state S.Store tx.old.conn.now) (state S.Store tx.new.conn.now)) }
 {
     for posting in postings {
@@ -71,6 +75,7 @@ fn write_tap<S: Alter>(tx: &mut Transaction<'_, S>, tap: &Tap) -> Result<(), Led
     ensures same_reference { tx.new.conn.ghost_name ≡ tx.old.conn.ghost_name }
     ensures writes { HasCleanDisk (state S.Store tx.new.conn.now) → IsTrue (state S.Store tx.old.conn.now).in_transaction → OnOk result (Grows (state S.Store tx.old.conn.now) (state S.Store tx.new.conn.now) (λ ledger. record ledger { taps = ledger.taps ++ tap.now ∷ [] })) }
     ensures ok { OnOk result (GoesOn (state S.Store tx.old.conn.now) (state S.Store tx.new.conn.now)) }
+    ensures of_store { IfErr result (λ fault. IsTrue (is_of_store fault)) }
     ensures err { OnErr result (Stays (state S.Store tx.old.conn.now) (state S.Store tx.new.conn.now)) }
 {
     add_tap(tx, i64::from(tap.account), &tap_row(tap))?;
@@ -85,6 +90,7 @@ pub(crate) fn write_taps<S: Alter>(
     ensures same_reference { tx.new.conn.ghost_name ≡ tx.old.conn.ghost_name }
     ensures writes { HasCleanDisk (state S.Store tx.new.conn.now) → IsTrue (state S.Store tx.old.conn.now).in_transaction → OnOk result (Grows (state S.Store tx.old.conn.now) (state S.Store tx.new.conn.now) (λ ledger. record ledger { taps = ledger.taps ++ taps.now })) }
     ensures ok { OnOk result (GoesOn (state S.Store tx.old.conn.now) (state S.Store tx.new.conn.now)) }
+    ensures of_store { IfErr result (λ fault. IsTrue (is_of_store fault)) }
     ensures err { OnErr result (Stays (state S.Store tx.old.conn.now) (state S.Store tx.new.conn.now)) }
 {
     for tap in taps {
@@ -98,6 +104,7 @@ fn write_fix<S: Alter>(tx: &mut Transaction<'_, S>, fix: &Fix) -> Result<(), Led
     ensures same_reference { tx.new.conn.ghost_name ≡ tx.old.conn.ghost_name }
     ensures writes { HasCleanDisk (state S.Store tx.new.conn.now) → IsTrue (state S.Store tx.old.conn.now).in_transaction → OnOk result (Grows (state S.Store tx.old.conn.now) (state S.Store tx.new.conn.now) (λ ledger. record ledger { fixes = ledger.fixes ++ fix.now ∷ [] })) }
     ensures ok { OnOk result (GoesOn (state S.Store tx.old.conn.now) (state S.Store tx.new.conn.now)) }
+    ensures of_store { IfErr result (λ fault. IsTrue (is_of_store fault)) }
     ensures err { OnErr result (Stays (state S.Store tx.old.conn.now) (state S.Store tx.new.conn.now)) }
 {
     add_fix(tx, i64::from(fix.account), &fix_row(fix))?;
@@ -112,6 +119,7 @@ pub(crate) fn write_fixes<S: Alter>(
     ensures same_reference { tx.new.conn.ghost_name ≡ tx.old.conn.ghost_name }
     ensures writes { HasCleanDisk (state S.Store tx.new.conn.now) → IsTrue (state S.Store tx.old.conn.now).in_transaction → OnOk result (Grows (state S.Store tx.old.conn.now) (state S.Store tx.new.conn.now) (λ ledger. record ledger { fixes = ledger.fixes ++ fixes.now })) }
     ensures ok { OnOk result (GoesOn (state S.Store tx.old.conn.now) (state S.Store tx.new.conn.now)) }
+    ensures of_store { IfErr result (λ fault. IsTrue (is_of_store fault)) }
     ensures err { OnErr result (Stays (state S.Store tx.old.conn.now) (state S.Store tx.new.conn.now)) }
 {
     for fix in fixes {

@@ -33,6 +33,12 @@ added_less (amount ∷ so_far) (share ∷ shares) e =
     let others : added so_far (less shares so_far) ≡ map pos shares = added_less so_far shares (omega (arith, e)) in
     λ i. first i ∷ others i
 
+less_long : (so_far : List ℤ) (shares : List ℕ) → length so_far ≡ length shares → length (less shares so_far) ≡ length shares
+less_long [] [] e = refl
+less_long [] (share ∷ shares) e = absurd (omega (arith, e))
+less_long (amount ∷ so_far) [] e = absurd (omega (arith, e))
+less_long (amount ∷ so_far) (share ∷ shares) e = omega (arith, less_long so_far shares (omega (arith, e)))
+
 total_from : (before : ℕ) (shares : List ℕ) → fold ◌+ℤ◌ (pos before) (map pos shares) ≡ pos (before + sum shares)
 total_from before [] = ap pos (omega arith)
 total_from before (share ∷ shares) = total_from (before + share) shares ∙ ap pos (omega (arith, sum_by-cons (λ (n : ℕ). n) share shares))
@@ -168,7 +174,7 @@ anew list quote kept is =
     let p = posting_of list quote in
     let long : length (shares_posted quote.account quote.week list) ≡ length quote.shares = kept_long (last_of quote.account quote.week list) (net quote.account quote.week list) (shares_posted quote.account quote.week list) (settled_all IsKept quote.account quote.week list kept) ∙ sym is.operators in
     record {
-      kept = each_more IsKept [] list p kept (record { quote = is; due = due_anew list quote; shared = shares_anew list quote long });
+      kept = each_more IsKept [] list p kept (record { quote = is; due = due_anew list quote; shared = shares_anew list quote long; amounts = less_long (shares_posted quote.account quote.week list) quote.shares long ∙ is.operators });
       due = due_anew list quote;
       shares = shares_anew list quote long;
       net_elsewhere = λ a w e. net_more a w list p ∙ ap (λ (b : Bool). if b then net a w list +ℤ p.amount else net a w list) e;

@@ -1,5 +1,6 @@
 -- What postings are that were posted one after another.
-use Rattle.std.specs.Prelude.{◌≡◌, ⊤, ℤ, pos, List, [], ◌∷◌, ◌++◌, map}
+use Rattle.std.specs.Prelude.{◌≡◌, ⊤, ℤ, pos, List, [], ◌∷◌, ◌++◌, length, map}
+use Rattle.pay_money.specs.declared.limits.TheConstants.{OPERATORS}
 use Rattle.pay_account.specs.declared.posting.Posting.{Posting}
 use Rattle.pay_account.specs.Words.{IsQuote}
 use Rattle.pay_postings.specs.Amounts.{IsMoney}
@@ -17,6 +18,8 @@ pub record IsKept (posting : Posting) (amount : ℤ) (shares : List ℤ) : Type 
   pub quote : IsQuote posting.quote
   pub due : amount ≡ pos posting.quote.due
   pub shared : shares ≡ map pos posting.quote.shares
+  -- there is an amount for each operator
+  pub amounts : length posting.share_amounts ≡ OPERATORS
 
 -- these postings were posted one after another, from none on
 abbrev pub AreKept : List Posting → Type 0

@@ -103,49 +103,9 @@ told_in_some_order shown tell of tells found old new rows h =
 pub each_shown : {X : Type 0} (shown : X → List ℤ) (P : Row → Type 0) → ((x : X) → P (map Int (shown x))) → (found : List X) (old new : State) (rows : List Row) → Shows shown found old new rows → AllByRecursion P rows
 each_shown shown P each found old new rows h = recursion_from_All P rows (All-permutation P _ rows h.same (All-from_recursion P _ (all-map P (λ x. map Int (shown x)) each found)))
 
--- what is shown of a table of whole numbers
-module _ {X : Type 0} (numbers shown : X → List ℤ) (pass : X → Bool) (tree : ℕ) (test project : List Term) (params : Row) where
-  shows : ((id : ℤ) (x : X) → list_all (holds (params ∷ (Int id ∷ map Int (numbers x)) ∷ [])) test ≡ pass x)
-      → ((id : ℤ) (x : X) → eval_all project (params ∷ (Int id ∷ map Int (numbers x)) ∷ []) ≡ map Int (shown x))
-      → (db : Trees) (list : List X) → AreNumbers (db tree) (map numbers list) → (rows : List Row) → IsAnswer (simple (inner tree end) test project []) db params rows
-      → IsPermutation (map (λ x. map Int (shown x)) (filter pass list)) rows
-  shows agrees told db list are rows answer =
-      let q = simple (inner tree end) test project [] in
-      let row : ℤ × X → Row = λ (p : ℤ × X). Int p.0 ∷ map Int (numbers p.1) in
-      let env : ℤ × X → Env = λ (p : ℤ × X). params ∷ row p ∷ [] in
-      let it = simply (inner tree end) test project [] db params rows answer in
-      let known = numbered numbers (pos 0) (db tree) list are.rising (are.are ∙ map-map (map Int) numbers list) in
-      let found = passing tree test (params ∷ []) db row (λ p. pass p.1) (λ p. agrees p.0 p.1) known.0 known.1 in
-      let seen : map (λ (o : Output). o.1) (map (output q) (matches db test (inner tree end) (params ∷ []))) ≡ map (λ x. map Int (shown x)) (filter pass list) =
-      ap (λ l. map (λ (o : Output). o.1) (map (output q) l)) found
-      ∙ ap (map (λ (o : Output). o.1)) (map-map (output q) env (filter (λ p. pass p.1) known.0))
-      ∙ map-map (λ (o : Output). o.1) (λ p. output q (env p)) (filter (λ p. pass p.1) known.0)
-      ∙ map_same (λ p. eval_all project (env p)) (λ (p : ℤ × X). map Int (shown p.1)) (λ p. told p.0 p.1) (filter (λ p. pass p.1) known.0)
-      ∙ sym (map-map (λ x. map Int (shown x)) (λ (p : ℤ × X). p.1) (filter (λ p. pass p.1) known.0))
-      ∙ ap (map (λ x. map Int (shown x))) (sym (filter-map pass (λ (p : ℤ × X). p.1) known.0) ∙ ap (filter pass) known.2) in
-      subst (λ l. IsPermutation l rows) seen (subst (λ r. IsPermutation (map (λ (o : Output). o.1) (map (output q) (matches db test (inner tree end) (params ∷ [])))) r) (sym it.shown) (IsPermutation-map (λ (o : Output). o.1) _ _ it.same))
-
 every : {X : Type 0} (xs : List X) → filter (λ _. true) xs ≡ xs
 every [] = refl
 every (x ∷ xs) = ap (λ l. x ∷ l) (every xs)
-
-pub all_taps_shown : (old new : State) (rows : List Row) → Shown select_all_taps [] old new rows → (l : LedgerRows) → HoldsRows old.now l → Shows tap_numbers l.taps old new rows
-all_taps_shown old new rows h l held =
-    let it = shown_by_query select_all_taps all_taps_query _ select_all_taps_is [] old new rows held.schema_is h in
-    record {
-      same = subst (λ f. IsPermutation (map (λ t. map Int (tap_numbers t)) f) rows) (every l.taps)
-          (shows tap_numbers tap_numbers (λ _. true) taps_tree [] all_taps_query.project [] (λ id t. refl) (λ id t. refl) (overlay old.now.trees []) l.taps held.taps rows it.0);
-      unchanged = it.1;
-    }
-
-pub all_fixes_shown : (old new : State) (rows : List Row) → Shown select_all_fixes [] old new rows → (l : LedgerRows) → HoldsRows old.now l → Shows fix_numbers l.fixes old new rows
-all_fixes_shown old new rows h l held =
-    let it = shown_by_query select_all_fixes all_fixes_query _ select_all_fixes_is [] old new rows held.schema_is h in
-    record {
-      same = subst (λ f. IsPermutation (map (λ t. map Int (fix_numbers t)) f) rows) (every l.fixes)
-          (shows fix_numbers fix_numbers (λ _. true) fixes_tree [] all_fixes_query.project [] (λ id t. refl) (λ id t. refl) (overlay old.now.trees []) l.fixes held.fixes rows it.0);
-      unchanged = it.1;
-    }
 
 -- ---- shares: each posting of the account beside each of its shares
 
@@ -287,6 +247,25 @@ fixes_shown account old new rows h l held =
     record {
       are = shows_in_order fix_numbers fix_shown (λ (f : ℤ × FixRow). int_eq f.0 account) fixes_tree (is_given 1 ∷ []) fixes_query.project (Int account ∷ [])
           (λ id f. and_true _ ∙ same_number f.0 account) (λ id f. refl) (overlay old.now.trees []) l.fixes held.fixes rows it.0;
+      unchanged = it.1;
+    }
+
+-- of a whole table
+pub all_taps_shown : (old new : State) (rows : List Row) → Shown select_all_taps [] old new rows → (l : LedgerRows) → HoldsRows old.now l → ShowsInOrder tap_numbers l.taps old new rows
+all_taps_shown old new rows h l held =
+    let it = shown_by_query select_all_taps all_taps_query _ select_all_taps_is [] old new rows held.schema_is h in
+    record {
+      are = shows_in_order tap_numbers tap_numbers (λ _. true) taps_tree [] all_taps_query.project [] (λ id t. refl) (λ id t. refl) (overlay old.now.trees []) l.taps held.taps rows it.0
+          ∙ ap (map (λ t. map Int (tap_numbers t))) (every l.taps);
+      unchanged = it.1;
+    }
+
+pub all_fixes_shown : (old new : State) (rows : List Row) → Shown select_all_fixes [] old new rows → (l : LedgerRows) → HoldsRows old.now l → ShowsInOrder fix_numbers l.fixes old new rows
+all_fixes_shown old new rows h l held =
+    let it = shown_by_query select_all_fixes all_fixes_query _ select_all_fixes_is [] old new rows held.schema_is h in
+    record {
+      are = shows_in_order fix_numbers fix_numbers (λ _. true) fixes_tree [] all_fixes_query.project [] (λ id t. refl) (λ id t. refl) (overlay old.now.trees []) l.fixes held.fixes rows it.0
+          ∙ ap (map (λ f. map Int (fix_numbers f))) (every l.fixes);
       unchanged = it.1;
     }
 

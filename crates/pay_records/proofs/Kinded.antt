@@ -25,8 +25,8 @@ use Rattle.pay_records.specs.declared.fault.ReadFault.{ReadFault}
 use Rattle.pay_records.specs.declared.kind.Kind.{Kind}
 use Rattle.pay_records.specs.declared.kind.Kind.TheVariants as kind
 use Rattle.pay_records.specs.declared.kind.Presence.{Presence}
-use Rattle.pay_records.specs.declared.kind.Presence.TheVariants.{Missing, There}
-use Rattle.pay_records.specs.Kinds.{presence_of, is_there, together, IsToldBy, tables_in, kind_by, IsKindBy, IsKindOf}
+use Rattle.pay_records.specs.declared.kind.Presence.TheVariants.{Missing, There, Partly}
+use Rattle.pay_records.specs.Kinds.{presence_of, is_there, together, IsToldBy, tables_in, kind_by, IsKindBy, IsKindOf, IsOfKindBy, IsOfKind}
 use Rattle.pay_records.specs.Rows.{LedgerRows, HoldsRows}
 use Rattle.pay_records.specs.Tables.{no_schema, ledger_schema, meta_tree}
 use Rattle.pay_records.proofs.Kept.{kept_unchanged, kept_not_run}
@@ -127,6 +127,14 @@ module _ (old new : State) where
 
   pub kind_of_ledger : (k : Kind) → IsKindOf old new k → (rows : LedgerRows) → HoldsRows old.now rows → (k ≡ kind.Ledger) × IsUnchanged old new
   kind_of_ledger k h rows held = (subst (λ p. IsKindBy old new p k) (ap tables_in held.schema_is ∙ ledger_tables) h) held.schema_is _ _ held.meta
+
+  kind_alone : (p : Presence) (k : Kind) → IsKindBy old new p k → IsOfKindBy old.now p k
+  kind_alone Missing k h = h.0
+  kind_alone Partly k h = h.0
+  kind_alone There k h = λ has name version is. (h has name version is).0
+
+  pub is_of_kind : (k : Kind) → IsKindOf old new k → IsOfKind old.now k
+  is_of_kind k h = kind_alone (tables_in old.now.schema) k h
 
 -- tables beside others, each asked for in its turn
 module _ (asked : Schema → Presence) (old first second third : State) (other another : List ℕ) (a b c : Presence) where

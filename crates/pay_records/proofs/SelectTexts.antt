@@ -26,10 +26,10 @@ abbrev pub select_fixes : List ℕ
 select_fixes = codes "SELECT staff, seq, what, a, b, c, d, e FROM fixes WHERE account = ?1 ORDER BY rowid"
 
 abbrev pub select_all_taps : List ℕ
-select_all_taps = codes "SELECT account, reader, seq, utc, day, second, place, kind FROM taps"
+select_all_taps = codes "SELECT account, reader, seq, utc, day, second, place, kind FROM taps ORDER BY rowid"
 
 abbrev pub select_all_fixes : List ℕ
-select_all_fixes = codes "SELECT account, staff, seq, what, a, b, c, d, e FROM fixes"
+select_all_fixes = codes "SELECT account, staff, seq, what, a, b, c, d, e FROM fixes ORDER BY rowid"
 
 abbrev pub select_meta : List ℕ
 select_meta = codes "SELECT name, version FROM meta"
@@ -54,10 +54,10 @@ abbrev pub fixes_query : Query
 fixes_query = simple (inner fixes_tree end) (is_given 1 ∷ []) (col 1 2 ∷ col 1 3 ∷ col 1 4 ∷ col 1 5 ∷ col 1 6 ∷ col 1 7 ∷ col 1 8 ∷ col 1 9 ∷ []) by_rowid
 
 abbrev pub all_taps_query : Query
-all_taps_query = simple (inner taps_tree end) [] (col 1 1 ∷ col 1 2 ∷ col 1 3 ∷ col 1 4 ∷ col 1 5 ∷ col 1 6 ∷ col 1 7 ∷ col 1 8 ∷ []) []
+all_taps_query = simple (inner taps_tree end) [] (col 1 1 ∷ col 1 2 ∷ col 1 3 ∷ col 1 4 ∷ col 1 5 ∷ col 1 6 ∷ col 1 7 ∷ col 1 8 ∷ []) by_rowid
 
 abbrev pub all_fixes_query : Query
-all_fixes_query = simple (inner fixes_tree end) [] (col 1 1 ∷ col 1 2 ∷ col 1 3 ∷ col 1 4 ∷ col 1 5 ∷ col 1 6 ∷ col 1 7 ∷ col 1 8 ∷ col 1 9 ∷ []) []
+all_fixes_query = simple (inner fixes_tree end) [] (col 1 1 ∷ col 1 2 ∷ col 1 3 ∷ col 1 4 ∷ col 1 5 ∷ col 1 6 ∷ col 1 7 ∷ col 1 8 ∷ col 1 9 ∷ []) by_rowid
 
 abbrev pub meta_query : Query
 meta_query = simple (inner meta_tree end) [] (col 1 1 ∷ col 1 2 ∷ []) []

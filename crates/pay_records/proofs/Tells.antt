@@ -69,24 +69,22 @@ module _ (old new : State) (given : Row) (rows held : List Row) where
       let h = shares_shown account old new held (shown_rows select_shares (Int account ∷ []) is) l holds in
       each_shown share_numbers (AreWhole 0 3) (λ x. ((_, refl), ((_, refl), ((_, refl), tt)))) _ old new held h
 
-  pub all_taps_told : (list : List (ℤ × TapRow)) → IsShown select_all_taps [] → list ≡ map (λ r. (whole_in (column r 0), tap_at 1 r)) held → Finds old new (λ l. IsPermutation l.taps list)
+  pub all_taps_told : (list : List (ℤ × TapRow)) → IsShown select_all_taps [] → list ≡ map (λ r. (whole_in (column r 0), tap_at 1 r)) held → Finds old new (λ l. list ≡ l.taps)
   all_taps_told list is told l holds =
       let h = all_taps_shown old new held (shown_rows select_all_taps [] is) l holds in
-      let same = told_in_some_order tap_numbers (λ r. (whole_in (column r 0), tap_at 1 r)) (λ (t : ℤ × TapRow). t) (λ x. refl) _ old new held h in
-      (subst (IsPermutation l.taps) (sym told) (subst (λ f. IsPermutation f (map (λ r. (whole_in (column r 0), tap_at 1 r)) held)) (itself l.taps) same), h.unchanged)
+      (told ∙ told_in_order tap_numbers (λ r. (whole_in (column r 0), tap_at 1 r)) (λ (t : ℤ × TapRow). t) (λ x. refl) _ old new held h ∙ itself l.taps, h.unchanged)
 
   pub all_taps_whole : IsShown select_all_taps [] → (l : LedgerRows) → HoldsRows old.now l → AllByRecursion (λ r. IsWhole (column r 0) × AreWhole 1 7 r) held
   all_taps_whole is l holds =
       let h = all_taps_shown old new held (shown_rows select_all_taps [] is) l holds in
-      each_shown tap_numbers (λ r. IsWhole (column r 0) × AreWhole 1 7 r) (λ x. ((_, refl), ((_, refl), ((_, refl), ((_, refl), ((_, refl), ((_, refl), ((_, refl), ((_, refl), tt))))))))) _ old new held h
+      each_in_order tap_numbers (λ r. IsWhole (column r 0) × AreWhole 1 7 r) (λ x. ((_, refl), ((_, refl), ((_, refl), ((_, refl), ((_, refl), ((_, refl), ((_, refl), ((_, refl), tt))))))))) _ old new held h
 
-  pub all_fixes_told : (list : List (ℤ × FixRow)) → IsShown select_all_fixes [] → list ≡ map (λ r. (whole_in (column r 0), fix_at 1 r)) held → Finds old new (λ l. IsPermutation l.fixes list)
+  pub all_fixes_told : (list : List (ℤ × FixRow)) → IsShown select_all_fixes [] → list ≡ map (λ r. (whole_in (column r 0), fix_at 1 r)) held → Finds old new (λ l. list ≡ l.fixes)
   all_fixes_told list is told l holds =
       let h = all_fixes_shown old new held (shown_rows select_all_fixes [] is) l holds in
-      let same = told_in_some_order fix_numbers (λ r. (whole_in (column r 0), fix_at 1 r)) (λ (t : ℤ × FixRow). t) (λ x. refl) _ old new held h in
-      (subst (IsPermutation l.fixes) (sym told) (subst (λ f. IsPermutation f (map (λ r. (whole_in (column r 0), fix_at 1 r)) held)) (itself l.fixes) same), h.unchanged)
+      (told ∙ told_in_order fix_numbers (λ r. (whole_in (column r 0), fix_at 1 r)) (λ (t : ℤ × FixRow). t) (λ x. refl) _ old new held h ∙ itself l.fixes, h.unchanged)
 
   pub all_fixes_whole : IsShown select_all_fixes [] → (l : LedgerRows) → HoldsRows old.now l → AllByRecursion (λ r. IsWhole (column r 0) × AreWhole 1 8 r) held
   all_fixes_whole is l holds =
       let h = all_fixes_shown old new held (shown_rows select_all_fixes [] is) l holds in
-      each_shown fix_numbers (λ r. IsWhole (column r 0) × AreWhole 1 8 r) (λ x. ((_, refl), ((_, refl), ((_, refl), ((_, refl), ((_, refl), ((_, refl), ((_, refl), ((_, refl), ((_, refl), tt)))))))))) _ old new held h
+      each_in_order fix_numbers (λ r. IsWhole (column r 0) × AreWhole 1 8 r) (λ x. ((_, refl), ((_, refl), ((_, refl), ((_, refl), ((_, refl), ((_, refl), ((_, refl), ((_, refl), ((_, refl), tt)))))))))) _ old new held h

@@ -8,6 +8,7 @@ use Rattle.sqlite.specs.declared.types.Value.{Value}
 use Rattle.sqlite.specs.declared.types.Value.TheVariants.{Int, Text}
 use Rattle.sqlite.specs.Order.{Row, column}
 use Rattle.sqlite.specs.Schema.{Schema}
+use Rattle.sqlite.specs.Effect.{Database}
 use Rattle.sqlite.specs.State.{State, IsUnchanged}
 use Rattle.sqlite.specs.declared.error.Error.{Error}
 use Rattle.sqlite.specs.declared.error.Error.TheVariants.{SqlInputError}
@@ -71,3 +72,13 @@ IsKindBy old new There kind =
 
 abbrev pub IsKindOf : State → State → Kind → Type 0
 IsKindOf old new kind = IsKindBy old new (tables_in old.now.schema) kind
+
+-- what a database is, whatever was changed in telling it
+abbrev pub IsOfKindBy : Database → Presence → Kind → Type 0
+IsOfKindBy db Missing kind = kind ≡ Blank
+IsOfKindBy db Partly kind = kind ≡ Other
+IsOfKindBy db There kind =
+    db.schema ≡ ledger_schema → (name : List ℕ) (version : ℤ) → map (drop 1) (db.trees meta_tree) ≡ (Text name ∷ Int version ∷ []) ∷ [] → kind ≡ kind_of_row (Text name) (Int version)
+
+abbrev pub IsOfKind : Database → Kind → Type 0
+IsOfKind db kind = IsOfKindBy db (tables_in db.schema) kind

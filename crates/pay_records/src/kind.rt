@@ -1,10 +1,10 @@
-ghost use Rattle.std.specs.Prelude.{◌≡◌, [], IsTrue, IfOk, Err};
+ghost use Rattle.std.specs.Prelude.{◌≡◌, [], IsTrue, IfOk, OnOk, Err};
 ghost use Rattle.sqlite.specs.Held.{state};
 ghost use Rattle.sqlite.specs.State.{HasCleanDisk, KeepsCommit, IsUnchanged, Survives};
 ghost use Rattle.sqlite.specs.Listing.{understood};
 ghost use Rattle.pay_records.specs.Tables.{no_schema};
 ghost use Rattle.pay_records.specs.Rows.{LedgerRows, HoldsRows};
-ghost use Rattle.pay_records.specs.Kinds.{presence_of, together, IsToldBy, posting_tables_in, tables_in, kind_by, IsKindOf};
+ghost use Rattle.pay_records.specs.Kinds.{presence_of, together, IsToldBy, posting_tables_in, tables_in, kind_by, IsKindOf, IsOfKind};
 ghost use Rattle.pay_records.specs.declared.fault.ReadFault.TheVariants.{BadArchive};
 
 use crate::fault::ReadFault;
@@ -135,6 +135,7 @@ fn kind_by(rows: &[Row]) -> Kind
 fn by_tables<S: Alter>(tx: &mut Transaction<'_, S>) -> Result<Kind, ReadFault>
     ensures same_reference { tx.new.conn.ghost_name ≡ tx.old.conn.ghost_name }
     ensures value { HasCleanDisk (state S.Store tx.new.conn.now) → IfOk result (IsKindOf (state S.Store tx.old.conn.now) (state S.Store tx.new.conn.now)) }
+    ensures inside { HasCleanDisk (state S.Store tx.new.conn.now) → IsTrue (state S.Store tx.old.conn.now).in_transaction → OnOk result (IsTrue (state S.Store tx.new.conn.now).in_transaction) }
     ensures never_bad { result ≡ Err BadArchive → ⊥ }
     ensures kept { HasCleanDisk (state S.Store tx.new.conn.now) → IsTrue (state S.Store tx.old.conn.now).in_transaction → KeepsCommit (state S.Store tx.old.conn.now) (state S.Store tx.new.conn.now) }
     ensures survives { Survives (state S.Store tx.old.conn.now) (state S.Store tx.new.conn.now) (λ _. ⊥) }
@@ -149,9 +150,10 @@ fn by_tables<S: Alter>(tx: &mut Transaction<'_, S>) -> Result<Kind, ReadFault>
 /// What a database is to a ledger.
 pub fn kind_of<S: Alter>(tx: &mut Transaction<'_, S>) -> Result<Kind, ReadFault>
     ensures same_reference { tx.new.conn.ghost_name ≡ tx.old.conn.ghost_name }
-    ensures value { HasCleanDisk (state S.Store tx.new.conn.now) → IfOk result (IsKindOf (state S.Store tx.old.conn.now) (state S.Store tx.new.conn.now)) }
+    ensures value { HasCleanDisk (state S.Store tx.new.conn.now) → IfOk result (λ kind. IsOfKind (state S.Store tx.old.conn.now).now kind) }
     ensures blank { HasCleanDisk (state S.Store tx.new.conn.now) → IfOk result (λ kind. (state S.Store tx.old.conn.now).now.schema ≡ no_schema → (kind ≡ Kind.Blank) × IsUnchanged (state S.Store tx.old.conn.now) (state S.Store tx.new.conn.now)) }
     ensures ledger { HasCleanDisk (state S.Store tx.new.conn.now) → IfOk result (λ kind. (rows : LedgerRows) → HoldsRows (state S.Store tx.old.conn.now).now rows → (kind ≡ Kind.Ledger) × IsUnchanged (state S.Store tx.old.conn.now) (state S.Store tx.new.conn.now)) }
+    ensures inside { HasCleanDisk (state S.Store tx.new.conn.now) → IsTrue (state S.Store tx.old.conn.now).in_transaction → OnOk result (IsTrue (state S.Store tx.new.conn.now).in_transaction) }
     ensures never_bad { result ≡ Err BadArchive → ⊥ }
     ensures kept { HasCleanDisk (state S.Store tx.new.conn.now) → IsTrue (state S.Store tx.old.conn.now).in_transaction → KeepsCommit (state S.Store tx.old.conn.now) (state S.Store tx.new.conn.now) }
     ensures survives { Survives (state S.Store tx.old.conn.now) (state S.Store tx.new.conn.now) (λ _. ⊥) }

@@ -113,13 +113,13 @@ pub fn fixes_of<S: Alter>(
     all(alloc, &rows)
 }
 
-/// All archived taps, each beside its account, in any order.
+/// All archived taps, each beside its account, in the order in which they were archived.
 pub fn all_taps<S: Alter>(
     alloc: Global,
     tx: &mut Transaction<'_, S>,
 ) -> Result<Vec<(i64, TapRow)>, ReadFault>
     ensures same_reference { tx.new.conn.ghost_name ≡ tx.old.conn.ghost_name }
-    ensures found { HasCleanDisk (state S.Store tx.new.conn.now) → IfOk result (λ list. Finds (state S.Store tx.old.conn.now) (state S.Store tx.new.conn.now) (λ rows. IsPermutation rows.taps list.items)) }
+    ensures found { HasCleanDisk (state S.Store tx.new.conn.now) → IfOk result (λ list. Finds (state S.Store tx.old.conn.now) (state S.Store tx.new.conn.now) (λ rows. list.items ≡ rows.taps)) }
     ensures never_bad { HasCleanDisk (state S.Store tx.new.conn.now) → result ≡ Err BadArchive → (rows : LedgerRows) → HoldsRows (state S.Store tx.old.conn.now).now rows → ⊥ }
     ensures inside { HasCleanDisk (state S.Store tx.new.conn.now) → OnOk result ((state S.Store tx.new.conn.now).in_transaction ≡ (state S.Store tx.old.conn.now).in_transaction) }
     ensures kept { HasCleanDisk (state S.Store tx.new.conn.now) → IsTrue (state S.Store tx.old.conn.now).in_transaction → KeepsCommit (state S.Store tx.old.conn.now) (state S.Store tx.new.conn.now) }
@@ -127,19 +127,19 @@ pub fn all_taps<S: Alter>(
 {
     let rows = query(
         tx,
-        "SELECT account, reader, seq, utc, day, second, place, kind FROM taps",
+        "SELECT account, reader, seq, utc, day, second, place, kind FROM taps ORDER BY rowid",
         &[],
     )?;
     all_beside(alloc, &rows)
 }
 
-/// All archived corrections, each beside its account, in any order.
+/// All archived corrections, each beside its account, in the order in which they were archived.
 pub fn all_fixes<S: Alter>(
     alloc: Global,
     tx: &mut Transaction<'_, S>,
 ) -> Result<Vec<(i64, FixRow)>, ReadFault>
     ensures same_reference { tx.new.conn.ghost_name ≡ tx.old.conn.ghost_name }
-    ensures found { HasCleanDisk (state S.Store tx.new.conn.now) → IfOk result (λ list. Finds (state S.Store tx.old.conn.now) (state S.Store tx.new.conn.now) (λ rows. IsPermutation rows.fixes list.items)) }
+    ensures found { HasCleanDisk (state S.Store tx.new.conn.now) → IfOk result (λ list. Finds (state S.Store tx.old.conn.now) (state S.Store tx.new.conn.now) (λ rows. list.items ≡ rows.fixes)) }
     ensures never_bad { HasCleanDisk (state S.Store tx.new.conn.now) → result ≡ Err BadArchive → (rows : LedgerRows) → HoldsRows (state S.Store tx.old.conn.now).now rows → ⊥ }
     ensures inside { HasCleanDisk (state S.Store tx.new.conn.now) → OnOk result ((state S.Store tx.new.conn.now).in_transaction ≡ (state S.Store tx.old.conn.now).in_transaction) }
     ensures kept { HasCleanDisk (state S.Store tx.new.conn.now) → IsTrue (state S.Store tx.old.conn.now).in_transaction → KeepsCommit (state S.Store tx.old.conn.now) (state S.Store tx.new.conn.now) }
@@ -147,7 +147,7 @@ pub fn all_fixes<S: Alter>(
 {
     let rows = query(
         tx,
-        "SELECT account, staff, seq, what, a, b, c, d, e FROM fixes",
+        "SELECT account, staff, seq, what, a, b, c, d, e FROM fixes ORDER BY rowid",
         &[],
     )?;
     all_beside(alloc, &rows)

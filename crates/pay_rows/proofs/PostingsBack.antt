@@ -20,10 +20,10 @@ use Rattle.pay_rows.specs.declared.row.PostingRow.{PostingRow}
 use Rattle.pay_rows.specs.declared.row.ShareRow.{ShareRow}
 use Rattle.pay_rows.specs.Ranged.{◌>>=◌}
 use Rattle.pay_rows.specs.PostingRows.{is_money, is_share_row, is_natural, amounts_of, naturals, quote_from_row, quote_behind, is_amount_behind, posting_behind, week_from_row, posting_from_row, with_rows, postings_from_rows, posting_row, share_row, share_rows_from, share_rows}
-use Rattle.pay_rows.specs.AccountRows.{is_of_account, of_account, rows_of, shares_of, RiseBehind, HasAmounts}
+use Rattle.pay_rows.specs.AccountRows.{is_of_account, of_account, rows_of, shares_of, RiseBehind}
 use Rattle.pay_rows.proofs.Reading.{of_its_own, net_more, shares_more, others_net, others_shares, quote_of}
 use Rattle.pay_rows.proofs.SetsBack.{number_back}
-use Rattle.pay_rows.proofs.SharesBack.{all_moved, amounts_back, numbered_rise, all_kept, rise_kept}
+use Rattle.pay_rows.proofs.SharesBack.{HasAmounts, all_moved, amounts_back, numbered_rise, all_kept, rise_kept}
 
 -- ---- one posting
 
@@ -181,6 +181,10 @@ all_beside P [] list all = tt
 all_beside P (id ∷ ids) [] all = tt
 all_beside P (id ∷ ids) (p ∷ list) all = (all.0, all_beside P ids list all.1)
 
+all_have : (done list : List Posting) → EachStands IsKept done list → AllByRecursion HasAmounts list
+all_have done [] kept = tt
+all_have done (p ∷ list) kept = (kept.0.amounts, all_have (done ++ p ∷ []) list kept.1)
+
 -- ---- one posting after another
 
 -- as much was posted for an account in both lists
@@ -257,12 +261,13 @@ kept_seconds : (account : ℕ) (list : List (ℤ × Posting)) → map second (fi
 kept_seconds account [] = refl
 kept_seconds account (n ∷ list) = kept_by n (filter (λ (m : ℤ × Posting). is_of_account account m.1) list) (of_account account (map second list)) (is_of_account account n.1) (kept_seconds account list)
 
-pub postings_back : (account : ℕ) (low : ℤ) (ids : List ℤ) (list : List Posting) (shares : List ShareRow) → AreKept list → AllByRecursion HasAmounts list → length ids ≡ length list → RiseBehind low ids
+pub postings_back : (account : ℕ) (low : ℤ) (ids : List ℤ) (list : List Posting) (shares : List ShareRow) → AreKept list → length ids ≡ length list → RiseBehind low ids
     → IsPermutation (shares_of account ids list) shares → postings_from_rows account (rows_of account ids list) shares ≡ Some (of_account account list)
-postings_back account low ids list shares kept has long rise moved =
+postings_back account low ids list shares kept long rise moved =
     let test : ℤ × Posting → Bool = λ n. is_of_account account n.1 in
     let beside = zip ids list in
     let seen = seconds ids list long in
+    let has = all_have [] list kept in
     let has_each = all_beside HasAmounts ids list has in
     let own_has = all_kept (λ (n : ℤ × Posting). HasAmounts n.1) test beside has_each in
     let own_money = all_kept (λ (n : ℤ × Posting). IsMoneyAll n.1) test beside (all_beside IsMoneyAll ids list (all_money [] list nothing_within kept has)) in

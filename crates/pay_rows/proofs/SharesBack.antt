@@ -8,11 +8,16 @@ use Rattle.std.proofs.lemmas.Bool.{and_parts, and_from}
 use Rattle.std.proofs.lemmas.Int.{ints}
 use Rattle.std.proofs.lemmas.List.Folds.{sum_by-zero, list_all-append}
 use Rattle.std.proofs.lemmas.List.Sorted.{sum_by-IsPermutation}
+use Rattle.pay_money.specs.declared.limits.TheConstants.{OPERATORS}
 use Rattle.pay_account.specs.declared.posting.Posting.{Posting}
 use Rattle.pay_rows.specs.declared.row.ShareRow.{ShareRow}
 use Rattle.pay_rows.specs.PostingRows.{is_share_of, amount_or_none, amount_of, amounts_of, share_row, share_rows_from, share_rows}
-use Rattle.pay_rows.specs.AccountRows.{RiseBehind, HasAmounts}
+use Rattle.pay_rows.specs.AccountRows.{RiseBehind}
 use Rattle.pay_rows.proofs.Places.{amounts_are}
+
+-- a posting has an amount for each operator
+abbrev pub HasAmounts : Posting → Type 0
+HasAmounts posting = length posting.share_amounts ≡ OPERATORS
 
 -- ---- a test of all, in any order
 

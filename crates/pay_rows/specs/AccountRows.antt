@@ -1,7 +1,6 @@
 -- The rows of an account among those of all: its postings beside their numbers, and their shares.
-use Rattle.std.specs.Prelude.{◌≡◌, ⊤, ℕ, ◌==◌, Bool, ℤ, ◌<ℤ◌, List, [], ◌∷◌, length, map, filter, flat_map, replicate, pos, refl}
+use Rattle.std.specs.Prelude.{◌≡◌, ⊤, ℕ, ◌==◌, Bool, ℤ, ◌<ℤ◌, List, [], ◌∷◌, map, filter, flat_map, replicate, pos, refl}
 use Rattle.std.specs.List.{zip}
-use Rattle.pay_money.specs.declared.limits.TheConstants.{OPERATORS}
 use Rattle.pay_account.specs.declared.posting.Posting.{Posting}
 use Rattle.pay_rows.specs.declared.row.PostingRow.{PostingRow}
 use Rattle.pay_rows.specs.declared.row.ShareRow.{ShareRow}
@@ -31,10 +30,6 @@ shares_of account ids list = flat_map (λ n. share_rows n.0 n.1) (numbered_of ac
 abbrev pub RiseBehind : ℤ → List ℤ → Type 0
 RiseBehind number [] = ⊤
 RiseBehind number (id ∷ ids) = (number <ℤ id) × RiseBehind id ids
-
--- a posting has an amount for each operator
-abbrev pub HasAmounts : Posting → Type 0
-HasAmounts posting = length posting.share_amounts ≡ OPERATORS
 
 -- ---- worked rows
 

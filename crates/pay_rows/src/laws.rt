@@ -1,7 +1,6 @@
 //! What is written as rows and read back is as it was. Each law is the contract of a function that does nothing: a
 //! caller whose proof needs a law calls its function.
 ghost use Rattle.std.specs.Prelude.{◌≡◌, ℕ, ℤ, List, length, Some, IsPermutation};
-ghost use Rattle.std.specs.List.{AllByRecursion};
 ghost use Rattle.pay_taps.specs.declared.tap.Tap.{Tap};
 ghost use Rattle.pay_fix.specs.declared.fix.Fix.{Fix};
 ghost use Rattle.pay_account.specs.declared.posting.Posting.{Posting};
@@ -10,7 +9,7 @@ ghost use Rattle.pay_rows.specs.declared.row.ShareRow.{ShareRow};
 ghost use Rattle.pay_rows.specs.SetRows.{tap_row, tap_from_row, fix_row, fix_from_row};
 ghost use Rattle.pay_rows.specs.InRange.{IsTapInRange, IsFixInRange};
 ghost use Rattle.pay_rows.specs.PostingRows.{postings_from_rows};
-ghost use Rattle.pay_rows.specs.AccountRows.{of_account, rows_of, shares_of, RiseBehind, HasAmounts};
+ghost use Rattle.pay_rows.specs.AccountRows.{of_account, rows_of, shares_of, RiseBehind};
 
 /// A tap in its ranges is read back from its row.
 pub fn taps_back()
@@ -32,7 +31,7 @@ pub fn same_row()
 /// their rows, in order, and from the rows of their shares, in any order.
 pub fn postings_back()
     ensures { (account : ℕ) (before : ℤ) (ids : List ℤ) (list : List Posting) (shares : List ShareRow)
-        → AreKept list → AllByRecursion HasAmounts list → length ids ≡ length list → RiseBehind before ids
+        → AreKept list → length ids ≡ length list → RiseBehind before ids
         → IsPermutation (shares_of account ids list) shares
         → postings_from_rows account (rows_of account ids list) shares ≡ Some (of_account account list) }
 {}

@@ -1,0 +1,6 @@
+pub mod AtNumbers
+pub mod Steps
+pub mod Sets
+pub mod Taken
+pub mod Rows
+pub mod Archive

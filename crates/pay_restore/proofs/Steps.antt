@@ -1,0 +1,51 @@
+-- A row is taken into its account, which is put back at its number.
+use Rattle.std.proofs.Common.{◌≡◌, ℕ, ◌≤◌, List, Option, Some, None, sym, ap, ◌∙◌, subst}
+use Rattle.std.specs.Prelude.{ℤ}
+use Rattle.std.specs.FinMap.{insert, empty, entries}
+use Rattle.pay_tables.specs.Words.{FareTables}
+use Rattle.pay_taps.specs.declared.tap.Tap.{Tap}
+use Rattle.pay_fix.specs.declared.fix.Fix.{Fix}
+use Rattle.pay_account.specs.Words.{Accepted}
+use Rattle.pay_rows.specs.declared.row.TapRow.{TapRow}
+use Rattle.pay_rows.specs.declared.row.FixRow.{FixRow}
+use Rattle.pay_rows.specs.Ranged.{◌>>=◌}
+use Rattle.pay_shard.specs.Words.{State, accepted_of}
+use Rattle.pay_restore.specs.Restored.{tap_of_row, fix_of_row, with_archived_tap, with_archived_fix, with_tap_row, with_tap_rows, with_fix_row, with_fix_rows, restored}
+
+pub still_from_1 : (account before now : ℕ) → 1 ≤ account → before ≡ account → now ≡ before → 1 ≤ now
+still_from_1 account before now from_1 own same = subst (λ n. 1 ≤ n) (sym (same ∙ own)) from_1
+
+module _ (tables : FareTables) (state mid end : State) (before after : Accepted) (account : ℕ) where
+  pub tap_restored : (row : ℤ × TapRow) (tap : Tap) → Some tap ≡ tap_of_row row → before ≡ accepted_of state tap.account → with_archived_tap tables before tap ≡ Some after → account ≡ tap.account
+      → end ≡ insert mid account after → ((a : Accepted) → insert mid tap.account a ≡ insert state tap.account a) → with_tap_row tables state row ≡ Some end
+  tap_restored row tap read was taken own kept others =
+      ap (λ (o : Option Tap). o >>= λ t. with_archived_tap tables (accepted_of state t.account) t >>= λ a. Some (insert state t.account a)) (sym read)
+      ∙ ap (λ (b : Accepted). with_archived_tap tables b tap >>= λ a. Some (insert state tap.account a)) (sym was)
+      ∙ ap (λ (o : Option Accepted). o >>= λ a. Some (insert state tap.account a)) taken
+      ∙ ap Some (sym (others after) ∙ ap (λ n. insert mid n after) (sym own) ∙ sym kept)
+
+  pub fix_restored : (row : ℤ × FixRow) (fix : Fix) → Some fix ≡ fix_of_row row → before ≡ accepted_of state fix.account → with_archived_fix tables before fix ≡ Some after → account ≡ fix.account
+      → end ≡ insert mid account after → ((a : Accepted) → insert mid fix.account a ≡ insert state fix.account a) → with_fix_row tables state row ≡ Some end
+  fix_restored row fix read was taken own kept others =
+      ap (λ (o : Option Fix). o >>= λ f. with_archived_fix tables (accepted_of state f.account) f >>= λ a. Some (insert state f.account a)) (sym read)
+      ∙ ap (λ (b : Accepted). with_archived_fix tables b fix >>= λ a. Some (insert state fix.account a)) (sym was)
+      ∙ ap (λ (o : Option Accepted). o >>= λ a. Some (insert state fix.account a)) taken
+      ∙ ap Some (sym (others after) ∙ ap (λ n. insert mid n after) (sym own) ∙ sym kept)
+
+-- ---- the whole archive
+
+module _ (tables : FareTables) (taps : List (ℤ × TapRow)) (fixes : List (ℤ × FixRow)) (start : State) (none : start ≡ empty) where
+  behind_taps : restored tables taps fixes ≡ (with_tap_rows tables start taps >>= λ tapped. with_fix_rows tables tapped fixes >>= λ all. Some (entries all))
+  behind_taps = ap (λ s. with_tap_rows tables s taps >>= λ tapped. with_fix_rows tables tapped fixes >>= λ all. Some (entries all)) (sym none)
+
+  behind_fixes : (mid : State) → with_tap_rows tables start taps ≡ Some mid → restored tables taps fixes ≡ (with_fix_rows tables mid fixes >>= λ all. Some (entries all))
+  behind_fixes mid tapped = behind_taps ∙ ap (λ (o : Option State). o >>= λ tapped. with_fix_rows tables tapped fixes >>= λ all. Some (entries all)) tapped
+
+  pub tap_refused : with_tap_rows tables start taps ≡ None → restored tables taps fixes ≡ None
+  tap_refused refused = behind_taps ∙ ap (λ (o : Option State). o >>= λ tapped. with_fix_rows tables tapped fixes >>= λ all. Some (entries all)) refused
+
+  pub fix_refused : (mid : State) → with_tap_rows tables start taps ≡ Some mid → with_fix_rows tables mid fixes ≡ None → restored tables taps fixes ≡ None
+  fix_refused mid tapped refused = behind_fixes mid tapped ∙ ap (λ (o : Option State). o >>= λ all. Some (entries all)) refused
+
+  pub all_restored : (mid end : State) (list : List (ℕ × Accepted)) → with_tap_rows tables start taps ≡ Some mid → with_fix_rows tables mid fixes ≡ Some end → entries end ≡ list → restored tables taps fixes ≡ Some list
+  all_restored mid end list tapped fixed is = behind_fixes mid tapped ∙ ap (λ (o : Option State). o >>= λ all. Some (entries all)) fixed ∙ ap Some is

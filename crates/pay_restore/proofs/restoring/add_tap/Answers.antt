@@ -1,0 +1,21 @@
+use Rattle.std.proofs.Common.{sym, ◌∙◌}
+use Rattle.pay_restore.specs.Kept.{held}
+use Rattle.pay_restore.proofs.Steps.{still_from_1, tap_restored}
+use Rattle.pay_restore.proofs.restoring.add_tap.Goals as goal
+
+pub retake_tap-requires-clause-own : goal.retake_tap-requires-clause-own
+retake_tap-requires-clause-own g c = sym (c.take-account.ensures.own c.args.tables.now c.requires)
+
+pub keep-requires : goal.keep-requires
+keep-requires g c =
+    still_from_1 c.in-Some.tap.account (g.F.Fares.account c.take-account.result) (g.F.Fares.account c.retake_tap.new.account) c.in-Some.ensures.from_1
+    (c.take-account.ensures.own c.args.tables.now c.requires) c.retake_tap.ensures.same_account
+
+pub returns-clause-answer : goal.returns-clause-answer
+returns-clause-answer g c =
+    tap_restored c.args.tables.now (held g.F.Fares.accepted c.args.accounts.now.entries) (held g.F.Fares.accepted c.take-account.new.accounts.entries) (held g.F.Fares.accepted c.keep.new.accounts.entries)
+    (g.F.Fares.accepted c.take-account.result) (g.F.Fares.accepted c.retake_tap.new.account) (g.F.Fares.account c.retake_tap.new.account) c.args.row.now c.in-Some.tap c.in-Some.ensures.value c.take-account.ensures.accepted
+    c.in_ok-retake_tap.ensures.answer (c.retake_tap.ensures.same_account ∙ c.take-account.ensures.own c.args.tables.now c.requires) c.in_ok-keep.ensures.state c.take-account.ensures.others
+
+pub returns-clause-kept : goal.returns-clause-kept
+returns-clause-kept g c = c.in_ok-keep.ensures.kept c.args.tables.now c.retake_tap.ensures.priced_by (c.take-account.ensures.kept c.args.tables.now c.requires)

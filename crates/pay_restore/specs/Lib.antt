@@ -1,0 +1,4 @@
+pub mod Restored
+pub mod Kept
+pub mod Archives
+pub mod Words

@@ -1,0 +1,10 @@
+//! The accounts of an archive, by the rows of their taps and corrections.
+#![tactic(auto)]
+
+mod keeping;
+pub mod laws;
+mod reading;
+mod restoring;
+mod retaking;
+
+pub use restoring::restored;
