@@ -6,3 +6,8 @@ pub mod Settling
 pub mod Closing
 pub mod Histories
 pub mod Rows
+mod Sorting
+mod Ascending
+mod Gathering
+mod OneShard
+mod ClosedBy

@@ -1,2 +1,6 @@
 pub mod Close
 pub mod Words
+pub mod Faults
+pub mod Batches
+pub mod Gathers
+pub mod Closes

@@ -1,6 +1,6 @@
 //! What commands and closes come to, in whatever order. Each law is the contract of a function that does nothing: a
 //! caller whose proof needs a law calls its function.
-ghost use Rattle.std.specs.Prelude.{◌≡◌, ◌≢◌, ℕ, pos, true, List, map, Some, Ok, Err};
+ghost use Rattle.std.specs.Prelude.{◌≡◌, ◌≢◌, ℕ, pos, true, List, [], ◌∷◌, map, Some, Ok, Err};
 ghost use Rattle.std.specs.FinMap.{empty};
 ghost use Rattle.pay_day.specs.Words.{monday};
 ghost use Rattle.pay_tables.specs.Words.{FareTables};
@@ -9,9 +9,14 @@ ghost use Rattle.pay_account.specs.Words.{quote, sets};
 ghost use Rattle.pay_postings.specs.declared.fault.PostFault.{PostFault};
 ghost use Rattle.pay_postings.specs.declared.fault.PostFault.TheVariants as fault;
 ghost use Rattle.pay_postings.specs.Words.{total, net, shares_posted, last_of, AreKept, LedgerParts};
-ghost use Rattle.pay_shard.specs.Words.{is_quoted, replay};
-ghost use Rattle.pay_close.specs.Close.{new_books, close, IsLate, Event, history, postings_after, accepted_after, answered, AreQuotes};
+ghost use Rattle.pay_shard.specs.Words.{State, is_quoted, replay};
+ghost use Rattle.pay_shard.specs.declared.reply.Answer.{Answer};
+ghost use Rattle.pay_session.specs.Words.{Taken};
+ghost use Rattle.pay_close.specs.Batches.{gathered, IsWhole};
+ghost use Rattle.pay_close.specs.Closes.{posted_of};
+ghost use Rattle.pay_close.specs.Close.{Books, batch_of_all, new_books, close, IsLate, Event, history, postings_after, accepted_after, answered, AreQuotes};
 
+use pay_shard::Reply;
 use pay_tables::Tables;
 
 /// A close never finds that something else is due than was posted for the same version and day, nor that the archive has
@@ -63,3 +68,12 @@ pub fn kept()
 {
     pay_postings::laws::kept();
 }
+
+/// What is gathered of one shard that has all accounts is its batch, as it stands; so what is posted at a close over it is what a
+/// close of the machine says.
+pub fn one_shard()
+    ensures gathered { (tables : FareTables) (state : State) (day : ℕ) (one : Taken) (answer : Answer) → one.answer ≡ Some answer → answer.reply ≡ Reply.Quotes (batch_of_all tables state day)
+        → IsWhole 1 (one ∷ []) × (gathered (one ∷ []) ≡ batch_of_all tables state day) }
+    ensures closed { (tables : FareTables) (books : Books) (day : ℕ) (one : Taken) (answer : Answer) → one.answer ≡ Some answer → answer.reply ≡ Reply.Quotes (batch_of_all tables books.state day)
+        → posted_of books.ledger (one ∷ []) ≡ close tables books day }
+{}

@@ -1,4 +1,12 @@
-//! What the close of a day comes to, over a machine and a ledger.
+//! The close of a day: [`gather`] asks a desk for the quotes of all accounts, and [`close`] posts them into a ledger.
+//! [`LedgerTill`] does so for a session. `laws` says what commands and closes come to.
 #![tactic(auto)]
 
+mod fault;
+mod gathered;
 pub mod laws;
+mod ledger_till;
+
+pub use fault::NotClosed;
+pub use gathered::{Gathered, gather};
+pub use ledger_till::{LedgerTill, close};

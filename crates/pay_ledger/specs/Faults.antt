@@ -21,6 +21,12 @@ open_fault_name opened.Version = codes "Version"
 open_fault_name opened.Store = codes "Store"
 open_fault_name opened.Memory = codes "Memory"
 
+-- a refusal that a database gives, whatever it holds
+abbrev pub opens_by_store : OpenFault → Bool
+opens_by_store opened.Store = true
+opens_by_store opened.Memory = true
+opens_by_store _ = false
+
 abbrev pub ledger_fault_number : LedgerFault → ℕ
 ledger_fault_number Store = 43
 ledger_fault_number (Refused fault) = fault_number fault

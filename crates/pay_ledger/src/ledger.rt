@@ -12,7 +12,9 @@ ghost use Rattle.pay_records.specs.Rows.{LedgerRows, HoldsRows};
 ghost use Rattle.pay_ledger.specs.declared.fault.LedgerFault.TheVariants.{Refused};
 ghost use Rattle.pay_ledger.specs.Keeps.{IsLedger};
 ghost use Rattle.pay_ledger.specs.Opening.{IsOpened, IsWhy, MayLeaveOpened};
-ghost use Rattle.pay_ledger.specs.Faults.{is_of_store};
+ghost use Rattle.pay_records.specs.Tables.{no_schema};
+ghost use Rattle.pay_records.specs.Steps.{IsBlank};
+ghost use Rattle.pay_ledger.specs.Faults.{is_of_store, opens_by_store};
 ghost use Rattle.pay_ledger.specs.Steps.{IsRefused, Posts, IsAsBefore, MayLeave};
 
 use crate::fault::{LedgerFault, OpenFault};
@@ -55,6 +57,7 @@ impl<S: Alter> Ledger<S> {
         requires { conn.in_transaction ≡ false }
         ensures opened { IfOk result (λ ledger. HasCleanDisk (state S.Store ledger) → IsOpened (state S.Store conn) (state S.Store ledger)) }
         ensures refused { IfErr result (λ e. HasCleanDisk (state S.Store e.1) → IsWhy e.0 (state S.Store conn).now) }
+        ensures of_blank { IfErr result (λ e. HasCleanDisk (state S.Store e.1) → IsBlank no_schema (state S.Store conn).now → IsTrue (opens_by_store e.0)) }
         ensures kept { IfErr result (λ e. HasCleanDisk (state S.Store e.1) → IsTrue (state S.Store e.1).is_open → IsAsBefore (state S.Store conn) (state S.Store e.1)) }
         ensures autocommit { IfErr result (λ e. e.1.in_transaction ≡ false) }
         ensures survives { IfOk result (λ ledger. Survives (state S.Store conn) (state S.Store ledger) (MayLeaveOpened (state S.Store conn))) }

@@ -6,6 +6,7 @@ ghost use Rattle.pay_records.specs.Tables.{no_schema};
 ghost use Rattle.pay_records.specs.Kinds.{IsOfKind};
 ghost use Rattle.pay_records.specs.Steps.{IsBlank};
 ghost use Rattle.pay_records.specs.declared.kind.Kind.TheVariants as kind;
+ghost use Rattle.pay_ledger.specs.Faults.{opens_by_store};
 ghost use Rattle.pay_ledger.specs.Keeps.{IsLedger};
 ghost use Rattle.pay_ledger.specs.Steps.{Stays, GoesOn, IsAsBefore};
 ghost use Rattle.pay_ledger.specs.Opening.{nothing, IsWhy, IsOpened, MayLeaveOpened};
@@ -21,6 +22,7 @@ fn ready<S: Alter>(tx: &mut Transaction<'_, S>) -> Result<(), OpenFault>
     ensures blank { HasCleanDisk (state S.Store tx.new.conn.now) → OnOk result (IsBlank no_schema (state S.Store tx.old.conn.now).now → IsLedger (state S.Store tx.new.conn.now).now nothing) }
     ensures of_kind { HasCleanDisk (state S.Store tx.new.conn.now) → OnOk result (IsOfKind (state S.Store tx.old.conn.now).now kind.Ledger ⊎ IsOfKind (state S.Store tx.old.conn.now).now kind.Blank) }
     ensures refused { HasCleanDisk (state S.Store tx.new.conn.now) → IfErr result (λ fault. IsWhy fault (state S.Store tx.old.conn.now).now) }
+    ensures of_blank { HasCleanDisk (state S.Store tx.new.conn.now) → IfErr result (λ fault. IsBlank no_schema (state S.Store tx.old.conn.now).now → IsTrue (opens_by_store fault)) }
     ensures ok { OnOk result (GoesOn (state S.Store tx.old.conn.now) (state S.Store tx.new.conn.now)) }
     ensures err { OnErr result (Stays (state S.Store tx.old.conn.now) (state S.Store tx.new.conn.now)) }
 {
@@ -38,6 +40,7 @@ pub(crate) fn prepare<S: Alter>(conn: &mut Connection<S>) -> Result<(), OpenFaul
     ensures autocommit { conn.new.in_transaction ≡ false }
     ensures opened { HasCleanDisk (state S.Store conn.new) → OnOk result (IsOpened (state S.Store conn.old) (state S.Store conn.new)) }
     ensures refused { HasCleanDisk (state S.Store conn.new) → IfErr result (λ fault. IsWhy fault (state S.Store conn.old).now) }
+    ensures of_blank { HasCleanDisk (state S.Store conn.new) → IfErr result (λ fault. IsBlank no_schema (state S.Store conn.old).now → IsTrue (opens_by_store fault)) }
     ensures kept { HasCleanDisk (state S.Store conn.new) → IsTrue (state S.Store conn.new).is_open → OnErr result (IsAsBefore (state S.Store conn.old) (state S.Store conn.new)) }
     ensures survives { Survives (state S.Store conn.old) (state S.Store conn.new) (MayLeaveOpened (state S.Store conn.old)) }
 {

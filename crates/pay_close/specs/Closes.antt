@@ -1,0 +1,55 @@
+-- What a close does to a ledger.
+use Rattle.std.specs.Prelude.{◌≡◌, ◌⊎◌, ℕ, List, Result, Ok, Err, IsTrue, IfOk, IfErr, OnErr, ⊤}
+use Rattle.sqlite.specs.State.{State, HasCleanDisk, Survives}
+use Rattle.pay_account.specs.declared.posting.Posting.{Posting}
+use Rattle.pay_postings.specs.Words.{LedgerParts, posted}
+use Rattle.pay_postings.specs.declared.fault.PostFault.{PostFault}
+use Rattle.pay_ledger.specs.Faults.{is_of_store}
+use Rattle.pay_ledger.specs.Keeps.{IsLedger}
+use Rattle.pay_ledger.specs.Steps.{Posts, IsAsBefore, MayLeave}
+use Rattle.pay_ledger.specs.declared.fault.LedgerFault.TheVariants as ledger_fault
+use Rattle.pay_shard.specs.declared.desk.DeskFault.{DeskFault}
+use Rattle.pay_session.specs.Words.{Taken}
+use Rattle.pay_session.specs.declared.till.CloseFault.{CloseFault}
+use Rattle.pay_close.specs.Batches.{gathered, IsWhole}
+use Rattle.pay_close.specs.Faults.{close_fault_of_post, close_fault_of, is_outside}
+use Rattle.pay_close.specs.Gathers.{IsStopped}
+use Rattle.pay_close.specs.declared.fault.NotClosed.{NotClosed}
+use Rattle.pay_close.specs.declared.fault.NotClosed.TheVariants.{Desk, Ledger}
+
+-- what posting what was gathered comes to
+abbrev pub posted_of : LedgerParts → List Taken → Result (List Posting × LedgerParts) PostFault
+posted_of ledger put = posted ledger (gathered put).quotes (gathered put).sets
+
+-- A close over so many shards, by what was put for it, with `Why` for what a fault says of a ledger. Where it is answered all
+-- quotes came and were posted, and it is committed; where it is refused nothing was posted. Where the disk fails the
+-- connection may have shut, and what a crash leaves of it is all of the close or nothing.
+pub record ClosesBy {E : Type 0} (Why : LedgerParts → E → Type 0) (old new : State) (of : ℕ) (put : List Taken) (result : Result (List Posting) E) : Type 0 where
+  pub closed : HasCleanDisk new → IfOk result (λ given. IsWhole of put × Posts old new (gathered put).quotes (gathered put).sets given)
+  pub refused : HasCleanDisk new → IfErr result (λ fault. (ledger : LedgerParts) → IsLedger old.now ledger → Why ledger fault)
+  pub kept : HasCleanDisk new → IsTrue new.is_open → OnErr result (IsAsBefore old new)
+  pub survives : Survives old new (λ trees. IsWhole of put × MayLeave old (gathered put).quotes (gathered put).sets trees)
+
+-- why a ledger does not post: the store failed, or memory was wanting; or all quotes came, and it is what posting them is refused for
+abbrev pub IsWhy : ℕ → List Taken → LedgerParts → NotClosed → Type 0
+IsWhy of put ledger (Desk fault) = ⊤
+IsWhy of put ledger (Ledger fault) = IsTrue (is_of_store fault) ⊎ ((why : PostFault) × (fault ≡ ledger_fault.Refused why) × IsWhole of put × (posted_of ledger put ≡ Err why))
+
+-- the same of what a session's line says
+abbrev pub IsWhySaid : ℕ → List Taken → LedgerParts → CloseFault → Type 0
+IsWhySaid of put ledger fault = IsTrue (is_outside fault) ⊎ ((why : PostFault) × (fault ≡ close_fault_of_post why) × IsWhole of put × (posted_of ledger put ≡ Err why))
+
+-- a close as a session's line says it
+abbrev pub Closes : State → State → ℕ → List Taken → Result (List Posting) CloseFault → Type 0
+Closes old new of put = ClosesBy (IsWhySaid of put) old new of put
+
+abbrev pub as_said : Result (List Posting) NotClosed → Result (List Posting) CloseFault
+as_said (Ok given) = Ok given
+as_said (Err fault) = Err (close_fault_of fault)
+
+-- With `Refuses` for how a desk may refuse a command, and `Late` for whether a reply of it may be late.
+module _ (Refuses : DeskFault → Type 0) (Late : Type 0) where
+  -- a close, and where the desk failed the cause
+  pub record IsClosedSo (of : ℕ) (old new : State) (put : List Taken) (result : Result (List Posting) NotClosed) : Type 0 where
+    pub stopped : (fault : DeskFault) → result ≡ Err (Desk fault) → IsStopped Refuses Late of fault put
+    pub closes : ClosesBy (IsWhy of put) old new of put result

@@ -1,0 +1,167 @@
+//! What the shards of a desk give for the close of a day.
+ghost use Rattle.std.specs.Prelude.{◌≡◌, ◌≤◌, ◌<◌, [], OnOk, Err};
+ghost use Rattle.pay_day.specs.declared.limits.TheConstants.{FIRST_DAY, LAST_DAY};
+ghost use Rattle.pay_shard.specs.declared.asked.Asked.TheVariants.{Quotes};
+ghost use Rattle.pay_shard.specs.declared.limits.TheConstants.{MOST_SHARDS};
+ghost use Rattle.pay_shard.specs.Words.{AreKept};
+ghost use Rattle.pay_session.specs.Words.{MaySometimeRefuse, MaySometimeBeLate};
+ghost use Rattle.pay_close.specs.Batches.{in_order_by, in_order, both, brought, gathered};
+ghost use Rattle.pay_close.specs.Gathers.{told_of_reply, IsTold, IsAsked};
+
+use crate::fault::NotClosed;
+use pay_account::{Quote, Sets};
+use pay_shard::{Asked, Batch, Command, Desk, DeskFault, Reply};
+use std::alloc::{AllocError, Global};
+use std::marker::Model;
+
+/// What is gathered for the close of a day: what accounts owe, and all that they have accepted. In a contract it is the two
+/// lists, as of a shard's batch.
+#[derive(Drop)]
+pub struct Gathered {
+    quotes: Vec<Quote>,
+    sets: Vec<Sets>,
+}
+
+impl Model for Gathered {
+    ghost use Rattle.pay_shard.specs.Words.{BatchParts, batch_code};
+
+    ghost Value = { BatchParts };
+
+    ghost coded = { batch_code };
+
+    ghost view = { λ g. record { quotes = g.quotes.items; sets = g.sets.items } };
+}
+
+/// Puts quotes in ascending order of account.
+fn sort_quotes(quotes: &mut Vec<Quote>) -> Result<(), AllocError>
+    ensures { OnOk result (quotes.new.items ≡ in_order_by (λ q. q.account) quotes.old.items) }
+{
+    quotes.sort_by_key(|quote| quote.account())
+}
+
+/// Puts sets in ascending order of account.
+fn sort_sets(sets: &mut Vec<Sets>) -> Result<(), AllocError>
+    ensures { OnOk result (sets.new.items ≡ in_order_by (λ s. s.account) sets.old.items) }
+{
+    sets.sort_by_key(|set| set.account())
+}
+
+impl Gathered {
+    /// Of no account.
+    fn new(alloc: Global) -> Gathered
+        ensures { result ≡ record { quotes = []; sets = [] } }
+    {
+        Gathered {
+            quotes: Vec::new(alloc),
+            sets: Vec::new(alloc),
+        }
+    }
+
+    /// A shard's batch behind what there is. Where memory is wanting, what there is is of no further use.
+    fn add(&mut self, batch: Batch) -> Result<(), AllocError>
+        ensures { OnOk result (self.new ≡ both self.old batch) }
+    {
+        let (mut quotes, mut sets) = batch.into_parts();
+        self.quotes.append(&mut quotes)?;
+        self.sets.append(&mut sets)?;
+        Ok(())
+    }
+
+    /// In ascending order of account. Where memory is wanting, what there is is of no further use.
+    fn sort(&mut self) -> Result<(), AllocError>
+        ensures { OnOk result (self.new ≡ in_order self.old) }
+    {
+        sort_quotes(&mut self.quotes)?;
+        sort_sets(&mut self.sets)?;
+        Ok(())
+    }
+
+    /// What each account owes.
+    pub fn quotes(&self) -> &[Quote]
+        ensures { result.now ≡ self.now.quotes }
+    {
+        &self.quotes
+    }
+
+    /// All that each account has accepted.
+    pub fn sets(&self) -> &[Sets]
+        ensures { result.now ≡ self.now.sets }
+    {
+        &self.sets
+    }
+}
+
+/// The command that asks a shard for its quotes of a day.
+fn quotes_command(day: u32, shard: u8, of: u8) -> Command
+    requires day { (FIRST_DAY ≤ day) × (day ≤ LAST_DAY) }
+    requires shard { (shard < of) × (of ≤ MOST_SHARDS) }
+    ensures { result ≡ Quotes day shard of }
+{
+    match Command::of(Asked::Quotes { day, shard, of }) {
+        Some(command) => command,
+        None => unreachable!(),
+    }
+}
+
+/// The batch of a reply. A desk that gives another reply than quotes lacked the memory for them.
+fn batch_of_reply(reply: Reply) -> Result<Batch, NotClosed>
+    ensures { result ≡ told_of_reply reply }
+{
+    match reply {
+        Reply::Quotes(batch) => Ok(batch),
+        _ => Err(NotClosed::Desk(DeskFault::Memory)),
+    }
+}
+
+/// Asks a shard for its quotes of a day.
+fn ask<D: Desk>(desk: &mut D, day: u32, shard: u8, of: u8) -> Result<Batch, NotClosed>
+    requires day { (FIRST_DAY ≤ day) × (day ≤ LAST_DAY) }
+    requires shard { (shard < of) × (of ≤ MOST_SHARDS) }
+    requires of_desk { of ≡ (D.standing desk.old).shards }
+    ensures asked { IsAsked (MaySometimeRefuse D.standing D.MayRefuse (D.standing desk.old)) (MaySometimeBeLate D.standing D.MayBeLate (D.standing desk.old)) day of shard (D.taken desk.old) (D.taken desk.new) (D.transcript desk.new)
+        (λ put. IsTold (MaySometimeRefuse D.standing D.MayRefuse (D.standing desk.old)) (MaySometimeBeLate D.standing D.MayBeLate (D.standing desk.old)) 1 brought put result) }
+    ensures transcript { AreKept (D.transcript desk.old) (D.transcript desk.new) }
+    ensures same_desk { D.standing desk.new ≡ D.standing desk.old }
+{
+    let ticket = match desk.put(quotes_command(day, shard, of)) {
+        Ok(ticket) => ticket,
+        Err(fault) => return Err(NotClosed::Desk(fault)),
+    };
+    match desk.get(ticket) {
+        Ok(reply) => batch_of_reply(reply),
+        Err(fault) => Err(NotClosed::Desk(fault)),
+    }
+}
+
+/// Asks the shards of a desk, one after another, and puts what they bring one behind another.
+fn ask_all<D: Desk>(alloc: Global, desk: &mut D, day: u32) -> Result<Gathered, NotClosed>
+    requires { (FIRST_DAY ≤ day) × (day ≤ LAST_DAY) }
+    ensures asked { IsAsked (MaySometimeRefuse D.standing D.MayRefuse (D.standing desk.old)) (MaySometimeBeLate D.standing D.MayBeLate (D.standing desk.old)) day (D.standing desk.old).shards 0 (D.taken desk.old) (D.taken desk.new) (D.transcript desk.new)
+        (λ put. IsTold (MaySometimeRefuse D.standing D.MayRefuse (D.standing desk.old)) (MaySometimeBeLate D.standing D.MayBeLate (D.standing desk.old)) (D.standing desk.old).shards brought put result) }
+    ensures some { 1 ≤ (D.standing desk.old).shards }
+    ensures transcript { AreKept (D.transcript desk.old) (D.transcript desk.new) }
+    ensures same_desk { D.standing desk.new ≡ D.standing desk.old }
+{
+    let of = desk.shards();
+    let mut all = Gathered::new(alloc);
+    for shard in 0..of {
+        let batch = ask(desk, day, shard, of)?;
+        all.add(batch)?;
+    }
+    Ok(all)
+}
+
+/// Asks each shard of a desk for its quotes of a service day, counted from 1970-01-01: what they bring, together in ascending
+/// order of account. Each answer is got before the next shard is asked, and nothing is asked once one brought no quotes.
+/// `Desk` is the first fault of the desk, and `Ledger` want of memory for what was brought.
+pub fn gather<D: Desk>(alloc: Global, desk: &mut D, day: u32) -> Result<Gathered, NotClosed>
+    requires { (FIRST_DAY ≤ day) × (day ≤ LAST_DAY) }
+    ensures asked { IsAsked (MaySometimeRefuse D.standing D.MayRefuse (D.standing desk.old)) (MaySometimeBeLate D.standing D.MayBeLate (D.standing desk.old)) day (D.standing desk.old).shards 0 (D.taken desk.old) (D.taken desk.new) (D.transcript desk.new)
+        (λ put. IsTold (MaySometimeRefuse D.standing D.MayRefuse (D.standing desk.old)) (MaySometimeBeLate D.standing D.MayBeLate (D.standing desk.old)) (D.standing desk.old).shards gathered put result) }
+    ensures transcript { AreKept (D.transcript desk.old) (D.transcript desk.new) }
+    ensures same_desk { D.standing desk.new ≡ D.standing desk.old }
+{
+    let mut all = ask_all(alloc, desk, day)?;
+    all.sort()?;
+    Ok(all)
+}

@@ -1,0 +1,69 @@
+//! The close of a day over a desk and a ledger.
+ghost use Rattle.std.specs.Prelude.{◌≡◌, ◌≤◌};
+ghost use Rattle.sqlite.specs.Held.{state};
+ghost use Rattle.pay_day.specs.declared.limits.TheConstants.{FIRST_DAY, LAST_DAY};
+ghost use Rattle.pay_shard.specs.Words.{AreKept};
+ghost use Rattle.pay_session.specs.Words.{MaySometimeRefuse, MaySometimeBeLate};
+ghost use Rattle.pay_close.specs.Closes.{IsClosedSo};
+ghost use Rattle.pay_close.specs.Gathers.{IsAsked};
+
+use crate::fault::NotClosed;
+use crate::gathered::gather;
+use pay_account::Postings;
+use pay_ledger::Ledger;
+use pay_session::{CloseFault, Till};
+use pay_shard::Desk;
+use sqlite::Alter;
+use std::alloc::Global;
+
+/// Closes a service day, counted from 1970-01-01: asks each shard of a desk for its quotes, posts these in ascending order of
+/// account, and archives what they were priced by, all of it or nothing. The posting of each quote.
+pub fn close<D: Desk, S: Alter>(
+    alloc: Global,
+    desk: &mut D,
+    ledger: &mut Ledger<S>,
+    day: u32,
+) -> Result<Postings, NotClosed>
+    requires { (FIRST_DAY ≤ day) × (day ≤ LAST_DAY) }
+    ensures closed { IsAsked (MaySometimeRefuse D.standing D.MayRefuse (D.standing desk.old)) (MaySometimeBeLate D.standing D.MayBeLate (D.standing desk.old)) day (D.standing desk.old).shards 0 (D.taken desk.old) (D.taken desk.new) (D.transcript desk.new)
+        (λ put. IsClosedSo (MaySometimeRefuse D.standing D.MayRefuse (D.standing desk.old)) (MaySometimeBeLate D.standing D.MayBeLate (D.standing desk.old)) (D.standing desk.old).shards (state S.Store ledger.old) (state S.Store ledger.new) put result) }
+    ensures transcript { AreKept (D.transcript desk.old) (D.transcript desk.new) }
+    ensures same_desk { D.standing desk.new ≡ D.standing desk.old }
+{
+    let gathered = gather(alloc, desk, day)?;
+    let given = ledger.post(gathered.quotes(), gathered.sets())?;
+    Ok(Postings::from(given))
+}
+
+/// A till that closes days into a ledger.
+#[derive(Drop)]
+pub struct LedgerTill<'a, S: Alter> {
+    alloc: Global,
+    ledger: &'a mut Ledger<S>,
+}
+
+impl<'a, S: Alter> LedgerTill<'a, S> {
+    /// A till over a ledger.
+    pub fn new(alloc: Global, ledger: &'a mut Ledger<S>) -> LedgerTill<'a, S>
+        ensures same_ledger { result.ledger.ghost_name ≡ ledger.entry.ghost_name }
+        ensures ledger { result.ledger.now ≡ ledger.old }
+    {
+        LedgerTill { alloc, ledger }
+    }
+}
+
+impl<'a, S: Alter> Till for LedgerTill<'a, S> {
+    ghost use Rattle.std.specs.Borrow.{GName};
+    ghost use Rattle.sqlite.specs.Held.{state};
+    ghost use Rattle.pay_close.specs.Closes.{Closes};
+
+    ghost Origin = { GName };
+
+    ghost origin = { λ t. t.ledger.ghost_name };
+
+    ghost Closes = { λ before day of put result after. Closes (state S.Store before.ledger.now) (state S.Store after.ledger.now) of put result };
+
+    fn close<D: Desk>(&mut self, desk: &mut D, day: u32) -> Result<Postings, CloseFault> {
+        Ok(close(self.alloc, desk, self.ledger, day)?)
+    }
+}
