@@ -38,8 +38,10 @@ pub fn close<D: Desk, S: Alter>(
 /// A till that closes days into a ledger.
 #[derive(Drop)]
 pub struct LedgerTill<'a, S: Alter> {
-    alloc: Global,
-    ledger: &'a mut Ledger<S>,
+    /// Where the memory for what is gathered comes from.
+    pub alloc: Global,
+    /// The ledger that is posted to.
+    pub ledger: &'a mut Ledger<S>,
 }
 
 impl<'a, S: Alter> LedgerTill<'a, S> {

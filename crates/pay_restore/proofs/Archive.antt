@@ -1,5 +1,5 @@
 -- What is restored of rows is what they tell, and what was archived is restored.
-use Rattle.std.proofs.Common.{◌≡◌, inl, inr, ◌⊎◌, ◌↔◌, ℕ, Bool, true, false, ◌&&◌, T, List, [], ◌∷◌, map, length, Option, Some, None, unwrap_or, is_some, refl, sym, ap, ◌∙◌, subst, arith}
+use Rattle.std.proofs.Common.{◌≡◌, inl, inr, ◌⊎◌, ◌↔◌, ℕ, true, T, List, [], ◌∷◌, map, length, Option, Some, None, unwrap_or, is_some, refl, sym, ap, ◌∙◌, subst, arith}
 use Rattle.std.specs.Prelude.{ℤ}
 use Rattle.std.specs.FinMap as finite
 use Rattle.std.specs.Cmp.{nat_cmp_total}
@@ -28,17 +28,10 @@ use Rattle.pay_restore.specs.Restored.{tap_of_row, fix_of_row, with_tap_rows, wi
 use Rattle.pay_restore.specs.Archives.{tap_account, fix_account, tap_rows, fix_rows, IsArchivedTap, IsArchivedFix, IsArchive, IsSetOf, HasOf, AreRestored}
 use Rattle.pay_restore.proofs.Sets.{number_total, exact_numbers}
 use Rattle.pay_restore.proofs.Taken.{Fits}
+use Rattle.pay_restore.proofs.Values.{first, second}
 use Rattle.pay_restore.proofs.Rows.{taps, fixes, TapsTook, FixesTook, TapsBack, FixesBack, tap_back, fix_back, tap_rows_took, fix_rows_took, tap_rows_fit, fix_rows_fit}
 
 -- ---- in ascending order
-
-first : (a b : Bool) → T (a && b) → T a
-first true b p = tt
-first false b p = p
-
-second : (a b : Bool) → T (a && b) → T b
-second true b p = p
-second false b p = absurd p
 
 less : (o : Ordering) → T (is_lt o) → o ≡ Less
 less Less p = refl

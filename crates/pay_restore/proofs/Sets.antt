@@ -24,10 +24,10 @@ equal Greater e = absurd (cc)
 pub exact_numbers : CmpEqualImpliesEq number_cmp
 exact_numbers = exact_pairs nat_cmp nat_cmp exact_unsigned exact_unsigned
 
-same_number : (q k : ℕ × ℕ) → eq_by_cmp number_cmp q k ≡ true → q ≡ k
+pub same_number : (q k : ℕ × ℕ) → eq_by_cmp number_cmp q k ≡ true → q ≡ k
 same_number q k e = exact_numbers q k (equal (number_cmp q k) e)
 
-at_itself : (q k : ℕ × ℕ) → q ≡ k → eq_by_cmp number_cmp q k ≡ true
+pub at_itself : (q k : ℕ × ℕ) → q ≡ k → eq_by_cmp number_cmp q k ≡ true
 at_itself q k e = subst (λ n. eq_by_cmp number_cmp n k ≡ true) (sym e) ((eq_by_cmp_equiv number_total).refl k)
 
 -- it has what it had, and this

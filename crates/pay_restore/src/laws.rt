@@ -1,7 +1,8 @@
 //! What is restored of an archive. Each law is the contract of a function that does nothing: a caller whose proof needs a
 //! law calls its function.
-ghost use Rattle.std.specs.Prelude.{◌≡◌, ℕ, ℤ, List, Some, map as each};
+ghost use Rattle.std.specs.Prelude.{◌≡◌, ◌↔◌, ℕ, ℤ, List, Some, map as each};
 ghost use Rattle.std.specs.FinMap as map;
+ghost use Rattle.pay_numbered.specs.Words.{ByNumber, IsNumbered, IsIn};
 ghost use Rattle.pay_tables.specs.Words.{FareTables};
 ghost use Rattle.pay_taps.specs.declared.tap.Tap.{Tap};
 ghost use Rattle.pay_taps.specs.Words.{number as tap_number};
@@ -13,6 +14,8 @@ ghost use Rattle.pay_rows.specs.declared.row.FixRow.{FixRow};
 ghost use Rattle.pay_shard.specs.Words.{accepted_of};
 ghost use Rattle.pay_restore.specs.Restored.{tap_of_row, fix_of_row, restored};
 ghost use Rattle.pay_restore.specs.Archives.{tap_account, fix_account, tap_rows, fix_rows, IsArchive, IsSetOf, AreRestored};
+
+use pay_numbered::Numbered;
 
 /// Nothing is left out, and nothing made up: whatever is restored of rows is just the taps and corrections that they tell.
 pub fn nothing_is_lost()
@@ -36,4 +39,12 @@ pub fn restored_as_it_was()
     ensures { (taps : List Tap) (fixes : List Fix) (accounts : List (ℕ × Accepted)) → AreRestored taps fixes accounts
         → (a : ℕ) (accepted : Accepted) → IsSetOf tap_account tap_number taps a accepted.taps → IsSetOf fix_account fix_number fixes a accepted.fixes
         → accepted_of (map.from_entries accounts) a ≡ accepted }
+{}
+
+/// A set is just what a list has of an account where its values are those of the list that are the account's, in whatever
+/// order. So an account's `Sets`, beside an archive that has these of it, give what `restored_as_it_was` asks for.
+pub fn sets_by_values<T: Numbered>()
+    ensures { (account : T → ℕ) (most : ℕ) (list : List T) (a : ℕ) (set : ByNumber T) → IsNumbered T.number most set
+        → ((x : T) → IsIn (map.values set) x ↔ (IsIn list x × (account x ≡ a)))
+        → IsSetOf account T.number list a set }
 {}

@@ -111,6 +111,6 @@ pub fn restored<F: Fares>(
 {
     let mut accounts: BTreeMap<u32, F> = BTreeMap::new(alloc);
     add_taps(alloc, tables, &mut accounts, taps)?;
-    if taps.len() > 1 { add_fixes(alloc, tables, &mut accounts, fixes)?; }
+    add_fixes(alloc, tables, &mut accounts, fixes)?;
     Ok(in_order(alloc, accounts)?)
 }
