@@ -98,6 +98,25 @@ class Due(NamedTuple):
     day: int
 
 
+class Close(NamedTuple):
+    """The close of a day: what is due of its week through it is posted."""
+
+    day: int
+
+
+class Posting(NamedTuple):
+    """What was due of an account's week when it was posted, and what was charged for it; both in all and of it to each operator."""
+
+    account: int
+    week: int
+    through: int
+    version: int
+    due: int
+    shares: dict
+    amount: int
+    amounts: dict
+
+
 class Account(NamedTuple):
     """What is kept of an account: its accepted taps and corrections, by their numbers."""
 
@@ -392,10 +411,51 @@ def quoted(fares, accounts, asked):
     return " ".join(map(str, words)) + "\n"
 
 
-def reply(fares, accounts, command):
-    """The reply to a tap or a correction, which is kept in `accounts` if it is accepted, or to DUE."""
+def is_quoted(account, through):
+    """Whether an account has an accepted tap or Fill on a day of the week of a day so far, voided or withdrawn or not."""
+    instants = [tap.utc for tap in account.taps.values()] + [fix.words[0] for fix in account.fixes.values() if fix.form == "FILL"]
+    return any(monday(through) <= service_day(utc) <= through for utc in instants)
+
+
+def posting(fares, number, account, through, before):
+    """What is due of an account's week through a day as a posting behind those of that account and week; or why it is refused."""
+    week, version = monday(through), len(account.taps) + len(account.fixes)
+    due, shares = owed(fares, account, through)
+    if before:
+        last = before[-1]
+        if version < last.version or through < last.through:
+            return "42 StaleQuote"
+        if (version, through) == (last.version, last.through):
+            return last if (due, shares) == (last.due, last.shares) else "47 QuoteDiffers"
+    amounts = {operator: pence - sum(it.amounts[operator] for it in before) for operator, pence in shares.items()}
+    return Posting(number, week, through, version, due, shares, due - sum(it.amount for it in before), amounts)
+
+
+def closed(fares, accounts, ledger, day):
+    """The reply to CLOSE. What is posted is kept in `ledger`, in lists by account and week, unless one of the accounts is refused."""
+    given = []
+    for number, account in sorted(accounts.items()):
+        if is_quoted(account, day):
+            given.append(posting(fares, number, account, day, ledger.get((number, monday(day)), [])))
+            if isinstance(given[-1], str):
+                return f"NO {given[-1]}\n"
+    lines = []
+    for it in given:
+        before = ledger.setdefault((it.account, it.week), [])
+        if it not in before[-1:]:
+            before.append(it)
+        words = ["PAY", it.account, it.week, it.through, it.version, it.due, it.amount]
+        words += (f"{operator}={pence}" for operator, pence in it.amounts.items() if pence)
+        lines.append(" ".join(map(str, words)) + "\n")
+    return "".join(lines) + f"DONE {day} {len(given)}\n"
+
+
+def reply(fares, accounts, command, ledger=None):
+    """The reply to a tap or a correction, which is kept in `accounts` if it is accepted, or to DUE; or to CLOSE, which is posted in `ledger`."""
     if isinstance(command, Due):
         return quoted(fares, accounts, command)
+    if isinstance(command, Close):
+        return closed(fares, accounts, ledger, command.day)
     account = accounts.get(command.account, Account({}, {}))
     refused = refusal(fares, account, command)
     if refused:
@@ -440,9 +500,11 @@ def statement(fares, accounts, number, day):
 
 
 def line(command):
-    """The spelling of a tap, a correction or a question."""
+    """The spelling of a tap, a correction, a question or a close."""
     if isinstance(command, Due):
         words = ("DUE", *command)
+    elif isinstance(command, Close):
+        words = ("CLOSE", command.day)
     elif isinstance(command, Tap):
         words = ("TAP", *command.number, command.account, command.utc, command.place, command.kind)
     else:

@@ -1,3 +1,4 @@
 mod Counting
+pub mod Openings
 pub mod Runs
 mod Statements

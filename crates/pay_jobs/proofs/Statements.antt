@@ -1,5 +1,5 @@
 -- How the job statement ends where there is no page, and how where there is one, by how it was written.
-use Rattle.std.proofs.Common.{◌≡◌, inl, inr, ℕ, List, Option, Some, IfSome, Result, Ok, Err, OnOk, OnErr, IfErr, refl, sym, subst}
+use Rattle.std.proofs.Common.{◌≡◌, inl, inr, ℕ, List, Option, None, IfSome, Result, Ok, Err, OnOk, OnErr, IfErr, refl, sym, subst}
 use Rattle.std.proofs.lemmas.Option.{IfSome_then}
 use Rattle.std.specs.Io.KnownBytes.{Appends}
 use Rattle.pay_account.specs.declared.shown.Line.{Line}
@@ -26,7 +26,7 @@ not_told Memory Input fares zone remaining left is breaks = absurd is
 not_told Memory Output fares zone remaining left is breaks = absurd is
 
 -- the week was told, and memory for its text was refused
-pub not_spelled : (fault : Fault) (fares zone : List ℕ) (account day : ℕ) (remaining left : Option (List ℕ)) (m : Machine) (lines : List Line) → IsWantOfMemory fault → Begins fares zone m
+pub not_spelled : (fault : Fault) (fares zone : List ℕ) (account day : ℕ) (remaining left : Option (List ℕ)) (m : Machine) (lines : List Line) → IsWantOfMemory fault → Begins fares zone None m
     → IfSome remaining (λ input. TellsWeek m input left account day lines) → PageFails fault fares zone remaining left
 not_spelled fault fares zone account day remaining left m lines is begins tells =
     not_told Memory fault fares zone remaining left is record { machine = m; begins = begins; fails = IfSome_then remaining tells (λ input t. t.unread) }

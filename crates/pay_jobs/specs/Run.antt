@@ -1,35 +1,38 @@
 -- How the job run ends, by the text of its fare file, the text of its zone, and its input.
-use Rattle.std.specs.Prelude.{◌≡◌, ◌⊎◌, ℕ, Bool, List, Ok, Err, Option, None, IfSome}
+use Rattle.std.specs.Prelude.{◌≡◌, ◌⊎◌, ℕ, Bool, List, Ok, Err, Option, None, Some, IfSome, ⊤}
 use Rattle.std.specs.FinMap as map
 use Rattle.jiff.specs.Placed.{IsPosixZone}
 use Rattle.jiff.specs.ZoneView.{plain_zone}
 use Rattle.jiff.specs.Words.{read_whole}
 use Rattle.pay_tables.specs.Words.{fare_text, FareTables, fault_number, fault_name}
 use Rattle.pay_tables.specs.declared.fault.FareFileFault.{FareFileFault}
-use Rattle.pay_jobs.specs.Faults.{IsRefusal, IsWantOfMemory}
+use Rattle.pay_jobs.specs.Faults.{IsRefusal, IsWantOfMemory, IsWantOfLedger}
+use Rattle.pay_postings.specs.Words.{LedgerParts}
+use Rattle.pay_ledger.specs.Opening.{nothing}
 use Rattle.pay_run.specs.Words.{Machine, Ends, FailsSo}
 use Rattle.pay_jobs.specs.declared.fault.Fault.{Fault}
 use Rattle.pay_jobs.specs.declared.fault.Fault.TheVariants.{Usage, CannotReadFares, BadZone, Input, Output, Refused}
 use Rattle.pay_session.specs.declared.stop.SessionFault.{SessionFault}
 use Rattle.pay_session.specs.declared.stop.SessionFault.TheVariants.{Read, Write}
 
--- a machine that has accepted nothing, with the fare file that the first text says, and the zone of the second, a POSIX rule
-pub record Begins (fares zone : List ℕ) (m : Machine) : Type 0 where
+-- A machine that has accepted nothing, with the fare file that the first text says, and the zone of the second, a POSIX rule; and with this ledger, or with none.
+pub record Begins (fares zone : List ℕ) (ledger : Option LedgerParts) (m : Machine) : Type 0 where
   pub says : fare_text fares ≡ Ok m.tables
   pub rule : IsPosixZone zone (plain_zone m.zone)
   pub new : m.accounts ≡ map.empty
+  pub posted : m.ledger ≡ ledger
 
 -- The job ended by itself: the session of such a machine did.
 pub record RunEnds (fares zone : List ℕ) (remaining left held written : Option (List ℕ)) (answered : ℕ) (quit lacked_memory : Bool) : Type 0 where
   pub machine : Machine
-  pub begins : Begins fares zone machine
-  pub ends : IfSome remaining (λ input. Ends machine input left held written answered quit lacked_memory)
+  pub begins : Begins fares zone (Some nothing) machine
+  pub ends : IfSome remaining (λ input. Ends machine input left held written (λ _. ⊤) answered quit lacked_memory)
 
 -- the session of such a machine was broken off
 pub record SessionFails (fault : SessionFault) (fares zone : List ℕ) (remaining left held written : Option (List ℕ)) : Type 0 where
   pub machine : Machine
-  pub begins : Begins fares zone machine
-  pub fails : IfSome remaining (λ input. FailsSo fault machine input left held written)
+  pub begins : Begins fares zone (Some nothing) machine
+  pub fails : IfSome remaining (λ input. FailsSo fault machine input left held written (λ _. ⊤))
 
 -- a refusal of the fare file, or want of memory
 abbrev pub IsRefused : Fault → List ℕ → Type 0
@@ -45,7 +48,7 @@ IsUntouched remaining left held written = (left ≡ remaining) × (written ≡ h
 
 -- how the job failed, by its fault
 abbrev pub RunFails : Fault → List ℕ → List ℕ → Option (List ℕ) → Option (List ℕ) → Option (List ℕ) → Option (List ℕ) → Type 0
-RunFails (Refused number name) fares zone remaining left held written = IsRefused (Refused number name) fares × IsUntouched remaining left held written
+RunFails (Refused number name) fares zone remaining left held written = (IsRefused (Refused number name) fares ⊎ IsWantOfLedger (Refused number name)) × IsUntouched remaining left held written
 RunFails BadZone fares zone remaining left held written = IsBadZone fares zone × IsUntouched remaining left held written
 RunFails Input fares zone remaining left held written = (answered : ℕ) × SessionFails (Read answered) fares zone remaining left held written
 RunFails Output fares zone remaining left held written = (answered : ℕ) × SessionFails (Write answered) fares zone remaining left held written

@@ -1,5 +1,5 @@
 -- How the job statement ends, by the text of its fare file, the text of its zone, its account and day, and its input.
-use Rattle.std.specs.Prelude.{◌≡◌, ◌⊎◌, ℕ, List, Option, IfSome}
+use Rattle.std.specs.Prelude.{◌≡◌, ◌⊎◌, ℕ, List, Option, None, IfSome}
 use Rattle.std.specs.Io.KnownBytes.{Appends}
 use Rattle.pay_account.specs.declared.shown.Line.{Line}
 use Rattle.pay_statement.specs.Words.{statement_text}
@@ -17,7 +17,7 @@ use Rattle.pay_run.specs.declared.week.WeekFault.TheVariants.{Session, Memory}
 -- the statement of an account's week, by a machine that has begun with the texts and answered the input
 pub record IsPage (fares zone : List ℕ) (account day : ℕ) (remaining left : Option (List ℕ)) (text : List ℕ) : Type 0 where
   pub machine : Machine
-  pub begins : Begins fares zone machine
+  pub begins : Begins fares zone None machine
   pub lines : List Line
   pub tells : IfSome remaining (λ input. TellsWeek machine input left account day lines)
   pub says : text ≡ statement_text machine.tables lines
@@ -25,7 +25,7 @@ pub record IsPage (fares zone : List ℕ) (account day : ℕ) (remaining left : 
 -- such a machine did not tell the week
 pub record WeekBreaks (fault : WeekFault) (fares zone : List ℕ) (remaining left : Option (List ℕ)) : Type 0 where
   pub machine : Machine
-  pub begins : Begins fares zone machine
+  pub begins : Begins fares zone None machine
   pub fails : IfSome remaining (λ input. FailsSo fault machine input left)
 
 -- why there is no page, by the fault: before the input was read, while it was, or for want of memory

@@ -2,7 +2,9 @@
 ghost use Rattle.std.specs.Prelude.{◌≡◌};
 ghost use Rattle.pay_jobs.specs.Faults.{IsRefusal, IsWantOfMemory, IsWeekFault, status_of, stream_fault};
 ghost use Rattle.pay_tables.specs.Words.{fault_number, fault_name};
+ghost use Rattle.pay_ledger.specs.Faults.{open_fault_number, open_fault_name};
 
+use pay_ledger::OpenFault;
 use pay_run::WeekFault;
 use pay_session::SessionFault;
 use pay_tables::FareFileFault;
@@ -59,6 +61,17 @@ impl From<FareFileFault> for Fault {
     ghost from_gives = { λ of fault. IsRefusal fault (fault_number of) (fault_name of) };
 
     fn from(fault: FareFileFault) -> Fault {
+        Fault::Refused {
+            number: fault.number(),
+            name: fault.name(),
+        }
+    }
+}
+
+impl From<OpenFault> for Fault {
+    ghost from_gives = { λ of fault. IsRefusal fault (open_fault_number of) (open_fault_name of) };
+
+    fn from(fault: OpenFault) -> Fault {
         Fault::Refused {
             number: fault.number(),
             name: fault.name(),

@@ -4,19 +4,27 @@ ghost use Rattle.std.specs.Arc.{arc_value};
 ghost use Rattle.jiff.specs.Placed.{IsPosixZone};
 ghost use Rattle.jiff.specs.Words.{read_whole};
 ghost use Rattle.jiff.specs.ZoneView.{plain_zone};
+ghost use Rattle.sqlite.specs.Held.{state};
+ghost use Rattle.sqlite.specs.Steps.{over_memory};
 ghost use Rattle.pay_tables.specs.Words.{fare_text};
+ghost use Rattle.pay_ledger.specs.Keeps.{IsLedger};
+ghost use Rattle.pay_ledger.specs.Opening.{nothing};
+ghost use Rattle.pay_jobs.specs.Faults.{IsWantOfLedger};
 ghost use Rattle.pay_jobs.specs.Run.{IsRefused, RunEnds, RunFails};
 
 use crate::fault::Fault;
 use jiff::tz::TimeZone;
+use pay_ledger::Ledger;
 use pay_run::run_lines;
 use pay_session::Done;
 use pay_tables::Tables;
+use sqlite::{Connection, MemStore};
 use std::alloc::{AllocError, Global};
 use std::io::{BufRead, Write};
 use std::sync::Arc;
 
-/// Answers the lines of a reader by the fares of a fare file and the clock of a zone, which are given as texts.
+/// Answers the lines of a reader by the fares of a fare file and the clock of a zone, which are given as texts. Days are
+/// closed into a ledger in memory, which ends with the session.
 /// The fare file is read before the zone, and both before the first line.
 pub fn run_texts<R: BufRead, W: Write>(
     alloc: Global,
@@ -32,8 +40,21 @@ pub fn run_texts<R: BufRead, W: Write>(
 {
     let tables = read_fares(alloc, fares)?;
     let zone = read_zone(zone)?;
-    let done = run_lines(alloc, reader, writer, &zone, tables)?;
+    let mut ledger = new_ledger(alloc)?;
+    let done = run_lines(alloc, reader, writer, &zone, tables, &mut ledger)?;
     Ok(done)
+}
+
+/// A ledger in memory without postings.
+fn new_ledger(alloc: Global) -> Result<Ledger<MemStore>, Fault>
+    ensures ok { IfOk result (λ ledger. IsLedger (state over_memory ledger).now nothing) }
+    ensures err { IfErr result IsWantOfLedger }
+{
+    let conn = Connection::open_in_memory(alloc)?;
+    match Ledger::open(alloc, conn) {
+        Ok(ledger) => Ok(ledger),
+        Err((fault, _)) => Err(Fault::from(fault)),
+    }
 }
 
 /// The fare file that a text says.

@@ -1,4 +1,7 @@
 pub mod Journals
+pub mod Closes
+pub mod Tills
+pub mod LedgerCloses
 pub mod OneRequest
 pub mod AllRequests
 pub mod WholeRuns

@@ -1,3 +1,4 @@
+pub mod Ledgers
 pub mod Machine
 pub mod Outcomes
 pub mod Run

@@ -11,7 +11,7 @@ use Rattle.pay_run.specs.Run.{FailsSo}
 use Rattle.pay_run.specs.declared.week.WeekFault.{WeekFault}
 use Rattle.pay_run.specs.declared.week.WeekFault.TheVariants.{Session, Memory}
 
--- The session ended by itself, and memory was refused for nothing. These are the journeys of the week that holds a day, of
+-- The session, in which nothing is closed, ended by itself, and memory was refused for nothing. These are the journeys of the week that holds a day, of
 -- what the account has accepted of all that the input asks for.
 pub record TellsWeek (m : Machine) (input : List ℕ) (left : Option (List ℕ)) (account day : ℕ) (told : List Line) : Type 0 where
   pub lines : told ≡ week_lines m.tables (accepted_of (outcome [] m (requests_of input)).after.accounts account) (monday day)
@@ -19,5 +19,5 @@ pub record TellsWeek (m : Machine) (input : List ℕ) (left : Option (List ℕ))
 
 -- how they were not told: the session did not end by itself, or it did, and memory for a line or for the journeys was refused
 abbrev pub WeekFails : WeekFault → Machine → List ℕ → Option (List ℕ) → Type 0
-WeekFails (Session fault) m input left = FailsSo fault m input left None None
+WeekFails (Session fault) m input left = FailsSo fault m input left None None (λ ledger. ledger ≡ None)
 WeekFails Memory m input left = left ≡ Some (unread input)

@@ -1,5 +1,6 @@
-//! A session of lines over one shard of its own: [`run_lines`] answers those of a reader, beginning with no accounts; after such
-//! a run [`week_by_lines`] tells what an account has of a week. `laws` says what the machine means by which they are answered.
+//! A session of lines over one shard of its own: [`run_lines`] answers those of a reader, beginning with no accounts, and closes
+//! days into a ledger; [`week_by_lines`] tells what an account has of a week after such lines, and closes nothing. `laws` says
+//! what the machine means by which they are answered.
 #![tactic(auto)]
 
 pub mod laws;

@@ -1,5 +1,5 @@
 //! The journeys of an account's week, by the lines of a reader.
-ghost use Rattle.std.specs.Prelude.{◌≡◌, ◌≤◌, IfOk, IfErr, IfSome};
+ghost use Rattle.std.specs.Prelude.{◌≡◌, ◌≤◌, None, IfOk, IfErr, IfSome};
 ghost use Rattle.std.specs.Arc.{arc_value};
 ghost use Rattle.pay_day.specs.Words.{IsDay, monday};
 ghost use Rattle.pay_account.specs.Words.{week_lines};
@@ -75,9 +75,9 @@ pub fn week_by_lines<R: BufRead>(
 ) -> Result<Lines, WeekFault>
     requires { IsDay day }
     ensures week { IfOk result (λ lines. IfSome (R.remaining reader.old) (λ input.
-        TellsWeek (new_machine zone.now (arc_value tables)) input (R.remaining reader.new) account day lines)) }
+        TellsWeek (new_machine zone.now (arc_value tables) None) input (R.remaining reader.new) account day lines)) }
     ensures fails { IfErr result (λ fault. IfSome (R.remaining reader.old) (λ input.
-        WeekFails fault (new_machine zone.now (arc_value tables)) input (R.remaining reader.new))) }
+        WeekFails fault (new_machine zone.now (arc_value tables) None) input (R.remaining reader.new))) }
 {
     let mut desk = new_desk(alloc, tables);
     let ended = session(reader, &mut io::sink(), zone, &mut desk, &mut NoTill);

@@ -1,8 +1,10 @@
-use Rattle.std.proofs.Common.{refl}
+use Rattle.std.proofs.Common.{Some, refl}
 use Rattle.std.proofs.lemmas.Result.{err_from_is_err_and}
 use Rattle.std.specs.Arc.{arc_value}
+use Rattle.sqlite.proofs.Callers.{memory_is_clean}
+use Rattle.pay_ledger.specs.Opening.{nothing}
 use Rattle.pay_run.specs.Words.{new_machine}
-use Rattle.pay_jobs.proofs.Runs.{RunFails_session}
+use Rattle.pay_jobs.proofs.Runs.{RunFails_session, ends_alone, fails_alone}
 use Rattle.pay_jobs.proofs.run.run_texts.Goals as goal
 
 pub returns-in_err-zone-clause-fails : goal.returns-in_err-zone-clause-fails
@@ -15,14 +17,14 @@ pub returns-in_err-done-clause-fails : goal.returns-in_err-done-clause-fails
 returns-in_err-done-clause-fails g c =
     let p = err_from_is_err_and c.from_residual-in_err-done.result c.from_residual-in_err-done.ensures.1 in
     rw (p.1, p.2) (RunFails_session _ _ _ _ _ _ _ record {
-      machine = new_machine c.in_ok-zone.zone (arc_value c.in_ok-tables.tables);
-      begins = record { says = c.in_ok-tables.ensures.ok; rule = c.in_ok-zone.ensures.ok; new = refl };
-      fails = c.in_err-done.ensures.fails;
+      machine = new_machine c.in_ok-zone.zone (arc_value c.in_ok-tables.tables) (Some nothing);
+      begins = record { says = c.in_ok-tables.ensures.ok; rule = c.in_ok-zone.ensures.ok; new = refl; posted = refl };
+      fails = fails_alone _ _ _ _ _ _ _ (c.in_err-done.ensures.fails (memory_is_clean c.in_ok-ledger.ledger, refl) nothing c.in_ok-ledger.ensures.ok);
     })
 
 pub returns-clause-ends : goal.returns-clause-ends
 returns-clause-ends g c = record {
-  machine = new_machine c.in_ok-zone.zone (arc_value c.in_ok-tables.tables);
-  begins = record { says = c.in_ok-tables.ensures.ok; rule = c.in_ok-zone.ensures.ok; new = refl };
-  ends = c.in_ok-done.ensures.ends;
+  machine = new_machine c.in_ok-zone.zone (arc_value c.in_ok-tables.tables) (Some nothing);
+  begins = record { says = c.in_ok-tables.ensures.ok; rule = c.in_ok-zone.ensures.ok; new = refl; posted = refl };
+  ends = ends_alone _ _ _ _ _ _ _ _ _ (c.in_ok-done.ensures.ends (memory_is_clean c.in_ok-ledger.ledger, refl) nothing c.in_ok-ledger.ensures.ok);
 }

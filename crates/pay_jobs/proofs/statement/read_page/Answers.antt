@@ -1,4 +1,4 @@
-use Rattle.std.proofs.Common.{◌∙◌, ap, sym, refl, Ok}
+use Rattle.std.proofs.Common.{◌∙◌, ap, sym, refl, None, Ok}
 use Rattle.std.proofs.lemmas.Result.{err_from_is_err_and}
 use Rattle.std.specs.Arc.{arc_value}
 use Rattle.pay_statement.specs.Words.{statement_text}
@@ -16,20 +16,20 @@ pub returns-in_err-lines-clause-fails : goal.returns-in_err-lines-clause-fails
 returns-in_err-lines-clause-fails g c =
     let p = err_from_is_err_and c.from_residual-in_err-lines.result c.from_residual-in_err-lines.ensures.1 in
     rw p.1 (not_told _ _ _ _ _ _ p.2 record {
-      machine = new_machine c.in_ok-zone.zone (arc_value c.in_ok-shared.shared);
-      begins = record { says = c.in_ok-tables.ensures.ok ∙ ap Ok (sym c.in_ok-shared.ensures); rule = c.in_ok-zone.ensures.ok; new = refl };
+      machine = new_machine c.in_ok-zone.zone (arc_value c.in_ok-shared.shared) None;
+      begins = record { says = c.in_ok-tables.ensures.ok ∙ ap Ok (sym c.in_ok-shared.ensures); rule = c.in_ok-zone.ensures.ok; new = refl; posted = refl };
       fails = c.in_err-lines.ensures.fails;
     })
 
 pub returns-in_err-page-clause-fails : goal.returns-in_err-page-clause-fails
 returns-in_err-page-clause-fails g c =
     let p = err_from_is_err_and c.from_residual-in_err-page.result c.from_residual-in_err-page.ensures.1 in
-    rw p.1 (not_spelled _ _ _ _ _ _ _ (new_machine c.in_ok-zone.zone (arc_value c.in_ok-shared.shared)) _ p.2 (record { says = c.in_ok-tables.ensures.ok ∙ ap Ok (sym c.in_ok-shared.ensures); rule = c.in_ok-zone.ensures.ok; new = refl }) c.in_ok-lines.ensures.week)
+    rw p.1 (not_spelled _ _ _ _ _ _ _ (new_machine c.in_ok-zone.zone (arc_value c.in_ok-shared.shared) None) _ p.2 (record { says = c.in_ok-tables.ensures.ok ∙ ap Ok (sym c.in_ok-shared.ensures); rule = c.in_ok-zone.ensures.ok; new = refl; posted = refl }) c.in_ok-lines.ensures.week)
 
 pub returns-clause-page : goal.returns-clause-page
 returns-clause-page g c = record {
-  machine = new_machine c.in_ok-zone.zone (arc_value c.in_ok-shared.shared);
-  begins = record { says = c.in_ok-tables.ensures.ok ∙ ap Ok (sym c.in_ok-shared.ensures); rule = c.in_ok-zone.ensures.ok; new = refl };
+  machine = new_machine c.in_ok-zone.zone (arc_value c.in_ok-shared.shared) None;
+  begins = record { says = c.in_ok-tables.ensures.ok ∙ ap Ok (sym c.in_ok-shared.ensures); rule = c.in_ok-zone.ensures.ok; new = refl; posted = refl };
   lines = c.in_ok-lines.lines;
   tells = c.in_ok-lines.ensures.week;
   says = c.in_ok-page.ensures ∙ ap (statement_text c.deref.result.now) c.as_slice.ensures ∙ ap (λ tables. statement_text tables c.in_ok-lines.lines) (c.deref.ensures ∙ sym c.in_ok-shared.ensures);

@@ -1,0 +1,21 @@
+-- A ledger in a database that is empty, and why there is none.
+use Rattle.std.proofs.Common.{inl, inr}
+use Rattle.std.specs.Prelude.{IsTrue}
+use Rattle.sqlite.specs.State.{State}
+use Rattle.sqlite.specs.Steps.{IsEmpty}
+use Rattle.pay_records.specs.Tables.{no_schema}
+use Rattle.pay_records.specs.Steps.{IsBlank}
+use Rattle.pay_ledger.specs.Faults.{open_fault_number, open_fault_name, opens_by_store}
+use Rattle.pay_ledger.specs.declared.fault.OpenFault.{OpenFault}
+use Rattle.pay_ledger.specs.declared.fault.OpenFault.TheVariants.{NotALedger, Version, Store, Memory}
+use Rattle.pay_jobs.specs.Faults.{IsRefusal, IsWantOfLedger}
+use Rattle.pay_jobs.specs.declared.fault.Fault.{Fault}
+
+pub is_blank : (s : State) → IsEmpty s → IsBlank no_schema s.now
+is_blank s empty = record { schema_is = empty.2; empty = tt }
+
+pub is_want_of_ledger : (why : OpenFault) (fault : Fault) → IsTrue (opens_by_store why) → IsRefusal fault (open_fault_number why) (open_fault_name why) → IsWantOfLedger fault
+is_want_of_ledger Store fault by_store told = inl told
+is_want_of_ledger Memory fault by_store told = inr told
+is_want_of_ledger NotALedger fault by_store told = absurd (cc)
+is_want_of_ledger Version fault by_store told = absurd (cc)
