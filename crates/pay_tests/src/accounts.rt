@@ -30,6 +30,7 @@ fn sent<F: Fares>(account: &mut F, tables: &Tables, tap: &Tap) -> Result<Priced,
 fn fixed<F: Fares>(account: &mut F, tables: &Tables, fix: &Fix) -> Result<Priced, FixFault>
     requires own { fix.now.account ≡ F.account account.old }
     requires priced_by { F.IsPricedBy tables.now account.old }
+    ensures { F.account account.new ≡ F.account account.old }
 {
     match account.fix(tables, *fix) {
         Err(FixFault::Memory) => account.fix(tables, *fix),
@@ -152,7 +153,9 @@ pub fn expect_fixed<R: Abort>(
     seq: u32,
     what: What,
     named: (u32, u64),
-) {
+)
+    ensures { account.new.0 ≡ account.old.0 }
+{
     let fix = Fix {
         account: account.number(),
         staff: 3,
@@ -168,38 +171,28 @@ pub fn expect_fixed<R: Abort>(
     expect_same(rt, fixed(account, tables, &fix), Ok(priced));
 }
 
-// A forgotten touch out is filled in, money is given back, the Fill is withdrawn, and the tap taken out.
+/// Account 7 after six items: a forgotten touch out is filled in, money is given back, the Fill is withdrawn, and the tap
+/// taken out, and then one that there is not.
+pub fn corrected<R: Abort + AllocGlobal>(rt: &R, tables: &Tables) -> Account {
+    let mut account: Account = Fares::new(rt.alloc(), 7);
+    let entry = tap_at(rt, 1, 25_200, 10, Kind::In);
+    let out = What::Fill(tap_at(rt, 2, 27_000, 12, Kind::Out).stamp, 12, Kind::Out);
+    let credit = What::Credit(Credit::from_parts(MONDAY, 100).expect(rt, "a credit"));
+    expect_price(rt, &mut account, tables, entry, 860);
+    for (seq, what, named) in [
+        (1, out, (MONDAY, 340)),
+        (2, credit, (MONDAY, 340)),
+        (3, What::Drop(3, 1), (MONDAY, 860)),
+        (4, What::Void(1, 1), (MONDAY, 0)),
+        (5, What::Void(9, 9), (0, 0)),
+    ] {
+        expect_fixed(rt, &mut account, tables, seq, what, named);
+    }
+    account
+}
+
 #[test]
 fn corrections(rt: HostRuntime) {
     let tables = sample(&rt);
-    let mut account: Account = Fares::new(rt.alloc(), 7);
-    expect_price(
-        &rt,
-        &mut account,
-        &tables,
-        tap_at(&rt, 1, 25_200, 10, Kind::In),
-        860,
-    );
-    let out = What::Fill(tap_at(&rt, 2, 27_000, 12, Kind::Out).stamp, 12, Kind::Out);
-    let credit = Credit::from_parts(MONDAY, 100).expect(&rt, "a credit");
-    expect_fixed(&rt, &mut account, &tables, 1, out, (MONDAY, 340));
-    expect_fixed(
-        &rt,
-        &mut account,
-        &tables,
-        2,
-        What::Credit(credit),
-        (MONDAY, 340),
-    );
-    expect_fixed(
-        &rt,
-        &mut account,
-        &tables,
-        3,
-        What::Drop(3, 1),
-        (MONDAY, 860),
-    );
-    expect_fixed(&rt, &mut account, &tables, 4, What::Void(1, 1), (MONDAY, 0));
-    expect_fixed(&rt, &mut account, &tables, 5, What::Void(9, 9), (0, 0));
-    expect_same(&rt, account.version(), 6);
+    expect_same(&rt, corrected(&rt, &tables).version(), 6);
 }

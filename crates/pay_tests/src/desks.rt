@@ -14,7 +14,7 @@ use std::process::Abort;
 use std::sync::Arc;
 
 /// A desk with no accounts.
-fn empty_desk<R: Abort + AllocGlobal>(rt: &R, tables: Tables) -> LocalDesk<Account> {
+pub fn empty_desk<R: Abort + AllocGlobal>(rt: &R, tables: Tables) -> LocalDesk<Account> {
     let tables = Arc::new(rt.alloc(), tables).expect(rt, "memory");
     let none: Vec<Account> = Vec::new(rt.alloc());
     LocalDesk::new(rt.alloc(), tables, none).expect(rt, "memory")
@@ -34,7 +34,7 @@ fn answered(desk: &mut LocalDesk<Account>, command: Command) -> Option<Reply>
 }
 
 /// The same, with ample memory.
-fn reply<R: Abort>(rt: &R, desk: &mut LocalDesk<Account>, asked: Asked) -> Reply
+pub fn reply<R: Abort>(rt: &R, desk: &mut LocalDesk<Account>, asked: Asked) -> Reply
     requires { IsForShards 1 asked }
 {
     let command = Command::of(asked).expect(rt, "a command");

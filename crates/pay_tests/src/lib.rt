@@ -11,6 +11,8 @@ mod amounts;
 #[cfg(test)]
 mod caps;
 #[cfg(test)]
+mod closes;
+#[cfg(test)]
 mod days;
 #[cfg(test)]
 mod desks;
@@ -23,6 +25,10 @@ mod given;
 #[cfg(test)]
 mod journeys;
 #[cfg(test)]
+mod ledger;
+#[cfg(test)]
+mod ledger_opening;
+#[cfg(test)]
 mod ledger_rows;
 #[cfg(test)]
 mod postings;
@@ -30,6 +36,8 @@ mod postings;
 mod quotes;
 #[cfg(test)]
 mod records;
+#[cfg(test)]
+mod restores;
 #[cfg(test)]
 mod sessions;
 #[cfg(test)]

@@ -2,10 +2,13 @@
 //! answer is shown by `tests/program`.
 
 use crate::given::{expect_same, sample};
+use crate::ledger::empty_ledger;
 use crate::streams::{Letters, Scripted, Trickle};
 use jiff::tz::TimeZone;
+use pay_ledger::Ledger;
 use pay_run::{WeekFault, run_lines, week_by_lines};
 use pay_session::{Done, SessionFault};
+use sqlite::Alter;
 use std::io::{BufRead, ErrorKind, Write};
 use std::process::Abort;
 use std::sync::Arc;
@@ -29,15 +32,26 @@ static ENDS: [(usize, usize); 7] = [
     (153, 215),
 ];
 
-/// How a session ends.
+/// How a session ends that closes days into a ledger.
+pub fn serve_into<H: Abort + AllocGlobal, R: BufRead, W: Write, S: Alter>(
+    rt: &H,
+    reader: &mut R,
+    writer: &mut W,
+    ledger: &mut Ledger<S>,
+) -> Result<Done, SessionFault> {
+    let tables = Arc::new(rt.alloc(), sample(rt)).expect(rt, "memory");
+    let zone = TimeZone::posix("GMT0BST,M3.5.0/1,M10.5.0").expect(rt, "a rule");
+    run_lines(rt.alloc(), reader, writer, &zone, tables, ledger)
+}
+
+/// How a session ends over an empty ledger in memory.
 fn serve<H: Abort + AllocGlobal, R: BufRead, W: Write>(
     rt: &H,
     reader: &mut R,
     writer: &mut W,
 ) -> Result<Done, SessionFault> {
-    let tables = Arc::new(rt.alloc(), sample(rt)).expect(rt, "memory");
-    let zone = TimeZone::posix("GMT0BST,M3.5.0/1,M10.5.0").expect(rt, "a rule");
-    run_lines(rt.alloc(), reader, writer, &zone, tables)
+    let mut ledger = empty_ledger(rt);
+    serve_into(rt, reader, writer, &mut ledger)
 }
 
 /// All lines, and an end.

@@ -1,0 +1,108 @@
+//! Accounts restored from the rows of an archive, by the sample fare file, whose route is 50.
+
+use crate::given::{expect_list, sample};
+use crate::ledger_rows::TAPPED;
+use pay_account::{Account, Fares};
+use pay_postings::PostFault;
+use pay_restore::restored;
+use pay_rows::{FixRow, TapRow};
+use std::process::Abort;
+
+/// A boarding.
+const BOARDED: TapRow = TapRow {
+    place: 50,
+    kind: 2,
+    ..TAPPED
+};
+
+/// A Void of the boarding by staff 3.
+const VOIDED: FixRow = FixRow {
+    staff: 3,
+    seq: 1,
+    what: 0,
+    a: 1,
+    b: 2,
+    c: 0,
+    d: 0,
+    e: 0,
+};
+
+/// A Drop of the Void.
+const DROPPED: FixRow = FixRow {
+    seq: 2,
+    what: 3,
+    a: 3,
+    b: 1,
+    ..VOIDED
+};
+
+/// What is restored: the number of each account, and how many taps and corrections it has accepted.
+fn counts<R: Abort + AllocGlobal>(
+    rt: &R,
+    taps: &[(i64, TapRow)],
+    fixes: &[(i64, FixRow)],
+) -> Result<Vec<(u32, usize, usize)>, PostFault> {
+    let tables = sample(rt);
+    let accounts: Vec<Account> = restored(rt.alloc(), &tables, taps, fixes)?;
+    let mut counts = Vec::new(rt.alloc());
+    for account in &accounts {
+        let sets = account.sets()?;
+        let count = (account.number(), sets.taps().len(), sets.fixes().len());
+        counts.push(count).expect(rt, "memory");
+    }
+    Ok(counts)
+}
+
+// Account 9 has one boarding twice, and account 8 a correction alone.
+#[test]
+fn accounts_in_ascending_order(rt: HostRuntime) {
+    let next = TapRow { seq: 3, ..BOARDED };
+    expect_list(
+        &rt,
+        counts(
+            &rt,
+            &[(9, BOARDED), (7, next), (9, BOARDED), (7, BOARDED)],
+            &[(8, VOIDED), (7, DROPPED), (7, VOIDED)],
+        ),
+        Ok(&[(7, 2, 2), (8, 0, 1), (9, 1, 0)]),
+    );
+    expect_list(&rt, counts(&rt, &[], &[]), Ok(&[]));
+}
+
+/// These rows are no archive.
+fn expect_bad<R: Abort + AllocGlobal>(rt: &R, taps: &[(i64, TapRow)], fixes: &[(i64, FixRow)]) {
+    expect_list(rt, counts(rt, taps, fixes), Err(PostFault::BadArchive));
+}
+
+#[test]
+fn bad_archives(rt: HostRuntime) {
+    for (account, row) in [
+        (0, BOARDED),
+        (4_294_967_296, BOARDED),
+        (7, TapRow { kind: 3, ..BOARDED }),
+        (
+            7,
+            TapRow {
+                place: 51,
+                ..BOARDED
+            },
+        ),
+        (
+            7,
+            TapRow {
+                place: 10,
+                ..BOARDED
+            },
+        ),
+    ] {
+        expect_bad(&rt, &[(account, row)], &[]);
+    }
+    let other = TapRow {
+        utc: 1_704_697_201,
+        ..BOARDED
+    };
+    expect_bad(&rt, &[(7, BOARDED), (7, other)], &[]);
+    expect_bad(&rt, &[], &[(0, VOIDED)]);
+    expect_bad(&rt, &[], &[(7, FixRow { e: 1, ..VOIDED })]);
+    expect_bad(&rt, &[], &[(7, VOIDED), (7, FixRow { b: 3, ..VOIDED })]);
+}
