@@ -170,20 +170,19 @@ fn with_fares_and_zone<'a>(alloc: Global, command: Command<'a>) -> Result<Comman
         (with_rule (app_of command.entry) (required_word (codes "FARES"))) (required_word (codes "ZONE"))) }
     ensures local { IfOk result (λ r. (fields_of r).has_globals ≡ false) }
 {
-    let fares = Arg::new(alloc, "FARES").required(true).help(help::FARES);
-    let zone = Arg::new(alloc, "ZONE").required(true).help(help::ZONE);
-    command.arg(fares)?.arg(zone)
+    command
+        .arg(text_word(alloc, "FARES", help::FARES))?
+        .arg(text_word(alloc, "ZONE", help::ZONE))
 }
 
 fn check_command<'a>(alloc: Global) -> Result<Command<'a>, AllocError>
     ensures app { IfOk result (λ command. app_of command ≡ check_app) }
     ensures local { IfOk result (λ command. (fields_of command).has_globals ≡ false) }
 {
-    let fares = Arg::new(alloc, "FARES").required(true).help(help::FARES);
     Command::new(alloc, "check")
         .about(help::CHECK)
         .after_help(help::BELOW_CHECK)
-        .arg(fares)
+        .arg(text_word(alloc, "FARES", help::FARES))
 }
 
 fn statement_command<'a>(alloc: Global) -> Result<Command<'a>, AllocError>
@@ -193,19 +192,25 @@ fn statement_command<'a>(alloc: Global) -> Result<Command<'a>, AllocError>
     let command = Command::new(alloc, "statement")
         .about(help::STATEMENT)
         .after_help(help::BELOW_STATEMENT);
-    let account = number_word(alloc, "ACCOUNT", 1, MOST_ACCOUNT).help(help::ACCOUNT);
-    let day = number_word(alloc, "DAY", FIRST_DAY, LAST_DAY).help(help::DAY);
-    with_fares_and_zone(alloc, command)?.arg(account)?.arg(day)
+    with_fares_and_zone(alloc, command)?
+        .arg(number_word(alloc, "ACCOUNT", help::ACCOUNT, 1, MOST_ACCOUNT))?
+        .arg(number_word(alloc, "DAY", help::DAY, FIRST_DAY, LAST_DAY))
+}
+
+/// A word that has to be there.
+fn text_word<'a>(alloc: Global, name: &'a str, help: &'a str) -> Arg<'a>
+    ensures rule { rule_of result ≡ required_word name.entry.now }
+    ensures local { result.global ≡ false }
+{
+    Arg::new(alloc, name).required(true).help(help)
 }
 
 /// A number in its range, which has to be there.
-fn number_word<'a>(alloc: Global, name: &'a str, least: u64, most: u64) -> Arg<'a>
+fn number_word<'a>(alloc: Global, name: &'a str, help: &'a str, least: u64, most: u64) -> Arg<'a>
     ensures rule { rule_of result ≡ required_number name.entry.now least most }
     ensures local { result.global ≡ false }
 {
-    Arg::new(alloc, name)
-        .required(true)
-        .value_parser(ValueParser::unsigned(least, most))
+    text_word(alloc, name, help).value_parser(ValueParser::unsigned(least, most))
 }
 
 fn job_of<'a>(matches: &ArgMatches<'a>) -> Result<Job<'a>, WordsFault>
