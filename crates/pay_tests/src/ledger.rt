@@ -8,7 +8,7 @@ use crate::given::{MONDAY, expect_list, expect_same, sample, tap_at};
 use crate::postings::quote;
 use pay_account::{Account, Fares, Posting, Quote, Sets};
 use pay_fix::What;
-use pay_ledger::{Ledger, LedgerFault};
+use pay_ledger::{Ledger, LedgerFault, OpenFault};
 use pay_money::limits::OPERATORS;
 use pay_postings::PostFault;
 use pay_tables::Tables;
@@ -378,7 +378,10 @@ fn post_within<R: Abort + AllocGlobal>(
     let mut conn = ledger.into_connection();
     conn.set_step_limit(Some(limit));
     let (mut conn, outcome) = match Ledger::open(rt.alloc(), conn) {
-        Err((_, conn)) => (conn, Limited::Closed),
+        Err((fault, conn)) => {
+            expect_same(rt, fault, OpenFault::Store);
+            (conn, Limited::Closed)
+        }
         Ok(mut ledger) => {
             let outcome = match ledger.post(batch.0, batch.1) {
                 Err(fault) => {

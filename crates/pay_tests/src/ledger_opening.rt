@@ -5,7 +5,7 @@ ghost use Rattle.std.specs.Prelude.{◌≡◌};
 use crate::accounts::expect_price;
 use crate::given::{expect_same, sample, tap_at};
 use crate::ledger::{
-    JOURNEY, Told, empty_ledger, expect_posted, expect_restored, expect_rows, opened, owed,
+    JOURNEY, empty_ledger, expect_posted, expect_restored, expect_rows, opened, owed,
 };
 use crate::sessions::serve_into;
 use pay_account::{Account, Fares};
@@ -74,21 +74,14 @@ fn opens_ledgers_alone(rt: HostRuntime) {
 /// The rows of an empty ledger.
 const EMPTY: &str = "meta farebox 1\n";
 
-/// An entry costs the maximum, and is operator 1's.
-const CHARGED: Told = (7, 1, 860, 860, 860, 0);
-
-/// Posts an entry of account 7.
-fn post_entry<R: Abort + AllocGlobal, S: Alter + Drop>(
-    rt: &R,
-    ledger: &mut Ledger<S>,
-    wanted: Result<&[Told], LedgerFault>,
-) {
+/// The entry of account 7 is not posted.
+fn expect_not_posted<R: Abort + AllocGlobal>(rt: &R, ledger: &mut Ledger<MemStore>) {
     let tables = sample(rt);
     let mut account: Account = Fares::new(rt.alloc(), 7);
     let entry = tap_at(rt, 1, 25_200, 10, Kind::In);
     expect_price(rt, &mut account, &tables, entry, 860);
     let (quote, sets) = owed(rt, &account, &tables);
-    expect_posted(rt, ledger, (&[quote], &[sets]), wanted);
+    expect_posted(rt, ledger, (&[quote], &[sets]), Err(BAD));
 }
 
 const BAD: LedgerFault = LedgerFault::Refused(PostFault::BadArchive);
@@ -110,12 +103,12 @@ fn restores_no_bad_archive(rt: HostRuntime) {
     );
 }
 
-/// The rows of a posting that falls to operator 17, whom there is not.
+/// The rows of a posting that falls to operator 17, whom there is not. It is of a later version than the entry's quote.
 const NO_POSTING: &str =
-    "INSERT INTO postings VALUES (1, 7, 19730, 19730, 1, 860, 860); INSERT INTO shares VALUES (1, 17, 860)";
+    "INSERT INTO postings VALUES (1, 7, 19730, 19730, 2, 860, 860); INSERT INTO shares VALUES (1, 17, 860)";
 
 const NO_POSTING_ROWS: &str = "meta farebox 1
-posting 1 7 19730 19730 1 860 860
+posting 1 7 19730 19730 2 860 860
 share 1 17 860
 ";
 
@@ -128,11 +121,11 @@ fn posts_beside_no_bad_posting(rt: HostRuntime) {
         (postings, ledger.net(7, 19_730)),
         (Some(BAD), Err(BAD)),
     );
-    post_entry(&rt, &mut ledger, Err(BAD));
+    expect_not_posted(&rt, &mut ledger);
     let _ = expect_rows(&rt, ledger, NO_POSTING_ROWS);
 }
 
-/// The file, in the folder that the test is run in. It stays there, for `tests/ledger` to read.
+/// The file, in the folder that the test is run in. It is made anew and stays there, for `tests/ledger` to read.
 const PATH: &str = "ledger.db";
 
 /// A journey that is closed behind each of its taps.
@@ -162,6 +155,7 @@ fn expect_session<R: Abort + AllocGlobal, S: Alter>(rt: &R, ledger: &mut Ledger<
 
 #[test]
 fn stays_in_a_file(rt: HostRuntime) {
+    let _ = fs::remove_file(&rt, PATH);
     let conn = Connection::open(&rt, PATH).expect(&rt, "a file");
     let mut ledger = expect_rows(&rt, opened(&rt, conn), EMPTY);
     expect_session(&rt, &mut ledger);
