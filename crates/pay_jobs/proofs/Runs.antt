@@ -1,5 +1,5 @@
--- How the job run ends where its session was broken off.
-use Rattle.std.proofs.Common.{ℕ, Bool, List, Option, None, Some, IfSome}
+-- How the job run ends where its fare file is refused, where its ledger was not made, and where its session was broken off.
+use Rattle.std.proofs.Common.{ℕ, Bool, List, Option, None, Some, IfSome, inl, inr, refl}
 use Rattle.std.specs.Prelude.{⊤}
 use Rattle.pay_postings.specs.Words.{LedgerParts}
 use Rattle.pay_session.specs.declared.request.Request.{Request}
@@ -7,7 +7,9 @@ use Rattle.pay_run.specs.Machine.{Machine}
 use Rattle.pay_run.specs.Outcomes.{Outcome}
 use Rattle.pay_run.specs.Run.{ComesTo, Ends, FailsSo}
 use Rattle.pay_jobs.specs.Faults.{stream_fault}
-use Rattle.pay_jobs.specs.Run.{RunFails, SessionFails}
+use Rattle.pay_jobs.specs.Run.{IsRefused, IsUnmade, RunFails, SessionFails}
+use Rattle.pay_jobs.specs.declared.fault.Fault.{Fault}
+use Rattle.pay_jobs.specs.declared.fault.Fault.TheVariants.{Usage, CannotReadFares, BadZone, Input, Output, Refused}
 use Rattle.pay_session.specs.declared.stop.SessionFault.{SessionFault}
 use Rattle.pay_session.specs.declared.stop.SessionFault.TheVariants.{Read, Write}
 
@@ -15,6 +17,32 @@ pub RunFails_session : (fault : SessionFault) (fares zone : List ℕ) (remaining
     → RunFails (stream_fault fault) fares zone remaining left held written
 RunFails_session (Read answered) fares zone remaining left held written fails = (answered, fails)
 RunFails_session (Write answered) fares zone remaining left held written fails = (answered, fails)
+
+pub RunFails_refused : (fault : Fault) (fares zone : List ℕ) (remaining held : Option (List ℕ)) → IsRefused fault fares → RunFails fault fares zone remaining remaining held held
+RunFails_refused (Refused number name) fares zone remaining held h = (inl h, (refl, refl))
+RunFails_refused BadZone fares zone remaining held (inl told) = absurd told
+RunFails_refused BadZone fares zone remaining held (inr (why, says, told)) = absurd told
+RunFails_refused Input fares zone remaining held (inl told) = absurd told
+RunFails_refused Input fares zone remaining held (inr (why, says, told)) = absurd told
+RunFails_refused Output fares zone remaining held (inl told) = absurd told
+RunFails_refused Output fares zone remaining held (inr (why, says, told)) = absurd told
+RunFails_refused Usage fares zone remaining held (inl told) = absurd told
+RunFails_refused Usage fares zone remaining held (inr (why, says, told)) = absurd told
+RunFails_refused CannotReadFares fares zone remaining held (inl told) = absurd told
+RunFails_refused CannotReadFares fares zone remaining held (inr (why, says, told)) = absurd told
+
+pub RunFails_unmade : (fault : Fault) (fares zone : List ℕ) (remaining held : Option (List ℕ)) → IsUnmade fault fares zone → RunFails fault fares zone remaining remaining held held
+RunFails_unmade (Refused number name) fares zone remaining held h = (inr h, (refl, refl))
+RunFails_unmade BadZone fares zone remaining held (m, begins, inl told) = absurd told
+RunFails_unmade BadZone fares zone remaining held (m, begins, inr told) = absurd told
+RunFails_unmade Input fares zone remaining held (m, begins, inl told) = absurd told
+RunFails_unmade Input fares zone remaining held (m, begins, inr told) = absurd told
+RunFails_unmade Output fares zone remaining held (m, begins, inl told) = absurd told
+RunFails_unmade Output fares zone remaining held (m, begins, inr told) = absurd told
+RunFails_unmade Usage fares zone remaining held (m, begins, inl told) = absurd told
+RunFails_unmade Usage fares zone remaining held (m, begins, inr told) = absurd told
+RunFails_unmade CannotReadFares fares zone remaining held (m, begins, inl told) = absurd told
+RunFails_unmade CannotReadFares fares zone remaining held (m, begins, inr told) = absurd told
 
 -- what becomes of a ledger that ends with its session is not told
 comes_alone : (m : Machine) (requests : List Request) (Holds : Option LedgerParts → Type 0) (came : Outcome) → ComesTo m requests Holds came → ComesTo m requests (λ _. ⊤) came

@@ -42,13 +42,17 @@ IsRefused fault fares = IsWantOfMemory fault ⊎ ((why : FareFileFault) × (fare
 abbrev pub IsBadZone : List ℕ → List ℕ → Type 0
 IsBadZone fares zone = (tables : FareTables) × (fare_text fares ≡ Ok tables) × (read_whole zone ≡ None)
 
+-- texts by which a machine begins, and a ledger for it that was not made
+abbrev pub IsUnmade : Fault → List ℕ → List ℕ → Type 0
+IsUnmade fault fares zone = (machine : Machine) × Begins fares zone None machine × IsWantOfLedger fault
+
 -- nothing was read, and nothing was written
 abbrev pub IsUntouched : Option (List ℕ) → Option (List ℕ) → Option (List ℕ) → Option (List ℕ) → Type 0
 IsUntouched remaining left held written = (left ≡ remaining) × (written ≡ held)
 
 -- how the job failed, by its fault
 abbrev pub RunFails : Fault → List ℕ → List ℕ → Option (List ℕ) → Option (List ℕ) → Option (List ℕ) → Option (List ℕ) → Type 0
-RunFails (Refused number name) fares zone remaining left held written = (IsRefused (Refused number name) fares ⊎ IsWantOfLedger (Refused number name)) × IsUntouched remaining left held written
+RunFails (Refused number name) fares zone remaining left held written = (IsRefused (Refused number name) fares ⊎ IsUnmade (Refused number name) fares zone) × IsUntouched remaining left held written
 RunFails BadZone fares zone remaining left held written = IsBadZone fares zone × IsUntouched remaining left held written
 RunFails Input fares zone remaining left held written = (answered : ℕ) × SessionFails (Read answered) fares zone remaining left held written
 RunFails Output fares zone remaining left held written = (answered : ℕ) × SessionFails (Write answered) fares zone remaining left held written

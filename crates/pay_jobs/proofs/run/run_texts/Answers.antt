@@ -1,17 +1,31 @@
-use Rattle.std.proofs.Common.{Some, refl}
+use Rattle.std.proofs.Common.{None, Some, refl}
 use Rattle.std.proofs.lemmas.Result.{err_from_is_err_and}
 use Rattle.std.specs.Arc.{arc_value}
 use Rattle.sqlite.proofs.Callers.{memory_is_clean}
 use Rattle.pay_ledger.specs.Opening.{nothing}
 use Rattle.pay_run.specs.Words.{new_machine}
-use Rattle.pay_jobs.proofs.Runs.{RunFails_session, ends_alone, fails_alone}
+use Rattle.pay_jobs.proofs.Runs.{RunFails_refused, RunFails_session, RunFails_unmade, ends_alone, fails_alone}
 use Rattle.pay_jobs.proofs.run.run_texts.Goals as goal
+
+pub returns-in_err-tables-clause-fails : goal.returns-in_err-tables-clause-fails
+returns-in_err-tables-clause-fails g c =
+    let p = err_from_is_err_and c.from_residual.result c.from_residual.ensures.1 in
+    rw (p.1, p.2) (RunFails_refused _ _ _ _ _ c.in_err-tables.ensures.refused)
 
 pub returns-in_err-zone-clause-fails : goal.returns-in_err-zone-clause-fails
 returns-in_err-zone-clause-fails g c =
     let p = err_from_is_err_and c.from_residual-in_err-zone.result c.from_residual-in_err-zone.ensures.1 in
     let e = c.in_err-zone.ensures in
     rw (p.1, p.2, e.bad) ((arc_value c.in_ok-tables.tables, c.in_ok-tables.ensures.ok, e.none), (refl, refl))
+
+pub returns-in_err-ledger-clause-fails : goal.returns-in_err-ledger-clause-fails
+returns-in_err-ledger-clause-fails g c =
+    let p = err_from_is_err_and c.from_residual-in_err-ledger.result c.from_residual-in_err-ledger.ensures.1 in
+    rw (p.1, p.2) (RunFails_unmade _ _ _ _ _ (
+      new_machine c.in_ok-zone.zone (arc_value c.in_ok-tables.tables) None,
+      record { says = c.in_ok-tables.ensures.ok; rule = c.in_ok-zone.ensures.ok; new = refl; posted = refl },
+      c.in_err-ledger.ensures.err,
+    ))
 
 pub returns-in_err-done-clause-fails : goal.returns-in_err-done-clause-fails
 returns-in_err-done-clause-fails g c =
