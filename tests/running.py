@@ -1,0 +1,225 @@
+"""How the themes of tests/program run the built program, and how what comes of it is judged and printed."""
+
+import contextlib
+import os
+import select
+import subprocess
+import sys
+import tempfile
+import time
+from typing import NamedTuple, Optional
+
+ROOT = os.path.dirname(os.path.dirname(os.path.realpath(__file__)))
+PROGRAM = f"{ROOT}/crates/farebox/out/farebox"
+EXAMPLES = f"{ROOT}/examples"
+FARES = f"{EXAMPLES}/bus.toml"
+SAMPLE = f"{EXAMPLES}/sample.toml"
+
+LONDON = "GMT0BST,M3.5.0/1,M10.5.0"
+RUN = ["run", FARES, LONDON]
+RUN_SAMPLE = ["run", SAMPLE, LONDON]
+CHECK = ["check", SAMPLE]
+# The statement of account 7, and of the week of Monday, 2024-01-08.
+STATE = ["statement", SAMPLE, LONDON, "7", "19730"]
+COUNTED = b"OK places 6 bands 3 interchanges 1 holidays 1\n"
+MISSING = "/no/such/file"
+# The day 2024-01-08, its second at 07:00:00 in London, and how many seconds a day has.
+MONDAY, SEVEN, A_DAY = 19730, 1704697200, 86_400
+
+# The seconds after which a run counts as one that does not end, and a reply as one that does not come.
+TIME_TO_END, TIME_TO_REPLY = 120, 20
+
+
+class End(NamedTuple):
+    """What a run comes to: its status, its output and errors, and what it leaves of a file that is its input."""
+
+    status: object
+    output: Optional[bytes] = b""
+    errors: Optional[bytes] = b""
+    left: Optional[bytes] = None
+
+
+def answers(output):
+    return End(0, output)
+
+
+def fault(line, output=b"", status=1):
+    return End(status, output, f"farebox: {line}\n".encode())
+
+
+USAGE = fault("usage", status=2)
+
+
+def run(words, lines=b"", stdin=None, stdout=subprocess.PIPE, stderr=subprocess.PIPE, **how):
+    """What a run with these words comes to, with these bytes through a pipe as its input, or with another input."""
+    given = {"input": lines} if stdin is None else {"stdin": stdin}
+    try:
+        ran = subprocess.run([PROGRAM, *words], stdout=stdout, stderr=stderr, timeout=TIME_TO_END, **given, **how)
+    except subprocess.TimeoutExpired as late:
+        return End("no end", late.stdout, late.stderr)
+    return End(ran.returncode, ran.stdout, ran.stderr)
+
+
+def run_file(words, path, start=0, leaves=False):
+    """The same with a file as its input, from this byte on; and, if asked, what is left of it to whoever has it open."""
+    with open(path, "rb", buffering=0) as given:
+        given.seek(start)
+        came = run(words, stdin=given)
+        return came._replace(left=given.read()) if leaves else came
+
+
+@contextlib.contextmanager
+def started(words=RUN, stdin=subprocess.PIPE):
+    """A run that is spoken to while it goes on."""
+    with subprocess.Popen([PROGRAM, *words], stdin=stdin, stdout=subprocess.PIPE, stderr=subprocess.PIPE, bufsize=0) as ran:
+        try:
+            yield ran
+        finally:
+            ran.kill()
+
+
+def heard(stream, count):
+    """That many bytes of a stream, or those that came in time and before its end."""
+    taken = b""
+    while len(taken) < count and select.select([stream], [], [], TIME_TO_REPLY)[0]:
+        more = os.read(stream.fileno(), count - len(taken))
+        if not more:
+            break
+        taken += more
+    return taken
+
+
+def end_of(ran, output=b""):
+    """What a started session comes to after this output, its input left as it is."""
+    try:
+        status = ran.wait(TIME_TO_REPLY)
+    except subprocess.TimeoutExpired:
+        return End("no end", output)
+    return End(status, output + (b"" if ran.stdout.closed else ran.stdout.read()), ran.stderr.read())
+
+
+def trickle(pieces, pause, words=RUN):
+    """What a run comes to whose input comes in pieces, with a pause before each."""
+    with started(words) as ran:
+        with contextlib.suppress(BrokenPipeError):
+            for piece in pieces:
+                time.sleep(pause)
+                ran.stdin.write(piece)
+        ran.stdin.close()
+        return end_of(ran)
+
+
+def cut(text, size):
+    return [text[at:at + size] for at in range(0, len(text), size)]
+
+
+def closing(descriptor):
+    """How a program is run with this stream closed."""
+    return {"preexec_fn": lambda: os.close(descriptor)}
+
+
+def written(folder, name, content):
+    path = os.path.join(folder, name)
+    with open(path, "wb") as it:
+        it.write(content)
+    return path
+
+
+def read(name):
+    with open(f"{EXAMPLES}/{name}", "rb") as it:
+        return it.read()
+
+
+def edited(old, new, name="bus.toml"):
+    text = read(name).decode()
+    if old not in text:
+        sys.exit(f"program: {old!r} is not in examples/{name}")
+    return text.replace(old, new).encode()
+
+
+def in_lines(replies):
+    return "".join(f"{reply}\n" for reply in replies).encode()
+
+
+def session(pairs):
+    """The input and the output of lines beside their replies."""
+    lines, replies = zip(*pairs)
+    return in_lines(lines), in_lines(replies)
+
+
+def play(words, pairs, **how):
+    """What a run comes to that is given these lines, and what it has to come to."""
+    lines, replies = session(pairs)
+    return run(words, lines, **how), answers(replies)
+
+
+def boardings(count):
+    """That many boardings at 07:00:00, each of an account of its own, and their replies, of 17 bytes each."""
+    lines = "".join(f"TAP 1 1 {account} 1704697200 50 BUS\n" for account in range(1, count + 1)).encode()
+    return lines, b"OK 19730 175 175\n" * count
+
+
+def taps_of(rows, account=7):
+    """The lines of taps."""
+    return [f"TAP 1 {seq} {account} {utc} {place} {kind}" for seq, (utc, place, kind, *_) in enumerate(rows, 1)]
+
+
+def rows_of(text):
+    """The rows of a text, each in its two halves."""
+    for line in text.splitlines():
+        if line.strip() and not line.strip().startswith("//"):
+            given, wanted = map(str.strip, line.split(" => "))
+            yield given, wanted
+
+
+def test(function):
+    """Marks a function of a theme as a test. Given a folder for its files, it yields its checks: of each the name, what a run came to,
+    and what it has to come to."""
+    sys.modules[function.__module__].__dict__.setdefault("TESTS", []).append(function)
+    return function
+
+
+def build():
+    """Brings the program up to date."""
+    if subprocess.run([f"{ROOT}/farebox", "--help"], stdin=subprocess.DEVNULL, stdout=subprocess.DEVNULL).returncode:
+        sys.exit("program: farebox was not built")
+
+
+def processor_seconds():
+    """Of this script and the runs so far."""
+    return sum(os.times()[:4])
+
+
+def shortened(text, other):
+    """A text, or where it is long its first line that differs from the other's."""
+    if text is None or len(text) < 400:
+        return repr(text)
+    mine, others = text.split(b"\n"), (other or b"").split(b"\n")
+    at = next((at for at, (a, b) in enumerate(zip(mine, others)) if a != b), min(len(mine), len(others)))
+    return f"{len(text):,} bytes, line {at + 1}: {b''.join(mine[at:at + 1])[:200]!r}"
+
+
+def in_words(end, other):
+    """An end, beside another."""
+    left = "" if end.left is None else f", left {shortened(end.left, other.left)}"
+    output, errors = shortened(end.output, other.output), shortened(end.errors, other.errors)
+    return f"status {end.status}, output {output}, errors {errors}{left}"
+
+
+def judge(name, theme):
+    """Runs the tests of a theme, prints what came of them, and returns how many checks there were and how many came out wrong."""
+    began, checks, wrong = processor_seconds(), 0, 0
+    for each in theme.TESTS:
+        with tempfile.TemporaryDirectory() as folder:
+            for what, came, wanted in each(folder):
+                checks += 1
+                if came != wanted:
+                    wrong += 1
+                    print(f"{what}\n    expected  {in_words(wanted, came)}\n    came      {in_words(came, wanted)}")
+    print(summary(name, checks, wrong, processor_seconds() - began), flush=True)
+    return checks, wrong
+
+
+def summary(name, checks, wrong, seconds):
+    came = f"{wrong} wrong" if wrong else "all right"
+    return f"{name:<12} {checks:>5} checks, {came}, {seconds:.1f} s of processor time"

@@ -1,0 +1,246 @@
+"""Sessions that are drawn at random, or come in every order, by the second reckoning of bench/rules.py."""
+
+import csv
+import io
+import itertools
+import random
+
+import loads
+import rules
+from running import A_DAY, FARES, LONDON, MONDAY, RUN, RUN_SAMPLE, SAMPLE, SEVEN, answers, in_lines, play, run, test, written
+from themes.fare_files import counted
+from themes.limits import MOST_BANDS, SPANS, ZONES, zone_of
+from themes.statements import stated
+
+
+def moved(command, weeks):
+    """A command so many weeks later, in summer time."""
+    # The rules know winter alone. In summer the same clock shows an hour earlier by UTC.
+    after = weeks * 7 * A_DAY - (3_600 if weeks else 0)
+    if isinstance(command, (rules.Due, rules.Close)):
+        return command._replace(day=command.day + 7 * weeks)
+    if isinstance(command, rules.Tap):
+        return command._replace(utc=command.utc + after)
+    first, *others = command.words
+    by = {"FILL": after, "CREDIT": 7 * weeks}.get(command.form, 0)
+    return command._replace(words=(first + by, *others))
+
+
+# Where days stand in a reply.
+DAYS_IN_REPLY = {"OK": (1,), "AGAIN": (1,), "DUE": (2, 3), "PAY": (2, 3), "DONE": (1,), "NO": ()}
+
+
+def reply_moved(line, weeks):
+    """A line of a reply so many weeks later."""
+    words = line.split()
+    for at in DAYS_IN_REPLY[words[0]]:
+        if words[at] != "0":
+            words[at] = str(int(words[at]) + 7 * weeks)
+    return " ".join(words)
+
+
+def by_rules(fares, accounts, commands, later=0):
+    """The lines of commands, and their replies by the rules of bench/rules.py; and both so many weeks later, in summer time."""
+    ledger = {}
+    for it in commands:
+        replied = rules.reply(fares, accounts, it, ledger).splitlines()
+        yield rules.line(moved(it, later)).rstrip("\n"), "\n".join(reply_moved(line, later) for line in replied)
+
+
+def drawn_dues(draw, count, accounts, days):
+    """So many questions what an account owes, through one of the days."""
+    return [rules.Due(draw.choice(accounts), draw.choice(days)) for _ in range(count)]
+
+
+WEEK_DAYS = range(MONDAY, MONDAY + 7)
+
+
+@test
+def crowd(_):
+    """200,000 taps of 34,000 accounts, corrections and quotes, in one session, in any order, in a week of summer time; and 20,000 with caps."""
+    for given, fares, accounts in ((RUN, rules.BUS, 30_000), (RUN_SAMPLE, rules.SAMPLE, 3_000)):
+        draw, more = random.Random(11), accounts * 2 // 15
+        commands = loads.day_taps(draw, accounts)
+        commands += [it._replace(account=it.account + accounts) for it in loads.corrected_week(draw, more)]
+        commands += drawn_dues(draw, more, range(1, accounts + 1), WEEK_DAYS)
+        commands += drawn_dues(draw, 2 * more, range(accounts + 1, accounts + more + 1), WEEK_DAYS)
+        draw.shuffle(commands)
+        yield f"{len(commands):,} lines with {given[1]}", *play(given, list(by_rules(fares, {}, commands, later=26)))
+
+
+def drawn_fares(draw):
+    """A fare file of nine zones and twelve bands whose caps are reached now and then."""
+    bands = [rules.Band(0, 0, 350, 1_000)]
+    for low, high in draw.sample(SPANS, MOST_BANDS - 1):
+        # Wider bands are dearer, more or less.
+        wide = high - low
+        bands.append(rules.Band(low, high, 200 + 40 * wide + draw.randint(0, 200), 600 + 100 * wide + draw.randint(0, 600)))
+    draw.shuffle(bands)
+    stations = {it: (zone_of(it), min(zone_of(it) + it // 10, ZONES)) for it in range(1, 2 * ZONES + 1)}
+    return rules.BUS._replace(
+        minutes=[20 + 5 * zones for zones in range(1, ZONES + 1)],
+        single={(low, high): (150 + 40 * (high - low) + draw.randint(0, 50), 120 + 30 * (high - low) + draw.randint(0, 20)) for low, high in SPANS},
+        bands=bands,
+        holidays=[MONDAY + 2],
+        stations=stations,
+        routes=[50, 51],
+        interchanges={frozenset(draw.sample(sorted(stations), 2)): draw.randint(300, 900) for _ in range(30)},
+        operators={it: draw.randint(1, 16) for it in [*stations, 50, 51]},
+    )
+
+
+def drawn_taps(draw, fares, accounts):
+    """A week's taps of accounts, twelve trips each by bus or train, in any order."""
+    taps = []
+    for account in range(1, accounts + 1):
+        touches = []
+        for start in draw.sample(range(loads.BEGINS, loads.BEGINS + loads.DAYS * A_DAY, 7_200), 12):
+            first, out, entry, last = draw.sample(sorted(fares.stations), 4)
+            on = start + draw.randint(60, 2_000)
+            again = on + draw.randint(60, 900)
+            touches += draw.choice((
+                [(start, draw.choice(fares.routes), "BUS")],
+                [(start, first, "IN"), (on, last, "OUT")],
+                [(start, first, "IN"), (on, out, "OUT"), (again, entry, "IN"), (again + draw.randint(60, 2_000), last, "OUT")],
+            ))
+        taps += [rules.Tap(utc, 1, seq, account, place, kind) for seq, (utc, place, kind) in enumerate(touches)]
+    draw.shuffle(taps)
+    return taps
+
+
+@test
+def drawn_caps(folder):
+    """Fare files of nine zones and twelve bands that are drawn at random, checked, and sessions by bench/rules.py."""
+    for seed in range(6):
+        draw = random.Random(seed)
+        fares = drawn_fares(draw)
+        path = written(folder, "drawn", rules.fare_file(fares).encode())
+        name = f"the fare file of draw {seed}"
+        yield f"{name}, checked", run(["check", path]), counted(20, MOST_BANDS, len(fares.interchanges), 1)
+        taps = drawn_taps(draw, fares, 60)
+        asked = drawn_dues(draw, 100, range(1, 61), WEEK_DAYS)
+        commands = draw.sample(taps + asked, len(taps) + len(asked))
+        commands += [rules.Due(account, day) for account in range(1, 61) for day in WEEK_DAYS]
+        yield f"{name}, a week", *play(["run", path, LONDON], list(by_rules(fares, {}, commands)))
+
+
+# What a Drop names of five commands, and the SHOW and DUE that these end in, in whatever order they arrive.
+ENDS = (
+    # The Void is dropped: a leg, and the Out of the Fill alone.
+    ((3, 1), f"2 1230\nJNY RAIL 10 14 {SEVEN} 370\nJNY LONE 0 12 {SEVEN + 1_800} 860", "1230 1=370 2=860"),
+    # The Fill is dropped: the In alone.
+    ((1, 2), f"1 860\nJNY LONE 10 0 {SEVEN} 860", "860 1=860"),
+    # The Drop names itself: a leg from the In to the Out of the Fill.
+    ((3, 3), f"1 340\nJNY RAIL 10 12 {SEVEN} 340", "340 1=340"),
+)
+
+
+def five_commands(account, dropped):
+    """Two taps, a Void of the second, a Fill that has the number of that one, and a Drop."""
+    return [
+        rules.Tap(SEVEN, 1, 1, account, 10, "IN"),
+        rules.Tap(SEVEN + 1_200, 1, 2, account, 14, "OUT"),
+        rules.Fix(3, 1, account, "VOID", (1, 2)),
+        rules.Fix(1, 2, account, "FILL", (SEVEN + 1_800, 12, "OUT")),
+        rules.Fix(3, 3, account, "DROP", dropped),
+    ]
+
+
+@test
+def every_order(_):
+    """The 120 orders in which five commands can arrive, each in an account of its own."""
+    for dropped, shown, due in ENDS:
+        pairs = []
+        for account, order in enumerate(itertools.permutations(range(5)), 1):
+            five = five_commands(account, dropped)
+            # What is due is asked for after each of them.
+            five = [asked for at in order for asked in (five[at], rules.Due(account, MONDAY))]
+            pairs += by_rules(rules.SAMPLE, {}, five)
+            pairs.append((f"SHOW {account} {MONDAY}", f"SHOW {account} {MONDAY} {shown}"))
+            pairs.append((f"DUE {account} {MONDAY}", f"DUE {account} {MONDAY} {MONDAY} 5 {due}"))
+        yield f"five commands in every order, with a Drop of {dropped}", *play(RUN_SAMPLE, pairs)
+
+
+# Where and how a tap is drawn; the last three are refused.
+DRAWN_PLACES = 3 * [(place, kind) for place in rules.SAMPLE.stations for kind in ("IN", "OUT")] + 10 * [(50, "BUS")] + [(99, "IN"), (50, "OUT"), (10, "BUS")]
+
+
+def drawn_command(draw, account):
+    """A tap or a correction of which there are so few that they meet, from 03:00 on Monday to 04:40 on Tuesday; or what is due then."""
+    number, named = [(draw.randint(1, 2), draw.randint(0, 9)) for _ in range(2)]
+    utc = draw.choice((604_799, 4_102_444_800)) if draw.random() < 0.02 else SEVEN + 1_200 * draw.randint(-12, 65)
+    place, kind = draw.choice(DRAWN_PLACES)
+    return draw.choices((
+        rules.Tap(utc, *number, account, place, kind),
+        rules.Fix(*number, account, "VOID", named),
+        rules.Fix(*number, account, "FILL", (utc, place, kind)),
+        rules.Fix(*number, account, "CREDIT", (draw.randint(MONDAY - 1, MONDAY + 1), draw.choice((50, 100)))),
+        rules.Fix(*number, account, "DROP", named),
+        rules.Due(account, draw.randint(MONDAY - 2, MONDAY + 2)),
+    ), (10, 3, 4, 2, 3, 6))[0]
+
+
+@test
+def drawn_corrections(_):
+    """Sessions by bench/rules.py in which what is named comes before, after and never, and numbers are taken; and the days that they end in."""
+    for seed in range(2):
+        draw, accounts, pairs = random.Random(seed), {}, []
+        for account in range(1, 101):
+            commands = [drawn_command(draw, account) for _ in range(80)]
+            pairs += by_rules(rules.SAMPLE, accounts, commands + draw.sample(commands, 10))
+            for day in (MONDAY - 1, MONDAY, MONDAY + 1):
+                pairs.append((f"SHOW {account} {day}", "".join(rules.shown(rules.SAMPLE, accounts, account, day)).rstrip("\n")))
+        yield f"drawn corrections, seed {seed}", *play(RUN_SAMPLE, pairs)
+
+
+def drawn_sessions(folder):
+    """Sessions of several accounts that are drawn at random: a name, the path of the fare file and what it says, the commands, how many
+    weeks later they are, the accounts, and days of the weeks whose statements are asked for."""
+    for seed in range(2):
+        draw = random.Random(seed)
+        commands = [drawn_command(draw, account) for account in range(1, 9) for _ in range(60)]
+        draw.shuffle(commands)
+        yield f"corrections of draw {seed}", SAMPLE, rules.SAMPLE, commands, 0, range(1, 10), (MONDAY - 3, MONDAY + 1)
+        fares = drawn_fares(draw)
+        path = written(folder, f"drawn-{seed}", rules.fare_file(fares).encode())
+        yield f"the fare file of draw {seed}", path, fares, drawn_taps(draw, fares, 10), 0, range(1, 11), (MONDAY + 6,)
+        for name, path, said in (("with caps", SAMPLE, rules.SAMPLE), ("without caps", FARES, rules.BUS)):
+            yield f"a week {name} of draw {seed}", path, said, loads.corrected_week(draw, 10), 26 * seed, range(1, 11), (MONDAY + 2,)
+
+
+def with_closes(draw, commands):
+    """Commands and closes among them: mostly of ascending days, now and then of one that is closed already or comes too early, and many twice."""
+    for at, command in enumerate(commands):
+        yield command
+        if draw.random() < 0.04:
+            close = rules.Close(MONDAY + 7 * at // len(commands) + draw.choice((-1, 0, 0, 0, 1)))
+            yield from [close] * draw.randint(1, 2)
+
+
+@test
+def drawn_closes(folder):
+    """Sessions of several accounts with closes among their lines, by bench/rules.py."""
+    for name, path, fares, commands, later, numbers, _ in drawn_sessions(folder):
+        draw = random.Random(name)
+        last = [rules.Close(MONDAY + 6), *drawn_dues(draw, 20, numbers, WEEK_DAYS)]
+        yield f"{name}, with closes", *play(["run", path, LONDON], list(by_rules(fares, {}, [*with_closes(draw, commands), *last], later)))
+
+
+def read_back(came):
+    """The rows that another reader of CSV finds in an output, one a line."""
+    rows = csv.reader(io.StringIO(came.output.decode("utf-8", "replace"), newline=""), strict=True)
+    return came._replace(output=in_lines(map(repr, rows)))
+
+
+@test
+def drawn_statements(folder):
+    """Statements by bench/rules.py, as text and as what another reader reads of it."""
+    for name, path, fares, commands, later, numbers, days in drawn_sessions(folder):
+        accounts = {}
+        lines = [line for line, _ in by_rules(fares, accounts, commands, later)]
+        for number, day in itertools.product(numbers, days):
+            rows = [[it if it == "day" else str(int(it) + 7 * later), *others] for it, *others in rules.statement(fares, accounts, number, day)]
+            came = stated(lines, number, day + 7 * later, fares=path)
+            asked = f"{name}, the statement of account {number} and day {day}"
+            yield asked, came, answers(in_lines(map(",".join, rows)))
+            yield f"{asked}, read back", read_back(came), answers(in_lines(map(repr, rows)))

@@ -1,0 +1,130 @@
+"""Lines that come in pieces, last lines without their end, and what stands behind QUIT."""
+
+import contextlib
+
+from running import RUN, End, answers, boardings, cut, end_of, heard, in_lines, read, run, run_file, session, started, test, trickle, written
+from themes.clocks import SUMMER_DAY
+from themes.examples import told_replies
+
+
+def converse(pairs):
+    """What a session comes to that is sent each line after the reply to the one before, and whose input is left open."""
+    with started() as ran:
+        output = b""
+        for pair in pairs:
+            line, reply = session([pair])
+            with contextlib.suppress(BrokenPipeError):
+                ran.stdin.write(line)
+            came = heard(ran.stdout, len(reply))
+            output += came
+            if len(came) < len(reply):
+                return End("no reply", output)
+        return end_of(ran, output)
+
+
+@test
+def input_in_pieces(folder):
+    """The same replies, however the input comes."""
+    told = told_replies()
+    for name in ("rail-day.txt", "refusals.txt"):
+        for size, pause in ((1, 0.0005), (3, 0.0005), (100, 0.01)):
+            yield f"{name} in pieces of {size} bytes", trickle(cut(read(name), size), pause), answers(told[name])
+    replies = session(SUMMER_DAY)[1]
+    yield "each line after a reply, and an end at QUIT with the input left open", converse(SUMMER_DAY), answers(replies)
+    each = (("", "NO 50 BadLine"), ("TAP", "NO 50 BadLine"), ("SHOW 7 19730", "SHOW 7 19730 0 0"), ("QUIT", "BYE"))
+    yield "short lines, each after a reply", converse(each), answers(session(each)[1])
+    # More bytes than the times that a session may fill its buffer.
+    first, reply = boardings(1)
+    endless = b"A" * 17_000_000 + b"\n" + first
+    wanted = answers(b"NO 51 LongLine\n" + reply)
+    yield "a line of 17,000,000 bytes through a pipe", run(RUN, endless), wanted
+    yield "a line of 17,000,000 bytes in a file", run_file(RUN, written(folder, "endless", endless)), wanted
+
+
+# A last line that no newline ends, and the reply to it.
+CUT_LINES = (
+    (b"", b""),
+    (b"Q", b"NO 50 BadLine\n"),
+    (b"QUIT", b"NO 50 BadLine\n"),
+    (b"TAP 1 1 8 1704697200 50 BUS", b"NO 50 BadLine\n"),
+    (b"A" * 128, b"NO 50 BadLine\n"),
+    (b"A" * 129, b"NO 51 LongLine\n"),
+    (b"A" * 60_000, b"NO 51 LongLine\n"),
+)
+
+
+@test
+def ends_of_input(folder):
+    """A session is the input from where it stands to its end, whatever the last line is."""
+    first, reply = boardings(1)
+    path = written(folder, "two", b"QUIT\n" + first)
+    yield "no input", run(RUN), answers(b"")
+    yield "a file from behind its first line on", run_file(RUN, path, start=5), answers(reply)
+    for rest, refusal in CUT_LINES:
+        name, wanted = f"a last line of {len(rest):,} bytes without its end", answers(reply + refusal)
+        yield name, run(RUN, first + rest), wanted
+        yield f"{name}, in a file", run_file(RUN, written(folder, "cut", first + rest)), wanted
+        yield f"{name}, after a pause", trickle([first, rest[:3], rest[3:]], 0.02), wanted
+
+
+# Four boardings, the last one late, the day that they make, the last one again, what is due, and a close; and how they are answered.
+LATE_LINES = [f"TAP 1 {seq} 7 {utc} 50 BUS" for seq, utc in enumerate((1704697200, 1704700200, 1704702200, 1704696200), 1)]
+LATE_LINES += ["SHOW 7 19730", LATE_LINES[-1], "DUE 7 19730", "CLOSE 19730"]
+LATE_REPLIES = (
+    "OK 19730 175 175", "OK 19730 175 175", "OK 19730 350 350", "OK 19730 350 350",
+    "SHOW 7 19730 4 350\nJNY BUS 50 0 1704696200 175\nJNY BUS 50 0 1704697200 0\nJNY BUS 50 0 1704700200 175\nJNY BUS 50 0 1704702200 0",
+    "AGAIN 19730 350 350",
+    "DUE 7 19730 19730 4 350 4=350",
+    "PAY 7 19730 19730 4 350 350 4=350\nDONE 19730 1",
+)
+
+
+@test
+def cut_sessions(_):
+    """A session that ends behind each of its bytes."""
+    lines = in_lines(LATE_LINES)
+    for end in range(len(lines) + 1):
+        whole = lines[:end].count(b"\n")
+        rest = ["NO 50 BadLine"] if lines[:end].rpartition(b"\n")[2] else []
+        yield f"a session of {end} bytes", run(RUN, lines[:end]), answers(in_lines([*LATE_REPLIES[:whole], *rest]))
+
+
+BEHIND_QUIT = {
+    "nothing": b"",
+    "3,000 lines": boardings(3_000)[0],
+    "QUIT": b"QUIT\n",
+    "a cut line": b"TAP 1 1 7",
+    "a line of 100,000 bytes": b"A" * 100_000,
+}
+NOT_QUIT = (b"QUIT ", b" QUIT", b"quit", b"QUIT\r", b"QUIT\0", b"QUIT 1", b"QUITQUIT", b"QUI")
+
+
+@test
+def behind_quit(folder):
+    """No line behind QUIT is answered."""
+    lines, replies = boardings(3_000)
+    for name, rest in BEHIND_QUIT.items():
+        given, wanted = lines + b"QUIT\n" + rest, answers(replies + b"BYE\n")
+        yield f"{name} behind QUIT, through a pipe", run(RUN, given), wanted
+        yield f"{name} behind QUIT, in a file", run_file(RUN, written(folder, "lines", given)), wanted
+    yield "QUIT before all lines", run(RUN, b"QUIT\n" + lines), answers(b"BYE\n")
+    first, reply = boardings(1)
+    for name, given in (
+        ("QUIT in two pieces", [first + b"QU", b"IT\n" + first]),
+        ("QUIT and then its end", [first + b"QUIT", b"\n" + first]),
+        ("lines that come after QUIT", [first, b"QUIT\n", first, first]),
+    ):
+        yield name, trickle(given, 0.05), answers(reply + b"BYE\n")
+    for line in NOT_QUIT:
+        yield f"{line}, which is not QUIT", run(RUN, line + b"\n" + first), answers(b"NO 50 BadLine\n" + reply)
+
+
+@test
+def rest_of_a_file(folder):
+    """`(farebox run FARES ZONE; cat) < lines`: `cat` finds what stands behind QUIT, and all of it."""
+    for before in (0, 1, 145, 146, 147, 292, 293, 3_000):
+        lines, replies = boardings(before)
+        for rest in (b"", b"QUIT\n", b"cut", *(boardings(count)[0] for count in (1, 200, 40_000))):
+            path = written(folder, "lines", lines + b"QUIT\n" + rest)
+            name = f"{len(rest)} bytes behind {before} lines and QUIT"
+            yield name, run_file(RUN, path, leaves=True), answers(replies + b"BYE\n")._replace(left=rest)

@@ -1,0 +1,220 @@
+"""The words of the program: help, the version, words that are taken and words that are refused."""
+
+from running import CHECK, FARES, LONDON, MISSING, ROOT, RUN, STATE, USAGE, answers, boardings, read, run, test, written
+from themes.statements import A_BOARDING, rows_of_statement
+
+# The exact texts of help and of the version.
+STATUSES = b"""
+Statuses:
+  0  all right
+  1  a fault, which one line on standard error names
+  2  the words were refused
+"""
+RUN_EXAMPLE = b"""
+Example: account 7 boards a bus in London on Monday 8 January 2024 at 07:00. The reply names the
+day, counted from 1970-01-01, its price and that of its week, in pence.
+  $ farebox run examples/bus.toml GMT0BST,M3.5.0/1,M10.5.0
+  TAP 1 1 7 1704697200 50 BUS
+  OK 19730 175 175
+"""
+RUN_FORMATS = b"""
+The lines and replies, the fare file and the faults are described in docs/FORMATS.md.
+"""
+PROGRAM_HELP = b"""\
+The back office that prices contactless pay as you go travel from taps
+
+Usage: farebox <COMMAND>
+
+Commands:
+  run        Read taps, corrections and closes from standard input, and reply to each
+  check      Read a fare file, and print how many places, bands, interchanges and holidays it has,
+             or its first fault
+  statement  Read taps and corrections from standard input, and print the statement of an account's week as CSV
+  help       Print this message or the help of the given subcommand(s)
+
+Options:
+  -h, --help     Print help
+  -V, --version  Print version
+
+Words of run (FARES ZONE), of check (FARES) and of statement (FARES ZONE ACCOUNT DAY):
+  FARES    the fare file, a TOML document
+  ZONE     the time zone, a POSIX rule text (a name such as Europe/London is none)
+  ACCOUNT  the account, a number from 1 to 4294967295
+  DAY      a service day of the week, counted from 1970-01-01
+""" + RUN_EXAMPLE + STATUSES + RUN_FORMATS
+RUN_HELP = b"""\
+Read taps, corrections and closes from standard input, and reply to each
+
+Usage: farebox run <FARES> <ZONE>
+
+Arguments:
+  <FARES>  The fare file, a TOML document
+  <ZONE>   The time zone, a POSIX rule text such as GMT0BST,M3.5.0/1,M10.5.0
+           (a name such as Europe/London is none)
+
+Options:
+  -h, --help  Print help
+""" + RUN_EXAMPLE + STATUSES + RUN_FORMATS
+CHECK_HELP = b"""\
+Read a fare file, and print how many places, bands, interchanges and holidays it has,
+or its first fault
+
+Usage: farebox check <FARES>
+
+Arguments:
+  <FARES>  The fare file, a TOML document
+
+Options:
+  -h, --help  Print help
+
+Example: a fare file of five stations and a bus route, with three bands that cap prices.
+  $ farebox check examples/sample.toml
+  OK places 6 bands 3 interchanges 1 holidays 1
+""" + STATUSES + b"""
+The fare file and the faults are described in docs/FORMATS.md.
+"""
+STATEMENT_HELP = b"""\
+Read taps and corrections from standard input, and print the statement of an account's week as CSV
+
+Usage: farebox statement <FARES> <ZONE> <ACCOUNT> <DAY>
+
+Arguments:
+  <FARES>    The fare file, a TOML document
+  <ZONE>     The time zone, a POSIX rule text such as GMT0BST,M3.5.0/1,M10.5.0
+             (a name such as Europe/London is none)
+  <ACCOUNT>  The account, a number from 1 to 4294967295
+  <DAY>      A service day of the week, counted from 1970-01-01: a number from 4 to 50000
+
+Options:
+  -h, --help  Print help
+
+Example: account 7 boards a bus in London on Monday 8 January 2024 at 07:00. No replies are
+printed; at the end of input the journeys of its week are, a row for each.
+  $ farebox statement examples/bus.toml GMT0BST,M3.5.0/1,M10.5.0 7 19730
+  TAP 1 1 7 1704697200 50 BUS
+  day,kind,from,to,start,fare,band
+  19730,BUS,50,0,07:00:00,175,-
+""" + STATUSES + b"""
+The lines, the fare file, the statement and the faults are described in docs/FORMATS.md.
+"""
+VERSION = b"farebox 0.1.0\n"
+
+
+@test
+def help_texts(_):
+    """Help and the version, to standard output."""
+    lines, _ = boardings(2)
+    asked = (
+        (PROGRAM_HELP, (["--help"], ["-h"], ["help"], ["--help", "run"], ["-h", "check"], ["-h", "statement"])),
+        (RUN_HELP, (["run", "--help"], ["run", "-h"], ["help", "run"], ["run", MISSING, "no zone", "--help"])),
+        (CHECK_HELP, (["check", "--help"], ["check", "-h"], ["help", "check"], ["check", MISSING, "--help"])),
+        (STATEMENT_HELP, (
+            ["statement", "--help"], ["statement", "-h"], ["help", "statement"], ["statement", MISSING, "no zone", "--help"],
+            ["statement", "-h", "no", "words", "of", "it"], [*STATE, "-h"],
+        )),
+    )
+    for text, each in asked:
+        for given in each:
+            yield f"help by the words {given}", run(given, lines), answers(text)
+    for given in (["--version"], ["-V"]):
+        yield f"the version by the words {given}", run(given, lines), answers(VERSION)
+
+
+# Words behind options that ask for help or the version, and words that are refused.
+MORE_WORDS = (
+    (["-hV"], PROGRAM_HELP), (["--help", "--version"], PROGRAM_HELP), ([*RUN, "-h"], RUN_HELP), (["check", FARES, "-h"], CHECK_HELP),
+    ([*STATE, "--help"], STATEMENT_HELP), ([*STATE[:4], "-h"], STATEMENT_HELP), (["-V", "statement"], VERSION), (["statement", "-V"], None),
+    (["-Vh"], VERSION), (["-Vx"], VERSION), (["--version", "--help"], VERSION), (["-V", *RUN], VERSION), (["-V", "check"], VERSION),
+    (["--version=1"], None), (["--", "--version"], None), (["version"], None), (["run", "--version"], None), (["run", "-V"], None),
+    ([*RUN, "-Vh"], None), (["check", "--version"], None), (["check", FARES, "--", "more"], None), (["check", "-fares"], None),
+)
+
+
+@test
+def words_around_options(_):
+    """Words around the options that ask for help or the version."""
+    for given, text in MORE_WORDS:
+        yield f"the words {given}", run(given), USAGE if text is None else answers(text)
+
+
+REFUSED_WORDS = (
+    # No program of that name.
+    [], [""], ["fly"], ["RUN", FARES, LONDON], ["run "], [FARES, LONDON], ["--", *RUN], ["help", "fly"],
+    # Too few, and too many.
+    ["run"], ["run", FARES], ["run", "--", FARES], [*RUN, "more"], [*RUN, ""], [*RUN, "--", "more"], ["run", *RUN],
+    ["check"], ["check", "--"], [*CHECK, LONDON], [*CHECK, ""], [*CHECK, "--", "more"], ["check", *CHECK], ["--", *CHECK], ["CHECK", FARES],
+    *(STATE[:count] for count in range(1, len(STATE))), [*STATE[:3], "--", "19730"], ["statement", *RUN], ["run", *STATE], ["STATEMENT", *STATE[1:]],
+    [*STATE, "more"], [*STATE, ""], [*STATE, "--", "more"], ["statement", *STATE], ["--", *STATE], ["statements", *STATE[1:]], [*RUN, "7", "19730"],
+    # Unknown options.
+    ["--fly"], ["-f"], ["--fly", *RUN], ["run", "--fly", FARES, LONDON], [*RUN, "--fly"], ["run", FARES, "-UTC0"],
+    ["check", "--fly", FARES], [*CHECK, "-f"], [*CHECK, "--version"],
+    ["statement", "--fly", *STATE[1:]], [*STATE, "--fly"], [*STATE, "--version"], [*STATE[:3], "--", "-7", "19730"], [*STATE[:4], "--", "-1"],
+    # No text.
+    [b"\xff"], ["run", b"\xff", LONDON], ["run", FARES, b"UTC0\xff"], [*RUN, b"\xc3"], ["check", b"\xff"],
+    [*STATE[:3], b"7\xff", "19730"], [*STATE[:4], b"\xff"], ["statement", b"\xff", *STATE[2:]],
+)
+
+
+@test
+def refused_words(_):
+    """Words that are refused."""
+    lines, _ = boardings(2)
+    for given in REFUSED_WORDS:
+        yield f"the words {given}", run(given, lines), USAGE
+
+
+# They are run in a folder that has these fare files.
+OTHER_FARES = ("-", "-fares", "f\u00e4hrpreise")
+TAKEN_WORDS = (
+    ["run", "--", FARES, LONDON], ["run", FARES, "--", LONDON], [*RUN, "--"],
+    ["run", "-", LONDON], ["run", "--", "-fares", LONDON], ["run", "./-fares", LONDON], ["run", "f\u00e4hrpreise", LONDON],
+)
+TAKEN_BY_CHECK = (["check", "-"], ["check", "--", "-"], ["check", "-", "--"], ["check", "--", "-fares"], ["check", "f\u00e4hrpreise"])
+
+
+def write_other_fares(folder):
+    for name in OTHER_FARES:
+        written(folder, name, read("bus.toml"))
+
+
+@test
+def taken_words(folder):
+    """Words that are not refused."""
+    lines, replies = boardings(2)
+    write_other_fares(folder)
+    for given in TAKEN_WORDS:
+        yield f"the words {given}", run(given, lines, cwd=folder), answers(replies)
+    for given in TAKEN_BY_CHECK:
+        yield f"the words {given}", run(given, lines, cwd=folder), answers(b"OK places 6 bands 0 interchanges 1 holidays 1\n")
+    yield "a fare file by its path from here", run(["run", "examples/bus.toml", LONDON], lines, cwd=ROOT), answers(replies)
+
+
+# No account, and no day of a statement.
+NO_NUMBERS = ("", " ", "-", "+", "-0", "-1", "--7", "++7", "+-7", "x", "7x", "x7", "7.0", "7e0", "0x7", "7 ", " 7", "1 000", "1_000", "\u0667", "9" * 40)
+NO_ACCOUNTS = ("0", "00", "+0", "4294967296", "4294967303", "18446744073709551615", "18446744073709551623")
+NO_DAYS = ("0", "3", "03", "+3", "50001", "85266", "4294987026", "18446744073709571346", "Monday", "2024-01-08")
+# The two as they may be spelled, with a row or without.
+TAKEN_NUMBERS = (
+    ("7", "19730", True), ("+7", "19730", True), ("7", "+19730", True), ("007", "019730", True), ("+0007", "+0000019730", True),
+    ("0" * 30 + "7", "0" * 40 + "19736", True), ("7", "19729", False), ("7", "19737", False),
+    ("1", "4", False), ("1", "50000", False), ("4294967295", "19730", False), ("4294967295", "50000", False), ("+1", "+4", False),
+)
+
+
+@test
+def words_of_statements(folder):
+    """Accounts and days of a statement, in and out of their ranges."""
+    lines, _ = boardings(7)
+    for account in (*NO_NUMBERS, *NO_ACCOUNTS):
+        yield f"a statement of the account {account!r}", run([*STATE[:3], account, "19730"], lines), USAGE
+    for day in (*NO_NUMBERS, *NO_DAYS):
+        yield f"a statement of the day {day!r}", run([*STATE[:4], day], lines), USAGE
+    for account, day, has_row in TAKEN_NUMBERS:
+        wanted = rows_of_statement(*[A_BOARDING] * has_row)
+        yield f"a statement of the account {account} and the day {day}", run([*STATE[:3], account, day], lines), wanted
+    write_other_fares(folder)
+    for given in (
+        ["statement", "--", *STATE[1:]], [*STATE[:2], "--", *STATE[2:]], [*STATE[:3], "--", *STATE[3:]], [*STATE[:4], "--", STATE[4]], [*STATE, "--"],
+        ["statement", "-", *STATE[2:]], ["statement", "--", "-fares", *STATE[2:]],
+    ):
+        yield f"the words {given}", run(given, lines, cwd=folder), rows_of_statement(A_BOARDING)
