@@ -1,4 +1,4 @@
-//! The fare engine: reads taps as lines, and answers each with the price of its day and its week.
+//! The back office of pay as you go travel: reads taps as lines, and answers each with the price of its day and its week.
 #![tactic(auto)]
 
 mod program;

@@ -7,11 +7,9 @@ use Rattle.pay_fix.specs.declared.limits.TheConstants.{MOST_TOUCHES}
 use Rattle.pay_tables.specs.Words.{FareTables}
 use Rattle.pay_tables.specs.declared.limits.TheConstants.{MOST_FARE}
 use Rattle.pay_links.specs.declared.journey.Journey.{Journey}
-use Rattle.pay_fares.specs.Words.{fare}
-use Rattle.pay_caps.specs.Words.{day_price, fares}
-use Rattle.pay_week.specs.Words.{week_price, due}
+use Rattle.pay_week.specs.Words.{fare, day_price, fares, week_price, due}
 use Rattle.pay_shares.specs.Words.{sum_of_fares, weights}
-use Rattle.pay_account.specs.QuoteParts.{QuoteParts}
+use Rattle.pay_quotes.specs.QuoteParts.{QuoteParts}
 use Rattle.pay_account.specs.Prices.{journeys_on, days_through, journeys_through, price_of_week}
 use Rattle.pay_account.specs.Quotes.{with_fare, weights_through}
 use Rattle.pay_account.proofs.DaySums.{week_by_days}

@@ -1,23 +1,20 @@
 -- What taps and corrections come to, in whatever order: each set takes its own.
 use Rattle.std.proofs.Common.{◌≡◌, inl, inr, ◌↔◌, Bool, true, false, if◌then◌else◌, ℕ, Option, Some, None, List, [], ◌∷◌, Result, Ok, Err, IsOk, refl, sym, ap, ◌∙◌, subst}
 use Rattle.pay_tables.specs.Words.{FareTables}
-use Rattle.pay_numbered.specs.Words.{ByNumber, set_after, AreTaken, IsIn}
-use Rattle.pay_numbered.specs.Words.{after_all as set_after_all}
+use Rattle.pay_numbered.specs.Words.{ByNumber, set_after, AreTaken, IsIn, after_all as set_after_all}
 use Rattle.pay_numbered.specs.declared.numbered_set.Addition.{Addition}
 use Rattle.pay_numbered.specs.declared.numbered_set.Addition.TheVariants.{Added, Repeat}
 use Rattle.pay_numbered.specs.declared.numbered_set.AdditionFault.{AdditionFault}
 use Rattle.pay_taps.specs.declared.limits.TheConstants.{MOST_TAPS}
 use Rattle.pay_taps.specs.declared.tap.Tap.{Tap}
-use Rattle.pay_taps.specs.Words.{Taps, same_tap, judged}
-use Rattle.pay_taps.specs.Words.{number as tap_number}
+use Rattle.pay_taps.specs.Words.{Taps, same_tap, judged, number as tap_number}
 use Rattle.pay_fix.specs.declared.limits.TheConstants.{MOST_FIXES}
 use Rattle.pay_fix.specs.declared.fix.Fix.{Fix}
-use Rattle.pay_fix.specs.Words.{Fixes, same_fix, day_named}
-use Rattle.pay_fix.specs.Words.{judged as judged_fix, number as fix_number}
+use Rattle.pay_fix.specs.Words.{Fixes, same_fix, day_named, judged as judged_fix, number as fix_number}
 use Rattle.pay_account.specs.declared.fares.Priced.{Priced}
 use Rattle.pay_account.specs.declared.fares.TapFault.TheVariants as of_tap
 use Rattle.pay_account.specs.declared.fares.FixFault.TheVariants as of_fix
-use Rattle.pay_account.specs.Accepted.{Accepted, with_fix}
+use Rattle.pay_quotes.specs.Accepted.{Accepted, with_fix}
 use Rattle.pay_account.specs.Places.{is_known, is_known_fix}
 use Rattle.pay_account.specs.TapResults.{tap_added, after_tap}
 use Rattle.pay_account.specs.FixResults.{prices_on, fix_added, after_fix}

@@ -7,8 +7,7 @@ use Rattle.pay_day.specs.Words.{monday}
 use Rattle.pay_tables.specs.Words.{FareTables}
 use Rattle.pay_links.specs.declared.journey.Journey.{Journey}
 use Rattle.pay_links.specs.Words.{first_tap}
-use Rattle.pay_fares.specs.Words.{fare}
-use Rattle.pay_caps.specs.Words.{cells_of, total, fares}
+use Rattle.pay_week.specs.Words.{fare, cells_of, total, fares}
 use Rattle.pay_account.specs.Journeys.{is_on}
 use Rattle.pay_account.specs.Prices.{journeys_on, days_through, is_within, journeys_through}
 

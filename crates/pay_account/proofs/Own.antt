@@ -4,12 +4,10 @@ use Rattle.std.specs.FinMap as set_map
 use Rattle.std.specs.List.{AllByRecursion}
 use Rattle.pay_numbered.specs.Words.{ByNumber, number_cmp}
 use Rattle.pay_taps.specs.declared.tap.Tap.{Tap}
-use Rattle.pay_taps.specs.Words.{Taps}
-use Rattle.pay_taps.specs.Words.{number as tap_number}
+use Rattle.pay_taps.specs.Words.{Taps, number as tap_number}
 use Rattle.pay_fix.specs.declared.fix.Fix.{Fix}
-use Rattle.pay_fix.specs.Words.{Fixes}
-use Rattle.pay_fix.specs.Words.{number as fix_number}
-use Rattle.pay_account.specs.SetsParts.{AreTapsOf, AreFixesOf, AreOwn}
+use Rattle.pay_fix.specs.Words.{Fixes, number as fix_number}
+use Rattle.pay_quotes.specs.SetsParts.{AreTapsOf, AreFixesOf, AreOwn}
 
 and_one : {X : Type 0} (P : X → Type 0) (before after : List X) (x : X) → AllByRecursion P (before ++ after) → P x → AllByRecursion P (before ++ x ∷ after)
 and_one P [] after x all is = (is, all)

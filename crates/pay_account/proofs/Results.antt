@@ -10,14 +10,13 @@ use Rattle.pay_numbered.specs.declared.numbered_set.Addition.TheVariants.{Added,
 use Rattle.pay_numbered.specs.declared.numbered_set.AdditionFault.{AdditionFault}
 use Rattle.pay_numbered.specs.declared.numbered_set.AdditionFault.TheVariants as of_set
 use Rattle.pay_taps.specs.declared.tap.Tap.{Tap}
-use Rattle.pay_taps.specs.Words.{judged}
-use Rattle.pay_taps.specs.Words.{number as tap_number}
+use Rattle.pay_taps.specs.Words.{judged, number as tap_number}
 use Rattle.pay_fix.specs.declared.fix.Fix.{Fix}
 use Rattle.pay_fix.specs.Words.{judged as judged_fix, number as fix_number, day_named}
 use Rattle.pay_account.specs.declared.fares.Priced.{Priced}
 use Rattle.pay_account.specs.declared.fares.TapFault.TheVariants as of_tap
 use Rattle.pay_account.specs.declared.fares.FixFault.TheVariants as of_fix
-use Rattle.pay_account.specs.Accepted.{Accepted, with_tap, with_fix}
+use Rattle.pay_quotes.specs.Accepted.{Accepted, with_tap, with_fix}
 use Rattle.pay_account.specs.Places.{is_known, is_known_fix}
 use Rattle.pay_account.specs.Prices.{prices}
 use Rattle.pay_account.specs.TapResults.{tap_added, tap_result, after_tap}

@@ -11,8 +11,7 @@ use Rattle.pay_day.specs.declared.limits.TheConstants.{DAYS_PER_WEEK}
 use Rattle.pay_tables.specs.Words.{FareTables}
 use Rattle.pay_links.specs.declared.journey.Journey.{Journey}
 use Rattle.pay_links.specs.Words.{first_tap}
-use Rattle.pay_fares.specs.Words.{fare}
-use Rattle.pay_caps.specs.Words.{CellSums, added, no_fares, cell_of, cells_of}
+use Rattle.pay_week.specs.Words.{fare, CellSums, added, no_fares, cell_of, cells_of}
 use Rattle.pay_account.specs.Journeys.{is_on}
 use Rattle.pay_account.specs.Prices.{journeys_on, days_through}
 use Rattle.pay_account.specs.WeekCells.{with_journey, with_journeys, week_with_journey, week_with_journeys}

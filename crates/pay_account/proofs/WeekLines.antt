@@ -12,7 +12,7 @@ use Rattle.pay_taps.specs.declared.tap.Touch.{Touch}
 use Rattle.pay_taps.specs.Order.{comes_before, put_in_by, in_order_by}
 use Rattle.pay_links.specs.declared.journey.Journey.{Journey}
 use Rattle.pay_links.specs.Words.{first_tap}
-use Rattle.pay_caps.specs.Words.{CellSums, cells_of, capped_price, capped_price_of}
+use Rattle.pay_week.specs.Words.{CellSums, cells_of, capped_price, capped_price_of}
 use Rattle.pay_account.specs.Prices.{days_through, is_within, journeys_on}
 use Rattle.pay_account.specs.Lines.{line_of_journey, line_among, lines_of_week}
 use Rattle.pay_account.specs.WeekBands.{line_by_bands}

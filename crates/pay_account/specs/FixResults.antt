@@ -10,7 +10,7 @@ use Rattle.pay_fix.specs.Words.{judged, day_named}
 use Rattle.pay_account.specs.declared.fares.Priced.{Priced}
 use Rattle.pay_account.specs.declared.fares.FixFault.{FixFault}
 use Rattle.pay_account.specs.declared.fares.FixFault.TheVariants.{UnknownPlace, Memory}
-use Rattle.pay_account.specs.Accepted.{Accepted, with_fix}
+use Rattle.pay_quotes.specs.Accepted.{Accepted, with_fix}
 use Rattle.pay_account.specs.Places.{is_known_fix}
 use Rattle.pay_account.specs.Prices.{prices}
 use Rattle.pay_account.specs.Faults.{fix_fault}

@@ -7,10 +7,9 @@ use Rattle.pay_taps.specs.declared.tap.Kind.TheVariants.{Bus}
 use Rattle.pay_taps.specs.declared.tap.Touch.{Touch}
 use Rattle.pay_taps.specs.Words.{same_kind}
 use Rattle.pay_hopper.specs.Words.{instants_of, paying_marks, pays_by_last}
-use Rattle.pay_pairs.specs.Words.{legs}
+use Rattle.pay_links.specs.Words.{legs, journeys, first_tap}
 use Rattle.pay_links.specs.declared.journey.Journey.{Journey}
 use Rattle.pay_links.specs.declared.journey.Journey.TheVariants as journey
-use Rattle.pay_links.specs.Words.{journeys, first_tap}
 
 -- whether a touch was made on a bus or a tram, and not at a station
 abbrev pub is_bus : Touch → Bool

@@ -1,4 +1,3 @@
-pub mod Accepted
 pub mod Places
 pub mod Journeys
 pub mod Prices
@@ -10,8 +9,6 @@ pub mod Faults
 pub mod TapResults
 pub mod FixResults
 pub mod Changes
-pub mod QuoteParts
-pub mod PostingsCode
-pub mod SetsParts
 pub mod Quotes
+pub mod State
 pub mod Words

@@ -4,14 +4,13 @@ use Rattle.pay_day.specs.Words.{monday}
 use Rattle.pay_tables.specs.Words.{FareTables}
 use Rattle.pay_fix.specs.Words.{credits}
 use Rattle.pay_links.specs.declared.journey.Journey.{Journey}
-use Rattle.pay_fares.specs.Words.{fare}
-use Rattle.pay_week.specs.Words.{due}
+use Rattle.pay_week.specs.Words.{fare, due}
 use Rattle.pay_money.specs.Words.{shares}
 use Rattle.pay_shares.specs.Words.{weights}
-use Rattle.pay_account.specs.Accepted.{Accepted, touches, version}
+use Rattle.pay_quotes.specs.Accepted.{Accepted, touches, version}
 use Rattle.pay_account.specs.Journeys.{journeys_of}
 use Rattle.pay_account.specs.Prices.{price_of_week, journeys_through}
-use Rattle.pay_account.specs.QuoteParts.{QuoteParts}
+use Rattle.pay_quotes.specs.QuoteParts.{QuoteParts}
 
 -- a journey beside its fare
 abbrev pub with_fare : FareTables → Journey → Journey × ℕ

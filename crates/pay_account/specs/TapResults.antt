@@ -9,7 +9,7 @@ use Rattle.pay_taps.specs.Words.{judged}
 use Rattle.pay_account.specs.declared.fares.Priced.{Priced}
 use Rattle.pay_account.specs.declared.fares.TapFault.{TapFault}
 use Rattle.pay_account.specs.declared.fares.TapFault.TheVariants.{UnknownPlace, Memory}
-use Rattle.pay_account.specs.Accepted.{Accepted, with_tap}
+use Rattle.pay_quotes.specs.Accepted.{Accepted, with_tap}
 use Rattle.pay_account.specs.Places.{is_known}
 use Rattle.pay_account.specs.Prices.{prices}
 use Rattle.pay_account.specs.Faults.{tap_fault}

@@ -5,8 +5,7 @@ use Rattle.pay_day.specs.declared.limits.TheConstants.{DAYS_PER_WEEK}
 use Rattle.pay_tables.specs.Words.{FareTables}
 use Rattle.pay_links.specs.declared.journey.Journey.{Journey}
 use Rattle.pay_links.specs.Words.{first_tap}
-use Rattle.pay_fares.specs.Words.{fare}
-use Rattle.pay_caps.specs.Words.{CellSums, added, no_fares, cell_of}
+use Rattle.pay_week.specs.Words.{fare, CellSums, added, no_fares, cell_of}
 use Rattle.pay_account.specs.Journeys.{is_on}
 
 -- sums with the fare of a journey, where it is of that day

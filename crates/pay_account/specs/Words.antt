@@ -1,11 +1,13 @@
 -- Words for the crates above: what an account has accepted, what a tap and a correction give it, its prices, what is
 -- owed, and what it shows of a day and of a week.
-pub use Rattle.pay_account.specs.Accepted.{Accepted, accepted_code, nothing, with_tap, with_fix, touches, version}
+pub use Rattle.pay_quotes.specs.Accepted.{Accepted, accepted_code, nothing, with_tap, with_fix, touches, version}
 pub use Rattle.pay_account.specs.Places.{is_known, is_known_fix}
 pub use Rattle.pay_account.specs.Prices.{prices}
 pub use Rattle.pay_account.specs.Lines.{shown, week_lines}
 pub use Rattle.pay_account.specs.TapResults.{tap_added, tap_result, IsTapResult, after_tap}
-pub use Rattle.pay_account.specs.QuoteParts.{QuoteParts, quote_code, IsQuote}
+pub use Rattle.pay_quotes.specs.QuoteParts.{QuoteParts, IsQuote, quote_code}
 pub use Rattle.pay_account.specs.Quotes.{quote}
-pub use Rattle.pay_account.specs.SetsParts.{SetsParts, sets_code, AreSets, sets}
+pub use Rattle.pay_quotes.specs.SetsParts.{SetsParts, AreSets, sets_code, AreTapsOf, AreFixesOf, sets}
 pub use Rattle.pay_account.specs.FixResults.{prices_on, prices_named, fix_added, fix_result, IsFixResult, after_fix}
+pub use Rattle.pay_quotes.specs.declared.posting.Posting.{Posting}
+pub use Rattle.pay_account.specs.State.{State, state_code, accepted_of, ArePriced}

@@ -2,7 +2,7 @@ ghost use Rattle.std.specs.Prelude.{◌≡◌, ◌+◌, ◌≤◌, IfOk};
 ghost use Rattle.pay_taps.specs.declared.limits.TheConstants.{MOST_TAPS};
 ghost use Rattle.pay_fix.specs.declared.limits.TheConstants.{MOST_FIXES};
 ghost use Rattle.pay_day.specs.Words.{IsDay};
-ghost use Rattle.pay_account.specs.Accepted.{version};
+ghost use Rattle.pay_quotes.specs.Accepted.{version};
 ghost use Rattle.pay_account.specs.Prices.{prices};
 ghost use Rattle.pay_account.specs.FixResults.{prices_named};
 
@@ -11,15 +11,14 @@ use crate::journeys::journeys_of;
 use crate::lines::lines_on;
 use crate::places::{is_known, is_known_fix};
 use crate::prices::{price, price_on};
-use crate::quote::Quote;
-use crate::quoting::{price_through, weights_through};
-use crate::sets::Sets;
+use crate::quoting::{price_through, quote_of, weights_through};
 use crate::shown::{Lines, Shown};
 use crate::week_lines::lines_of_week;
 use pay_day::monday;
 use pay_fix::{Fix, FixSet, What, credits, day_named, effective};
 use pay_money::Pence;
 use pay_numbered::{Addition, Numbered};
+use pay_quotes::{Quote, Sets};
 use pay_shares::shares;
 use pay_tables::Tables;
 use pay_taps::{Tap, TapSet};
@@ -40,8 +39,8 @@ pub struct Account {
 impl Model for Account {
     ghost use Rattle.std.specs.Prelude.{ℕ};
     ghost use Rattle.std.specs.Coded.{coded×, coded_ℕ};
-    ghost use Rattle.pay_account.specs.Accepted.{Accepted, accepted_code};
-    ghost use Rattle.pay_account.specs.SetsParts.{AreOwn};
+    ghost use Rattle.pay_quotes.specs.Accepted.{Accepted, accepted_code};
+    ghost use Rattle.pay_quotes.specs.SetsParts.{AreOwn};
 
     ghost Value = { ℕ × Accepted };
 
@@ -166,7 +165,7 @@ impl Fares for Account {
             credits(&self.fixes, week, through),
         );
         let weights = weights_through(self.alloc, tables, journeys, through)?;
-        Ok(Quote::new(
+        Ok(quote_of(
             self.number,
             week,
             through,

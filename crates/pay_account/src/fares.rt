@@ -1,19 +1,18 @@
 ghost use Rattle.std.specs.Prelude.{◌≡◌, ◌≤◌, ℕ, IfOk};
 ghost use Rattle.pay_day.specs.Words.{IsDay, monday};
 ghost use Rattle.pay_tables.specs.Words.{FareTables};
-ghost use Rattle.pay_account.specs.Accepted.{Accepted, nothing};
+ghost use Rattle.pay_quotes.specs.Accepted.{Accepted, nothing};
 ghost use Rattle.pay_account.specs.TapResults.{IsTapResult, after_tap};
 ghost use Rattle.pay_account.specs.FixResults.{IsFixResult, after_fix};
 ghost use Rattle.pay_account.specs.Lines.{shown, week_lines};
 ghost use Rattle.pay_account.specs.Quotes.{quote};
-ghost use Rattle.pay_account.specs.SetsParts.{sets};
+ghost use Rattle.pay_quotes.specs.SetsParts.{sets};
 
-use crate::quote::Quote;
-use crate::sets::Sets;
 use crate::shown::{Lines, Shown};
 use pay_fix::Fix;
 use pay_money::Pence;
 use pay_numbered::AdditionFault;
+use pay_quotes::{Quote, Sets};
 use pay_tables::Tables;
 use pay_taps::Tap;
 use std::alloc::{AllocError, Global};

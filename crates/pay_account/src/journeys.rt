@@ -5,8 +5,7 @@ ghost use Rattle.pay_account.specs.Journeys.{boardings, next_boarding, is_bus, i
 
 use pay_day::Moment;
 use pay_hopper::pays;
-use pay_links::{Journey, journeys};
-use pay_pairs::legs;
+use pay_links::{Journey, journeys, legs};
 use pay_tables::Tables;
 use pay_taps::{Kind, Touch};
 use std::alloc::{AllocError, Global};

@@ -12,7 +12,7 @@ ghost use Rattle.pay_fix.specs.declared.limits.TheConstants.{MOST_FIXES};
 ghost use Rattle.pay_fix.specs.declared.fix.Fix.{Fix};
 ghost use Rattle.pay_fix.specs.Words.{number as fix_number};
 ghost use Rattle.pay_account.specs.declared.fares.Priced.{Priced};
-ghost use Rattle.pay_account.specs.Accepted.{Accepted, touches};
+ghost use Rattle.pay_quotes.specs.Accepted.{Accepted, touches};
 ghost use Rattle.pay_account.specs.Journeys.{journeys_of};
 ghost use Rattle.pay_account.specs.Quotes.{quote, weights_through};
 ghost use Rattle.pay_account.specs.Places.{is_known, is_known_fix};
@@ -97,7 +97,7 @@ pub fn quotes(tables: &Tables)
         slice_index (weights_through tables.now (journeys_of tables.now (touches accepted)) through) operator ≡ 0 →
         slice_index (quote tables.now account accepted through).shares operator ≡ 0 }
 {
-    pay_caps::laws::bounds();
+    pay_week::day_laws::bounds();
     pay_week::laws::bounds();
     pay_shares::laws::nothing_is_lost(tables);
     pay_money::laws::nothing_is_lost();

@@ -1,19 +1,18 @@
 ghost use Rattle.std.specs.Prelude.{◌≡◌, ◌≤◌, length, IfOk};
 ghost use Rattle.pay_day.specs.Words.{IsDay};
 ghost use Rattle.pay_fix.specs.declared.limits.TheConstants.{MOST_TOUCHES};
-ghost use Rattle.pay_caps.specs.Words.{capped_price};
+ghost use Rattle.pay_week.specs.Words.{capped_price};
 ghost use Rattle.pay_account.specs.Prices.{journeys_on, price_of_day, prices_of_touches};
 
 use crate::fares::Priced;
 use crate::journeys::rail_journeys;
 use crate::week_cells::{cells_of_week, cells_on};
-use pay_caps::day_price;
 use pay_day::day_of_week;
 use pay_links::Journey;
 use pay_money::Pence;
 use pay_tables::Tables;
 use pay_taps::Touch;
-use pay_week::week_price;
+use pay_week::{day_price, week_price};
 use std::alloc::{AllocError, Global};
 
 /// The price of a service day, of all journeys, and the band that gives it.
@@ -22,7 +21,7 @@ pub fn price_on(tables: &Tables, journeys: &[Journey], day: u32) -> (Pence, Opti
     ensures price { result.0 ≡ price_of_day tables.now journeys.now day }
     ensures band { result.1 ≡ (capped_price tables.now (journeys_on journeys.now day)).1 }
 {
-    pay_caps::laws::day_prices(tables);
+    pay_week::day_laws::day_prices(tables);
     day_price(tables, &cells_on(tables, journeys, day))
 }
 
@@ -40,7 +39,7 @@ pub fn price(
     ensures { IfOk result (λ p. p ≡ prices_of_touches tables.now touches.now again day) }
 {
     let rail = rail_journeys(alloc, tables, touches)?;
-    pay_caps::laws::day_prices(tables);
+    pay_week::day_laws::day_prices(tables);
     pay_week::laws::week_prices(tables);
     let week = cells_of_week(tables, &rail, touches, day);
     let days = &week[..];

@@ -1,21 +1,22 @@
 ghost use Rattle.std.specs.Prelude.{◌≡◌, ◌≤◌, length, map, filter, sum, sum_by, IfOk};
 ghost use Rattle.pay_day.specs.Words.{IsDay};
 ghost use Rattle.pay_fix.specs.declared.limits.TheConstants.{MOST_TOUCHES};
-ghost use Rattle.pay_fares.specs.Words.{fare};
+ghost use Rattle.pay_week.specs.Words.{fare};
 ghost use Rattle.pay_money.specs.declared.limits.TheConstants.{MOST_MONEY};
+ghost use Rattle.pay_quotes.specs.Words.{IsQuote};
 ghost use Rattle.pay_account.specs.Prices.{is_within, journeys_through, price_of_week};
 ghost use Rattle.pay_account.specs.Quotes.{with_fare, weights_through};
 
 use crate::journeys::day_of;
 use crate::week_cells::cells_of_days;
 use pay_day::{day_of_week, monday};
-use pay_fares::fare;
 use pay_links::Journey;
 use pay_money::Pence;
 use pay_money::limits::OPERATORS;
+use pay_quotes::Quote;
 use pay_shares::weights;
 use pay_tables::Tables;
-use pay_week::week_price;
+use pay_week::{fare, week_price};
 use std::alloc::{AllocError, Global};
 
 /// Whether a journey belongs to one of the days from one through another.
@@ -62,7 +63,7 @@ pub fn price_through(tables: &Tables, journeys: &[Journey], through: u32) -> Pen
     ensures value { result ≡ price_of_week tables.now journeys.now through }
     ensures no_more { result ≤ sum_by (fare tables.now) (journeys_through journeys.now through) }
 {
-    pay_caps::laws::day_prices(tables);
+    pay_week::day_laws::day_prices(tables);
     pay_week::laws::week_prices(tables);
     let week = cells_of_days(tables, journeys, through);
     week_price(tables, &week[..day_of_week(through) as usize + 1])
@@ -81,8 +82,26 @@ pub fn weights_through(
     ensures together { IfOk result (λ list. sum list ≡ sum_by (fare tables.now) (journeys_through journeys.items through)) }
     ensures in_range { IfOk result (λ list. sum list ≤ MOST_MONEY) }
 {
-    pay_fares::laws::fares_within(tables);
+    pay_week::fare_laws::fares_within(tables);
     keep_days(&mut journeys, monday(through), through);
     let list = with_fares(alloc, tables, journeys)?;
     Ok(weights(tables, &list))
+}
+
+/// A quote of numbers that a quote may have.
+pub fn quote_of(
+    account: u32,
+    week: u32,
+    through: u32,
+    version: u32,
+    due: Pence,
+    shares: [u64; OPERATORS],
+) -> Quote
+    requires { IsQuote (record { account = account; week = week; through = through; version = version; due = due; shares = shares }) }
+    ensures { result ≡ record { account = account; week = week; through = through; version = version; due = due; shares = shares } }
+{
+    match Quote::rebuilt(account, week, through, version, due, shares) {
+        Some(quote) => quote,
+        None => unreachable!(),
+    }
 }

@@ -3,20 +3,18 @@ ghost use Rattle.pay_day.specs.Words.{IsDay, sunday};
 ghost use Rattle.pay_hopper.specs.Words.{last_paid_after};
 ghost use Rattle.pay_tables.specs.declared.limits.TheConstants.{MOST_FARE};
 ghost use Rattle.pay_fix.specs.declared.limits.TheConstants.{MOST_TOUCHES};
-ghost use Rattle.pay_caps.specs.declared.limits.TheConstants.{MOST_SUM};
-ghost use Rattle.pay_caps.specs.Words.{cells_of, total};
+ghost use Rattle.pay_week.specs.Words.{MOST_SUM, cells_of, total};
 ghost use Rattle.pay_account.specs.Journeys.{boardings, is_bus, next_boarding};
 ghost use Rattle.pay_account.specs.Prices.{days_through, journeys_on};
 ghost use Rattle.pay_account.specs.WeekCells.{week_with_journey, week_with_journeys, with_journey};
 
 use crate::journeys::{day_of, is_on, next_boarding};
-use pay_caps::{Cells, cell_of};
 use pay_day::limits::DAYS_PER_WEEK;
 use pay_day::{Moment, monday};
-use pay_fares::fare;
 use pay_links::Journey;
 use pay_tables::Tables;
 use pay_taps::Touch;
+use pay_week::{Cells, cell_of, fare};
 
 /// The sums of the fares of each day of a week, from Monday through Sunday.
 pub type Week = [Cells; DAYS_PER_WEEK as usize];
@@ -84,7 +82,7 @@ pub fn cells_of_week(tables: &Tables, rail: &[Journey], touches: &[Touch], day: 
     requires is_day { IsDay day }
     ensures { result ≡ map (λ each. cells_of tables.now (journeys_on (rail.now ++ boardings tables.now touches.now) each)) (days_through (sunday day)) }
 {
-    pay_caps::laws::sums();
+    pay_week::day_laws::sums();
     let monday = monday(day);
     let mut week = [Cells::new(); DAYS_PER_WEEK as usize];
     add_journeys(&mut week, tables, rail, monday);
@@ -98,7 +96,7 @@ pub fn cells_of_days(tables: &Tables, journeys: &[Journey], day: u32) -> Week
     requires is_day { IsDay day }
     ensures { result ≡ map (λ each. cells_of tables.now (journeys_on journeys.now each)) (days_through (sunday day)) }
 {
-    pay_caps::laws::sums();
+    pay_week::day_laws::sums();
     let mut week = [Cells::new(); DAYS_PER_WEEK as usize];
     add_journeys(&mut week, tables, journeys, monday(day));
     week
@@ -120,7 +118,7 @@ pub fn cells_on(tables: &Tables, journeys: &[Journey], day: u32) -> Cells
     requires { length journeys.now ≤ MOST_TOUCHES }
     ensures { result ≡ cells_of tables.now (journeys_on journeys.now day) }
 {
-    pay_caps::laws::sums();
+    pay_week::day_laws::sums();
     let mut cells = Cells::new();
     for journey in journeys {
         add_on(&mut cells, tables, journey, day);

@@ -3,7 +3,7 @@ ghost use Rattle.pay_day.specs.Words.{IsDay, monday, sunday};
 ghost use Rattle.pay_fix.specs.declared.limits.TheConstants.{MOST_TOUCHES};
 ghost use Rattle.pay_taps.specs.Words.{in_order_by};
 ghost use Rattle.pay_links.specs.Words.{first_tap};
-ghost use Rattle.pay_caps.specs.Words.{capped_price, capped_price_of};
+ghost use Rattle.pay_week.specs.Words.{capped_price, capped_price_of};
 ghost use Rattle.pay_account.specs.Prices.{days_through, journeys_on};
 ghost use Rattle.pay_account.specs.Lines.{lines_of_week};
 ghost use Rattle.pay_account.specs.WeekBands.{band_on, line_by_bands};
@@ -13,10 +13,10 @@ use crate::lines::{line_of_journey, sort_by_first_tap};
 use crate::quoting::keep_days;
 use crate::shown::{Line, Lines};
 use crate::week_cells::{Week, cells_of_days};
-use pay_caps::{Cells, day_price};
 use pay_day::limits::DAYS_PER_WEEK;
 use pay_links::Journey;
 use pay_tables::Tables;
+use pay_week::{Cells, day_price};
 use std::alloc::{AllocError, Global};
 
 /// The bands that give the prices of the days of a week, from Monday through Sunday, where one does.
@@ -46,7 +46,7 @@ fn bands_of_week(tables: &Tables, journeys: &[Journey], day: u32) -> Bands
     requires is_day { IsDay day }
     ensures { result ≡ map (λ each. (capped_price tables.now (journeys_on journeys.now each)).1) (days_through (sunday day)) }
 {
-    pay_caps::laws::day_prices(tables);
+    pay_week::day_laws::day_prices(tables);
     bands_of(tables, &cells_of_days(tables, journeys, day))
 }
 

@@ -11,10 +11,8 @@ use Rattle.pay_tables.specs.declared.zones.Span.{Span}
 use Rattle.pay_tables.specs.Bands.{covers_span}
 use Rattle.pay_tables.specs.Spans.{IsSpan, same_span}
 use Rattle.pay_tables.specs.Words.{FareTables}
-use Rattle.pay_links.specs.declared.journey.Journey.{Journey}
-use Rattle.pay_links.specs.declared.journey.Journey.TheVariants.{Run, Same, Lone, Bus}
-use Rattle.pay_links.specs.Words.{LinkedLegs}
-use Rattle.pay_fares.specs.Words.{fare, span_of_legs, span_of_station}
+use Rattle.pay_fares.specs.Words.{Journey, LinkedLegs, fare, span_of_legs, span_of_station}
+use Rattle.pay_fares.specs.Words.journey_variants.{Run, Same, Lone, Bus}
 use Rattle.pay_caps.specs.declared.cell.Cell.{Cell}
 use Rattle.pay_caps.specs.declared.cell.Cell.TheVariants as cell
 use Rattle.pay_caps.specs.CellSums.{CellSums}

@@ -7,8 +7,7 @@ use Rattle.pay_tables.specs.declared.limits.TheConstants.{MOST_ZONES}
 use Rattle.pay_tables.specs.declared.zones.Span.{Span}
 use Rattle.pay_tables.specs.Spans.{same_span}
 use Rattle.pay_tables.specs.Words.{FareTables, covers_span}
-use Rattle.pay_links.specs.declared.journey.Journey.{Journey}
-use Rattle.pay_fares.specs.Words.{fare}
+use Rattle.pay_fares.specs.Words.{Journey, fare}
 use Rattle.pay_caps.specs.declared.cell.Cell.{Cell}
 use Rattle.pay_caps.specs.declared.cell.Cell.TheVariants.{Rail, Buses, Maximum}
 use Rattle.pay_caps.specs.declared.limits.TheConstants.{MOST_SUM, SPANS}

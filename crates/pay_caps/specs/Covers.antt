@@ -2,9 +2,8 @@
 use Rattle.std.specs.Prelude.{ℕ, Bool, true, false}
 use Rattle.pay_tables.specs.declared.band.Band.{Band}
 use Rattle.pay_tables.specs.Words.{FareTables, IsSpan, covers_span}
-use Rattle.pay_links.specs.declared.journey.Journey.{Journey}
-use Rattle.pay_links.specs.declared.journey.Journey.TheVariants.{Run, Same, Lone, Bus}
-use Rattle.pay_fares.specs.Words.{span_of_legs, span_of_station}
+use Rattle.pay_fares.specs.Words.{Journey, span_of_legs, span_of_station}
+use Rattle.pay_fares.specs.Words.journey_variants.{Run, Same, Lone, Bus}
 use Rattle.pay_caps.specs.declared.cell.Cell.{Cell}
 use Rattle.pay_caps.specs.declared.cell.Cell.TheVariants as cell
 

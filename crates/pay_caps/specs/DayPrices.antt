@@ -2,8 +2,7 @@
 use Rattle.std.specs.Prelude.{ℕ, ◌+◌, not, List, filter, sum_by}
 use Rattle.pay_tables.specs.declared.band.Band.{Band}
 use Rattle.pay_tables.specs.Words.{FareTables}
-use Rattle.pay_links.specs.declared.journey.Journey.{Journey}
-use Rattle.pay_fares.specs.Words.{fare}
+use Rattle.pay_fares.specs.Words.{Journey, fare}
 use Rattle.pay_caps.specs.CellSums.{CellSums}
 use Rattle.pay_caps.specs.Cells.{capped_sum, outside_sum}
 use Rattle.pay_caps.specs.Covers.{covers, is_capped}

@@ -4,8 +4,7 @@ ghost use Rattle.std.specs.Prelude.{◌≡◌, ◌≤◌, ℕ, ◌+◌, ◌∷�
 ghost use Rattle.pay_tables.specs.declared.band.Band.{Band};
 ghost use Rattle.pay_tables.specs.declared.limits.TheConstants.{MOST_ZONES};
 ghost use Rattle.pay_tables.specs.Words.{FareTables};
-ghost use Rattle.pay_links.specs.declared.journey.Journey.{Journey};
-ghost use Rattle.pay_fares.specs.Words.{fare};
+ghost use Rattle.pay_fares.specs.Words.{Journey, fare};
 ghost use Rattle.pay_caps.specs.declared.cell.Cell.{Cell};
 ghost use Rattle.pay_caps.specs.declared.limits.TheConstants.{SPANS};
 ghost use Rattle.pay_caps.specs.CellSums.{CellSums};

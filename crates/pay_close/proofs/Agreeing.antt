@@ -9,14 +9,11 @@ use Rattle.pay_day.specs.Words.{monday}
 use Rattle.pay_tables.specs.Words.{FareTables}
 use Rattle.pay_taps.specs.declared.tap.Tap.{Tap}
 use Rattle.pay_taps.specs.SameTap.{tap_itself}
-use Rattle.pay_taps.specs.Words.{same_tap}
-use Rattle.pay_taps.specs.Words.{number as tap_number}
+use Rattle.pay_taps.specs.Words.{same_tap, number as tap_number}
 use Rattle.pay_fix.specs.declared.fix.Fix.{Fix}
 use Rattle.pay_fix.specs.SameFix.{one_is_same}
-use Rattle.pay_fix.specs.Words.{same_fix}
-use Rattle.pay_fix.specs.Words.{number as fix_number}
-use Rattle.pay_account.specs.declared.posting.Posting.{Posting}
-use Rattle.pay_account.specs.Words.{Accepted, nothing, version, QuoteParts, quote, SetsParts, sets}
+use Rattle.pay_fix.specs.Words.{same_fix, number as fix_number}
+use Rattle.pay_account.specs.Words.{Posting, Accepted, nothing, version, QuoteParts, quote, SetsParts, sets, State, accepted_of}
 use Rattle.pay_postings.specs.Archive.{is_numbered_as, is_fix_numbered_as, archived_beside, archived_tap, archived_fix, archived_each, archived_set, archived_sets}
 use Rattle.pay_postings.specs.Faults.{◌>>=◌}
 use Rattle.pay_postings.specs.Ledger.{LedgerParts}
@@ -24,7 +21,6 @@ use Rattle.pay_postings.specs.Postings.{is_of, later_of, last_of, posting_of, is
 use Rattle.pay_postings.specs.declared.fault.PostFault.{PostFault}
 use Rattle.pay_postings.specs.declared.fault.PostFault.TheVariants as fault
 use Rattle.pay_shard.specs.Selection.{is_of as is_of_shard, is_quoted, quoted}
-use Rattle.pay_shard.specs.State.{State, accepted_of}
 use Rattle.pay_close.specs.Close.{Books, close, IsLate}
 use Rattle.pay_close.proofs.Answering.{Comes, comes_then, Then, first_then}
 use Rattle.pay_close.proofs.Entries.{entry_is_there, all_of, all_mapped, all_filtered, all_weaker, all_with, IfFound, found_among}

@@ -1,8 +1,7 @@
 -- Answers and refusals, one after another.
 use Rattle.std.proofs.Common.{Bool, true, false, if◌then◌else◌, List, [], ◌∷◌, ◌++◌, Option, Some, None, Result, Ok, Err}
 use Rattle.std.specs.Prelude.{⊤}
-use Rattle.pay_account.specs.declared.posting.Posting.{Posting}
-use Rattle.pay_account.specs.Words.{QuoteParts, SetsParts}
+use Rattle.pay_account.specs.Words.{Posting, QuoteParts, SetsParts}
 use Rattle.pay_postings.specs.Archive.{archived_sets}
 use Rattle.pay_postings.specs.Faults.{◌>>=◌}
 use Rattle.pay_postings.specs.Ledger.{LedgerParts, posted}

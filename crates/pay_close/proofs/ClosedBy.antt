@@ -2,8 +2,7 @@
 use Rattle.std.proofs.Common.{◌≡◌, ℕ, Bool, true, false, not, ◌||◌, List, [], ◌∷◌, ◌++◌, Option, Result, Ok, Err, IsTrue, refl, sym, ap, ◌∙◌, subst, inl, inr, arith}
 use Rattle.std.specs.List.{list_any}
 use Rattle.sqlite.specs.State.{State, HasCleanDisk, Survives}
-use Rattle.pay_account.specs.declared.posting.Posting.{Posting}
-use Rattle.pay_account.specs.Words.{QuoteParts, SetsParts}
+use Rattle.pay_account.specs.Words.{Posting, QuoteParts, SetsParts}
 use Rattle.pay_postings.specs.Words.{LedgerParts, posted}
 use Rattle.pay_postings.specs.declared.fault.PostFault.{PostFault}
 use Rattle.pay_postings.specs.declared.fault.PostFault.TheVariants as post

@@ -1,8 +1,7 @@
 -- What a close that is not refused leaves: the quote of each of its accounts is the last posted.
 use Rattle.std.proofs.Common.{◌≡◌, inl, inr, ◌⊎◌, ℕ, Bool, true, false, cond, ◌&&◌, ◌||◌, if◌then◌else◌, length, List, [], ◌∷◌, ◌++◌, map, filter, Option, Some, None, Ordering, Ok, Err, unwrap_or, eqb-true, eq-eqb, refl, sym, ap, ◌∙◌, subst, arith}
 use Rattle.std.specs.Prelude.{◌==◌, ◌%◌}
-use Rattle.std.specs.FinMap.{get, entries, values, empty, get-entries, len-empty, len-entries}
-use Rattle.std.specs.FinMap.{find as found}
+use Rattle.std.specs.FinMap.{get, entries, values, empty, get-entries, len-empty, len-entries, find as found}
 use Rattle.std.specs.List.{AllByRecursion, list_any}
 use Rattle.std.specs.Ordering.{nat_cmp, eq_by_cmp}
 use Rattle.std.proofs.lemmas.Bool.{and_parts, and_from}
@@ -12,13 +11,11 @@ use Rattle.pay_numbered.specs.Words.{IsIn, number_cmp}
 use Rattle.pay_tables.specs.Words.{FareTables}
 use Rattle.pay_taps.specs.declared.tap.Tap.{Tap}
 use Rattle.pay_fix.specs.declared.fix.Fix.{Fix}
-use Rattle.pay_account.specs.declared.posting.Posting.{Posting}
-use Rattle.pay_account.specs.Words.{Accepted, nothing, QuoteParts, quote, sets}
+use Rattle.pay_account.specs.Words.{Posting, Accepted, nothing, QuoteParts, quote, sets, State, accepted_of}
 use Rattle.pay_postings.specs.Ledger.{LedgerParts}
 use Rattle.pay_postings.specs.Postings.{is_quote_of, is_of, later_of, last_of, posting_of, is_stale, is_again, is_as_due, posted_anew, posted_again, posted_after, post, post_each}
 use Rattle.pay_postings.specs.declared.fault.PostFault.TheVariants as fault
 use Rattle.pay_shard.specs.Selection.{is_of as is_of_shard, is_tap_between, is_fill_between, is_quoted, quoted}
-use Rattle.pay_shard.specs.State.{State, accepted_of}
 use Rattle.pay_close.specs.Close.{Books, close, IsLate}
 use Rattle.pay_close.proofs.Answering.{Comes, Then, first_then, Any, any_refusal, on_ledger, once_posted}
 use Rattle.pay_close.proofs.Entries.{IfFound}

@@ -14,23 +14,21 @@ use Rattle.pay_numbered.specs.declared.numbered_set.AdditionFault.TheVariants.{C
 use Rattle.pay_tables.specs.Words.{FareTables}
 use Rattle.pay_taps.specs.declared.limits.TheConstants.{MOST_TAPS}
 use Rattle.pay_taps.specs.declared.tap.Tap.{Tap}
-use Rattle.pay_taps.specs.Words.{same_tap, judged}
-use Rattle.pay_taps.specs.Words.{number as tap_number}
+use Rattle.pay_taps.specs.Words.{same_tap, judged, number as tap_number}
 use Rattle.pay_fix.specs.declared.limits.TheConstants.{MOST_FIXES}
 use Rattle.pay_fix.specs.declared.fix.Fix.{Fix}
-use Rattle.pay_fix.specs.Words.{same_fix, day_named}
-use Rattle.pay_fix.specs.Words.{judged as judged_fix, number as fix_number}
+use Rattle.pay_fix.specs.Words.{same_fix, day_named, judged as judged_fix, number as fix_number}
 use Rattle.pay_account.specs.declared.fares.Priced.{Priced}
 use Rattle.pay_account.specs.declared.fares.TapFault.{TapFault}
 use Rattle.pay_account.specs.declared.fares.TapFault.TheVariants as of_tap
 use Rattle.pay_account.specs.declared.fares.FixFault.{FixFault}
 use Rattle.pay_account.specs.declared.fares.FixFault.TheVariants as of_fix
-use Rattle.pay_account.specs.Words.{Accepted, nothing, with_tap, with_fix, version, is_known, is_known_fix, prices, prices_on, tap_added, tap_result, after_tap, fix_added, fix_result, after_fix}
+use Rattle.pay_account.specs.Words.{Accepted, nothing, with_tap, with_fix, version, is_known, is_known_fix, prices, prices_on, tap_added, tap_result, after_tap, fix_added, fix_result, after_fix, State, accepted_of}
 use Rattle.pay_shard.specs.declared.asked.Asked.{Asked}
 use Rattle.pay_shard.specs.declared.asked.Asked.TheVariants as asked
 use Rattle.pay_shard.specs.declared.item.Item.{Item}
 use Rattle.pay_shard.specs.Machine.{step_tap_result, step_fix_result, step, marked_step, item_step}
-use Rattle.pay_shard.specs.State.{State, accepted_of, kept}
+use Rattle.pay_shard.specs.State.{kept}
 
 pub number_total : IsTotalOrder number_cmp
 number_total = then_total (on_total (λ n. n.0) nat_cmp_total) (on_total (λ n. n.1) nat_cmp_total)

@@ -7,15 +7,13 @@ use Rattle.std.specs.Prelude.{unwrap_or, Option, length, sum}
 use Rattle.pay_money.specs.declared.limits.TheConstants.{OPERATORS}
 use Rattle.pay_day.specs.Words.{monday}
 use Rattle.pay_tables.specs.Words.{FareTables}
-use Rattle.pay_account.specs.declared.posting.Posting.{Posting}
-use Rattle.pay_account.specs.Words.{Accepted, nothing, QuoteParts, IsQuote, quote, SetsParts, sets}
+use Rattle.pay_account.specs.Words.{Posting, Accepted, nothing, QuoteParts, IsQuote, quote, SetsParts, sets, State, accepted_of}
 use Rattle.pay_postings.specs.Kept.{AreKept}
 use Rattle.pay_postings.specs.Ledger.{LedgerParts, posted}
 use Rattle.pay_postings.specs.Postings.{net, shares_posted, last_of}
 use Rattle.pay_postings.specs.declared.fault.PostFault.{PostFault}
 use Rattle.pay_shard.specs.Selection.{is_quoted}
 use Rattle.pay_shard.specs.Runs.{replay}
-use Rattle.pay_shard.specs.State.{State, accepted_of}
 use Rattle.pay_close.specs.Close.{Books, new_books, batch_of_all, close, ledger_after, IsLate, Event, Answered, Closed, after, after_all, history, answered, AreQuotes}
 use Rattle.pay_close.proofs.Growing.{AreTheirs, nothing_is_theirs, item_grown}
 use Rattle.pay_close.proofs.Answering.{Comes, Then, Any}

@@ -4,8 +4,7 @@ use Rattle.std.specs.List.{AllByRecursion}
 use Rattle.std.specs.FinMap as map
 use Rattle.pay_day.specs.Words.{monday}
 use Rattle.pay_tables.specs.Words.{FareTables}
-use Rattle.pay_account.specs.Words.{Accepted, IsQuote}
-use Rattle.pay_account.specs.declared.posting.Posting.{Posting}
+use Rattle.pay_account.specs.Words.{Accepted, IsQuote, Posting}
 use Rattle.pay_postings.specs.Words.{LedgerParts, posted}
 use Rattle.pay_postings.specs.declared.fault.PostFault.{PostFault}
 use Rattle.pay_postings.specs.declared.fault.PostFault.TheVariants.{StaleQuote, QuoteDiffers}

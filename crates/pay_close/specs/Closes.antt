@@ -1,7 +1,7 @@
 -- What a close does to a ledger.
 use Rattle.std.specs.Prelude.{◌≡◌, ◌⊎◌, ℕ, List, Result, Ok, Err, IsTrue, IfOk, IfErr, OnErr, ⊤}
 use Rattle.sqlite.specs.State.{State, HasCleanDisk, Survives}
-use Rattle.pay_account.specs.declared.posting.Posting.{Posting}
+use Rattle.pay_account.specs.Words.{Posting}
 use Rattle.pay_postings.specs.Words.{LedgerParts, posted}
 use Rattle.pay_postings.specs.declared.fault.PostFault.{PostFault}
 use Rattle.pay_ledger.specs.Faults.{is_of_store}

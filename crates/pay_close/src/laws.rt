@@ -4,8 +4,7 @@ ghost use Rattle.std.specs.Prelude.{◌≡◌, ◌≢◌, ℕ, pos, true, List, 
 ghost use Rattle.std.specs.FinMap.{empty};
 ghost use Rattle.pay_day.specs.Words.{monday};
 ghost use Rattle.pay_tables.specs.Words.{FareTables};
-ghost use Rattle.pay_account.specs.declared.posting.Posting.{Posting};
-ghost use Rattle.pay_account.specs.Words.{quote, sets};
+ghost use Rattle.pay_account.specs.Words.{Posting, quote, sets};
 ghost use Rattle.pay_postings.specs.declared.fault.PostFault.{PostFault};
 ghost use Rattle.pay_postings.specs.declared.fault.PostFault.TheVariants as fault;
 ghost use Rattle.pay_postings.specs.Words.{total, net, shares_posted, last_of, AreKept, LedgerParts};

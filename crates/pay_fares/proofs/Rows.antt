@@ -9,7 +9,7 @@ use Rattle.pay_tables.specs.declared.single.Single.{Single}
 use Rattle.pay_taps.specs.declared.tap.Kind.{Kind}
 use Rattle.pay_taps.specs.declared.tap.Kind.TheVariants.{In, Out, Bus}
 use Rattle.pay_taps.specs.declared.tap.Touch.{Touch}
-use Rattle.pay_pairs.specs.declared.parts.Leg.{Leg}
+use Rattle.pay_links.specs.Words.{Leg}
 use Rattle.pay_links.specs.declared.journey.Journey.{Journey}
 use Rattle.pay_links.specs.declared.journey.Journey.TheVariants as journey
 use Rattle.pay_fares.specs.Peak.{is_peak}

@@ -1,7 +1,7 @@
 -- What a journey costs by itself.
 use Rattle.std.specs.Prelude.{ℕ, ◌+◌, nat_le, Bool, if◌then◌else◌}
 use Rattle.pay_tables.specs.Words.{FareTables, single_fare}
-use Rattle.pay_pairs.specs.declared.parts.Leg.{Leg}
+use Rattle.pay_links.specs.Words.{Leg}
 use Rattle.pay_links.specs.declared.journey.Journey.{Journey}
 use Rattle.pay_links.specs.declared.journey.Journey.TheVariants.{Run, Same, Lone, Bus}
 use Rattle.pay_fares.specs.Runs.{span_of_legs, span_of_station}

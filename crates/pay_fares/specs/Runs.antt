@@ -4,8 +4,7 @@ use Rattle.std.specs.List.{flat_map}
 use Rattle.pay_tables.specs.declared.place.Place.{Place}
 use Rattle.pay_tables.specs.declared.zones.Span.{Span}
 use Rattle.pay_tables.specs.Words.{FareTables, station_at, span_of}
-use Rattle.pay_pairs.specs.declared.parts.Leg.{Leg}
-use Rattle.pay_links.specs.Words.{LinkedLegs, all_legs, last_leg}
+use Rattle.pay_links.specs.Words.{Leg, LinkedLegs, all_legs, last_leg}
 
 -- the stations of a leg: the one of the way in and the one of the way out
 abbrev pub stations_of : FareTables → Leg → List Place

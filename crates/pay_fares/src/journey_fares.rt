@@ -4,9 +4,8 @@ ghost use Rattle.pay_fares.specs.JourneyFares.{is_free, fare};
 
 use crate::peak::is_peak;
 use crate::runs::{span_of_run, span_of_station};
-use pay_links::Journey;
+use pay_links::{Journey, Leg};
 use pay_money::Pence;
-use pay_pairs::Leg;
 use pay_tables::Tables;
 
 /// Whether a leg that ends where it began is free.

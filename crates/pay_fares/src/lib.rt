@@ -8,5 +8,6 @@ mod peak;
 mod runs;
 
 pub use journey_fares::fare;
+pub use pay_links::Journey;
 pub use peak::is_peak;
 pub use runs::{span_of_run, span_of_station};

@@ -1,3 +1,14 @@
+pub mod Journals
+pub mod Closes
+pub mod Tills
+pub mod LedgerCloses
+pub mod OneRequest
+pub mod AllRequests
+pub mod WholeRuns
+pub mod Weeks
+pub mod MarkedRequests
+pub mod Asked
+pub mod ArrivalOrder
 mod Counting
 pub mod Openings
 pub mod Runs

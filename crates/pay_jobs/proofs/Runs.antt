@@ -3,9 +3,9 @@ use Rattle.std.proofs.Common.{ℕ, Bool, List, Option, None, Some, IfSome, inl, 
 use Rattle.std.specs.Prelude.{⊤}
 use Rattle.pay_postings.specs.Words.{LedgerParts}
 use Rattle.pay_session.specs.declared.request.Request.{Request}
-use Rattle.pay_run.specs.Machine.{Machine}
-use Rattle.pay_run.specs.Outcomes.{Outcome}
-use Rattle.pay_run.specs.Run.{ComesTo, Ends, FailsSo}
+use Rattle.pay_jobs.specs.Machine.{Machine}
+use Rattle.pay_jobs.specs.Outcomes.{Outcome}
+use Rattle.pay_jobs.specs.LineRuns.{ComesTo, Ends, FailsSo}
 use Rattle.pay_jobs.specs.Faults.{stream_fault}
 use Rattle.pay_jobs.specs.Run.{IsRefused, IsUnmade, RunFails, SessionFails}
 use Rattle.pay_jobs.specs.declared.fault.Fault.{Fault}

@@ -9,10 +9,11 @@ use Rattle.pay_jobs.specs.Run.{Begins}
 use Rattle.pay_jobs.specs.Statement.{WeekBreaks, PageFails, IsPage, StatementEnds, StatementFails}
 use Rattle.pay_jobs.specs.declared.fault.Fault.{Fault}
 use Rattle.pay_jobs.specs.declared.fault.Fault.TheVariants.{Usage, CannotReadFares, BadZone, Input, Output, Refused}
-use Rattle.pay_run.specs.Words.{Machine, TellsWeek}
+use Rattle.pay_jobs.specs.Machine.{Machine}
+use Rattle.pay_jobs.specs.Week.{TellsWeek}
 use Rattle.pay_session.specs.declared.stop.SessionFault.TheVariants.{Read, Write}
-use Rattle.pay_run.specs.declared.week.WeekFault.{WeekFault}
-use Rattle.pay_run.specs.declared.week.WeekFault.TheVariants.{Session, Memory}
+use Rattle.pay_jobs.specs.declared.week.WeekFault.{WeekFault}
+use Rattle.pay_jobs.specs.declared.week.WeekFault.TheVariants.{Session, Memory}
 
 pub not_told : (of : WeekFault) (fault : Fault) (fares zone : List ℕ) (remaining left : Option (List ℕ)) → IsWeekFault of fault → WeekBreaks of fares zone remaining left
     → PageFails fault fares zone remaining left

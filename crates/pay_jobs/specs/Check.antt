@@ -3,7 +3,8 @@ use Rattle.std.specs.Prelude.{◌≡◌, ℕ, List, [], ◌∷◌, ◌++◌, Ok,
 use Rattle.std.specs.Fmt.{digits}
 use Rattle.std.specs.List.{join_with_byte}
 use Rattle.std.specs.Io.KnownBytes.{Appends}
-use Rattle.pay_tables.specs.Words.{fare_text, FareTables, counts}
+use Rattle.pay_tables.specs.Words.{FareTables, counts}
+use Rattle.pay_fare_file.specs.Words.{fare_text}
 use Rattle.pay_tables.specs.declared.counts.Counts.{Counts}
 use Rattle.pay_wire.specs.Words.{AppendsFront}
 use Rattle.pay_jobs.specs.Run.{IsRefused}

@@ -4,8 +4,8 @@ use Rattle.pay_jobs.specs.declared.fault.Fault.{Fault}
 use Rattle.pay_jobs.specs.declared.fault.Fault.TheVariants.{Usage, Input, Output, Refused}
 use Rattle.pay_session.specs.declared.stop.SessionFault.{SessionFault}
 use Rattle.pay_session.specs.declared.stop.SessionFault.TheVariants.{Read, Write}
-use Rattle.pay_run.specs.declared.week.WeekFault.{WeekFault}
-use Rattle.pay_run.specs.declared.week.WeekFault.TheVariants.{Session, Memory}
+use Rattle.pay_jobs.specs.declared.week.WeekFault.{WeekFault}
+use Rattle.pay_jobs.specs.declared.week.WeekFault.TheVariants.{Session, Memory}
 
 -- refused words end with 2, and every other fault with 1
 abbrev pub status_of : Fault → ℕ

@@ -1,3 +1,8 @@
+pub mod Ledgers
+pub mod Machine
+pub mod Outcomes
+pub mod LineRuns
+pub mod Week
 pub mod Faults
 pub mod Run
 pub mod Check

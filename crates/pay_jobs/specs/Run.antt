@@ -4,12 +4,14 @@ use Rattle.std.specs.FinMap as map
 use Rattle.jiff.specs.Placed.{IsPosixZone}
 use Rattle.jiff.specs.ZoneView.{plain_zone}
 use Rattle.jiff.specs.Words.{read_whole}
-use Rattle.pay_tables.specs.Words.{fare_text, FareTables, fault_number, fault_name}
-use Rattle.pay_tables.specs.declared.fault.FareFileFault.{FareFileFault}
+use Rattle.pay_tables.specs.Words.{FareTables}
+use Rattle.pay_fare_file.specs.Words.{fare_text, fault_number, fault_name}
+use Rattle.pay_fare_file.specs.declared.fault.FareFileFault.{FareFileFault}
 use Rattle.pay_jobs.specs.Faults.{IsRefusal, IsWantOfMemory, IsWantOfLedger}
 use Rattle.pay_postings.specs.Words.{LedgerParts}
 use Rattle.pay_ledger.specs.Opening.{nothing}
-use Rattle.pay_run.specs.Words.{Machine, Ends, FailsSo}
+use Rattle.pay_jobs.specs.Machine.{Machine}
+use Rattle.pay_jobs.specs.LineRuns.{Ends, FailsSo}
 use Rattle.pay_jobs.specs.declared.fault.Fault.{Fault}
 use Rattle.pay_jobs.specs.declared.fault.Fault.TheVariants.{Usage, CannotReadFares, BadZone, Input, Output, Refused}
 use Rattle.pay_session.specs.declared.stop.SessionFault.{SessionFault}

@@ -6,13 +6,13 @@ use Rattle.pay_statement.specs.Words.{statement_text}
 use Rattle.pay_wire.specs.Words.{AppendsFront}
 use Rattle.pay_jobs.specs.Faults.{IsWantOfMemory}
 use Rattle.pay_jobs.specs.Run.{Begins, IsRefused, IsBadZone}
-use Rattle.pay_run.specs.Words.{Machine, TellsWeek}
-use Rattle.pay_run.specs.Words.{WeekFails as FailsSo}
+use Rattle.pay_jobs.specs.Machine.{Machine}
+use Rattle.pay_jobs.specs.Week.{TellsWeek, WeekFails as FailsSo}
 use Rattle.pay_jobs.specs.declared.fault.Fault.{Fault}
 use Rattle.pay_jobs.specs.declared.fault.Fault.TheVariants.{Usage, CannotReadFares, BadZone, Input, Output, Refused}
 use Rattle.pay_session.specs.declared.stop.SessionFault.TheVariants.{Read, Write}
-use Rattle.pay_run.specs.declared.week.WeekFault.{WeekFault}
-use Rattle.pay_run.specs.declared.week.WeekFault.TheVariants.{Session, Memory}
+use Rattle.pay_jobs.specs.declared.week.WeekFault.{WeekFault}
+use Rattle.pay_jobs.specs.declared.week.WeekFault.TheVariants.{Session, Memory}
 
 -- the statement of an account's week, by a machine that has begun with the texts and answered the input
 pub record IsPage (fares zone : List ℕ) (account day : ℕ) (remaining left : Option (List ℕ)) (text : List ℕ) : Type 0 where

@@ -1,6 +1,10 @@
--- Words for the program above: how its jobs end, what its faults are, and what a service day is.
+-- Words for the program above: how its jobs end, what its faults are, what a service day is, and the machine that answers lines.
 pub use Rattle.pay_jobs.specs.Faults.{status_of, stream_fault, IsRefusal, IsWantOfMemory}
 pub use Rattle.pay_jobs.specs.Run.{IsRefused, RunEnds, RunFails}
 pub use Rattle.pay_jobs.specs.Check.{CheckEnds, CheckFails}
 pub use Rattle.pay_jobs.specs.Statement.{StatementEnds, StatementFails}
 pub use Rattle.pay_day.specs.Words.{IsDay}
+pub use Rattle.pay_jobs.specs.Machine.{Machine, new_machine}
+pub use Rattle.pay_jobs.specs.Ledgers.{IsSound, HasLedger}
+pub use Rattle.pay_jobs.specs.LineRuns.{Ends, FailsSo}
+pub use Rattle.pay_jobs.specs.Week.{TellsWeek, WeekFails}

@@ -6,7 +6,8 @@ ghost use Rattle.pay_jobs.specs.Run.{IsRefused};
 
 use crate::fault::Fault;
 use crate::output::write_text;
-use pay_tables::{Counts, Tables};
+use pay_fare_file::read_tables;
+use pay_tables::Counts;
 use std::alloc::{AllocError, Global};
 use std::io::Write;
 
@@ -24,7 +25,7 @@ fn counted(alloc: Global, fares: &str) -> Result<String, Fault>
     ensures counted { IfOk result (λ line. IsCounted fares.now (string_bytes line)) }
     ensures refused { IfErr result (λ fault. IsRefused fault fares.now) }
 {
-    let tables = Tables::read(alloc, fares)?;
+    let tables = read_tables(alloc, fares)?;
     let line = counts_line(alloc, tables.counts())?;
     Ok(line)
 }

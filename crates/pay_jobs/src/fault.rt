@@ -1,13 +1,13 @@
 //! Why the program fails, and the status that it ends with.
 ghost use Rattle.std.specs.Prelude.{◌≡◌};
 ghost use Rattle.pay_jobs.specs.Faults.{IsRefusal, IsWantOfMemory, IsWeekFault, status_of, stream_fault};
-ghost use Rattle.pay_tables.specs.Words.{fault_number, fault_name};
+ghost use Rattle.pay_fare_file.specs.Words.{fault_number, fault_name};
 ghost use Rattle.pay_ledger.specs.Faults.{open_fault_number, open_fault_name};
 
+use crate::week::WeekFault;
+use pay_fare_file::FareFileFault;
 use pay_ledger::OpenFault;
-use pay_run::WeekFault;
 use pay_session::SessionFault;
-use pay_tables::FareFileFault;
 use std::alloc::AllocError;
 use thiserror::Error;
 

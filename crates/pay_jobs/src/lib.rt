@@ -1,15 +1,21 @@
-//! The jobs of the program by the texts of their files: all that it does below the reading of words and of files.
-//! [`run_texts`] answers the lines of a reader, [`statement_texts`] writes the statement of a week by them, and [`check_text`]
-//! counts what a fare file has.
+//! The jobs of the program, below the reading of words and of files. [`run_lines`] answers the lines of a reader over one shard of
+//! its own, which begins with no accounts, and closes days into a ledger; [`week_by_lines`] tells what an account has of a week
+//! after such lines. [`run_texts`], [`statement_texts`] and [`check_text`] do what the programs do, by the texts of their files.
+//! `laws` says what the machine means by which lines are answered.
 #![tactic(auto)]
 
 mod check;
 mod fault;
+pub mod laws;
+mod lines;
 mod output;
 mod run;
 mod statement;
+mod week;
 
 pub use check::check_text;
 pub use fault::Fault;
+pub use lines::run_lines;
 pub use run::run_texts;
 pub use statement::statement_texts;
+pub use week::{WeekFault, week_by_lines};

@@ -6,16 +6,17 @@ ghost use Rattle.jiff.specs.Words.{read_whole};
 ghost use Rattle.jiff.specs.ZoneView.{plain_zone};
 ghost use Rattle.sqlite.specs.Held.{state};
 ghost use Rattle.sqlite.specs.Steps.{over_memory};
-ghost use Rattle.pay_tables.specs.Words.{fare_text};
+ghost use Rattle.pay_fare_file.specs.Words.{fare_text};
 ghost use Rattle.pay_ledger.specs.Keeps.{IsLedger};
 ghost use Rattle.pay_ledger.specs.Opening.{nothing};
 ghost use Rattle.pay_jobs.specs.Faults.{IsWantOfLedger};
 ghost use Rattle.pay_jobs.specs.Run.{IsRefused, RunEnds, RunFails};
 
 use crate::fault::Fault;
+use crate::lines::run_lines;
 use jiff::tz::TimeZone;
+use pay_fare_file::read_tables;
 use pay_ledger::Ledger;
-use pay_run::run_lines;
 use pay_session::Done;
 use pay_tables::Tables;
 use sqlite::{Connection, MemStore};
@@ -62,7 +63,7 @@ pub(crate) fn read_fares(alloc: Global, text: &str) -> Result<Arc<Tables>, Fault
     ensures ok { IfOk result (λ tables. fare_text text.now ≡ Ok (arc_value tables)) }
     ensures refused { IfErr result (λ fault. IsRefused fault text.now) }
 {
-    let tables = Tables::read(alloc, text)?;
+    let tables = read_tables(alloc, text)?;
     let shared = Arc::new(alloc, tables).map_err(AllocError::from)?;
     Ok(shared)
 }

@@ -8,8 +8,8 @@ ghost use Rattle.pay_jobs.specs.Statement.{IsPage, StatementEnds, StatementFails
 use crate::fault::Fault;
 use crate::output::write_text;
 use crate::run::{read_fares, read_zone};
+use crate::week::week_by_lines;
 use pay_account::Line;
-use pay_run::week_by_lines;
 use pay_statement::write_csv;
 use pay_tables::Tables;
 use std::alloc::{AllocError, Global};

@@ -5,12 +5,11 @@ use Rattle.std.specs.FinMap as finite
 use Rattle.std.specs.Ordering.{nat_cmp}
 use Rattle.sqlite_keyed.proofs.ListLemmas.{all_weaker}
 use Rattle.sqlite.specs.State.{State, HasCleanDisk}
-use Rattle.pay_account.specs.declared.posting.Posting.{Posting}
-use Rattle.pay_account.specs.Words.{QuoteParts, IsQuote, SetsParts}
-use Rattle.pay_postings.specs.Words.{LedgerParts, posted, AreKept}
+use Rattle.pay_quotes.specs.declared.posting.Posting.{Posting}
+use Rattle.pay_quotes.specs.Words.{QuoteParts, IsQuote, SetsParts}
+use Rattle.pay_postings.specs.Words.{LedgerParts, posted, AreKept, AccountsParts, Agrees, Covers, IsThere}
 use Rattle.pay_postings.specs.declared.fault.PostFault.{PostFault}
 use Rattle.pay_postings.specs.declared.fault.PostFault.TheVariants.{BadArchive, StaleQuote, QuoteDiffers, ArchiveConflict, Memory}
-use Rattle.pay_batch.specs.Words.{AccountsParts, Agrees, Covers, IsThere}
 use Rattle.pay_ledger.specs.declared.fault.LedgerFault.{LedgerFault}
 use Rattle.pay_ledger.specs.declared.fault.LedgerFault.TheVariants.{Refused}
 use Rattle.pay_ledger.specs.Keeps.{IsLedger}

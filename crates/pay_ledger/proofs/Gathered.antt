@@ -10,8 +10,7 @@ use Rattle.std.proofs.lemmas.List.{take_more}
 use Rattle.std.proofs.lemmas.Bool.Decides.{nat_tests}
 use Rattle.sqlite_keyed.proofs.ListLemmas.{all-append, all_weaker}
 use Rattle.sqlite.specs.State.{State, HasCleanDisk}
-use Rattle.pay_postings.specs.Words.{LedgerParts}
-use Rattle.pay_batch.specs.Words.{ArchivedParts, AccountsParts, archived_of, Agrees, IsThere}
+use Rattle.pay_postings.specs.Words.{LedgerParts, ArchivedParts, AccountsParts, archived_of, Agrees, IsThere}
 use Rattle.pay_ledger.specs.Steps.{GoesOn, Tells, ReadsInto}
 use Rattle.pay_ledger.proofs.Along.{was_clean}
 

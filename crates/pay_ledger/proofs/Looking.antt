@@ -1,9 +1,9 @@
 -- What is told of an account's own postings is told of all.
 use Rattle.std.proofs.Common.{◌≡◌, ℕ, ℤ, pos, Bool, true, false, cond, ◌&&◌, ◌==◌, List, [], ◌∷◌, refl, sym, ap, ◌∙◌}
 use Rattle.std.specs.Prelude.{fold, ◌+ℤ◌}
-use Rattle.pay_account.specs.declared.posting.Posting.{Posting}
+use Rattle.pay_quotes.specs.declared.posting.Posting.{Posting}
 use Rattle.pay_postings.specs.Postings.{is_of, with_amount, net, postings_of}
-use Rattle.pay_rows.specs.AccountRows.{is_of_account, of_account}
+use Rattle.pay_postings.specs.AccountRows.{is_of_account, of_account}
 
 other : (account week : ℕ) (p : Posting) → is_of_account account p ≡ false → is_of account week p ≡ false
 other account week p e = ap (λ (b : Bool). b && p.quote.week == week) e

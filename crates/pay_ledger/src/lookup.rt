@@ -2,7 +2,7 @@ ghost use Rattle.std.specs.Prelude.{◌≡◌, ◌++◌, ◌∷◌, [], false, I
 ghost use Rattle.sqlite.specs.Held.{state};
 ghost use Rattle.sqlite.specs.State.{HasCleanDisk, Survives};
 ghost use Rattle.pay_postings.specs.Words.{LedgerParts, postings_of};
-ghost use Rattle.pay_rows.specs.AccountRows.{of_account};
+ghost use Rattle.pay_postings.specs.AccountRows.{of_account};
 ghost use Rattle.pay_records.specs.Rows.{LedgerRows, HoldsRows};
 ghost use Rattle.pay_ledger.specs.Keeps.{IsLedger};
 ghost use Rattle.pay_ledger.specs.Steps.{Stays, GoesOn, IsAsBefore};
@@ -10,8 +10,8 @@ ghost use Rattle.pay_ledger.specs.Faults.{is_of_store};
 
 use crate::fault::LedgerFault;
 use crate::read::read_posted;
-use pay_account::Posting;
 use pay_postings::Posted;
+use pay_quotes::Posting;
 use pay_records::{all_fixes, all_taps};
 use pay_rows::{FixRow, TapRow};
 use sqlite::{Alter, Connection, Transaction};

@@ -2,9 +2,8 @@ ghost use Rattle.std.specs.Prelude.{◌≡◌, ◌≢◌, false, Ok, IsTrue, IfO
 ghost use Rattle.std.specs.List.{AllByRecursion};
 ghost use Rattle.sqlite.specs.Held.{state};
 ghost use Rattle.sqlite.specs.State.{HasCleanDisk, Survives};
-ghost use Rattle.pay_account.specs.Words.{IsQuote};
-ghost use Rattle.pay_postings.specs.Words.{LedgerParts, posted};
-ghost use Rattle.pay_batch.specs.Words.{lists, with_batch};
+ghost use Rattle.pay_quotes.specs.Words.{IsQuote};
+ghost use Rattle.pay_postings.specs.Words.{LedgerParts, posted, lists, with_batch};
 ghost use Rattle.pay_ledger.specs.Faults.{is_of_store};
 ghost use Rattle.pay_ledger.specs.Keeps.{IsLedger};
 ghost use Rattle.pay_ledger.specs.Steps.{Stays, GoesOn, Grows, Tells, IsRefused, Posts, IsAsBefore, MayLeave};
@@ -12,8 +11,8 @@ ghost use Rattle.pay_ledger.specs.Steps.{Stays, GoesOn, Grows, Tells, IsRefused,
 use crate::fault::LedgerFault;
 use crate::read::{read_quoted, read_sets};
 use crate::write::{write_fixes, write_postings, write_taps};
-use pay_account::{Posting, Quote, Sets};
-use pay_batch::{Accounts, Batch};
+use pay_postings::{Accounts, Batch};
+use pay_quotes::{Posting, Quote, Sets};
 use sqlite::{Alter, Connection, Transaction};
 use std::alloc::Global;
 

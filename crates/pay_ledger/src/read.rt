@@ -1,22 +1,20 @@
 ghost use Rattle.std.specs.Prelude.{◌≡◌, pos, map, IfOk, IfErr, OnOk, OnErr, IsTrue};
 ghost use Rattle.sqlite.specs.Held.{state};
 ghost use Rattle.sqlite.specs.State.{HasCleanDisk};
-ghost use Rattle.pay_postings.specs.Words.{LedgerParts};
-ghost use Rattle.pay_rows.specs.SetRows.{tap_row, fix_row};
-ghost use Rattle.pay_rows.specs.AccountRows.{of_account};
+ghost use Rattle.pay_postings.specs.Words.{LedgerParts, parts, taps_of, fixes_of, archived_of, IsThere};
+ghost use Rattle.pay_postings.specs.SetRows.{tap_row, fix_row};
+ghost use Rattle.pay_postings.specs.AccountRows.{of_account};
 ghost use Rattle.std.specs.List.{AllByRecursion};
-ghost use Rattle.pay_account.specs.Words.{QuoteParts, SetsParts};
-ghost use Rattle.pay_batch.specs.Words.{parts, taps_of, fixes_of, archived_of, IsThere};
+ghost use Rattle.pay_quotes.specs.Words.{QuoteParts, SetsParts};
 ghost use Rattle.pay_ledger.specs.Keeps.{IsLedger};
 ghost use Rattle.pay_ledger.specs.Steps.{Stays, GoesOn, Tells, ReadsInto};
 ghost use Rattle.pay_ledger.specs.Faults.{is_of_store};
 
 use crate::fault::LedgerFault;
-use pay_account::{Quote, Sets};
-use pay_batch::{Accounts, Archived};
-use pay_postings::Posted;
+use pay_postings::{Accounts, Archived, Posted, postings_from_rows};
+use pay_quotes::{Quote, Sets};
 use pay_records::{fixes_of, postings_of, shares_of, taps_of};
-use pay_rows::{FixRow, TapRow, postings_from_rows};
+use pay_rows::{FixRow, TapRow};
 use sqlite::{Alter, Transaction};
 use std::alloc::Global;
 
@@ -64,7 +62,7 @@ pub(crate) fn read_posted<S: Alter>(
 {
     let rows = postings_of(alloc, tx, i64::from(account))?;
     let shares = shares_of(alloc, tx, i64::from(account))?;
-    pay_rows::laws::postings_back();
+    pay_postings::laws::postings_back();
     Ok(postings_from_rows(alloc, account, &rows, &shares)?)
 }
 

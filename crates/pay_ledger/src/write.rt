@@ -6,10 +6,11 @@ ghost use Rattle.pay_ledger.specs.Faults.{is_of_store};
 ghost use Rattle.pay_ledger.specs.Steps.{Grows, Stays, GoesOn};
 
 use crate::fault::LedgerFault;
-use pay_account::Posting;
 use pay_fix::Fix;
+use pay_postings::{fix_row, posting_row, share_rows, tap_row};
+use pay_quotes::Posting;
 use pay_records::{add_fix, add_posting, add_share, add_tap};
-use pay_rows::{ShareRow, fix_row, posting_row, share_rows, tap_row};
+use pay_rows::ShareRow;
 use pay_taps::Tap;
 use sqlite::{Alter, Transaction};
 use std::alloc::Global;

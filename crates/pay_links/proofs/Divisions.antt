@@ -2,7 +2,7 @@
 use Rattle.std.proofs.Common.{◌≡◌, Bool, true, false, List, [], ◌∷◌, ◌++◌, map, if◌then◌else◌, refl, ap, subst, sym, ◌∙◌}
 use Rattle.std.specs.List.{AllByRecursion}
 use Rattle.std.proofs.lemmas.List.Elements.{recursion_from_All, All-from_recursion}
-use Rattle.pay_tables.specs.Words.{FareTables}
+use Rattle.pay_pairs.specs.Words.{FareTables}
 use Rattle.pay_pairs.specs.declared.parts.Leg.{Leg}
 use Rattle.pay_pairs.specs.declared.parts.RailPart.{RailPart}
 use Rattle.pay_pairs.specs.declared.parts.RailPart.TheVariants as part

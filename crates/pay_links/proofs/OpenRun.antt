@@ -2,7 +2,7 @@
 use Rattle.std.proofs.Common.{◌≡◌, ◌≤◌, ℕ, length, drop, Bool, true, false, List, [], ◌∷◌, ◌++◌, append_assoc, ◌&&◌, not, Option, Some, None, refl}
 use Rattle.std.proofs.lemmas.List.{drop_all}
 use Rattle.pay_pairs.specs.declared.parts.RailPart.{RailPart}
-use Rattle.pay_tables.specs.Words.{FareTables, interchange}
+use Rattle.pay_pairs.specs.Words.{FareTables, interchange}
 use Rattle.pay_pairs.specs.declared.parts.Leg.{Leg}
 use Rattle.pay_links.specs.LinkedLegs.{LinkedLegs, last_behind, last_leg, joined}
 use Rattle.pay_links.specs.Journeys.{is_same, is_in_time, is_linked, alone, run_before, leg_before, journeys}

@@ -1,8 +1,7 @@
 -- Journeys by rail: maximal runs of linked legs, and all that stands alone.
 use Rattle.std.specs.Prelude.{◌≡◌, ℕ, ◌+◌, ◌==◌, ◌&&◌, not, nat_le, Bool, true, false, if◌then◌else◌, List, [], ◌∷◌, ◌++◌, All, map, Option, Some, None}
 use Rattle.std.specs.List.{flat_map}
-use Rattle.pay_tables.specs.Words.{FareTables, interchange}
-use Rattle.pay_taps.specs.declared.tap.Touch.{Touch}
+use Rattle.pay_pairs.specs.Words.{FareTables, interchange, Touch}
 use Rattle.pay_pairs.specs.declared.parts.Leg.{Leg}
 use Rattle.pay_pairs.specs.declared.parts.RailPart.{RailPart}
 use Rattle.pay_pairs.specs.declared.parts.RailPart.TheVariants as part

@@ -1,6 +1,6 @@
 -- A run that may go on, while the parts are read.
 use Rattle.std.specs.Prelude.{List, [], ◌∷◌, Option, Some, None}
-use Rattle.pay_tables.specs.Words.{FareTables}
+use Rattle.pay_pairs.specs.Words.{FareTables}
 use Rattle.pay_links.specs.LinkedLegs.{LinkedLegs}
 use Rattle.pay_links.specs.Journeys.{run_before}
 use Rattle.pay_links.specs.declared.journey.Journey.{Journey}

@@ -1,10 +1,7 @@
 -- Worked rows: small lists of legs and lone taps, and their journeys.
 use Rattle.std.specs.Prelude.{◌≡◌, ℕ, false, List, [], ◌∷◌, refl}
-use Rattle.pay_tables.specs.Words.{FareTables}
-use Rattle.pay_tables.specs.declared.interchange.Interchange.{Interchange}
-use Rattle.pay_taps.specs.declared.tap.Kind.{Kind}
-use Rattle.pay_taps.specs.declared.tap.Kind.TheVariants.{In, Out}
-use Rattle.pay_taps.specs.declared.tap.Touch.{Touch}
+use Rattle.pay_pairs.specs.Words.{FareTables, Interchange, Kind, Touch}
+use Rattle.pay_pairs.specs.Words.kind_variants.{In, Out}
 use Rattle.pay_pairs.specs.declared.parts.Leg.{Leg}
 use Rattle.pay_pairs.specs.declared.parts.RailPart.TheVariants as part
 use Rattle.pay_links.specs.Journeys.{journeys}

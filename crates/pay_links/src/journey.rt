@@ -2,8 +2,7 @@ ghost use Rattle.std.specs.Prelude.{◌≡◌, ◌∷◌, ◌++◌, [], OnOk, On
 ghost use Rattle.pay_links.specs.LinkedLegs.{last_leg};
 ghost use Rattle.pay_links.specs.Journeys.{first_tap};
 
-use pay_pairs::Leg;
-use pay_taps::Touch;
+use pay_pairs::{Leg, Touch};
 use std::alloc::{AllocError, Global};
 use std::marker::Model;
 

@@ -1,7 +1,7 @@
 //! What is true of journeys themselves.
 
 ghost use Rattle.std.specs.Prelude.{◌≡◌, List};
-ghost use Rattle.pay_tables.specs.Words.{FareTables};
+ghost use Rattle.pay_pairs.specs.Words.{FareTables};
 ghost use Rattle.pay_pairs.specs.declared.parts.RailPart.{RailPart};
 ghost use Rattle.pay_links.specs.declared.journey.Journey.{Journey};
 ghost use Rattle.pay_links.specs.Journeys.{AreJourneys, journeys};

@@ -7,3 +7,4 @@ mod links;
 
 pub use journey::{Journey, Run};
 pub use links::journeys;
+pub use pay_pairs::{Leg, legs};

@@ -4,8 +4,7 @@ ghost use Rattle.pay_links.specs.Journeys.{is_same, is_linked, journeys, run_bef
 ghost use Rattle.pay_links.specs.OpenRun.{open_before, closed};
 
 use crate::journey::{Journey, Run};
-use pay_pairs::{Leg, RailPart};
-use pay_tables::Tables;
+use pay_pairs::{Leg, RailPart, Tables};
 use std::alloc::{AllocError, Global};
 
 /// Whether a leg ends at the station where it began.

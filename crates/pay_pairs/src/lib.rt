@@ -5,3 +5,5 @@ pub mod laws;
 mod parts;
 
 pub use parts::{Leg, RailPart, legs};
+pub use pay_tables::Tables;
+pub use pay_taps::Touch;

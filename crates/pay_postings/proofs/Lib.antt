@@ -1,2 +1,13 @@
 pub mod Settling
 pub mod Places
+pub mod RowPlaces
+pub mod Reading
+pub mod SetsBack
+pub mod SharesBack
+pub mod PostingsBack
+pub mod Maps
+pub mod Postings
+pub mod Archiving
+pub mod Sets
+pub mod Steps
+pub mod Loops

@@ -1,7 +1,7 @@
 -- What it is to answer by a definition, or to want memory.
 use Rattle.std.specs.Prelude.{◌≡◌, List, Option, Some, None, Result, Ok, Err, IsOk}
-use Rattle.pay_account.specs.declared.posting.Posting.{Posting}
-use Rattle.pay_account.specs.Words.{QuoteParts}
+use Rattle.pay_quotes.specs.declared.posting.Posting.{Posting}
+use Rattle.pay_quotes.specs.Words.{QuoteParts}
 use Rattle.pay_postings.specs.declared.fault.PostFault.{PostFault}
 use Rattle.pay_postings.specs.declared.fault.PostFault.TheVariants.{Memory}
 use Rattle.pay_postings.specs.Postings.{post, posted_anew}

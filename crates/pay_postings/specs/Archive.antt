@@ -4,7 +4,7 @@ use Rattle.pay_taps.specs.declared.tap.Tap.{Tap}
 use Rattle.pay_taps.specs.Words.{same_tap}
 use Rattle.pay_fix.specs.declared.fix.Fix.{Fix}
 use Rattle.pay_fix.specs.Words.{same_fix}
-use Rattle.pay_account.specs.Words.{SetsParts}
+use Rattle.pay_quotes.specs.Words.{SetsParts}
 use Rattle.pay_postings.specs.declared.fault.PostFault.{PostFault}
 use Rattle.pay_postings.specs.declared.fault.PostFault.TheVariants.{ArchiveConflict}
 use Rattle.pay_postings.specs.Faults.{◌>>=◌}

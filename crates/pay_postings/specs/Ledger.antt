@@ -2,8 +2,8 @@
 use Rattle.std.specs.Prelude.{List, Result, Ok}
 use Rattle.pay_taps.specs.declared.tap.Tap.{Tap}
 use Rattle.pay_fix.specs.declared.fix.Fix.{Fix}
-use Rattle.pay_account.specs.declared.posting.Posting.{Posting}
-use Rattle.pay_account.specs.Words.{QuoteParts, SetsParts}
+use Rattle.pay_quotes.specs.declared.posting.Posting.{Posting}
+use Rattle.pay_quotes.specs.Words.{QuoteParts, SetsParts}
 use Rattle.pay_postings.specs.declared.fault.PostFault.{PostFault}
 use Rattle.pay_postings.specs.Faults.{◌>>=◌}
 use Rattle.pay_postings.specs.Postings.{post_each}

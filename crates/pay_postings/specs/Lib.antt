@@ -5,5 +5,14 @@ pub mod Kept
 pub mod Answers
 pub mod Archive
 pub mod Ledger
+pub mod Ranged
+pub mod PostingRows
+pub mod AccountRows
+pub mod SetRows
+pub mod InRange
+pub mod NewRows
+pub mod Archived
+pub mod Batches
 mod WorkedRows
+mod BatchRows
 pub mod Words

@@ -1,13 +1,20 @@
-//! What postings come to. Each law is the contract of a function that does nothing: a caller whose proof needs a
-//! law calls its function.
-ghost use Rattle.std.specs.Prelude.{◌≡◌, ◌≢◌, ◌<◌, ◌⊎◌, pos, List, [], map, Some, Ok, Err};
+//! What postings come to, and that what is written as rows is read back as it was. Each law is the contract of a function that
+//! does nothing: a caller whose proof needs a law calls its function.
+ghost use Rattle.std.specs.Prelude.{◌≡◌, ◌≢◌, ◌<◌, ◌⊎◌, pos, List, [], map, Some, Ok, Err, ℕ, ℤ, length, IsPermutation};
 ghost use Rattle.std.specs.List.{AllByRecursion};
-ghost use Rattle.pay_account.specs.declared.posting.Posting.{Posting};
-ghost use Rattle.pay_account.specs.Words.{QuoteParts, IsQuote, SetsParts};
+ghost use Rattle.pay_quotes.specs.declared.posting.Posting.{Posting};
+ghost use Rattle.pay_quotes.specs.Words.{QuoteParts, IsQuote, SetsParts};
 ghost use Rattle.pay_postings.specs.Amounts.{total};
 ghost use Rattle.pay_postings.specs.Postings.{net, shares_posted, post, last_quote_of};
 ghost use Rattle.pay_postings.specs.Kept.{AreKept};
 ghost use Rattle.pay_postings.specs.Ledger.{LedgerParts, posted};
+ghost use Rattle.pay_taps.specs.declared.tap.Tap.{Tap};
+ghost use Rattle.pay_fix.specs.declared.fix.Fix.{Fix};
+ghost use Rattle.pay_rows.specs.declared.row.ShareRow.{ShareRow};
+ghost use Rattle.pay_postings.specs.SetRows.{tap_row, tap_from_row, fix_row, fix_from_row};
+ghost use Rattle.pay_postings.specs.InRange.{IsTapInRange, IsFixInRange};
+ghost use Rattle.pay_postings.specs.PostingRows.{postings_from_rows};
+ghost use Rattle.pay_postings.specs.AccountRows.{of_account, rows_of, shares_of, RiseBehind};
 
 /// Postings that were posted one after another stay such when one more quote is posted, and no postings are such.
 pub fn kept()
@@ -33,4 +40,29 @@ pub fn payments_come_to_what_is_due()
         → AreKept ledger.postings → AllByRecursion IsQuote quotes → posted ledger quotes sets ≡ Ok (given, after)
         → (quote : QuoteParts) → last_quote_of quote.account quote.week quotes ≡ Some quote
         → total (shares_posted quote.account quote.week after.postings) ≡ pos quote.due }
+{}
+
+/// A tap in its ranges is read back from its row.
+pub fn taps_back()
+    ensures { (tap : Tap) → IsTapInRange tap → tap_from_row tap.account (tap_row tap) ≡ Some tap }
+{}
+
+/// So is a correction.
+pub fn fixes_back()
+    ensures { (fix : Fix) → IsFixInRange fix → fix_from_row fix.account (fix_row fix) ≡ Some fix }
+{}
+
+/// Rows tell all of a tap, and of a correction, but for its account.
+pub fn same_row()
+    ensures taps { (tap other : Tap) → tap.account ≡ other.account → tap_row tap ≡ tap_row other → tap ≡ other }
+    ensures fixes { (fix other : Fix) → fix.account ≡ other.account → fix_row fix ≡ fix_row other → fix ≡ other }
+{}
+
+/// Of postings that were posted one after another and have rising numbers, those of an account are read back from
+/// their rows, in order, and from the rows of their shares, in any order.
+pub fn postings_back()
+    ensures { (account : ℕ) (before : ℤ) (ids : List ℤ) (list : List Posting) (shares : List ShareRow)
+        → AreKept list → length ids ≡ length list → RiseBehind before ids
+        → IsPermutation (shares_of account ids list) shares
+        → postings_from_rows account (rows_of account ids list) shares ≡ Some (of_account account list) }
 {}

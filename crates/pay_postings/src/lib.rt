@@ -1,9 +1,21 @@
-//! What posting quotes comes to: a list of postings and an archive, without a database.
+//! What posting quotes comes to, without a database: a list of postings, an archive, the rows that they are stored as, and what
+//! a batch of quotes and sets adds to them.
 #![tactic(auto)]
 
+mod accounts;
+mod archived;
+mod batch;
 mod fault;
 pub mod laws;
+mod new_rows;
 mod posted;
+mod posting_rows;
+mod set_rows;
 
+pub use accounts::Accounts;
+pub use archived::Archived;
+pub use batch::Batch;
 pub use fault::PostFault;
 pub use posted::Posted;
+pub use posting_rows::{posting_row, postings_from_rows, share_rows};
+pub use set_rows::{fix_from_row, fix_row, tap_from_row, tap_row};

@@ -7,8 +7,8 @@ ghost use Rattle.pay_postings.specs.Kept.{AreRead};
 ghost use Rattle.pay_postings.specs.Answers.{IsPosted, IsJudged};
 
 use crate::fault::PostFault;
-use pay_account::{Posting, Postings, Quote};
 use pay_money::limits::OPERATORS;
+use pay_quotes::{Posting, Postings, Quote};
 use std::alloc::{AllocError, Global};
 use std::marker::Model;
 
@@ -20,8 +20,8 @@ pub struct Posted {
 
 impl Model for Posted {
     ghost use Rattle.std.specs.Prelude.{List};
-    ghost use Rattle.pay_account.specs.declared.posting.Posting.{Posting};
-    ghost use Rattle.pay_account.specs.PostingsCode.{postings_code};
+    ghost use Rattle.pay_quotes.specs.declared.posting.Posting.{Posting};
+    ghost use Rattle.pay_quotes.specs.PostingsCode.{postings_code};
     ghost use Rattle.pay_postings.specs.Kept.{AreRead};
 
     ghost Value = { List Posting };

@@ -19,11 +19,10 @@ use Rattle.pay_taps.specs.Words.{number as tap_number}
 use Rattle.pay_fix.specs.declared.limits.TheConstants.{MOST_FIXES}
 use Rattle.pay_fix.specs.declared.fix.Fix.{Fix}
 use Rattle.pay_fix.specs.Words.{number as fix_number}
-use Rattle.pay_account.specs.Words.{Accepted, nothing}
+use Rattle.pay_account.specs.Words.{Accepted, nothing, State, accepted_of}
 use Rattle.pay_rows.specs.declared.row.TapRow.{TapRow}
 use Rattle.pay_rows.specs.declared.row.FixRow.{FixRow}
-use Rattle.pay_rows.specs.Ranged.{◌>>=◌}
-use Rattle.pay_shard.specs.Words.{State, accepted_of}
+use Rattle.pay_postings.specs.Ranged.{◌>>=◌}
 use Rattle.pay_restore.specs.Restored.{tap_of_row, fix_of_row, with_tap_rows, with_fix_rows, restored}
 use Rattle.pay_restore.specs.Archives.{tap_account, fix_account, tap_rows, fix_rows, IsArchivedTap, IsArchivedFix, IsArchive, IsSetOf, HasOf, AreRestored}
 use Rattle.pay_restore.proofs.Sets.{number_total, exact_numbers}

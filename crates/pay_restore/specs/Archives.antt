@@ -17,7 +17,7 @@ use Rattle.pay_fix.specs.Words.{number as fix_number}
 use Rattle.pay_account.specs.Words.{Accepted, is_known, is_known_fix}
 use Rattle.pay_rows.specs.declared.row.TapRow.{TapRow}
 use Rattle.pay_rows.specs.declared.row.FixRow.{FixRow}
-use Rattle.pay_rows.specs.Words.{tap_row, fix_row, IsTapInRange, IsFixInRange}
+use Rattle.pay_postings.specs.Words.{tap_row, fix_row, IsTapInRange, IsFixInRange}
 use Rattle.pay_restore.specs.Restored.{tap_of_row}
 
 -- whose a tap is, and whose a correction

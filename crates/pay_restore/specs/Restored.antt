@@ -4,17 +4,16 @@ use Rattle.std.specs.FinMap as map
 use Rattle.pay_tables.specs.Words.{FareTables}
 use Rattle.pay_taps.specs.declared.tap.Tap.{Tap}
 use Rattle.pay_fix.specs.declared.fix.Fix.{Fix}
-use Rattle.pay_account.specs.Words.{Accepted, with_tap, with_fix, tap_result, fix_result}
+use Rattle.pay_account.specs.Words.{Accepted, with_tap, with_fix, tap_result, fix_result, State, accepted_of}
 use Rattle.pay_account.specs.declared.fares.Priced.{Priced}
 use Rattle.pay_account.specs.declared.fares.TapFault.{TapFault}
 use Rattle.pay_account.specs.declared.fares.TapFault.TheVariants.{UnknownPlace}
 use Rattle.pay_postings.specs.declared.fault.PostFault.{PostFault}
 use Rattle.pay_postings.specs.declared.fault.PostFault.TheVariants.{BadArchive, Memory}
-use Rattle.pay_rows.specs.Ranged.{◌>>=◌, ranged}
+use Rattle.pay_postings.specs.Ranged.{◌>>=◌, ranged}
 use Rattle.pay_rows.specs.declared.row.TapRow.{TapRow}
 use Rattle.pay_rows.specs.declared.row.FixRow.{FixRow}
-use Rattle.pay_rows.specs.Words.{tap_from_row, fix_from_row}
-use Rattle.pay_shard.specs.Words.{State, accepted_of}
+use Rattle.pay_postings.specs.Words.{tap_from_row, fix_from_row}
 
 -- accounts count from 1
 abbrev pub account_number : ℤ → Option ℕ

@@ -8,10 +8,9 @@ ghost use Rattle.pay_taps.specs.declared.tap.Tap.{Tap};
 ghost use Rattle.pay_taps.specs.Words.{number as tap_number};
 ghost use Rattle.pay_fix.specs.declared.fix.Fix.{Fix};
 ghost use Rattle.pay_fix.specs.Words.{number as fix_number};
-ghost use Rattle.pay_account.specs.Words.{Accepted};
+ghost use Rattle.pay_account.specs.Words.{Accepted, accepted_of};
 ghost use Rattle.pay_rows.specs.declared.row.TapRow.{TapRow};
 ghost use Rattle.pay_rows.specs.declared.row.FixRow.{FixRow};
-ghost use Rattle.pay_shard.specs.Words.{accepted_of};
 ghost use Rattle.pay_restore.specs.Restored.{tap_of_row, fix_of_row, restored};
 ghost use Rattle.pay_restore.specs.Archives.{tap_account, fix_account, tap_rows, fix_rows, IsArchive, IsSetOf, AreRestored};
 
@@ -29,8 +28,8 @@ pub fn archived_is_restored()
     ensures { (tables : FareTables) (taps : List Tap) (fixes : List Fix) → IsArchive tables taps fixes
         → (accounts : List (ℕ × Accepted)) × (restored tables (tap_rows taps) (fix_rows fixes) ≡ Some accounts) × AreRestored taps fixes accounts }
 {
-    pay_rows::laws::taps_back();
-    pay_rows::laws::fixes_back();
+    pay_postings::laws::taps_back();
+    pay_postings::laws::fixes_back();
 }
 
 /// And it is as it was: an account that had accepted just its own of the archive has accepted the same again. One that has

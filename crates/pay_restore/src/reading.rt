@@ -2,7 +2,8 @@ ghost use Rattle.std.specs.Prelude.{◌≡◌, ◌≤◌, IfSome};
 ghost use Rattle.pay_restore.specs.Restored.{account_number, tap_of_row, fix_of_row};
 
 use pay_fix::Fix;
-use pay_rows::{FixRow, TapRow, fix_from_row, tap_from_row};
+use pay_postings::{fix_from_row, tap_from_row};
+use pay_rows::{FixRow, TapRow};
 use pay_taps::Tap;
 
 /// The number of an account, which counts from 1.

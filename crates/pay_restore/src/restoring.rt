@@ -3,7 +3,7 @@ ghost use Rattle.std.specs.List.{IsDistinct};
 ghost use Rattle.std.specs.List.Sorted.{IsStrictlySortedBy};
 ghost use Rattle.std.specs.Ordering.{nat_cmp, eq_by_cmp};
 ghost use Rattle.pay_postings.specs.declared.fault.PostFault.TheVariants.{BadArchive, Memory};
-ghost use Rattle.pay_shard.specs.Words.{ArePriced};
+ghost use Rattle.pay_account.specs.Words.{ArePriced};
 ghost use Rattle.pay_restore.specs.Kept.{held, AreKept};
 ghost use Rattle.pay_restore.specs.Restored.{with_tap_row, with_tap_rows, with_fix_row, with_fix_rows, restored, IsRestoredAs};
 

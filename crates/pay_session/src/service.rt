@@ -14,7 +14,7 @@ use crate::asks::{Asks, asks_of};
 use crate::request::Request;
 use crate::till::{CloseFault, Till};
 use jiff::tz::TimeZone;
-use pay_account::Postings;
+use pay_quotes::Postings;
 use pay_shard::{Command, Desk, DeskFault};
 use pay_wire::{Closed, Refusal, Reply};
 

@@ -1,6 +1,6 @@
 //! What closes days.
 ghost use Rattle.std.specs.Prelude.{◌≡◌, ◌≤◌, ℕ, List, [], Result, Err};
-ghost use Rattle.pay_account.specs.declared.posting.Posting.{Posting};
+ghost use Rattle.pay_quotes.specs.declared.posting.Posting.{Posting};
 ghost use Rattle.pay_day.specs.declared.limits.TheConstants.{FIRST_DAY, LAST_DAY};
 ghost use Rattle.pay_shard.specs.Words.{AreKept};
 ghost use Rattle.pay_session.specs.Events.{Taken};
@@ -9,7 +9,7 @@ ghost use Rattle.pay_session.specs.Serving.{MaySometimeRefuse, MaySometimeBeLate
 ghost use Rattle.pay_session.specs.declared.till.CloseFault.{CloseFault};
 ghost use Rattle.pay_session.specs.declared.till.CloseFault.TheVariants.{NotHere};
 
-use pay_account::Postings;
+use pay_quotes::Postings;
 use pay_shard::Desk;
 use std::marker::Model;
 

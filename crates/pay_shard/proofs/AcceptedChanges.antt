@@ -16,7 +16,8 @@ use Rattle.pay_account.specs.Words.{Accepted, nothing, tap_result, fix_result, a
 use Rattle.pay_account.specs.Changes.{Change, Tapped, Fixed, after, IsAccepted}
 use Rattle.pay_shard.specs.Changes.{is_priced}
 use Rattle.pay_shard.specs.Machine.{Step, step_tap_result, step_fix_result}
-use Rattle.pay_shard.specs.State.{State, accepted_of, is_new, kept}
+use Rattle.pay_shard.specs.State.{is_new, kept}
+use Rattle.pay_account.specs.State.{State, accepted_of}
 use Rattle.pay_shard.proofs.AskedChanges.{account_of, step_change}
 use Rattle.pay_shard.proofs.FirstOnes.{same_tap_left, same_fix_left, first_tap_is_new, first_fix_is_new}
 use Rattle.pay_shard.proofs.Places.{one_number}

@@ -6,7 +6,7 @@ use Rattle.pay_numbered.specs.Words.{IsIn}
 use Rattle.pay_tables.specs.Words.{FareTables}
 use Rattle.pay_account.specs.Words.{Accepted, nothing}
 use Rattle.pay_account.specs.Changes.{Change, after, after_all, IsAccepted, AreAccepted}
-use Rattle.pay_shard.specs.State.{State, accepted_of}
+use Rattle.pay_account.specs.State.{State, accepted_of}
 use Rattle.pay_shard.proofs.AskedChanges.{account_of}
 
 -- what is held of an account after these changes: the first opens it

@@ -13,7 +13,7 @@ use Rattle.pay_account.specs.Changes.{Change, after_all, AreAccepted}
 use Rattle.pay_shard.specs.Changes.{is_priced, AreAllPriced, asked_by, AreUnmarked, accepted_asked}
 use Rattle.pay_shard.specs.Machine.{Step, step, marked_step, item_step}
 use Rattle.pay_shard.specs.Runs.{run, replay}
-use Rattle.pay_shard.specs.State.{State, accepted_of}
+use Rattle.pay_account.specs.State.{State, accepted_of}
 use Rattle.pay_shard.specs.declared.asked.Asked.{Asked}
 use Rattle.pay_shard.specs.declared.item.Entry.{Entry}
 use Rattle.pay_shard.specs.declared.item.Item.{Item}

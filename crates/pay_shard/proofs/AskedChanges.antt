@@ -13,7 +13,7 @@ use Rattle.pay_account.specs.declared.fares.TapFault.{TapFault}
 use Rattle.pay_account.specs.declared.fares.FixFault.{FixFault}
 use Rattle.pay_shard.specs.Changes.{is_priced}
 use Rattle.pay_shard.specs.Machine.{Step, step_tap_result, step_fix_result, step}
-use Rattle.pay_shard.specs.State.{State, accepted_of}
+use Rattle.pay_account.specs.State.{State, accepted_of}
 use Rattle.pay_shard.specs.declared.asked.Asked.{Asked}
 use Rattle.pay_shard.specs.declared.asked.Asked.TheVariants as asked
 

@@ -12,7 +12,7 @@ use Rattle.pay_tables.specs.Words.{FareTables}
 use Rattle.pay_account.specs.Words.{Accepted, nothing, QuoteParts, quote, SetsParts, sets}
 use Rattle.pay_shard.specs.BatchParts.{BatchParts, batch_of, batch, batch_if_quoted, batch_with}
 use Rattle.pay_shard.specs.Selection.{is_of, is_tap_between, is_fill_between, is_quoted}
-use Rattle.pay_shard.specs.State.{State, accepted_of}
+use Rattle.pay_account.specs.State.{State, accepted_of}
 
 -- one account, quoted or not
 pub if_not : (tables : FareTables) (through : ℕ) (b : BatchParts) (account : ℕ) (accepted : Accepted) → is_quoted through (sets account accepted) ≡ false → b ≡ batch_if_quoted tables through b account accepted

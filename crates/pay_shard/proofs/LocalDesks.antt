@@ -11,7 +11,7 @@ use Rattle.pay_shard.specs.LocalParts.{commands_of, transcript_of, AreInPlace, t
 use Rattle.pay_shard.specs.Machine.{item_step}
 use Rattle.pay_shard.specs.Runs.{answers_from}
 use Rattle.pay_shard.specs.ShardParts.{ShardParts, answers_given, next_answer, item_of, with_item, with_room}
-use Rattle.pay_shard.specs.State.{State}
+use Rattle.pay_account.specs.State.{State}
 use Rattle.pay_shard.specs.declared.item.Entry.{Entry}
 use Rattle.pay_shard.specs.declared.item.Item.{Item}
 use Rattle.pay_shard.specs.declared.reply.Answer.{Answer}

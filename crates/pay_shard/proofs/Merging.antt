@@ -19,7 +19,8 @@ use Rattle.pay_shard.specs.Machine.{Step, is_refusal, step_tap_result, step_fix_
 use Rattle.pay_shard.specs.Merges.{items_of, all_items, replies_of, IsAskedOf, AreAskedOf, IsWhole}
 use Rattle.pay_shard.specs.Runs.{run, replay, IsMarkedRightly, IsHistory}
 use Rattle.pay_shard.specs.Selection.{is_of, is_quoted, quoted}
-use Rattle.pay_shard.specs.State.{State, accepted_of, is_new, kept}
+use Rattle.pay_shard.specs.State.{is_new, kept}
+use Rattle.pay_account.specs.State.{State, accepted_of}
 use Rattle.pay_shard.specs.declared.asked.Asked.{Asked}
 use Rattle.pay_shard.specs.declared.asked.Asked.TheVariants as asked
 use Rattle.pay_shard.specs.declared.item.Item.{Item}

@@ -17,7 +17,8 @@ use Rattle.std.proofs.lemmas.Bool.{lt-ltb}
 use Rattle.std.proofs.lemmas.List.{map-append, length-map}
 use Rattle.pay_account.specs.Words.{Accepted, nothing}
 use Rattle.pay_shard.specs.Held.{place_of, ArePlaces, state_of}
-use Rattle.pay_shard.specs.State.{State, accepted_of, kept}
+use Rattle.pay_shard.specs.State.{kept}
+use Rattle.pay_account.specs.State.{State, accepted_of}
 
 abbrev pub same_number : ℕ → ℕ → Bool
 same_number = eq_by_cmp nat_cmp

@@ -3,7 +3,7 @@ use Rattle.std.specs.Prelude.{◌≡◌, Bool, true, false, if◌then◌else◌,
 use Rattle.std.specs.List.{AllByRecursion}
 use Rattle.pay_tables.specs.Words.{FareTables}
 use Rattle.pay_account.specs.declared.fares.Priced.{Priced}
-use Rattle.pay_shard.specs.State.{State}
+use Rattle.pay_account.specs.State.{State}
 use Rattle.pay_shard.specs.Runs.{run}
 use Rattle.pay_shard.specs.declared.asked.Asked.{Asked}
 use Rattle.pay_shard.specs.declared.item.Item.{Item}

@@ -1,15 +1,13 @@
 -- How accounts are kept: one beside another, and of each number its place.
-use Rattle.std.specs.Prelude.{◌≡◌, ℕ, suc, ◌≤◌, cond, List, [], ◌∷◌, map, Option, Some, None, option_map, refl}
+use Rattle.std.specs.Prelude.{◌≡◌, ℕ, suc, cond, List, [], ◌∷◌, map, Option, Some, None, option_map, refl}
 use Rattle.std.specs.BTreeMap.{is_at}
 use Rattle.std.specs.Coded.{Coded, code_by, coded×}
 use Rattle.std.specs.FinMap as finite
-use Rattle.std.specs.List.{AllByRecursion}
 use Rattle.std.specs.Map.{lookup}
 use Rattle.std.specs.Ordering.{nat_cmp, eq_by_cmp}
 use Rattle.pay_tables.specs.Codes.{fare_tables_code}
 use Rattle.pay_tables.specs.Words.{FareTables}
-use Rattle.pay_account.specs.Words.{Accepted}
-use Rattle.pay_shard.specs.State.{State, state_code}
+use Rattle.pay_account.specs.Words.{Accepted, State, state_code}
 
 -- the fare file by which they are priced, and what they have accepted
 pub record Held : Type 0 where
@@ -32,7 +30,3 @@ module _ {F : Type 0} (account : F → ℕ) (accepted : F → Accepted) where
   -- what accounts have accepted, by their numbers
   unfoldable pub state_of : List F → State
   state_of accounts = finite.from_entries (map (λ a. (account a, accepted a)) accounts)
-
--- each account may be priced by the fare file, and they count from 1
-abbrev pub ArePriced : {F : Type 0} → (F → ℕ) → (F → Type 0) → List F → Type 0
-ArePriced account IsPriced = AllByRecursion (λ a. (1 ≤ account a) × IsPriced a)

@@ -7,7 +7,8 @@ use Rattle.pay_account.specs.Words.{tap_result, fix_result, shown, quote}
 use Rattle.pay_account.specs.declared.fares.Priced.{Priced}
 use Rattle.pay_account.specs.declared.fares.TapFault.{TapFault}
 use Rattle.pay_account.specs.declared.fares.FixFault.{FixFault}
-use Rattle.pay_shard.specs.State.{State, accepted_of, after_tap_of, after_fix_of}
+use Rattle.pay_shard.specs.State.{after_tap_of, after_fix_of}
+use Rattle.pay_account.specs.State.{State, accepted_of}
 use Rattle.pay_shard.specs.BatchParts.{batch}
 use Rattle.pay_shard.specs.Faults.{reply_to_tap_fault, reply_to_fix_fault}
 use Rattle.pay_shard.specs.declared.asked.Asked.{Asked}

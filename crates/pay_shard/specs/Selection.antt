@@ -8,7 +8,7 @@ use Rattle.pay_fix.specs.declared.fix.Fix.{Fix}
 use Rattle.pay_fix.specs.declared.fix.What.{What}
 use Rattle.pay_fix.specs.declared.fix.What.TheVariants as what
 use Rattle.pay_account.specs.Words.{Accepted, SetsParts, sets}
-use Rattle.pay_shard.specs.State.{State}
+use Rattle.pay_account.specs.State.{State}
 
 abbrev pub is_between : ℕ → ℕ → ℕ → Bool
 is_between from through day = nat_le from day && nat_le day through

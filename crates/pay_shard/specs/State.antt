@@ -1,27 +1,12 @@
--- What the machine keeps: of each account what it has accepted.
-use Rattle.std.specs.Prelude.{ℕ, Bool, false, not, Result, Ok, Err, unwrap_or, if◌then◌else◌}
-use Rattle.std.specs.Coded.{Coded, coded_ℕ}
+-- What the machine keeps after a command: of each account what it has accepted.
+use Rattle.std.specs.Prelude.{ℕ, Bool, false, not, Result, Ok, Err, if◌then◌else◌}
 use Rattle.std.specs.FinMap as map
-use Rattle.std.specs.FinMap.{FinMap}
-use Rattle.std.specs.Ordering.{nat_cmp}
 use Rattle.pay_taps.specs.declared.tap.Tap.{Tap}
 use Rattle.pay_fix.specs.declared.fix.Fix.{Fix}
-use Rattle.pay_account.specs.Words.{Accepted, accepted_code, nothing, after_tap, after_fix}
+use Rattle.pay_account.specs.Words.{Accepted, State, accepted_of, after_tap, after_fix}
 use Rattle.pay_account.specs.declared.fares.Priced.{Priced}
 use Rattle.pay_account.specs.declared.fares.TapFault.{TapFault}
 use Rattle.pay_account.specs.declared.fares.FixFault.{FixFault}
-
--- an account that has accepted nothing counts like one that is not in the map
-abbrev pub State : Type 0
-State = FinMap nat_cmp Accepted
-
--- the code that a model of this type needs
-abbrev pub state_code : Coded State
-state_code = map.code coded_ℕ accepted_code
-
--- what an account has accepted
-abbrev pub accepted_of : State → ℕ → Accepted
-accepted_of state account = unwrap_or (map.get state account) nothing
 
 -- whether something was accepted that was not there before
 abbrev pub is_new : {E : Type 0} → Result Priced E → Bool

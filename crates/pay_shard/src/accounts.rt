@@ -5,9 +5,10 @@ ghost use Rattle.std.specs.List.{IsDistinct};
 ghost use Rattle.std.specs.Ordering.{nat_cmp, eq_by_cmp};
 ghost use Rattle.pay_day.specs.Words.{IsDay};
 ghost use Rattle.pay_account.specs.Words.{IsTapResult, IsFixResult, shown, quote};
-ghost use Rattle.pay_shard.specs.State.{accepted_of, after_tap_of, after_fix_of};
+ghost use Rattle.pay_shard.specs.State.{after_tap_of, after_fix_of};
+ghost use Rattle.pay_account.specs.State.{accepted_of, ArePriced};
 ghost use Rattle.pay_shard.specs.BatchParts.{batch, batch_if_quoted, batch_with};
-ghost use Rattle.pay_shard.specs.Held.{ArePlaces, ArePriced, state_of};
+ghost use Rattle.pay_shard.specs.Held.{ArePlaces, state_of};
 
 use crate::batch::Batch;
 use crate::selection::is_quoted;
@@ -34,7 +35,8 @@ pub struct Accounts<F: Fares> {
 impl<F: Fares> Model for Accounts<F> {
     ghost use Rattle.std.specs.Prelude.{map};
     ghost use Rattle.std.specs.Arc.{arc_value};
-    ghost use Rattle.pay_shard.specs.Held.{Held, held_code, ArePlaces, ArePriced, state_of};
+    ghost use Rattle.pay_shard.specs.Held.{Held, held_code, ArePlaces, state_of};
+    ghost use Rattle.pay_account.specs.State.{ArePriced};
 
     ghost Value = { Held };
 

@@ -6,7 +6,7 @@ ghost use Rattle.pay_tables.specs.Words.{FareTables};
 ghost use Rattle.pay_shard.specs.declared.asked.Asked.{Asked};
 ghost use Rattle.pay_shard.specs.declared.item.Item.{Item};
 ghost use Rattle.pay_shard.specs.declared.reply.Answer.{Answer};
-ghost use Rattle.pay_shard.specs.State.{State};
+ghost use Rattle.pay_account.specs.State.{State};
 ghost use Rattle.pay_shard.specs.Runs.{run, replay, answers, reply_at, answer_to, IsHistory};
 ghost use Rattle.pay_shard.specs.Changes.{AreAllPriced, asked_by, AreUnmarked, accepted_asked};
 ghost use Rattle.pay_shard.specs.Merges.{items_of, all_items, replies_of, AreAskedOf, IsWhole};

@@ -5,8 +5,7 @@ use Rattle.pay_money.specs.Words.{part}
 use Rattle.pay_tables.specs.declared.place.Place.{Place}
 use Rattle.pay_tables.specs.declared.place.Place.TheVariants.{Station, Route}
 use Rattle.pay_tables.specs.Words.{FareTables, station_at}
-use Rattle.pay_pairs.specs.declared.parts.Leg.{Leg}
-use Rattle.pay_links.specs.Words.{all_legs}
+use Rattle.pay_links.specs.Words.{Leg, all_legs}
 use Rattle.pay_links.specs.declared.journey.Journey.{Journey}
 use Rattle.pay_links.specs.declared.journey.Journey.TheVariants.{Run, Same, Lone, Bus}
 

@@ -1,9 +1,6 @@
-pub mod Fault
 pub mod Spans
 pub mod Bands
 pub mod FareTables
 pub mod Codes
-pub mod Keys
-pub mod FareFile
+pub mod Parts
 pub mod Words
-pub mod Rows

@@ -25,7 +25,7 @@ impl Cover {
     }
 
     /// Whether it covers the same as another.
-    pub(crate) fn same_as(self, other: Cover) -> bool
+    pub fn same_as(self, other: Cover) -> bool
         ensures { result ≡ same_cover self other }
     {
         match (self, other) {

@@ -1,35 +1,23 @@
-ghost use Rattle.std.specs.Prelude.{◌≡◌, ◌≢◌, ◌≤◌, IfOk, IfErr, IfSome, IsOk, None, Ok, Err, option_map, ◌*◌, All, length};
+ghost use Rattle.std.specs.Prelude.{◌≡◌, ◌≤◌, IfSome, option_map, ◌*◌, All, length};
 ghost use Rattle.std.specs.FinMap as map;
 ghost use Rattle.std.specs.List.{find};
-ghost use Rattle.toml.specs.Parse.{parse_document};
-ghost use Rattle.toml.specs.View.{table_view};
 ghost use Rattle.pay_tables.specs.declared.limits.TheConstants.{MOST_ZONES, MOST_MINUTES, MOST_FARE, MOST_INTERCHANGE_SECONDS, MOST_BANDS};
-ghost use Rattle.pay_tables.specs.Fault.{GivesUnlessMemory};
-ghost use Rattle.pay_tables.specs.FareFile.{zones_at, fare_file, fare_text};
 ghost use Rattle.pay_tables.specs.FareTables.{AreRules, IsInterchange, IsPlace, IsSingle, is_between, station_at, single_of_span, single_fare, allowed_seconds, is_holiday, interchange, counts, IsFareTables};
 ghost use Rattle.pay_tables.specs.Bands.{IsBand};
+ghost use Rattle.pay_tables.specs.Parts.{tables_of};
 ghost use Rattle.pay_tables.specs.Spans.{IsSpan};
 
 use crate::band::Band;
-use crate::bands::bands_at;
 use crate::counts::Counts;
-use crate::fault::FareFileFault;
-use crate::holidays::holidays_at;
 use crate::interchange::Interchange;
-use crate::interchanges::interchanges_at;
-use crate::keys::{integer_at, table_at};
-use crate::limits::MOST_ZONES;
-use crate::minutes::minutes_at;
+use crate::parts::FareParts;
 use crate::place::Place;
 use crate::places::Places;
 use crate::rules::Rules;
 use crate::single::Single;
-use crate::singles::singles_at;
 use crate::zones::Span;
 use pay_money::Pence;
-use std::alloc::Global;
 use std::marker::Model;
-use toml::Table;
 
 /// What a fare file says.
 #[derive(Debug, Drop)]
@@ -75,50 +63,22 @@ impl Model for Tables {
     }) };
 }
 
-/// How many fare zones there are.
-fn zones_at(file: &Table) -> Result<u8, FareFileFault>
-    ensures value { result ≡ zones_at (table_view file.now) }
-    ensures in_range { IfOk result (λ zones. (1 ≤ zones) × (zones ≤ MOST_ZONES)) }
-{
-    let zones = integer_at(file, "zones", 1, MOST_ZONES)?;
-    Ok(zones as u8)
-}
-
 impl Tables {
-    /// Reads the text of a fare file. The first fault is given, in the order of the keys; `Memory`
-    /// comes before any that would be found later.
-    pub fn read(alloc: Global, text: &str) -> Result<Tables, FareFileFault>
-        ensures not_toml { result ≡ Err FareFileFault.NotToml → parse_document text.now ≡ None }
-        ensures ok { IfOk result (λ tables. fare_text text.now ≡ Ok tables) }
-        ensures refused { IfErr result (λ fault. fault ≢ FareFileFault.Memory → fare_text text.now ≡ Err fault) }
+    /// The tables that parts make.
+    pub fn new(parts: FareParts) -> Tables
+        requires { IsFareTables (tables_of parts) }
+        ensures { result ≡ tables_of parts }
     {
-        let file = toml::table_from_str(alloc, text)?;
-        Tables::of(alloc, &file)
-    }
-
-    /// What a document says.
-    fn of(alloc: Global, file: &Table) -> Result<Tables, FareFileFault>
-        ensures value { GivesUnlessMemory (λ tables. tables) result (fare_file (table_view file.now)) }
-        ensures memory { result ≡ Err FareFileFault.Memory → IsOk (zones_at (table_view file.now)) }
-    {
-        let zones = zones_at(file)?;
-        let minutes = minutes_at(alloc, file, zones)?;
-        let rules = Rules::of(table_at(file, "rules")?)?;
-        let singles = singles_at(alloc, file, zones)?;
-        let bands = bands_at(alloc, file, zones)?;
-        let holidays = holidays_at(alloc, file)?;
-        let places = Places::of(alloc, file, zones)?;
-        let interchanges = interchanges_at(alloc, file, &places)?;
-        Ok(Tables {
-            zones,
-            minutes,
-            rules,
-            singles,
-            bands,
-            holidays,
-            places,
-            interchanges,
-        })
+        Tables {
+            zones: parts.zones,
+            minutes: parts.minutes,
+            rules: parts.rules,
+            singles: parts.singles,
+            bands: parts.bands,
+            holidays: parts.holidays,
+            places: parts.places,
+            interchanges: parts.interchanges,
+        }
     }
 
     /// How many fare zones there are.

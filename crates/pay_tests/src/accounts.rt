@@ -173,7 +173,7 @@ pub fn expect_fixed<R: Abort>(
 
 /// Account 7 after six items: a forgotten touch out is filled in, money is given back, the Fill is withdrawn, and the tap
 /// taken out, and then one that there is not.
-pub fn corrected<R: Abort + AllocGlobal>(rt: &R, tables: &Tables) -> Account {
+fn corrected<R: Abort + AllocGlobal>(rt: &R, tables: &Tables) -> Account {
     let mut account: Account = Fares::new(rt.alloc(), 7);
     let entry = tap_at(rt, 1, 25_200, 10, Kind::In);
     let out = What::Fill(tap_at(rt, 2, 27_000, 12, Kind::Out).stamp, 12, Kind::Out);

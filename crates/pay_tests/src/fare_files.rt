@@ -1,8 +1,9 @@
 //! By the sample fare file. Each fault of a fare file, and what its limits are, is shown by `tests/program`.
 
 use crate::given::{expect_same, sample};
+use crate::sample::SAMPLE_FARES;
+use pay_fare_file::*;
 use pay_money::Pence;
-use pay_tables::sample::SAMPLE_FARES;
 use pay_tables::*;
 use std::alloc::Global;
 
@@ -96,7 +97,7 @@ fn reads_holidays_and_interchanges(rt: HostRuntime) {
 
 /// What comes of a fare file.
 fn fault_of(alloc: Global, text: &str) -> Option<FareFileFault> {
-    Tables::read(alloc, text).err()
+    read_tables(alloc, text).err()
 }
 
 // `rt try --test --fail-alloc N` runs it with each allocation failing in turn.

@@ -1,8 +1,9 @@
 //! What tests are given: the sample fare file, and taps of Monday, 2024-01-08, when London's clocks show UTC.
 
+use crate::sample::SAMPLE_FARES;
 use pay_day::Moment;
+use pay_fare_file::read_tables;
 use pay_tables::Tables;
-use pay_tables::sample::SAMPLE_FARES;
 use pay_taps::{Kind, Tap, Touch};
 use std::fmt::Debug;
 use std::process::Abort;
@@ -25,24 +26,13 @@ pub fn expect_list<R: Abort, T: PartialEq + Debug + Drop, F: Copy + PartialEq + 
     }
 }
 
-/// So a list was found, and these are its items in some order.
-pub fn expect_members<R: Abort, T: PartialEq + Drop, F: Debug>(
-    rt: &R,
-    found: Result<Vec<T>, F>,
-    wanted: &[T],
-) {
-    let list = found.expect(rt, "a list");
-    expect_same(rt, list.len(), wanted.len());
-    expect_same(rt, wanted.iter().all(|item| list.contains(item)), true);
-}
-
 /// Monday, 2024-01-08.
 pub const MONDAY: u32 = 19_730;
 
 /// The tables of the sample fare file, whose bands are that of the buses (525 a day, 2470 a week), of zones 1 to 2
 /// (890, 4470) and of zones 1 to 3 (1050, 5250).
 pub fn sample<R: Abort + AllocGlobal>(rt: &R) -> Tables {
-    Tables::read(rt.alloc(), SAMPLE_FARES).expect(rt, "the sample")
+    read_tables(rt.alloc(), SAMPLE_FARES).expect(rt, "the sample")
 }
 
 /// A tap of account 7 by reader 1, at a second of the Monday.

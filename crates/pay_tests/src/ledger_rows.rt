@@ -1,16 +1,16 @@
-//! Postings, taps and corrections as rows of the ledger, both ways.
+//! Postings, taps and corrections as rows of the ledger, both ways, and those that are new beside archived ones.
 
-use crate::given::{MONDAY, expect_list, expect_same, tap_at};
+use crate::given::{MONDAY, expect_same, sample, tap_at};
 use crate::postings::quote;
-use pay_account::Posting;
+use pay_account::{Account, Fares, Posting, Sets};
 use pay_fix::{Credit, Fix, What};
-use pay_postings::{PostFault, Posted};
+use pay_postings::*;
 use pay_rows::*;
 use pay_taps::{Kind, Tap};
 use std::process::Abort;
 
 /// The first posting of account 7: 860 are due through the Tuesday.
-pub const CHARGED: PostingRow = PostingRow {
+const CHARGED: PostingRow = PostingRow {
     week: 19_730,
     through: 19_731,
     version: 1,
@@ -19,7 +19,7 @@ pub const CHARGED: PostingRow = PostingRow {
 };
 
 /// The second: 340 are due through the Wednesday.
-pub const GIVEN_BACK: PostingRow = PostingRow {
+const GIVEN_BACK: PostingRow = PostingRow {
     week: 19_730,
     through: 19_732,
     version: 2,
@@ -187,7 +187,7 @@ fn fix(what: What) -> Fix {
 }
 
 /// Its row, by what it does and the numbers from a to e.
-pub fn row_of(what: i64, of: (i64, i64, i64, i64, i64)) -> FixRow {
+fn row_of(what: i64, of: (i64, i64, i64, i64, i64)) -> FixRow {
     FixRow {
         staff: 3,
         seq: 4,
@@ -239,13 +239,53 @@ fn rows_of_no_correction(rt: HostRuntime) {
     }
 }
 
+/// What account 7 has accepted once it was sent these.
+fn sent<R: Abort + AllocGlobal>(rt: &R, taps: &[Tap], fixes: &[Fix]) -> Sets {
+    let tables = sample(rt);
+    let mut account: Account = Fares::new(rt.alloc(), 7);
+    for tap in taps {
+        let own = Tap {
+            account: account.number(),
+            ..*tap
+        };
+        let _ = account.tap(&tables, own).expect(rt, "a price");
+    }
+    for fix in fixes {
+        let own = Fix {
+            account: account.number(),
+            ..*fix
+        };
+        let _ = account.fix(&tables, own).expect(rt, "a price");
+    }
+    account.sets().expect(rt, "memory")
+}
+
+/// What is to be written for sets of account 7 beside an archived tap and an archived correction.
+fn batch<R: Abort + AllocGlobal>(rt: &R, sets: Sets) -> Result<Batch, PostFault> {
+    let mut archived = Archived {
+        posted: Posted::new(rt.alloc()),
+        taps: Vec::new(rt.alloc()),
+        fixes: Vec::new(rt.alloc()),
+    };
+    archived.taps.push(TAPPED).expect(rt, "memory");
+    let void = row_of(0, (5, 6, 0, 0, 0));
+    archived.fixes.push(void).expect(rt, "memory");
+    let mut accounts = Accounts::new(rt.alloc());
+    accounts.add(7, archived).expect(rt, "memory");
+    expect_same(rt, (accounts.has(7), accounts.has(8)), (true, false));
+    accounts.post(rt.alloc(), &[], &[sets])
+}
+
 /// These taps of account 7 are new beside the archived one.
 fn expect_new_taps<R: Abort + AllocGlobal>(
     rt: &R,
     taps: &[Tap],
     wanted: Result<&[Tap], PostFault>,
 ) {
-    expect_list(rt, new_taps(rt.alloc(), &[TAPPED], taps), wanted);
+    match batch(rt, sent(rt, taps, &[])) {
+        Ok(batch) => expect_same(rt, Ok(batch.taps.as_slice()), wanted),
+        Err(fault) => expect_same(rt, Err(fault), wanted),
+    }
 }
 
 #[test]
@@ -267,8 +307,10 @@ fn expect_new_fixes<R: Abort + AllocGlobal>(
     fixes: &[Fix],
     wanted: Result<&[Fix], PostFault>,
 ) {
-    let archived = [row_of(0, (5, 6, 0, 0, 0))];
-    expect_list(rt, new_fixes(rt.alloc(), &archived, fixes), wanted);
+    match batch(rt, sent(rt, &[], fixes)) {
+        Ok(batch) => expect_same(rt, Ok(batch.fixes.as_slice()), wanted),
+        Err(fault) => expect_same(rt, Err(fault), wanted),
+    }
 }
 
 #[test]

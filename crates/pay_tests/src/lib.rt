@@ -1,7 +1,8 @@
-//! The tests of the crates below `pay_jobs`, each by public calls alone. They have a crate of their own since one
-//! with tests is proved twice. They show what no clause says: that each public call succeeds with ample memory, that
-//! each generic one is met by a type, and what comes of readers, writers and allocations that fail. What is worked
-//! out in rows is data for `tests/program`, which runs the built program on it.
+//! The tests of the crates that need no SQL, from amounts to sessions and the accounts of an archive, each by public calls
+//! alone. Those of the ledger and of what stands on it are in `pay_ledger_tests`, so that no test of a price loads SQL. Both
+//! are crates of their own since one with tests is proved twice. They show what no clause says: that each public call
+//! succeeds with ample memory, that each generic one is met by a type, and what comes of readers, writers and allocations
+//! that fail. What is worked out in rows is data for `tests/program`, which runs the built program on it.
 #![tactic(auto)]
 
 #[cfg(test)]
@@ -10,8 +11,6 @@ mod accounts;
 mod amounts;
 #[cfg(test)]
 mod caps;
-#[cfg(test)]
-mod closes;
 #[cfg(test)]
 mod days;
 #[cfg(test)]
@@ -25,19 +24,15 @@ mod given;
 #[cfg(test)]
 mod journeys;
 #[cfg(test)]
-mod ledger;
-#[cfg(test)]
-mod ledger_opening;
-#[cfg(test)]
 mod ledger_rows;
 #[cfg(test)]
 mod postings;
 #[cfg(test)]
 mod quotes;
 #[cfg(test)]
-mod records;
-#[cfg(test)]
 mod restores;
+#[cfg(test)]
+mod sample;
 #[cfg(test)]
 mod sessions;
 #[cfg(test)]
@@ -54,5 +49,3 @@ mod taps;
 mod tills;
 #[cfg(test)]
 mod wire;
-#[cfg(test)]
-mod words;

@@ -1,17 +1,13 @@
 //! Sessions over readers that are interrupted and that fail, and over writers that fail and that count. What sessions
 //! answer is shown by `tests/program`.
 
+use crate::desks::empty_desk;
 use crate::given::{expect_same, sample};
-use crate::ledger::empty_ledger;
 use crate::streams::{Letters, Scripted, Trickle};
 use jiff::tz::TimeZone;
-use pay_ledger::Ledger;
-use pay_run::{WeekFault, run_lines, week_by_lines};
-use pay_session::{Done, SessionFault};
-use sqlite::Alter;
+use pay_session::{Done, NoTill, SessionFault, session};
 use std::io::{BufRead, ErrorKind, Write};
 use std::process::Abort;
-use std::sync::Arc;
 
 /// Four bus taps, the last one late, the day that they make, and the last one again.
 const LINES: &str =
@@ -32,26 +28,15 @@ static ENDS: [(usize, usize); 7] = [
     (153, 215),
 ];
 
-/// How a session ends that closes days into a ledger.
-pub fn serve_into<H: Abort + AllocGlobal, R: BufRead, W: Write, S: Alter>(
-    rt: &H,
-    reader: &mut R,
-    writer: &mut W,
-    ledger: &mut Ledger<S>,
-) -> Result<Done, SessionFault> {
-    let tables = Arc::new(rt.alloc(), sample(rt)).expect(rt, "memory");
-    let zone = TimeZone::posix("GMT0BST,M3.5.0/1,M10.5.0").expect(rt, "a rule");
-    run_lines(rt.alloc(), reader, writer, &zone, tables, ledger)
-}
-
-/// How a session ends over an empty ledger in memory.
+/// How a session ends over a desk with no accounts, where nothing is closed.
 fn serve<H: Abort + AllocGlobal, R: BufRead, W: Write>(
     rt: &H,
     reader: &mut R,
     writer: &mut W,
 ) -> Result<Done, SessionFault> {
-    let mut ledger = empty_ledger(rt);
-    serve_into(rt, reader, writer, &mut ledger)
+    let zone = TimeZone::posix("GMT0BST,M3.5.0/1,M10.5.0").expect(rt, "a rule");
+    let mut desk = empty_desk(rt, sample(rt));
+    session(reader, writer, &zone, &mut desk, &mut NoTill)
 }
 
 /// All lines, and an end.
@@ -121,25 +106,6 @@ fn stops_where_the_reader_fails(rt: HostRuntime) {
         let (replies, bytes) = lines_within(until);
         expect_read_fault(&rt, until, replies, bytes);
     }
-}
-
-/// How many journeys the account of the lines has in its week by what a reader gives until it fails, or why none are told.
-fn week_until<H: Abort + AllocGlobal>(rt: &H, until: usize) -> Result<usize, WeekFault> {
-    let mut reader = Trickle {
-        until,
-        ..all_lines()
-    };
-    let tables = Arc::new(rt.alloc(), sample(rt)).expect(rt, "memory");
-    let zone = TimeZone::posix("GMT0BST,M3.5.0/1,M10.5.0").expect(rt, "a rule");
-    let lines = week_by_lines(rt.alloc(), &mut reader, &zone, tables, 7, 19_736)?;
-    Ok(lines.as_slice().len())
-}
-
-#[test]
-fn tells_a_week_where_the_reader_ends(rt: HostRuntime) {
-    expect_same(&rt, week_until(&rt, usize::MAX), Ok(4));
-    let stopped = SessionFault::Read { answered: 2 };
-    expect_same(&rt, week_until(&rt, 60), Err(WeekFault::Session(stopped)));
 }
 
 #[test]
@@ -235,23 +201,6 @@ fn flushes_each_reply(rt: HostRuntime) {
     expect_flushed(&rt, b"TAP", 1, 14);
     expect_flushed(&rt, b"QUIT\n", 1, 4);
     expect_flushed(&rt, b"", 0, 0);
-}
-
-#[test]
-fn ends_at_quit(rt: HostRuntime) {
-    let mut reader = b"QUIT\nTAP 1 1 7".as_slice();
-    let mut writer = Vec::new(rt.alloc());
-    let wanted = Done {
-        answered: 1,
-        quit: true,
-        lacked_memory: false,
-    };
-    expect_same(&rt, serve(&rt, &mut reader, &mut writer), Ok(wanted));
-    expect_same(
-        &rt,
-        (reader, writer.as_slice()),
-        (b"TAP 1 1 7".as_slice(), b"BYE\n".as_slice()),
-    );
 }
 
 /// How often a session looks at its reader's buffer at the most.

@@ -138,16 +138,3 @@ fn a_writer_that_fails(rt: HostRuntime) {
     );
     expect_same(&rt, outcome(&rt, BY_RAIL.len(), 1), None);
 }
-
-// It is longer than what `csv` holds back.
-#[test]
-fn writes_many_journeys(rt: HostRuntime) {
-    let many = [line(LineKind::Rail, 10, 12, 25_200, 340, Some(1)); 300];
-    let held = write_csv(&sample(&rt), &many, Vec::new(rt.alloc())).expect(&rt, "a statement");
-    expect_same(&rt, held.len(), 33 + 300 * 34);
-    expect_same(
-        &rt,
-        held.ends_with(b",340,1-2\n19730,RAIL,10,12,07:00:00,340,1-2\n"),
-        true,
-    );
-}

@@ -4,6 +4,7 @@ ghost use Rattle.std.specs.Prelude.{◌≤◌, ◌≢◌};
 ghost use Rattle.pay_session.specs.declared.till.CloseFault.TheVariants as close_fault;
 
 use crate::accounts::expect_price;
+use crate::desks::empty_desk;
 use crate::given::{MONDAY, expect_same, sample, tap_at};
 use crate::streams::{Scripted, Trickle};
 use jiff::tz::TimeZone;
@@ -14,7 +15,6 @@ use pay_shard::{Command, Desk, DeskFault, LocalDesk, Reply, Ticket};
 use pay_tables::Tables;
 use pay_taps::Kind;
 use std::process::Abort;
-use std::sync::Arc;
 
 /// Refuses its first, second and fourth command, is late with its reply to the third, and replies to the others that memory
 /// is wanting. It counts the commands.
@@ -173,10 +173,10 @@ fn till<'a, R: Abort + AllocGlobal>(rt: &R, tables: &Tables) -> Prepared<'a> {
 
 /// A desk that was asked for nothing.
 fn desk<R: Abort + AllocGlobal>(rt: &R, tables: Tables) -> Unwilling {
-    let tables = Arc::new(rt.alloc(), tables).expect(rt, "memory");
-    let none: Vec<Account> = Vec::new(rt.alloc());
-    let local = LocalDesk::new(rt.alloc(), tables, none).expect(rt, "memory");
-    Unwilling { local, asked: 0 }
+    Unwilling {
+        local: empty_desk(rt, tables),
+        asked: 0,
+    }
 }
 
 /// What a session came to: how it ended, how many commands its desk was asked, and how many closes its till.

@@ -34,10 +34,7 @@ fn reads_commands(rt: HostRuntime) {
     expect_same(&rt, read_command(b"DUE 7 19730"), Some(due));
     let close = Command::Close { day: 19_730 };
     expect_same(&rt, read_command(b"CLOSE 19730"), Some(close));
-    expect_same(&rt, read_command(b"CLOSE 3"), None);
-    expect_same(&rt, read_command(b"CLOSE"), None);
     expect_same(&rt, read_command(b"QUIT"), Some(Command::Quit));
-    expect_same(&rt, read_command(b"QUIT "), None);
 }
 
 fn line(kind: LineKind, from: u16, to: u16, utc: u64, fare: u64) -> Line {
@@ -196,29 +193,9 @@ fn expect_not_flushed<R: Abort + AllocGlobal>(rt: &R, kind: ErrorKind) {
     expect_end(rt, writer, Err(WriteFault::NotFlushed(kind)), 77, 3);
 }
 
-fn expect_refusal<R: Abort>(rt: &R, refusal: Refusal, number: u16, name: &str) {
-    expect_same(rt, (refusal.number(), refusal.name()), (number, name));
-}
-
+// Those of every other refusal are in replies, here and by `tests/program`.
 #[test]
-fn gives_refusals_their_numbers(rt: HostRuntime) {
-    expect_refusal(&rt, Refusal::OutOfTime, 1, "OutOfTime");
-    expect_refusal(&rt, Refusal::UnknownPlace, 15, "UnknownPlace");
-    expect_refusal(&rt, Refusal::Conflict, 20, "Conflict");
-    expect_refusal(&rt, Refusal::AccountFull, 21, "AccountFull");
-    expect_refusal(&rt, Refusal::FixConflict, 22, "FixConflict");
-    expect_refusal(&rt, Refusal::FixesFull, 23, "FixesFull");
-    expect_refusal(&rt, Refusal::Busy, 30, "Busy");
-    expect_refusal(&rt, Refusal::Window, 31, "Window");
-    expect_refusal(&rt, Refusal::NotHere, 34, "NotHere");
-    expect_refusal(&rt, Refusal::StaleQuote, 42, "StaleQuote");
-    expect_refusal(&rt, Refusal::Store, 43, "Store");
-    expect_refusal(&rt, Refusal::DeskFault, 44, "DeskFault");
-    expect_refusal(&rt, Refusal::BadArchive, 45, "BadArchive");
-    expect_refusal(&rt, Refusal::ArchiveConflict, 46, "ArchiveConflict");
-    expect_refusal(&rt, Refusal::QuoteDiffers, 47, "QuoteDiffers");
-    expect_refusal(&rt, Refusal::BadLine, 50, "BadLine");
-    expect_refusal(&rt, Refusal::LongLine, 51, "LongLine");
-    expect_refusal(&rt, Refusal::Late, 52, "Late");
-    expect_refusal(&rt, Refusal::Memory, 90, "Memory");
+fn gives_a_refusal_its_number(rt: HostRuntime) {
+    let refusal = Refusal::DeskFault;
+    expect_same(&rt, (refusal.number(), refusal.name()), (44, "DeskFault"));
 }

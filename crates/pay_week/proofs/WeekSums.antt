@@ -5,8 +5,7 @@ use Rattle.std.proofs.lemmas.List.Elements.{filter-append}
 use Rattle.std.proofs.lemmas.List.Sums.{sum_by-cons, sum_by-append}
 use Rattle.pay_tables.specs.declared.band.Band.{Band}
 use Rattle.pay_tables.specs.Words.{FareTables}
-use Rattle.pay_links.specs.declared.journey.Journey.{Journey}
-use Rattle.pay_caps.specs.Words.{CellSums, capped_sum, total, Offer, charged, cells_of, covers, not_covered, outside, capped_price, capped_price_of, maximum_fares, day_price}
+use Rattle.pay_caps.specs.Words.{Journey, CellSums, capped_sum, total, Offer, charged, cells_of, covers, not_covered, outside, capped_price, capped_price_of, maximum_fares, day_price}
 use Rattle.pay_week.specs.WeekPrices.{week_cap, capped_days, capped_days_of, maximum_of, week_price, week_price_of}
 
 -- what the sums of a day's journeys come to

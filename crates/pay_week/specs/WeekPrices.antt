@@ -2,8 +2,7 @@
 use Rattle.std.specs.Prelude.{◌≡◌, ℕ, ◌+◌, ◌-◌, List, [], ◌∷◌, map, sum_by, refl}
 use Rattle.pay_tables.specs.declared.band.Band.{Band}
 use Rattle.pay_tables.specs.Words.{FareTables}
-use Rattle.pay_links.specs.declared.journey.Journey.{Journey}
-use Rattle.pay_caps.specs.Words.{CellSums, charged, not_covered, capped_price, maximum_fares, capped_price_of, outside}
+use Rattle.pay_caps.specs.Words.{Journey, CellSums, charged, not_covered, capped_price, maximum_fares, capped_price_of, outside}
 
 -- what a band caps of a week
 abbrev pub week_cap : Band → ℕ

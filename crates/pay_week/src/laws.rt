@@ -3,8 +3,7 @@
 ghost use Rattle.std.specs.Prelude.{◌≡◌, ◌≤◌, ◌+◌, ◌∷◌, ◌++◌, List, map, sum_by};
 ghost use Rattle.pay_tables.specs.declared.band.Band.{Band};
 ghost use Rattle.pay_tables.specs.Words.{FareTables};
-ghost use Rattle.pay_links.specs.declared.journey.Journey.{Journey};
-ghost use Rattle.pay_caps.specs.Words.{cells_of, not_covered, day_price, maximum_fares};
+ghost use Rattle.pay_caps.specs.Words.{Journey, cells_of, not_covered, day_price, maximum_fares};
 ghost use Rattle.pay_week.specs.WeekPrices.{capped_days, week_price, week_price_of};
 
 use pay_tables::Tables;

@@ -7,12 +7,11 @@ use Rattle.std.specs.List.{join_with_byte, flat_map, AllByRecursion}
 use Rattle.pay_wire.specs.declared.refusal.Refusal.{Refusal}
 use Rattle.pay_wire.specs.declared.refusal.Refusal.TheVariants.{OutOfTime, UnknownPlace, Conflict, AccountFull, FixConflict, FixesFull, Busy, Window, NotHere, StaleQuote, Store, DeskFault, BadArchive, ArchiveConflict, QuoteDiffers, BadLine, LongLine, Late, Memory}
 use Rattle.pay_account.specs.declared.fares.Priced.{Priced}
-use Rattle.pay_account.specs.declared.posting.Posting.{Posting}
+use Rattle.pay_account.specs.Words.{Posting, QuoteParts}
 use Rattle.pay_account.specs.declared.shown.Line.{Line}
 use Rattle.pay_account.specs.declared.shown.LineKind.{LineKind}
 use Rattle.pay_account.specs.declared.shown.LineKind.TheVariants as kind
 use Rattle.pay_account.specs.declared.shown.Shown.{Shown}
-use Rattle.pay_account.specs.Words.{QuoteParts}
 use Rattle.pay_money.specs.declared.limits.TheConstants.{OPERATORS}
 use Rattle.pay_wire.specs.declared.reply.Closed.{Closed}
 use Rattle.pay_wire.specs.declared.reply.Reply.{Reply}

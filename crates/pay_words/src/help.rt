@@ -1,10 +1,10 @@
 //! The texts that help is made of, each line within 100 columns.
 
 /// What the program is.
-pub const PROGRAM: &str = "The fare engine: prices contactless pay as you go travel from taps";
+pub const PROGRAM: &str = "The back office that prices contactless pay as you go travel from taps";
 
 /// What `run` does.
-pub const RUN: &str = "Read taps from standard input, and reply to each with what its account owes";
+pub const RUN: &str = "Read taps, corrections and closes from standard input, and reply to each";
 
 /// What `check` does.
 pub const CHECK: &str = "\
@@ -13,7 +13,7 @@ or its first fault";
 
 /// What `statement` does.
 pub const STATEMENT: &str = "\
-Read taps from standard input, and print the statement of an account's week as CSV";
+Read taps and corrections from standard input, and print the statement of an account's week as CSV";
 
 /// What the word FARES is.
 pub const FARES: &str = "The fare file, a TOML document";
@@ -38,7 +38,7 @@ Words of run (FARES ZONE), of check (FARES) and of statement (FARES ZONE ACCOUNT
   DAY      a service day of the week, counted from 1970-01-01
 
 Example: account 7 boards a bus in London on Monday 8 January 2024 at 07:00. The reply names the
-day, counted from 1970-01-01, and what the account owes for it and for its week, in pence.
+day, counted from 1970-01-01, its price and that of its week, in pence.
   $ farebox run examples/bus.toml GMT0BST,M3.5.0/1,M10.5.0
   TAP 1 1 7 1704697200 50 BUS
   OK 19730 175 175
@@ -53,7 +53,7 @@ The lines and replies, the fare file and the faults are described in docs/FORMAT
 /// What stands below the help of `run`.
 pub const BELOW_RUN: &str = "\
 Example: account 7 boards a bus in London on Monday 8 January 2024 at 07:00. The reply names the
-day, counted from 1970-01-01, and what the account owes for it and for its week, in pence.
+day, counted from 1970-01-01, its price and that of its week, in pence.
   $ farebox run examples/bus.toml GMT0BST,M3.5.0/1,M10.5.0
   TAP 1 1 7 1704697200 50 BUS
   OK 19730 175 175
@@ -67,7 +67,7 @@ The lines and replies, the fare file and the faults are described in docs/FORMAT
 
 /// What stands below the help of `check`.
 pub const BELOW_CHECK: &str = "\
-Example: a fare file of five stations and a bus route, with three bands that cap what is owed.
+Example: a fare file of five stations and a bus route, with three bands that cap prices.
   $ farebox check examples/sample.toml
   OK places 6 bands 3 interchanges 1 holidays 1
 

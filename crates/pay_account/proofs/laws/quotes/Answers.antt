@@ -1,7 +1,7 @@
 use Rattle.std.proofs.Common.{◌∙◌}
 use Rattle.pay_fix.specs.Words.{credits}
 use Rattle.pay_day.specs.Words.{monday}
-use Rattle.pay_account.specs.Accepted.{touches}
+use Rattle.pay_quotes.specs.Accepted.{touches}
 use Rattle.pay_account.specs.Journeys.{journeys_of}
 use Rattle.pay_account.specs.Quotes.{due_through, weights_through}
 use Rattle.pay_account.proofs.Carried.{due_is_covered}

@@ -1,8 +1,7 @@
 use Rattle.std.proofs.Common.{◌≡◌, ℕ, ◌++◌, List, map, ap, ◌∙◌}
 use Rattle.pay_day.specs.Words.{sunday}
-use Rattle.pay_caps.specs.Words.{CellSums, cells_of, day_price_of}
+use Rattle.pay_week.specs.Words.{CellSums, cells_of, day_price_of, week_price_of}
 use Rattle.pay_links.specs.declared.journey.Journey.{Journey}
-use Rattle.pay_week.specs.Words.{week_price_of}
 use Rattle.pay_account.specs.Journeys.{boardings, journeys_of}
 use Rattle.pay_account.specs.Prices.{journeys_on, days_through, price_of_day, price_of_week}
 use Rattle.pay_account.proofs.WeekCells.{at_its_day, each_day}

@@ -1,6 +1,6 @@
 use Rattle.std.proofs.Common.{◌≡◌, ◌+◌, ◌*◌, ◌≤◌, sum_by, drop}
 use Rattle.pay_tables.specs.declared.limits.TheConstants.{MOST_FARE}
-use Rattle.pay_caps.specs.Words.{total}
+use Rattle.pay_week.specs.Words.{total}
 use Rattle.pay_account.specs.WeekCells.{week_with_journeys}
 use Rattle.pay_account.proofs.week_cells.add_journeys.Given as goal
 

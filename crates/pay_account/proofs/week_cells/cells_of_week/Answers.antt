@@ -1,6 +1,6 @@
 use Rattle.std.proofs.Common.{replicate, ap, ◌∙◌}
 use Rattle.pay_day.specs.declared.limits.TheConstants.{DAYS_PER_WEEK}
-use Rattle.pay_caps.specs.Words.{no_fares}
+use Rattle.pay_week.specs.Words.{no_fares}
 use Rattle.pay_account.specs.Journeys.{boardings}
 use Rattle.pay_account.specs.WeekCells.{week_with_journeys}
 use Rattle.pay_account.proofs.WeekCells.{of_week}

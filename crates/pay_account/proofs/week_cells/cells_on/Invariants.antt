@@ -1,6 +1,6 @@
 use Rattle.std.proofs.Common.{◌≡◌, ◌*◌, ◌≤◌, drop}
 use Rattle.pay_tables.specs.declared.limits.TheConstants.{MOST_FARE}
-use Rattle.pay_caps.specs.Words.{no_fares, total}
+use Rattle.pay_week.specs.Words.{no_fares, total}
 use Rattle.pay_account.specs.WeekCells.{with_journeys}
 use Rattle.pay_account.proofs.week_cells.cells_on.Given as goal
 

@@ -1,6 +1,6 @@
 use Rattle.std.proofs.Common.{sym, ◌∙◌, arith}
 use Rattle.std.proofs.lemmas.List.{length-set}
-use Rattle.pay_caps.specs.Words.{no_fares, capped_price_of}
+use Rattle.pay_week.specs.Words.{no_fares, capped_price_of}
 use Rattle.pay_account.proofs.WeekLines.{of_each, one_band_more}
 use Rattle.pay_account.proofs.week_lines.bands_of.Goals as goal
 

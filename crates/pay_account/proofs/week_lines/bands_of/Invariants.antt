@@ -1,6 +1,6 @@
 use Rattle.std.proofs.Common.{◌≡◌, ◌<◌, ℕ, length, get_or, None}
 use Rattle.pay_day.specs.declared.limits.TheConstants.{DAYS_PER_WEEK}
-use Rattle.pay_caps.specs.Words.{no_fares, capped_price_of}
+use Rattle.pay_week.specs.Words.{no_fares, capped_price_of}
 use Rattle.pay_account.proofs.week_lines.bands_of.Given as goal
 
 -- the bands of the days before a place are there

@@ -2,7 +2,7 @@ use Rattle.std.proofs.Common.{◌∙◌, ap, sym, refl, None, Ok}
 use Rattle.std.proofs.lemmas.Result.{err_from_is_err_and}
 use Rattle.std.specs.Arc.{arc_value}
 use Rattle.pay_statement.specs.Words.{statement_text}
-use Rattle.pay_run.specs.Words.{new_machine}
+use Rattle.pay_jobs.specs.Machine.{new_machine}
 use Rattle.pay_jobs.proofs.Statements.{not_told, not_spelled}
 use Rattle.pay_jobs.proofs.statement.read_page.Goals as goal
 

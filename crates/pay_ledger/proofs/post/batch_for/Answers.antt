@@ -1,8 +1,7 @@
 use Rattle.std.proofs.Common.{◌≡◌, Ok, Err, rules, ◌≢◌}
 use Rattle.sqlite.specs.Held.{state}
 use Rattle.pay_postings.specs.declared.fault.PostFault.TheVariants.{Memory}
-use Rattle.pay_postings.specs.Words.{posted}
-use Rattle.pay_batch.specs.Words.{lists, with_batch}
+use Rattle.pay_postings.specs.Words.{posted, lists, with_batch}
 use Rattle.pay_ledger.proofs.Along.{goes_then, stays_then, on_err}
 use Rattle.pay_ledger.proofs.Batched.{judged, refused_so, by_answer}
 use Rattle.pay_ledger.proofs.post.batch_for.Goals as goal

@@ -1,5 +1,5 @@
 use Rattle.sqlite.specs.Held.{state}
-use Rattle.pay_batch.specs.Words.{lists, with_batch}
+use Rattle.pay_postings.specs.Words.{lists, with_batch}
 use Rattle.pay_ledger.proofs.Along.{stays_then, on_err, was_clean}
 use Rattle.pay_ledger.proofs.Batched.{posted_ledger}
 use Rattle.pay_ledger.proofs.post.post_in.Goals as goal

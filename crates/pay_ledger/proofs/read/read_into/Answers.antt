@@ -1,5 +1,5 @@
 use Rattle.sqlite.specs.Held.{state}
-use Rattle.pay_batch.specs.Words.{parts}
+use Rattle.pay_postings.specs.Words.{parts}
 use Rattle.pay_ledger.proofs.Gathered.{read_one, there}
 use Rattle.pay_ledger.proofs.read.read_into.Goals as goal
 

@@ -1,8 +1,8 @@
 use Rattle.std.proofs.Common.{◌≡◌, IsTrue, Some, rules, sym, ap₂, subst, ◌∙◌}
 use Rattle.sqlite.specs.Held.{state}
 use Rattle.pay_postings.specs.Words.{LedgerParts}
-use Rattle.pay_rows.specs.PostingRows.{postings_from_rows}
-use Rattle.pay_rows.specs.AccountRows.{of_account}
+use Rattle.pay_postings.specs.PostingRows.{postings_from_rows}
+use Rattle.pay_postings.specs.AccountRows.{of_account}
 use Rattle.pay_ledger.specs.Keeps.{IsLedger}
 use Rattle.pay_ledger.specs.Steps.{GoesOn}
 use Rattle.pay_ledger.proofs.Along.{stays_then, was_clean, on_err}

@@ -1,7 +1,7 @@
 use Rattle.std.proofs.Common.{rules, subst, ◌∙◌}
 use Rattle.sqlite.specs.Held.{state}
-use Rattle.pay_account.specs.Words.{QuoteParts}
-use Rattle.pay_batch.specs.Words.{IsThere}
+use Rattle.pay_quotes.specs.Words.{QuoteParts}
+use Rattle.pay_postings.specs.Words.{IsThere}
 use Rattle.pay_ledger.proofs.Along.{goes_then, stays_then, on_err}
 use Rattle.pay_ledger.proofs.Gathered.{reads_then, all_there}
 use Rattle.pay_ledger.proofs.read.read_quoted.Goals as goal

@@ -1,6 +1,6 @@
 use Rattle.std.proofs.Common.{rules, ◌∙◌, ap}
 use Rattle.sqlite.specs.Held.{state}
-use Rattle.pay_rows.specs.PostingRows.{share_rows}
+use Rattle.pay_postings.specs.PostingRows.{share_rows}
 use Rattle.pay_ledger.specs.Steps.{GoesOn}
 use Rattle.pay_ledger.proofs.Along.{goes_then, stays_then, clean_before, ok_then, err_then}
 use Rattle.pay_ledger.proofs.Written.{posting_written}

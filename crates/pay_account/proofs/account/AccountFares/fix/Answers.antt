@@ -4,7 +4,7 @@ use Rattle.pay_numbered.specs.declared.numbered_set.Addition.TheVariants.{Added}
 use Rattle.pay_numbered.specs.Words.{set_after}
 use Rattle.pay_fix.specs.declared.limits.TheConstants.{MOST_FIXES}
 use Rattle.pay_fix.specs.Words.{Fixes, number, judged}
-use Rattle.pay_account.specs.Accepted.{Accepted, with_fix}
+use Rattle.pay_quotes.specs.Accepted.{Accepted, with_fix}
 use Rattle.pay_account.specs.Places.{is_known_fix}
 use Rattle.pay_account.specs.FixResults.{prices_named, fix_result}
 use Rattle.pay_account.proofs.Own.{fix_is_own}

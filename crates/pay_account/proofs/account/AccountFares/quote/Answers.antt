@@ -1,18 +1,17 @@
 use Rattle.std.proofs.Common.{◌≡◌, ℕ, sum_by, ap, ◌∙◌, rules, arith}
 use Rattle.pay_day.specs.Words.{monday}
-use Rattle.pay_fares.specs.Words.{fare}
+use Rattle.pay_week.specs.Words.{fare, due}
 use Rattle.pay_fix.specs.Words.{credits}
 use Rattle.pay_money.specs.Words.{shares}
-use Rattle.pay_week.specs.Words.{due}
-use Rattle.pay_account.specs.Accepted.{touches}
+use Rattle.pay_quotes.specs.Accepted.{touches}
 use Rattle.pay_account.specs.Journeys.{journeys_of}
 use Rattle.pay_account.specs.Prices.{price_of_week, journeys_through}
 use Rattle.pay_account.specs.Quotes.{due_through, weights_through}
 use Rattle.pay_account.proofs.Carried.{same_quote}
 use Rattle.pay_account.proofs.account.AccountFares.quote.Goals as goal
 
-pub new-requires : goal.new-requires
-new-requires c = record {
+pub quote_of-requires : goal.quote_of-requires
+quote_of-requires c = record {
   of_account = omega (arith, c.requires.numbered, ap (λ a. a.0) c.self.view_is);
   of_week = record { through_day = c.requires.is_day; its_monday = c.monday-week.ensures.value };
   at_version = c.version.ensures.in_range;
@@ -43,6 +42,6 @@ returns c =
     let due_is : c.due-due.result ≡ due_through tables now through =
     c.due-due.ensures ∙ ap (λ n. due n c.credits.result) price ∙ ap (due (price_of_week tables (journeys_of tables (touches now)) through)) given in
     let carried : c.in_ok-weights.weights ≡ weights_through tables (journeys_of tables (touches now)) through = c.in_ok-weights.ensures.value ∙ ap (λ list. weights_through tables list through) all in
-    c.new.ensures
+    c.quote_of.ensures
     ∙ same_quote through (ap (λ a. a.0) c.self.view_is) c.monday-week.ensures.value c.version.ensures.value due_is
     (c.shares.ensures.value ∙ ap (λ n. shares n c.in_ok-weights.weights) due_is ∙ ap (shares (due_through tables now through)) carried)

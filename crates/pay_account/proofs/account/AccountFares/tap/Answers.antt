@@ -4,7 +4,7 @@ use Rattle.pay_numbered.specs.declared.numbered_set.Addition.TheVariants.{Added,
 use Rattle.pay_taps.specs.declared.limits.TheConstants.{MOST_TAPS}
 use Rattle.pay_taps.specs.Words.{Taps, number, judged}
 use Rattle.pay_numbered.specs.Words.{set_after}
-use Rattle.pay_account.specs.Accepted.{Accepted, with_tap}
+use Rattle.pay_quotes.specs.Accepted.{Accepted, with_tap}
 use Rattle.pay_account.specs.Places.{is_known}
 use Rattle.pay_account.specs.Prices.{prices}
 use Rattle.pay_account.specs.TapResults.{tap_result}

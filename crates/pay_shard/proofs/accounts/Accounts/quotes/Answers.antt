@@ -2,7 +2,7 @@ use Rattle.std.proofs.Common.{◌≡◌, ℕ, List, fold, map as each, ap, ◌�
 use Rattle.std.specs.FinMap as finite
 use Rattle.pay_shard.specs.BatchParts.{batch_with}
 use Rattle.pay_shard.specs.Held.{Held}
-use Rattle.pay_shard.specs.State.{State}
+use Rattle.pay_account.specs.State.{State}
 use Rattle.pay_shard.proofs.Batches.{all_quoted, of_number, by_number}
 use Rattle.pay_shard.proofs.Places.{entries_by_place, sorted_rises}
 use Rattle.pay_shard.proofs.accounts.Accounts.quotes.Goals as goal

@@ -4,7 +4,7 @@ use Rattle.pay_shard.specs.Desks.{Standing, without}
 use Rattle.std.specs.Option.{option_map}
 use Rattle.pay_shard.specs.LocalParts.{transcript_of, tickets_of}
 use Rattle.pay_shard.specs.ShardParts.{ShardParts}
-use Rattle.pay_shard.specs.State.{State}
+use Rattle.pay_account.specs.State.{State}
 use Rattle.pay_shard.specs.declared.reply.Answer.{Answer}
 use Rattle.pay_shard.proofs.LocalDesks.{local_still, reply_found, tickets_left}
 use Rattle.pay_shard.proofs.local_desk.LocalDeskDesk.get.Goals as goal

@@ -1,4 +1,0 @@
-pub mod Archived
-pub mod Ledger
-mod WorkedRows
-pub mod Words

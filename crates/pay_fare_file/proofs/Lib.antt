@@ -1,0 +1,4 @@
+pub mod Items
+pub mod Documents
+pub mod Ranges
+pub mod Inclusive

@@ -1,0 +1,22 @@
+use Rattle.std.proofs.Common.{◌≡◌, Ok, rules}
+use Rattle.std.proofs.lemmas.Result.{IfOk-at_ok}
+use Rattle.toml.specs.View.{table_view}
+use Rattle.pay_tables.specs.Words.{IsFareTables, FareTables}
+use Rattle.pay_fare_file.specs.FareFile.{fare_file}
+use Rattle.pay_fare_file.proofs.Ranges.{fare_file_is}
+use Rattle.pay_fare_file.proofs.reading.tables_of.Goals as goal
+
+pub new-requires : goal.new-requires
+new-requires c =
+    let said : FareTables = record {
+      zones = c.in_ok-zones.zones;
+      minutes = c.in_ok-minutes.minutes.items;
+      rules = c.in_ok-rules.rules;
+      singles = c.in_ok-singles.singles.items;
+      bands = c.in_ok-bands.bands.items;
+      holidays = c.in_ok-holidays.holidays.items;
+      places = c.in_ok-places.places;
+      interchanges = c.in_ok-interchanges.interchanges.items;
+    } in
+    let given : fare_file (table_view c.args.file.now) ≡ Ok said = search rules in
+    IfOk-at_ok IsFareTables given (fare_file_is (table_view c.args.file.now))

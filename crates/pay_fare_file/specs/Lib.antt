@@ -1,0 +1,5 @@
+pub mod Fault
+pub mod Keys
+pub mod FareFile
+pub mod Words
+pub mod Rows

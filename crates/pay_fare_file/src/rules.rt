@@ -1,0 +1,30 @@
+//! The rules of the fare file.
+ghost use Rattle.std.specs.Prelude.{◌≡◌, IfOk};
+ghost use Rattle.toml.specs.View.{table_view};
+ghost use Rattle.pay_tables.specs.Words.{AreRules};
+ghost use Rattle.pay_fare_file.specs.FareFile.{rules_of};
+
+use crate::fault::FareFileFault;
+use crate::keys::{integer_at, pence_at};
+use pay_tables::Rules;
+use pay_tables::limits::{MOST_HOPPER_SECONDS, MOST_SAME_SECONDS};
+use toml::Table;
+
+/// The rules that a table has, or its first fault.
+pub fn rules_of(table: &Table) -> Result<Rules, FareFileFault>
+    ensures value { result ≡ rules_of (table_view table.now) }
+    ensures in_range { IfOk result AreRules }
+{
+    let bus = pence_at(table, "bus")?;
+    let maximum = pence_at(table, "maximum")?;
+    let hopper = integer_at(table, "hopper", 1, MOST_HOPPER_SECONDS)?;
+    let same_free = integer_at(table, "same_free", 0, MOST_SAME_SECONDS)?;
+    let same_limit = integer_at(table, "same_limit", same_free, MOST_SAME_SECONDS)?;
+    Ok(Rules {
+        bus,
+        maximum,
+        hopper,
+        same_free,
+        same_limit,
+    })
+}

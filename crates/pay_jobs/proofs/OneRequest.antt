@@ -1,0 +1,288 @@
+-- What came of one request over a desk of one shard and a till is a step of the machine.
+use Rattle.std.proofs.Common.{◌≡◌, ◌⊎◌, ℕ, Bool, true, false, List, [], ◌∷◌, ◌++◌, length, refl, sym, ap, ◌∙◌, subst, append-nil, zero-add, inl, inr, arith, Option, Some, None, IfSome}
+use Rattle.std.specs.Prelude.{Result, IfNone, IsSomeAnd}
+use Rattle.std.specs.List.{slice_get, AllByRecursion}
+use Rattle.std.specs.Option.{option_map}
+use Rattle.jiff.specs.declared.tz.timezone.TimeZone.{TimeZone}
+use Rattle.pay_account.specs.Words.{Posting}
+use Rattle.pay_postings.specs.Words.{LedgerParts}
+use Rattle.pay_tables.specs.Words.{FareTables}
+use Rattle.pay_shard.specs.declared.asked.Asked.{Asked}
+use Rattle.pay_shard.specs.declared.asked.Asked.TheVariants as asked
+use Rattle.pay_shard.specs.declared.desk.DeskFault.{DeskFault}
+use Rattle.pay_shard.specs.declared.desk.DeskFault.TheVariants as desk_fault
+use Rattle.pay_shard.specs.declared.item.Item.{Item}
+use Rattle.pay_shard.specs.declared.reply.Answer.{Answer}
+use Rattle.pay_shard.specs.declared.reply.Reply.{Reply as DeskReply}
+use Rattle.pay_shard.specs.declared.reply.Reply.TheVariants as desk_reply
+use Rattle.pay_shard.specs.Words.{State, batch, item_step, replay, answers, AreInPlace, commands_of as commands_of_items}
+use Rattle.pay_wire.specs.declared.refusal.Refusal.TheVariants as refusal
+use Rattle.pay_wire.specs.declared.reply.Reply.{Reply}
+use Rattle.pay_wire.specs.declared.reply.Reply.TheVariants as replies
+use Rattle.pay_session.specs.Words.{Taken, Event, said, refusal_of_desk, commands_of, AreAnswered, AreQuotes, AreInTime, IsReplied, IsTaken, IsRefused, IsTillClosed, IsServedAs}
+use Rattle.pay_session.specs.declared.asks.Asks.{Asks}
+use Rattle.pay_session.specs.declared.asks.Asks.TheVariants as asks
+use Rattle.pay_session.specs.declared.till.CloseFault.{CloseFault}
+use Rattle.pay_jobs.specs.Machine.{Machine, Failure, Memory, Step, step_asks, with_ledger}
+use Rattle.pay_jobs.specs.Outcomes.{tells_failure}
+use Rattle.pay_jobs.proofs.Journals.{replay_behind, reply_behind, ticket_behind}
+use Rattle.pay_jobs.proofs.Tills.{IsOfMachine, IsPlain}
+
+-- the machine where a journal has come to, with its ledger
+abbrev pub machine_at : TimeZone → FareTables → State → List Item → Option LedgerParts → Machine
+machine_at zone tables base items ledger = record { zone = zone; tables = tables; accounts = replay tables base items; ledger = ledger }
+
+-- The request was answered as the machine does; these items of the journal are its own, and these are left.
+pub record StepsTo (zone : TimeZone) (tables : FareTables) (base : State) (front back : List Item) (ledger : Option LedgerParts) (a : Asks) (event : Event) (later : List (ℕ × Asked)) (Holds : Option LedgerParts → Type 0) : Type 0 where
+  pub mark : Option Failure
+  pub own : List Item
+  pub rest : List Item
+  pub parts : back ≡ own ++ rest
+  pub commands : commands_of_items rest ≡ later
+  pub ledger_after : Option LedgerParts
+  pub step : step_asks mark (machine_at zone tables base front ledger) a ≡ record { reply = event.reply; after = machine_at zone tables base (front ++ own) ledger_after }
+  pub ample : tells_failure event.reply ≡ false → mark ≡ None
+  pub holds : Holds ledger_after
+
+-- what failed for an item, by whether it has a mark
+abbrev mark_of : Bool → Option Failure
+mark_of true = Some Memory
+mark_of false = None
+
+-- an item as one that has its command and its mark
+item_steps : (zone : TimeZone) (tables : FareTables) (base : State) (front : List Item) (ledger : Option LedgerParts) (item : Item) (a : Asked) → item.entry.command ≡ a
+    → step_asks (mark_of item.refused_memory) (machine_at zone tables base front ledger) (asks.Put a) ≡ record { reply = said (item_step tables (replay tables base front) item).reply; after = machine_at zone tables base (front ++ item ∷ []) ledger }
+item_steps zone tables base front ledger item a is =
+    subst (λ (b : Asked). step_asks (mark_of item.refused_memory) (machine_at zone tables base front ledger) (asks.Put b) ≡ ended) is
+    (marked item.refused_memory refl ∙ ap (λ (s : State). record { reply = said (item_step tables (replay tables base front) item).reply; after = record { zone = zone; tables = tables; accounts = s; ledger = ledger } }) (sym (replay_behind tables base front (item ∷ []))))
+  where
+    ended : Step
+    ended = record { reply = said (item_step tables (replay tables base front) item).reply; after = machine_at zone tables base (front ++ item ∷ []) ledger }
+
+    marked : (b : Bool) → item.refused_memory ≡ b
+        → step_asks (mark_of item.refused_memory) (machine_at zone tables base front ledger) (asks.Put item.entry.command)
+        ≡ record { reply = said (item_step tables (replay tables base front) item).reply; after = record { zone = zone; tables = tables; accounts = (item_step tables (replay tables base front) item).after; ledger = ledger } }
+    marked true e = rw e refl
+    marked false e = rw e refl
+
+true_false : true ≡ false → ⊥
+true_false e = cc
+
+-- a marked item is replied to by want of memory
+marked_lacks : (tables : FareTables) (state : State) (item : Item) → tells_failure (said (item_step tables state item).reply) ≡ false → mark_of item.refused_memory ≡ None
+marked_lacks tables state item ample = known item.refused_memory refl
+  where
+    known : (b : Bool) → item.refused_memory ≡ b → mark_of item.refused_memory ≡ None
+    known false e = ap mark_of e
+    known true e = absurd (true_false (subst (λ b. tells_failure (said (item_step tables state (record { entry = item.entry; refused_memory = b })).reply) ≡ false) e ample))
+
+-- a list whose commands begin with one has a first item of it
+record First (back : List Item) (taken : Taken) (later : List (ℕ × Asked)) : Type 0 where
+  item : Item
+  rest : List Item
+  parts : back ≡ item ∷ rest
+  ticket : item.entry.ticket ≡ taken.ticket
+  command : item.entry.command ≡ taken.asked
+  commands : commands_of_items rest ≡ later
+
+first_of : (back : List Item) (taken : Taken) (later : List (ℕ × Asked)) → commands_of_items back ≡ (taken.ticket, taken.asked) ∷ later → First back taken later
+first_of [] taken later e = absurd (none e)
+  where
+    none : ◌≡◌ {A = List (ℕ × Asked)} [] ((taken.ticket, taken.asked) ∷ later) → ⊥
+    none e = cc
+first_of (item ∷ rest) taken later e =
+    let both : (item.entry.ticket, item.entry.command) ≡ (taken.ticket, taken.asked) = heads _ _ _ _ e in
+    record { item = item; rest = rest; parts = refl; ticket = ap (λ p. p.0) both; command = ap (λ p. p.1) both; commands = tails _ _ _ _ e }
+  where
+    heads : (x y : ℕ × Asked) (xs ys : List (ℕ × Asked)) → x ∷ xs ≡ y ∷ ys → x ≡ y
+    heads x y xs ys e = cc
+
+    tails : (x y : ℕ × Asked) (xs ys : List (ℕ × Asked)) → x ∷ xs ≡ y ∷ ys → xs ≡ ys
+    tails x y xs ys e = cc
+
+-- the answers of a shard's journal, by their places
+abbrev pub transcript : ℕ → FareTables → State → List Item → ℕ → Option Answer
+transcript number tables base journal place = slice_get (answers number tables base journal) place
+
+some_is : (x y : DeskReply) → ◌≡◌ {A = Option DeskReply} (Some x) (Some y) → x ≡ y
+some_is x y e = cc
+
+-- the reply that was said is the transcript's
+replied : (Refuses : DeskFault → Type 0) (Late : Type 0) → (Late → ⊥) → (o : Option Answer) (line : Reply) (found : Option Answer) (reply : DeskReply)
+    → IsReplied Refuses Late o line → IfSome o (λ a. found ≡ Some a) → option_map (λ (a : Answer). a.reply) found ≡ Some reply → line ≡ said reply
+replied Refuses Late never None line found reply h i j = absurd (never h.1)
+replied Refuses Late never (Some a) line found reply h i j = h ∙ ap said (some_is a.reply reply (sym (ap (option_map (λ (a : Answer). a.reply)) i) ∙ j))
+
+-- ---- what a desk took
+
+-- With a journal, each of whose entries is at its ticket, as a front and what is behind it.
+module _ (number : ℕ) (zone : TimeZone) (tables : FareTables) (base : State) (front back journal : List Item) (placed : AreInPlace 0 journal) (whole : journal ≡ front ++ back) where
+  -- The first item behind the front is what was taken, and the transcript has the machine's reply to it.
+  record IsNext (taken : Taken) (later : List (ℕ × Asked)) : Type 0 where
+    next : First back taken later
+    there : option_map (λ (a : Answer). a.reply) (transcript number tables base journal taken.ticket) ≡ Some (item_step tables (replay tables base front) next.item).reply
+
+  next_of : (taken : Taken) (later : List (ℕ × Asked)) → commands_of_items back ≡ (taken.ticket, taken.asked) ∷ later → IsNext taken later
+  next_of taken later commands =
+      let f = first_of back taken later commands in
+      let parts : journal ≡ front ++ f.item ∷ f.rest = whole ∙ ap (λ l. front ++ l) f.parts in
+      let place : taken.ticket ≡ length front = sym f.ticket ∙ ticket_behind 0 front f.item f.rest (subst (AreInPlace 0) parts placed) ∙ zero-add _ in
+      record {
+        next = f;
+        there = ap (λ n. option_map (λ (a : Answer). a.reply) (transcript number tables base journal n)) place ∙ ap (λ l. option_map (λ (a : Answer). a.reply) (transcript number tables base l (length front))) parts
+            ∙ reply_behind number 0 tables base front f.item f.rest;
+      }
+
+  -- the desk took the command
+  taken_steps : (ledger : Option LedgerParts) (a : Asked) (event : Event) (later : List (ℕ × Asked)) (Holds : Option LedgerParts → Type 0) (Refuses : DeskFault → Type 0) (Late : Type 0) (never : Late → ⊥)
+      → IsTaken Refuses Late a event → commands_of_items back ≡ commands_of event.put ++ later
+      → AreAnswered (transcript number tables base journal) event.put → Holds ledger → StepsTo zone tables base front back ledger (asks.Put a) event later Holds
+  taken_steps ledger a event later Holds Refuses Late never is commands said_so holds =
+      let taken = is.taken in
+      let n = next_of taken later (commands ∙ ap (λ p. commands_of p ++ later) is.once) in
+      let f = n.next in
+      let one : AreAnswered (transcript number tables base journal) (taken ∷ []) = subst (AreAnswered (transcript number tables base journal)) is.once said_so in
+      let told : event.reply ≡ said (item_step tables (replay tables base front) f.item).reply = replied Refuses Late never taken.answer event.reply _ _ is.replied one.0 n.there in
+      record {
+        mark = mark_of f.item.refused_memory;
+        own = f.item ∷ [];
+        rest = f.rest;
+        parts = f.parts;
+        commands = f.commands;
+        ledger_after = ledger;
+        step = item_steps zone tables base front ledger f.item a (f.command ∙ is.same) ∙ ap (λ (r : Reply). record { reply = r; after = machine_at zone tables base (front ++ f.item ∷ []) ledger }) (sym told);
+        ample = λ e. marked_lacks tables (replay tables base front) f.item (ap tells_failure (sym told) ∙ e);
+        holds = holds;
+      }
+
+  -- ---- what was put for a close
+
+  -- These items of the journal are the close's, which change no account, and these are left; the answers are the machine's.
+  record IsPutForClose (day : ℕ) (put : List Taken) (later : List (ℕ × Asked)) : Type 0 where
+    own : List Item
+    rest : List Item
+    parts : back ≡ own ++ rest
+    commands : commands_of_items rest ≡ later
+    same : replay tables base (front ++ own) ≡ replay tables base front
+    answers_are : AllByRecursion (IsOfMachine tables (replay tables base front) day) put
+
+  -- an item that asks for quotes is answered by them, or by want of memory, and changes no account
+  abbrev GivesQuotes : State → ℕ → Item → Type 0
+  GivesQuotes state day i = ((item_step tables state i).after ≡ state) × (((item_step tables state i).reply ≡ desk_reply.Quotes (batch tables state day 0 1)) ⊎ ((item_step tables state i).reply ≡ desk_reply.Memory))
+
+  asks_quotes : (state : State) (item : Item) (day : ℕ) → item.entry.command ≡ asked.Quotes day 0 1 → GivesQuotes state day item
+  asks_quotes state item day is =
+      subst (λ (a : Asked). GivesQuotes state day (record { entry = record { lane = item.entry.lane; ticket = item.entry.ticket; command = a }; refused_memory = item.refused_memory })) (sym is)
+      (by item.refused_memory)
+    where
+      by : (b : Bool) → GivesQuotes state day (record { entry = record { lane = item.entry.lane; ticket = item.entry.ticket; command = asked.Quotes day 0 1 }; refused_memory = b })
+      by true = (refl, inr refl)
+      by false = (refl, inl refl)
+
+  -- the answer that came is the machine's
+  answered_so : (Late : Type 0) → (Late → ⊥) → (o : Option Answer) (found : Option Answer) (reply : DeskReply) (P : DeskReply → Type 0) → IfNone o Late → IfSome o (λ a. found ≡ Some a)
+      → option_map (λ (a : Answer). a.reply) found ≡ Some reply → P reply → IsSomeAnd o (λ answer. P answer.reply)
+  answered_so Late never None found reply P late is there p = absurd (never late)
+  answered_so Late never (Some a) found reply P late is there p = subst P (sym (some_is a.reply reply (sym (ap (option_map (λ (a : Answer). a.reply)) is) ∙ there))) p
+
+  put_for_close : (day : ℕ) (put : List Taken) (later : List (ℕ × Asked)) (Refuses : DeskFault → Type 0) (Late : Type 0) → (Late → ⊥) → AreQuotes day 1 0 put → AreInTime Refuses Late put
+      → commands_of_items back ≡ commands_of put ++ later → AreAnswered (transcript number tables base journal) put → IsPutForClose day put later
+  put_for_close day [] later Refuses Late never quotes in_time commands said_so = record {
+    own = [];
+    rest = back;
+    parts = refl;
+    commands = commands;
+    same = ap (replay tables base) (append-nil front);
+    answers_are = tt;
+  }
+  put_for_close day (t ∷ []) later Refuses Late never quotes in_time commands said_so =
+      let n = next_of t later commands in
+      let f = n.next in
+      let state = replay tables base front in
+      let does = asks_quotes state f.item day (f.command ∙ quotes.1) in
+      record {
+        own = f.item ∷ [];
+        rest = f.rest;
+        parts = f.parts;
+        commands = f.commands;
+        same = replay_behind tables base front (f.item ∷ []) ∙ does.0;
+        answers_are = (answered_so Late never t.answer _ _ (λ (r : DeskReply). (r ≡ desk_reply.Quotes (batch tables state day 0 1)) ⊎ (r ≡ desk_reply.Memory)) in_time.0 said_so.0 n.there does.1, tt);
+      }
+  put_for_close day (t ∷ u ∷ ts) later Refuses Late never quotes in_time commands said_so = absurd (omega (arith, quotes.2.0))
+
+-- ---- what was not taken
+
+-- what was not taken leaves the journal as it is
+nothing_taken : (zone : TimeZone) (tables : FareTables) (base : State) (front back : List Item) (ledger : Option LedgerParts) (a : Asks) (event : Event) (later : List (ℕ × Asked)) (Holds : Option LedgerParts → Type 0) (mark : Option Failure)
+    → event.put ≡ [] → commands_of_items back ≡ commands_of event.put ++ later
+    → step_asks mark (machine_at zone tables base front ledger) a ≡ record { reply = event.reply; after = machine_at zone tables base front ledger } → (tells_failure event.reply ≡ false → mark ≡ None) → Holds ledger
+    → StepsTo zone tables base front back ledger a event later Holds
+nothing_taken zone tables base front back ledger a event later Holds mark none commands step ample holds = record {
+  mark = mark;
+  own = [];
+  rest = back;
+  parts = refl;
+  commands = commands ∙ ap (λ p. commands_of p ++ later) none;
+  ledger_after = ledger;
+  step = step ∙ ap (λ l. record { reply = event.reply; after = machine_at zone tables base l ledger }) (sym (append-nil front));
+  ample = ample;
+  holds = holds;
+}
+
+-- the desk refused the command
+refused_steps : (zone : TimeZone) (tables : FareTables) (base : State) (front back : List Item) (ledger : Option LedgerParts) (a : Asked) (event : Event) (later : List (ℕ × Asked)) (Holds : Option LedgerParts → Type 0) (Refuses : DeskFault → Type 0) (Late : Type 0)
+    → ((fault : DeskFault) → Refuses fault → fault ≡ desk_fault.Memory)
+    → IsRefused Refuses Late event → commands_of_items back ≡ commands_of event.put ++ later → Holds ledger → StepsTo zone tables base front back ledger (asks.Put a) event later Holds
+refused_steps zone tables base front back ledger a event later Holds Refuses Late memory is commands holds =
+    let told : event ≡ record { reply = replies.No refusal.Memory; put = [] } = is.told ∙ ap (λ (f : DeskFault). record { reply = replies.No (refusal_of_desk f); put = [] }) (memory is.fault is.refuses) in
+    nothing_taken zone tables base front back ledger (asks.Put a) event later Holds (Some Memory) (ap (λ (e : Event). e.put) told) commands
+    (ap (λ (r : Reply). record { reply = r; after = machine_at zone tables base front ledger }) (ap (λ (e : Event). e.reply) (sym told)))
+    (λ e. absurd (true_false (ap tells_failure (ap (λ (e : Event). e.reply) (sym told)) ∙ e))) holds
+
+-- ---- one request
+
+module _ {T : Type 0} (Refuses : DeskFault → Type 0) (Late : Type 0) (Closes : T → ℕ → ℕ → List Taken → Result (List Posting) CloseFault → T → Type 0) (Sound : T → Type 0) (Tells : T → Option LedgerParts → Type 0) (plain : IsPlain Refuses Late Closes Sound Tells) where
+  -- the till closed a day
+  closed_steps : (number : ℕ) (zone : TimeZone) (tables : FareTables) (base : State) (front back journal : List Item) (ledger : Option LedgerParts) (day : ℕ) (event : Event) (later : List (ℕ × Asked)) (before after : T)
+      → AreInPlace 0 journal → journal ≡ front ++ back → IsTillClosed zone 1 Refuses Late Closes day event before after → commands_of_items back ≡ commands_of event.put ++ later
+      → AreAnswered (transcript number tables base journal) event.put → Sound after → Tells before ledger → StepsTo zone tables base front back ledger (asks.Close day) event later (Tells after)
+  closed_steps number zone tables base front back journal ledger day event later before after placed whole is commands said_so sound tells =
+      let p = put_for_close number zone tables base front back journal placed whole day event.put later Refuses Late plain.never is.close.quotes is.close.in_time commands said_so in
+      let m = machine_at zone tables base front ledger in
+      let c = plain.closes before after m day event.put is.result is.close.closes is.close.quotes p.answers_are sound tells in
+      record {
+        mark = c.mark;
+        own = p.own;
+        rest = p.rest;
+        parts = p.parts;
+        commands = p.commands;
+        ledger_after = c.ledger;
+        step = c.step ∙ ap (λ (r : Reply). record { reply = r; after = with_ledger m c.ledger }) (sym is.told)
+            ∙ ap (λ (s : State). record { reply = event.reply; after = record { zone = zone; tables = tables; accounts = s; ledger = c.ledger } }) (sym p.same);
+        ample = λ e. c.ample (ap tells_failure (sym is.told) ∙ e);
+        holds = c.holds;
+      }
+
+  -- one request, by what it comes to
+  pub one_steps : (number : ℕ) (zone : TimeZone) (tables : FareTables) (base : State) (front back journal : List Item) (ledger : Option LedgerParts) (a : Asks) (event : Event) (later : List (ℕ × Asked)) (before after : T)
+      → AreInPlace 0 journal → journal ≡ front ++ back → IsServedAs zone 1 Refuses Late Closes a event before after → commands_of_items back ≡ commands_of event.put ++ later
+      → AreAnswered (transcript number tables base journal) event.put → Sound after → Tells before ledger → StepsTo zone tables base front back ledger a event later (Tells after)
+  one_steps number zone tables base front back journal ledger (asks.Put a) event later before after placed whole (inl is, same) commands said_so sound tells =
+      taken_steps number zone tables base front back journal placed whole ledger a event later (Tells after) Refuses Late plain.never is commands said_so (subst (λ t. Tells t ledger) (sym same) tells)
+  one_steps number zone tables base front back journal ledger (asks.Put a) event later before after placed whole (inr is, same) commands said_so sound tells =
+      refused_steps zone tables base front back ledger a event later (Tells after) Refuses Late plain.memory is commands (subst (λ t. Tells t ledger) (sym same) tells)
+  one_steps number zone tables base front back journal ledger (asks.Close day) event later before after placed whole is commands said_so sound tells =
+      closed_steps number zone tables base front back journal ledger day event later before after placed whole is commands said_so sound tells
+  one_steps number zone tables base front back journal ledger asks.Quit event later before after placed whole is commands said_so sound tells =
+      nothing_taken zone tables base front back ledger asks.Quit event later (Tells after) None (ap (λ (e : Event). e.put) is.0) commands
+      (ap (λ (r : Reply). record { reply = r; after = machine_at zone tables base front ledger }) (ap (λ (e : Event). e.reply) (sym is.0))) (λ e. refl) (subst (λ t. Tells t ledger) (sym is.1) tells)
+  one_steps number zone tables base front back journal ledger (asks.No why) event later before after placed whole is commands said_so sound tells =
+      nothing_taken zone tables base front back ledger (asks.No why) event later (Tells after) None (ap (λ (e : Event). e.put) is.0) commands
+      (ap (λ (r : Reply). record { reply = r; after = machine_at zone tables base front ledger }) (ap (λ (e : Event). e.reply) (sym is.0))) (λ e. refl) (subst (λ t. Tells t ledger) (sym is.1) tells)
+
+  -- what a till keeps could be told before a request where it can be after it
+  pub was_sound : (zone : TimeZone) (a : Asks) (event : Event) (before after : T) → IsServedAs zone 1 Refuses Late Closes a event before after → Sound after → Sound before
+  was_sound zone (asks.Put a) event before after is sound = subst Sound is.1 sound
+  was_sound zone (asks.Close day) event before after is sound = plain.was_sound before after day event.put is.result is.close.closes sound
+  was_sound zone asks.Quit event before after is sound = subst Sound is.1 sound
+  was_sound zone (asks.No why) event before after is sound = subst Sound is.1 sound

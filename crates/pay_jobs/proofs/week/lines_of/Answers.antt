@@ -1,0 +1,10 @@
+use Rattle.std.proofs.Common.{◌∙◌, sym}
+use Rattle.pay_jobs.proofs.WholeRuns.{told_as}
+use Rattle.pay_jobs.proofs.week.lines_of.Goals as goal
+
+pub returns-in-Some : goal.returns-in-Some
+returns-in-Some c = told_as c.lines.result _ c.args.shard.now.tables _ _ c.args.week c.tables.ensures c.in-Some.ensures.accepted c.lines.ensures
+
+pub returns-in-None : goal.returns-in-None
+returns-in-None c =
+    told_as c.lines-in-None-2.result _ c.args.shard.now.tables _ _ c.args.week c.tables-in-None.ensures (c.new.ensures.nothing ∙ sym c.in-None.ensures.nothing) c.lines-in-None-2.ensures

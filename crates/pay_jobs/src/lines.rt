@@ -1,0 +1,62 @@
+ghost use Rattle.std.specs.Prelude.{◌≡◌, [], Some, IfOk, IfErr, IfSome};
+ghost use Rattle.std.specs.Arc.{arc_value};
+ghost use Rattle.std.specs.FinMap as map;
+ghost use Rattle.sqlite.specs.Held.{state};
+ghost use Rattle.pay_postings.specs.Words.{LedgerParts};
+ghost use Rattle.pay_ledger.specs.Keeps.{IsLedger};
+ghost use Rattle.pay_jobs.specs.Machine.{new_machine};
+ghost use Rattle.pay_jobs.specs.Ledgers.{IsSound, HasLedger};
+ghost use Rattle.pay_jobs.specs.LineRuns.{Ends, FailsSo};
+
+use jiff::tz::TimeZone;
+use pay_account::Account;
+use pay_close::LedgerTill;
+use pay_ledger::Ledger;
+use pay_session::{Done, SessionFault, session};
+use pay_shard::LocalDesk;
+use pay_tables::Tables;
+use sqlite::Alter;
+use std::alloc::Global;
+use std::io::{BufRead, Write};
+use std::sync::Arc;
+
+/// A desk over one shard without accounts. It takes no memory.
+pub(crate) fn new_desk(alloc: Global, tables: Arc<Tables>) -> LocalDesk<Account>
+    ensures tables { result.shard.tables ≡ arc_value tables }
+    ensures base { result.shard.base ≡ map.empty }
+    ensures journal { result.shard.journal ≡ [] }
+{
+    match LocalDesk::new(alloc, tables, Vec::new(alloc)) {
+        Ok(desk) => desk,
+        Err(_) => unreachable!(),
+    }
+}
+
+/// Answers the lines of a reader, beginning with no accounts, and closes days into a ledger. This is the whole run: for a reader
+/// that tells its bytes and a writer that tells what it holds, what is written is, for the lines of the input in order, the
+/// replies of the machine to what they ask for, and the ledger is then the machine's. Both are one function of the input, the
+/// zone, the fare file and the ledger before it, where no reply is 43, 44 or 90. Where the disk of the ledger fails or its
+/// connection shuts, nothing is said of the run.
+pub fn run_lines<R: BufRead, W: Write, S: Alter>(
+    alloc: Global,
+    reader: &mut R,
+    writer: &mut W,
+    zone: &TimeZone<'_>,
+    tables: Arc<Tables>,
+    ledger: &mut Ledger<S>,
+) -> Result<Done, SessionFault>
+    ensures ends { IsSound (state S.Store ledger.new) → (before : LedgerParts) → IsLedger (state S.Store ledger.old).now before → IfOk result (λ done. IfSome (R.remaining reader.old) (λ input.
+        Ends (new_machine zone.now (arc_value tables) (Some before)) input (R.remaining reader.new)
+        (W.contents writer.old) (W.contents writer.new) (HasLedger (state S.Store ledger.new).now) done.answered done.quit done.lacked_memory)) }
+    ensures fails { IsSound (state S.Store ledger.new) → (before : LedgerParts) → IsLedger (state S.Store ledger.old).now before → IfErr result (λ fault. IfSome (R.remaining reader.old) (λ input.
+        FailsSo fault (new_machine zone.now (arc_value tables) (Some before)) input (R.remaining reader.new)
+        (W.contents writer.old) (W.contents writer.new) (HasLedger (state S.Store ledger.new).now))) }
+{
+    let mut desk = new_desk(alloc, tables);
+    let mut till = LedgerTill::new(alloc, ledger);
+    let ended = session(reader, writer, zone, &mut desk, &mut till);
+    // The journal's entries stand at their tickets, and what one shard brings for a close is of all accounts.
+    let _ = desk.shard();
+    pay_close::laws::one_shard();
+    ended
+}

@@ -1,0 +1,91 @@
+//! The journeys of an account's week, by the lines of a reader.
+ghost use Rattle.std.specs.Prelude.{◌≡◌, ◌≤◌, None, IfOk, IfErr, IfSome};
+ghost use Rattle.std.specs.Arc.{arc_value};
+ghost use Rattle.pay_day.specs.Words.{IsDay, monday};
+ghost use Rattle.pay_account.specs.Words.{week_lines};
+ghost use Rattle.pay_shard.specs.Words.{accepted_of, state_now};
+ghost use Rattle.pay_jobs.specs.Machine.{new_machine};
+ghost use Rattle.pay_jobs.specs.Week.{TellsWeek, WeekFails};
+ghost use Rattle.pay_jobs.specs.declared.week.WeekFault.TheVariants.{Session, Memory};
+
+use crate::lines::new_desk;
+use jiff::tz::TimeZone;
+use pay_account::{Account, Fares, Lines};
+use pay_day::monday;
+use pay_session::{NoTill, SessionFault, session};
+use pay_shard::Shard;
+use pay_tables::Tables;
+use std::alloc::{AllocError, Global};
+use std::io;
+use std::io::BufRead;
+use std::sync::Arc;
+
+/// Why the journeys of a week are not told.
+#[derive(Clone, Copy, Debug, PartialEq, Eq)]
+pub enum WeekFault {
+    /// What broke the session off. Its replies go to a writer that takes all, so this is the reader.
+    Session(SessionFault),
+    /// 90: no memory for a line, or for the journeys.
+    Memory,
+}
+
+impl From<AllocError> for WeekFault {
+    ghost from_gives = { λ _ fault. fault ≡ Memory };
+
+    fn from(_: AllocError) -> WeekFault {
+        WeekFault::Memory
+    }
+}
+
+impl From<SessionFault> for WeekFault {
+    ghost from_gives = { λ of fault. fault ≡ Session of };
+
+    fn from(fault: SessionFault) -> WeekFault {
+        WeekFault::Session(fault)
+    }
+}
+
+/// The journeys of a week of an account. The week is named by its Monday. An account that has accepted nothing has none.
+fn lines_of(
+    alloc: Global,
+    shard: &Shard<Account>,
+    account: u32,
+    week: u32,
+) -> Result<Lines, AllocError>
+    requires is_day { IsDay week }
+    requires is_monday { monday week ≡ week }
+    ensures { IfOk result (λ it. it ≡ week_lines shard.now.tables (accepted_of (state_now shard.now) account) week) }
+{
+    match shard.account(account) {
+        Some(held) => held.lines(shard.tables(), week),
+        None => Account::new(alloc, account).lines(shard.tables(), week),
+    }
+}
+
+/// The journeys of the week that holds a service day, counted from 1970-01-01, of an account that has
+/// accepted what the lines of a reader ask for. The replies to the lines are written nowhere; where one of them is
+/// want of memory, no journeys are told, since some may be missing.
+pub fn week_by_lines<R: BufRead>(
+    alloc: Global,
+    reader: &mut R,
+    zone: &TimeZone<'_>,
+    tables: Arc<Tables>,
+    account: u32,
+    day: u32,
+) -> Result<Lines, WeekFault>
+    requires { IsDay day }
+    ensures week { IfOk result (λ lines. IfSome (R.remaining reader.old) (λ input.
+        TellsWeek (new_machine zone.now (arc_value tables) None) input (R.remaining reader.new) account day lines)) }
+    ensures fails { IfErr result (λ fault. IfSome (R.remaining reader.old) (λ input.
+        WeekFails fault (new_machine zone.now (arc_value tables) None) input (R.remaining reader.new))) }
+{
+    let mut desk = new_desk(alloc, tables);
+    let ended = session(reader, &mut io::sink(), zone, &mut desk, &mut NoTill);
+    let shard = desk.shard();
+    let done = ended?;
+    if done.lacked_memory {
+        return Err(WeekFault::Memory);
+    }
+    let lines = lines_of(alloc, shard, account, monday(day))?;
+    Ok(lines)
+}

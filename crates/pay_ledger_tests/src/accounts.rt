@@ -1,0 +1,51 @@
+//! Accounts that have accepted taps and corrections, by the sample fare file.
+
+ghost use Rattle.std.specs.Prelude.{◌≡◌};
+
+use crate::given::{MONDAY, expect_same};
+use pay_account::{Account, Fares, Priced};
+use pay_fix::{Fix, What};
+use pay_money::Pence;
+use pay_tables::Tables;
+use pay_taps::Tap;
+use std::process::Abort;
+
+/// What is new, of the Monday, and comes to this price of the day and of the week.
+fn priced(pence: u64) -> Priced {
+    Priced {
+        again: false,
+        day: MONDAY,
+        day_price: Pence::new(pence),
+        week_price: Pence::new(pence),
+    }
+}
+
+/// Sends a tap, and compares the price of the day.
+pub fn expect_price<R: Abort>(rt: &R, account: &mut Account, tables: &Tables, tap: Tap, pence: u64)
+    ensures { account.new.0 ≡ account.old.0 }
+{
+    let tap = Tap {
+        account: account.number(),
+        ..tap
+    };
+    expect_same(rt, account.tap(tables, tap), Ok(priced(pence)));
+}
+
+/// Sends correction 1 by staff 3, which takes a tap out, and compares the price of the day.
+pub fn expect_voided<R: Abort>(
+    rt: &R,
+    account: &mut Account,
+    tables: &Tables,
+    tap: (u16, u32),
+    pence: u64,
+)
+    ensures { account.new.0 ≡ account.old.0 }
+{
+    let fix = Fix {
+        account: account.number(),
+        staff: 3,
+        seq: 1,
+        what: What::Void(tap.0, tap.1),
+    };
+    expect_same(rt, account.fix(tables, fix), Ok(priced(pence)));
+}

@@ -1,0 +1,57 @@
+//! What tests are given: the sample fare file, and taps of Monday, 2024-01-08, when London's clocks show UTC.
+
+use crate::sample::SAMPLE_FARES;
+use jiff::tz::TimeZone;
+use pay_day::Moment;
+use pay_fare_file::read_tables;
+use pay_tables::Tables;
+use pay_taps::{Kind, Tap};
+use std::fmt::Debug;
+use std::process::Abort;
+use std::sync::Arc;
+
+/// So what was found is what is wanted. One function has the only comparison, since what a comparison costs to be
+/// proved is much, and a call of this one little.
+pub fn expect_same<R: Abort, T: Copy + PartialEq + Debug>(rt: &R, found: T, wanted: T) {
+    assert_eq!(rt; found, wanted);
+}
+
+/// So a list was found, and these are its items.
+pub fn expect_list<R: Abort, T: PartialEq + Debug + Drop, F: Copy + PartialEq + Debug>(
+    rt: &R,
+    found: Result<Vec<T>, F>,
+    wanted: Result<&[T], F>,
+) {
+    match found {
+        Ok(list) => expect_same(rt, Ok(list.as_slice()), wanted),
+        Err(fault) => expect_same(rt, Err(fault), wanted),
+    }
+}
+
+/// Monday, 2024-01-08.
+pub const MONDAY: u32 = 19_730;
+
+/// The tables of the sample fare file.
+pub fn sample<R: Abort + AllocGlobal>(rt: &R) -> Tables {
+    read_tables(rt.alloc(), SAMPLE_FARES).expect(rt, "the sample")
+}
+
+/// The same for several, and the clocks of London.
+pub fn sample_in_london<'a, R: Abort + AllocGlobal>(rt: &R) -> (Arc<Tables>, TimeZone<'a>) {
+    let tables = Arc::new(rt.alloc(), sample(rt)).expect(rt, "memory");
+    let zone = TimeZone::posix("GMT0BST,M3.5.0/1,M10.5.0").expect(rt, "a rule");
+    (tables, zone)
+}
+
+/// A tap of account 7 by reader 1, at a second of the Monday.
+pub fn tap_at<R: Abort>(rt: &R, seq: u32, second: u32, place: u16, kind: Kind) -> Tap {
+    let utc = u64::from(MONDAY) * 86_400 + u64::from(second);
+    Tap {
+        account: 7,
+        reader: 1,
+        seq,
+        stamp: Moment::from_parts(utc, MONDAY, second).expect(rt, "a moment"),
+        place,
+        kind,
+    }
+}

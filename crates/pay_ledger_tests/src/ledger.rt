@@ -1,0 +1,445 @@
+//! The ledger over a database in memory: what is posted for accounts, what is refused and changes nothing, and what is
+//! restored. By the sample fare file.
+
+ghost use Rattle.std.specs.Prelude.{◌≡◌, ◌≤◌, false};
+
+use crate::accounts::{expect_price, expect_voided};
+use crate::given::{MONDAY, expect_list, expect_same, sample, tap_at};
+use crate::runs::expect_run;
+use pay_account::{Account, Fares, Posting, Quote, Sets};
+use pay_ledger::{Ledger, LedgerFault, OpenFault};
+use pay_money::Pence;
+use pay_money::limits::OPERATORS;
+use pay_postings::PostFault;
+use pay_tables::Tables;
+use pay_taps::Kind;
+use sqlite::{Alter, Connection, Error, MemStore, Row};
+use std::alloc::Global;
+use std::process::Abort;
+
+/// A ledger in a database that is one, or is empty.
+pub fn opened<R: Abort + AllocGlobal, S: Alter + Drop>(rt: &R, conn: Connection<S>) -> Ledger<S> {
+    assert!(rt; conn.is_autocommit());
+    Ledger::open(rt.alloc(), conn).ok().expect(rt, "a ledger")
+}
+
+/// An empty ledger in memory.
+pub fn empty_ledger<R: Abort + AllocGlobal>(rt: &R) -> Ledger<MemStore> {
+    let conn = Connection::open_in_memory(rt.alloc()).expect(rt, "a database");
+    opened(rt, conn)
+}
+
+/// The rows of each of the five tables, a line each.
+static TABLES: [&str; 5] = [
+    "SELECT 'meta ' || name || ' ' || version FROM meta ORDER BY name",
+    "SELECT 'posting ' || id || ' ' || account || ' ' || week || ' ' || through || ' ' || version || ' ' || due || ' ' || amount FROM postings ORDER BY id",
+    "SELECT 'share ' || posting || ' ' || operator || ' ' || amount FROM shares ORDER BY posting, operator",
+    "SELECT 'tap ' || account || ' ' || reader || ' ' || seq || ' ' || utc || ' ' || day || ' ' || second || ' ' || place || ' ' || kind FROM taps ORDER BY account, reader, seq",
+    "SELECT 'fix ' || account || ' ' || staff || ' ' || seq || ' ' || what || ' ' || a || ' ' || b || ' ' || c || ' ' || d || ' ' || e FROM fixes ORDER BY account, staff, seq",
+];
+
+/// Adds the line of a row.
+fn add_line(text: &mut String, row: &Row) -> Result<(), Error> {
+    let line: String = row.get(0)?;
+    text.push_str(&line)?;
+    text.push('\n')?;
+    Ok(())
+}
+
+/// Adds the lines of a table.
+fn add_lines<S: Alter>(
+    text: &mut String,
+    conn: &mut Connection<S>,
+    sql: &str,
+) -> Result<(), Error> {
+    let rows = conn.query_all(sql, &[])?;
+    for row in &rows {
+        add_line(text, row)?;
+    }
+    Ok(())
+}
+
+/// All rows of the five tables.
+fn rows_of<S: Alter>(alloc: Global, conn: &mut Connection<S>) -> Result<String, Error> {
+    let mut text = String::new(alloc);
+    for sql in &TABLES {
+        add_lines(&mut text, conn, sql)?;
+    }
+    Ok(text)
+}
+
+/// These are all the rows of a ledger, which is opened again.
+pub fn expect_rows<R: Abort + AllocGlobal, S: Alter + Drop>(
+    rt: &R,
+    ledger: Ledger<S>,
+    wanted: &str,
+) -> Ledger<S> {
+    let mut conn = ledger.into_connection();
+    let rows = rows_of(rt.alloc(), &mut conn).expect(rt, "rows");
+    expect_same(rt, rows.as_str(), wanted);
+    opened(rt, conn)
+}
+
+/// A posting by the account, the version and the due of its quote and its amount, and what of that fell to operators 1 and
+/// 4. To the others falls nothing here.
+pub type Told = (u32, u32, u64, i64, i64, i64);
+
+fn told<R: Abort>(rt: &R, posting: &Posting) -> Told {
+    let mut others = posting.share_amounts;
+    let (one, four) = (others[0], others[3]);
+    others[0] = 0;
+    others[3] = 0;
+    expect_same(rt, others, [0; OPERATORS]);
+    let quote = &posting.quote;
+    expect_same(rt, (quote.week(), quote.through()), (MONDAY, MONDAY));
+    (
+        quote.account(),
+        quote.version(),
+        quote.due().pence(),
+        posting.amount,
+        one,
+        four,
+    )
+}
+
+fn told_all<R: Abort + AllocGlobal>(rt: &R, postings: &[Posting]) -> Vec<Told> {
+    let mut list = Vec::new(rt.alloc());
+    for posting in postings {
+        list.push(told(rt, posting)).expect(rt, "memory");
+    }
+    list
+}
+
+/// Posts quotes and archives sets, and compares the postings that are given.
+pub fn expect_posted<R: Abort + AllocGlobal, S: Alter + Drop>(
+    rt: &R,
+    ledger: &mut Ledger<S>,
+    batch: (&[Quote], &[Sets]),
+    wanted: Result<&[Told], LedgerFault>,
+) {
+    let given = match ledger.post(batch.0, batch.1) {
+        Ok(postings) => Ok(told_all(rt, &postings)),
+        Err(fault) => Err(fault),
+    };
+    expect_list(rt, given, wanted);
+}
+
+/// What an account owes through the Monday, and all that it has accepted.
+pub fn owed<R: Abort>(rt: &R, account: &Account, tables: &Tables) -> (Quote, Sets)
+    requires { 1 ≤ account.now.0 }
+{
+    let quote = account.quote(tables, MONDAY).expect(rt, "memory");
+    (quote, account.sets().expect(rt, "memory"))
+}
+
+/// An account by its number, its version and what it owes through the Monday.
+fn account_told<R: Abort>(rt: &R, account: &Account, tables: &Tables) -> (u32, u32, u64) {
+    assert!(rt; 1 <= account.number());
+    let (quote, _) = owed(rt, account, tables);
+    (quote.account(), quote.version(), quote.due().pence())
+}
+
+/// Restores the accounts of a ledger, and compares them in their order.
+pub fn expect_restored<R: Abort + AllocGlobal, S: Alter + Drop>(
+    rt: &R,
+    ledger: &mut Ledger<S>,
+    tables: &Tables,
+    wanted: &[(u32, u32, u64)],
+) {
+    let accounts: Vec<Account> = ledger.restore(tables).expect(rt, "accounts");
+    let mut list = Vec::new(rt.alloc());
+    for account in &accounts {
+        let it = account_told(rt, account, tables);
+        list.push(it).expect(rt, "memory");
+    }
+    expect_same(rt, list.as_slice(), wanted);
+}
+
+/// Compares the postings of account 7 for the week of the Monday, and what they come to.
+fn expect_week<R: Abort + AllocGlobal>(
+    rt: &R,
+    ledger: &mut Ledger<MemStore>,
+    wanted: &[Told],
+    net: i64,
+) {
+    let postings = ledger.postings(7, MONDAY).expect(rt, "postings");
+    let list = told_all(rt, postings.as_slice());
+    expect_same(rt, list.as_slice(), wanted);
+    expect_same(rt, ledger.net(7, MONDAY), Ok(net));
+}
+
+// A journey without its end costs the maximum, 860, and from station 10 to 12 it costs 340: 520 less. Both are operator 1's.
+const CHARGED: Told = (7, 1, 860, 860, 860, 0);
+
+const GIVEN_BACK: Told = (7, 2, 340, -520, -520, 0);
+
+/// All rows behind both.
+pub const JOURNEY: &str = "meta farebox 1
+posting 1 7 19730 19730 1 860 860
+posting 2 7 19730 19730 2 340 -520
+share 1 1 860
+share 2 1 -520
+tap 7 1 1 1704697200 19730 25200 10 0
+tap 7 1 2 1704699000 19730 27000 12 1
+";
+
+/// A ledger with a journey of account 7, which was quoted at each of its taps.
+fn journey<R: Abort + AllocGlobal>(rt: &R, tables: &Tables) -> Ledger<MemStore> {
+    let mut ledger = empty_ledger(rt);
+    let mut account: Account = Fares::new(rt.alloc(), 7);
+    let entry = tap_at(rt, 1, 25_200, 10, Kind::In);
+    expect_price(rt, &mut account, tables, entry, 860);
+    let (quote, sets) = owed(rt, &account, tables);
+    expect_posted(rt, &mut ledger, (&[quote], &[sets]), Ok(&[CHARGED]));
+    let exit = tap_at(rt, 2, 27_000, 12, Kind::Out);
+    expect_price(rt, &mut account, tables, exit, 340);
+    let (quote, sets) = owed(rt, &account, tables);
+    let batch = ([quote], [sets]);
+    expect_posted(rt, &mut ledger, (&batch.0, &batch.1), Ok(&[GIVEN_BACK]));
+    expect_posted(rt, &mut ledger, (&batch.0, &batch.1), Ok(&[GIVEN_BACK]));
+    ledger
+}
+
+#[test]
+fn charges_and_gives_back(rt: HostRuntime) {
+    let tables = sample(&rt);
+    let mut ledger = journey(&rt, &tables);
+    expect_week(&rt, &mut ledger, &[CHARGED, GIVEN_BACK], 340);
+    let mut ledger = expect_rows(&rt, ledger, JOURNEY);
+    expect_restored(&rt, &mut ledger, &tables, &[(7, 2, 340)]);
+}
+
+/// A quote of an account through the Monday, of which all is operator 1's.
+fn quoted<R: Abort>(rt: &R, account: u32, version: u32, due: u64) -> Quote {
+    let mut shares = [0; OPERATORS];
+    shares[0] = due;
+    Quote::rebuilt(account, MONDAY, MONDAY, version, Pence::new(due), shares).expect(rt, "a quote")
+}
+
+/// Refused, since version 2 was posted.
+const STALE: PostFault = PostFault::StaleQuote {
+    account: 7,
+    version: 2,
+    through: MONDAY,
+};
+
+/// This is refused, and the ledger is as it was behind the journey.
+fn expect_refused<R: Abort + AllocGlobal>(
+    rt: &R,
+    mut ledger: Ledger<MemStore>,
+    batch: (&[Quote], &[Sets]),
+    fault: PostFault,
+) -> Ledger<MemStore> {
+    expect_posted(rt, &mut ledger, batch, Err(LedgerFault::Refused(fault)));
+    expect_rows(rt, ledger, JOURNEY)
+}
+
+// An earlier version; the version that was posted, with another due; and another tap of the number of an archived one, beside
+// a quote that could be posted.
+#[test]
+fn refuses_and_stays(rt: HostRuntime) {
+    let tables = sample(&rt);
+    let ledger = journey(&rt, &tables);
+    let stale = [quoted(&rt, 7, 1, 860)];
+    let ledger = expect_refused(&rt, ledger, (&stale, &[]), STALE);
+    let other = [quoted(&rt, 7, 2, 341)];
+    let ledger = expect_refused(&rt, ledger, (&other, &[]), PostFault::QuoteDiffers);
+    let half = [quoted(&rt, 8, 1, 175), quoted(&rt, 7, 1, 860)];
+    let ledger = expect_refused(&rt, ledger, (&half, &[]), STALE);
+    let mut account: Account = Fares::new(rt.alloc(), 7);
+    let elsewhere = tap_at(&rt, 1, 25_200, 11, Kind::In);
+    expect_price(&rt, &mut account, &tables, elsewhere, 860);
+    let (_, sets) = owed(&rt, &account, &tables);
+    let _ = expect_refused(
+        &rt,
+        ledger,
+        (&half[..1], &[sets]),
+        PostFault::ArchiveConflict,
+    );
+}
+
+/// A forgotten touch out is filled in, money is given back, the Fill is withdrawn, and the tap taken out, and then one that
+/// there is not.
+const CORRECTIONS: &str = "TAP 1 1 7 1704697200 10 IN
+FIX 3 1 7 FILL 1704699000 12 OUT
+FIX 3 2 7 CREDIT 19730 100
+FIX 3 3 7 DROP 3 1
+FIX 3 4 7 VOID 1 1
+FIX 3 5 7 VOID 9 9
+CLOSE 19730
+";
+
+/// The replies. Nothing is left to be paid.
+const CORRECTED_REPLIES: &str = "OK 19730 860 860
+OK 19730 340 340
+OK 19730 340 340
+OK 19730 860 860
+OK 19730 0 0
+OK 0 0 0
+PAY 7 19730 19730 6 0 0
+DONE 19730 1
+";
+
+/// All rows behind them: version 6, of one tap and five corrections.
+const CORRECTED: &str = "meta farebox 1
+posting 1 7 19730 19730 6 0 0
+tap 7 1 1 1704697200 19730 25200 10 0
+fix 7 3 1 1 1704699000 19730 27000 12 1
+fix 7 3 2 2 19730 100 0 0 0
+fix 7 3 3 3 3 1 0 0 0
+fix 7 3 4 0 1 1 0 0 0
+fix 7 3 5 0 9 9 0 0 0
+";
+
+#[test]
+fn restores_corrections(rt: HostRuntime) {
+    let mut ledger = empty_ledger(&rt);
+    expect_run(&rt, &mut ledger, CORRECTIONS, 7, CORRECTED_REPLIES);
+    let mut ledger = expect_rows(&rt, ledger, CORRECTED);
+    expect_restored(&rt, &mut ledger, &sample(&rt), &[(7, 6, 0)]);
+    expect_week(&rt, &mut ledger, &[(7, 6, 0, 0, 0, 0)], 0);
+}
+
+/// An account after a boarding, which costs 175.
+fn boarded<R: Abort + AllocGlobal>(rt: &R, tables: &Tables, number: u32) -> Account
+    ensures { result.0 ≡ number }
+{
+    let mut account: Account = Fares::new(rt.alloc(), number);
+    let bus = tap_at(rt, 1, 25_200, 50, Kind::Bus);
+    expect_price(rt, &mut account, tables, bus, 175);
+    account
+}
+
+/// What accounts 8 and 7 owe.
+fn both_owed<R: Abort>(
+    rt: &R,
+    eight: &Account,
+    seven: &Account,
+    tables: &Tables,
+) -> ([Quote; 2], [Sets; 2])
+    requires eight { 1 ≤ eight.now.0 }
+    requires seven { 1 ≤ seven.now.0 }
+{
+    let (quote, sets) = owed(rt, eight, tables);
+    let (other_quote, other_sets) = owed(rt, seven, tables);
+    ([quote, other_quote], [sets, other_sets])
+}
+
+// The fare of the route is operator 4's. Once the boarding of account 8 is voided, all of it is given back.
+const BOARDED: [Told; 2] = [(8, 1, 175, 175, 0, 175), (7, 1, 175, 175, 0, 175)];
+
+const VOIDED: [Told; 2] = [(8, 2, 0, -175, 0, -175), (7, 1, 175, 175, 0, 175)];
+
+/// All rows behind two boardings.
+const BOARDINGS: &str = "meta farebox 1
+posting 1 8 19730 19730 1 175 175
+posting 2 7 19730 19730 1 175 175
+share 1 4 175
+share 2 4 175
+tap 7 1 1 1704697200 19730 25200 50 2
+tap 8 1 1 1704697200 19730 25200 50 2
+";
+
+/// And once that of account 8 was voided.
+const VOIDED_ROWS: &str = "meta farebox 1
+posting 1 8 19730 19730 1 175 175
+posting 2 7 19730 19730 1 175 175
+posting 3 8 19730 19730 2 0 -175
+share 1 4 175
+share 2 4 175
+share 3 4 -175
+tap 7 1 1 1704697200 19730 25200 50 2
+tap 8 1 1 1704697200 19730 25200 50 2
+fix 8 3 1 0 1 1 0 0 0
+";
+
+/// A ledger with both boardings, and what is to be posted once that of account 8 was voided.
+fn boardings<R: Abort + AllocGlobal>(
+    rt: &R,
+    tables: &Tables,
+) -> (Ledger<MemStore>, ([Quote; 2], [Sets; 2])) {
+    let mut ledger = empty_ledger(rt);
+    let (mut eight, seven) = (boarded(rt, tables, 8), boarded(rt, tables, 7));
+    let first = both_owed(rt, &eight, &seven, tables);
+    expect_posted(rt, &mut ledger, (&first.0, &first.1), Ok(&BOARDED));
+    expect_voided(rt, &mut eight, tables, (1, 1), 0);
+    let second = both_owed(rt, &eight, &seven, tables);
+    (expect_rows(rt, ledger, BOARDINGS), second)
+}
+
+#[test]
+fn gives_back_what_was_voided(rt: HostRuntime) {
+    let tables = sample(&rt);
+    let (mut ledger, batch) = boardings(&rt, &tables);
+    expect_posted(&rt, &mut ledger, (&batch.0, &batch.1), Ok(&VOIDED));
+    let mut ledger = expect_rows(&rt, ledger, VOIDED_ROWS);
+    expect_restored(&rt, &mut ledger, &tables, &[(7, 1, 175), (8, 2, 0)]);
+}
+
+/// What comes of a batch under a limit on steps.
+#[derive(Clone, Copy, Debug, PartialEq, Eq)]
+enum Limited {
+    /// The ledger is not opened.
+    Closed,
+    /// The batch is refused.
+    Refused,
+    /// It is posted.
+    Posted,
+}
+
+/// Opens the ledger under a limit on steps and posts a batch. Then it is opened without one.
+fn post_within<R: Abort + AllocGlobal>(
+    rt: &R,
+    ledger: Ledger<MemStore>,
+    limit: u64,
+    batch: (&[Quote], &[Sets]),
+) -> (Ledger<MemStore>, Limited) {
+    let mut conn = ledger.into_connection();
+    conn.set_step_limit(Some(limit));
+    let (mut conn, outcome) = match Ledger::open(rt.alloc(), conn) {
+        Err((fault, conn)) => {
+            expect_same(rt, fault, OpenFault::Store);
+            (conn, Limited::Closed)
+        }
+        Ok(mut ledger) => {
+            let outcome = match ledger.post(batch.0, batch.1) {
+                Err(fault) => {
+                    expect_same(rt, fault, LedgerFault::Store);
+                    Limited::Refused
+                }
+                Ok(_) => Limited::Posted,
+            };
+            (ledger.into_connection(), outcome)
+        }
+    };
+    conn.set_step_limit(None);
+    (opened(rt, conn), outcome)
+}
+
+/// Posts what is due once account 8's boarding was voided, under a limit on steps. Where that is refused, all is as before, and
+/// it is posted without a limit.
+fn void_within<R: Abort + AllocGlobal>(rt: &R, tables: &Tables, limit: u64) -> Limited {
+    let (ledger, batch) = boardings(rt, tables);
+    let (ledger, outcome) = post_within(rt, ledger, limit, (&batch.0, &batch.1));
+    if outcome != Limited::Posted {
+        let mut ledger = expect_rows(rt, ledger, BOARDINGS);
+        expect_posted(rt, &mut ledger, (&batch.0, &batch.1), Ok(&VOIDED));
+        let _ = expect_rows(rt, ledger, VOIDED_ROWS);
+    }
+    outcome
+}
+
+#[test]
+fn posts_all_or_nothing_under_each_limit(rt: HostRuntime) {
+    let tables = sample(&rt);
+    let mut is_refused = false;
+    let mut outcome = Limited::Closed;
+    for limit in 1..100 {
+        outcome = void_within(&rt, &tables, limit);
+        if outcome == Limited::Posted {
+            break;
+        }
+        is_refused = is_refused || outcome == Limited::Refused;
+    }
+    expect_same(&rt, (is_refused, outcome), (true, Limited::Posted));
+}

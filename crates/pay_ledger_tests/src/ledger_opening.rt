@@ -1,0 +1,151 @@
+//! What is opened as a ledger, what of a ledger is no archive, and a ledger in a file.
+
+ghost use Rattle.std.specs.Prelude.{◌≡◌};
+
+use crate::accounts::expect_price;
+use crate::given::{expect_same, sample, tap_at};
+use crate::ledger::{
+    JOURNEY, empty_ledger, expect_posted, expect_restored, expect_rows, opened, owed,
+};
+use crate::runs::expect_run;
+use pay_account::{Account, Fares};
+use pay_ledger::{Ledger, LedgerFault, OpenFault};
+use pay_postings::PostFault;
+use pay_taps::Kind;
+use sqlite::{Alter, Connection, Error, MemStore};
+use std::fs;
+use std::process::Abort;
+
+fn run<S: Alter>(conn: &mut Connection<S>, sql: &str) -> Result<(), Error> {
+    conn.execute_batch(sql)
+}
+
+fn number<S: Alter>(conn: &mut Connection<S>, sql: &str) -> Result<i64, Error> {
+    conn.query_row(sql, &[])?.get(0)
+}
+
+/// A database is no ledger, and is given back with its rows of `meta`: the sum of their versions.
+fn expect_closed<R: Abort + AllocGlobal>(
+    rt: &R,
+    conn: Connection<MemStore>,
+    fault: OpenFault,
+    versions: i64,
+) {
+    assert!(rt; conn.is_autocommit());
+    match Ledger::open(rt.alloc(), conn) {
+        Ok(_) => expect_same(rt, None, Some(fault)),
+        Err((found, mut conn)) => {
+            expect_same(rt, (found, conn.is_autocommit()), (fault, true));
+            let sum = number(&mut conn, "SELECT sum(version) FROM meta");
+            expect_same(rt, sum, Ok(versions));
+        }
+    }
+}
+
+/// A ledger behind these commands, as its database.
+fn changed<R: Abort + AllocGlobal>(rt: &R, sql: &str) -> Connection<MemStore> {
+    let mut conn = empty_ledger(rt).into_connection();
+    run(&mut conn, sql).expect(rt, sql);
+    conn
+}
+
+#[test]
+fn opens_ledgers_alone(rt: HostRuntime) {
+    let mut conn = Connection::open_in_memory(rt.alloc()).expect(&rt, "a database");
+    let meta =
+        "CREATE TABLE meta (name TEXT NOT NULL PRIMARY KEY, version INTEGER NOT NULL) STRICT; INSERT INTO meta VALUES ('farebox', 1)";
+    run(&mut conn, meta).expect(&rt, "a table");
+    expect_closed(&rt, conn, OpenFault::NotALedger, 1);
+    for (sql, fault, versions) in [
+        ("UPDATE meta SET version = 3", OpenFault::Version, 3),
+        ("UPDATE meta SET name = 'Farebox'", OpenFault::NotALedger, 1),
+        (
+            "INSERT INTO meta VALUES ('other', 2)",
+            OpenFault::NotALedger,
+            3,
+        ),
+        ("DROP TABLE fixes", OpenFault::NotALedger, 1),
+    ] {
+        expect_closed(&rt, changed(&rt, sql), fault, versions);
+    }
+}
+
+/// The rows of an empty ledger.
+const EMPTY: &str = "meta farebox 1\n";
+
+/// The entry of account 7 is not posted.
+fn expect_not_posted<R: Abort + AllocGlobal>(rt: &R, ledger: &mut Ledger<MemStore>) {
+    let tables = sample(rt);
+    let mut account: Account = Fares::new(rt.alloc(), 7);
+    let entry = tap_at(rt, 1, 25_200, 10, Kind::In);
+    expect_price(rt, &mut account, &tables, entry, 860);
+    let (quote, sets) = owed(rt, &account, &tables);
+    expect_posted(rt, ledger, (&[quote], &[sets]), Err(BAD));
+}
+
+const BAD: LedgerFault = LedgerFault::Refused(PostFault::BadArchive);
+
+/// Nothing is restored from a ledger with such a row.
+fn expect_not_restored<R: Abort + AllocGlobal>(rt: &R, sql: &str) {
+    let mut ledger = opened(rt, changed(rt, sql));
+    let accounts: Result<Vec<Account>, LedgerFault> = ledger.restore(&sample(rt));
+    expect_same(rt, accounts.err(), Some(BAD));
+}
+
+// A correction of no form, and a tap at a route that there is not.
+#[test]
+fn restores_no_bad_archive(rt: HostRuntime) {
+    expect_not_restored(&rt, "INSERT INTO fixes VALUES (7, 3, 1, 4, 1, 1, 0, 0, 0)");
+    expect_not_restored(
+        &rt,
+        "INSERT INTO taps VALUES (7, 1, 1, 1704697200, 19730, 25200, 51, 2)",
+    );
+}
+
+/// The rows of a posting that falls to operator 17, whom there is not. It is of a later version than the entry's quote.
+const NO_POSTING: &str =
+    "INSERT INTO postings VALUES (1, 7, 19730, 19730, 2, 860, 860); INSERT INTO shares VALUES (1, 17, 860)";
+
+const NO_POSTING_ROWS: &str = "meta farebox 1
+posting 1 7 19730 19730 2 860 860
+share 1 17 860
+";
+
+#[test]
+fn posts_beside_no_bad_posting(rt: HostRuntime) {
+    let mut ledger = opened(&rt, changed(&rt, NO_POSTING));
+    let postings = ledger.postings(7, 19_730).err();
+    expect_same(
+        &rt,
+        (postings, ledger.net(7, 19_730)),
+        (Some(BAD), Err(BAD)),
+    );
+    expect_not_posted(&rt, &mut ledger);
+    let _ = expect_rows(&rt, ledger, NO_POSTING_ROWS);
+}
+
+/// The file, in the folder that the test is run in. It is made anew and stays there, for `tests/ledger` to read.
+const PATH: &str = "ledger.db";
+
+/// A journey that is closed behind each of its taps.
+const LINES: &str =
+    "TAP 1 1 7 1704697200 10 IN\nCLOSE 19730\nTAP 1 2 7 1704699000 12 OUT\nCLOSE 19730\n";
+
+/// Its replies.
+const REPLIES: &str =
+    "OK 19730 860 860\nPAY 7 19730 19730 1 860 860 1=860\nDONE 19730 1\nOK 19730 340 340\nPAY 7 19730 19730 2 340 -520 1=-520\nDONE 19730 1\n";
+
+#[test]
+fn stays_in_a_file(rt: HostRuntime) {
+    let _ = fs::remove_file(&rt, PATH);
+    let conn = Connection::open(&rt, PATH).expect(&rt, "a file");
+    let mut ledger = expect_rows(&rt, opened(&rt, conn), EMPTY);
+    expect_run(&rt, &mut ledger, LINES, 4, REPLIES);
+    let closed = ledger.into_connection().close();
+    closed.expect(&rt, "a file that is closed");
+    let again = Connection::open(&rt, PATH).expect(&rt, "the file again");
+    let mut ledger = expect_rows(&rt, opened(&rt, again), JOURNEY);
+    expect_restored(&rt, &mut ledger, &sample(&rt), &[(7, 2, 340)]);
+    let closed = ledger.into_connection().close();
+    closed.expect(&rt, "the file once more");
+}

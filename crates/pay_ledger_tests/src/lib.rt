@@ -1,0 +1,20 @@
+//! The tests of the ledger and of the crates that stand on it, from its tables to runs of lines, each by public calls alone.
+//! What they are for, and where all other tests stand, `pay_tests` says.
+#![tactic(auto)]
+
+#[cfg(test)]
+mod accounts;
+#[cfg(test)]
+mod closes;
+#[cfg(test)]
+mod given;
+#[cfg(test)]
+mod ledger;
+#[cfg(test)]
+mod ledger_opening;
+#[cfg(test)]
+mod records;
+#[cfg(test)]
+mod runs;
+#[cfg(test)]
+mod sample;

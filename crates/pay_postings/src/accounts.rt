@@ -1,0 +1,140 @@
+ghost use Rattle.std.specs.Prelude.{◌≡◌, ◌≢◌, [], ◌∷◌, Some, None, Ok, Err, MatchResult, IfSome, IfNone, OnOk, OnErr};
+ghost use Rattle.std.specs.FinMap as map;
+ghost use Rattle.pay_postings.specs.declared.fault.PostFault.TheVariants.{Memory};
+ghost use Rattle.pay_postings.specs.Ledger.{LedgerParts, posted};
+ghost use Rattle.pay_postings.specs.Archived.{parts};
+ghost use Rattle.pay_postings.specs.Batches.{Agrees, Covers, with_batch, lists, AreQuotesPosted, AreSetsPosted};
+
+use crate::archived::{Archived, post};
+use crate::batch::Batch;
+use crate::fault::PostFault;
+use crate::new_rows::{new_fixes, new_taps};
+use pay_quotes::{Quote, Sets};
+use std::alloc::{AllocError, Global};
+use std::collections::BTreeMap;
+use std::marker::Model;
+
+/// What a ledger has of some accounts. In a contract it is the finite map from their numbers.
+#[derive(Drop)]
+pub struct Accounts {
+    archived: BTreeMap<u32, Archived>,
+}
+
+impl Model for Accounts {
+    ghost use Rattle.pay_postings.specs.Archived.{AccountsParts, accounts_code, accounts_of};
+
+    ghost Value = { AccountsParts };
+
+    ghost coded = { accounts_code };
+
+    ghost view = { λ a. accounts_of a.archived.entries };
+}
+
+impl Accounts {
+    /// No accounts.
+    pub fn new(alloc: Global) -> Accounts
+        ensures { result ≡ map.empty }
+    {
+        Accounts {
+            archived: BTreeMap::new(alloc),
+        }
+    }
+
+    /// Whether an account is there.
+    pub fn has(&self, account: u32) -> bool
+        ensures { result ≡ map.contains_key self.now account }
+    {
+        self.archived.contains_key(&account)
+    }
+
+    /// Adds what a ledger has of an account, in the place of what was there. An `Err` is want of memory, and all is as
+    /// before.
+    pub fn add(&mut self, account: u32, archived: Archived) -> Result<(), AllocError>
+        ensures ok { OnOk result (self.new ≡ map.insert self.old account (parts archived)) }
+        ensures err { OnErr result (self.new ≡ self.old) }
+    {
+        self.archived.insert(account, archived)?;
+        Ok(())
+    }
+
+    /// Takes an account out.
+    fn take(&mut self, account: u32) -> Option<Archived>
+        ensures some { IfSome result (λ archived. map.get self.old account ≡ Some (parts archived)) }
+        ensures none { IfNone result (map.get self.old account ≡ None) }
+        ensures others { self.new ≡ map.remove self.old account }
+    {
+        self.archived.remove(&account)
+    }
+
+    /// Posts a quote behind a batch.
+    fn post_quote(&mut self, batch: &mut Batch, quote: &Quote) -> Result<(), PostFault>
+        ensures { AreQuotesPosted result self.old self.new (lists batch.old) (lists batch.new) (quote.now ∷ []) }
+    {
+        let Some(mut archived) = self.take(quote.account()) else {
+            return Err(PostFault::BadArchive);
+        };
+        let (given, is_new) = post(&mut archived.posted, quote)?;
+        batch.add_posting(given, is_new)?;
+        self.add(quote.account(), archived)?;
+        Ok(())
+    }
+
+    /// Posts quotes behind a batch, one after another.
+    fn post_quotes(&mut self, batch: &mut Batch, quotes: &[Quote]) -> Result<(), PostFault>
+        ensures { AreQuotesPosted result self.old self.new (lists batch.old) (lists batch.new) quotes.now }
+    {
+        for quote in quotes {
+            self.post_quote(batch, quote)?;
+        }
+        Ok(())
+    }
+
+    /// Archives a set behind a batch.
+    fn archive_set(&mut self, alloc: Global, batch: &mut Batch, set: &Sets) -> Result<(), PostFault>
+        ensures { AreSetsPosted result self.old self.new (lists batch.old) (lists batch.new) (set.now ∷ []) }
+    {
+        let Some(mut archived) = self.take(set.account()) else {
+            return Err(PostFault::BadArchive);
+        };
+        crate::laws::same_row();
+        let taps = new_taps(alloc, &archived.taps, set.taps())?;
+        let fixes = new_fixes(alloc, &archived.fixes, set.fixes())?;
+        archived.add_rows(&taps, &fixes)?;
+        batch.add_set(&taps, &fixes)?;
+        self.add(set.account(), archived)?;
+        Ok(())
+    }
+
+    /// Archives sets behind a batch, one after another.
+    fn archive_sets(
+        &mut self,
+        alloc: Global,
+        batch: &mut Batch,
+        sets: &[Sets],
+    ) -> Result<(), PostFault>
+        ensures { AreSetsPosted result self.old self.new (lists batch.old) (lists batch.new) sets.now }
+    {
+        for set in sets {
+            self.archive_set(alloc, batch, set)?;
+        }
+        Ok(())
+    }
+
+    /// Posts quotes one after another, and then archives sets one after another, by what is there of their accounts:
+    /// what is to be written to the ledger for it. Where an account is not there, nothing is said of the answer. The
+    /// accounts are used up.
+    pub fn post(
+        &mut self,
+        alloc: Global,
+        quotes: &[Quote],
+        sets: &[Sets],
+    ) -> Result<Batch, PostFault>
+        ensures { (ledger : LedgerParts) → Agrees self.old ledger → Covers self.old quotes.now sets.now
+            → MatchResult result (λ batch. posted ledger quotes.now sets.now ≡ Ok (batch.given.items, with_batch ledger (lists batch))) (λ fault. fault ≢ Memory → posted ledger quotes.now sets.now ≡ Err fault) }
+    {
+        let mut batch = Batch::new(alloc);
+        self.post_quotes(&mut batch, quotes)?;
+        self.archive_sets(alloc, &mut batch, sets)?;
+        Ok(batch)
+    }
+}

@@ -1,0 +1,55 @@
+ghost use Rattle.std.specs.Prelude.{◌≡◌, [], ◌∷◌, ◌++◌, OnOk};
+ghost use Rattle.pay_postings.specs.NewRows.{with_new};
+ghost use Rattle.pay_postings.specs.Batches.{lists};
+
+use pay_fix::Fix;
+use pay_quotes::Posting;
+use pay_taps::Tap;
+use std::alloc::{AllocError, Global};
+
+/// What is to be written to a ledger, in order, and the posting that answers each quote.
+#[derive(Drop)]
+pub struct Batch {
+    /// The posting of each quote, which may be one that the ledger had.
+    pub given: Vec<Posting>,
+    /// The new postings.
+    pub postings: Vec<Posting>,
+    /// The new taps.
+    pub taps: Vec<Tap>,
+    /// The new corrections.
+    pub fixes: Vec<Fix>,
+}
+
+impl Batch {
+    /// Nothing is to be written.
+    pub(crate) fn new(alloc: Global) -> Batch
+        ensures { lists result ≡ record { given = []; postings = []; taps = []; fixes = [] } }
+    {
+        Batch {
+            given: Vec::new(alloc),
+            postings: Vec::new(alloc),
+            taps: Vec::new(alloc),
+            fixes: Vec::new(alloc),
+        }
+    }
+
+    /// Adds the posting of a quote, which is to be written if it is new. An `Err` is want of memory.
+    pub(crate) fn add_posting(&mut self, given: Posting, is_new: bool) -> Result<(), AllocError>
+        ensures { OnOk result (lists self.new ≡ record { given = self.old.given.items ++ given ∷ []; postings = with_new is_new given self.old.postings.items; taps = self.old.taps.items; fixes = self.old.fixes.items }) }
+    {
+        if is_new {
+            self.postings.push(given.clone()?)?;
+        }
+        self.given.push(given)?;
+        Ok(())
+    }
+
+    /// Adds new taps and corrections. An `Err` is want of memory.
+    pub(crate) fn add_set(&mut self, taps: &[Tap], fixes: &[Fix]) -> Result<(), AllocError>
+        ensures { OnOk result (lists self.new ≡ record { given = self.old.given.items; postings = self.old.postings.items; taps = self.old.taps.items ++ taps.now; fixes = self.old.fixes.items ++ fixes.now }) }
+    {
+        self.taps.extend_from_slice(taps)?;
+        self.fixes.extend_from_slice(fixes)?;
+        Ok(())
+    }
+}

@@ -1,0 +1,306 @@
+ghost use Rattle.std.specs.Prelude.{◌≡◌, ◌≢◌, ◌≤◌, ◌++◌, ◌∷◌, [], pos, map, sum, unsigned_abs, All, find, Some, None, MatchResult, IfOk, OnOk, IfSome, true};
+ghost use Rattle.std.specs.List.{list_all};
+ghost use Rattle.std.specs.Option.{option_map};
+ghost use Rattle.pay_money.specs.declared.limits.TheConstants.{MOST_MONEY, OPERATORS};
+ghost use Rattle.pay_quotes.specs.Words.{IsQuote};
+ghost use Rattle.pay_postings.specs.declared.fault.PostFault.TheVariants.{BadArchive, Memory};
+ghost use Rattle.pay_postings.specs.Amounts.{IsMoney, added};
+ghost use Rattle.pay_postings.specs.Kept.{AreRead};
+ghost use Rattle.pay_postings.specs.PostingRows.{is_money, is_share_row, is_natural, is_share_of, amount_of, amounts_of, naturals, quote_from_row, quote_behind, is_amount_behind, posting_behind, week_from_row, posting_from_row, postings_from_rows, posting_row, share_rows, share_rows_from, share_row};
+
+use crate::fault::PostFault;
+use crate::posted::Posted;
+use crate::set_rows::ranged;
+use pay_day::limits::{FIRST_DAY, LAST_DAY};
+use pay_fix::limits::MOST_FIXES;
+use pay_money::Pence;
+use pay_money::limits::{MOST_MONEY, OPERATORS};
+use pay_quotes::{Posting, Quote};
+use pay_rows::{PostingRow, ShareRow};
+use pay_taps::limits::MOST_TAPS;
+use std::alloc::{AllocError, Global};
+
+/// Whether an amount is within the largest sum of money either way.
+fn is_money(amount: i64) -> bool
+    ensures { result ≡ is_money amount }
+{
+    amount.unsigned_abs() <= MOST_MONEY
+}
+
+/// Whether a row of a share names an operator, and its amount is a sum of money.
+fn is_share_row(row: &ShareRow) -> bool
+    ensures { result ≡ is_share_row row.now }
+{
+    ranged(row.operator, 1, OPERATORS as u64).is_some() && is_money(row.amount)
+}
+
+/// Whether all rows of shares do.
+fn are_share_rows(shares: &[ShareRow]) -> bool
+    ensures { result ≡ list_all is_share_row shares.now }
+{
+    shares.iter().all(|row| is_share_row(row))
+}
+
+/// Whether a row is of a posting and an operator.
+fn is_share_of(id: i64, operator: usize, row: &ShareRow) -> bool
+    requires { operator ≤ OPERATORS }
+    ensures { result ≡ is_share_of id operator row.now }
+{
+    row.posting == id && row.operator == operator as i64
+}
+
+/// The row of a share of a posting.
+fn share_of(shares: &[ShareRow], id: i64, operator: usize) -> Option<&ShareRow>
+    requires { operator ≤ OPERATORS }
+    ensures { option_map (λ r. r.now) result ≡ find (is_share_of id operator) shares.now }
+{
+    shares.iter().find(|row| is_share_of(id, operator, row))
+}
+
+/// What rows say that fell to an operator of a posting: nothing without a row.
+fn amount_of(shares: &[ShareRow], id: i64, operator: usize) -> i64
+    requires { operator ≤ OPERATORS }
+    ensures { result ≡ amount_of shares.now id operator }
+{
+    match share_of(shares, id, operator) {
+        Some(row) => row.amount,
+        None => 0,
+    }
+}
+
+/// And to each operator, from operator 1 on.
+fn amounts_of(shares: &[ShareRow], id: i64) -> [i64; OPERATORS]
+    requires { list_all is_share_row shares.now ≡ true }
+    ensures value { result ≡ amounts_of shares.now id }
+    ensures in_range { All IsMoney result }
+{
+    let mut amounts = [0; OPERATORS];
+    for place in 0..OPERATORS {
+        amounts[place] = amount_of(shares, id, place + 1);
+    }
+    amounts
+}
+
+/// Amounts beside what was posted for each operator.
+fn added(posted: &[u64; OPERATORS], amounts: &[i64; OPERATORS]) -> [i64; OPERATORS]
+    requires posted { sum posted.now ≤ MOST_MONEY }
+    requires amounts { All IsMoney amounts.now }
+    ensures { result ≡ added (map pos posted.now) amounts.now }
+{
+    let mut sums = [0; OPERATORS];
+    for place in 0..OPERATORS {
+        sums[place] = posted[place] as i64 + amounts[place];
+    }
+    sums
+}
+
+/// Each amount, whichever way it is.
+fn magnitudes(amounts: &[i64; OPERATORS]) -> [u64; OPERATORS]
+    ensures { result ≡ map unsigned_abs amounts.now }
+{
+    let mut magnitudes = [0; OPERATORS];
+    for place in 0..OPERATORS {
+        magnitudes[place] = amounts[place].unsigned_abs();
+    }
+    magnitudes
+}
+
+/// Whether an amount is not below 0.
+fn is_natural(amount: i64) -> bool
+    ensures { result ≡ is_natural amount }
+{
+    0 <= amount
+}
+
+/// Whether none of these is.
+fn are_natural(amounts: &[i64; OPERATORS]) -> bool
+    ensures { result ≡ list_all is_natural amounts.now }
+{
+    amounts.iter().all(|amount| is_natural(*amount))
+}
+
+/// Amounts as shares, if none is below 0.
+fn naturals(amounts: &[i64; OPERATORS]) -> Option<[u64; OPERATORS]>
+    ensures { result ≡ naturals amounts.now }
+{
+    if are_natural(amounts) {
+        Some(magnitudes(amounts))
+    } else {
+        None
+    }
+}
+
+/// The quote of a row, by its week and the shares that were posted up to it.
+fn quote_from_row(
+    account: u32,
+    week: u32,
+    row: &PostingRow,
+    shares: [u64; OPERATORS],
+) -> Option<Quote>
+    ensures value { result ≡ quote_from_row account week row.now shares }
+    ensures read { IfSome result (λ quote. IsQuote quote) }
+{
+    let through = ranged(row.through, u64::from(FIRST_DAY), u64::from(LAST_DAY))?;
+    let version = ranged(row.version, 0, (MOST_TAPS + MOST_FIXES) as u64)?;
+    let due = ranged(row.due, 0, MOST_MONEY)?;
+    Quote::rebuilt(
+        account,
+        week,
+        through as u32,
+        version as u32,
+        Pence::new(due),
+        shares,
+    )
+}
+
+/// The quote of a row, by its week and what of its posting fell to each operator, behind the postings before it.
+fn quote_behind(
+    account: u32,
+    week: u32,
+    before: &Posted,
+    amounts: &[i64; OPERATORS],
+    row: &PostingRow,
+) -> Option<Quote>
+    requires { All IsMoney amounts.now }
+    ensures value { result ≡ quote_behind account week before.now amounts.now row.now }
+    ensures read { IfSome result (λ quote. IsQuote quote) }
+{
+    let posted = before.shares(account, week);
+    let shares = naturals(&added(&posted, amounts))?;
+    quote_from_row(account, week, row, shares)
+}
+
+/// Whether an amount is a sum of money, by itself and with those of its week before it.
+fn is_amount_behind(account: u32, week: u32, before: &Posted, amount: i64) -> bool
+    ensures { result ≡ is_amount_behind account week before.now amount }
+{
+    is_money(amount) && is_money(before.net(account, week) + amount)
+}
+
+/// The posting of a row, by its week and what of it fell to each operator, behind those before it.
+fn posting_behind(
+    account: u32,
+    week: u32,
+    before: &Posted,
+    amounts: [i64; OPERATORS],
+    row: &PostingRow,
+) -> Option<Posting>
+    requires { All IsMoney amounts }
+    ensures value { result ≡ posting_behind account week before.now amounts row.now }
+    ensures read { IfSome result (λ p. AreRead (before.now ++ p ∷ [])) }
+{
+    let _read = before.as_slice();
+    let quote = quote_behind(account, week, before, &amounts, row)?;
+    if is_amount_behind(account, week, before, row.amount) {
+        Some(Posting {
+            quote,
+            amount: row.amount,
+            share_amounts: amounts,
+        })
+    } else {
+        None
+    }
+}
+
+/// The week of a row, if it is named by a service day.
+fn week_from_row(row: &PostingRow) -> Option<u32>
+    ensures { result ≡ week_from_row row.now }
+{
+    Some(ranged(row.week, u64::from(FIRST_DAY), u64::from(LAST_DAY))? as u32)
+}
+
+/// The posting of a row, behind those before it.
+fn posting_from_row(
+    account: u32,
+    shares: &[ShareRow],
+    before: &Posted,
+    id: i64,
+    row: &PostingRow,
+) -> Option<Posting>
+    requires { list_all is_share_row shares.now ≡ true }
+    ensures value { result ≡ posting_from_row account shares.now before.now id row.now }
+    ensures read { IfSome result (λ p. AreRead (before.now ++ p ∷ [])) }
+{
+    let week = week_from_row(row)?;
+    let amounts = amounts_of(shares, id);
+    posting_behind(account, week, before, amounts, row)
+}
+
+/// The postings of an account by its rows, each beside its number and in ascending order of these, and the rows of their
+/// shares in any order. `BadArchive` where a row gives no quote with the shares that were posted up to it, or an operator
+/// is not from 1 to 16, or an amount is no sum of money, by itself or with those of its week before it.
+pub fn postings_from_rows(
+    alloc: Global,
+    account: u32,
+    rows: &[(i64, PostingRow)],
+    shares: &[ShareRow],
+) -> Result<Posted, PostFault>
+    ensures { MatchResult result (λ postings. postings_from_rows account rows.now shares.now ≡ Some postings) (λ fault. fault ≢ Memory → (fault ≡ BadArchive) × (postings_from_rows account rows.now shares.now ≡ None)) }
+{
+    if !are_share_rows(shares) {
+        return Err(PostFault::BadArchive);
+    }
+    let mut postings = Posted::new(alloc);
+    for (id, row) in rows {
+        let Some(posting) = posting_from_row(account, shares, &postings, *id, row) else {
+            return Err(PostFault::BadArchive);
+        };
+        postings.push(posting)?;
+    }
+    Ok(postings)
+}
+
+/// A posting as a row.
+pub fn posting_row(posting: &Posting) -> PostingRow
+    ensures { result ≡ posting_row posting.now }
+{
+    PostingRow {
+        week: i64::from(posting.quote.week()),
+        through: i64::from(posting.quote.through()),
+        version: i64::from(posting.quote.version()),
+        due: posting.quote.due().pence() as i64,
+        amount: posting.amount,
+    }
+}
+
+/// One more row of a share, unless its amount is 0. An `Err` is want of memory.
+fn add_share(
+    rows: &mut Vec<ShareRow>,
+    id: i64,
+    operator: usize,
+    amount: i64,
+) -> Result<(), AllocError>
+    requires { operator ≤ OPERATORS }
+    ensures { OnOk result (rows.new.items ≡ rows.old.items ++ share_row id operator amount) }
+{
+    if amount != 0 {
+        rows.push(ShareRow {
+            posting: id,
+            operator: operator as i64,
+            amount,
+        })?;
+    }
+    Ok(())
+}
+
+/// The amounts of all operators as rows: one for each that is not 0.
+fn rows_of_amounts(
+    alloc: Global,
+    id: i64,
+    amounts: &[i64; OPERATORS],
+) -> Result<Vec<ShareRow>, AllocError>
+    ensures { IfOk result (λ rows. rows.items ≡ share_rows_from id 1 amounts.now) }
+{
+    let mut rows = Vec::new(alloc);
+    for place in 0..OPERATORS {
+        add_share(&mut rows, id, place + 1, amounts[place])?;
+    }
+    Ok(rows)
+}
+
+/// The share amounts of a posting as rows: one for each operator whose amount is not 0.
+pub fn share_rows(alloc: Global, id: i64, posting: &Posting) -> Result<Vec<ShareRow>, AllocError>
+    ensures { IfOk result (λ rows. rows.items ≡ share_rows id posting.now) }
+{
+    rows_of_amounts(alloc, id, &posting.share_amounts)
+}

@@ -1,0 +1,5 @@
+pub mod Accepted
+pub mod QuoteParts
+pub mod PostingsCode
+pub mod SetsParts
+pub mod Words

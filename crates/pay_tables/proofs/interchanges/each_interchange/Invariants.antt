@@ -1,8 +1,0 @@
-use Rattle.std.proofs.Common.{◌≡◌, [], drop}
-use Rattle.toml.specs.View.{items_view}
-use Rattle.pay_tables.specs.FareFile.{with_each, with_interchange}
-use Rattle.pay_tables.proofs.interchanges.each_interchange.Given as goal
-
--- what is left, put behind the interchanges so far, gives what all gives
-abbrev pub invariant-loop-item : goal.invariant-loop-item
-invariant-loop-item l = with_each (with_interchange l.places) l.interchanges.items (items_view (drop l.item-index l.items)) ≡ with_each (with_interchange l.places) [] (items_view l.items)

@@ -1,8 +1,0 @@
-use Rattle.std.proofs.Common.{◌≡◌, [], drop}
-use Rattle.toml.specs.View.{items_view}
-use Rattle.pay_tables.specs.FareFile.{with_each, with_minutes}
-use Rattle.pay_tables.proofs.minutes.each_minutes.Given as goal
-
--- what is left, put behind the numbers so far, gives what all gives
-abbrev pub invariant-loop-item : goal.invariant-loop-item
-invariant-loop-item l = with_each with_minutes l.minutes.items (items_view (drop l.item-index l.items)) ≡ with_each with_minutes [] (items_view l.items)
