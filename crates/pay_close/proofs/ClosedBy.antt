@@ -15,7 +15,7 @@ use Rattle.pay_shard.specs.Words.{BatchParts}
 use Rattle.pay_shard.specs.declared.asked.Asked.{Asked}
 use Rattle.pay_shard.specs.declared.desk.DeskFault.{DeskFault}
 use Rattle.pay_shard.specs.declared.reply.Answer.{Answer}
-use Rattle.pay_session.specs.Words.{Taken, IsShort, IsClosed}
+use Rattle.pay_session.specs.Words.{Taken, AreQuotes, IsShort, IsClosed}
 use Rattle.pay_session.specs.Served.{brings_quotes}
 use Rattle.pay_session.specs.declared.till.CloseFault.{CloseFault}
 use Rattle.pay_session.specs.declared.till.CloseFault.TheVariants as close_fault
@@ -130,9 +130,9 @@ module _ (Refuses : DeskFault → Type 0) (Late : Type 0) (of : ℕ) where
   not_brought : (t : Taken) → Bool
   not_brought t = not (brings_quotes t.answer)
 
-  last_one_lacks : (front : List Taken) (last : Taken) → brings_quotes last.answer ≡ false → list_any (λ (t : Taken). not (brings_quotes t.answer)) (front ++ last ∷ []) ≡ true
-  last_one_lacks [] last e = ap (λ b. not b || false) e
-  last_one_lacks (t ∷ front) last e = ap (λ b. not (brings_quotes t.answer) || b) (last_one_lacks front last e) ∙ either (not (brings_quotes t.answer))
+  one_lacks : (front : List Taken) (first : Taken) (later : List Taken) → brings_quotes first.answer ≡ false → list_any (λ (t : Taken). not (brings_quotes t.answer)) (front ++ first ∷ later) ≡ true
+  one_lacks [] first later e = ap (λ b. not b || list_any (λ (t : Taken). not (brings_quotes t.answer)) later) e
+  one_lacks (t ∷ front) first later e = ap (λ b. not (brings_quotes t.answer) || b) (one_lacks front first later e) ∙ either (not (brings_quotes t.answer))
     where
       either : (b : Bool) → (b || true) ≡ true
       either true = refl
@@ -140,7 +140,7 @@ module _ (Refuses : DeskFault → Type 0) (Late : Type 0) (of : ℕ) where
 
   short_of : (fault : DeskFault) (put : List Taken) → IsStopped Refuses Late of fault put → IsShort Refuses Late put
   short_of fault put (inl f) = inl (fault, f.refuses)
-  short_of fault put (inr f) = inr (ap (list_any (λ (t : Taken). not (brings_quotes t.answer))) f.parts ∙ last_one_lacks f.front f.last f.without)
+  short_of fault put (inr f) = inr (ap (list_any (λ (t : Taken). not (brings_quotes t.answer))) f.parts ∙ one_lacks f.front f.first f.later f.without)
 
   refused_otherwise : (why : PostFault) → close_fault_of_post why ≡ close_fault.DeskFault → ⊥
   refused_otherwise post.BadArchive e = cc
@@ -179,7 +179,7 @@ module _ (Refuses : DeskFault → Type 0) (Late : Type 0) (of : ℕ) where
   said_closes old new put (Err fault) f = record { closed = λ clean. tt; refused = λ clean ledger is. why_said put ledger fault (f.refused clean ledger is); kept = f.kept; survives = f.survives }
 
   pub till_closed : (old new : State) (day : ℕ) (before after : List (ℕ × Asked)) (transcript : ℕ → Option Answer) (result : Result (List Posting) NotClosed) (said : Result (List Posting) CloseFault) → said ≡ as_said result
-      → IsAsked Refuses Late day of 0 before after transcript (λ put. ClosedSo old new put result)
+      → IsAsked Refuses Late (AreQuotes day of 0) before after transcript (λ put. ClosedSo old new put result)
       → IsClosed Refuses Late (λ put answer. Closes old new of put answer) day of before after transcript said
   till_closed old new day before after transcript result said is f = record {
     put = f.put;
@@ -194,7 +194,7 @@ module _ (Refuses : DeskFault → Type 0) (Late : Type 0) (of : ℕ) where
   }
 
   pub till_refused : (old new : State) (day : ℕ) (before after : List (ℕ × Asked)) (transcript : ℕ → Option Answer) (its : NotClosed) (fault : CloseFault) (said : Result (List Posting) CloseFault) → said ≡ Err fault → fault ≡ close_fault_of its
-      → IsAsked Refuses Late day of 0 before after transcript (λ put. ClosedSo old new put (Err its))
+      → IsAsked Refuses Late (AreQuotes day of 0) before after transcript (λ put. ClosedSo old new put (Err its))
       → IsClosed Refuses Late (λ put answer. Closes old new of put answer) day of before after transcript said
   till_refused old new day before after transcript its fault said is e f =
       till_closed old new day before after transcript (Err its) said (is ∙ ap (λ (w : CloseFault). Err w) e) f
@@ -203,22 +203,22 @@ module _ (Refuses : DeskFault → Type 0) (Late : Type 0) (of : ℕ) where
 
   module _ (day : ℕ) (before after : List (ℕ × Asked)) (transcript : ℕ → Option Answer) (old new : State) where
     abbrev AskedSo : Result (List Posting) NotClosed → Type 0
-    AskedSo result = IsAsked Refuses Late day of 0 before after transcript (λ put. ClosedSo old new put result)
+    AskedSo result = IsAsked Refuses Late (AreQuotes day of 0) before after transcript (λ put. ClosedSo old new put result)
 
     abbrev AskedTold : Result BatchParts NotClosed → Type 0
-    AskedTold result = IsAsked Refuses Late day of 0 before after transcript (λ put. IsTold Refuses Late of gathered put result)
+    AskedTold result = IsAsked Refuses Late (AreQuotes day of 0) before after transcript (λ put. IsTold Refuses Late of gathered put result)
 
     -- not all quotes came
     pub close_stopped : new ≡ old → (its fault : NotClosed) (result : Result (List Posting) NotClosed) → result ≡ Err fault → fault ≡ its → AskedTold (Err its) → AskedSo result
     close_stopped same its fault result is e f =
-        subst AskedSo (sym is) (subst (λ (w : NotClosed). AskedSo (Err w)) (sym e) (weaker Refuses Late day of 0 before after transcript _ _ (closed_early old new same its) f))
+        subst AskedSo (sym is) (subst (λ (w : NotClosed). AskedSo (Err w)) (sym e) (weaker Refuses Late (AreQuotes day of 0) before after transcript _ _ (closed_early old new same its) f))
 
     module _ (batch : BatchParts) (all : AskedTold (Ok batch)) (quotes : List QuoteParts) (sets : List SetsParts) (same_quotes : quotes ≡ batch.quotes) (same_sets : sets ≡ batch.sets) (survives : Survives old new (MayLeave old quotes sets)) where
       -- they were posted
       pub close_posted : (given answer : List Posting) → answer ≡ given → (HasCleanDisk new → Posts old new quotes sets given) → AskedSo (Ok answer)
       close_posted given answer same posts =
           subst (λ (l : List Posting). AskedSo (Ok l)) (sym same)
-          (weaker Refuses Late day of 0 before after transcript _ _
+          (weaker Refuses Late (AreQuotes day of 0) before after transcript _ _
           (λ put told. closed_at_last old new put quotes sets told.0 (same_quotes ∙ ap (λ (b : BatchParts). b.quotes) told.1) (same_sets ∙ ap (λ (b : BatchParts). b.sets) told.1) survives given posts) all)
 
       -- the ledger did not post them
@@ -227,5 +227,5 @@ module _ (Refuses : DeskFault → Type 0) (Late : Type 0) (of : ℕ) where
       close_refused its fault result is e refused kept =
           subst AskedSo (sym is)
           (subst (λ (w : NotClosed). AskedSo (Err w)) (sym e)
-          (weaker Refuses Late day of 0 before after transcript _ _
+          (weaker Refuses Late (AreQuotes day of 0) before after transcript _ _
           (λ put told. closed_not old new put quotes sets told.0 (same_quotes ∙ ap (λ (b : BatchParts). b.quotes) told.1) (same_sets ∙ ap (λ (b : BatchParts). b.sets) told.1) survives its refused kept) all))

@@ -8,8 +8,9 @@ use Rattle.pay_ledger.specs.Faults.{is_of_store}
 use Rattle.pay_ledger.specs.Keeps.{IsLedger}
 use Rattle.pay_ledger.specs.Steps.{Posts, IsAsBefore, MayLeave}
 use Rattle.pay_ledger.specs.declared.fault.LedgerFault.TheVariants as ledger_fault
+use Rattle.pay_shard.specs.Words.{DeskParts}
 use Rattle.pay_shard.specs.declared.desk.DeskFault.{DeskFault}
-use Rattle.pay_session.specs.Words.{Taken}
+use Rattle.pay_session.specs.Words.{Taken, MaySometimeRefuse, MaySometimeBeLate}
 use Rattle.pay_session.specs.declared.till.CloseFault.{CloseFault}
 use Rattle.pay_close.specs.Batches.{gathered, IsWhole}
 use Rattle.pay_close.specs.Faults.{close_fault_of_post, close_fault_of, is_outside}
@@ -53,3 +54,8 @@ module _ (Refuses : DeskFault → Type 0) (Late : Type 0) where
   pub record IsClosedSo (of : ℕ) (old new : State) (put : List Taken) (result : Result (List Posting) NotClosed) : Type 0 where
     pub stopped : (fault : DeskFault) → result ≡ Err (Desk fault) → IsStopped Refuses Late of fault put
     pub closes : ClosesBy (IsWhy of put) old new of put result
+
+-- the same over a desk, with `parts` for what it is at a moment
+abbrev pub IsClosedSoAt : {D O : Type 0} → (D → DeskParts O) → D → State → State → Result (List Posting) NotClosed → List Taken → Type 0
+IsClosedSoAt parts before old new result put =
+    IsClosedSo (MaySometimeRefuse parts (parts before).standing) (MaySometimeBeLate parts (parts before).standing) (parts before).standing.shards old new put result

@@ -3,4 +3,5 @@ pub mod Words
 pub mod Faults
 pub mod Batches
 pub mod Gathers
+pub mod Laws
 pub mod Closes

@@ -4,9 +4,9 @@ ghost use Rattle.pay_day.specs.declared.limits.TheConstants.{FIRST_DAY, LAST_DAY
 ghost use Rattle.pay_shard.specs.declared.asked.Asked.TheVariants.{Quotes};
 ghost use Rattle.pay_shard.specs.declared.limits.TheConstants.{MOST_SHARDS};
 ghost use Rattle.pay_shard.specs.Words.{AreKept};
-ghost use Rattle.pay_session.specs.Words.{MaySometimeRefuse, MaySometimeBeLate};
+ghost use Rattle.pay_session.specs.Words.{AreQuotes};
 ghost use Rattle.pay_close.specs.Batches.{in_order_by, in_order, both, brought, gathered};
-ghost use Rattle.pay_close.specs.Gathers.{told_of_reply, IsTold, IsAsked};
+ghost use Rattle.pay_close.specs.Gathers.{told_of_reply, IsAskedAt, IsToldAt};
 
 use crate::fault::NotClosed;
 use pay_account::{Quote, Sets};
@@ -117,12 +117,12 @@ fn batch_of_reply(reply: Reply) -> Result<Batch, NotClosed>
 fn ask<D: Desk>(desk: &mut D, day: u32, shard: u8, of: u8) -> Result<Batch, NotClosed>
     requires day { (FIRST_DAY ≤ day) × (day ≤ LAST_DAY) }
     requires shard { (shard < of) × (of ≤ MOST_SHARDS) }
-    requires of_desk { of ≡ (D.standing desk.old).shards }
-    ensures asked { IsAsked (MaySometimeRefuse D.standing D.MayRefuse (D.standing desk.old)) (MaySometimeBeLate D.standing D.MayBeLate (D.standing desk.old)) day of shard (D.taken desk.old) (D.taken desk.new) (D.transcript desk.new)
-        (λ put. IsTold (MaySometimeRefuse D.standing D.MayRefuse (D.standing desk.old)) (MaySometimeBeLate D.standing D.MayBeLate (D.standing desk.old)) 1 brought put result) }
-    ensures transcript { AreKept (D.transcript desk.old) (D.transcript desk.new) }
-    ensures same_desk { D.standing desk.new ≡ D.standing desk.old }
+    requires of_desk { of ≡ (D.parts desk.old).standing.shards }
+    ensures asked { IsAskedAt D.parts desk.old desk.new (AreQuotes day of shard) (IsToldAt D.parts desk.old 1 brought result) }
+    ensures transcript { AreKept (D.parts desk.old).transcript (D.parts desk.new).transcript }
+    ensures same_desk { (D.parts desk.new).standing ≡ (D.parts desk.old).standing }
 {
+    pay_shard::laws::put_then_get::<D>();
     let ticket = match desk.put(quotes_command(day, shard, of)) {
         Ok(ticket) => ticket,
         Err(fault) => return Err(NotClosed::Desk(fault)),
@@ -136,11 +136,11 @@ fn ask<D: Desk>(desk: &mut D, day: u32, shard: u8, of: u8) -> Result<Batch, NotC
 /// Asks the shards of a desk, one after another, and puts what they bring one behind another.
 fn ask_all<D: Desk>(alloc: Global, desk: &mut D, day: u32) -> Result<Gathered, NotClosed>
     requires { (FIRST_DAY ≤ day) × (day ≤ LAST_DAY) }
-    ensures asked { IsAsked (MaySometimeRefuse D.standing D.MayRefuse (D.standing desk.old)) (MaySometimeBeLate D.standing D.MayBeLate (D.standing desk.old)) day (D.standing desk.old).shards 0 (D.taken desk.old) (D.taken desk.new) (D.transcript desk.new)
-        (λ put. IsTold (MaySometimeRefuse D.standing D.MayRefuse (D.standing desk.old)) (MaySometimeBeLate D.standing D.MayBeLate (D.standing desk.old)) (D.standing desk.old).shards brought put result) }
-    ensures some { 1 ≤ (D.standing desk.old).shards }
-    ensures transcript { AreKept (D.transcript desk.old) (D.transcript desk.new) }
-    ensures same_desk { D.standing desk.new ≡ D.standing desk.old }
+    ensures asked { IsAskedAt D.parts desk.old desk.new (AreQuotes day (D.parts desk.old).standing.shards 0)
+        (IsToldAt D.parts desk.old (D.parts desk.old).standing.shards brought result) }
+    ensures some { 1 ≤ (D.parts desk.old).standing.shards }
+    ensures transcript { AreKept (D.parts desk.old).transcript (D.parts desk.new).transcript }
+    ensures same_desk { (D.parts desk.new).standing ≡ (D.parts desk.old).standing }
 {
     let of = desk.shards();
     let mut all = Gathered::new(alloc);
@@ -156,10 +156,10 @@ fn ask_all<D: Desk>(alloc: Global, desk: &mut D, day: u32) -> Result<Gathered, N
 /// `Desk` is the first fault of the desk, and `Ledger` want of memory for what was brought.
 pub fn gather<D: Desk>(alloc: Global, desk: &mut D, day: u32) -> Result<Gathered, NotClosed>
     requires { (FIRST_DAY ≤ day) × (day ≤ LAST_DAY) }
-    ensures asked { IsAsked (MaySometimeRefuse D.standing D.MayRefuse (D.standing desk.old)) (MaySometimeBeLate D.standing D.MayBeLate (D.standing desk.old)) day (D.standing desk.old).shards 0 (D.taken desk.old) (D.taken desk.new) (D.transcript desk.new)
-        (λ put. IsTold (MaySometimeRefuse D.standing D.MayRefuse (D.standing desk.old)) (MaySometimeBeLate D.standing D.MayBeLate (D.standing desk.old)) (D.standing desk.old).shards gathered put result) }
-    ensures transcript { AreKept (D.transcript desk.old) (D.transcript desk.new) }
-    ensures same_desk { D.standing desk.new ≡ D.standing desk.old }
+    ensures asked { IsAskedAt D.parts desk.old desk.new (AreQuotes day (D.parts desk.old).standing.shards 0)
+        (IsToldAt D.parts desk.old (D.parts desk.old).standing.shards gathered result) }
+    ensures transcript { AreKept (D.parts desk.old).transcript (D.parts desk.new).transcript }
+    ensures same_desk { (D.parts desk.new).standing ≡ (D.parts desk.old).standing }
 {
     let mut all = ask_all(alloc, desk, day)?;
     all.sort()?;

@@ -3,9 +3,9 @@ ghost use Rattle.std.specs.Prelude.{◌≡◌, ◌≤◌};
 ghost use Rattle.sqlite.specs.Held.{state};
 ghost use Rattle.pay_day.specs.declared.limits.TheConstants.{FIRST_DAY, LAST_DAY};
 ghost use Rattle.pay_shard.specs.Words.{AreKept};
-ghost use Rattle.pay_session.specs.Words.{MaySometimeRefuse, MaySometimeBeLate};
-ghost use Rattle.pay_close.specs.Closes.{IsClosedSo};
-ghost use Rattle.pay_close.specs.Gathers.{IsAsked};
+ghost use Rattle.pay_session.specs.Words.{AreQuotes};
+ghost use Rattle.pay_close.specs.Closes.{IsClosedSoAt};
+ghost use Rattle.pay_close.specs.Gathers.{IsAskedAt};
 
 use crate::fault::NotClosed;
 use crate::gathered::gather;
@@ -25,10 +25,10 @@ pub fn close<D: Desk, S: Alter>(
     day: u32,
 ) -> Result<Postings, NotClosed>
     requires { (FIRST_DAY ≤ day) × (day ≤ LAST_DAY) }
-    ensures closed { IsAsked (MaySometimeRefuse D.standing D.MayRefuse (D.standing desk.old)) (MaySometimeBeLate D.standing D.MayBeLate (D.standing desk.old)) day (D.standing desk.old).shards 0 (D.taken desk.old) (D.taken desk.new) (D.transcript desk.new)
-        (λ put. IsClosedSo (MaySometimeRefuse D.standing D.MayRefuse (D.standing desk.old)) (MaySometimeBeLate D.standing D.MayBeLate (D.standing desk.old)) (D.standing desk.old).shards (state S.Store ledger.old) (state S.Store ledger.new) put result) }
-    ensures transcript { AreKept (D.transcript desk.old) (D.transcript desk.new) }
-    ensures same_desk { D.standing desk.new ≡ D.standing desk.old }
+    ensures closed { IsAskedAt D.parts desk.old desk.new (AreQuotes day (D.parts desk.old).standing.shards 0)
+        (IsClosedSoAt D.parts desk.old (state S.Store ledger.old) (state S.Store ledger.new) result) }
+    ensures transcript { AreKept (D.parts desk.old).transcript (D.parts desk.new).transcript }
+    ensures same_desk { (D.parts desk.new).standing ≡ (D.parts desk.old).standing }
 {
     let gathered = gather(alloc, desk, day)?;
     let given = ledger.post(gathered.quotes(), gathered.sets())?;

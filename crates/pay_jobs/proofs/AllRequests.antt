@@ -67,7 +67,7 @@ stepped mark r m s h = h
 
 module _ {T : Type 0} (Refuses : DeskFault → Type 0) (Late : Type 0) (Closes : T → ℕ → ℕ → List Taken → Result (List Posting) CloseFault → T → Type 0) (Sound : T → Type 0) (Tells : T → Option LedgerParts → Type 0) (plain : IsPlain Refuses Late Closes Sound Tells) (zone : TimeZone) where
   -- what a till keeps could be told all along where it can be in the end
-  sound_before : (requests : List Request) (events : List Event) (before after : T) → AreServed zone 1 Refuses Late Closes before requests events after → Sound after → Sound before
+  sound_before : (requests : List Request) (events : List Event) (before after : T) → AreServed 1 Refuses Late Closes zone before requests events after → Sound after → Sound before
   sound_before [] [] before after served sound = subst Sound served sound
   sound_before [] (e ∷ es) before after served sound = absurd served
   sound_before (r ∷ rs) [] before after served sound = absurd served
@@ -75,7 +75,7 @@ module _ {T : Type 0} (Refuses : DeskFault → Type 0) (Late : Type 0) (Closes :
       was_sound Refuses Late Closes Sound Tells plain zone (asks_of zone r) e before served.0 served.1 (sound_before rs es served.0 after served.2 sound)
 
   pub all_run : (number : ℕ) (tables : FareTables) (base : State) (front back journal : List Item) (ledger : Option LedgerParts) (requests : List Request) (events : List Event) (before after : T)
-      → AreInPlace 0 journal → journal ≡ front ++ back → AreServed zone 1 Refuses Late Closes before requests events after
+      → AreInPlace 0 journal → journal ≡ front ++ back → AreServed 1 Refuses Late Closes zone before requests events after
       → commands_of_items back ≡ commands_of (all_put events) → AreAnswered (transcript number tables base journal) (all_put events) → Sound after → Tells before ledger
       → RunsTo zone tables base front back ledger requests events (Tells after)
   all_run number tables base front back journal ledger [] [] before after placed whole served commands said_so sound tells = record {

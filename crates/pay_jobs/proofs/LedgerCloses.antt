@@ -13,7 +13,7 @@ use Rattle.pay_tables.specs.Words.{FareTables}
 use Rattle.pay_shard.specs.declared.reply.Answer.{Answer}
 use Rattle.pay_shard.specs.declared.reply.Reply.TheVariants as desk_reply
 use Rattle.pay_shard.specs.Words.{BatchParts, State as Accounts}
-use Rattle.pay_close.specs.Words.{batch_of_all}
+use Rattle.pay_close.specs.Words.{batch_of_all, OneShardGathersAll}
 use Rattle.pay_close.specs.Batches.{gathered, IsWhole}
 use Rattle.pay_close.specs.Closes.{Closes, IsWhySaid}
 use Rattle.pay_close.specs.Faults.{close_fault_of_post, is_outside}
@@ -90,12 +90,7 @@ module _ (m : Machine) (day : ℕ) (old new : Database) (ledger : LedgerParts) (
 
 -- ---- by what was gathered
 
--- the law of one shard, taken as a premise, since another crate's proofs are not named here
-abbrev pub GathersAll : Type 0
-GathersAll = (tables : FareTables) (state : Accounts) (day : ℕ) (one : Taken) (answer : Answer) → one.answer ≡ Some answer → answer.reply ≡ desk_reply.Quotes (batch_of_all tables state day)
-    → IsWhole 1 (one ∷ []) × (gathered (one ∷ []) ≡ batch_of_all tables state day)
-
-module _ (gathers : GathersAll) (tables : FareTables) (state : Accounts) (day : ℕ) where
+module _ (gathers : OneShardGathersAll) (tables : FareTables) (state : Accounts) (day : ℕ) where
   -- an answer of the machine that brings quotes brings those of all
   brings_all : (one : Taken) (o : Option Answer) → one.answer ≡ o → IsSomeAnd o (λ answer. (answer.reply ≡ desk_reply.Quotes (batch_of_all tables state day)) ⊎ (answer.reply ≡ desk_reply.Memory)) → brings_quotes o ≡ true
       → gathered (one ∷ []) ≡ batch_of_all tables state day
@@ -121,7 +116,7 @@ the_ledger : (db : Database) (o : Option LedgerParts) → HasLedger db o → The
 the_ledger db None has = absurd has
 the_ledger db (Some ledger) has = record { ledger = ledger; there = refl; is = has }
 
-module _ (gathers : GathersAll) (m : Machine) (day : ℕ) (old new : State) (put : List Taken) (answers : AllByRecursion (IsOfMachine m.tables m.accounts day) put) where
+module _ (gathers : OneShardGathersAll) (m : Machine) (day : ℕ) (old new : State) (put : List Taken) (answers : AllByRecursion (IsOfMachine m.tables m.accounts day) put) where
   refused_or_failed : (fault : CloseFault) (l : TheLedger old.now m.ledger) → new.now ≡ old.now → IsWhySaid 1 put l.ledger fault → ClosesAs m day (Err fault) (HasLedger new.now)
   refused_or_failed fault l kept (inl outside) = outside_as m day old.now new.now l.ledger l.there l.is fault outside kept
   refused_or_failed fault l kept (inr refused) =

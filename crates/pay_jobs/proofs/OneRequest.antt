@@ -19,7 +19,7 @@ use Rattle.pay_shard.specs.Words.{State, batch, item_step, replay, answers, AreI
 use Rattle.pay_wire.specs.declared.refusal.Refusal.TheVariants as refusal
 use Rattle.pay_wire.specs.declared.reply.Reply.{Reply}
 use Rattle.pay_wire.specs.declared.reply.Reply.TheVariants as replies
-use Rattle.pay_session.specs.Words.{Taken, Event, said, refusal_of_desk, commands_of, AreAnswered, AreQuotes, AreInTime, IsReplied, IsTaken, IsRefused, IsTillClosed, IsServedAs}
+use Rattle.pay_session.specs.Words.{Taken, Event, said, refusal_of_desk, commands_of, IsAnswerTo, AreAnswered, AreQuotes, AreInTime, IsReplied, IsTaken, IsRefused, IsTillClosed, IsServedAs}
 use Rattle.pay_session.specs.declared.asks.Asks.{Asks}
 use Rattle.pay_session.specs.declared.asks.Asks.TheVariants as asks
 use Rattle.pay_session.specs.declared.till.CloseFault.{CloseFault}
@@ -108,10 +108,10 @@ some_is : (x y : DeskReply) → ◌≡◌ {A = Option DeskReply} (Some x) (Some 
 some_is x y e = cc
 
 -- the reply that was said is the transcript's
-replied : (Refuses : DeskFault → Type 0) (Late : Type 0) → (Late → ⊥) → (o : Option Answer) (line : Reply) (found : Option Answer) (reply : DeskReply)
-    → IsReplied Refuses Late o line → IfSome o (λ a. found ≡ Some a) → option_map (λ (a : Answer). a.reply) found ≡ Some reply → line ≡ said reply
-replied Refuses Late never None line found reply h i j = absurd (never h.1)
-replied Refuses Late never (Some a) line found reply h i j = h ∙ ap said (some_is a.reply reply (sym (ap (option_map (λ (a : Answer). a.reply)) i) ∙ j))
+replied : (Refuses : DeskFault → Type 0) (Late : Type 0) → (Late → ⊥) → (transcript_of : ℕ → Option Answer) (t : Taken) (o : Option Answer) (line : Reply) (reply : DeskReply)
+    → IsReplied Refuses Late o line → IfSome o (IsAnswerTo transcript_of t) → option_map (λ (a : Answer). a.reply) (transcript_of t.ticket) ≡ Some reply → line ≡ said reply
+replied Refuses Late never transcript_of t None line reply h i j = absurd (never h.1)
+replied Refuses Late never transcript_of t (Some a) line reply h i j = h ∙ ap said (some_is a.reply reply (sym (ap (option_map (λ (a : Answer). a.reply)) i.0) ∙ j))
 
 -- ---- what a desk took
 
@@ -142,7 +142,7 @@ module _ (number : ℕ) (zone : TimeZone) (tables : FareTables) (base : State) (
       let n = next_of taken later (commands ∙ ap (λ p. commands_of p ++ later) is.once) in
       let f = n.next in
       let one : AreAnswered (transcript number tables base journal) (taken ∷ []) = subst (AreAnswered (transcript number tables base journal)) is.once said_so in
-      let told : event.reply ≡ said (item_step tables (replay tables base front) f.item).reply = replied Refuses Late never taken.answer event.reply _ _ is.replied one.0 n.there in
+      let told : event.reply ≡ said (item_step tables (replay tables base front) f.item).reply = replied Refuses Late never (transcript number tables base journal) taken taken.answer event.reply _ is.replied one.0 n.there in
       record {
         mark = mark_of f.item.refused_memory;
         own = f.item ∷ [];
@@ -180,10 +180,10 @@ module _ (number : ℕ) (zone : TimeZone) (tables : FareTables) (base : State) (
       by false = (refl, inl refl)
 
   -- the answer that came is the machine's
-  answered_so : (Late : Type 0) → (Late → ⊥) → (o : Option Answer) (found : Option Answer) (reply : DeskReply) (P : DeskReply → Type 0) → IfNone o Late → IfSome o (λ a. found ≡ Some a)
-      → option_map (λ (a : Answer). a.reply) found ≡ Some reply → P reply → IsSomeAnd o (λ answer. P answer.reply)
-  answered_so Late never None found reply P late is there p = absurd (never late)
-  answered_so Late never (Some a) found reply P late is there p = subst P (sym (some_is a.reply reply (sym (ap (option_map (λ (a : Answer). a.reply)) is) ∙ there))) p
+  answered_so : (Late : Type 0) → (Late → ⊥) → (transcript_of : ℕ → Option Answer) (t : Taken) (o : Option Answer) (reply : DeskReply) (P : DeskReply → Type 0) → IfNone o Late → IfSome o (IsAnswerTo transcript_of t)
+      → option_map (λ (a : Answer). a.reply) (transcript_of t.ticket) ≡ Some reply → P reply → IsSomeAnd o (λ answer. P answer.reply)
+  answered_so Late never transcript_of t None reply P late is there p = absurd (never late)
+  answered_so Late never transcript_of t (Some a) reply P late is there p = subst P (sym (some_is a.reply reply (sym (ap (option_map (λ (a : Answer). a.reply)) is.0) ∙ there))) p
 
   put_for_close : (day : ℕ) (put : List Taken) (later : List (ℕ × Asked)) (Refuses : DeskFault → Type 0) (Late : Type 0) → (Late → ⊥) → AreQuotes day 1 0 put → AreInTime Refuses Late put
       → commands_of_items back ≡ commands_of put ++ later → AreAnswered (transcript number tables base journal) put → IsPutForClose day put later
@@ -206,7 +206,7 @@ module _ (number : ℕ) (zone : TimeZone) (tables : FareTables) (base : State) (
         parts = f.parts;
         commands = f.commands;
         same = replay_behind tables base front (f.item ∷ []) ∙ does.0;
-        answers_are = (answered_so Late never t.answer _ _ (λ (r : DeskReply). (r ≡ desk_reply.Quotes (batch tables state day 0 1)) ⊎ (r ≡ desk_reply.Memory)) in_time.0 said_so.0 n.there does.1, tt);
+        answers_are = (answered_so Late never (transcript number tables base journal) t t.answer _ (λ (r : DeskReply). (r ≡ desk_reply.Quotes (batch tables state day 0 1)) ⊎ (r ≡ desk_reply.Memory)) in_time.0 said_so.0 n.there does.1, tt);
       }
   put_for_close day (t ∷ u ∷ ts) later Refuses Late never quotes in_time commands said_so = absurd (omega (arith, quotes.2.0))
 
@@ -244,7 +244,7 @@ refused_steps zone tables base front back ledger a event later Holds Refuses Lat
 module _ {T : Type 0} (Refuses : DeskFault → Type 0) (Late : Type 0) (Closes : T → ℕ → ℕ → List Taken → Result (List Posting) CloseFault → T → Type 0) (Sound : T → Type 0) (Tells : T → Option LedgerParts → Type 0) (plain : IsPlain Refuses Late Closes Sound Tells) where
   -- the till closed a day
   closed_steps : (number : ℕ) (zone : TimeZone) (tables : FareTables) (base : State) (front back journal : List Item) (ledger : Option LedgerParts) (day : ℕ) (event : Event) (later : List (ℕ × Asked)) (before after : T)
-      → AreInPlace 0 journal → journal ≡ front ++ back → IsTillClosed zone 1 Refuses Late Closes day event before after → commands_of_items back ≡ commands_of event.put ++ later
+      → AreInPlace 0 journal → journal ≡ front ++ back → IsTillClosed 1 Refuses Late Closes day event before after → commands_of_items back ≡ commands_of event.put ++ later
       → AreAnswered (transcript number tables base journal) event.put → Sound after → Tells before ledger → StepsTo zone tables base front back ledger (asks.Close day) event later (Tells after)
   closed_steps number zone tables base front back journal ledger day event later before after placed whole is commands said_so sound tells =
       let p = put_for_close number zone tables base front back journal placed whole day event.put later Refuses Late plain.never is.close.quotes is.close.in_time commands said_so in
@@ -265,7 +265,7 @@ module _ {T : Type 0} (Refuses : DeskFault → Type 0) (Late : Type 0) (Closes :
 
   -- one request, by what it comes to
   pub one_steps : (number : ℕ) (zone : TimeZone) (tables : FareTables) (base : State) (front back journal : List Item) (ledger : Option LedgerParts) (a : Asks) (event : Event) (later : List (ℕ × Asked)) (before after : T)
-      → AreInPlace 0 journal → journal ≡ front ++ back → IsServedAs zone 1 Refuses Late Closes a event before after → commands_of_items back ≡ commands_of event.put ++ later
+      → AreInPlace 0 journal → journal ≡ front ++ back → IsServedAs 1 Refuses Late Closes a event before after → commands_of_items back ≡ commands_of event.put ++ later
       → AreAnswered (transcript number tables base journal) event.put → Sound after → Tells before ledger → StepsTo zone tables base front back ledger a event later (Tells after)
   one_steps number zone tables base front back journal ledger (asks.Put a) event later before after placed whole (inl is, same) commands said_so sound tells =
       taken_steps number zone tables base front back journal placed whole ledger a event later (Tells after) Refuses Late plain.never is commands said_so (subst (λ t. Tells t ledger) (sym same) tells)
@@ -281,7 +281,7 @@ module _ {T : Type 0} (Refuses : DeskFault → Type 0) (Late : Type 0) (Closes :
       (ap (λ (r : Reply). record { reply = r; after = machine_at zone tables base front ledger }) (ap (λ (e : Event). e.reply) (sym is.0))) (λ e. refl) (subst (λ t. Tells t ledger) (sym is.1) tells)
 
   -- what a till keeps could be told before a request where it can be after it
-  pub was_sound : (zone : TimeZone) (a : Asks) (event : Event) (before after : T) → IsServedAs zone 1 Refuses Late Closes a event before after → Sound after → Sound before
+  pub was_sound : (zone : TimeZone) (a : Asks) (event : Event) (before after : T) → IsServedAs 1 Refuses Late Closes a event before after → Sound after → Sound before
   was_sound zone (asks.Put a) event before after is sound = subst Sound is.1 sound
   was_sound zone (asks.Close day) event before after is sound = plain.was_sound before after day event.put is.result is.close.closes sound
   was_sound zone asks.Quit event before after is sound = subst Sound is.1 sound

@@ -15,9 +15,9 @@ use Rattle.pay_tables.specs.Words.{FareTables}
 use Rattle.pay_shard.specs.declared.desk.DeskFault.{DeskFault}
 use Rattle.pay_shard.specs.declared.desk.DeskFault.TheVariants.{Memory}
 use Rattle.pay_shard.specs.declared.item.Item.{Item}
-use Rattle.pay_shard.specs.Words.{ShardParts, LocalParts, State, Standing, state_now, accepted_of, transcript_of, AreInPlace, commands_of as commands_of_items}
+use Rattle.pay_shard.specs.Words.{ShardParts, LocalParts, State, Standing, state_now, accepted_of, transcript_of, desk_parts, AreInPlace, commands_of as commands_of_items}
 use Rattle.pay_wire.specs.Words.{spelling_of_reply}
-use Rattle.pay_session.specs.Words.{requests_of, line_requests, Taken, Event, said_of_close, lacks_memory, any_lacks_memory, Sides, IsSession, MaySometimeRefuse, MaySometimeBeLate, text_of as text_of_events, Ends as SessionEnds, StopsReading as SessionStopsReading, StopsWriting as SessionStopsWriting, FailsSo as SessionFailsSo}
+use Rattle.pay_session.specs.Words.{requests_of, line_requests, Taken, Event, said_of_close, lacks_memory, any_lacks_memory, Sides, IsSession, MaySometimeRefuse, MaySometimeBeLate, text_of as text_of_events, EndsSo as SessionEnds, StopsReading as SessionStopsReading, StopsWriting as SessionStopsWriting, FailsSo as SessionFailsSo}
 use Rattle.pay_session.specs.declared.request.Request.{Request}
 use Rattle.pay_session.specs.declared.sessions.Done.{Done}
 use Rattle.pay_session.specs.declared.stop.SessionFault.{SessionFault}
@@ -26,6 +26,7 @@ use Rattle.pay_session.specs.declared.till.CloseFault.{CloseFault}
 use Rattle.pay_session.specs.declared.till.CloseFault.TheVariants.{NotHere}
 use Rattle.pay_session.specs.declared.till.NoTill.{NoTill}
 use Rattle.pay_ledger.specs.Keeps.{IsLedger}
+use Rattle.pay_close.specs.Words.{OneShardGathersAll}
 use Rattle.pay_close.specs.Closes.{Closes as LedgerCloses}
 use Rattle.pay_jobs.specs.Ledgers.{IsSound, HasLedger}
 use Rattle.pay_jobs.specs.Machine.{Machine, Failure, new_machine, stays, step_close, step}
@@ -34,7 +35,7 @@ use Rattle.pay_jobs.specs.LineRuns.{ComesTo, Ends, StopsReading, StopsWriting, F
 use Rattle.pay_jobs.specs.Week.{TellsWeek}
 use Rattle.pay_jobs.proofs.AllRequests.{RunsTo, replies_of, all_run}
 use Rattle.pay_jobs.proofs.Asked.{accounts_alike}
-use Rattle.pay_jobs.proofs.LedgerCloses.{GathersAll, ledger_closes, was_sound}
+use Rattle.pay_jobs.proofs.LedgerCloses.{ledger_closes, was_sound}
 use Rattle.pay_jobs.proofs.OneRequest.{machine_at}
 use Rattle.pay_jobs.proofs.Tills.{ClosesAs, IsPlain}
 
@@ -230,10 +231,6 @@ module _ {T : Type 0} (Refuses : DeskFault → Type 0) (Late : Type 0) (Closes :
         unread = e.unread;
       }
 
--- how a desk over one shard stands
-abbrev pub local_standing : LocalParts → Standing (FareTables × State)
-local_standing d = record { origin = (d.shard.tables, d.shard.base); shards = 1; waiting = d.waiting }
-
 -- where there is no ledger, nothing is closed
 not_here : (m : Machine) (day : ℕ) (result : Result (List Posting) CloseFault) → result ≡ Err NotHere → m.ledger ≡ None → ClosesAs m day result (λ ledger. ledger ≡ None)
 not_here m day result is none = record {
@@ -246,7 +243,7 @@ not_here m day result is none = record {
 
 -- a desk over one shard, and no till: there is no ledger
 pub local_plain : (before : Standing (FareTables × State))
-    → IsPlain {T = NoTill} (MaySometimeRefuse local_standing (λ desk fault. fault ≡ Memory) before) (MaySometimeBeLate local_standing (λ desk. ⊥) before) (λ before day of put result after. (put ≡ []) × (result ≡ Err NotHere) × (after ≡ before))
+    → IsPlain {T = NoTill} (MaySometimeRefuse desk_parts before) (MaySometimeBeLate desk_parts before) (λ before day of put result after. (put ≡ []) × (result ≡ Err NotHere) × (after ≡ before))
     (λ till. ⊤) (λ till ledger. ledger ≡ None)
 unfolding MaySometimeRefuse MaySometimeBeLate
 local_plain before = record {
@@ -264,8 +261,8 @@ told_as (Err fault) t u x y week p q e = tt
 -- ---- into a ledger
 
 -- a desk over one shard, and a till into a ledger
-pub ledger_plain : {T : Type 0} (stands : T → DatabaseState) (before : Standing (FareTables × State)) → GathersAll
-    → IsPlain {T = T} (MaySometimeRefuse local_standing (λ desk fault. fault ≡ Memory) before) (MaySometimeBeLate local_standing (λ desk. ⊥) before) (λ before day of put result after. LedgerCloses (stands before) (stands after) of put result)
+pub ledger_plain : {T : Type 0} (stands : T → DatabaseState) (before : Standing (FareTables × State)) → OneShardGathersAll
+    → IsPlain {T = T} (MaySometimeRefuse desk_parts before) (MaySometimeBeLate desk_parts before) (λ before day of put result after. LedgerCloses (stands before) (stands after) of put result)
     (λ till. IsSound (stands till)) (λ till ledger. HasLedger (stands till).now ledger)
 unfolding MaySometimeRefuse MaySometimeBeLate
 ledger_plain stands before gathers = record {
@@ -279,12 +276,12 @@ ledger_plain stands before gathers = record {
 abbrev pub ClosesInto : {T H : Type 0} → (H → DatabaseState) → (T → H) → T → ℕ → ℕ → List Taken → Result (List Posting) CloseFault → T → Type 0
 ClosesInto state_of lent before day of put result after = LedgerCloses (state_of (lent before)) (state_of (lent after)) of put result
 
-module _ {T H : Type 0} (state_of : H → DatabaseState) (lent : T → H) (gathers : GathersAll) (stands : Standing (FareTables × State)) (zone : TimeZone) where
+module _ {T H : Type 0} (state_of : H → DatabaseState) (lent : T → H) (gathers : OneShardGathersAll) (stands : Standing (FareTables × State)) (zone : TimeZone) where
   abbrev Refuses : DeskFault → Type 0
-  Refuses = MaySometimeRefuse local_standing (λ desk fault. fault ≡ Memory) stands
+  Refuses = MaySometimeRefuse desk_parts stands
 
   abbrev Late : Type 0
-  Late = MaySometimeBeLate local_standing (λ desk. ⊥) stands
+  Late = MaySometimeBeLate desk_parts stands
 
   pub ledger_lines_end : (result : Result Done SessionFault) (known left held new : Option (List ℕ)) (tables : FareTables) (begun shard : ShardParts) (before after : T) (old now : H) → old ≡ lent before → now ≡ lent after
       → begun.tables ≡ tables → begun.base ≡ finite.empty → begun.journal ≡ [] → AreInPlace 0 shard.journal

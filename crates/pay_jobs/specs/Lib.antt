@@ -1,3 +1,4 @@
+pub mod Laws
 pub mod Ledgers
 pub mod Machine
 pub mod Outcomes

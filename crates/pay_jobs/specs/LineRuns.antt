@@ -1,15 +1,21 @@
 -- How a run of lines may end, and what was then written and posted.
-use Rattle.std.specs.Prelude.{◌≡◌, ℕ, Bool, false, List, [], ◌∷◌, ◌++◌, length, Option, Some}
+use Rattle.std.specs.Prelude.{◌≡◌, ℕ, Bool, false, List, [], ◌∷◌, ◌++◌, length, Option, Some, IfSome, Result, IfOk, IfErr}
 use Rattle.std.specs.List.{list_any}
 use Rattle.std.specs.Io.KnownBytes.{Appends}
+use Rattle.jiff.specs.declared.tz.timezone.TimeZone.{TimeZone}
+use Rattle.sqlite.specs.State.{State}
+use Rattle.pay_tables.specs.Words.{FareTables}
 use Rattle.pay_postings.specs.Words.{LedgerParts}
+use Rattle.pay_ledger.specs.Keeps.{IsLedger}
 use Rattle.pay_wire.specs.Words.{AppendsFront, spelling_of_reply}
 use Rattle.pay_wire.specs.declared.reply.Reply.{Reply}
 use Rattle.pay_session.specs.Words.{line_requests, quits, requests_of, unread, lacks_memory}
 use Rattle.pay_session.specs.declared.request.Request.{Request}
+use Rattle.pay_session.specs.declared.sessions.Done.{Done}
 use Rattle.pay_session.specs.declared.stop.SessionFault.{SessionFault}
 use Rattle.pay_session.specs.declared.stop.SessionFault.TheVariants.{Read, Write}
-use Rattle.pay_jobs.specs.Machine.{Machine, Failure}
+use Rattle.pay_jobs.specs.Ledgers.{IsSound, HasLedger}
+use Rattle.pay_jobs.specs.Machine.{Machine, Failure, new_machine}
 use Rattle.pay_jobs.specs.Outcomes.{Outcome, outcome, any_failure, text_of}
 
 -- Requests came to this: it is what the machine comes to, but for what failed. Where no reply is 43, 44 or 90, nothing failed. With
@@ -63,3 +69,18 @@ pub record StopsWriting (m : Machine) (input : List ℕ) (held new : Option (Lis
 abbrev pub FailsSo : SessionFault → Machine → List ℕ → Option (List ℕ) → Option (List ℕ) → Option (List ℕ) → (Option LedgerParts → Type 0) → Type 0
 FailsSo (Read answered) m input remaining held taken Holds = StopsReading m input remaining held taken Holds answered
 FailsSo (Write answered) m input remaining held taken Holds = StopsWriting m input held taken Holds answered
+
+-- A run from before to after, which begins with no accounts: the ledger, what the reader has left, and what the writer holds, the last
+-- two where they are known. With `state` for what a ledger's database is. Nothing is said where it was no ledger before, or where its disk
+-- has failed or its connection is shut after.
+module _ {L : Type 0} (state : L → State) (zone : TimeZone) (tables : FareTables) where
+  -- if it ended by itself
+  abbrev pub LinesEnd : (before after : L × Option (List ℕ) × Option (List ℕ)) → Result Done SessionFault → Type 0
+  LinesEnd before after result = IsSound (state after.0) → (ledger : LedgerParts) → IsLedger (state before.0).now ledger
+      → IfOk result (λ done. IfSome before.1 (λ input.
+      Ends (new_machine zone tables (Some ledger)) input after.1 before.2 after.2 (HasLedger (state after.0).now) done.answered done.quit done.lacked_memory))
+
+  -- and if it did not
+  abbrev pub LinesFail : (before after : L × Option (List ℕ) × Option (List ℕ)) → Result Done SessionFault → Type 0
+  LinesFail before after result = IsSound (state after.0) → (ledger : LedgerParts) → IsLedger (state before.0).now ledger
+      → IfErr result (λ fault. IfSome before.1 (λ input. FailsSo fault (new_machine zone tables (Some ledger)) input after.1 before.2 after.2 (HasLedger (state after.0).now)))

@@ -14,6 +14,7 @@ use Rattle.pay_jobs.specs.Machine.{Machine}
 use Rattle.pay_jobs.specs.LineRuns.{Ends, FailsSo}
 use Rattle.pay_jobs.specs.declared.fault.Fault.{Fault}
 use Rattle.pay_jobs.specs.declared.fault.Fault.TheVariants.{Usage, CannotReadFares, BadZone, Input, Output, Refused}
+use Rattle.pay_session.specs.declared.sessions.Done.{Done}
 use Rattle.pay_session.specs.declared.stop.SessionFault.{SessionFault}
 use Rattle.pay_session.specs.declared.stop.SessionFault.TheVariants.{Read, Write}
 
@@ -60,3 +61,11 @@ RunFails Input fares zone remaining left held written = (answered : ℕ) × Sess
 RunFails Output fares zone remaining left held written = (answered : ℕ) × SessionFails (Write answered) fares zone remaining left held written
 RunFails Usage fares zone remaining left held written = ⊥
 RunFails CannotReadFares fares zone remaining left held written = ⊥
+
+-- ---- from before to after: what the reader has left, and what the writer holds, each where it is known
+
+abbrev pub JobEnds : (fares zone : List ℕ) → (before after : Option (List ℕ) × Option (List ℕ)) → Done → Type 0
+JobEnds fares zone before after done = RunEnds fares zone before.0 after.0 before.1 after.1 done.answered done.quit done.lacked_memory
+
+abbrev pub JobFails : (fares zone : List ℕ) → (before after : Option (List ℕ) × Option (List ℕ)) → Fault → Type 0
+JobFails fares zone before after fault = RunFails fault fares zone before.0 after.0 before.1 after.1

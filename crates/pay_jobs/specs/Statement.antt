@@ -55,3 +55,14 @@ abbrev pub StatementFails : Fault → List ℕ → List ℕ → ℕ → ℕ → 
 StatementFails Output fares zone account day remaining left held written =
     HasNoPage Output fares zone remaining left held written ⊎ StopsWriting fares zone account day remaining left held written
 StatementFails fault fares zone account day remaining left held written = HasNoPage fault fares zone remaining left held written
+
+-- ---- from before to after: what the reader has left, and what the writer holds, each where it is known
+
+abbrev pub PageStands : (fares zone : List ℕ) (account day : ℕ) → (reader : Option (List ℕ) × Option (List ℕ)) → List ℕ → Type 0
+PageStands fares zone account day reader text = IsPage fares zone account day reader.0 reader.1 text
+
+abbrev pub StatementWritten : (fares zone : List ℕ) (account day : ℕ) → (before after : Option (List ℕ) × Option (List ℕ)) → Type 0
+StatementWritten fares zone account day before after = StatementEnds fares zone account day before.0 after.0 before.1 after.1
+
+abbrev pub StatementRefused : (fares zone : List ℕ) (account day : ℕ) → (before after : Option (List ℕ) × Option (List ℕ)) → Fault → Type 0
+StatementRefused fares zone account day before after fault = StatementFails fault fares zone account day before.0 after.0 before.1 after.1

@@ -1,12 +1,8 @@
-ghost use Rattle.std.specs.Prelude.{◌≡◌, [], Some, IfOk, IfErr, IfSome};
+ghost use Rattle.std.specs.Prelude.{◌≡◌, []};
 ghost use Rattle.std.specs.Arc.{arc_value};
 ghost use Rattle.std.specs.FinMap as map;
 ghost use Rattle.sqlite.specs.Held.{state};
-ghost use Rattle.pay_postings.specs.Words.{LedgerParts};
-ghost use Rattle.pay_ledger.specs.Keeps.{IsLedger};
-ghost use Rattle.pay_jobs.specs.Machine.{new_machine};
-ghost use Rattle.pay_jobs.specs.Ledgers.{IsSound, HasLedger};
-ghost use Rattle.pay_jobs.specs.LineRuns.{Ends, FailsSo};
+ghost use Rattle.pay_jobs.specs.LineRuns.{LinesEnd, LinesFail};
 
 use jiff::tz::TimeZone;
 use pay_account::Account;
@@ -45,12 +41,10 @@ pub fn run_lines<R: BufRead, W: Write, S: Alter>(
     tables: Arc<Tables>,
     ledger: &mut Ledger<S>,
 ) -> Result<Done, SessionFault>
-    ensures ends { IsSound (state S.Store ledger.new) → (before : LedgerParts) → IsLedger (state S.Store ledger.old).now before → IfOk result (λ done. IfSome (R.remaining reader.old) (λ input.
-        Ends (new_machine zone.now (arc_value tables) (Some before)) input (R.remaining reader.new)
-        (W.contents writer.old) (W.contents writer.new) (HasLedger (state S.Store ledger.new).now) done.answered done.quit done.lacked_memory)) }
-    ensures fails { IsSound (state S.Store ledger.new) → (before : LedgerParts) → IsLedger (state S.Store ledger.old).now before → IfErr result (λ fault. IfSome (R.remaining reader.old) (λ input.
-        FailsSo fault (new_machine zone.now (arc_value tables) (Some before)) input (R.remaining reader.new)
-        (W.contents writer.old) (W.contents writer.new) (HasLedger (state S.Store ledger.new).now))) }
+    ensures ends { LinesEnd (state S.Store) zone.now (arc_value tables) (ledger.old, R.remaining reader.old, W.contents writer.old)
+        (ledger.new, R.remaining reader.new, W.contents writer.new) result }
+    ensures fails { LinesFail (state S.Store) zone.now (arc_value tables) (ledger.old, R.remaining reader.old, W.contents writer.old)
+        (ledger.new, R.remaining reader.new, W.contents writer.new) result }
 {
     let mut desk = new_desk(alloc, tables);
     let mut till = LedgerTill::new(alloc, ledger);

@@ -10,7 +10,7 @@ ghost use Rattle.pay_fare_file.specs.Words.{fare_text};
 ghost use Rattle.pay_ledger.specs.Keeps.{IsLedger};
 ghost use Rattle.pay_ledger.specs.Opening.{nothing};
 ghost use Rattle.pay_jobs.specs.Faults.{IsWantOfLedger};
-ghost use Rattle.pay_jobs.specs.Run.{IsRefused, RunEnds, RunFails};
+ghost use Rattle.pay_jobs.specs.Run.{IsRefused, JobEnds, JobFails};
 
 use crate::fault::Fault;
 use crate::lines::run_lines;
@@ -34,10 +34,8 @@ pub fn run_texts<R: BufRead, W: Write>(
     reader: &mut R,
     writer: &mut W,
 ) -> Result<Done, Fault>
-    ensures ends { IfOk result (λ done. RunEnds fares.now zone.now (R.remaining reader.old) (R.remaining reader.new)
-        (W.contents writer.old) (W.contents writer.new) done.answered done.quit done.lacked_memory) }
-    ensures fails { IfErr result (λ fault. RunFails fault fares.now zone.now (R.remaining reader.old) (R.remaining reader.new)
-        (W.contents writer.old) (W.contents writer.new)) }
+    ensures ends { IfOk result (JobEnds fares.now zone.now (R.remaining reader.old, W.contents writer.old) (R.remaining reader.new, W.contents writer.new)) }
+    ensures fails { IfErr result (JobFails fares.now zone.now (R.remaining reader.old, W.contents writer.old) (R.remaining reader.new, W.contents writer.new)) }
 {
     let tables = read_fares(alloc, fares)?;
     let zone = read_zone(zone)?;

@@ -3,7 +3,7 @@ ghost use Rattle.std.specs.Prelude.{◌≡◌, IfOk, IfErr, OnOk};
 ghost use Rattle.std.specs.Arc.{arc_value};
 ghost use Rattle.pay_day.specs.Words.{IsDay};
 ghost use Rattle.pay_statement.specs.Words.{statement_text};
-ghost use Rattle.pay_jobs.specs.Statement.{IsPage, StatementEnds, StatementFails, PageFails};
+ghost use Rattle.pay_jobs.specs.Statement.{PageFails, PageStands, StatementWritten, StatementRefused};
 
 use crate::fault::Fault;
 use crate::output::write_text;
@@ -29,10 +29,10 @@ pub fn statement_texts<R: BufRead, W: Write>(
     writer: &mut W,
 ) -> Result<(), Fault>
     requires { IsDay day }
-    ensures ends { OnOk result (StatementEnds fares.now zone.now account day (R.remaining reader.old) (R.remaining reader.new)
-        (W.contents writer.old) (W.contents writer.new)) }
-    ensures fails { IfErr result (λ fault. StatementFails fault fares.now zone.now account day (R.remaining reader.old) (R.remaining reader.new)
-        (W.contents writer.old) (W.contents writer.new)) }
+    ensures ends { OnOk result (StatementWritten fares.now zone.now account day (R.remaining reader.old, W.contents writer.old)
+        (R.remaining reader.new, W.contents writer.new)) }
+    ensures fails { IfErr result (StatementRefused fares.now zone.now account day (R.remaining reader.old, W.contents writer.old)
+        (R.remaining reader.new, W.contents writer.new)) }
 {
     let page = read_page(alloc, fares, zone, account, day, reader)?;
     write_text(writer, &page)
@@ -48,7 +48,7 @@ fn read_page<R: BufRead>(
     reader: &mut R,
 ) -> Result<Vec<u8>, Fault>
     requires { IsDay day }
-    ensures page { IfOk result (λ page. IsPage fares.now zone.now account day (R.remaining reader.old) (R.remaining reader.new) page.items) }
+    ensures page { IfOk result (λ page. PageStands fares.now zone.now account day (R.remaining reader.old, R.remaining reader.new) page.items) }
     ensures fails { IfErr result (λ fault. PageFails fault fares.now zone.now (R.remaining reader.old) (R.remaining reader.new)) }
 {
     let tables = read_fares(alloc, fares)?;

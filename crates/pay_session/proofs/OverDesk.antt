@@ -3,13 +3,13 @@ use Rattle.std.proofs.Common.{◌≡◌, ℕ, Bool, List, [], ◌∷◌, ◌++�
 use Rattle.jiff.specs.declared.tz.timezone.TimeZone.{TimeZone}
 use Rattle.pay_quotes.specs.declared.posting.Posting.{Posting}
 use Rattle.pay_shard.specs.declared.asked.Asked.{Asked}
-use Rattle.pay_shard.specs.declared.desk.DeskFault.{DeskFault}
 use Rattle.pay_shard.specs.declared.reply.Answer.{Answer}
-use Rattle.pay_shard.specs.Words.{AreKept, Standing}
-use Rattle.pay_session.specs.Events.{Taken, Event, all_put, commands_of, AreAnswered}
+use Rattle.pay_shard.specs.Words.{AreKept, Standing, DeskParts}
+use Rattle.pay_session.specs.Asks.{asks_of}
+use Rattle.pay_session.specs.Events.{Taken, Event, all_put, commands_of, IsAnswerTo, AreAnswered}
 use Rattle.pay_session.specs.Served.{AreServed}
 use Rattle.pay_session.specs.Serving.{IsStep, MaySometimeRefuse, MaySometimeBeLate}
-use Rattle.pay_session.specs.Session.{Sides, IsSession, Ends, FailsSo}
+use Rattle.pay_session.specs.Session.{Sides, IsSession, EndsSo, FailsSo, sides}
 use Rattle.pay_session.specs.SessionSteps.{Runs, Ran, RunsToEnd, RunsSo}
 use Rattle.pay_session.specs.declared.request.Request.{Request}
 use Rattle.pay_session.specs.declared.service.Service.{Service}
@@ -27,33 +27,33 @@ answered_both : (transcript : ℕ → Option Answer) (ts us : List Taken) → Ar
 answered_both transcript [] us f g = g
 answered_both transcript (t ∷ ts) us f g = (f.0, answered_both transcript ts us f.1 g)
 
-one_kept : (old new : ℕ → Option Answer) (ticket : ℕ) (o : Option Answer) → AreKept old new → IfSome o (λ answer. old ticket ≡ Some answer) → IfSome o (λ answer. new ticket ≡ Some answer)
-one_kept old new ticket None kept f = tt
-one_kept old new ticket (Some answer) kept f = kept ticket answer f
+one_kept : (old new : ℕ → Option Answer) (t : Taken) (o : Option Answer) → AreKept old new → IfSome o (IsAnswerTo old t) → IfSome o (IsAnswerTo new t)
+one_kept old new t None kept f = tt
+one_kept old new t (Some answer) kept f = (kept t.ticket answer f.0, f.1, f.2)
 
 answered_kept : (old new : ℕ → Option Answer) (ts : List Taken) → AreKept old new → AreAnswered old ts → AreAnswered new ts
 answered_kept old new [] kept f = tt
-answered_kept old new (t ∷ ts) kept f = (one_kept old new t.ticket t.answer kept f.0, answered_kept old new ts kept f.1)
+answered_kept old new (t ∷ ts) kept f = (one_kept old new t t.answer kept f.0, answered_kept old new ts kept f.1)
 
 -- ---- runs
 
-module _ {D O T K : Type 0} (standing : D → Standing O) (taken : D → List (ℕ × Asked)) (transcript : D → ℕ → Option Answer) (MayRefuse : D → DeskFault → Type 0) (MayBeLate : D → Type 0) (Closes : T → ℕ → ℕ → List Taken → Result (List Posting) CloseFault → T → Type 0) (till_origin : T → K) where
+module _ {D O T K : Type 0} (parts : D → DeskParts O) (Closes : T → ℕ → ℕ → List Taken → Result (List Posting) CloseFault → T → Type 0) (till_origin : T → K) where
   -- what may come of a request, as a service says it
   abbrev pub Serves : Service D T → Request → Event → Service D T → Type 0
   Serves before request event after =
-      IsStep standing taken transcript MayRefuse MayBeLate Closes before.zone.now request event before.desk.now before.till.now after.desk.now after.till.now
+      IsStep parts Closes (asks_of before.zone.now request) event (before.desk.now, before.till.now) (after.desk.now, after.till.now)
       × (after.desk.ghost_name ≡ before.desk.ghost_name) × (after.till.ghost_name ≡ before.till.ghost_name) × (after.zone ≡ before.zone) × (till_origin after.till.now ≡ till_origin before.till.now)
 
   abbrev Answered : TimeZone → Standing O → T → List Request → List Event → T → Type 0
-  Answered z stands = AreServed z stands.shards (MaySometimeRefuse standing MayRefuse stands) (MaySometimeBeLate standing MayBeLate stands) Closes
+  Answered z stands = AreServed stands.shards (MaySometimeRefuse parts stands) (MaySometimeBeLate parts stands) Closes z
 
   -- what was before some requests and what is after them
   pub record Leads (a : Service D T) (rs : List Request) (es : List Event) (b : Service D T) : Type 0 where
-    pub served : Answered a.zone.now (standing a.desk.now) a.till.now rs es b.till.now
-    pub added : taken b.desk.now ≡ taken a.desk.now ++ commands_of (all_put es)
-    pub said : AreAnswered (transcript b.desk.now) (all_put es)
-    pub kept : AreKept (transcript a.desk.now) (transcript b.desk.now)
-    pub same : standing b.desk.now ≡ standing a.desk.now
+    pub served : Answered a.zone.now (parts a.desk.now).standing a.till.now rs es b.till.now
+    pub added : (parts b.desk.now).taken ≡ (parts a.desk.now).taken ++ commands_of (all_put es)
+    pub said : AreAnswered (parts b.desk.now).transcript (all_put es)
+    pub kept : AreKept (parts a.desk.now).transcript (parts b.desk.now).transcript
+    pub same : (parts b.desk.now).standing ≡ (parts a.desk.now).standing
     pub same_till : till_origin b.till.now ≡ till_origin a.till.now
     pub desk_name : b.desk.ghost_name ≡ a.desk.ghost_name
     pub till_name : b.till.ghost_name ≡ a.till.ghost_name
@@ -61,7 +61,7 @@ module _ {D O T K : Type 0} (standing : D → Standing O) (taken : D → List (�
   leads_none : (a : Service D T) → Leads a [] [] a
   leads_none a = record {
     served = refl;
-    added = sym (append-nil (taken a.desk.now));
+    added = sym (append-nil (parts a.desk.now).taken);
     said = tt;
     kept = λ ticket answer h. h;
     same = refl;
@@ -81,12 +81,12 @@ module _ {D O T K : Type 0} (standing : D → Standing O) (taken : D → List (�
         served = (
           f.0.till.now,
           s.served,
-          subst (λ z. Answered z.now (standing a.desk.now) f.0.till.now rs es b.till.now) f.1.3
+          subst (λ z. Answered z.now (parts a.desk.now).standing f.0.till.now rs es b.till.now) f.1.3
               (subst (λ stands. Answered f.0.zone.now stands f.0.till.now rs es b.till.now) s.same again.served),
         );
-        added = again.added ∙ ap (λ l. l ++ commands_of (all_put es)) s.added ∙ append_assoc (taken a.desk.now) (commands_of e.put) (commands_of (all_put es))
-            ∙ ap (λ l. taken a.desk.now ++ l) (sym (commands_both e.put (all_put es)));
-        said = answered_both (transcript b.desk.now) e.put (all_put es) (answered_kept (transcript f.0.desk.now) (transcript b.desk.now) e.put again.kept s.said) again.said;
+        added = again.added ∙ ap (λ l. l ++ commands_of (all_put es)) s.added ∙ append_assoc (parts a.desk.now).taken (commands_of e.put) (commands_of (all_put es))
+            ∙ ap (λ l. (parts a.desk.now).taken ++ l) (sym (commands_both e.put (all_put es)));
+        said = answered_both (parts b.desk.now).transcript e.put (all_put es) (answered_kept (parts f.0.desk.now).transcript (parts b.desk.now).transcript e.put again.kept s.said) again.said;
         kept = λ ticket answer h. again.kept ticket answer (s.kept ticket answer h);
         same = again.same ∙ s.same;
         same_till = again.same_till ∙ f.1.4;
@@ -100,17 +100,17 @@ module _ {D O T K : Type 0} (standing : D → Standing O) (taken : D → List (�
 
   -- ---- a whole session
 
-  abbrev pub sides : Service D T → Service D T → Sides T
-  sides a b = record { taken_before = taken a.desk.now; taken_after = taken b.desk.now; transcript = transcript b.desk.now; till_before = a.till.now; till_after = b.till.now }
+  abbrev sides_of : Service D T → Service D T → Sides T
+  sides_of a b = sides parts (a.desk.now, a.till.now) (b.desk.now, b.till.now)
 
   abbrev Session : Service D T → Service D T → List Request → List Event → Type 0
-  Session a b = IsSession a.zone.now (standing a.desk.now).shards (MaySometimeRefuse standing MayRefuse (standing a.desk.now)) (MaySometimeBeLate standing MayBeLate (standing a.desk.now)) Closes (sides a b)
+  Session a b = IsSession a.zone.now (parts a.desk.now).standing.shards (MaySometimeRefuse parts (parts a.desk.now).standing) (MaySometimeBeLate parts (parts a.desk.now).standing) Closes (sides_of a b)
 
   session : (rs : List Request) (es : List Event) (a b : Service D T) → Runs Serves a rs es b → Session a b rs es
   session rs es a b f = let l = leads rs es a b f in record { served = l.served; taken = l.added; said = l.said }
 
   ends_one : (a b : Service D T) (input : List ℕ) (left held new : Option (List ℕ)) (answered : ℕ) (quit lacked : Bool) → RunsToEnd Serves a input left held new answered quit lacked b
-      → Ends a.zone.now (standing a.desk.now).shards (MaySometimeRefuse standing MayRefuse (standing a.desk.now)) (MaySometimeBeLate standing MayBeLate (standing a.desk.now)) Closes (sides a b) input left held new answered quit lacked
+      → EndsSo a.zone.now (parts a.desk.now).standing.shards (MaySometimeRefuse parts (parts a.desk.now).standing) (MaySometimeBeLate parts (parts a.desk.now).standing) Closes (sides_of a b) input left held new answered quit lacked
   ends_one a b input left held new answered quit lacked f = record {
     events = f.events;
     session = session _ f.events a b f.runs;
@@ -122,12 +122,12 @@ module _ {D O T K : Type 0} (standing : D → Standing O) (taken : D → List (�
   }
 
   pub ends : (known : Option (List ℕ)) (a b : Service D T) (left held new : Option (List ℕ)) (answered : ℕ) (quit lacked : Bool) → IfSome known (λ input. RunsToEnd Serves a input left held new answered quit lacked b)
-      → IfSome known (λ input. Ends a.zone.now (standing a.desk.now).shards (MaySometimeRefuse standing MayRefuse (standing a.desk.now)) (MaySometimeBeLate standing MayBeLate (standing a.desk.now)) Closes (sides a b) input left held new answered quit lacked)
+      → IfSome known (λ input. EndsSo a.zone.now (parts a.desk.now).standing.shards (MaySometimeRefuse parts (parts a.desk.now).standing) (MaySometimeBeLate parts (parts a.desk.now).standing) Closes (sides_of a b) input left held new answered quit lacked)
   ends None a b left held new answered quit lacked f = tt
   ends (Some input) a b left held new answered quit lacked f = ends_one a b input left held new answered quit lacked f
 
   fails_one : (fault : SessionFault) (a b : Service D T) (input : List ℕ) (left held new : Option (List ℕ)) → RunsSo Serves fault a input left held new b
-      → FailsSo a.zone.now (standing a.desk.now).shards (MaySometimeRefuse standing MayRefuse (standing a.desk.now)) (MaySometimeBeLate standing MayBeLate (standing a.desk.now)) Closes fault (sides a b) input left held new
+      → FailsSo a.zone.now (parts a.desk.now).standing.shards (MaySometimeRefuse parts (parts a.desk.now).standing) (MaySometimeBeLate parts (parts a.desk.now).standing) Closes fault (sides_of a b) input left held new
   fails_one (Read answered) a b input left held new f = record {
     front = f.front;
     back = f.back;
@@ -153,6 +153,6 @@ module _ {D O T K : Type 0} (standing : D → Standing O) (taken : D → List (�
   }
 
   pub fails : (fault : SessionFault) (known : Option (List ℕ)) (a b : Service D T) (left held new : Option (List ℕ)) → IfSome known (λ input. RunsSo Serves fault a input left held new b)
-      → IfSome known (λ input. FailsSo a.zone.now (standing a.desk.now).shards (MaySometimeRefuse standing MayRefuse (standing a.desk.now)) (MaySometimeBeLate standing MayBeLate (standing a.desk.now)) Closes fault (sides a b) input left held new)
+      → IfSome known (λ input. FailsSo a.zone.now (parts a.desk.now).standing.shards (MaySometimeRefuse parts (parts a.desk.now).standing) (MaySometimeBeLate parts (parts a.desk.now).standing) Closes fault (sides_of a b) input left held new)
   fails fault None a b left held new f = tt
   fails fault (Some input) a b left held new f = fails_one fault a b input left held new f

@@ -85,9 +85,13 @@ all_put = flat_map (λ (e : Event). e.put)
 abbrev pub commands_of : List Taken → List (ℕ × Asked)
 commands_of = map (λ (t : Taken). (t.ticket, t.asked))
 
--- each answer that came is the transcript's at its ticket
+-- an answer is the transcript's at a command's ticket, has that ticket, and is to that command
+abbrev pub IsAnswerTo : (ℕ → Option Answer) → Taken → Answer → Type 0
+IsAnswerTo transcript t answer = (transcript t.ticket ≡ Some answer) × (answer.ticket ≡ t.ticket) × (answer.command ≡ t.asked)
+
+-- each answer that came is the transcript's to its command
 abbrev pub AreAnswered : (ℕ → Option Answer) → List Taken → Type 0
-AreAnswered transcript = AllByRecursion (λ (t : Taken). IfSome t.answer (λ answer. transcript t.ticket ≡ Some answer))
+AreAnswered transcript = AllByRecursion (λ (t : Taken). IfSome t.answer (IsAnswerTo transcript t))
 
 -- whether memory was wanting for a request
 abbrev pub lacks_memory : Reply → Bool

@@ -1,8 +1,8 @@
 -- What the input asks for: its lines in order, up to the first QUIT.
-use Rattle.std.specs.Prelude.{ℕ, ◌+◌, Bool, true, false, nat_lt, ◌==◌, List, [], ◌∷◌, ◌++◌, map, length, take, Option, Some, None, if◌then◌else◌}
-use Rattle.std.specs.List.{list_any}
+use Rattle.std.specs.Prelude.{◌≡◌, ℕ, ◌+◌, Bool, true, false, nat_lt, ◌==◌, List, [], ◌∷◌, ◌++◌, map, length, take, codes, Option, Some, None, if◌then◌else◌, refl}
+use Rattle.std.specs.List.{AllByRecursion, flat_map, list_any}
 use Rattle.pay_wire.specs.declared.limits.TheConstants.{MOST_LINE_BYTES}
-use Rattle.pay_wire.specs.Words.{command_of, IsSpelled}
+use Rattle.pay_wire.specs.Words.{command_of, IsSpelled, Spells}
 use Rattle.pay_wire.specs.declared.command.Command.{Command}
 use Rattle.pay_wire.specs.declared.command.Command.TheVariants.{Quit}
 use Rattle.pay_session.specs.declared.request.Request.{Request}
@@ -90,3 +90,51 @@ after_quit (l ∷ ls) = if is_quit (request_of l.text) then l.after else after_q
 -- what is left unread
 abbrev pub unread : List ℕ → List ℕ
 unread input = after_quit (input_lines input)
+
+-- ---- what is so of every input
+
+-- no other lines and no other rest than its own make up an input
+abbrev pub HasOneCutting : Type 0
+HasOneCutting = (input rest : List ℕ) (texts : List (List ℕ)) → AllByRecursion (λ (t : List ℕ). has_newline t ≡ false) texts → has_newline rest ≡ false
+    → input ≡ flat_map (λ (t : List ℕ). t ++ codes "\n") texts ++ rest → (map (λ (l : InputLine). l.text) (input_lines input) ≡ texts) × (rest_of input ≡ rest)
+
+-- a line that is the spelling of no command
+abbrev pub SpellsNothing : List ℕ → Type 0
+SpellsNothing line = (command : Command) → Spells line command → ⊥
+
+-- ---- worked rows
+
+-- each line stands with what comes behind it, and what no newline ends is the rest
+two_lines : input_lines (codes "A\nBC\nD") ≡ record { text = codes "A"; after = codes "BC\nD" } ∷ record { text = codes "BC"; after = codes "D" } ∷ []
+two_lines = refl
+
+the_rest : rest_of (codes "A\nBC\nD") ≡ codes "D"
+the_rest = refl
+
+-- an empty line is a bad line, and no bytes at the end are none
+empty_line : requests_of (codes "\n") ≡ requests.BadLine ∷ []
+unfolding request_of
+empty_line = refl
+
+-- a carriage return is a byte like any other: such a QUIT is a bad line
+quit_with_return : requests_of (codes "QUIT\r\n") ≡ requests.BadLine ∷ []
+unfolding request_of
+quit_with_return = refl
+
+-- nothing counts behind the first QUIT, and it stays unread
+first_quit : requests_of (codes "A\nQUIT\nQUIT\nA") ≡ requests.BadLine ∷ requests.Command Quit ∷ []
+unfolding request_of
+first_quit = refl
+
+behind_quit : unread (codes "A\nQUIT\nQUIT\nA") ≡ codes "QUIT\nA"
+unfolding request_of
+behind_quit = refl
+
+-- a rest is a bad line whatever it says, and so no QUIT
+cut_quit : requests_of (codes "A\nQUIT") ≡ requests.BadLine ∷ requests.BadLine ∷ []
+unfolding request_of
+cut_quit = refl
+
+cut_quit_goes_on : quits (codes "A\nQUIT") ≡ false
+unfolding request_of
+cut_quit_goes_on = refl

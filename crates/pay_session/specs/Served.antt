@@ -78,7 +78,7 @@ module _ (Refuses : DeskFault → Type 0) (Late : Type 0) where
 
 -- With `Closes` for what the till says of a close: the till before, the day, how many shards answer, what was put, the answer,
 -- the till after.
-module _ {T : Type 0} (zone : TimeZone) (of : ℕ) (Refuses : DeskFault → Type 0) (Late : Type 0) (Closes : T → ℕ → ℕ → List Taken → Result (List Posting) CloseFault → T → Type 0) where
+module _ {T : Type 0} (of : ℕ) (Refuses : DeskFault → Type 0) (Late : Type 0) (Closes : T → ℕ → ℕ → List Taken → Result (List Posting) CloseFault → T → Type 0) where
   -- a close, by the till
   pub record IsTillClosed (day : ℕ) (event : Event) (before after : T) : Type 0 where
     pub result : Result (List Posting) CloseFault
@@ -92,12 +92,8 @@ module _ {T : Type 0} (zone : TimeZone) (of : ℕ) (Refuses : DeskFault → Type
   IsServedAs asks.Quit event before after = (event ≡ record { reply = replies.Bye; put = [] }) × (after ≡ before)
   IsServedAs (asks.No why) event before after = (event ≡ record { reply = replies.No why; put = [] }) × (after ≡ before)
 
-  -- what a request may come to, with the till before it and after it
-  abbrev pub IsServed : Request → Event → T → T → Type 0
-  IsServed request event before after = IsServedAs (asks_of zone request) event before after
-
-  -- each of a list of requests, in order
-  abbrev pub AreServed : T → List Request → List Event → T → Type 0
-  AreServed before [] [] after = after ≡ before
-  AreServed before (r ∷ rs) (e ∷ es) after = (between : T) × IsServed r e before between × AreServed between rs es after
-  AreServed before _ _ after = ⊥
+  -- each of a list of requests, in order, by what it comes to in a zone
+  abbrev pub AreServed : TimeZone → T → List Request → List Event → T → Type 0
+  AreServed zone before [] [] after = after ≡ before
+  AreServed zone before (r ∷ rs) (e ∷ es) after = (between : T) × IsServedAs (asks_of zone r) e before between × AreServed zone between rs es after
+  AreServed zone before _ _ after = ⊥

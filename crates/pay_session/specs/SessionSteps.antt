@@ -1,12 +1,13 @@
 -- What the steps of a session do, each from one position to another: a line, the bytes of one fill, a fill, the rest. Each
 -- says it for whatever comes behind.
-use Rattle.std.specs.Prelude.{◌≡◌, ℕ, ◌+◌, Bool, true, false, ◌||◌, List, [], ◌∷◌, ◌++◌, length, Option, Some}
+use Rattle.std.specs.Prelude.{◌≡◌, ℕ, ◌+◌, Bool, true, false, ◌||◌, List, [], ◌∷◌, ◌++◌, length, Option, Some, IfSome}
 use Rattle.std.specs.List.{list_any}
 use Rattle.std.specs.Io.KnownBytes.{Appends}
 use Rattle.pay_wire.specs.Words.{AppendsFront, spelling_of_reply}
 use Rattle.pay_wire.specs.declared.reply.Reply.{Reply}
 use Rattle.pay_session.specs.Requests.{is_quit, line_requests, quits, requests_of, request_of_rest, rest_of, through_quit, unread}
 use Rattle.pay_session.specs.Events.{Event, text_of, any_lacks_memory}
+use Rattle.pay_session.specs.Stops.{fault_of}
 use Rattle.pay_session.specs.declared.request.Request.{Request}
 use Rattle.pay_session.specs.declared.progress.Fill.{Fill}
 use Rattle.pay_session.specs.declared.progress.Fill.TheVariants.{More, End, Quit}
@@ -227,3 +228,21 @@ module _ {S : Type 0} (Serves : S → Request → Event → S → Type 0) where
   abbrev pub RunsSo : SessionFault → S → List ℕ → Option (List ℕ) → Option (List ℕ) → Option (List ℕ) → S → Type 0
   RunsSo (fault.Read answered) first input left held new last = RunsToRead first input left held new answered last
   RunsSo (fault.Write answered) first input left held new last = RunsToWrite first input held new answered last
+
+  -- ---- from one position to another, with what the reader has left before and after, where it is known what it had
+
+  -- a fill brought this
+  abbrev pub Fills : (before : Position S) (had left : Option (List ℕ)) (after : Position S) → Fill → Type 0
+  Fills before had left after fill = IfSome had (λ input. Brings fill before input left after)
+
+  -- a fill failed so
+  abbrev pub FailsAs : (before : Position S) (had left : Option (List ℕ)) (after : Position S) → Stop → Type 0
+  FailsAs before had left after stop = IfSome had (λ input. Loses stop before input left after)
+
+  -- the session ended by itself, by QUIT or not
+  abbrev pub Finishes : (before : Position S) (had left : Option (List ℕ)) (after : Position S) → Bool → Type 0
+  Finishes before had left after quit = IfSome had (λ input. RunsToEnd before.state input left before.written after.written after.answered quit after.lacked after.state)
+
+  -- the session stopped so
+  abbrev pub StopsAs : (before : Position S) (had left : Option (List ℕ)) (after : Position S) → Stop → Type 0
+  StopsAs before had left after stop = IfSome had (λ input. RunsSo (fault_of stop after.answered) before.state input left before.written after.written after.state)

@@ -1,13 +1,11 @@
 //! Laws of the lines: what the definitions mean by which the input is cut. Each law
 //! is the contract of a function that does nothing: a caller whose proof needs a law calls its function.
-ghost use Rattle.std.specs.Prelude.{◌≡◌, ◌≢◌, ◌↔◌, ℕ, ◌<◌, ◌≤◌, Bool, true, false, List, [], ◌∷◌, ◌++◌, length, map, codes};
+ghost use Rattle.std.specs.Prelude.{◌≡◌, ◌≢◌, ℕ, ◌<◌, ◌≤◌, true, false, List, [], ◌∷◌, ◌++◌, length, codes};
 ghost use Rattle.std.specs.List.{AllByRecursion, flat_map};
-ghost use Rattle.pay_wire.specs.declared.command.Command.{Command};
 ghost use Rattle.pay_wire.specs.declared.command.Command.TheVariants.{Quit};
 ghost use Rattle.pay_wire.specs.declared.limits.TheConstants.{MOST_LINE_BYTES};
-ghost use Rattle.pay_wire.specs.Words.{Spells};
 ghost use Rattle.pay_session.specs.declared.request.Request.TheVariants as requests;
-ghost use Rattle.pay_session.specs.Requests.{InputLine, input_lines, rest_of, has_newline, request_of, line_requests, requests_of, quits, unread};
+ghost use Rattle.pay_session.specs.Requests.{InputLine, input_lines, rest_of, has_newline, request_of, line_requests, requests_of, quits, unread, HasOneCutting, SpellsNothing};
 
 /// The lines and the rest are the input, cut at its newlines, and no other cutting is.
 pub fn cut_at_newlines()
@@ -16,10 +14,7 @@ pub fn cut_at_newlines()
     ensures lines { (input : List ℕ)
         → AllByRecursion (λ (l : InputLine). has_newline l.text ≡ false) (input_lines input) }
     ensures rest { (input : List ℕ) → has_newline (rest_of input) ≡ false }
-    ensures only { (input rest : List ℕ) (texts : List (List ℕ))
-        → AllByRecursion (λ (t : List ℕ). has_newline t ≡ false) texts → has_newline rest ≡ false
-        → input ≡ flat_map (λ (t : List ℕ). t ++ codes "\n") texts ++ rest
-        → (map (λ (l : InputLine). l.text) (input_lines input) ≡ texts) × (rest_of input ≡ rest) }
+    ensures only { HasOneCutting }
 {}
 
 /// What is left unread is what stands behind the first line that is `QUIT`, or nothing where no line is.
@@ -46,8 +41,7 @@ pub fn nothing_after_quit()
 pub fn session_goes_on()
     ensures line { (line more : List ℕ) → has_newline line ≡ false → line ≢ codes "QUIT"
         → requests_of (line ++ codes "\n" ++ more) ≡ request_of line ∷ requests_of more }
-    ensures bad { (line more : List ℕ) → has_newline line ≡ false → length line ≤ MOST_LINE_BYTES
-        → ((command : Command) → Spells line command → ⊥)
+    ensures bad { (line more : List ℕ) → has_newline line ≡ false → length line ≤ MOST_LINE_BYTES → SpellsNothing line
         → requests_of (line ++ codes "\n" ++ more) ≡ requests.BadLine ∷ requests_of more }
     ensures long { (line more : List ℕ) → has_newline line ≡ false → MOST_LINE_BYTES < length line
         → requests_of (line ++ codes "\n" ++ more) ≡ requests.LongLine ∷ requests_of more }

@@ -2,8 +2,8 @@
 ghost use Rattle.std.specs.Prelude.{◌≡◌, ◌≢◌, ◌+◌, ◌<◌, ◌≤◌, ◌^◌, ◌++◌, ◌∷◌, [], List, ℕ, length, false, true, IfOk, IfErr, OnOk, OnErr, IfNone, IfSome};
 ghost use Rattle.pay_session.specs.Events.{lacks_memory};
 ghost use Rattle.pay_session.specs.Requests.{has_newline, IsAsked};
-ghost use Rattle.pay_session.specs.SessionSteps.{at, facing, Advances, Breaks, Replies, Falters, EndsLine, TakesToQuit, Brings, Loses, EndsRest, FaltersAtRest, Ran, RunsToEnd, RunsSo};
-ghost use Rattle.pay_session.specs.Stops.{IsFailure, IsWriteFailure, fault_of};
+ghost use Rattle.pay_session.specs.SessionSteps.{at, facing, Advances, Breaks, Replies, Falters, EndsLine, TakesToQuit, EndsRest, FaltersAtRest, Ran, Fills, FailsAs, Finishes, StopsAs};
+ghost use Rattle.pay_session.specs.Stops.{IsFailure, IsWriteFailure};
 
 use crate::begun_line::BegunLine;
 use crate::cut::cut;
@@ -77,10 +77,10 @@ impl Progress {
         requires line { self.old.line ≡ [] }
         requires answered { self.old.answered ≡ 0 }
         requires lacked { self.old.lacked_memory ≡ false }
-        ensures ends { IfOk result (λ quit. IfSome (R.remaining reader.old) (λ input.
-            RunsToEnd A.Serves answers.old input (R.remaining reader.new) (W.contents writer.old) (W.contents writer.new) self.new.answered quit self.new.lacked_memory answers.new)) }
-        ensures fails { IfErr result (λ stop. IfSome (R.remaining reader.old) (λ input.
-            RunsSo A.Serves (fault_of stop self.new.answered) answers.old input (R.remaining reader.new) (W.contents writer.old) (W.contents writer.new) answers.new)) }
+        ensures ends { IfOk result (Finishes A.Serves (at self.old answers.old (W.contents writer.old)) (R.remaining reader.old) (R.remaining reader.new)
+            (at self.new answers.new (W.contents writer.new))) }
+        ensures fails { IfErr result (StopsAs A.Serves (at self.old answers.old (W.contents writer.old)) (R.remaining reader.old) (R.remaining reader.new)
+            (at self.new answers.new (W.contents writer.new))) }
         ensures ran { Ran A.Serves answers.old answers.new }
         ensures cause { IfErr result (λ stop. stop ≢ Stop.NoMoreFills → IsFailure stop) }
     {
@@ -108,10 +108,10 @@ impl Progress {
         requires count { self.old.answered + 2 ^ 64 < 2 ^ 128 }
         ensures line { OnOk result (has_newline self.new.line ≡ false) }
         ensures counted { OnOk result (self.new.answered ≤ self.old.answered + 2 ^ 64) }
-        ensures brings { IfOk result (λ fill. IfSome (R.remaining reader.old) (λ input.
-            Brings A.Serves fill (at self.old answers.old (W.contents writer.old)) input (R.remaining reader.new) (at self.new answers.new (W.contents writer.new)))) }
-        ensures loses { IfErr result (λ stop. IfSome (R.remaining reader.old) (λ input.
-            Loses A.Serves stop (at self.old answers.old (W.contents writer.old)) input (R.remaining reader.new) (at self.new answers.new (W.contents writer.new)))) }
+        ensures brings { IfOk result (Fills A.Serves (at self.old answers.old (W.contents writer.old)) (R.remaining reader.old) (R.remaining reader.new)
+            (at self.new answers.new (W.contents writer.new))) }
+        ensures loses { IfErr result (FailsAs A.Serves (at self.old answers.old (W.contents writer.old)) (R.remaining reader.old) (R.remaining reader.new)
+            (at self.new answers.new (W.contents writer.new))) }
         ensures ran { Ran A.Serves answers.old answers.new }
         ensures cause { IfErr result IsFailure }
     {

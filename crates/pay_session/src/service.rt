@@ -6,7 +6,7 @@ ghost use Rattle.pay_shard.specs.Words.{AreKept};
 ghost use Rattle.pay_session.specs.Asks.{IsOfAccount};
 ghost use Rattle.pay_session.specs.Events.{Event, refusal_of, refusal_of_desk, refusal_of_close, said, said_of_close};
 ghost use Rattle.pay_session.specs.Requests.{IsAsked};
-ghost use Rattle.pay_session.specs.Serving.{IsPut, IsCloseSaid, IsStep, MaySometimeRefuse, MaySometimeBeLate};
+ghost use Rattle.pay_session.specs.Serving.{IsPutAt, IsCloseSaidAt};
 ghost use Rattle.pay_session.specs.SessionSteps.{IsAnswered};
 ghost use Rattle.pay_session.specs.declared.request.Request.{Request};
 
@@ -51,10 +51,11 @@ impl<'a, D: Desk, T: Till> Service<'a, D, T> {
 }
 
 impl<'a, D: Desk, T: Till> Answers for Service<'a, D, T> {
+    ghost use Rattle.pay_session.specs.Asks.{asks_of};
     ghost use Rattle.pay_session.specs.Serving.{IsStep};
 
     ghost Serves = { λ before request event after.
-        IsStep D.standing D.taken D.transcript D.MayRefuse D.MayBeLate T.Closes before.zone.now request event before.desk.now before.till.now after.desk.now after.till.now
+        IsStep D.parts T.Closes (asks_of before.zone.now request) event (before.desk.now, before.till.now) (after.desk.now, after.till.now)
         × (after.desk.ghost_name ≡ before.desk.ghost_name) × (after.till.ghost_name ≡ before.till.ghost_name) × (after.zone ≡ before.zone) × (T.origin after.till.now ≡ T.origin before.till.now) };
 
     fn answer(&mut self, request: Request) -> Reply {
@@ -70,10 +71,11 @@ impl<'a, D: Desk, T: Till> Answers for Service<'a, D, T> {
 /// Hands a command to a desk and says its reply.
 fn put<D: Desk>(desk: &mut D, command: Command) -> Reply
     requires { IsOfAccount command }
-    ensures put { IsPut (MaySometimeRefuse D.standing D.MayRefuse (D.standing desk.old)) (MaySometimeBeLate D.standing D.MayBeLate (D.standing desk.old)) command (D.taken desk.old) (D.taken desk.new) (D.transcript desk.new) result }
-    ensures transcript { AreKept (D.transcript desk.old) (D.transcript desk.new) }
-    ensures same_desk { D.standing desk.new ≡ D.standing desk.old }
+    ensures put { IsPutAt D.parts desk.old desk.new command result }
+    ensures transcript { AreKept (D.parts desk.old).transcript (D.parts desk.new).transcript }
+    ensures same_desk { (D.parts desk.new).standing ≡ (D.parts desk.old).standing }
 {
+    pay_shard::laws::put_then_get::<D>();
     let ticket = match desk.put(command) {
         Ok(ticket) => ticket,
         Err(fault) => return Reply::No(refusal_of_desk(fault)),
@@ -87,10 +89,9 @@ fn put<D: Desk>(desk: &mut D, command: Command) -> Reply
 /// Has a till close a day over a desk, and says what came of it.
 fn close<D: Desk, T: Till>(till: &mut T, desk: &mut D, day: u32) -> Reply
     requires { (FIRST_DAY ≤ day) × (day ≤ LAST_DAY) }
-    ensures closed { IsCloseSaid (MaySometimeRefuse D.standing D.MayRefuse (D.standing desk.old)) (MaySometimeBeLate D.standing D.MayBeLate (D.standing desk.old))
-        (λ put answer. T.Closes till.old day (D.standing desk.old).shards put answer till.new) day (D.standing desk.old).shards (D.taken desk.old) (D.taken desk.new) (D.transcript desk.new) result }
-    ensures transcript { AreKept (D.transcript desk.old) (D.transcript desk.new) }
-    ensures same_desk { D.standing desk.new ≡ D.standing desk.old }
+    ensures closed { IsCloseSaidAt D.parts desk.old desk.new day (λ of put answer. T.Closes till.old day of put answer till.new) result }
+    ensures transcript { AreKept (D.parts desk.old).transcript (D.parts desk.new).transcript }
+    ensures same_desk { (D.parts desk.new).standing ≡ (D.parts desk.old).standing }
     ensures same_till { T.origin till.new ≡ T.origin till.old }
 {
     match till.close(desk, day) {

@@ -1,7 +1,6 @@
 //! A session of lines over a desk and a till.
-ghost use Rattle.std.specs.Prelude.{◌≡◌, IfOk, IfErr, IfSome};
-ghost use Rattle.pay_session.specs.Serving.{MaySometimeRefuse, MaySometimeBeLate};
-ghost use Rattle.pay_session.specs.Session.{Ends, FailsSo};
+ghost use Rattle.std.specs.Prelude.{◌≡◌, IfOk, IfErr};
+ghost use Rattle.pay_session.specs.Session.{Ends, Fails, ServiceEnds, ServiceFails};
 ghost use Rattle.pay_shard.specs.Words.{AreKept};
 
 use crate::progress::Progress;
@@ -33,16 +32,12 @@ pub fn session<R: BufRead, W: Write, D: Desk, T: Till>(
     desk: &mut D,
     till: &mut T,
 ) -> Result<Done, SessionFault>
-    ensures ends { IfOk result (λ done. IfSome (R.remaining reader.old) (λ input.
-        Ends zone.now (D.standing desk.old).shards (MaySometimeRefuse D.standing D.MayRefuse (D.standing desk.old)) (MaySometimeBeLate D.standing D.MayBeLate (D.standing desk.old)) T.Closes
-        (record { taken_before = D.taken desk.old; taken_after = D.taken desk.new; transcript = D.transcript desk.new; till_before = till.old; till_after = till.new })
-        input (R.remaining reader.new) (W.contents writer.old) (W.contents writer.new) done.answered done.quit done.lacked_memory)) }
-    ensures fails { IfErr result (λ fault. IfSome (R.remaining reader.old) (λ input.
-        FailsSo zone.now (D.standing desk.old).shards (MaySometimeRefuse D.standing D.MayRefuse (D.standing desk.old)) (MaySometimeBeLate D.standing D.MayBeLate (D.standing desk.old)) T.Closes fault
-        (record { taken_before = D.taken desk.old; taken_after = D.taken desk.new; transcript = D.transcript desk.new; till_before = till.old; till_after = till.new })
-        input (R.remaining reader.new) (W.contents writer.old) (W.contents writer.new))) }
-    ensures transcript { AreKept (D.transcript desk.old) (D.transcript desk.new) }
-    ensures same_desk { D.standing desk.new ≡ D.standing desk.old }
+    ensures ends { IfOk result (Ends zone.now D.parts T.Closes (desk.old, till.old, R.remaining reader.old, W.contents writer.old)
+        (desk.new, till.new, R.remaining reader.new, W.contents writer.new)) }
+    ensures fails { IfErr result (Fails zone.now D.parts T.Closes (desk.old, till.old, R.remaining reader.old, W.contents writer.old)
+        (desk.new, till.new, R.remaining reader.new, W.contents writer.new)) }
+    ensures transcript { AreKept (D.parts desk.old).transcript (D.parts desk.new).transcript }
+    ensures same_desk { (D.parts desk.new).standing ≡ (D.parts desk.old).standing }
     ensures same_till { T.origin till.new ≡ T.origin till.old }
 {
     session_by(&mut Service::new(zone, desk, till), reader, writer)
@@ -56,16 +51,12 @@ fn session_by<R: BufRead, W: Write, D: Desk, T: Till>(
 ) -> Result<Done, SessionFault>
     ensures desk_name { service.new.desk.ghost_name ≡ service.old.desk.ghost_name }
     ensures till_name { service.new.till.ghost_name ≡ service.old.till.ghost_name }
-    ensures ends { IfOk result (λ done. IfSome (R.remaining reader.old) (λ input.
-        Ends service.old.zone.now (D.standing service.old.desk.now).shards (MaySometimeRefuse D.standing D.MayRefuse (D.standing service.old.desk.now)) (MaySometimeBeLate D.standing D.MayBeLate (D.standing service.old.desk.now)) T.Closes
-        (record { taken_before = D.taken service.old.desk.now; taken_after = D.taken service.new.desk.now; transcript = D.transcript service.new.desk.now; till_before = service.old.till.now; till_after = service.new.till.now })
-        input (R.remaining reader.new) (W.contents writer.old) (W.contents writer.new) done.answered done.quit done.lacked_memory)) }
-    ensures fails { IfErr result (λ fault. IfSome (R.remaining reader.old) (λ input.
-        FailsSo service.old.zone.now (D.standing service.old.desk.now).shards (MaySometimeRefuse D.standing D.MayRefuse (D.standing service.old.desk.now)) (MaySometimeBeLate D.standing D.MayBeLate (D.standing service.old.desk.now)) T.Closes fault
-        (record { taken_before = D.taken service.old.desk.now; taken_after = D.taken service.new.desk.now; transcript = D.transcript service.new.desk.now; till_before = service.old.till.now; till_after = service.new.till.now })
-        input (R.remaining reader.new) (W.contents writer.old) (W.contents writer.new))) }
-    ensures transcript { AreKept (D.transcript service.old.desk.now) (D.transcript service.new.desk.now) }
-    ensures same_desk { D.standing service.new.desk.now ≡ D.standing service.old.desk.now }
+    ensures ends { IfOk result (ServiceEnds D.parts T.Closes (service.old, R.remaining reader.old, W.contents writer.old)
+        (service.new, R.remaining reader.new, W.contents writer.new)) }
+    ensures fails { IfErr result (ServiceFails D.parts T.Closes (service.old, R.remaining reader.old, W.contents writer.old)
+        (service.new, R.remaining reader.new, W.contents writer.new)) }
+    ensures transcript { AreKept (D.parts service.old.desk.now).transcript (D.parts service.new.desk.now).transcript }
+    ensures same_desk { (D.parts service.new.desk.now).standing ≡ (D.parts service.old.desk.now).standing }
     ensures same_till { T.origin service.new.till.now ≡ T.origin service.old.till.now }
 {
     let mut progress = Progress::new();

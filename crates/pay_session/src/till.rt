@@ -4,8 +4,7 @@ ghost use Rattle.pay_quotes.specs.declared.posting.Posting.{Posting};
 ghost use Rattle.pay_day.specs.declared.limits.TheConstants.{FIRST_DAY, LAST_DAY};
 ghost use Rattle.pay_shard.specs.Words.{AreKept};
 ghost use Rattle.pay_session.specs.Events.{Taken};
-ghost use Rattle.pay_session.specs.Served.{IsClosed};
-ghost use Rattle.pay_session.specs.Serving.{MaySometimeRefuse, MaySometimeBeLate};
+ghost use Rattle.pay_session.specs.Serving.{IsClosedAt};
 ghost use Rattle.pay_session.specs.declared.till.CloseFault.{CloseFault};
 ghost use Rattle.pay_session.specs.declared.till.CloseFault.TheVariants.{NotHere};
 
@@ -51,10 +50,9 @@ pub trait Till: Drop {
     /// brought no quotes.
     fn close<D: Desk>(&mut self, desk: &mut D, day: u32) -> Result<Postings, CloseFault>
         requires { (FIRST_DAY ≤ day) × (day ≤ LAST_DAY) }
-        ensures closed { IsClosed (MaySometimeRefuse D.standing D.MayRefuse (D.standing desk.old)) (MaySometimeBeLate D.standing D.MayBeLate (D.standing desk.old))
-            (λ put answer. Closes self.old day (D.standing desk.old).shards put answer self.new) day (D.standing desk.old).shards (D.taken desk.old) (D.taken desk.new) (D.transcript desk.new) result }
-        ensures transcript { AreKept (D.transcript desk.old) (D.transcript desk.new) }
-        ensures same_desk { D.standing desk.new ≡ D.standing desk.old }
+        ensures closed { IsClosedAt D.parts desk.old desk.new day (λ of put answer. Closes self.old day of put answer self.new) result }
+        ensures transcript { AreKept (D.parts desk.old).transcript (D.parts desk.new).transcript }
+        ensures same_desk { (D.parts desk.new).standing ≡ (D.parts desk.old).standing }
         ensures same_till { origin self.new ≡ origin self.old };
 }
 

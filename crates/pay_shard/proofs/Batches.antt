@@ -67,14 +67,14 @@ module _ (tables : FareTables) (state : State) (through shard of : ℕ) where
   step b account rest true false m s = refl
   step b account rest false is m s = refl
 
-  all_after : (b : BatchParts) (accounts : List ℕ) → fold (batch_with tables state through shard of) b accounts ≡ join b (batch_of tables through (chosen accounts))
+  all_after : (b : BatchParts) (accounts : List ℕ) → fold (batch_with tables state (through, shard, of)) b accounts ≡ join b (batch_of tables through (chosen accounts))
   unfolding join batch_if_quoted
   all_after b [] = sym (λ i. record { quotes = append-nil b.quotes i; sets = append-nil b.sets i })
   all_after b (account ∷ accounts) =
-      all_after (batch_with tables state through shard of b account) accounts
+      all_after (batch_with tables state (through, shard, of) b account) accounts
       ∙ step b account (chosen accounts) (is_of shard of account) (is_quoted through (sets account (accepted_of state account))) refl refl
 
-  pub all_quoted : (accounts : List ℕ) → finite.entries state ≡ map at accounts → fold (batch_with tables state through shard of) (record { quotes = []; sets = [] }) accounts ≡ batch tables state through shard of
+  pub all_quoted : (accounts : List ℕ) → finite.entries state ≡ map at accounts → fold (batch_with tables state (through, shard, of)) (record { quotes = []; sets = [] }) accounts ≡ batch tables state through shard of
   unfolding join
   all_quoted accounts e = all_after (record { quotes = []; sets = [] }) accounts ∙ ap (λ es. batch_of tables through (filter is_chosen es)) (sym e)
 

@@ -8,3 +8,4 @@ pub mod Journals
 pub mod LocalDesks
 pub mod Merging
 pub mod Places
+pub mod PutThenGet

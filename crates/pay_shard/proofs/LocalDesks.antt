@@ -1,15 +1,16 @@
 -- A desk over one shard: one command more, and one reply less.
-use Rattle.std.proofs.Common.{◌≡◌, inl, inr, ℕ, zero, suc, ◌+◌, ◌<◌, ◌==◌, Bool, true, false, not, cond, List, [], ◌∷◌, ◌++◌, length, nat_lt, Some, None, refl, sym, ap, ◌∙◌, subst, arith}
+use Rattle.std.proofs.Common.{◌≡◌, inl, inr, ℕ, zero, suc, ◌+◌, ◌<◌, ◌==◌, Bool, true, false, not, cond, List, [], ◌∷◌, ◌++◌, length, nat_lt, Option, Some, None, zero-add, refl, sym, ap, ◌∙◌, subst, arith}
 use Rattle.std.specs.List.{AllByRecursion, IsDistinct, find, position, position_or_len, remove, slice_get, slice_index_or}
 use Rattle.std.specs.Option.{option_map}
 use Rattle.std.proofs.lemmas.Bool.{lt-ltb, eqb-true, eq-eqb}
+use Rattle.std.specs.Prelude.{if◌then◌else◌}
 use Rattle.std.proofs.lemmas.List.{map-append}
 use Rattle.pay_numbered.specs.Words.{IsIn}
 use Rattle.pay_tables.specs.Words.{FareTables}
-use Rattle.pay_shard.specs.Desks.{IsAfterAll, IsNoneOf, without, AreKept}
+use Rattle.pay_shard.specs.Desks.{IsAfterAll, IsNoneOf, without, command_under, IsReplyTo, AreKept}
 use Rattle.pay_shard.specs.LocalParts.{commands_of, transcript_of, AreInPlace, tickets_of, AreDistinct, AreOfRun, answers_without, IsLocal}
 use Rattle.pay_shard.specs.Machine.{item_step}
-use Rattle.pay_shard.specs.Runs.{answers_from}
+use Rattle.pay_shard.specs.Runs.{answer_at, answers_from}
 use Rattle.pay_shard.specs.ShardParts.{ShardParts, answers_given, next_answer, item_of, with_item, with_room}
 use Rattle.pay_account.specs.State.{State}
 use Rattle.pay_shard.specs.declared.item.Entry.{Entry}
@@ -18,6 +19,56 @@ use Rattle.pay_shard.specs.declared.reply.Answer.{Answer}
 use Rattle.pay_shard.specs.declared.reply.Reply.{Reply}
 use Rattle.pay_shard.proofs.Journals.{answers_more}
 use Rattle.pay_shard.proofs.Places.{all_more}
+
+-- ---- the answer to a ticket is to its command
+
+some_is : (x y : Answer) → ◌≡◌ {A = Option Answer} (Some x) (Some y) → x ≡ y
+some_is x y e = cc
+
+-- where each entry stands at its ticket, the answer at a place is to the command there
+own_at : (shard place : ℕ) (tables : FareTables) (state : State) (items : List Item) (k : ℕ) (a : Answer) → AreInPlace place items → slice_get (answers_from shard place tables state items) k ≡ Some a
+    → (a.ticket ≡ place + k) × (command_under (place + k) (commands_of items) ≡ Some a.command)
+own_at shard place tables state [] k a are e = absurd (cc)
+own_at shard place tables state (item ∷ items) zero a are e =
+    let is = some_is (answer_at shard place tables state item) a e in
+    let its = are.0.1 in
+    let here : item.entry.ticket ≡ place + 0 = omega (arith, its) in (
+      sym (ap (λ (x : Answer). x.ticket) is) ∙ here,
+      ap (λ (b : Bool). if b then Some item.entry.command else command_under (place + 0) (commands_of items)) (eq-eqb item.entry.ticket (place + 0) here) ∙ ap (λ (x : Answer). Some x.command) is,
+    )
+own_at shard place tables state (item ∷ items) (suc k) a are e =
+    let rest = own_at shard (place + 1) tables (item_step tables state item).after items k a are.1 e in
+    let next : (place + 1) + k ≡ place + suc k = omega arith in (
+      rest.0 ∙ next,
+      ap (λ (b : Bool). if b then Some item.entry.command else command_under (place + suc k) (commands_of items)) (off (item.entry.ticket == place + suc k) refl)
+          ∙ ap (λ n. command_under n (commands_of items)) (sym next) ∙ rest.1,
+    )
+  where
+    off : (b : Bool) → (item.entry.ticket == place + suc k) ≡ b → (item.entry.ticket == place + suc k) ≡ false
+    off true same =
+        let is = eqb-true item.entry.ticket (place + suc k) same in
+        let its = are.0.1 in
+        absurd (omega (arith, is, its))
+    off false other = other
+
+pub reply_to : (s : ShardParts) (ticket : ℕ) (reply : Reply) → AreInPlace 0 s.journal → option_map (λ (a : Answer). a.reply) (transcript_of s ticket) ≡ Some reply
+    → IsReplyTo ticket (commands_of s.journal) (transcript_of s) reply
+reply_to s ticket reply placed e = by (transcript_of s ticket) refl e
+  where
+    its : (answer : Answer) → ◌≡◌ {A = Option Reply} (Some answer.reply) (Some reply) → answer.reply ≡ reply
+    its answer e = cc
+
+    by : (o : Option Answer) → transcript_of s ticket ≡ o → option_map (λ (a : Answer). a.reply) o ≡ Some reply → IsReplyTo ticket (commands_of s.journal) (transcript_of s) reply
+    by None stands e = absurd (cc)
+    by (Some answer) stands e =
+        let own = own_at s.number 0 s.tables s.base s.journal ticket answer placed stands in
+        record {
+          answer = answer;
+          stands = stands;
+          of_ticket = own.0 ∙ zero-add ticket;
+          of_command = ap (λ n. command_under n (commands_of s.journal)) (sym (zero-add ticket)) ∙ own.1;
+          told = its answer e;
+        }
 
 -- ---- the answer to a ticket is taken out
 

@@ -30,5 +30,5 @@ unfoldable pub batch_if_quoted : FareTables → ℕ → BatchParts → ℕ → A
 batch_if_quoted tables through b account accepted = if is_quoted through (sets account accepted) then record { quotes = b.quotes ++ quote tables account accepted through ∷ []; sets = b.sets ++ sets account accepted ∷ [] } else b
 
 -- and if it is the shard's
-abbrev pub batch_with : FareTables → State → ℕ → ℕ → ℕ → BatchParts → ℕ → BatchParts
-batch_with tables state through shard of b account = if is_of shard of account then batch_if_quoted tables through b account (accepted_of state account) else b
+abbrev pub batch_with : FareTables → State → (through_shard_of : ℕ × ℕ × ℕ) → BatchParts → ℕ → BatchParts
+batch_with tables state (through, shard, of) b account = if is_of shard of account then batch_if_quoted tables through b account (accepted_of state account) else b

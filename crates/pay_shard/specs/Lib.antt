@@ -6,6 +6,7 @@ pub mod Faults
 pub mod Machine
 pub mod Runs
 pub mod Held
+pub mod Laws
 pub mod ShardParts
 pub mod Merges
 pub mod Changes

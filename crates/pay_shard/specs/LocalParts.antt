@@ -2,8 +2,12 @@
 use Rattle.std.specs.Prelude.{◌≡◌, ℕ, ◌+◌, ◌==◌, cond, List, [], ◌∷◌, map, Option, Some, ⊤, refl}
 use Rattle.std.specs.Coded.{Coded, code_by, coded×, coded_ℕ, coded_list}
 use Rattle.std.specs.List.{AllByRecursion, IsDistinct, slice_get}
+use Rattle.pay_tables.specs.Words.{FareTables}
+use Rattle.pay_account.specs.State.{State}
+use Rattle.pay_shard.specs.Desks.{DeskParts}
 use Rattle.pay_shard.specs.ShardParts.{ShardParts, shard_code, answers_given}
 use Rattle.pay_shard.specs.declared.asked.Asked.{Asked}
+use Rattle.pay_shard.specs.declared.desk.DeskFault.TheVariants.{Memory}
 use Rattle.pay_shard.specs.declared.item.Item.{Item}
 use Rattle.pay_shard.specs.declared.reply.Answer.{Answer}
 
@@ -23,6 +27,16 @@ commands_of items = map (λ (i : Item). (i.entry.ticket, i.entry.command)) items
 -- the answer to a ticket, which is a place of the shard's journal
 abbrev pub transcript_of : ShardParts → ℕ → Option Answer
 transcript_of s ticket = slice_get (answers_given s) ticket
+
+-- Such a desk began with a fare file and accounts. It refuses for want of memory alone, and no reply of it is late.
+abbrev pub desk_parts : LocalParts → DeskParts (FareTables × State)
+desk_parts d = record {
+  standing = record { origin = (d.shard.tables, d.shard.base); shards = 1; waiting = d.waiting };
+  taken = commands_of d.shard.journal;
+  transcript = transcript_of d.shard;
+  MayRefuse = λ fault. fault ≡ Memory;
+  MayBeLate = ⊥;
+}
 
 -- each entry is of lane 0, and its ticket is its place, from a place on
 abbrev pub AreInPlace : ℕ → List Item → Type 0

@@ -10,5 +10,6 @@ unfoldable pub use Rattle.pay_shard.specs.Held.{state_of}
 pub use Rattle.pay_shard.specs.ShardParts.{ShardParts, shard_code, state_now, answers_given, next_answer, item_of, with_item, with_room}
 pub use Rattle.pay_shard.specs.Changes.{is_priced, AreAllPriced, asked_by, AreUnmarked, accepted_asked}
 pub use Rattle.pay_shard.specs.Merges.{items_of, all_items, replies_of, IsAskedOf, AreAskedOf, IsWhole}
-pub use Rattle.pay_shard.specs.Desks.{Standing, with_waiting, IsForShards, IsAfterAll, IsNoneOf, without, AreKept}
-pub use Rattle.pay_shard.specs.LocalParts.{LocalParts, local_code, commands_of, transcript_of, AreInPlace}
+pub use Rattle.pay_shard.specs.Desks.{Standing, with_waiting, DeskParts, IsForShards, IsAfterAll, IsNoneOf, without, command_under, IsReplyTo, AreKept}
+pub use Rattle.pay_shard.specs.Laws.{MergeRepliesAsShards, MergeEndsAsShards, MergeIsHistory, AnswersHaveReplies, AnswersStandAtPlaces, AskedAlikeEndsAlike, AcceptedAlikeEndsAlike, LastCommandIsUnderTicket, LastTicketWaits, StandsAsBefore}
+pub use Rattle.pay_shard.specs.LocalParts.{LocalParts, local_code, commands_of, transcript_of, desk_parts, AreInPlace}

@@ -227,7 +227,7 @@ impl<F: Fares> Accounts<F> {
     ) -> Result<(), AllocError>
         requires is_day { IsDay through }
         requires shards { 0 < of }
-        ensures { OnOk result (batch.new ≡ batch_with self.now.tables self.now.state through shard of batch.old account) }
+        ensures { OnOk result (batch.new ≡ batch_with self.now.tables self.now.state (through, shard, of) batch.old account) }
     {
         if account % u32::from(of) != u32::from(shard) {
             return Ok(());

@@ -1,12 +1,8 @@
-ghost use Rattle.std.specs.Prelude.{◌≡◌, ℕ, ◌≤◌, List, [], ◌∷◌, ◌++◌, Option, Some, IfOk, IfErr, OnErr};
-ghost use Rattle.std.specs.Option.{option_map};
+ghost use Rattle.std.specs.Prelude.{◌≡◌, ◌≤◌, [], ◌∷◌, ◌++◌, IfOk, IfErr, OnErr};
 ghost use Rattle.pay_numbered.specs.Words.{IsIn};
-ghost use Rattle.pay_shard.specs.declared.asked.Asked.{Asked};
-ghost use Rattle.pay_shard.specs.declared.desk.DeskFault.{DeskFault};
 ghost use Rattle.pay_shard.specs.declared.desk.DeskFault.TheVariants.{Late};
 ghost use Rattle.pay_shard.specs.declared.limits.TheConstants.{MOST_SHARDS};
-ghost use Rattle.pay_shard.specs.declared.reply.Answer.{Answer};
-ghost use Rattle.pay_shard.specs.Desks.{Standing, with_waiting, IsForShards, IsAfterAll, IsNoneOf, without, AreKept};
+ghost use Rattle.pay_shard.specs.Desks.{DeskParts, with_waiting, IsForShards, IsAfterAll, IsNoneOf, without, IsReplyTo, AreKept};
 
 use crate::command::Command;
 use crate::reply::Reply;
@@ -43,46 +39,34 @@ pub trait Desk: Drop {
     /// What a desk begins with and keeps.
     ghost Origin: { Type 0 };
 
-    /// What this desk began with, how many shards answer, and the tickets that were given and not got.
-    ghost standing: { Self → Standing Self.Origin };
-
-    /// The commands that it took, each with its ticket, in ascending order of ticket.
-    ghost taken: { Self → List (ℕ × Asked) };
-
-    /// The answer to a ticket, where there is one: the reply, and of which shard and at which place of its history it is.
-    ghost transcript: { Self → ℕ → Option Answer };
-
-    /// Whether it may refuse a command so.
-    ghost MayRefuse: { Self → DeskFault → Type 0 };
-
-    /// Whether a reply of it may be late.
-    ghost MayBeLate: { Self → Type 0 };
+    /// What a desk is at a moment: how it stands, what it took and answered, and what it may fail in.
+    ghost parts: { Self → DeskParts Self.Origin };
 
     /// How many shards answer, from 1 to `MOST_SHARDS`.
     fn shards(&self) -> u8
-        ensures number { result ≡ (standing self.now).shards }
+        ensures number { result ≡ (parts self.now).standing.shards }
         ensures some { 1 ≤ result }
         ensures few { result ≤ MOST_SHARDS };
 
     /// Takes a command. Where it is refused, it was not taken, and has no effect.
     fn put(&mut self, command: Command) -> Result<Ticket, DeskFault>
-        requires { IsForShards (standing self.old).shards command }
-        ensures added { IfOk result (λ ticket. taken self.new ≡ taken self.old ++ (ticket, command) ∷ []) }
-        ensures later { IfOk result (λ ticket. IsAfterAll ticket (taken self.old)) }
-        ensures fresh { IfOk result (λ ticket. IsNoneOf ticket (standing self.old).waiting) }
-        ensures waits { IfOk result (λ ticket. standing self.new ≡ with_waiting ((standing self.old).waiting ++ ticket ∷ []) (standing self.old)) }
-        ensures not_added { OnErr result (taken self.new ≡ taken self.old) }
-        ensures none_waits { OnErr result (standing self.new ≡ standing self.old) }
-        ensures refused { IfErr result (λ fault. MayRefuse self.old fault) }
-        ensures transcript { AreKept (transcript self.old) (transcript self.new) };
+        requires { IsForShards (parts self.old).standing.shards command }
+        ensures added { IfOk result (λ ticket. (parts self.new).taken ≡ (parts self.old).taken ++ (ticket, command) ∷ []) }
+        ensures later { IfOk result (λ ticket. IsAfterAll ticket (parts self.old).taken) }
+        ensures fresh { IfOk result (λ ticket. IsNoneOf ticket (parts self.old).standing.waiting) }
+        ensures waits { IfOk result (λ ticket. (parts self.new).standing ≡ with_waiting ((parts self.old).standing.waiting ++ ticket ∷ []) (parts self.old).standing) }
+        ensures not_added { OnErr result ((parts self.new).taken ≡ (parts self.old).taken) }
+        ensures none_waits { OnErr result ((parts self.new).standing ≡ (parts self.old).standing) }
+        ensures refused { IfErr result (λ fault. (parts self.old).MayRefuse fault) }
+        ensures transcript { AreKept (parts self.old).transcript (parts self.new).transcript };
 
-    /// Gives the reply to a command by its ticket, once: that of the ticket's answer. Its one fault is `Late`, and then the
-    /// reply is not given any more.
+    /// Gives the reply to a command by its ticket, once: that of the ticket's answer, which is to that command. Its one fault is
+    /// `Late`, and then the reply is not given any more.
     fn get(&mut self, ticket: Ticket) -> Result<Reply, DeskFault>
-        requires { IsIn (standing self.old).waiting ticket }
-        ensures reply { IfOk result (λ reply. option_map (λ (a : Answer). a.reply) (transcript self.new ticket) ≡ Some reply) }
-        ensures late { IfErr result (λ fault. (fault ≡ Late) × MayBeLate self.old) }
-        ensures got { standing self.new ≡ with_waiting (without ticket (standing self.old).waiting) (standing self.old) }
-        ensures none_added { taken self.new ≡ taken self.old }
-        ensures transcript { AreKept (transcript self.old) (transcript self.new) };
+        requires { IsIn (parts self.old).standing.waiting ticket }
+        ensures reply { IfOk result (λ reply. IsReplyTo ticket (parts self.new).taken (parts self.new).transcript reply) }
+        ensures late { IfErr result (λ fault. (fault ≡ Late) × (parts self.old).MayBeLate) }
+        ensures got { (parts self.new).standing ≡ with_waiting (without ticket (parts self.old).standing.waiting) (parts self.old).standing }
+        ensures none_added { (parts self.new).taken ≡ (parts self.old).taken }
+        ensures transcript { AreKept (parts self.old).transcript (parts self.new).transcript };
 }

@@ -5,11 +5,9 @@ ghost use Rattle.std.specs.Option.{option_map};
 ghost use Rattle.std.specs.Ordering.{nat_cmp, eq_by_cmp};
 ghost use Rattle.std.specs.Vec.{vec_capacity, vec_len};
 ghost use Rattle.pay_numbered.specs.Words.{IsIn};
-ghost use Rattle.pay_tables.specs.Words.{FareTables};
-ghost use Rattle.pay_account.specs.State.{State, ArePriced};
+ghost use Rattle.pay_account.specs.State.{ArePriced};
 ghost use Rattle.pay_shard.specs.Held.{state_of};
-ghost use Rattle.pay_shard.specs.LocalParts.{commands_of, transcript_of, tickets_of, answers_without, AreInPlace};
-ghost use Rattle.pay_shard.specs.declared.desk.DeskFault.TheVariants.{Memory};
+ghost use Rattle.pay_shard.specs.LocalParts.{tickets_of, answers_without, AreInPlace};
 ghost use Rattle.pay_shard.specs.declared.reply.Answer.{Answer};
 
 use crate::command::Command;
@@ -110,17 +108,13 @@ impl<F: Fares> LocalDesk<F> {
 }
 
 impl<F: Fares> Desk for LocalDesk<F> {
+    ghost use Rattle.pay_tables.specs.Words.{FareTables};
+    ghost use Rattle.pay_account.specs.State.{State};
+    ghost use Rattle.pay_shard.specs.LocalParts.{desk_parts};
+
     ghost Origin = { FareTables × State };
 
-    ghost standing = { λ d. record { origin = (d.shard.tables, d.shard.base); shards = 1; waiting = d.waiting } };
-
-    ghost taken = { λ d. commands_of d.shard.journal };
-
-    ghost transcript = { λ d. transcript_of d.shard };
-
-    ghost MayRefuse = { λ d fault. fault ≡ Memory };
-
-    ghost MayBeLate = { λ d. ⊥ };
+    ghost parts = { desk_parts };
 
     fn shards(&self) -> u8 {
         1

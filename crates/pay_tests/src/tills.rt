@@ -25,22 +25,20 @@ struct Unwilling {
 }
 
 impl Desk for Unwilling {
-    ghost use Rattle.std.specs.Prelude.{Some, ⊤};
-    ghost use Rattle.pay_shard.specs.Words.{commands_of};
-    ghost use Rattle.pay_shard.specs.declared.asked.Asked.TheVariants.{Due};
+    ghost use Rattle.std.specs.Prelude.{⊤};
+    ghost use Rattle.std.specs.Option.{option_map};
+    ghost use Rattle.pay_shard.specs.Words.{commands_of, transcript_of};
     ghost use Rattle.pay_shard.specs.declared.reply.Reply.TheVariants.{Memory};
 
     ghost Origin = { ⊤ };
 
-    ghost standing = { λ d. record { origin = tt; shards = 1; waiting = d.local.waiting } };
-
-    ghost taken = { λ d. commands_of d.local.shard.journal };
-
-    ghost transcript = { λ d ticket. Some (record { shard = 0; place = 0; ticket = ticket; command = Due 7 19_730; reply = Memory }) };
-
-    ghost MayRefuse = { λ d fault. ⊤ };
-
-    ghost MayBeLate = { λ d. ⊤ };
+    ghost parts = { λ d. record {
+      standing = record { origin = tt; shards = 1; waiting = d.local.waiting };
+      taken = commands_of d.local.shard.journal;
+      transcript = λ ticket. option_map (λ a. record { shard = a.shard; place = a.place; ticket = a.ticket; command = a.command; reply = Memory }) (transcript_of d.local.shard ticket);
+      MayRefuse = λ fault. ⊤;
+      MayBeLate = ⊤;
+    } };
 
     fn shards(&self) -> u8 {
         1

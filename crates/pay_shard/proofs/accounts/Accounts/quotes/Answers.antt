@@ -18,5 +18,5 @@ loop-account-init g c =
     let entries : AreBy places now.state =
     subst (AreBy places) (ap (λ (h : Held). h.state) c.self.view_is)
     (entries_by_place g.F.Fares.account g.F.Fares.accepted c.self.inside.accounts.items places c.self.invariant.0 (sorted_rises places c.keys-account-items.ensures.ordered) ∙ by_number _ places) in
-    (λ i. fold (batch_with now.tables now.state c.args.through c.args.shard c.args.of) (c.new-batch.ensures i) ((c.into_iter-account-iterator.ensures.into_iter_gives ∙ c.keys-account-items.ensures.rest) i))
+    (λ i. fold (batch_with now.tables now.state (c.args.through, c.args.shard, c.args.of)) (c.new-batch.ensures i) ((c.into_iter-account-iterator.ensures.into_iter_gives ∙ c.keys-account-items.ensures.rest) i))
     ∙ all_quoted now.tables now.state c.args.through c.args.shard c.args.of (each (λ (e : ℕ × ℕ). e.0) places) entries

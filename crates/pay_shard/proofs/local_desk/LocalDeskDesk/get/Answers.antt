@@ -1,12 +1,10 @@
-use Rattle.std.proofs.Common.{ap, sym, ◌∙◌, ℕ, List}
+use Rattle.std.proofs.Common.{ap, sym, ◌∙◌, subst, ℕ, List}
 use Rattle.pay_tables.specs.Words.{FareTables}
-use Rattle.pay_shard.specs.Desks.{Standing, without}
-use Rattle.std.specs.Option.{option_map}
-use Rattle.pay_shard.specs.LocalParts.{transcript_of, tickets_of}
+use Rattle.pay_shard.specs.Desks.{Standing, without, IsReplyTo}
+use Rattle.pay_shard.specs.LocalParts.{commands_of, transcript_of, tickets_of}
 use Rattle.pay_shard.specs.ShardParts.{ShardParts}
 use Rattle.pay_account.specs.State.{State}
-use Rattle.pay_shard.specs.declared.reply.Answer.{Answer}
-use Rattle.pay_shard.proofs.LocalDesks.{local_still, reply_found, tickets_left}
+use Rattle.pay_shard.proofs.LocalDesks.{local_still, reply_to, reply_found, tickets_left}
 use Rattle.pay_shard.proofs.local_desk.LocalDeskDesk.get.Goals as goal
 
 pub invariant_of-self : goal.invariant_of-self
@@ -14,8 +12,9 @@ invariant_of-self g c = local_still c.number.result c.self.inside.shard c.self.i
 
 pub returns-clause-reply : goal.returns-clause-reply
 returns-clause-reply g c =
-    ap (λ t. option_map (λ (a : Answer). a.reply) (transcript_of c.self.inside.shard t)) (sym c.number.ensures)
-    ∙ reply_found c.number.result c.self.inside.shard c.self.inside.kept.items c.take_out.result c.self.invariant.1.0 c.take_out.ensures.reply
+    let s = c.self.inside.shard in
+    subst (λ t. IsReplyTo t (commands_of s.journal) (transcript_of s) c.take_out.result) c.number.ensures
+    (reply_to s c.number.result c.take_out.result c.self.invariant.0.1 (reply_found c.number.result s c.self.inside.kept.items c.take_out.result c.self.invariant.1.0 c.take_out.ensures.reply))
 
 pub returns-clause-got : goal.returns-clause-got
 returns-clause-got g c =

@@ -1,0 +1,69 @@
+-- What is so of all journals and of all desks.
+use Rattle.std.specs.Prelude.{◌≡◌, ◌↔◌, ℕ, List, [], ◌∷◌, ◌++◌, map, Option, Some}
+use Rattle.std.specs.List.{slice_get}
+use Rattle.pay_numbered.specs.Words.{IsIn}
+use Rattle.pay_tables.specs.Words.{FareTables}
+use Rattle.pay_account.specs.State.{State}
+use Rattle.pay_shard.specs.declared.asked.Asked.{Asked}
+use Rattle.pay_shard.specs.declared.item.Item.{Item}
+use Rattle.pay_shard.specs.declared.reply.Answer.{Answer}
+use Rattle.pay_shard.specs.Runs.{run, replay, answers, reply_at, answer_to, IsHistory}
+use Rattle.pay_shard.specs.Changes.{AreAllPriced, asked_by, AreUnmarked, accepted_asked}
+use Rattle.pay_shard.specs.Desks.{Standing, with_waiting, IsAfterAll, IsNoneOf, without, command_under}
+use Rattle.pay_shard.specs.Merges.{items_of, all_items, replies_of, AreAskedOf, IsWhole}
+
+-- ---- merges, of so many shards, each from its own state, into one machine over all accounts
+
+-- each shard's replies in a merge are those of its own run
+abbrev pub MergeRepliesAsShards : Type 0
+MergeRepliesAsShards = (tables : FareTables) (of : ℕ) (each : ℕ → State) (whole : State) (merged : List (ℕ × Item)) → IsWhole of each whole → AreAskedOf of merged
+    → (shard : ℕ) → replies_of shard merged (run tables whole (all_items merged)).replies ≡ (run tables (each shard) (items_of shard merged)).replies
+
+-- in the end the machine has of each account what its shard has
+abbrev pub MergeEndsAsShards : Type 0
+MergeEndsAsShards = (tables : FareTables) (of : ℕ) (each : ℕ → State) (whole : State) (merged : List (ℕ × Item)) → IsWhole of each whole → AreAskedOf of merged
+    → IsWhole of (λ shard. replay tables (each shard) (items_of shard merged)) (replay tables whole (all_items merged))
+
+-- what is marked rightly in each journal is so in the merge
+abbrev pub MergeIsHistory : Type 0
+MergeIsHistory = (tables : FareTables) (of : ℕ) (each : ℕ → State) (whole : State) (merged : List (ℕ × Item)) → IsWhole of each whole → AreAskedOf of merged
+    → ((shard : ℕ) → IsHistory tables (each shard) (items_of shard merged)) → IsHistory tables whole (all_items merged)
+
+-- ---- answers
+
+-- the answers to a journal have the replies of its run
+abbrev pub AnswersHaveReplies : Type 0
+AnswersHaveReplies = (shard : ℕ) (tables : FareTables) (base : State) (items : List Item) → map (λ (a : Answer). a.reply) (answers shard tables base items) ≡ (run tables base items).replies
+
+-- at each place is the answer to the item there, by the reply there
+abbrev pub AnswersStandAtPlaces : Type 0
+AnswersStandAtPlaces = (shard : ℕ) (tables : FareTables) (base : State) (items : List Item) (place : ℕ)
+    → slice_get (answers shard tables base items) place ≡ answer_to shard place (slice_get items place) (reply_at tables base items place)
+
+-- ---- order
+
+-- where each that is asked in a journal is accepted, or a repeat, it is so in any other that asks for the same ones, and both end alike
+abbrev pub AskedAlikeEndsAlike : Type 0
+AskedAlikeEndsAlike = (tables : FareTables) (base : State) (list other : List Item) → ((a : Asked) → IsIn (asked_by list) a ↔ IsIn (asked_by other) a) → AreUnmarked other
+    → AreAllPriced (run tables base list).replies → AreAllPriced (run tables base other).replies × (replay tables base other ≡ replay tables base list)
+
+-- two journals that accept the same ones end alike
+abbrev pub AcceptedAlikeEndsAlike : Type 0
+AcceptedAlikeEndsAlike = (tables : FareTables) (base : State) (list other : List Item) → ((a : Asked) → IsIn (accepted_asked tables base list) a ↔ IsIn (accepted_asked tables base other) a)
+    → replay tables base other ≡ replay tables base list
+
+-- ---- desks
+
+-- the command that was taken last is the one under its ticket, which is above all others
+abbrev pub LastCommandIsUnderTicket : Type 0
+LastCommandIsUnderTicket = (ticket : ℕ) (command found : Asked) (before after : List (ℕ × Asked)) → IsAfterAll ticket before → after ≡ before ++ (ticket, command) ∷ []
+    → command_under ticket after ≡ Some found → found ≡ command
+
+-- the ticket that was given last waits
+abbrev pub LastTicketWaits : Type 0
+LastTicketWaits = (ticket : ℕ) (before after : List ℕ) → after ≡ before ++ ticket ∷ [] → IsIn after ticket
+
+-- a new ticket that was given and got leaves a desk as it stood
+abbrev pub StandsAsBefore : Type 0 → Type 0
+StandsAsBefore O = (before between after : Standing O) (ticket : ℕ) → IsNoneOf ticket before.waiting → between ≡ with_waiting (before.waiting ++ ticket ∷ []) before
+    → after ≡ with_waiting (without ticket between.waiting) between → after ≡ before
