@@ -11,7 +11,7 @@ use std::io::{BufReader, ErrorKind};
 use std::rt::{Env, Files};
 use std::{env, fs, io};
 
-/// Want of memory, or else the fault that is at hand.
+/// Out of memory, or else the fault that is at hand.
 fn memory_or(error: &io::Error, fault: Fault) -> Fault
     ensures memory { error_kind error.now ≡ ErrorKind.OutOfMemory → IsWantOfMemory result }
     ensures other { error_kind error.now ≢ ErrorKind.OutOfMemory → result ≡ fault }

@@ -11,13 +11,14 @@ use Rattle.pay_taps.specs.Words.{Taps, same_tap, judged, number as tap_number}
 use Rattle.pay_fix.specs.declared.limits.TheConstants.{MOST_FIXES}
 use Rattle.pay_fix.specs.declared.fix.Fix.{Fix}
 use Rattle.pay_fix.specs.Words.{Fixes, same_fix, day_named, judged as judged_fix, number as fix_number}
-use Rattle.pay_account.specs.declared.fares.Priced.{Priced}
+use Rattle.pay_quotes.specs.declared.priced.Priced.{Priced}
 use Rattle.pay_account.specs.declared.fares.TapFault.TheVariants as of_tap
 use Rattle.pay_account.specs.declared.fares.FixFault.TheVariants as of_fix
 use Rattle.pay_quotes.specs.Accepted.{Accepted, with_fix}
 use Rattle.pay_account.specs.Places.{is_known, is_known_fix}
 use Rattle.pay_account.specs.TapResults.{tap_added, after_tap}
-use Rattle.pay_account.specs.FixResults.{prices_on, fix_added, after_fix}
+use Rattle.pay_account.specs.FixResults.{fix_added, after_fix}
+use Rattle.pay_account.proofs.Results.{added_fix, same_fix_left}
 use Rattle.pay_account.specs.Changes.{Change, Tapped, Fixed, after, after_all, AreAccepted}
 
 abbrev taps_of : List Change → List Tap
@@ -62,14 +63,6 @@ gave_tap tables accepted tap true (Err fault) known taken = absurd (cc)
 
 -- ---- one correction
 
-added_fix : (tables : FareTables) (accepted : Accepted) (fix : Fix) (named : Option ℕ) → after_fix (Ok (prices_on tables (with_fix accepted fix) false named)) accepted fix ≡ with_fix accepted fix
-added_fix tables accepted fix None = refl
-added_fix tables accepted fix (Some day) = refl
-
-same_left : (tables : FareTables) (accepted : Accepted) (fix : Fix) (named : Option ℕ) → after_fix (Ok (prices_on tables accepted true named)) accepted fix ≡ accepted
-same_left tables accepted fix None = refl
-same_left tables accepted fix (Some day) = refl
-
 record TookFix (tables : FareTables) (accepted : Accepted) (fix : Fix) (is : Bool) (r : Result Addition AdditionFault) : Type 0 where
   pub known : is ≡ true
   pub taken : IsOk r
@@ -79,7 +72,7 @@ took_fix : (tables : FareTables) (accepted : Accepted) (fix : Fix) (is : Bool) (
     → TookFix tables accepted fix is r
 took_fix tables accepted fix false r priced e = absurd (cc)
 took_fix tables accepted fix true (Ok Added) priced e = record { known = refl; taken = refl; left = added_fix tables accepted fix (day_named accepted.taps (with_fix accepted fix).fixes fix.what) }
-took_fix tables accepted fix true (Ok Repeat) priced e = record { known = refl; taken = refl; left = same_left tables accepted fix (day_named accepted.taps accepted.fixes fix.what) }
+took_fix tables accepted fix true (Ok Repeat) priced e = record { known = refl; taken = refl; left = same_fix_left tables accepted fix (day_named accepted.taps accepted.fixes fix.what) }
 took_fix tables accepted fix true (Err fault) priced e = absurd (cc)
 
 record GaveFix (tables : FareTables) (accepted : Accepted) (fix : Fix) (is : Bool) (r : Result Addition AdditionFault) : Type 0 where
@@ -90,7 +83,7 @@ record GaveFix (tables : FareTables) (accepted : Accepted) (fix : Fix) (is : Boo
 gave_fix : (tables : FareTables) (accepted : Accepted) (fix : Fix) (is : Bool) (r : Result Addition AdditionFault) → is ≡ true → IsOk r → GaveFix tables accepted fix is r
 gave_fix tables accepted fix false r known taken = absurd (cc)
 gave_fix tables accepted fix true (Ok Added) known taken = record { priced = _; accepts = refl; left = added_fix tables accepted fix (day_named accepted.taps (with_fix accepted fix).fixes fix.what) }
-gave_fix tables accepted fix true (Ok Repeat) known taken = record { priced = _; accepts = refl; left = same_left tables accepted fix (day_named accepted.taps accepted.fixes fix.what) }
+gave_fix tables accepted fix true (Ok Repeat) known taken = record { priced = _; accepts = refl; left = same_fix_left tables accepted fix (day_named accepted.taps accepted.fixes fix.what) }
 gave_fix tables accepted fix true (Err fault) known taken = absurd (cc)
 
 -- ---- all of a list

@@ -13,7 +13,7 @@ use Rattle.pay_taps.specs.declared.tap.Tap.{Tap}
 use Rattle.pay_taps.specs.Words.{judged, number as tap_number}
 use Rattle.pay_fix.specs.declared.fix.Fix.{Fix}
 use Rattle.pay_fix.specs.Words.{judged as judged_fix, number as fix_number, day_named}
-use Rattle.pay_account.specs.declared.fares.Priced.{Priced}
+use Rattle.pay_quotes.specs.declared.priced.Priced.{Priced}
 use Rattle.pay_account.specs.declared.fares.TapFault.TheVariants as of_tap
 use Rattle.pay_account.specs.declared.fares.FixFault.TheVariants as of_fix
 use Rattle.pay_quotes.specs.Accepted.{Accepted, with_tap, with_fix}
@@ -100,11 +100,11 @@ abbrev pub IsRepeatedFix : FareTables → Accepted → Fix → Priced → Type 0
 IsRepeatedFix tables accepted fix priced = fix_result tables (after_fix (Ok priced) accepted fix) fix ≡ Ok (record priced { again = true })
 
 -- what a further correction leaves, where its day may be none
-added_fix : (tables : FareTables) (accepted : Accepted) (fix : Fix) (named : Option ℕ) → after_fix (Ok (prices_on tables (with_fix accepted fix) false named)) accepted fix ≡ with_fix accepted fix
+pub added_fix : (tables : FareTables) (accepted : Accepted) (fix : Fix) (named : Option ℕ) → after_fix (Ok (prices_on tables (with_fix accepted fix) false named)) accepted fix ≡ with_fix accepted fix
 added_fix tables accepted fix None = refl
 added_fix tables accepted fix (Some day) = refl
 
-same_fix_left : (tables : FareTables) (accepted : Accepted) (fix : Fix) (named : Option ℕ) → after_fix (Ok (prices_on tables accepted true named)) accepted fix ≡ accepted
+pub same_fix_left : (tables : FareTables) (accepted : Accepted) (fix : Fix) (named : Option ℕ) → after_fix (Ok (prices_on tables accepted true named)) accepted fix ≡ accepted
 same_fix_left tables accepted fix None = refl
 same_fix_left tables accepted fix (Some day) = refl
 

@@ -14,10 +14,10 @@ use Rattle.pay_taps.specs.declared.tap.Kind.{Kind}
 use Rattle.pay_taps.specs.declared.tap.Kind.TheVariants.{In, Out, Bus}
 use Rattle.pay_taps.specs.declared.tap.Touch.{Touch}
 use Rattle.pay_taps.specs.Words.{in_order}
-use Rattle.pay_account.specs.declared.fares.Priced.{Priced}
-use Rattle.pay_account.specs.declared.shown.Line.{Line}
-use Rattle.pay_account.specs.declared.shown.LineKind.{LineKind}
-use Rattle.pay_account.specs.declared.shown.LineKind.TheVariants as kind
+use Rattle.pay_quotes.specs.declared.priced.Priced.{Priced}
+use Rattle.pay_quotes.specs.declared.shown.Line.{Line}
+use Rattle.pay_quotes.specs.declared.shown.LineKind.{LineKind}
+use Rattle.pay_quotes.specs.declared.shown.LineKind.TheVariants as kind
 use Rattle.pay_account.specs.Journeys.{journeys_of}
 use Rattle.pay_account.specs.Places.{fits}
 use Rattle.pay_account.specs.Prices.{prices_of_touches}

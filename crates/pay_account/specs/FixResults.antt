@@ -7,7 +7,7 @@ use Rattle.pay_numbered.specs.declared.numbered_set.Addition.{Addition}
 use Rattle.pay_numbered.specs.declared.numbered_set.Addition.TheVariants.{Added, Repeat}
 use Rattle.pay_numbered.specs.declared.numbered_set.AdditionFault.{AdditionFault}
 use Rattle.pay_fix.specs.Words.{judged, day_named}
-use Rattle.pay_account.specs.declared.fares.Priced.{Priced}
+use Rattle.pay_quotes.specs.declared.priced.Priced.{Priced}
 use Rattle.pay_account.specs.declared.fares.FixFault.{FixFault}
 use Rattle.pay_account.specs.declared.fares.FixFault.TheVariants.{UnknownPlace, Memory}
 use Rattle.pay_quotes.specs.Accepted.{Accepted, with_fix}

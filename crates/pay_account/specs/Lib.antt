@@ -2,7 +2,6 @@ pub mod Places
 pub mod Journeys
 pub mod Prices
 pub mod WeekCells
-pub mod LinesCode
 pub mod Lines
 pub mod WeekBands
 pub mod Faults
@@ -11,4 +10,5 @@ pub mod FixResults
 pub mod Changes
 pub mod Quotes
 pub mod State
+pub mod Laws
 pub mod Words

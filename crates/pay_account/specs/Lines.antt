@@ -9,10 +9,10 @@ use Rattle.pay_links.specs.Words.{last_leg, first_tap}
 use Rattle.pay_links.specs.declared.journey.Journey.{Journey}
 use Rattle.pay_links.specs.declared.journey.Journey.TheVariants.{Run, Same, Lone, Bus}
 use Rattle.pay_week.specs.Words.{fare, covers, capped_price}
-use Rattle.pay_account.specs.declared.shown.Line.{Line}
-use Rattle.pay_account.specs.declared.shown.LineKind.{LineKind}
-use Rattle.pay_account.specs.declared.shown.LineKind.TheVariants as kind
-use Rattle.pay_account.specs.declared.shown.Shown.{Shown}
+use Rattle.pay_quotes.specs.declared.shown.Line.{Line}
+use Rattle.pay_quotes.specs.declared.shown.LineKind.{LineKind}
+use Rattle.pay_quotes.specs.declared.shown.LineKind.TheVariants as kind
+use Rattle.pay_quotes.specs.declared.shown.Shown.{Shown}
 use Rattle.pay_quotes.specs.Accepted.{Accepted, touches}
 use Rattle.pay_account.specs.Journeys.{journeys_of}
 use Rattle.pay_account.specs.Prices.{journeys_on, is_within, price_of_day}

@@ -7,7 +7,7 @@ use Rattle.pay_taps.specs.declared.tap.Touch.{Touch}
 use Rattle.pay_links.specs.declared.journey.Journey.{Journey}
 use Rattle.pay_links.specs.Words.{first_tap}
 use Rattle.pay_week.specs.Words.{day_price, week_price}
-use Rattle.pay_account.specs.declared.fares.Priced.{Priced}
+use Rattle.pay_quotes.specs.declared.priced.Priced.{Priced}
 use Rattle.pay_quotes.specs.Accepted.{Accepted, touches}
 use Rattle.pay_account.specs.Journeys.{journeys_of, is_on}
 

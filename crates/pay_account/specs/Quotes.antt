@@ -20,6 +20,10 @@ with_fare tables journey = (journey, fare tables journey)
 abbrev pub weights_through : FareTables → List Journey → ℕ → List ℕ
 weights_through tables list through = weights tables (map (with_fare tables) (journeys_through list through))
 
+-- the same by all that an account has accepted
+abbrev pub carried : FareTables → Accepted → ℕ → List ℕ
+carried tables accepted through = weights_through tables (journeys_of tables (touches accepted)) through
+
 -- what is due: the price of the week through a day, less the standing credits of these days
 abbrev pub due_through : FareTables → Accepted → ℕ → ℕ
 due_through tables accepted through = due (price_of_week tables (journeys_of tables (touches accepted)) through) (credits accepted.fixes (monday through) through)
@@ -32,5 +36,5 @@ quote tables account accepted through = record {
   through = through;
   version = version accepted;
   due = due_through tables accepted through;
-  shares = shares (due_through tables accepted through) (weights_through tables (journeys_of tables (touches accepted)) through);
+  shares = shares (due_through tables accepted through) (carried tables accepted through);
 }

@@ -4,7 +4,7 @@ use Rattle.pay_day.specs.declared.limits.TheConstants.{DAYS_PER_WEEK}
 use Rattle.pay_tables.specs.Words.{FareTables}
 use Rattle.pay_links.specs.declared.journey.Journey.{Journey}
 use Rattle.pay_links.specs.Words.{first_tap}
-use Rattle.pay_account.specs.declared.shown.Line.{Line}
+use Rattle.pay_quotes.specs.declared.shown.Line.{Line}
 use Rattle.pay_account.specs.Lines.{line_of_journey}
 
 -- of the bands of a week's days, from Monday on, that of a day of the week

@@ -11,3 +11,4 @@ pub use Rattle.pay_quotes.specs.SetsParts.{SetsParts, AreSets, sets_code, AreTap
 pub use Rattle.pay_account.specs.FixResults.{prices_on, prices_named, fix_added, fix_result, IsFixResult, after_fix}
 pub use Rattle.pay_quotes.specs.declared.posting.Posting.{Posting}
 pub use Rattle.pay_account.specs.State.{State, state_code, accepted_of, ArePriced}
+pub use Rattle.pay_account.specs.Laws.{TapConflicts, TapFindsNoRoom, FixConflicts, FixFindsNoRoom, TapIsPricedAgain, FixIsPricedAgain, OrderIsForgotten, NothingForNothing}

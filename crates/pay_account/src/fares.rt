@@ -8,40 +8,29 @@ ghost use Rattle.pay_account.specs.Lines.{shown, week_lines};
 ghost use Rattle.pay_account.specs.Quotes.{quote};
 ghost use Rattle.pay_quotes.specs.SetsParts.{sets};
 
-use crate::shown::{Lines, Shown};
 use pay_fix::Fix;
-use pay_money::Pence;
 use pay_numbered::AdditionFault;
-use pay_quotes::{Quote, Sets};
+use pay_quotes::{Lines, Priced, Quote, Sets, Shown};
 use pay_tables::Tables;
 use pay_taps::Tap;
 use std::alloc::{AllocError, Global};
-
-/// What is answered to a tap or a correction that is not refused: the prices of the service day that it is of.
-/// A correction is of the day that it names; where it names none, all three numbers are 0.
-#[derive(Clone, Copy, Debug, PartialEq, Eq)]
-pub struct Priced {
-    /// Whether it is a repeat: it had been accepted before, and nothing changed.
-    pub again: bool,
-    /// The service day, counted from 1970-01-01.
-    pub day: u32,
-    /// The price of that day.
-    pub day_price: Pence,
-    /// The price of that day's week, from Monday through Sunday.
-    pub week_price: Pence,
-}
+use thiserror::Error;
 
 /// Why a tap is refused. The account stays as it was.
-#[derive(Clone, Copy, Debug, PartialEq, Eq)]
+#[derive(Clone, Copy, Debug, PartialEq, Eq, Error)]
 pub enum TapFault {
     /// 15: the fare file has no such place, or it is a route and the tap was made at a station, or
     /// the reverse.
+    #[error("15 UnknownPlace")]
     UnknownPlace,
     /// 20: the account has another tap of that number.
+    #[error("20 Conflict")]
     Conflict,
     /// 21: the account has as many taps as it may have.
+    #[error("21 AccountFull")]
     AccountFull,
     /// 90: no memory.
+    #[error("90 Memory")]
     Memory,
 }
 
@@ -72,15 +61,19 @@ impl From<AdditionFault> for TapFault {
 }
 
 /// Why a correction is refused. The account stays as it was.
-#[derive(Clone, Copy, Debug, PartialEq, Eq)]
+#[derive(Clone, Copy, Debug, PartialEq, Eq, Error)]
 pub enum FixFault {
     /// 15: a Fill names no place of the fare file, or one of another sort than its kind needs.
+    #[error("15 UnknownPlace")]
     UnknownPlace,
     /// 22: the account has another correction of that number.
+    #[error("22 FixConflict")]
     FixConflict,
     /// 23: the account has as many corrections as it may have.
+    #[error("23 FixesFull")]
     FixesFull,
     /// 90: no memory.
+    #[error("90 Memory")]
     Memory,
 }
 
@@ -155,14 +148,14 @@ pub trait Fares: Drop {
         ensures after { accepted self.new ≡ after_fix result (accepted self.old) fix }
         ensures priced_by { IsPricedBy tables.now self.new };
 
-    /// Shows the journeys of a service day, counted from 1970-01-01, and its price. An `Err` is want of
+    /// Shows the journeys of a service day, counted from 1970-01-01, and its price. An `Err` is out of
     /// memory.
     fn show(&self, tables: &Tables, day: u32) -> Result<Shown, AllocError>
         requires { IsPricedBy tables.now self.now }
         ensures { IfOk result (λ it. it ≡ shown tables.now (account self.now) (accepted self.now) day) };
 
     /// What is owed of the week of a service day, counted from 1970-01-01, through that day, and what of it
-    /// each operator gets. An `Err` is want of memory.
+    /// each operator gets. An `Err` is out of memory.
     fn quote(&self, tables: &Tables, through: u32) -> Result<Quote, AllocError>
         requires numbered { 1 ≤ account self.now }
         requires is_day { IsDay through }
@@ -170,7 +163,7 @@ pub trait Fares: Drop {
         ensures { IfOk result (λ it. it ≡ quote tables.now (account self.now) (accepted self.now) through) };
 
     /// The journeys of a week, whose Monday is counted from 1970-01-01, in the order of their first taps. Each
-    /// is shown with the band that gives the price of its own day, where that covers it. An `Err` is want of
+    /// is shown with the band that gives the price of its own day, where that covers it. An `Err` is out of
     /// memory.
     fn lines(&self, tables: &Tables, week: u32) -> Result<Lines, AllocError>
         requires is_day { IsDay week }
@@ -178,7 +171,7 @@ pub trait Fares: Drop {
         requires priced_by { IsPricedBy tables.now self.now }
         ensures { IfOk result (λ it. it ≡ week_lines tables.now (accepted self.now) week) };
 
-    /// All that the account has accepted. An `Err` is want of memory.
+    /// All that the account has accepted. An `Err` is out of memory.
     fn sets(&self) -> Result<Sets, AllocError>
         ensures { IfOk result (λ it. it ≡ sets (account self.now) (accepted self.now)) };
 }

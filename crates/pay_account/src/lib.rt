@@ -9,11 +9,9 @@ mod lines;
 mod places;
 mod prices;
 mod quoting;
-mod shown;
 mod week_cells;
 mod week_lines;
 
 pub use account::Account;
-pub use fares::{Fares, FixFault, Priced, TapFault};
-pub use pay_quotes::{Posting, Postings, Quote, Sets};
-pub use shown::{Line, LineKind, Lines, Shown};
+pub use fares::{Fares, FixFault, TapFault};
+pub use pay_quotes::{Line, LineKind, Lines, Posting, Postings, Priced, Quote, Sets, Shown};

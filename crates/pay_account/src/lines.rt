@@ -7,8 +7,8 @@ ghost use Rattle.pay_account.specs.Prices.{journeys_on};
 ghost use Rattle.pay_account.specs.Lines.{line_kind, from_of, to_of, line_band, line_of_journey, lines_on};
 
 use crate::journeys::is_on;
-use crate::shown::{Line, LineKind, Lines};
 use pay_links::Journey;
+use pay_quotes::{Line, LineKind, Lines};
 use pay_tables::Tables;
 use pay_taps::Kind;
 use pay_week::{covers, fare};

@@ -4,12 +4,12 @@ ghost use Rattle.pay_fix.specs.declared.limits.TheConstants.{MOST_TOUCHES};
 ghost use Rattle.pay_week.specs.Words.{capped_price};
 ghost use Rattle.pay_account.specs.Prices.{journeys_on, price_of_day, prices_of_touches};
 
-use crate::fares::Priced;
 use crate::journeys::rail_journeys;
 use crate::week_cells::{cells_of_week, cells_on};
 use pay_day::day_of_week;
 use pay_links::Journey;
 use pay_money::Pence;
+use pay_quotes::Priced;
 use pay_tables::Tables;
 use pay_taps::Touch;
 use pay_week::{day_price, week_price};

@@ -3,7 +3,8 @@ ghost use Rattle.pay_day.specs.Words.{IsDay, sunday};
 ghost use Rattle.pay_hopper.specs.Words.{last_paid_after};
 ghost use Rattle.pay_tables.specs.declared.limits.TheConstants.{MOST_FARE};
 ghost use Rattle.pay_fix.specs.declared.limits.TheConstants.{MOST_TOUCHES};
-ghost use Rattle.pay_week.specs.Words.{MOST_SUM, cells_of, total};
+ghost use Rattle.pay_money.specs.declared.limits.TheConstants.{MOST_MONEY};
+ghost use Rattle.pay_week.specs.Words.{cells_of, total};
 ghost use Rattle.pay_account.specs.Journeys.{boardings, is_bus, next_boarding};
 ghost use Rattle.pay_account.specs.Prices.{days_through, journeys_on};
 ghost use Rattle.pay_account.specs.WeekCells.{week_with_journey, week_with_journeys, with_journey};
@@ -21,7 +22,7 @@ pub type Week = [Cells; DAYS_PER_WEEK as usize];
 
 /// Adds the fare of a journey to the sums of its day, where that is of the week.
 fn add_journey(week: &mut Week, tables: &Tables, journey: &Journey, monday: u32)
-    requires { sum_by total week.old + MOST_FARE ≤ MOST_SUM }
+    requires { sum_by total week.old + MOST_FARE ≤ MOST_MONEY }
     ensures value { week.new ≡ week_with_journey tables.now monday week.old journey.now }
     ensures in_range { sum_by total week.new ≤ sum_by total week.old + MOST_FARE }
 {
@@ -34,7 +35,7 @@ fn add_journey(week: &mut Week, tables: &Tables, journey: &Journey, monday: u32)
 
 /// Adds the fares of journeys.
 fn add_journeys(week: &mut Week, tables: &Tables, journeys: &[Journey], monday: u32)
-    requires { sum_by total week.old + length journeys.now * MOST_FARE ≤ MOST_SUM }
+    requires { sum_by total week.old + length journeys.now * MOST_FARE ≤ MOST_MONEY }
     ensures value { week.new ≡ week_with_journeys tables.now monday week.old journeys.now }
     ensures in_range { sum_by total week.new ≤ sum_by total week.old + length journeys.now * MOST_FARE }
 {
@@ -52,7 +53,7 @@ fn add_boarding(
     touch: &Touch,
     monday: u32,
 )
-    requires { sum_by total week.old + MOST_FARE ≤ MOST_SUM }
+    requires { sum_by total week.old + MOST_FARE ≤ MOST_MONEY }
     ensures last_paid { last_paid.new ≡ (if is_bus touch.now then last_paid_after tables.now.rules.hopper last_paid.old touch.now.stamp else last_paid.old) }
     ensures value { week.new ≡ (if is_bus touch.now then week_with_journey tables.now monday week.old (next_boarding tables.now.rules.hopper last_paid.old touch.now) else week.old) }
     ensures in_range { sum_by total week.new ≤ sum_by total week.old + MOST_FARE }
@@ -64,7 +65,7 @@ fn add_boarding(
 
 /// Adds the fares of the boardings among touches in order.
 fn add_boardings(week: &mut Week, tables: &Tables, touches: &[Touch], monday: u32)
-    requires { sum_by total week.old + length touches.now * MOST_FARE ≤ MOST_SUM }
+    requires { sum_by total week.old + length touches.now * MOST_FARE ≤ MOST_MONEY }
     ensures { week.new ≡ week_with_journeys tables.now monday week.old (boardings tables.now touches.now) }
 {
     pay_hopper::laws::by_the_last();
@@ -104,7 +105,7 @@ pub fn cells_of_days(tables: &Tables, journeys: &[Journey], day: u32) -> Week
 
 /// Adds the fare of a journey, where it is of a service day.
 fn add_on(cells: &mut Cells, tables: &Tables, journey: &Journey, day: u32)
-    requires { total cells.old + MOST_FARE ≤ MOST_SUM }
+    requires { total cells.old + MOST_FARE ≤ MOST_MONEY }
     ensures value { cells.new ≡ with_journey tables.now day cells.old journey.now }
     ensures in_range { total cells.new ≤ total cells.old + MOST_FARE }
 {

@@ -14,7 +14,7 @@ use Rattle.pay_caps.specs.CellSums.{CellSums}
 use Rattle.pay_caps.specs.Covers.{IsCell}
 use Rattle.pay_caps.specs.Cells.{AreSums, all_spans, span_at, added, taken, changed_at, sum_at, sum_where, spans_outside}
 use Rattle.pay_caps.proofs.Sums.{if_passed}
-use Rattle.pay_caps.proofs.AllSpans.{place_of, at_its_place, place_is}
+use Rattle.pay_caps.proofs.AllSpans.{place_of, at_its_place}
 use Rattle.pay_caps.proofs.Weights.{weighed, weighed_at, weighs_at_most, weighs_more, changed_is_set, place_below}
 use Rattle.pay_caps.proofs.Steps.{weighs_from, half_cleared, one_cleared, cleared_at_most, cleared_length}
 

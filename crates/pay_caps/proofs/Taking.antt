@@ -1,11 +1,9 @@
 -- A journey's fare among the sums of journeys, and the sums without it.
-use Rattle.std.proofs.Common.{◌≡◌, ℕ, ◌+◌, ◌≤◌, List, ◌∷◌, ◌++◌, length, ap, ◌∙◌, arith}
+use Rattle.std.proofs.Common.{◌≡◌, ◌≤◌, List, ◌∷◌, ◌++◌, ap, ◌∙◌, arith}
 use Rattle.std.proofs.lemmas.List.Sorted.{IsPermutation-middle}
 use Rattle.pay_tables.specs.declared.limits.TheConstants.{MOST_ZONES}
 use Rattle.pay_tables.specs.Words.{FareTables}
 use Rattle.pay_fares.specs.Words.{Journey, fare}
-use Rattle.pay_caps.specs.declared.limits.TheConstants.{SPANS}
-use Rattle.pay_caps.specs.CellSums.{CellSums}
 use Rattle.pay_caps.specs.Covers.{cell_of, IsCell}
 use Rattle.pay_caps.specs.Cells.{added, taken, sum_at, cells_of}
 use Rattle.pay_caps.proofs.CellLaws.{one_journey_more, cells_in_any_order, taken_again}

@@ -10,7 +10,8 @@ use Rattle.pay_tables.specs.Words.{FareTables, covers_span}
 use Rattle.pay_fares.specs.Words.{Journey, fare}
 use Rattle.pay_caps.specs.declared.cell.Cell.{Cell}
 use Rattle.pay_caps.specs.declared.cell.Cell.TheVariants.{Rail, Buses, Maximum}
-use Rattle.pay_caps.specs.declared.limits.TheConstants.{MOST_SUM, SPANS}
+use Rattle.pay_caps.specs.declared.limits.TheConstants.{SPANS}
+use Rattle.pay_money.specs.declared.limits.TheConstants.{MOST_MONEY}
 use Rattle.pay_caps.specs.CellSums.{CellSums}
 use Rattle.pay_caps.specs.Covers.{cell_of}
 
@@ -65,7 +66,7 @@ total sums = capped_sum sums + sums.maximum
 -- what sums are: one for each span, and together no more than the highest sum
 pub record AreSums (sums : CellSums) : Type 0 where
   pub spans : length sums.spans ≡ SPANS
-  pub fits : total sums ≤ MOST_SUM
+  pub fits : total sums ≤ MOST_MONEY
 
 -- what a band leaves outside: the journeys by rail that it does not cover; all boardings are covered, and no maximum fare is
 abbrev pub outside_sum : Cover → CellSums → ℕ

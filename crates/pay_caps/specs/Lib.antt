@@ -3,4 +3,5 @@ pub mod Covers
 pub mod Cells
 pub mod Lowest
 pub mod DayPrices
+pub mod Laws
 pub mod Words

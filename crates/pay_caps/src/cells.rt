@@ -1,6 +1,7 @@
 ghost use Rattle.std.specs.Prelude.{◌≡◌, ◌≤◌, ◌<◌, ◌+◌, not, if◌then◌else◌, length, sum, slice_get, slice_index};
 ghost use Rattle.pay_tables.specs.declared.limits.TheConstants.{MOST_ZONES};
-ghost use Rattle.pay_caps.specs.declared.limits.TheConstants.{MOST_SUM, SPANS};
+ghost use Rattle.pay_caps.specs.declared.limits.TheConstants.{SPANS};
+ghost use Rattle.pay_money.specs.declared.limits.TheConstants.{MOST_MONEY};
 ghost use Rattle.pay_tables.specs.Words.{IsSpan, covers_span};
 ghost use Rattle.pay_caps.specs.Covers.{IsCell};
 ghost use Rattle.pay_caps.specs.Cells.{span_at, no_fares, added, taken, sum_at, total, capped_sum, sum_where, outside_sum, spans_outside, outside, outside_of};
@@ -111,7 +112,7 @@ impl Cells {
     /// One fare more.
     pub fn add(&mut self, cell: Cell, fare: Pence)
         requires is_cell { IsCell MOST_ZONES cell }
-        requires fits { total self.old + fare ≤ MOST_SUM }
+        requires fits { total self.old + fare ≤ MOST_MONEY }
         ensures value { self.new ≡ added cell fare self.old }
         ensures sum { total self.new ≡ total self.old + fare }
         ensures there { sum_at cell self.new ≡ sum_at cell self.old + fare }
@@ -145,7 +146,7 @@ impl Cells {
     /// The sum of all fares but the maximum fares.
     pub fn capped_sum(&self) -> Pence
         ensures value { result ≡ capped_sum self.now }
-        ensures in_range { result + self.now.maximum ≤ MOST_SUM }
+        ensures in_range { result + self.now.maximum ≤ MOST_MONEY }
     {
         self.buses + sum_of(&self.spans)
     }
@@ -153,7 +154,7 @@ impl Cells {
     /// The sum of the maximum fares.
     pub fn maximum(&self) -> Pence
         ensures value { result ≡ self.now.maximum }
-        ensures in_range { result ≤ MOST_SUM }
+        ensures in_range { result ≤ MOST_MONEY }
     {
         self.maximum
     }
@@ -161,7 +162,7 @@ impl Cells {
     /// The sum of the fares that a band leaves outside, without the maximum fares.
     pub fn outside_sum(&self, cover: Cover) -> Pence
         ensures value { result ≡ outside_sum cover self.now }
-        ensures in_range { result ≤ MOST_SUM }
+        ensures in_range { result ≤ MOST_MONEY }
     {
         sum_outside(&self.spans, cover)
     }
@@ -190,7 +191,7 @@ impl Cells {
 
 /// The sum of all spans.
 fn sum_of(spans: &[Pence]) -> Pence
-    requires { sum spans.now ≤ MOST_SUM }
+    requires { sum spans.now ≤ MOST_MONEY }
     ensures { result ≡ sum spans.now }
 {
     let mut total = Pence::ZERO;
@@ -215,9 +216,9 @@ fn outside_at(spans: &[Pence], cover: Cover, place: usize) -> Pence
 /// The sum of the spans that are not covered.
 fn sum_outside(spans: &[Pence], cover: Cover) -> Pence
     requires all { length spans.now ≡ SPANS }
-    requires fits { sum spans.now ≤ MOST_SUM }
+    requires fits { sum spans.now ≤ MOST_MONEY }
     ensures value { result ≡ sum_where (λ span. not (covers_span cover span)) spans.now }
-    ensures in_range { result ≤ MOST_SUM }
+    ensures in_range { result ≤ MOST_MONEY }
 {
     let mut total = Pence::ZERO;
     for place in 0..SPANS {

@@ -1,6 +1,6 @@
 ghost use Rattle.std.specs.Prelude.{◌≡◌, ◌≤◌, ◌+◌, Some};
 ghost use Rattle.pay_tables.specs.declared.limits.TheConstants.{MOST_FARE};
-ghost use Rattle.pay_caps.specs.declared.limits.TheConstants.{MOST_SUM};
+ghost use Rattle.pay_money.specs.declared.limits.TheConstants.{MOST_MONEY};
 ghost use Rattle.pay_caps.specs.Cells.{capped_sum, outside_sum, total};
 ghost use Rattle.pay_caps.specs.Lowest.{lower};
 ghost use Rattle.pay_caps.specs.DayPrices.{capped_price_of, day_price_of};
@@ -43,7 +43,7 @@ fn lower_of(best: Offer, cells: &Cells, band: &Band, place: u8) -> Offer
 pub fn capped_price(tables: &Tables, cells: &Cells) -> Offer
     ensures value { result ≡ capped_price_of tables.now cells.now }
     ensures no_more { result.0 ≤ capped_sum cells.now }
-    ensures in_range { result.0 + cells.now.maximum ≤ MOST_SUM }
+    ensures in_range { result.0 + cells.now.maximum ≤ MOST_MONEY }
 {
     let bands = tables.bands();
     let mut best = (cells.capped_sum(), None);

@@ -1,6 +1,6 @@
 //! What is true of sums and prices themselves. Each law is the contract of a function that does nothing:
 //! a caller whose proof needs a law calls its function.
-ghost use Rattle.std.specs.Prelude.{◌≡◌, ◌≤◌, ℕ, ◌+◌, ◌∷◌, ◌++◌, [], List, length, filter, IsPermutation};
+ghost use Rattle.std.specs.Prelude.{◌≡◌, ◌≤◌, ℕ, ◌∷◌, ◌++◌, [], List, length, IsPermutation};
 ghost use Rattle.pay_tables.specs.declared.band.Band.{Band};
 ghost use Rattle.pay_tables.specs.declared.limits.TheConstants.{MOST_ZONES};
 ghost use Rattle.pay_tables.specs.Words.{FareTables};
@@ -8,10 +8,11 @@ ghost use Rattle.pay_fares.specs.Words.{Journey, fare};
 ghost use Rattle.pay_caps.specs.declared.cell.Cell.{Cell};
 ghost use Rattle.pay_caps.specs.declared.limits.TheConstants.{SPANS};
 ghost use Rattle.pay_caps.specs.CellSums.{CellSums};
-ghost use Rattle.pay_caps.specs.Covers.{cell_of, IsCell, is_capped};
+ghost use Rattle.pay_caps.specs.Covers.{cell_of, IsCell};
 ghost use Rattle.pay_caps.specs.Cells.{no_fares, added, taken, sum_at, cells_of, outside, total};
 ghost use Rattle.pay_caps.specs.Lowest.{charged};
 ghost use Rattle.pay_caps.specs.DayPrices.{fares, not_covered, capped_price, maximum_fares, day_price, capped_price_of, day_price_of};
+ghost use Rattle.pay_caps.specs.Laws.{OthersAreLeft, DayIsWithinBand, ChargeIsWithinBand};
 
 use pay_tables::Tables;
 
@@ -32,8 +33,7 @@ pub fn sums()
 pub fn takes(tables: &Tables)
     ensures there { (before : List Journey) (journey : Journey) (after : List Journey) →
         fare tables.now journey ≤ sum_at (cell_of tables.now journey) (cells_of tables.now (before ++ journey ∷ after)) }
-    ensures left { (before : List Journey) (journey : Journey) (after : List Journey) →
-        taken (cell_of tables.now journey) (fare tables.now journey) (cells_of tables.now (before ++ journey ∷ after)) ≡ cells_of tables.now (before ++ after) }
+    ensures left { OthersAreLeft tables.now }
 {
     day_prices(tables);
 }
@@ -59,8 +59,7 @@ pub fn day_prices(tables: &Tables)
 /// journey more never makes it cheaper.
 pub fn bounds()
     ensures by_fares { (tables : FareTables) (list : List Journey) → day_price tables list ≤ fares tables list }
-    ensures by_band { (tables : FareTables) (list : List Journey) (before : List Band) (band : Band) (after : List Band) → tables.bands ≡ before ++ band ∷ after →
-        day_price tables list ≤ band.day + fares tables (not_covered tables band (filter is_capped list)) + maximum_fares tables list }
+    ensures by_band { DayIsWithinBand }
     ensures grows { (tables : FareTables) (before : List Journey) (journey : Journey) (after : List Journey) →
         day_price tables (before ++ after) ≤ day_price tables (before ++ journey ∷ after) }
     ensures capped_grows { (tables : FareTables) (before : List Journey) (journey : Journey) (after : List Journey) →
@@ -74,8 +73,7 @@ pub fn bounds()
 /// each leaves more.
 pub fn charges()
     ensures by_all { (cap : Band → ℕ) (all : ℕ) (outside : Band → ℕ) (bands : List Band) → (charged cap all outside bands).0 ≤ all }
-    ensures by_band { (cap : Band → ℕ) (all : ℕ) (outside : Band → ℕ) (bands before : List Band) (band : Band) (after : List Band) → bands ≡ before ++ band ∷ after →
-        (charged cap all outside bands).0 ≤ cap band + outside band }
+    ensures by_band { ChargeIsWithinBand }
     ensures same { (cap : Band → ℕ) (all other : ℕ) (f g : Band → ℕ) (bands : List Band) → all ≡ other → ((band : Band) → f band ≡ g band) →
         charged cap all f bands ≡ charged cap other g bands }
     ensures grows { (cap : Band → ℕ) (all other : ℕ) (f g : Band → ℕ) (bands : List Band) → all ≤ other → ((band : Band) → f band ≤ g band) →

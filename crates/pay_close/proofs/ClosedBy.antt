@@ -1,26 +1,24 @@
 -- What a close comes to, by what was gathered and what the ledger did.
-use Rattle.std.proofs.Common.{◌≡◌, ℕ, Bool, true, false, not, ◌||◌, List, [], ◌∷◌, ◌++◌, Option, Result, Ok, Err, IsTrue, refl, sym, ap, ◌∙◌, subst, inl, inr, arith}
+use Rattle.std.proofs.Common.{◌≡◌, ℕ, Bool, true, false, not, ◌||◌, List, [], ◌∷◌, ◌++◌, Option, Result, Ok, Err, IsTrue, IfErr, refl, sym, ap, ◌∙◌, subst, inl, inr, arith}
 use Rattle.std.specs.List.{list_any}
 use Rattle.sqlite.specs.State.{State, HasCleanDisk, Survives}
 use Rattle.pay_account.specs.Words.{Posting, QuoteParts, SetsParts}
 use Rattle.pay_postings.specs.Words.{LedgerParts, posted}
 use Rattle.pay_postings.specs.declared.fault.PostFault.{PostFault}
 use Rattle.pay_postings.specs.declared.fault.PostFault.TheVariants as post
-use Rattle.pay_ledger.specs.Faults.{is_of_store}
-use Rattle.pay_ledger.specs.Keeps.{IsLedger}
-use Rattle.pay_ledger.specs.Steps.{Posts, IsAsBefore, IsRefused, MayLeave}
+use Rattle.pay_ledger.specs.Words.{is_of_store, IsLedger, Posts, IsAsBefore, IsRefused, MayLeave}
 use Rattle.pay_ledger.specs.declared.fault.LedgerFault.{LedgerFault}
 use Rattle.pay_ledger.specs.declared.fault.LedgerFault.TheVariants as ledger_fault
 use Rattle.pay_shard.specs.Words.{BatchParts}
 use Rattle.pay_shard.specs.declared.asked.Asked.{Asked}
 use Rattle.pay_shard.specs.declared.desk.DeskFault.{DeskFault}
 use Rattle.pay_shard.specs.declared.reply.Answer.{Answer}
-use Rattle.pay_session.specs.Words.{Taken, AreQuotes, IsShort, IsClosed}
+use Rattle.pay_session.specs.Words.{Taken, AreQuotes, IsShort, is_of_close, IsClosed}
 use Rattle.pay_session.specs.Served.{brings_quotes}
-use Rattle.pay_session.specs.declared.till.CloseFault.{CloseFault}
-use Rattle.pay_session.specs.declared.till.CloseFault.TheVariants as close_fault
+use Rattle.pay_wire.specs.declared.refusal.Refusal.{Refusal}
+use Rattle.pay_wire.specs.declared.refusal.Refusal.TheVariants as refusal
 use Rattle.pay_close.specs.Batches.{gathered, IsWhole}
-use Rattle.pay_close.specs.Faults.{close_fault_of_post, close_fault_of, is_outside}
+use Rattle.pay_close.specs.Faults.{refusal_of_posting, refusal_of_close, is_outside}
 use Rattle.pay_close.specs.Gathers.{IsStopped, IsTold, IsAsked}
 use Rattle.pay_close.proofs.Gathering.{weaker}
 use Rattle.pay_close.specs.Closes.{ClosesBy, IsWhy, IsWhySaid, Closes, as_said, IsClosedSo}
@@ -142,23 +140,36 @@ module _ (Refuses : DeskFault → Type 0) (Late : Type 0) (of : ℕ) where
   short_of fault put (inl f) = inl (fault, f.refuses)
   short_of fault put (inr f) = inr (ap (list_any (λ (t : Taken). not (brings_quotes t.answer))) f.parts ∙ one_lacks f.front f.first f.later f.without)
 
-  refused_otherwise : (why : PostFault) → close_fault_of_post why ≡ close_fault.DeskFault → ⊥
+  refused_otherwise : (why : PostFault) → refusal_of_posting why ≡ refusal.DeskFault → ⊥
   refused_otherwise post.BadArchive e = cc
   refused_otherwise (post.StaleQuote account version through) e = cc
   refused_otherwise post.QuoteDiffers e = cc
   refused_otherwise post.ArchiveConflict e = cc
   refused_otherwise post.Memory e = cc
 
-  fault_in : (fault other : CloseFault) → ◌≡◌ {A = Result (List Posting) CloseFault} (Err fault) (Err other) → fault ≡ other
+  fault_in : (fault other : Refusal) → ◌≡◌ {A = Result (List Posting) Refusal} (Err fault) (Err other) → fault ≡ other
   fault_in fault other e = cc
 
-  short : (old new : State) (put : List Taken) (result : Result (List Posting) NotClosed) → ClosedSo old new put result → as_said result ≡ Err close_fault.DeskFault → IsShort Refuses Late put
+  short : (old new : State) (put : List Taken) (result : Result (List Posting) NotClosed) → ClosedSo old new put result → as_said result ≡ Err refusal.DeskFault → IsShort Refuses Late put
   short old new put (Ok given) f e = absurd (cc)
   short old new put (Err (Desk fault)) f e = short_of fault put (f.stopped fault refl)
   short old new put (Err (Ledger ledger_fault.Store)) f e = absurd (cc)
   short old new put (Err (Ledger (ledger_fault.Refused why))) f e = absurd (refused_otherwise why (fault_in _ _ e))
 
-  of_store : (why : PostFault) → IsTrue (is_of_store (ledger_fault.Refused why)) → IsTrue (is_outside (close_fault_of_post why))
+  posting_of_close : (why : PostFault) → IsTrue (is_of_close (refusal_of_posting why))
+  posting_of_close post.BadArchive = refl
+  posting_of_close (post.StaleQuote account version through) = refl
+  posting_of_close post.QuoteDiffers = refl
+  posting_of_close post.ArchiveConflict = refl
+  posting_of_close post.Memory = refl
+
+  said_of_close : (result : Result (List Posting) NotClosed) → IfErr (as_said result) (λ why. IsTrue (is_of_close why))
+  said_of_close (Ok given) = tt
+  said_of_close (Err (Desk fault)) = refl
+  said_of_close (Err (Ledger ledger_fault.Store)) = refl
+  said_of_close (Err (Ledger (ledger_fault.Refused why))) = posting_of_close why
+
+  of_store : (why : PostFault) → IsTrue (is_of_store (ledger_fault.Refused why)) → IsTrue (is_outside (refusal_of_posting why))
   of_store post.BadArchive e = absurd (cc)
   of_store (post.StaleQuote account version through) e = absurd (cc)
   of_store post.QuoteDiffers e = absurd (cc)
@@ -168,17 +179,17 @@ module _ (Refuses : DeskFault → Type 0) (Late : Type 0) (of : ℕ) where
   refused_is : (why other : PostFault) → ◌≡◌ {A = LedgerFault} (ledger_fault.Refused why) (ledger_fault.Refused other) → why ≡ other
   refused_is why other e = cc
 
-  why_said : (put : List Taken) (ledger : LedgerParts) (fault : NotClosed) → IsWhy of put ledger fault → IsWhySaid of put ledger (close_fault_of fault)
+  why_said : (put : List Taken) (ledger : LedgerParts) (fault : NotClosed) → IsWhy of put ledger fault → IsWhySaid of put ledger (refusal_of_close fault)
   why_said put ledger (Desk fault) f = inl refl
   why_said put ledger (Ledger ledger_fault.Store) f = inl refl
   why_said put ledger (Ledger (ledger_fault.Refused why)) (inl store) = inl (of_store why store)
-  why_said put ledger (Ledger (ledger_fault.Refused why)) (inr f) = inr (f.0, ap close_fault_of_post (refused_is why f.0 f.1), f.2, f.3)
+  why_said put ledger (Ledger (ledger_fault.Refused why)) (inr f) = inr (f.0, ap refusal_of_posting (refused_is why f.0 f.1), f.2, f.3)
 
   said_closes : (old new : State) (put : List Taken) (result : Result (List Posting) NotClosed) → ClosesBy (IsWhy of put) old new of put result → Closes old new of put (as_said result)
   said_closes old new put (Ok given) f = record { closed = f.closed; refused = λ clean. tt; kept = f.kept; survives = f.survives }
   said_closes old new put (Err fault) f = record { closed = λ clean. tt; refused = λ clean ledger is. why_said put ledger fault (f.refused clean ledger is); kept = f.kept; survives = f.survives }
 
-  pub till_closed : (old new : State) (day : ℕ) (before after : List (ℕ × Asked)) (transcript : ℕ → Option Answer) (result : Result (List Posting) NotClosed) (said : Result (List Posting) CloseFault) → said ≡ as_said result
+  pub till_closed : (old new : State) (day : ℕ) (before after : List (ℕ × Asked)) (transcript : ℕ → Option Answer) (result : Result (List Posting) NotClosed) (said : Result (List Posting) Refusal) → said ≡ as_said result
       → IsAsked Refuses Late (AreQuotes day of 0) before after transcript (λ put. ClosedSo old new put result)
       → IsClosed Refuses Late (λ put answer. Closes old new of put answer) day of before after transcript said
   till_closed old new day before after transcript result said is f = record {
@@ -187,17 +198,18 @@ module _ (Refuses : DeskFault → Type 0) (Late : Type 0) (of : ℕ) where
       quotes = f.quotes;
       in_time = f.in_time;
       short = λ e. short old new f.put result f.told (sym is ∙ e);
-      closes = subst (λ (r : Result (List Posting) CloseFault). Closes old new of f.put r) (sym is) (said_closes old new f.put result f.told.closes);
+      of_close = subst (λ (r : Result (List Posting) Refusal). IfErr r (λ why. IsTrue (is_of_close why))) (sym is) (said_of_close result);
+      closes = subst (λ (r : Result (List Posting) Refusal). Closes old new of f.put r) (sym is) (said_closes old new f.put result f.told.closes);
     };
     added = f.added;
     answered = f.answered;
   }
 
-  pub till_refused : (old new : State) (day : ℕ) (before after : List (ℕ × Asked)) (transcript : ℕ → Option Answer) (its : NotClosed) (fault : CloseFault) (said : Result (List Posting) CloseFault) → said ≡ Err fault → fault ≡ close_fault_of its
+  pub till_refused : (old new : State) (day : ℕ) (before after : List (ℕ × Asked)) (transcript : ℕ → Option Answer) (its : NotClosed) (fault : Refusal) (said : Result (List Posting) Refusal) → said ≡ Err fault → fault ≡ refusal_of_close its
       → IsAsked Refuses Late (AreQuotes day of 0) before after transcript (λ put. ClosedSo old new put (Err its))
       → IsClosed Refuses Late (λ put answer. Closes old new of put answer) day of before after transcript said
   till_refused old new day before after transcript its fault said is e f =
-      till_closed old new day before after transcript (Err its) said (is ∙ ap (λ (w : CloseFault). Err w) e) f
+      till_closed old new day before after transcript (Err its) said (is ∙ ap (λ (w : Refusal). Err w) e) f
 
   -- ---- over a desk
 

@@ -4,16 +4,14 @@ use Rattle.sqlite.specs.State.{State, HasCleanDisk, Survives}
 use Rattle.pay_account.specs.Words.{Posting}
 use Rattle.pay_postings.specs.Words.{LedgerParts, posted}
 use Rattle.pay_postings.specs.declared.fault.PostFault.{PostFault}
-use Rattle.pay_ledger.specs.Faults.{is_of_store}
-use Rattle.pay_ledger.specs.Keeps.{IsLedger}
-use Rattle.pay_ledger.specs.Steps.{Posts, IsAsBefore, MayLeave}
+use Rattle.pay_ledger.specs.Words.{is_of_store, IsLedger, Posts, IsAsBefore, MayLeave}
 use Rattle.pay_ledger.specs.declared.fault.LedgerFault.TheVariants as ledger_fault
 use Rattle.pay_shard.specs.Words.{DeskParts}
 use Rattle.pay_shard.specs.declared.desk.DeskFault.{DeskFault}
 use Rattle.pay_session.specs.Words.{Taken, MaySometimeRefuse, MaySometimeBeLate}
-use Rattle.pay_session.specs.declared.till.CloseFault.{CloseFault}
+use Rattle.pay_wire.specs.declared.refusal.Refusal.{Refusal}
 use Rattle.pay_close.specs.Batches.{gathered, IsWhole}
-use Rattle.pay_close.specs.Faults.{close_fault_of_post, close_fault_of, is_outside}
+use Rattle.pay_close.specs.Faults.{refusal_of_posting, refusal_of_close, is_outside}
 use Rattle.pay_close.specs.Gathers.{IsStopped}
 use Rattle.pay_close.specs.declared.fault.NotClosed.{NotClosed}
 use Rattle.pay_close.specs.declared.fault.NotClosed.TheVariants.{Desk, Ledger}
@@ -37,16 +35,16 @@ IsWhy of put ledger (Desk fault) = ⊤
 IsWhy of put ledger (Ledger fault) = IsTrue (is_of_store fault) ⊎ ((why : PostFault) × (fault ≡ ledger_fault.Refused why) × IsWhole of put × (posted_of ledger put ≡ Err why))
 
 -- the same of what a session's line says
-abbrev pub IsWhySaid : ℕ → List Taken → LedgerParts → CloseFault → Type 0
-IsWhySaid of put ledger fault = IsTrue (is_outside fault) ⊎ ((why : PostFault) × (fault ≡ close_fault_of_post why) × IsWhole of put × (posted_of ledger put ≡ Err why))
+abbrev pub IsWhySaid : ℕ → List Taken → LedgerParts → Refusal → Type 0
+IsWhySaid of put ledger fault = IsTrue (is_outside fault) ⊎ ((why : PostFault) × (fault ≡ refusal_of_posting why) × IsWhole of put × (posted_of ledger put ≡ Err why))
 
 -- a close as a session's line says it
-abbrev pub Closes : State → State → ℕ → List Taken → Result (List Posting) CloseFault → Type 0
+abbrev pub Closes : State → State → ℕ → List Taken → Result (List Posting) Refusal → Type 0
 Closes old new of put = ClosesBy (IsWhySaid of put) old new of put
 
-abbrev pub as_said : Result (List Posting) NotClosed → Result (List Posting) CloseFault
+abbrev pub as_said : Result (List Posting) NotClosed → Result (List Posting) Refusal
 as_said (Ok given) = Ok given
-as_said (Err fault) = Err (close_fault_of fault)
+as_said (Err fault) = Err (refusal_of_close fault)
 
 -- With `Refuses` for how a desk may refuse a command, and `Late` for whether a reply of it may be late.
 module _ (Refuses : DeskFault → Type 0) (Late : Type 0) where

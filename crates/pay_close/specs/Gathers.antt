@@ -1,6 +1,6 @@
 -- How shards are asked for their quotes of a day, and why these may not all come.
 use Rattle.std.specs.Prelude.{◌≡◌, ◌⊎◌, ℕ, ◌≤◌, ◌<◌, false, List, [], ◌∷◌, ◌++◌, length, Option, Some, None, Result, Ok, Err}
-use Rattle.pay_ledger.specs.Faults.{wants_memory}
+use Rattle.pay_ledger.specs.Words.{wants_memory}
 use Rattle.pay_shard.specs.Words.{BatchParts, DeskParts}
 use Rattle.pay_shard.specs.declared.asked.Asked.{Asked}
 use Rattle.pay_shard.specs.declared.desk.DeskFault.{DeskFault}

@@ -1,42 +1,23 @@
 //! Why a day is not closed.
 ghost use Rattle.std.specs.Prelude.{◌≡◌};
-ghost use Rattle.pay_close.specs.Faults.{not_closed_number, not_closed_name, close_fault_of_post};
+ghost use Rattle.pay_close.specs.Faults.{refusal_of_posting};
 
 use pay_ledger::LedgerFault;
 use pay_postings::PostFault;
-use pay_session::CloseFault;
 use pay_shard::DeskFault;
+use pay_wire::Refusal;
 use std::alloc::AllocError;
+use thiserror::Error;
 
 /// Why a day is not closed. Nothing was posted.
-#[derive(Clone, Copy, Debug, PartialEq, Eq)]
+#[derive(Clone, Copy, Debug, PartialEq, Eq, Error)]
 pub enum NotClosed {
     /// 44: the quotes did not all come, for the desk's first fault. That is `Memory` too where a reply brings no quotes.
+    #[error("44 DeskFault")]
     Desk(DeskFault),
     /// 43, or what a posting is refused for: 42, 45, 46, 47 or 90. It is 90 too where the memory for the quotes was refused.
+    #[error(transparent)]
     Ledger(LedgerFault),
-}
-
-impl NotClosed {
-    /// The number that is printed.
-    pub fn number(self) -> u16
-        ensures { result ≡ not_closed_number self }
-    {
-        match self {
-            NotClosed::Desk(_) => 44,
-            NotClosed::Ledger(fault) => fault.number(),
-        }
-    }
-
-    /// The name that is printed.
-    pub fn name(self) -> &'static str
-        ensures { result.now ≡ not_closed_name self }
-    {
-        match self {
-            NotClosed::Desk(_) => "DeskFault",
-            NotClosed::Ledger(fault) => fault.name(),
-        }
-    }
 }
 
 /// A ledger that does not post.
@@ -64,30 +45,30 @@ impl From<AllocError> for NotClosed {
 }
 
 /// Why a posting is refused, as a session's line says it.
-fn close_fault_of_post(fault: PostFault) -> CloseFault
-    ensures { result ≡ close_fault_of_post fault }
+fn refusal_of_posting(fault: PostFault) -> Refusal
+    ensures { result ≡ refusal_of_posting fault }
 {
     match fault {
-        PostFault::BadArchive => CloseFault::BadArchive,
-        PostFault::StaleQuote { .. } => CloseFault::StaleQuote,
-        PostFault::QuoteDiffers => CloseFault::QuoteDiffers,
-        PostFault::ArchiveConflict => CloseFault::ArchiveConflict,
-        PostFault::Memory => CloseFault::Memory,
+        PostFault::BadArchive => Refusal::BadArchive,
+        PostFault::StaleQuote { .. } => Refusal::StaleQuote,
+        PostFault::QuoteDiffers => Refusal::QuoteDiffers,
+        PostFault::ArchiveConflict => Refusal::ArchiveConflict,
+        PostFault::Memory => Refusal::Memory,
     }
 }
 
 /// Why a day is not closed, as a session's line says it.
-impl From<NotClosed> for CloseFault {
+impl From<NotClosed> for Refusal {
     ghost use Rattle.std.specs.Prelude.{◌≡◌};
-    ghost use Rattle.pay_close.specs.Faults.{close_fault_of};
+    ghost use Rattle.pay_close.specs.Faults.{refusal_of_close};
 
-    ghost from_gives = { λ why fault. fault ≡ close_fault_of why };
+    ghost from_gives = { λ why fault. fault ≡ refusal_of_close why };
 
-    fn from(fault: NotClosed) -> CloseFault {
+    fn from(fault: NotClosed) -> Refusal {
         match fault {
-            NotClosed::Desk(_) => CloseFault::DeskFault,
-            NotClosed::Ledger(LedgerFault::Store) => CloseFault::Store,
-            NotClosed::Ledger(LedgerFault::Refused(why)) => close_fault_of_post(why),
+            NotClosed::Desk(_) => Refusal::DeskFault,
+            NotClosed::Ledger(LedgerFault::Store) => Refusal::Store,
+            NotClosed::Ledger(LedgerFault::Refused(why)) => refusal_of_posting(why),
         }
     }
 }

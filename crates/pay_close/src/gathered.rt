@@ -57,7 +57,7 @@ impl Gathered {
         }
     }
 
-    /// A shard's batch behind what there is. Where memory is wanting, what there is is of no further use.
+    /// A shard's batch behind what there is. After an `Err` what there is is of no further use.
     fn add(&mut self, batch: Batch) -> Result<(), AllocError>
         ensures { OnOk result (self.new ≡ both self.old batch) }
     {
@@ -67,7 +67,7 @@ impl Gathered {
         Ok(())
     }
 
-    /// In ascending order of account. Where memory is wanting, what there is is of no further use.
+    /// In ascending order of account. After an `Err` what there is is of no further use.
     fn sort(&mut self) -> Result<(), AllocError>
         ensures { OnOk result (self.new ≡ in_order self.old) }
     {
@@ -103,7 +103,7 @@ fn quotes_command(day: u32, shard: u8, of: u8) -> Command
     }
 }
 
-/// The batch of a reply. A desk that gives another reply than quotes lacked the memory for them.
+/// The batch of a reply. A desk that gives another reply than quotes ran out of memory for them.
 fn batch_of_reply(reply: Reply) -> Result<Batch, NotClosed>
     ensures { result ≡ told_of_reply reply }
 {
@@ -153,7 +153,7 @@ fn ask_all<D: Desk>(alloc: Global, desk: &mut D, day: u32) -> Result<Gathered, N
 
 /// Asks each shard of a desk for its quotes of a service day, counted from 1970-01-01: what they bring, together in ascending
 /// order of account. Each answer is got before the next shard is asked, and nothing is asked once one brought no quotes.
-/// `Desk` is the first fault of the desk, and `Ledger` want of memory for what was brought.
+/// `Desk` is the first fault of the desk, and `Ledger` is out of memory for what was brought.
 pub fn gather<D: Desk>(alloc: Global, desk: &mut D, day: u32) -> Result<Gathered, NotClosed>
     requires { (FIRST_DAY ≤ day) × (day ≤ LAST_DAY) }
     ensures asked { IsAskedAt D.parts desk.old desk.new (AreQuotes day (D.parts desk.old).standing.shards 0)

@@ -11,8 +11,9 @@ use crate::fault::NotClosed;
 use crate::gathered::gather;
 use pay_account::Postings;
 use pay_ledger::Ledger;
-use pay_session::{CloseFault, Till};
+use pay_session::Till;
 use pay_shard::Desk;
+use pay_wire::Refusal;
 use sqlite::Alter;
 use std::alloc::Global;
 
@@ -65,7 +66,7 @@ impl<'a, S: Alter> Till for LedgerTill<'a, S> {
 
     ghost Closes = { λ before day of put result after. Closes (state S.Store before.ledger.now) (state S.Store after.ledger.now) of put result };
 
-    fn close<D: Desk>(&mut self, desk: &mut D, day: u32) -> Result<Postings, CloseFault> {
+    fn close<D: Desk>(&mut self, desk: &mut D, day: u32) -> Result<Postings, Refusal> {
         Ok(close(self.alloc, desk, self.ledger, day)?)
     }
 }

@@ -6,13 +6,16 @@ use crate::Moment;
 use crate::limits::{FIRST_INSTANT, LAST_INSTANT, SECONDS_PER_DAY, SERVICE_DAY_START};
 use jiff::Timestamp;
 use jiff::tz::TimeZone;
+use thiserror::Error;
 
 /// Why an instant has no stamp.
-#[derive(Clone, Copy, Debug, PartialEq, Eq)]
+#[derive(Clone, Copy, Debug, PartialEq, Eq, Error)]
 pub enum StampFault {
     /// Refusal 1: the instant is before 1970-01-08 00:00:00 UTC or after 2099-12-31 23:59:59 UTC.
+    #[error("1 OutOfTime")]
     OutOfTime,
     /// Refusal 90: no memory. No zone takes any, so this is never given.
+    #[error("90 Memory")]
     Memory,
 }
 

@@ -3,7 +3,8 @@ use Rattle.std.proofs.Common.{◌≡◌, ℕ, ℤ, ◌+◌, ◌-◌, pos, negsuc
 use Rattle.std.specs.Prelude.{ok_or, nat_le, nat_lt, ◌==◌, ◌&&◌}
 use Rattle.toml.specs.Data.{Data, Items, no_items, item, Members, get_member, as_integer, as_table, as_array}
 use Rattle.pay_day.specs.declared.limits.TheConstants.{FIRST_DAY, LAST_DAY}
-use Rattle.pay_tables.specs.declared.limits.TheConstants.{MOST_ZONES, MOST_MINUTES, MOST_FARE, MOST_HOPPER_SECONDS, MOST_SAME_SECONDS, MOST_INTERCHANGE_SECONDS, MOST_PLACE, MOST_OPERATORS, MOST_HOLIDAYS, MOST_PLACES, MOST_INTERCHANGES, MOST_BANDS}
+use Rattle.pay_money.specs.declared.limits.TheConstants.{OPERATORS}
+use Rattle.pay_tables.specs.declared.limits.TheConstants.{MOST_ZONES, MOST_MINUTES, MOST_FARE, MOST_HOPPER_SECONDS, MOST_SAME_SECONDS, MOST_INTERCHANGE_SECONDS, MOST_PLACE, MOST_HOLIDAYS, MOST_PLACES, MOST_INTERCHANGES, MOST_BANDS}
 use Rattle.pay_fare_file.specs.declared.fault.FareFileFault.{FareFileFault}
 use Rattle.pay_fare_file.specs.declared.fault.FareFileFault.TheVariants.{NotToml, MissingKey, WrongType, OutOfRange, Duplicate, UnknownPlace, TooMany}
 use Rattle.std.specs.Ordering.{nat_cmp}
@@ -135,13 +136,13 @@ station_of_other zones d =
     integer_then (codes "place") 1 MOST_PLACE ms _ (λ place.
     integer_then (codes "low") 1 zones ms _ (λ low.
     integer_then (codes "high") low (min (low + 1) zones) ms _ (λ high.
-    integer_then (codes "operator") 1 MOST_OPERATORS ms _ (λ operator. refl)))))
+    integer_then (codes "operator") 1 OPERATORS ms _ (λ operator. refl)))))
 
 route_of_other : (d : Data) → other (route_of d) ≡ true
 route_of_other d =
     then_other (table_of d) _ (ok_or_other (as_table d)) (λ ms.
     integer_then (codes "place") 1 MOST_PLACE ms _ (λ place.
-    integer_then (codes "operator") 1 MOST_OPERATORS ms _ (λ operator. refl)))
+    integer_then (codes "operator") 1 OPERATORS ms _ (λ operator. refl)))
 
 with_place_other : (places : FinMap nat_cmp Place) (place : ℕ × Place) → other (with_place places place) ≡ true
 with_place_other places place =

@@ -8,7 +8,8 @@ use Rattle.std.specs.FinMap.{FinMap, get, empty, contains_key, get-empty, get-in
 use Rattle.std.proofs.lemmas.Bool.Decides.{nat_tests}
 use Rattle.std.proofs.lemmas.List.Elements.{All-nil, All-cons, All-append}
 use Rattle.toml.specs.Data.{Data, Items, no_items, item, Members, get_member, as_integer}
-use Rattle.pay_tables.specs.declared.limits.TheConstants.{MOST_ZONES, MOST_MINUTES, MOST_FARE, MOST_HOPPER_SECONDS, MOST_SAME_SECONDS, MOST_INTERCHANGE_SECONDS, MOST_PLACE, MOST_OPERATORS, MOST_PLACES, MOST_INTERCHANGES, MOST_BANDS}
+use Rattle.pay_money.specs.declared.limits.TheConstants.{OPERATORS}
+use Rattle.pay_tables.specs.declared.limits.TheConstants.{MOST_ZONES, MOST_MINUTES, MOST_FARE, MOST_HOPPER_SECONDS, MOST_SAME_SECONDS, MOST_INTERCHANGE_SECONDS, MOST_PLACE, MOST_PLACES, MOST_INTERCHANGES, MOST_BANDS}
 use Rattle.pay_fare_file.specs.declared.fault.FareFileFault.{FareFileFault}
 use Rattle.pay_fare_file.specs.declared.fault.FareFileFault.TheVariants.{WrongType, OutOfRange, Duplicate, UnknownPlace, MissingKey, TooMany}
 use Rattle.pay_tables.specs.declared.band.Band.{Band}
@@ -237,7 +238,7 @@ station_is zones d =
     integer_then P (codes "place") 1 MOST_PLACE ms _ (λ place n.
     integer_then P (codes "low") 1 zones ms _ (λ low l.
     integer_then P (codes "high") low (min (low + 1) zones) ms _ (λ high h.
-    integer_then P (codes "operator") 1 MOST_OPERATORS ms _ (λ operator o.
+    integer_then P (codes "operator") 1 OPERATORS ms _ (λ operator o.
     (l.0, h.0, omega (arith, h.1), omega (arith, h.1), o))))))
 
 route_is : (zones : ℕ) → 1 ≤ zones → (d : Data) → IfOk (route_of d) (λ p. IsPlace zones p.1)
@@ -245,7 +246,7 @@ route_is zones z d =
     let P : ℕ × Place → Type 0 = λ p. IsPlace zones p.1 in
     IfOk_after P (table_of d) _ (λ ms.
     integer_then P (codes "place") 1 MOST_PLACE ms _ (λ place n.
-    integer_then P (codes "operator") 1 MOST_OPERATORS ms _ (λ operator o.
+    integer_then P (codes "operator") 1 OPERATORS ms _ (λ operator o.
     (z, o))))
 
 places_are : (zones : ℕ) → 1 ≤ zones → (ms : Members) → IfOk (places_at zones ms) (ArePlaces zones)

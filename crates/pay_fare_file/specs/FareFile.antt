@@ -6,7 +6,8 @@ use Rattle.std.specs.FinMap.{FinMap, contains_key, empty, get, insert}
 use Rattle.toml.specs.Data.{Data, Items, no_items, item, Members}
 use Rattle.toml.specs.Parse.{parse_document}
 use Rattle.pay_day.specs.declared.limits.TheConstants.{FIRST_DAY, LAST_DAY}
-use Rattle.pay_tables.specs.declared.limits.TheConstants.{MOST_ZONES, MOST_MINUTES, MOST_FARE, MOST_HOPPER_SECONDS, MOST_SAME_SECONDS, MOST_INTERCHANGE_SECONDS, MOST_PLACE, MOST_OPERATORS, MOST_HOLIDAYS, MOST_PLACES, MOST_INTERCHANGES, MOST_BANDS}
+use Rattle.pay_money.specs.declared.limits.TheConstants.{OPERATORS}
+use Rattle.pay_tables.specs.declared.limits.TheConstants.{MOST_ZONES, MOST_MINUTES, MOST_FARE, MOST_HOPPER_SECONDS, MOST_SAME_SECONDS, MOST_INTERCHANGE_SECONDS, MOST_PLACE, MOST_HOLIDAYS, MOST_PLACES, MOST_INTERCHANGES, MOST_BANDS}
 use Rattle.pay_tables.specs.declared.band.Band.{Band}
 use Rattle.pay_tables.specs.declared.band.Cover.{Cover}
 use Rattle.pay_tables.specs.declared.band.Cover.TheVariants.{Buses, Zones}
@@ -164,7 +165,7 @@ station_of zones d = do
   place ← integer_at (codes "place") 1 MOST_PLACE ms
   low ← integer_at (codes "low") 1 zones ms
   high ← integer_at (codes "high") low (min (low + 1) zones) ms
-  operator ← integer_at (codes "operator") 1 MOST_OPERATORS ms
+  operator ← integer_at (codes "operator") 1 OPERATORS ms
   Ok (place, Station low high operator)
 
 -- a route: its place number, and its operator
@@ -172,7 +173,7 @@ abbrev pub route_of : Data → Result (ℕ × Place) FareFileFault
 route_of d = do
   ms ← table_of d
   place ← integer_at (codes "place") 1 MOST_PLACE ms
-  operator ← integer_at (codes "operator") 1 MOST_OPERATORS ms
+  operator ← integer_at (codes "operator") 1 OPERATORS ms
   Ok (place, Route operator)
 
 -- one more place, under a number that no other has

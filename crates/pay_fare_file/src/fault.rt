@@ -3,27 +3,36 @@ ghost use Rattle.pay_fare_file.specs.declared.fault.FareFileFault.TheVariants.{M
 ghost use Rattle.toml.specs.Errors.{IsMemory};
 
 use std::alloc::{AllocError, AllocFailed};
+use thiserror::Error;
 use toml::de;
 
 /// Why a fare file is refused: the first fault in the order of the keys.
-#[derive(Clone, Copy, Debug, PartialEq, Eq)]
+#[derive(Clone, Copy, Debug, PartialEq, Eq, Error)]
 pub enum FareFileFault {
     /// 10: the text is no TOML document.
+    #[error("10 NotToml")]
     NotToml,
     /// 11: a key that must be there is missing, or a span within the zones has no single fare.
+    #[error("11 MissingKey")]
     MissingKey,
     /// 12: a value has another form than its key wants: a text for an integer, say.
+    #[error("12 WrongType")]
     WrongType,
     /// 13: a number is outside its range, the minutes are not one for each zone, or an interchange
     /// is from a place to itself.
+    #[error("13 OutOfRange")]
     OutOfRange,
     /// 14: an item has the span, the cover, the day, the place or the two stations of an earlier one.
+    #[error("14 Duplicate")]
     Duplicate,
     /// 15: an interchange names a place that is no station.
+    #[error("15 UnknownPlace")]
     UnknownPlace,
     /// 16: an array has more items than its limit.
+    #[error("16 TooMany")]
     TooMany,
     /// 90: memory ran out. The file may be a good one.
+    #[error("90 Memory")]
     Memory,
 }
 
@@ -80,7 +89,7 @@ impl From<AllocError> for FareFileFault {
     }
 }
 
-/// Want of memory, or else a text that is no document.
+/// Out of memory, or else a text that is no document.
 impl From<de::Error> for FareFileFault {
     ghost from_gives = { λ error fault. (IsMemory error → fault ≡ Memory) × (¬ IsMemory error → fault ≡ NotToml) };
 

@@ -7,7 +7,8 @@ ghost use Rattle.pay_fare_file.specs.FareFile.{route_of, with_each, with_route};
 use crate::fault::FareFileFault;
 use crate::keys::{inner_table, integer_at};
 use crate::places::unless_taken;
-use pay_tables::limits::{MOST_OPERATORS, MOST_PLACE};
+use pay_money::limits::OPERATORS;
+use pay_tables::limits::MOST_PLACE;
 use pay_tables::{Place, Places};
 use toml::Value;
 
@@ -28,7 +29,7 @@ fn route(item: &Value) -> Result<(u16, Place), FareFileFault>
 {
     let table = inner_table(item)?;
     let place = integer_at(table, "place", 1, MOST_PLACE)?;
-    let operator = integer_at(table, "operator", 1, MOST_OPERATORS)?;
+    let operator = integer_at(table, "operator", 1, OPERATORS as u32)?;
     Ok((
         place as u16,
         Place::Route {

@@ -7,7 +7,8 @@ ghost use Rattle.pay_fare_file.specs.FareFile.{station_of, with_each, with_stati
 use crate::fault::FareFileFault;
 use crate::keys::{inner_table, integer_at};
 use crate::places::unless_taken;
-use pay_tables::limits::{MOST_OPERATORS, MOST_PLACE};
+use pay_money::limits::OPERATORS;
+use pay_tables::limits::MOST_PLACE;
 use pay_tables::{Place, Places};
 use toml::Value;
 
@@ -31,7 +32,7 @@ fn station(item: &Value, zones: u8) -> Result<(u16, Place), FareFileFault>
     let place = integer_at(table, "place", 1, MOST_PLACE)?;
     let low = integer_at(table, "low", 1, zones)?;
     let high = integer_at(table, "high", low, zones.min(low + 1))?;
-    let operator = integer_at(table, "operator", 1, MOST_OPERATORS)?;
+    let operator = integer_at(table, "operator", 1, OPERATORS as u32)?;
     Ok((
         place as u16,
         Place::Station {

@@ -8,7 +8,7 @@ use Rattle.pay_taps.specs.Words.{Taps, touch_of, in_order}
 use Rattle.pay_taps.specs.Words.{number as tap_number}
 use Rattle.pay_fix.specs.declared.fix.Fix.{Fix}
 use Rattle.pay_fix.specs.declared.fix.What.{What}
-use Rattle.pay_fix.specs.declared.fix.What.TheVariants.{Void, Fill, Credit, Drop}
+use Rattle.pay_fix.specs.declared.fix.What.TheVariants.{Void, Fill}
 use Rattle.pay_fix.specs.Fixes.{Fixes, is_number, stands}
 
 -- whether a correction is a Void that names the tap of a number

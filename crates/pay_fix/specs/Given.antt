@@ -3,7 +3,7 @@ use Rattle.std.specs.Prelude.{ℕ, nat_le, ◌&&◌, if◌then◌else◌, List, 
 use Rattle.std.specs.FinMap.{values}
 use Rattle.pay_fix.specs.declared.fix.Fix.{Fix}
 use Rattle.pay_fix.specs.declared.fix.What.{What}
-use Rattle.pay_fix.specs.declared.fix.What.TheVariants.{Void, Fill, Credit, Drop}
+use Rattle.pay_fix.specs.declared.fix.What.TheVariants.{Credit}
 use Rattle.pay_fix.specs.Fixes.{Fixes, stands}
 
 -- what a correction gives back for days from one through another: a Credit its pence, if its day is among them

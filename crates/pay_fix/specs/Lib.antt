@@ -4,5 +4,6 @@ pub mod SameFix
 pub mod Effective
 pub mod Named
 pub mod Given
+pub mod Laws
 mod Rows
 pub mod Words

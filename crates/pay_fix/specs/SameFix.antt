@@ -1,8 +1,7 @@
 -- Corrections with the same content are one.
-use Rattle.std.proofs.Common.{◌≡◌, ℕ, true, false, eqb-true, eq-eqb, refl}
+use Rattle.std.proofs.Common.{◌≡◌, ℕ, true, eqb-true, eq-eqb, refl}
 use Rattle.std.proofs.lemmas.Bool.{and_parts, and_from}
 use Rattle.pay_taps.specs.SameTap.{stamp_from_same, stamp_itself, kind_from_same, kind_itself}
-use Rattle.pay_fix.specs.Credits.{CreditOf}
 use Rattle.pay_fix.specs.Fixes.{is_number, same_what, same_fix}
 use Rattle.pay_fix.specs.declared.fix.Fix.{Fix}
 use Rattle.pay_fix.specs.declared.fix.What.{What}

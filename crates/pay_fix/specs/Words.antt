@@ -4,3 +4,4 @@ pub use Rattle.pay_fix.specs.Fixes.{number, Fixes, same_fix, judged, stands}
 pub use Rattle.pay_fix.specs.Effective.{effective}
 pub use Rattle.pay_fix.specs.Named.{day_named}
 pub use Rattle.pay_fix.specs.Given.{credits}
+pub use Rattle.pay_fix.specs.Laws.{VoidTakesOut, DropRestores, CreditChangesNoTap}

@@ -56,7 +56,7 @@ fn add_fills(list: &mut Vec<Touch>, fixes: &[Fix], accepted: &[Fix]) -> Result<(
 }
 
 /// The effective taps of an account, in order: the accepted taps that no standing Void names, and the taps of
-/// standing Fills. An `Err` is want of memory.
+/// standing Fills. An `Err` is out of memory.
 pub fn effective(alloc: Global, taps: &TapSet, fixes: &FixSet) -> Result<Vec<Touch>, AllocError>
     ensures value { IfOk result (λ list. list.items ≡ effective taps.now fixes.now) }
     ensures few { IfOk result (λ list. length list.items ≤ MOST_TOUCHES) }

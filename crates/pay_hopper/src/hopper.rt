@@ -25,7 +25,7 @@ pub fn pays(tables: &Tables, last_paid: &Option<Moment>, tap: &Touch) -> bool
 ///
 /// A bus tap pays just when no earlier paying one is at most `hopper` seconds before it; of two at
 /// one instant the second does not pay. Rail taps between do not matter, so `taps` are the bus taps
-/// alone, in their order. Hopper lasts across the end of a service day. An `Err` is want of memory.
+/// alone, in their order. Hopper lasts across the end of a service day. An `Err` is out of memory.
 pub fn paying(alloc: Global, tables: &Tables, taps: &[Touch]) -> Result<Vec<bool>, AllocError>
     ensures described { IfOk result (λ marks. IsPayingSet tables.now.rules.hopper (instants_of taps.now) marks.items) }
     ensures computed { IfOk result (λ marks. marks.items ≡ paying_marks tables.now.rules.hopper (instants_of taps.now)) }

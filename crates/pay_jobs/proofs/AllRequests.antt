@@ -14,7 +14,7 @@ use Rattle.pay_shard.specs.declared.reply.Answer.{Answer}
 use Rattle.pay_wire.specs.declared.reply.Reply.{Reply}
 use Rattle.pay_session.specs.Words.{asks_of, Taken, Event, all_put, commands_of, AreAnswered, AreServed}
 use Rattle.pay_session.specs.declared.request.Request.{Request}
-use Rattle.pay_session.specs.declared.till.CloseFault.{CloseFault}
+use Rattle.pay_wire.specs.declared.refusal.Refusal.{Refusal}
 use Rattle.pay_jobs.specs.Machine.{Machine, Failure, Step, step, step_asks}
 use Rattle.pay_jobs.specs.Outcomes.{outcome, reply_then, tells_failure, any_failure}
 use Rattle.pay_jobs.proofs.OneRequest.{machine_at, one_steps, was_sound, transcript}
@@ -65,7 +65,7 @@ stepped : (mark : Option Failure) (r : Request) (m : Machine) (s : Step) → ste
 unfolding step
 stepped mark r m s h = h
 
-module _ {T : Type 0} (Refuses : DeskFault → Type 0) (Late : Type 0) (Closes : T → ℕ → ℕ → List Taken → Result (List Posting) CloseFault → T → Type 0) (Sound : T → Type 0) (Tells : T → Option LedgerParts → Type 0) (plain : IsPlain Refuses Late Closes Sound Tells) (zone : TimeZone) where
+module _ {T : Type 0} (Refuses : DeskFault → Type 0) (Late : Type 0) (Closes : T → ℕ → ℕ → List Taken → Result (List Posting) Refusal → T → Type 0) (Sound : T → Type 0) (Tells : T → Option LedgerParts → Type 0) (plain : IsPlain Refuses Late Closes Sound Tells) (zone : TimeZone) where
   -- what a till keeps could be told all along where it can be in the end
   sound_before : (requests : List Request) (events : List Event) (before after : T) → AreServed 1 Refuses Late Closes zone before requests events after → Sound after → Sound before
   sound_before [] [] before after served sound = subst Sound served sound

@@ -7,8 +7,7 @@ use Rattle.sqlite.specs.Effect.{Database}
 use Rattle.pay_account.specs.Words.{Posting}
 use Rattle.pay_postings.specs.Words.{LedgerParts, posted}
 use Rattle.pay_postings.specs.declared.fault.PostFault.{PostFault}
-use Rattle.pay_postings.specs.declared.fault.PostFault.TheVariants as post_fault
-use Rattle.pay_ledger.specs.Keeps.{IsLedger}
+use Rattle.pay_ledger.specs.Words.{IsLedger}
 use Rattle.pay_tables.specs.Words.{FareTables}
 use Rattle.pay_shard.specs.declared.reply.Answer.{Answer}
 use Rattle.pay_shard.specs.declared.reply.Reply.TheVariants as desk_reply
@@ -16,15 +15,14 @@ use Rattle.pay_shard.specs.Words.{BatchParts, State as Accounts}
 use Rattle.pay_close.specs.Words.{batch_of_all, OneShardGathersAll}
 use Rattle.pay_close.specs.Batches.{gathered, IsWhole}
 use Rattle.pay_close.specs.Closes.{Closes, IsWhySaid}
-use Rattle.pay_close.specs.Faults.{close_fault_of_post, is_outside}
-use Rattle.pay_session.specs.Words.{Taken, refusal_of_close}
+use Rattle.pay_close.specs.Faults.{refusal_of_posting, is_outside}
+use Rattle.pay_session.specs.Words.{Taken}
 use Rattle.pay_session.specs.Served.{gives_quotes, brings_quotes}
-use Rattle.pay_session.specs.declared.till.CloseFault.{CloseFault}
-use Rattle.pay_session.specs.declared.till.CloseFault.TheVariants as close_fault
 use Rattle.pay_wire.specs.declared.refusal.Refusal.{Refusal}
+use Rattle.pay_wire.specs.declared.refusal.Refusal.TheVariants as refusal
 use Rattle.pay_wire.specs.declared.reply.Reply.TheVariants as replies
 use Rattle.pay_jobs.specs.Ledgers.{IsSound, HasLedger}
-use Rattle.pay_jobs.specs.Machine.{Machine, Failure, Memory, Store, Desk, refusal_of_failure, refusal_of_posting, stays, step_closed, step_close}
+use Rattle.pay_jobs.specs.Machine.{Machine, Failure, Memory, Store, Desk, refusal_of_failure, stays, step_closed, step_close}
 use Rattle.pay_jobs.specs.Outcomes.{tells_failure}
 use Rattle.pay_jobs.proofs.Tills.{IsOfMachine, ClosesAs}
 
@@ -49,27 +47,20 @@ module _ (m : Machine) (day : ℕ) (old new : Database) (ledger : LedgerParts) (
     holds = done.2;
   }
 
-  same_refusal : (why : PostFault) → refusal_of_posting why ≡ refusal_of_close (close_fault_of_post why)
-  same_refusal post_fault.BadArchive = refl
-  same_refusal (post_fault.StaleQuote account version through) = refl
-  same_refusal post_fault.QuoteDiffers = refl
-  same_refusal post_fault.ArchiveConflict = refl
-  same_refusal post_fault.Memory = refl
-
   -- they were refused
-  refused_as : (b : BatchParts) (why : PostFault) (fault : CloseFault) → b ≡ batch_of_all m.tables m.accounts day → fault ≡ close_fault_of_post why → posted ledger b.quotes b.sets ≡ Err why → new ≡ old
+  refused_as : (b : BatchParts) (why : PostFault) (fault : Refusal) → b ≡ batch_of_all m.tables m.accounts day → fault ≡ refusal_of_posting why → posted ledger b.quotes b.sets ≡ Err why → new ≡ old
       → ClosesAs m day (Err fault) (HasLedger new)
   refused_as b why fault all told refuses kept = record {
     mark = None;
     ledger = m.ledger;
     step = ap (step_close None m day) there ∙ ap (λ (c : BatchParts). step_closed m day (posted ledger c.quotes c.sets)) (sym all) ∙ ap (step_closed m day) refuses
-        ∙ ap (λ (r : Refusal). stays m (replies.No r)) (same_refusal why ∙ ap refusal_of_close (sym told));
+        ∙ ap (λ (r : Refusal). stays m (replies.No r)) (sym told);
     ample = λ e. refl;
     holds = still kept;
   }
 
   -- or something failed
-  failed_as : (fault : CloseFault) (failure : Failure) → refusal_of_failure failure ≡ refusal_of_close fault → tells_failure (replies.No (refusal_of_close fault)) ≡ true → new ≡ old → ClosesAs m day (Err fault) (HasLedger new)
+  failed_as : (fault : Refusal) (failure : Failure) → refusal_of_failure failure ≡ fault → tells_failure (replies.No fault) ≡ true → new ≡ old → ClosesAs m day (Err fault) (HasLedger new)
   failed_as fault failure same shows kept = record {
     mark = Some failure;
     ledger = m.ledger;
@@ -78,15 +69,26 @@ module _ (m : Machine) (day : ℕ) (old new : Database) (ledger : LedgerParts) (
     holds = still kept;
   }
 
-  outside_as : (fault : CloseFault) → IsTrue (is_outside fault) → new ≡ old → ClosesAs m day (Err fault) (HasLedger new)
-  outside_as close_fault.DeskFault e kept = failed_as close_fault.DeskFault Desk refl refl kept
-  outside_as close_fault.Store e kept = failed_as close_fault.Store Store refl refl kept
-  outside_as close_fault.Memory e kept = failed_as close_fault.Memory Memory refl refl kept
-  outside_as close_fault.NotHere e kept = absurd (true_false (sym e))
-  outside_as close_fault.StaleQuote e kept = absurd (true_false (sym e))
-  outside_as close_fault.BadArchive e kept = absurd (true_false (sym e))
-  outside_as close_fault.ArchiveConflict e kept = absurd (true_false (sym e))
-  outside_as close_fault.QuoteDiffers e kept = absurd (true_false (sym e))
+  outside_as : (fault : Refusal) → IsTrue (is_outside fault) → new ≡ old → ClosesAs m day (Err fault) (HasLedger new)
+  outside_as refusal.DeskFault e kept = failed_as refusal.DeskFault Desk refl refl kept
+  outside_as refusal.Store e kept = failed_as refusal.Store Store refl refl kept
+  outside_as refusal.Memory e kept = failed_as refusal.Memory Memory refl refl kept
+  outside_as refusal.OutOfTime e kept = absurd (true_false (sym e))
+  outside_as refusal.UnknownPlace e kept = absurd (true_false (sym e))
+  outside_as refusal.Conflict e kept = absurd (true_false (sym e))
+  outside_as refusal.AccountFull e kept = absurd (true_false (sym e))
+  outside_as refusal.FixConflict e kept = absurd (true_false (sym e))
+  outside_as refusal.FixesFull e kept = absurd (true_false (sym e))
+  outside_as refusal.Busy e kept = absurd (true_false (sym e))
+  outside_as refusal.Window e kept = absurd (true_false (sym e))
+  outside_as refusal.NotHere e kept = absurd (true_false (sym e))
+  outside_as refusal.StaleQuote e kept = absurd (true_false (sym e))
+  outside_as refusal.BadArchive e kept = absurd (true_false (sym e))
+  outside_as refusal.ArchiveConflict e kept = absurd (true_false (sym e))
+  outside_as refusal.QuoteDiffers e kept = absurd (true_false (sym e))
+  outside_as refusal.BadLine e kept = absurd (true_false (sym e))
+  outside_as refusal.LongLine e kept = absurd (true_false (sym e))
+  outside_as refusal.Late e kept = absurd (true_false (sym e))
 
 -- ---- by what was gathered
 
@@ -117,12 +119,12 @@ the_ledger db None has = absurd has
 the_ledger db (Some ledger) has = record { ledger = ledger; there = refl; is = has }
 
 module _ (gathers : OneShardGathersAll) (m : Machine) (day : ℕ) (old new : State) (put : List Taken) (answers : AllByRecursion (IsOfMachine m.tables m.accounts day) put) where
-  refused_or_failed : (fault : CloseFault) (l : TheLedger old.now m.ledger) → new.now ≡ old.now → IsWhySaid 1 put l.ledger fault → ClosesAs m day (Err fault) (HasLedger new.now)
+  refused_or_failed : (fault : Refusal) (l : TheLedger old.now m.ledger) → new.now ≡ old.now → IsWhySaid 1 put l.ledger fault → ClosesAs m day (Err fault) (HasLedger new.now)
   refused_or_failed fault l kept (inl outside) = outside_as m day old.now new.now l.ledger l.there l.is fault outside kept
   refused_or_failed fault l kept (inr refused) =
       refused_as m day old.now new.now l.ledger l.there l.is (gathered put) refused.0 fault (gathers_all gathers m.tables m.accounts day put refused.2 answers) refused.1 refused.3 kept
 
-  pub ledger_closes : (result : Result (List Posting) CloseFault) → Closes old new 1 put result → IsSound new → HasLedger old.now m.ledger → ClosesAs m day result (HasLedger new.now)
+  pub ledger_closes : (result : Result (List Posting) Refusal) → Closes old new 1 put result → IsSound new → HasLedger old.now m.ledger → ClosesAs m day result (HasLedger new.now)
   ledger_closes (Ok given) closes sound has =
       let l = the_ledger old.now m.ledger has in
       let done = closes.closed sound.0 in
@@ -132,6 +134,6 @@ module _ (gathers : OneShardGathersAll) (m : Machine) (day : ℕ) (old new : Sta
       refused_or_failed fault l (closes.kept sound.0 sound.1).now (closes.refused sound.0 l.ledger l.is)
 
 -- where the disk is clean and the connection open after a close, so they were before it
-pub was_sound : (old new : State) (put : List Taken) (result : Result (List Posting) CloseFault) → Closes old new 1 put result → IsSound new → IsSound old
+pub was_sound : (old new : State) (put : List Taken) (result : Result (List Posting) Refusal) → Closes old new 1 put result → IsSound new → IsSound old
 was_sound old new put (Ok given) closes sound = (omega (arith, closes.survives.clean, sound.0), (closes.closed sound.0).1.was_open)
 was_sound old new put (Err fault) closes sound = (omega (arith, closes.survives.clean, sound.0), (closes.kept sound.0 sound.1).was_open)

@@ -22,7 +22,7 @@ use Rattle.pay_wire.specs.declared.reply.Reply.TheVariants as replies
 use Rattle.pay_session.specs.Words.{Taken, Event, said, refusal_of_desk, commands_of, IsAnswerTo, AreAnswered, AreQuotes, AreInTime, IsReplied, IsTaken, IsRefused, IsTillClosed, IsServedAs}
 use Rattle.pay_session.specs.declared.asks.Asks.{Asks}
 use Rattle.pay_session.specs.declared.asks.Asks.TheVariants as asks
-use Rattle.pay_session.specs.declared.till.CloseFault.{CloseFault}
+use Rattle.pay_wire.specs.declared.refusal.Refusal.{Refusal}
 use Rattle.pay_jobs.specs.Machine.{Machine, Failure, Memory, Step, step_asks, with_ledger}
 use Rattle.pay_jobs.specs.Outcomes.{tells_failure}
 use Rattle.pay_jobs.proofs.Journals.{replay_behind, reply_behind, ticket_behind}
@@ -241,7 +241,7 @@ refused_steps zone tables base front back ledger a event later Holds Refuses Lat
 
 -- ---- one request
 
-module _ {T : Type 0} (Refuses : DeskFault → Type 0) (Late : Type 0) (Closes : T → ℕ → ℕ → List Taken → Result (List Posting) CloseFault → T → Type 0) (Sound : T → Type 0) (Tells : T → Option LedgerParts → Type 0) (plain : IsPlain Refuses Late Closes Sound Tells) where
+module _ {T : Type 0} (Refuses : DeskFault → Type 0) (Late : Type 0) (Closes : T → ℕ → ℕ → List Taken → Result (List Posting) Refusal → T → Type 0) (Sound : T → Type 0) (Tells : T → Option LedgerParts → Type 0) (plain : IsPlain Refuses Late Closes Sound Tells) where
   -- the till closed a day
   closed_steps : (number : ℕ) (zone : TimeZone) (tables : FareTables) (base : State) (front back journal : List Item) (ledger : Option LedgerParts) (day : ℕ) (event : Event) (later : List (ℕ × Asked)) (before after : T)
       → AreInPlace 0 journal → journal ≡ front ++ back → IsTillClosed 1 Refuses Late Closes day event before after → commands_of_items back ≡ commands_of event.put ++ later

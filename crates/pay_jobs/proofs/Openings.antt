@@ -3,9 +3,8 @@ use Rattle.std.proofs.Common.{inl, inr}
 use Rattle.std.specs.Prelude.{IsTrue}
 use Rattle.sqlite.specs.State.{State}
 use Rattle.sqlite.specs.Steps.{IsEmpty}
-use Rattle.pay_records.specs.Tables.{no_schema}
-use Rattle.pay_records.specs.Steps.{IsBlank}
-use Rattle.pay_ledger.specs.Faults.{open_fault_number, open_fault_name, opens_by_store}
+use Rattle.pay_records.specs.Words.{no_schema, IsBlank}
+use Rattle.pay_ledger.specs.Words.{open_fault_number, open_fault_name, opens_by_store}
 use Rattle.pay_ledger.specs.declared.fault.OpenFault.{OpenFault}
 use Rattle.pay_ledger.specs.declared.fault.OpenFault.TheVariants.{NotALedger, Version, Store, Memory}
 use Rattle.pay_jobs.specs.Faults.{IsRefusal, IsWantOfLedger}

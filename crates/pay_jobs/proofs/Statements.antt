@@ -2,7 +2,7 @@
 use Rattle.std.proofs.Common.{◌≡◌, inl, inr, ℕ, List, Option, None, IfSome, Result, Ok, Err, OnOk, OnErr, IfErr, refl, sym, subst}
 use Rattle.std.proofs.lemmas.Option.{IfSome_then}
 use Rattle.std.specs.Io.KnownBytes.{Appends}
-use Rattle.pay_account.specs.declared.shown.Line.{Line}
+use Rattle.pay_quotes.specs.declared.shown.Line.{Line}
 use Rattle.pay_wire.specs.Words.{AppendsFront}
 use Rattle.pay_jobs.specs.Faults.{IsWantOfMemory, IsWeekFault}
 use Rattle.pay_jobs.specs.Run.{Begins}

@@ -10,7 +10,7 @@ use Rattle.pay_shard.specs.declared.desk.DeskFault.TheVariants as desk_fault
 use Rattle.pay_shard.specs.declared.reply.Reply.TheVariants as desk_reply
 use Rattle.pay_shard.specs.Words.{State, batch}
 use Rattle.pay_session.specs.Words.{Taken, said_of_close, AreQuotes}
-use Rattle.pay_session.specs.declared.till.CloseFault.{CloseFault}
+use Rattle.pay_wire.specs.declared.refusal.Refusal.{Refusal}
 use Rattle.pay_jobs.specs.Machine.{Machine, Failure, with_ledger, step_close}
 use Rattle.pay_jobs.specs.Outcomes.{tells_failure}
 
@@ -19,7 +19,7 @@ abbrev pub IsOfMachine : FareTables → State → ℕ → Taken → Type 0
 IsOfMachine tables state day t = IsSomeAnd t.answer (λ answer. (answer.reply ≡ desk_reply.Quotes (batch tables state day 0 1)) ⊎ (answer.reply ≡ desk_reply.Memory))
 
 -- A close came to what the machine's does, but for what failed, which it tells.
-pub record ClosesAs (m : Machine) (day : ℕ) (result : Result (List Posting) CloseFault) (Holds : Option LedgerParts → Type 0) : Type 0 where
+pub record ClosesAs (m : Machine) (day : ℕ) (result : Result (List Posting) Refusal) (Holds : Option LedgerParts → Type 0) : Type 0 where
   pub mark : Option Failure
   pub ledger : Option LedgerParts
   pub step : step_close mark m day m.ledger ≡ record { reply = said_of_close day result; after = with_ledger m ledger }
@@ -28,10 +28,10 @@ pub record ClosesAs (m : Machine) (day : ℕ) (result : Result (List Posting) Cl
 
 -- A desk that refuses for memory alone, whose replies are never late, and a till whose closes over one shard are the machine's: with
 -- `Sound` for whether what the till keeps can be told, and `Tells` for what that is.
-pub record IsPlain {T : Type 0} (Refuses : DeskFault → Type 0) (Late : Type 0) (Closes : T → ℕ → ℕ → List Taken → Result (List Posting) CloseFault → T → Type 0) (Sound : T → Type 0) (Tells : T → Option LedgerParts → Type 0) : Type 0 where
+pub record IsPlain {T : Type 0} (Refuses : DeskFault → Type 0) (Late : Type 0) (Closes : T → ℕ → ℕ → List Taken → Result (List Posting) Refusal → T → Type 0) (Sound : T → Type 0) (Tells : T → Option LedgerParts → Type 0) : Type 0 where
   pub memory : (fault : DeskFault) → Refuses fault → fault ≡ desk_fault.Memory
   pub never : Late → ⊥
-  pub was_sound : (before after : T) (day : ℕ) (put : List Taken) (result : Result (List Posting) CloseFault) → Closes before day 1 put result after → Sound after → Sound before
-  pub closes : (before after : T) (m : Machine) (day : ℕ) (put : List Taken) (result : Result (List Posting) CloseFault)
+  pub was_sound : (before after : T) (day : ℕ) (put : List Taken) (result : Result (List Posting) Refusal) → Closes before day 1 put result after → Sound after → Sound before
+  pub closes : (before after : T) (m : Machine) (day : ℕ) (put : List Taken) (result : Result (List Posting) Refusal)
       → Closes before day 1 put result after → AreQuotes day 1 0 put → AllByRecursion (IsOfMachine m.tables m.accounts day) put → Sound after → Tells before m.ledger
       → ClosesAs m day result (Tells after)

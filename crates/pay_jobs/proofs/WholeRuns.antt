@@ -9,23 +9,22 @@ use Rattle.jiff.specs.declared.tz.timezone.TimeZone.{TimeZone}
 use Rattle.sqlite.specs.State.{State as DatabaseState}
 use Rattle.pay_day.specs.Words.{monday}
 use Rattle.pay_account.specs.Words.{Accepted, week_lines, Posting}
-use Rattle.pay_account.specs.declared.shown.Line.{Line}
+use Rattle.pay_quotes.specs.declared.shown.Line.{Line}
 use Rattle.pay_postings.specs.Words.{LedgerParts}
 use Rattle.pay_tables.specs.Words.{FareTables}
 use Rattle.pay_shard.specs.declared.desk.DeskFault.{DeskFault}
-use Rattle.pay_shard.specs.declared.desk.DeskFault.TheVariants.{Memory}
 use Rattle.pay_shard.specs.declared.item.Item.{Item}
-use Rattle.pay_shard.specs.Words.{ShardParts, LocalParts, State, Standing, state_now, accepted_of, transcript_of, desk_parts, AreInPlace, commands_of as commands_of_items}
+use Rattle.pay_shard.specs.Words.{ShardParts, State, Standing, state_now, accepted_of, transcript_of, desk_parts, AreInPlace, commands_of as commands_of_items}
 use Rattle.pay_wire.specs.Words.{spelling_of_reply}
 use Rattle.pay_session.specs.Words.{requests_of, line_requests, Taken, Event, said_of_close, lacks_memory, any_lacks_memory, Sides, IsSession, MaySometimeRefuse, MaySometimeBeLate, text_of as text_of_events, EndsSo as SessionEnds, StopsReading as SessionStopsReading, StopsWriting as SessionStopsWriting, FailsSo as SessionFailsSo}
 use Rattle.pay_session.specs.declared.request.Request.{Request}
 use Rattle.pay_session.specs.declared.sessions.Done.{Done}
 use Rattle.pay_session.specs.declared.stop.SessionFault.{SessionFault}
 use Rattle.pay_session.specs.declared.stop.SessionFault.TheVariants.{Read, Write}
-use Rattle.pay_session.specs.declared.till.CloseFault.{CloseFault}
-use Rattle.pay_session.specs.declared.till.CloseFault.TheVariants.{NotHere}
+use Rattle.pay_wire.specs.declared.refusal.Refusal.{Refusal}
+use Rattle.pay_wire.specs.declared.refusal.Refusal.TheVariants.{NotHere}
 use Rattle.pay_session.specs.declared.till.NoTill.{NoTill}
-use Rattle.pay_ledger.specs.Keeps.{IsLedger}
+use Rattle.pay_ledger.specs.Words.{IsLedger}
 use Rattle.pay_close.specs.Words.{OneShardGathersAll}
 use Rattle.pay_close.specs.Closes.{Closes as LedgerCloses}
 use Rattle.pay_jobs.specs.Ledgers.{IsSound, HasLedger}
@@ -73,7 +72,7 @@ pub record IsFresh (tables : FareTables) (shard : ShardParts) : Type 0 where
 abbrev pub from_journal : {T : Type 0} → List Item → ShardParts → T → T → Sides T
 from_journal journal shard before after = record { taken_before = commands_of_items journal; taken_after = commands_of_items shard.journal; transcript = transcript_of shard; till_before = before; till_after = after }
 
-module _ {T : Type 0} (Refuses : DeskFault → Type 0) (Late : Type 0) (Closes : T → ℕ → ℕ → List Taken → Result (List Posting) CloseFault → T → Type 0) (Sound : T → Type 0) (Tells : T → Option LedgerParts → Type 0) (plain : IsPlain Refuses Late Closes Sound Tells) (zone : TimeZone) where
+module _ {T : Type 0} (Refuses : DeskFault → Type 0) (Late : Type 0) (Closes : T → ℕ → ℕ → List Taken → Result (List Posting) Refusal → T → Type 0) (Sound : T → Type 0) (Tells : T → Option LedgerParts → Type 0) (plain : IsPlain Refuses Late Closes Sound Tells) (zone : TimeZone) where
   -- the sides of a session at such a shard
   abbrev sides_of : ShardParts → T → T → Sides T
   sides_of shard before after = record { taken_before = []; taken_after = commands_of_items shard.journal; transcript = transcript_of shard; till_before = before; till_after = after }
@@ -232,11 +231,11 @@ module _ {T : Type 0} (Refuses : DeskFault → Type 0) (Late : Type 0) (Closes :
       }
 
 -- where there is no ledger, nothing is closed
-not_here : (m : Machine) (day : ℕ) (result : Result (List Posting) CloseFault) → result ≡ Err NotHere → m.ledger ≡ None → ClosesAs m day result (λ ledger. ledger ≡ None)
+not_here : (m : Machine) (day : ℕ) (result : Result (List Posting) Refusal) → result ≡ Err NotHere → m.ledger ≡ None → ClosesAs m day result (λ ledger. ledger ≡ None)
 not_here m day result is none = record {
   mark = None;
   ledger = m.ledger;
-  step = ap (step_close None m day) none ∙ ap (λ (r : Result (List Posting) CloseFault). stays m (said_of_close day r)) (sym is);
+  step = ap (step_close None m day) none ∙ ap (λ (r : Result (List Posting) Refusal). stays m (said_of_close day r)) (sym is);
   ample = λ e. refl;
   holds = none;
 }
@@ -273,7 +272,7 @@ ledger_plain stands before gathers = record {
 }
 
 -- the closes of a till that lends a ledger
-abbrev pub ClosesInto : {T H : Type 0} → (H → DatabaseState) → (T → H) → T → ℕ → ℕ → List Taken → Result (List Posting) CloseFault → T → Type 0
+abbrev pub ClosesInto : {T H : Type 0} → (H → DatabaseState) → (T → H) → T → ℕ → ℕ → List Taken → Result (List Posting) Refusal → T → Type 0
 ClosesInto state_of lent before day of put result after = LedgerCloses (state_of (lent before)) (state_of (lent after)) of put result
 
 module _ {T H : Type 0} (state_of : H → DatabaseState) (lent : T → H) (gathers : OneShardGathersAll) (stands : Standing (FareTables × State)) (zone : TimeZone) where

@@ -3,7 +3,7 @@ use Rattle.std.specs.Prelude.{Option, IsTrue, IsSomeAnd}
 use Rattle.sqlite.specs.State.{State, HasCleanDisk}
 use Rattle.sqlite.specs.Effect.{Database}
 use Rattle.pay_postings.specs.Words.{LedgerParts}
-use Rattle.pay_ledger.specs.Keeps.{IsLedger}
+use Rattle.pay_ledger.specs.Words.{IsLedger}
 
 -- the disk has returned what was written, and the connection is open; a database in memory always is so
 abbrev pub IsSound : State → Type 0

@@ -6,7 +6,7 @@ use Rattle.jiff.specs.declared.tz.timezone.TimeZone.{TimeZone}
 use Rattle.sqlite.specs.State.{State}
 use Rattle.pay_tables.specs.Words.{FareTables}
 use Rattle.pay_postings.specs.Words.{LedgerParts}
-use Rattle.pay_ledger.specs.Keeps.{IsLedger}
+use Rattle.pay_ledger.specs.Words.{IsLedger}
 use Rattle.pay_wire.specs.Words.{AppendsFront, spelling_of_reply}
 use Rattle.pay_wire.specs.declared.reply.Reply.{Reply}
 use Rattle.pay_session.specs.Words.{line_requests, quits, requests_of, unread, lacks_memory}

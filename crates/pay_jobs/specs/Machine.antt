@@ -9,7 +9,7 @@ use Rattle.pay_postings.specs.declared.fault.PostFault.{PostFault}
 use Rattle.pay_postings.specs.declared.fault.PostFault.TheVariants as post_fault
 use Rattle.pay_shard.specs.declared.asked.Asked.{Asked}
 use Rattle.pay_shard.specs.Words.{State, Step as ShardStep, step as shard_step}
-use Rattle.pay_close.specs.Words.{close}
+use Rattle.pay_close.specs.Words.{close, refusal_of_posting}
 use Rattle.pay_wire.specs.declared.refusal.Refusal.{Refusal}
 use Rattle.pay_wire.specs.declared.refusal.Refusal.TheVariants as refusal
 use Rattle.pay_wire.specs.declared.reply.Reply.{Reply}
@@ -63,14 +63,6 @@ abbrev pub refusal_of_failure : Failure → Refusal
 refusal_of_failure Memory = refusal.Memory
 refusal_of_failure Store = refusal.Store
 refusal_of_failure Desk = refusal.DeskFault
-
--- why quotes are not posted, as a line says it
-abbrev pub refusal_of_posting : PostFault → Refusal
-refusal_of_posting post_fault.BadArchive = refusal.BadArchive
-refusal_of_posting (post_fault.StaleQuote account version through) = refusal.StaleQuote
-refusal_of_posting post_fault.QuoteDiffers = refusal.QuoteDiffers
-refusal_of_posting post_fault.ArchiveConflict = refusal.ArchiveConflict
-refusal_of_posting post_fault.Memory = refusal.Memory
 
 -- what a close comes to: the day's postings and another ledger, or a refusal
 abbrev pub step_closed : Machine → ℕ → Result (List Posting × LedgerParts) PostFault → Step

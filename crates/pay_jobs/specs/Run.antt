@@ -9,7 +9,7 @@ use Rattle.pay_fare_file.specs.Words.{fare_text, fault_number, fault_name}
 use Rattle.pay_fare_file.specs.declared.fault.FareFileFault.{FareFileFault}
 use Rattle.pay_jobs.specs.Faults.{IsRefusal, IsWantOfMemory, IsWantOfLedger}
 use Rattle.pay_postings.specs.Words.{LedgerParts}
-use Rattle.pay_ledger.specs.Opening.{nothing}
+use Rattle.pay_ledger.specs.Words.{nothing}
 use Rattle.pay_jobs.specs.Machine.{Machine}
 use Rattle.pay_jobs.specs.LineRuns.{Ends, FailsSo}
 use Rattle.pay_jobs.specs.declared.fault.Fault.{Fault}

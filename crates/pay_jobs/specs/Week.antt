@@ -2,7 +2,7 @@
 use Rattle.std.specs.Prelude.{◌≡◌, ℕ, List, [], Option, None, Some}
 use Rattle.pay_day.specs.Words.{monday}
 use Rattle.pay_account.specs.Words.{week_lines}
-use Rattle.pay_account.specs.declared.shown.Line.{Line}
+use Rattle.pay_quotes.specs.declared.shown.Line.{Line}
 use Rattle.pay_shard.specs.Words.{accepted_of}
 use Rattle.pay_session.specs.Words.{requests_of, unread}
 use Rattle.pay_jobs.specs.Machine.{Machine}

@@ -2,7 +2,7 @@
 ghost use Rattle.std.specs.Prelude.{◌≡◌};
 ghost use Rattle.pay_jobs.specs.Faults.{IsRefusal, IsWantOfMemory, IsWeekFault, status_of, stream_fault};
 ghost use Rattle.pay_fare_file.specs.Words.{fault_number, fault_name};
-ghost use Rattle.pay_ledger.specs.Faults.{open_fault_number, open_fault_name};
+ghost use Rattle.pay_ledger.specs.Words.{open_fault_number, open_fault_name};
 
 use crate::week::WeekFault;
 use pay_fare_file::FareFileFault;

@@ -11,7 +11,7 @@ ghost use Rattle.pay_jobs.specs.Machine.{Machine, Failure, stays, step};
 ghost use Rattle.pay_jobs.specs.Laws.{FailedCloseTells, OthersNeverFail, FailuresLeaveAccounts, AskedAlikeEndsAlike, AcceptedAlikeEndsAlike};
 
 /// Where memory, the store or the desk fails for a request, no tap and no correction is kept, and nothing is posted. A command
-/// is then answered by want of memory, a close by what failed, and all else as ever.
+/// is then answered by `NO 90 Memory`, a close by what failed, and all else as ever.
 pub fn failures_change_nothing()
     ensures kept { (m : Machine) (r : Request) (failure : Failure) → (step (Some failure) m r).after ≡ m }
     ensures command { (m : Machine) (r : Request) (failure : Failure) (a : Asked) → asks_of m.zone r ≡ Put a → step (Some failure) m r ≡ stays m (No refusal.Memory) }
@@ -19,7 +19,7 @@ pub fn failures_change_nothing()
     ensures others { OthersNeverFail }
 {}
 
-/// What fails for a close concerns the ledger alone: where memory was wanting for nothing, the accounts are what they are
+/// What fails for a close concerns the ledger alone: if memory ran out for nothing, the accounts are what they are
 /// where nothing failed.
 pub fn failed_closes_leave_the_accounts()
     ensures { FailuresLeaveAccounts }

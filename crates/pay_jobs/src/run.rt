@@ -7,8 +7,7 @@ ghost use Rattle.jiff.specs.ZoneView.{plain_zone};
 ghost use Rattle.sqlite.specs.Held.{state};
 ghost use Rattle.sqlite.specs.Steps.{over_memory};
 ghost use Rattle.pay_fare_file.specs.Words.{fare_text};
-ghost use Rattle.pay_ledger.specs.Keeps.{IsLedger};
-ghost use Rattle.pay_ledger.specs.Opening.{nothing};
+ghost use Rattle.pay_ledger.specs.Words.{IsLedger, nothing};
 ghost use Rattle.pay_jobs.specs.Faults.{IsWantOfLedger};
 ghost use Rattle.pay_jobs.specs.Run.{IsRefused, JobEnds, JobFails};
 

@@ -1,5 +1,5 @@
 //! The journeys of an account's week, by the lines of a reader.
-ghost use Rattle.std.specs.Prelude.{◌≡◌, ◌≤◌, None, IfOk, IfErr, IfSome};
+ghost use Rattle.std.specs.Prelude.{◌≡◌, None, IfOk, IfErr, IfSome};
 ghost use Rattle.std.specs.Arc.{arc_value};
 ghost use Rattle.pay_day.specs.Words.{IsDay, monday};
 ghost use Rattle.pay_account.specs.Words.{week_lines};
@@ -19,13 +19,16 @@ use std::alloc::{AllocError, Global};
 use std::io;
 use std::io::BufRead;
 use std::sync::Arc;
+use thiserror::Error;
 
 /// Why the journeys of a week are not told.
-#[derive(Clone, Copy, Debug, PartialEq, Eq)]
+#[derive(Clone, Copy, Debug, PartialEq, Eq, Error)]
 pub enum WeekFault {
     /// What broke the session off. Its replies go to a writer that takes all, so this is the reader.
+    #[error(transparent)]
     Session(SessionFault),
     /// 90: no memory for a line, or for the journeys.
+    #[error("90 Memory")]
     Memory,
 }
 
@@ -64,7 +67,7 @@ fn lines_of(
 
 /// The journeys of the week that holds a service day, counted from 1970-01-01, of an account that has
 /// accepted what the lines of a reader ask for. The replies to the lines are written nowhere; where one of them is
-/// want of memory, no journeys are told, since some may be missing.
+/// `NO 90 Memory`, no journeys are given, since some may be missing.
 pub fn week_by_lines<R: BufRead>(
     alloc: Global,
     reader: &mut R,

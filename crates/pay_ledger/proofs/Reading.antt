@@ -17,7 +17,7 @@ use Rattle.pay_rows.specs.declared.row.FixRow.{FixRow}
 use Rattle.pay_postings.specs.PostingRows.{posting_row, share_rows, share_rows_from, postings_from_rows}
 use Rattle.pay_postings.specs.SetRows.{tap_row, fix_row}
 use Rattle.pay_postings.specs.AccountRows.{is_of_account, of_account, numbered_of, rows_of, shares_of, RiseBehind}
-use Rattle.pay_records.specs.Rows.{LedgerRows, HoldsRows, RiseFrom, posting_row as stored}
+use Rattle.pay_records.specs.Words.{LedgerRows, HoldsRows, RiseFrom, posting_row as stored}
 use Rattle.pay_records.specs.Found as found
 use Rattle.sqlite.specs.State.{State, IsUnchanged}
 use Rattle.pay_postings.specs.declared.fault.PostFault.{PostFault}

@@ -14,7 +14,7 @@ use Rattle.pay_rows.specs.declared.row.TapRow.{TapRow}
 use Rattle.pay_rows.specs.declared.row.FixRow.{FixRow}
 use Rattle.pay_postings.specs.PostingRows.{posting_row, share_rows}
 use Rattle.pay_postings.specs.SetRows.{tap_row, fix_row}
-use Rattle.pay_records.specs.Rows.{LedgerRows, HoldsRows}
+use Rattle.pay_records.specs.Words.{LedgerRows, HoldsRows}
 use Rattle.pay_ledger.specs.Keeps.{Keeps, row_of_posting, row_of_tap, row_of_fix}
 
 zip_more : {A B : Type 0} (xs : List A) (bs : List B) (a : A) (b : B) → length xs ≡ length bs → zip (xs ++ a ∷ []) (bs ++ b ∷ []) ≡ zip xs bs ++ (a, b) ∷ []

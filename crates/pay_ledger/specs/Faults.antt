@@ -1,7 +1,6 @@
 -- The refusals of a ledger, by number and name.
 use Rattle.std.specs.Prelude.{ℕ, Bool, true, false, List, codes}
 use Rattle.pay_postings.specs.declared.fault.PostFault.TheVariants.{BadArchive, Memory}
-use Rattle.pay_postings.specs.Words.{fault_number, fault_name}
 use Rattle.pay_records.specs.declared.fault.ReadFault.{ReadFault}
 use Rattle.pay_records.specs.declared.fault.ReadFault.TheVariants as read
 use Rattle.pay_ledger.specs.declared.fault.OpenFault.{OpenFault}
@@ -26,14 +25,6 @@ abbrev pub opens_by_store : OpenFault → Bool
 opens_by_store opened.Store = true
 opens_by_store opened.Memory = true
 opens_by_store _ = false
-
-abbrev pub ledger_fault_number : LedgerFault → ℕ
-ledger_fault_number Store = 43
-ledger_fault_number (Refused fault) = fault_number fault
-
-abbrev pub ledger_fault_name : LedgerFault → List ℕ
-ledger_fault_name Store = codes "Store"
-ledger_fault_name (Refused fault) = fault_name fault
 
 abbrev pub wants_memory : LedgerFault
 wants_memory = Refused Memory

@@ -1,5 +1,5 @@
 -- What it is for a database to be a ledger: its rows are those of postings and of an archive.
-use Rattle.std.specs.Prelude.{◌≡◌, ℤ, pos, List, length, map, flat_map}
+use Rattle.std.specs.Prelude.{◌≡◌, ◌++◌, ℤ, pos, List, length, map, flat_map}
 use Rattle.std.specs.List.{zip}
 use Rattle.sqlite.specs.Effect.{Database}
 use Rattle.pay_taps.specs.declared.tap.Tap.{Tap}
@@ -7,11 +7,12 @@ use Rattle.pay_fix.specs.declared.fix.Fix.{Fix}
 use Rattle.pay_quotes.specs.declared.posting.Posting.{Posting}
 use Rattle.pay_postings.specs.Words.{LedgerParts, AreKept}
 use Rattle.pay_rows.specs.declared.row.PostingRow.{PostingRow}
+use Rattle.pay_rows.specs.declared.row.ShareRow.{ShareRow}
 use Rattle.pay_rows.specs.declared.row.TapRow.{TapRow}
 use Rattle.pay_rows.specs.declared.row.FixRow.{FixRow}
 use Rattle.pay_postings.specs.PostingRows.{posting_row, share_rows}
 use Rattle.pay_postings.specs.SetRows.{tap_row, fix_row}
-use Rattle.pay_records.specs.Rows.{LedgerRows, HoldsRows}
+use Rattle.pay_records.specs.Words.{LedgerRows, HoldsRows}
 
 -- a posting by its number, a tap and a correction, each as its row beside the account
 abbrev pub row_of_posting : ℤ × Posting → ℤ × ℤ × PostingRow
@@ -42,3 +43,19 @@ pub record Keeps (db : Database) (ledger : LedgerParts) : Type 0 where
 pub record IsLedger (db : Database) (ledger : LedgerParts) : Type 0 where
   pub keeps : Keeps db ledger
   pub kept : AreKept ledger.postings
+
+-- ---- more behind what there is
+
+-- rows with more shares
+abbrev pub with_shares : List ShareRow → LedgerRows → LedgerRows
+with_shares more rows = record rows { shares = rows.shares ++ more }
+
+-- a ledger with more postings, taps or corrections
+abbrev pub with_postings : List Posting → LedgerParts → LedgerParts
+with_postings more ledger = record ledger { postings = ledger.postings ++ more }
+
+abbrev pub with_taps : List Tap → LedgerParts → LedgerParts
+with_taps more ledger = record ledger { taps = ledger.taps ++ more }
+
+abbrev pub with_fixes : List Fix → LedgerParts → LedgerParts
+with_fixes more ledger = record ledger { fixes = ledger.fixes ++ more }

@@ -4,9 +4,7 @@ use Rattle.sqlite.specs.Tree.{Trees}
 use Rattle.sqlite.specs.Effect.{Database}
 use Rattle.sqlite.specs.State.{State}
 use Rattle.pay_postings.specs.Words.{LedgerParts}
-use Rattle.pay_records.specs.Tables.{no_schema}
-use Rattle.pay_records.specs.Steps.{IsBlank}
-use Rattle.pay_records.specs.Kinds.{IsOfKind}
+use Rattle.pay_records.specs.Words.{no_schema, IsBlank, IsOfKind}
 use Rattle.pay_records.specs.declared.kind.Kind.TheVariants as kind
 use Rattle.pay_ledger.specs.declared.fault.OpenFault.{OpenFault}
 use Rattle.pay_ledger.specs.declared.fault.OpenFault.TheVariants.{NotALedger, Version, Store, Memory}
@@ -23,16 +21,26 @@ IsWhy Version db = IsOfKind db kind.Version
 IsWhy Store db = ⊤
 IsWhy Memory db = ⊤
 
+-- it is a ledger, or has none of its tables
+abbrev pub IsLedgerOrBlank : Database → Type 0
+IsLedgerOrBlank db = IsOfKind db kind.Ledger ⊎ IsOfKind db kind.Blank
+
+-- a ledger stays as it is
+abbrev pub KeepsLedger : Database → Database → Type 0
+KeepsLedger old new = (ledger : LedgerParts) → IsLedger old ledger → IsLedger new ledger
+
+-- a database without tables becomes a ledger of nothing
+abbrev pub BlankBecomesLedger : Database → Database → Type 0
+BlankBecomesLedger old new = IsBlank no_schema old → IsLedger new nothing
+
 -- it is a ledger, or it is made one
 pub record IsOpened (old new : State) : Type 0 where
   pub is_open : IsTrue new.is_open
   pub committed : new.committed ≡ new.now
-  pub of_kind : IsOfKind old.now kind.Ledger ⊎ IsOfKind old.now kind.Blank
-  -- a ledger stays as it is
-  pub ledger : (ledger : LedgerParts) → IsLedger old.now ledger → IsLedger new.now ledger
-  -- and a database without tables becomes one without postings
-  pub blank : IsBlank no_schema old.now → IsLedger new.now nothing
+  pub of_kind : IsLedgerOrBlank old.now
+  pub ledger : KeepsLedger old.now new.now
+  pub blank : BlankBecomesLedger old.now new.now
 
 -- what a crash may leave of it, beside what it left before
 abbrev pub MayLeaveOpened : State → Trees → Type 0
-MayLeaveOpened old trees = (db : Database) × (trees ≡ db.trees) × ((ledger : LedgerParts) → IsLedger old.now ledger → IsLedger db ledger) × (IsBlank no_schema old.now → IsLedger db nothing)
+MayLeaveOpened old trees = (db : Database) × (trees ≡ db.trees) × KeepsLedger old.now db × BlankBecomesLedger old.now db

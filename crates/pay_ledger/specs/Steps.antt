@@ -7,6 +7,7 @@ use Rattle.pay_quotes.specs.declared.posting.Posting.{Posting}
 use Rattle.pay_quotes.specs.Words.{QuoteParts, SetsParts}
 use Rattle.pay_postings.specs.declared.fault.PostFault.{PostFault}
 use Rattle.pay_postings.specs.Words.{LedgerParts, posted, AccountsParts, Agrees, IsThere}
+use Rattle.pay_records.specs.Words.{LedgerRows, HoldsRows}
 use Rattle.pay_ledger.specs.declared.fault.LedgerFault.{LedgerFault}
 use Rattle.pay_ledger.specs.declared.fault.LedgerFault.TheVariants.{Refused}
 use Rattle.pay_ledger.specs.Faults.{is_of_store}
@@ -21,6 +22,10 @@ pub record Stays (old new : State) : Type 0 where
 pub record GoesOn (old new : State) : Type 0 where
   pub stays : Stays old new
   pub inside : HasCleanDisk new → IsTrue old.in_transaction → IsTrue new.in_transaction
+
+-- the rows of a ledger become others
+abbrev pub RowsGrow : State → State → (LedgerRows → LedgerRows) → Type 0
+RowsGrow old new change = (rows : LedgerRows) → HoldsRows old.now rows → HoldsRows new.now (change rows)
 
 -- a ledger becomes another
 abbrev pub Grows : State → State → (LedgerParts → LedgerParts) → Type 0
@@ -39,12 +44,16 @@ pub record ReadsInto (old new : State) (before after : AccountsParts) : Type 0 w
 abbrev pub IsRefused : {A : Type 0} → LedgerFault → Result A PostFault → Type 0
 IsRefused fault answer = IsTrue (is_of_store fault) ⊎ ((why : PostFault) × (fault ≡ Refused why) × (answer ≡ Err why))
 
--- quotes were posted and sets archived, and it is committed: of a ledger the database has become the one that the definition says
+-- of a ledger the database has become the one that posting quotes and archiving sets comes to
+abbrev pub BecomesPosted : Database → Database → List QuoteParts × List SetsParts → List Posting → Type 0
+BecomesPosted old new asked given = (ledger : LedgerParts) → IsLedger old ledger → (after : LedgerParts) × (posted ledger asked.0 asked.1 ≡ Ok (given, after)) × IsLedger new after
+
+-- quotes were posted and sets archived, and it is committed
 pub record Posts (old new : State) (quotes : List QuoteParts) (sets : List SetsParts) (given : List Posting) : Type 0 where
   pub was_open : IsTrue old.is_open
   pub is_open : IsTrue new.is_open
   pub committed : new.committed ≡ new.now
-  pub ledger : (ledger : LedgerParts) → IsLedger old.now ledger → (after : LedgerParts) × (posted ledger quotes sets ≡ Ok (given, after)) × IsLedger new.now after
+  pub ledger : BecomesPosted old.now new.now (quotes, sets) given
 
 -- nothing was
 pub record IsAsBefore (old new : State) : Type 0 where

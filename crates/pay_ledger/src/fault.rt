@@ -1,21 +1,25 @@
 ghost use Rattle.std.specs.Prelude.{◌≡◌};
-ghost use Rattle.pay_ledger.specs.Faults.{open_fault_number, open_fault_name, ledger_fault_number, ledger_fault_name};
+ghost use Rattle.pay_ledger.specs.Faults.{open_fault_number, open_fault_name};
 
 use pay_postings::PostFault;
 use pay_records::ReadFault;
-use sqlite::Error;
 use std::alloc::AllocError;
+use thiserror::Error;
 
 /// Why a database is not opened as a ledger.
-#[derive(Clone, Copy, Debug, PartialEq, Eq)]
+#[derive(Clone, Copy, Debug, PartialEq, Eq, Error)]
 pub enum OpenFault {
-    /// 40: it has some of a ledger's tables and not all, or its one row that names it is wanting.
+    /// 40: it has some of a ledger's tables and not all, or its one row that names it is missing.
+    #[error("40 NotALedger")]
     NotALedger,
     /// 41: it is a ledger of another version.
+    #[error("41 Version")]
     Version,
     /// 43: a call of the database failed.
+    #[error("43 Store")]
     Store,
     /// 90: the memory for it was refused.
+    #[error("90 Memory")]
     Memory,
 }
 
@@ -62,46 +66,26 @@ impl From<ReadFault> for OpenFault {
 }
 
 /// A table that was not made, or a commit that failed.
-impl From<Error> for OpenFault {
+impl From<sqlite::Error> for OpenFault {
     ghost use Rattle.std.specs.Prelude.{◌≡◌, ◌⊎◌};
     ghost use Rattle.pay_ledger.specs.declared.fault.OpenFault.TheVariants.{Store, Memory};
 
     ghost from_gives = { λ _ fault. (fault ≡ Store) ⊎ (fault ≡ Memory) };
 
-    fn from(error: Error) -> OpenFault {
+    fn from(error: sqlite::Error) -> OpenFault {
         OpenFault::from(ReadFault::from(error))
     }
 }
 
 /// Why a ledger does not post, nor tell what was posted. It stays as it was.
-#[derive(Clone, Copy, Debug, PartialEq, Eq)]
+#[derive(Clone, Copy, Debug, PartialEq, Eq, Error)]
 pub enum LedgerFault {
     /// 43: a call of the database failed.
+    #[error("43 Store")]
     Store,
     /// 42, 45, 46, 47 or 90.
+    #[error(transparent)]
     Refused(PostFault),
-}
-
-impl LedgerFault {
-    /// The number that is printed.
-    pub fn number(self) -> u16
-        ensures { result ≡ ledger_fault_number self }
-    {
-        match self {
-            LedgerFault::Store => 43,
-            LedgerFault::Refused(fault) => fault.number(),
-        }
-    }
-
-    /// The name that is printed.
-    pub fn name(self) -> &'static str
-        ensures { result.now ≡ ledger_fault_name self }
-    {
-        match self {
-            LedgerFault::Store => "Store",
-            LedgerFault::Refused(fault) => fault.name(),
-        }
-    }
 }
 
 /// A refusal by what was posted.
@@ -145,13 +129,13 @@ impl From<ReadFault> for LedgerFault {
 }
 
 /// A write that failed.
-impl From<Error> for LedgerFault {
+impl From<sqlite::Error> for LedgerFault {
     ghost use Rattle.std.specs.Prelude.{◌≡◌, IsTrue};
     ghost use Rattle.pay_ledger.specs.Faults.{is_of_store};
 
     ghost from_gives = { λ _ fault. IsTrue (is_of_store fault) };
 
-    fn from(error: Error) -> LedgerFault {
+    fn from(error: sqlite::Error) -> LedgerFault {
         LedgerFault::from(ReadFault::from(error))
     }
 }

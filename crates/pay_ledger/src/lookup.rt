@@ -1,12 +1,8 @@
-ghost use Rattle.std.specs.Prelude.{◌≡◌, ◌++◌, ◌∷◌, [], false, IsTrue, IfOk, IfErr, OnOk, OnErr};
-ghost use Rattle.sqlite.specs.Held.{state};
-ghost use Rattle.sqlite.specs.State.{HasCleanDisk, Survives};
-ghost use Rattle.pay_postings.specs.Words.{LedgerParts, postings_of};
+ghost use Rattle.std.specs.Prelude.{◌≡◌, ◌++◌, ◌∷◌, [], false, IfOk, OnOk};
+ghost use Rattle.pay_postings.specs.Words.{postings_of};
 ghost use Rattle.pay_postings.specs.AccountRows.{of_account};
-ghost use Rattle.pay_records.specs.Rows.{LedgerRows, HoldsRows};
-ghost use Rattle.pay_ledger.specs.Keeps.{IsLedger};
-ghost use Rattle.pay_ledger.specs.Steps.{Stays, GoesOn, IsAsBefore};
-ghost use Rattle.pay_ledger.specs.Faults.{is_of_store};
+ghost use Rattle.pay_records.specs.Words.{LeavesAsBefore};
+ghost use Rattle.pay_ledger.specs.Calls.{ChangesNothing, GoesOnIfDone, StaysIfRefused, AnswersOfLedger, AnswersOfRows, FailsByStoreAlone, FailsByStoreAloneOfRows};
 
 use crate::fault::LedgerFault;
 use crate::read::read_posted;
@@ -25,17 +21,17 @@ pub(crate) fn posted_of<S: Alter>(
 ) -> Result<Posted, LedgerFault>
     requires { conn.old.in_transaction ≡ false }
     ensures autocommit { conn.new.in_transaction ≡ false }
-    ensures told { HasCleanDisk (state S.Store conn.new) → IfOk result (λ found. (ledger : LedgerParts) → IsLedger (state S.Store conn.old).now ledger → found ≡ of_account account ledger.postings) }
-    ensures never_bad { HasCleanDisk (state S.Store conn.new) → IfErr result (λ fault. (ledger : LedgerParts) → IsLedger (state S.Store conn.old).now ledger → IsTrue (is_of_store fault)) }
-    ensures kept { HasCleanDisk (state S.Store conn.new) → IsTrue (state S.Store conn.new).is_open → IsAsBefore (state S.Store conn.old) (state S.Store conn.new) }
-    ensures survives { Survives (state S.Store conn.old) (state S.Store conn.new) (λ _. ⊥) }
+    ensures told { AnswersOfLedger S.Store conn.old conn.new result (λ ledger found. found ≡ of_account account ledger.postings) }
+    ensures never_bad { FailsByStoreAlone S.Store conn.old conn.new result }
+    ensures kept { ChangesNothing S.Store conn.old conn.new }
+    ensures survives { LeavesAsBefore S.Store conn.old conn.new }
 {
     let _ = conn.is_autocommit();
     let mut tx = conn.transaction();
     read_posted(alloc, &mut tx, account)
 }
 
-/// Adds a posting, if it is of a week. An `Err` is want of memory.
+/// Adds a posting, if it is of a week. An `Err` is out of memory.
 fn add_of_week(
     list: &mut Vec<Posting>,
     posting: &Posting,
@@ -50,7 +46,7 @@ fn add_of_week(
     Ok(())
 }
 
-/// The postings of an account and a week, in order. An `Err` is want of memory.
+/// The postings of an account and a week, in order. An `Err` is out of memory.
 pub(crate) fn of_week(
     alloc: Global,
     posted: &Posted,
@@ -78,10 +74,10 @@ fn read_archive<S: Alter>(
     tx: &mut Transaction<'_, S>,
 ) -> Result<Archive, LedgerFault>
     ensures same_reference { tx.new.conn.ghost_name ≡ tx.old.conn.ghost_name }
-    ensures told { HasCleanDisk (state S.Store tx.new.conn.now) → IfOk result (λ archive. (rows : LedgerRows) → HoldsRows (state S.Store tx.old.conn.now).now rows → (archive.taps.items ≡ rows.taps) × (archive.fixes.items ≡ rows.fixes)) }
-    ensures never_bad { HasCleanDisk (state S.Store tx.new.conn.now) → IfErr result (λ fault. (rows : LedgerRows) → HoldsRows (state S.Store tx.old.conn.now).now rows → IsTrue (is_of_store fault)) }
-    ensures ok { OnOk result (GoesOn (state S.Store tx.old.conn.now) (state S.Store tx.new.conn.now)) }
-    ensures err { OnErr result (Stays (state S.Store tx.old.conn.now) (state S.Store tx.new.conn.now)) }
+    ensures told { AnswersOfRows S.Store tx.old.conn.now tx.new.conn.now result (λ rows archive. (archive.taps.items ≡ rows.taps) × (archive.fixes.items ≡ rows.fixes)) }
+    ensures never_bad { FailsByStoreAloneOfRows S.Store tx.old.conn.now tx.new.conn.now result }
+    ensures ok { GoesOnIfDone S.Store tx.old.conn.now tx.new.conn.now result }
+    ensures err { StaysIfRefused S.Store tx.old.conn.now tx.new.conn.now result }
 {
     let taps = all_taps(alloc, tx)?;
     let fixes = all_fixes(alloc, tx)?;
@@ -95,10 +91,10 @@ pub(crate) fn archive_of<S: Alter>(
 ) -> Result<Archive, LedgerFault>
     requires { conn.old.in_transaction ≡ false }
     ensures autocommit { conn.new.in_transaction ≡ false }
-    ensures told { HasCleanDisk (state S.Store conn.new) → IfOk result (λ archive. (rows : LedgerRows) → HoldsRows (state S.Store conn.old).now rows → (archive.taps.items ≡ rows.taps) × (archive.fixes.items ≡ rows.fixes)) }
-    ensures never_bad { HasCleanDisk (state S.Store conn.new) → IfErr result (λ fault. (rows : LedgerRows) → HoldsRows (state S.Store conn.old).now rows → IsTrue (is_of_store fault)) }
-    ensures kept { HasCleanDisk (state S.Store conn.new) → IsTrue (state S.Store conn.new).is_open → IsAsBefore (state S.Store conn.old) (state S.Store conn.new) }
-    ensures survives { Survives (state S.Store conn.old) (state S.Store conn.new) (λ _. ⊥) }
+    ensures told { AnswersOfRows S.Store conn.old conn.new result (λ rows archive. (archive.taps.items ≡ rows.taps) × (archive.fixes.items ≡ rows.fixes)) }
+    ensures never_bad { FailsByStoreAloneOfRows S.Store conn.old conn.new result }
+    ensures kept { ChangesNothing S.Store conn.old conn.new }
+    ensures survives { LeavesAsBefore S.Store conn.old conn.new }
 {
     let _ = conn.is_autocommit();
     let mut tx = conn.transaction();

@@ -1,12 +1,11 @@
-ghost use Rattle.std.specs.Prelude.{◌≡◌, ◌≢◌, false, Ok, IsTrue, IfOk, IfErr, OnOk, OnErr};
+ghost use Rattle.std.specs.Prelude.{◌≡◌, false, Ok, IsTrue, IfErr};
 ghost use Rattle.std.specs.List.{AllByRecursion};
-ghost use Rattle.sqlite.specs.Held.{state};
-ghost use Rattle.sqlite.specs.State.{HasCleanDisk, Survives};
 ghost use Rattle.pay_quotes.specs.Words.{IsQuote};
-ghost use Rattle.pay_postings.specs.Words.{LedgerParts, posted, lists, with_batch};
+ghost use Rattle.pay_postings.specs.Words.{posted, lists, with_batch};
 ghost use Rattle.pay_ledger.specs.Faults.{is_of_store};
-ghost use Rattle.pay_ledger.specs.Keeps.{IsLedger};
-ghost use Rattle.pay_ledger.specs.Steps.{Stays, GoesOn, Grows, Tells, IsRefused, Posts, IsAsBefore, MayLeave};
+ghost use Rattle.pay_records.specs.Words.{LeavesAsBeforeOr, Answers, AnswersInside};
+ghost use Rattle.pay_ledger.specs.Steps.{BecomesPosted, Posts, MayLeave};
+ghost use Rattle.pay_ledger.specs.Calls.{ChangesNothingIfRefused, GoesOnIfDone, StaysIfRefused, GrowsInside, FindsInLedger, RefusesAsDefined};
 
 use crate::fault::LedgerFault;
 use crate::read::{read_quoted, read_sets};
@@ -42,10 +41,10 @@ fn batch_for<S: Alter>(
     sets: &[Sets],
 ) -> Result<Batch, LedgerFault>
     ensures same_reference { tx.new.conn.ghost_name ≡ tx.old.conn.ghost_name }
-    ensures told { HasCleanDisk (state S.Store tx.new.conn.now) → IfOk result (λ batch. Tells (state S.Store tx.old.conn.now) (state S.Store tx.new.conn.now) (λ ledger. posted ledger quotes.now sets.now ≡ Ok (batch.given.items, with_batch ledger (lists batch)))) }
-    ensures refused { HasCleanDisk (state S.Store tx.new.conn.now) → IfErr result (λ fault. (ledger : LedgerParts) → IsLedger (state S.Store tx.old.conn.now).now ledger → IsRefused fault (posted ledger quotes.now sets.now)) }
-    ensures ok { OnOk result (GoesOn (state S.Store tx.old.conn.now) (state S.Store tx.new.conn.now)) }
-    ensures err { OnErr result (Stays (state S.Store tx.old.conn.now) (state S.Store tx.new.conn.now)) }
+    ensures told { FindsInLedger S.Store tx.old.conn.now tx.new.conn.now result (λ ledger batch. posted ledger quotes.now sets.now ≡ Ok (batch.given.items, with_batch ledger (lists batch))) }
+    ensures refused { RefusesAsDefined S.Store tx.old.conn.now tx.new.conn.now result (λ ledger. posted ledger quotes.now sets.now) }
+    ensures ok { GoesOnIfDone S.Store tx.old.conn.now tx.new.conn.now result }
+    ensures err { StaysIfRefused S.Store tx.old.conn.now tx.new.conn.now result }
 {
     let mut accounts = Accounts::new(alloc);
     read_quoted(alloc, tx, &mut accounts, quotes)?;
@@ -60,10 +59,10 @@ fn write_batch<S: Alter>(
     batch: &Batch,
 ) -> Result<(), LedgerFault>
     ensures same_reference { tx.new.conn.ghost_name ≡ tx.old.conn.ghost_name }
-    ensures writes { HasCleanDisk (state S.Store tx.new.conn.now) → IsTrue (state S.Store tx.old.conn.now).in_transaction → OnOk result (Grows (state S.Store tx.old.conn.now) (state S.Store tx.new.conn.now) (λ ledger. with_batch ledger (lists batch.now))) }
+    ensures writes { GrowsInside S.Store tx.old.conn.now tx.new.conn.now result (λ ledger. with_batch ledger (lists batch.now)) }
     ensures of_store { IfErr result (λ fault. IsTrue (is_of_store fault)) }
-    ensures ok { OnOk result (GoesOn (state S.Store tx.old.conn.now) (state S.Store tx.new.conn.now)) }
-    ensures err { OnErr result (Stays (state S.Store tx.old.conn.now) (state S.Store tx.new.conn.now)) }
+    ensures ok { GoesOnIfDone S.Store tx.old.conn.now tx.new.conn.now result }
+    ensures err { StaysIfRefused S.Store tx.old.conn.now tx.new.conn.now result }
 {
     write_postings(alloc, tx, &batch.postings)?;
     write_taps(tx, &batch.taps)?;
@@ -79,10 +78,10 @@ fn post_in<S: Alter>(
     sets: &[Sets],
 ) -> Result<Vec<Posting>, LedgerFault>
     ensures same_reference { tx.new.conn.ghost_name ≡ tx.old.conn.ghost_name }
-    ensures posts { HasCleanDisk (state S.Store tx.new.conn.now) → IsTrue (state S.Store tx.old.conn.now).in_transaction → IfOk result (λ given. (ledger : LedgerParts) → IsLedger (state S.Store tx.old.conn.now).now ledger → (after : LedgerParts) × (posted ledger quotes.now sets.now ≡ Ok (given.items, after)) × IsLedger (state S.Store tx.new.conn.now).now after) }
-    ensures refused { HasCleanDisk (state S.Store tx.new.conn.now) → IfErr result (λ fault. (ledger : LedgerParts) → IsLedger (state S.Store tx.old.conn.now).now ledger → IsRefused fault (posted ledger quotes.now sets.now)) }
-    ensures ok { OnOk result (GoesOn (state S.Store tx.old.conn.now) (state S.Store tx.new.conn.now)) }
-    ensures err { OnErr result (Stays (state S.Store tx.old.conn.now) (state S.Store tx.new.conn.now)) }
+    ensures posts { AnswersInside S.Store tx.old.conn.now tx.new.conn.now result (λ old new given. BecomesPosted old.now new.now (quotes.now, sets.now) given.items) }
+    ensures refused { RefusesAsDefined S.Store tx.old.conn.now tx.new.conn.now result (λ ledger. posted ledger quotes.now sets.now) }
+    ensures ok { GoesOnIfDone S.Store tx.old.conn.now tx.new.conn.now result }
+    ensures err { StaysIfRefused S.Store tx.old.conn.now tx.new.conn.now result }
 {
     are_quotes(quotes);
     pay_postings::laws::kept();
@@ -100,10 +99,10 @@ pub(crate) fn post<S: Alter>(
 ) -> Result<Vec<Posting>, LedgerFault>
     requires { conn.old.in_transaction ≡ false }
     ensures autocommit { conn.new.in_transaction ≡ false }
-    ensures posts { HasCleanDisk (state S.Store conn.new) → IfOk result (λ given. Posts (state S.Store conn.old) (state S.Store conn.new) quotes.now sets.now given.items) }
-    ensures refused { HasCleanDisk (state S.Store conn.new) → IfErr result (λ fault. (ledger : LedgerParts) → IsLedger (state S.Store conn.old).now ledger → IsRefused fault (posted ledger quotes.now sets.now)) }
-    ensures kept { HasCleanDisk (state S.Store conn.new) → IsTrue (state S.Store conn.new).is_open → OnErr result (IsAsBefore (state S.Store conn.old) (state S.Store conn.new)) }
-    ensures survives { Survives (state S.Store conn.old) (state S.Store conn.new) (MayLeave (state S.Store conn.old) quotes.now sets.now) }
+    ensures posts { Answers S.Store conn.old conn.new result (λ old new given. Posts old new quotes.now sets.now given.items) }
+    ensures refused { RefusesAsDefined S.Store conn.old conn.new result (λ ledger. posted ledger quotes.now sets.now) }
+    ensures kept { ChangesNothingIfRefused S.Store conn.old conn.new result }
+    ensures survives { LeavesAsBeforeOr S.Store conn.old conn.new (λ old. MayLeave old quotes.now sets.now) }
 {
     let _ = conn.is_autocommit();
     let mut tx = conn.transaction();

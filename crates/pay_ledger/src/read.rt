@@ -1,14 +1,10 @@
-ghost use Rattle.std.specs.Prelude.{◌≡◌, pos, map, IfOk, IfErr, OnOk, OnErr, IsTrue};
-ghost use Rattle.sqlite.specs.Held.{state};
-ghost use Rattle.sqlite.specs.State.{HasCleanDisk};
-ghost use Rattle.pay_postings.specs.Words.{LedgerParts, parts, taps_of, fixes_of, archived_of, IsThere};
+ghost use Rattle.std.specs.Prelude.{◌≡◌, map, OnOk};
+ghost use Rattle.pay_postings.specs.Words.{parts, taps_of, fixes_of, archived_of, IsThere};
 ghost use Rattle.pay_postings.specs.SetRows.{tap_row, fix_row};
 ghost use Rattle.pay_postings.specs.AccountRows.{of_account};
 ghost use Rattle.std.specs.List.{AllByRecursion};
 ghost use Rattle.pay_quotes.specs.Words.{QuoteParts, SetsParts};
-ghost use Rattle.pay_ledger.specs.Keeps.{IsLedger};
-ghost use Rattle.pay_ledger.specs.Steps.{Stays, GoesOn, Tells, ReadsInto};
-ghost use Rattle.pay_ledger.specs.Faults.{is_of_store};
+ghost use Rattle.pay_ledger.specs.Calls.{GoesOnIfDone, StaysIfRefused, ReadsIntoIfDone, FindsInLedger, FailsByStoreAlone};
 
 use crate::fault::LedgerFault;
 use pay_postings::{Accounts, Archived, Posted, postings_from_rows};
@@ -25,10 +21,10 @@ fn read_taps<S: Alter>(
     account: u32,
 ) -> Result<Vec<TapRow>, LedgerFault>
     ensures same_reference { tx.new.conn.ghost_name ≡ tx.old.conn.ghost_name }
-    ensures told { HasCleanDisk (state S.Store tx.new.conn.now) → IfOk result (λ found. Tells (state S.Store tx.old.conn.now) (state S.Store tx.new.conn.now) (λ ledger. found.items ≡ map tap_row (taps_of account ledger.taps))) }
-    ensures never_bad { HasCleanDisk (state S.Store tx.new.conn.now) → IfErr result (λ fault. (ledger : LedgerParts) → IsLedger (state S.Store tx.old.conn.now).now ledger → IsTrue (is_of_store fault)) }
-    ensures ok { OnOk result (GoesOn (state S.Store tx.old.conn.now) (state S.Store tx.new.conn.now)) }
-    ensures err { OnErr result (Stays (state S.Store tx.old.conn.now) (state S.Store tx.new.conn.now)) }
+    ensures told { FindsInLedger S.Store tx.old.conn.now tx.new.conn.now result (λ ledger found. found.items ≡ map tap_row (taps_of account ledger.taps)) }
+    ensures never_bad { FailsByStoreAlone S.Store tx.old.conn.now tx.new.conn.now result }
+    ensures ok { GoesOnIfDone S.Store tx.old.conn.now tx.new.conn.now result }
+    ensures err { StaysIfRefused S.Store tx.old.conn.now tx.new.conn.now result }
 {
     Ok(taps_of(alloc, tx, i64::from(account))?)
 }
@@ -40,10 +36,10 @@ fn read_fixes<S: Alter>(
     account: u32,
 ) -> Result<Vec<FixRow>, LedgerFault>
     ensures same_reference { tx.new.conn.ghost_name ≡ tx.old.conn.ghost_name }
-    ensures told { HasCleanDisk (state S.Store tx.new.conn.now) → IfOk result (λ found. Tells (state S.Store tx.old.conn.now) (state S.Store tx.new.conn.now) (λ ledger. found.items ≡ map fix_row (fixes_of account ledger.fixes))) }
-    ensures never_bad { HasCleanDisk (state S.Store tx.new.conn.now) → IfErr result (λ fault. (ledger : LedgerParts) → IsLedger (state S.Store tx.old.conn.now).now ledger → IsTrue (is_of_store fault)) }
-    ensures ok { OnOk result (GoesOn (state S.Store tx.old.conn.now) (state S.Store tx.new.conn.now)) }
-    ensures err { OnErr result (Stays (state S.Store tx.old.conn.now) (state S.Store tx.new.conn.now)) }
+    ensures told { FindsInLedger S.Store tx.old.conn.now tx.new.conn.now result (λ ledger found. found.items ≡ map fix_row (fixes_of account ledger.fixes)) }
+    ensures never_bad { FailsByStoreAlone S.Store tx.old.conn.now tx.new.conn.now result }
+    ensures ok { GoesOnIfDone S.Store tx.old.conn.now tx.new.conn.now result }
+    ensures err { StaysIfRefused S.Store tx.old.conn.now tx.new.conn.now result }
 {
     Ok(fixes_of(alloc, tx, i64::from(account))?)
 }
@@ -55,10 +51,10 @@ pub(crate) fn read_posted<S: Alter>(
     account: u32,
 ) -> Result<Posted, LedgerFault>
     ensures same_reference { tx.new.conn.ghost_name ≡ tx.old.conn.ghost_name }
-    ensures told { HasCleanDisk (state S.Store tx.new.conn.now) → IfOk result (λ found. Tells (state S.Store tx.old.conn.now) (state S.Store tx.new.conn.now) (λ ledger. found ≡ of_account account ledger.postings)) }
-    ensures never_bad { HasCleanDisk (state S.Store tx.new.conn.now) → IfErr result (λ fault. (ledger : LedgerParts) → IsLedger (state S.Store tx.old.conn.now).now ledger → IsTrue (is_of_store fault)) }
-    ensures ok { OnOk result (GoesOn (state S.Store tx.old.conn.now) (state S.Store tx.new.conn.now)) }
-    ensures err { OnErr result (Stays (state S.Store tx.old.conn.now) (state S.Store tx.new.conn.now)) }
+    ensures told { FindsInLedger S.Store tx.old.conn.now tx.new.conn.now result (λ ledger found. found ≡ of_account account ledger.postings) }
+    ensures never_bad { FailsByStoreAlone S.Store tx.old.conn.now tx.new.conn.now result }
+    ensures ok { GoesOnIfDone S.Store tx.old.conn.now tx.new.conn.now result }
+    ensures err { StaysIfRefused S.Store tx.old.conn.now tx.new.conn.now result }
 {
     let rows = postings_of(alloc, tx, i64::from(account))?;
     let shares = shares_of(alloc, tx, i64::from(account))?;
@@ -73,10 +69,10 @@ pub(crate) fn read_account<S: Alter>(
     account: u32,
 ) -> Result<Archived, LedgerFault>
     ensures same_reference { tx.new.conn.ghost_name ≡ tx.old.conn.ghost_name }
-    ensures told { HasCleanDisk (state S.Store tx.new.conn.now) → IfOk result (λ found. Tells (state S.Store tx.old.conn.now) (state S.Store tx.new.conn.now) (λ ledger. parts found ≡ archived_of account ledger)) }
-    ensures never_bad { HasCleanDisk (state S.Store tx.new.conn.now) → IfErr result (λ fault. (ledger : LedgerParts) → IsLedger (state S.Store tx.old.conn.now).now ledger → IsTrue (is_of_store fault)) }
-    ensures ok { OnOk result (GoesOn (state S.Store tx.old.conn.now) (state S.Store tx.new.conn.now)) }
-    ensures err { OnErr result (Stays (state S.Store tx.old.conn.now) (state S.Store tx.new.conn.now)) }
+    ensures told { FindsInLedger S.Store tx.old.conn.now tx.new.conn.now result (λ ledger found. parts found ≡ archived_of account ledger) }
+    ensures never_bad { FailsByStoreAlone S.Store tx.old.conn.now tx.new.conn.now result }
+    ensures ok { GoesOnIfDone S.Store tx.old.conn.now tx.new.conn.now result }
+    ensures err { StaysIfRefused S.Store tx.old.conn.now tx.new.conn.now result }
 {
     let posted = read_posted(alloc, tx, account)?;
     let taps = read_taps(alloc, tx, account)?;
@@ -96,11 +92,11 @@ fn read_into<S: Alter>(
     account: u32,
 ) -> Result<(), LedgerFault>
     ensures same_reference { tx.new.conn.ghost_name ≡ tx.old.conn.ghost_name }
-    ensures told { OnOk result (ReadsInto (state S.Store tx.old.conn.now) (state S.Store tx.new.conn.now) accounts.old accounts.new) }
+    ensures told { ReadsIntoIfDone S.Store tx.old.conn.now tx.new.conn.now result accounts.old accounts.new }
     ensures there { OnOk result (IsThere accounts.new account) }
-    ensures never_bad { HasCleanDisk (state S.Store tx.new.conn.now) → IfErr result (λ fault. (ledger : LedgerParts) → IsLedger (state S.Store tx.old.conn.now).now ledger → IsTrue (is_of_store fault)) }
-    ensures ok { OnOk result (GoesOn (state S.Store tx.old.conn.now) (state S.Store tx.new.conn.now)) }
-    ensures err { OnErr result (Stays (state S.Store tx.old.conn.now) (state S.Store tx.new.conn.now)) }
+    ensures never_bad { FailsByStoreAlone S.Store tx.old.conn.now tx.new.conn.now result }
+    ensures ok { GoesOnIfDone S.Store tx.old.conn.now tx.new.conn.now result }
+    ensures err { StaysIfRefused S.Store tx.old.conn.now tx.new.conn.now result }
 {
     if accounts.has(account) {
         return Ok(());
@@ -118,11 +114,11 @@ pub(crate) fn read_quoted<S: Alter>(
     quotes: &[Quote],
 ) -> Result<(), LedgerFault>
     ensures same_reference { tx.new.conn.ghost_name ≡ tx.old.conn.ghost_name }
-    ensures told { OnOk result (ReadsInto (state S.Store tx.old.conn.now) (state S.Store tx.new.conn.now) accounts.old accounts.new) }
+    ensures told { ReadsIntoIfDone S.Store tx.old.conn.now tx.new.conn.now result accounts.old accounts.new }
     ensures there { OnOk result (AllByRecursion (λ (q : QuoteParts). IsThere accounts.new q.account) quotes.now) }
-    ensures never_bad { HasCleanDisk (state S.Store tx.new.conn.now) → IfErr result (λ fault. (ledger : LedgerParts) → IsLedger (state S.Store tx.old.conn.now).now ledger → IsTrue (is_of_store fault)) }
-    ensures ok { OnOk result (GoesOn (state S.Store tx.old.conn.now) (state S.Store tx.new.conn.now)) }
-    ensures err { OnErr result (Stays (state S.Store tx.old.conn.now) (state S.Store tx.new.conn.now)) }
+    ensures never_bad { FailsByStoreAlone S.Store tx.old.conn.now tx.new.conn.now result }
+    ensures ok { GoesOnIfDone S.Store tx.old.conn.now tx.new.conn.now result }
+    ensures err { StaysIfRefused S.Store tx.old.conn.now tx.new.conn.now result }
 {
     for quote in quotes {
         read_into(alloc, tx, accounts, quote.account())?;
@@ -138,11 +134,11 @@ pub(crate) fn read_sets<S: Alter>(
     sets: &[Sets],
 ) -> Result<(), LedgerFault>
     ensures same_reference { tx.new.conn.ghost_name ≡ tx.old.conn.ghost_name }
-    ensures told { OnOk result (ReadsInto (state S.Store tx.old.conn.now) (state S.Store tx.new.conn.now) accounts.old accounts.new) }
+    ensures told { ReadsIntoIfDone S.Store tx.old.conn.now tx.new.conn.now result accounts.old accounts.new }
     ensures there { OnOk result (AllByRecursion (λ (s : SetsParts). IsThere accounts.new s.account) sets.now) }
-    ensures never_bad { HasCleanDisk (state S.Store tx.new.conn.now) → IfErr result (λ fault. (ledger : LedgerParts) → IsLedger (state S.Store tx.old.conn.now).now ledger → IsTrue (is_of_store fault)) }
-    ensures ok { OnOk result (GoesOn (state S.Store tx.old.conn.now) (state S.Store tx.new.conn.now)) }
-    ensures err { OnErr result (Stays (state S.Store tx.old.conn.now) (state S.Store tx.new.conn.now)) }
+    ensures never_bad { FailsByStoreAlone S.Store tx.old.conn.now tx.new.conn.now result }
+    ensures ok { GoesOnIfDone S.Store tx.old.conn.now tx.new.conn.now result }
+    ensures err { StaysIfRefused S.Store tx.old.conn.now tx.new.conn.now result }
 {
     for set in sets {
         read_into(alloc, tx, accounts, set.account())?;

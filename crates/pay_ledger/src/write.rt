@@ -1,9 +1,9 @@
-ghost use Rattle.std.specs.Prelude.{◌≡◌, ◌++◌, ◌∷◌, [], IsTrue, IfErr, OnOk, OnErr};
-ghost use Rattle.sqlite.specs.Held.{state};
-ghost use Rattle.sqlite.specs.State.{HasCleanDisk};
-ghost use Rattle.pay_records.specs.Rows.{LedgerRows, HoldsRows};
+ghost use Rattle.std.specs.Prelude.{◌≡◌, ◌∷◌, [], IsTrue, IfErr};
 ghost use Rattle.pay_ledger.specs.Faults.{is_of_store};
-ghost use Rattle.pay_ledger.specs.Steps.{Grows, Stays, GoesOn};
+ghost use Rattle.pay_records.specs.Words.{Does};
+ghost use Rattle.pay_ledger.specs.Keeps.{with_shares, with_postings, with_taps, with_fixes};
+ghost use Rattle.pay_ledger.specs.Steps.{RowsGrow};
+ghost use Rattle.pay_ledger.specs.Calls.{GoesOnIfDone, StaysIfRefused, GrowsInside};
 
 use crate::fault::LedgerFault;
 use pay_fix::Fix;
@@ -21,10 +21,10 @@ fn write_shares<S: Alter>(
     shares: &[ShareRow],
 ) -> Result<(), LedgerFault>
     ensures same_reference { tx.new.conn.ghost_name ≡ tx.old.conn.ghost_name }
-    ensures writes { HasCleanDisk (state S.Store tx.new.conn.now) → OnOk result ((l : LedgerRows) → HoldsRows (state S.Store tx.old.conn.now).now l → HoldsRows (state S.Store tx.new.conn.now).now (record l { shares = l.shares ++ shares.now })) }
-    ensures ok { OnOk result (GoesOn (state S.Store tx.old.conn.now) (state S.Store tx.new.conn.now)) }
+    ensures writes { Does S.Store tx.old.conn.now tx.new.conn.now result (λ old new. RowsGrow old new (with_shares shares.now)) }
+    ensures ok { GoesOnIfDone S.Store tx.old.conn.now tx.new.conn.now result }
     ensures of_store { IfErr result (λ fault. IsTrue (is_of_store fault)) }
-    ensures err { OnErr result (Stays (state S.Store tx.old.conn.now) (state S.Store tx.new.conn.now)) }
+    ensures err { StaysIfRefused S.Store tx.old.conn.now tx.new.conn.now result }
 {
     for share in shares {
         add_share(tx, share)?;
@@ -39,10 +39,10 @@ fn write_posting<S: Alter>(
     posting: &Posting,
 ) -> Result<(), LedgerFault>
     ensures same_reference { tx.new.conn.ghost_name ≡ tx.old.conn.ghost_name }
-    ensures writes { HasCleanDisk (state S.Store tx.new.conn.now) → IsTrue (state S.Store tx.old.conn.now).in_transaction → OnOk result (Grows (state S.Store tx.old.conn.now) (state S.Store tx.new.conn.now) (λ ledger. record ledger { postings = ledger.postings ++ posting.now ∷ [] })) }
-    ensures ok { OnOk result (GoesOn (state S.Store tx.old.conn.now) (state S.Store tx.new.conn.now)) }
+    ensures writes { GrowsInside S.Store tx.old.conn.now tx.new.conn.now result (with_postings (posting.now ∷ [])) }
+    ensures ok { GoesOnIfDone S.Store tx.old.conn.now tx.new.conn.now result }
     ensures of_store { IfErr result (λ fault. IsTrue (is_of_store fault)) }
-    ensures err { OnErr result (Stays (state S.Store tx.old.conn.now) (state S.Store tx.new.conn.now)) }
+    ensures err { StaysIfRefused S.Store tx.old.conn.now tx.new.conn.now result }
 {
     let id = add_posting(
         tx,
@@ -60,10 +60,10 @@ pub(crate) fn write_postings<S: Alter>(
     postings: &[Posting],
 ) -> Result<(), LedgerFault>
     ensures same_reference { tx.new.conn.ghost_name ≡ tx.old.conn.ghost_name }
-    ensures writes { HasCleanDisk (state S.Store tx.new.conn.now) → IsTrue (state S.Store tx.old.conn.now).in_transaction → OnOk result (Grows (state S.Store tx.old.conn.now) (state S.Store tx.new.conn.now) (λ ledger. record ledger { postings = ledger.postings ++ postings.now })) }
-    ensures ok { OnOk result (GoesOn (state S.Store tx.old.conn.now) (state S.Store tx.new.conn.now)) }
+    ensures writes { GrowsInside S.Store tx.old.conn.now tx.new.conn.now result (with_postings postings.now) }
+    ensures ok { GoesOnIfDone S.Store tx.old.conn.now tx.new.conn.now result }
     ensures of_store { IfErr result (λ fault. IsTrue (is_of_store fault)) }
-    ensures err { OnErr result (Stays (state S.Store tx.old.conn.now) (state S.Store tx.new.conn.now)) }
+    ensures err { StaysIfRefused S.Store tx.old.conn.now tx.new.conn.now result }
 {
     for posting in postings {
         write_posting(alloc, tx, posting)?;
@@ -74,10 +74,10 @@ pub(crate) fn write_postings<S: Alter>(
 /// Archives a tap.
 fn write_tap<S: Alter>(tx: &mut Transaction<'_, S>, tap: &Tap) -> Result<(), LedgerFault>
     ensures same_reference { tx.new.conn.ghost_name ≡ tx.old.conn.ghost_name }
-    ensures writes { HasCleanDisk (state S.Store tx.new.conn.now) → IsTrue (state S.Store tx.old.conn.now).in_transaction → OnOk result (Grows (state S.Store tx.old.conn.now) (state S.Store tx.new.conn.now) (λ ledger. record ledger { taps = ledger.taps ++ tap.now ∷ [] })) }
-    ensures ok { OnOk result (GoesOn (state S.Store tx.old.conn.now) (state S.Store tx.new.conn.now)) }
+    ensures writes { GrowsInside S.Store tx.old.conn.now tx.new.conn.now result (with_taps (tap.now ∷ [])) }
+    ensures ok { GoesOnIfDone S.Store tx.old.conn.now tx.new.conn.now result }
     ensures of_store { IfErr result (λ fault. IsTrue (is_of_store fault)) }
-    ensures err { OnErr result (Stays (state S.Store tx.old.conn.now) (state S.Store tx.new.conn.now)) }
+    ensures err { StaysIfRefused S.Store tx.old.conn.now tx.new.conn.now result }
 {
     add_tap(tx, i64::from(tap.account), &tap_row(tap))?;
     Ok(())
@@ -89,10 +89,10 @@ pub(crate) fn write_taps<S: Alter>(
     taps: &[Tap],
 ) -> Result<(), LedgerFault>
     ensures same_reference { tx.new.conn.ghost_name ≡ tx.old.conn.ghost_name }
-    ensures writes { HasCleanDisk (state S.Store tx.new.conn.now) → IsTrue (state S.Store tx.old.conn.now).in_transaction → OnOk result (Grows (state S.Store tx.old.conn.now) (state S.Store tx.new.conn.now) (λ ledger. record ledger { taps = ledger.taps ++ taps.now })) }
-    ensures ok { OnOk result (GoesOn (state S.Store tx.old.conn.now) (state S.Store tx.new.conn.now)) }
+    ensures writes { GrowsInside S.Store tx.old.conn.now tx.new.conn.now result (with_taps taps.now) }
+    ensures ok { GoesOnIfDone S.Store tx.old.conn.now tx.new.conn.now result }
     ensures of_store { IfErr result (λ fault. IsTrue (is_of_store fault)) }
-    ensures err { OnErr result (Stays (state S.Store tx.old.conn.now) (state S.Store tx.new.conn.now)) }
+    ensures err { StaysIfRefused S.Store tx.old.conn.now tx.new.conn.now result }
 {
     for tap in taps {
         write_tap(tx, tap)?;
@@ -103,10 +103,10 @@ pub(crate) fn write_taps<S: Alter>(
 /// Archives a correction.
 fn write_fix<S: Alter>(tx: &mut Transaction<'_, S>, fix: &Fix) -> Result<(), LedgerFault>
     ensures same_reference { tx.new.conn.ghost_name ≡ tx.old.conn.ghost_name }
-    ensures writes { HasCleanDisk (state S.Store tx.new.conn.now) → IsTrue (state S.Store tx.old.conn.now).in_transaction → OnOk result (Grows (state S.Store tx.old.conn.now) (state S.Store tx.new.conn.now) (λ ledger. record ledger { fixes = ledger.fixes ++ fix.now ∷ [] })) }
-    ensures ok { OnOk result (GoesOn (state S.Store tx.old.conn.now) (state S.Store tx.new.conn.now)) }
+    ensures writes { GrowsInside S.Store tx.old.conn.now tx.new.conn.now result (with_fixes (fix.now ∷ [])) }
+    ensures ok { GoesOnIfDone S.Store tx.old.conn.now tx.new.conn.now result }
     ensures of_store { IfErr result (λ fault. IsTrue (is_of_store fault)) }
-    ensures err { OnErr result (Stays (state S.Store tx.old.conn.now) (state S.Store tx.new.conn.now)) }
+    ensures err { StaysIfRefused S.Store tx.old.conn.now tx.new.conn.now result }
 {
     add_fix(tx, i64::from(fix.account), &fix_row(fix))?;
     Ok(())
@@ -118,10 +118,10 @@ pub(crate) fn write_fixes<S: Alter>(
     fixes: &[Fix],
 ) -> Result<(), LedgerFault>
     ensures same_reference { tx.new.conn.ghost_name ≡ tx.old.conn.ghost_name }
-    ensures writes { HasCleanDisk (state S.Store tx.new.conn.now) → IsTrue (state S.Store tx.old.conn.now).in_transaction → OnOk result (Grows (state S.Store tx.old.conn.now) (state S.Store tx.new.conn.now) (λ ledger. record ledger { fixes = ledger.fixes ++ fixes.now })) }
-    ensures ok { OnOk result (GoesOn (state S.Store tx.old.conn.now) (state S.Store tx.new.conn.now)) }
+    ensures writes { GrowsInside S.Store tx.old.conn.now tx.new.conn.now result (with_fixes fixes.now) }
+    ensures ok { GoesOnIfDone S.Store tx.old.conn.now tx.new.conn.now result }
     ensures of_store { IfErr result (λ fault. IsTrue (is_of_store fault)) }
-    ensures err { OnErr result (Stays (state S.Store tx.old.conn.now) (state S.Store tx.new.conn.now)) }
+    ensures err { StaysIfRefused S.Store tx.old.conn.now tx.new.conn.now result }
 {
     for fix in fixes {
         write_fix(tx, fix)?;

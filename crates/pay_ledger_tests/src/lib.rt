@@ -7,6 +7,8 @@ mod accounts;
 #[cfg(test)]
 mod closes;
 #[cfg(test)]
+mod faults;
+#[cfg(test)]
 mod given;
 #[cfg(test)]
 mod ledger;

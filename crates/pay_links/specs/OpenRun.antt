@@ -1,8 +1,9 @@
 -- A run that may go on, while the parts are read.
-use Rattle.std.specs.Prelude.{List, [], ◌∷◌, Option, Some, None}
+use Rattle.std.specs.Prelude.{List, [], ◌∷◌, ◌++◌, Option, Some, None}
 use Rattle.pay_pairs.specs.Words.{FareTables}
+use Rattle.pay_pairs.specs.declared.parts.RailPart.{RailPart}
 use Rattle.pay_links.specs.LinkedLegs.{LinkedLegs}
-use Rattle.pay_links.specs.Journeys.{run_before}
+use Rattle.pay_links.specs.Journeys.{run_before, journeys}
 use Rattle.pay_links.specs.declared.journey.Journey.{Journey}
 use Rattle.pay_links.specs.declared.journey.Journey.TheVariants as journey
 
@@ -15,3 +16,7 @@ closed (Some run) = journey.Run run ∷ []
 abbrev pub open_before : FareTables → Option LinkedLegs → List Journey → List Journey
 open_before tables None later = later
 open_before tables (Some run) later = run_before tables run later
+
+-- all journeys, if these are done, this run may go on, and these parts are still to come
+abbrev pub journeys_with : FareTables → List Journey → Option LinkedLegs → List RailPart → List Journey
+journeys_with tables done run later = done ++ open_before tables run (journeys tables later)

@@ -1,7 +1,7 @@
 ghost use Rattle.std.specs.Prelude.{◌≡◌, ◌∷◌, ◌++◌, false, IfOk, OnOk, List};
 ghost use Rattle.pay_pairs.specs.declared.parts.RailPart.{RailPart};
 ghost use Rattle.pay_links.specs.Journeys.{is_same, is_linked, journeys, run_before, leg_before, AreJourneys};
-ghost use Rattle.pay_links.specs.OpenRun.{open_before, closed};
+ghost use Rattle.pay_links.specs.OpenRun.{open_before, closed, journeys_with};
 
 use crate::journey::{Journey, Run};
 use pay_pairs::{Leg, RailPart, Tables};
@@ -70,7 +70,7 @@ fn add(
     part: RailPart,
 ) -> Result<Option<Run>, AllocError>
     ensures { IfOk result (λ run. (later : List RailPart) →
-        done.new.items ++ open_before tables.now run (journeys tables.now later) ≡ done.old.items ++ open_before tables.now current (journeys tables.now (part ∷ later))) }
+        journeys_with tables.now done.new.items run later ≡ journeys_with tables.now done.old.items current (part ∷ later)) }
 {
     let journey = match part {
         RailPart::Leg(leg) if !is_same(&leg) => {
@@ -89,7 +89,7 @@ fn add(
 /// A leg is linked with the next one if from its exit to the other's entry an interchange is listed, in
 /// either order of the stations, and at most the interchange's seconds pass; a leg that ends at the
 /// station where it began is linked with none. A journey is as many legs as are linked, each with the
-/// next; a lone tap, and any other leg, is one by itself. An `Err` is want of memory.
+/// next; a lone tap, and any other leg, is one by itself. An `Err` is out of memory.
 pub fn journeys(
     alloc: Global,
     tables: &Tables,

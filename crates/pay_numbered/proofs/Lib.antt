@@ -3,3 +3,4 @@ pub mod NumberOrder
 pub mod OneMore
 pub mod InTurn
 mod KeptList
+mod Rows

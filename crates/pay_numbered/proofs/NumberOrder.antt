@@ -1,5 +1,5 @@
 -- Numbers as keys, and what a map under them keeps.
-use Rattle.std.proofs.Common.{◌≡◌, ◌≢◌, ℕ, ◌+◌, ◌<◌, ◌≤◌, true, false, cond, T, List, [], ◌∷◌, length, map, Option, Some, None, IfSome, is_some, Ordering, Less, Equal, Greater, nat_cmp, is_eq, eqb-true, IsTrue, nat_eq, ◌↔◌, refl, sym, ap, ◌∙◌, subst, arith}
+use Rattle.std.proofs.Common.{◌≡◌, ◌≢◌, ℕ, ◌+◌, ◌<◌, true, false, cond, T, List, [], ◌∷◌, length, map, Option, Some, None, IfSome, is_some, Ordering, Less, Equal, Greater, nat_cmp, is_eq, eqb-true, IsTrue, nat_eq, ◌↔◌, refl, sym, ap, ◌∙◌, subst, arith}
 use Rattle.std.specs.Ordering.{eq_by_cmp}
 use Rattle.std.specs.Cmp.{IsTotalOrder, nat_cmp_total}
 use Rattle.std.specs.FinMap.{get, len, insert, empty, entries, keys, values, from_entries, from_sorted, find, put, is_sorted, same_map, get-from_entries, get-from_sorted, get-entries, len-entries, len-insert, len-empty, empty_of_len, entries-from_sorted, entries-insert}

@@ -1,7 +1,7 @@
 -- A set with one more, and one with fewer.
-use Rattle.std.proofs.Common.{◌≡◌, ℕ, zero, suc, ◌+◌, ◌-◌, ◌<◌, ◌≤◌, Bool, true, false, cond, List, [], ◌∷◌, ◌++◌, length, map, Option, Some, None, is_some, Ordering, Less, Equal, Greater, is_eq, refl, sym, ap, ◌∙◌, subst, arith}
+use Rattle.std.proofs.Common.{◌≡◌, ℕ, zero, suc, ◌-◌, ◌<◌, ◌≤◌, Bool, true, false, cond, List, [], ◌∷◌, ◌++◌, length, map, Option, Some, None, is_some, Less, Equal, Greater, is_eq, refl, sym, ap, ◌∙◌, arith}
 use Rattle.std.specs.Ordering.{eq_by_cmp}
-use Rattle.std.specs.FinMap.{get, len, insert, remove, empty, entries, values, find, put, same_map, get-entries, get-insert, get-remove, len-remove, len-entries, entries-insert, empty_of_len, get-empty}
+use Rattle.std.specs.FinMap.{get, len, insert, remove, entries, values, find, put, same_map, get-entries, get-insert, get-remove, len-remove, len-entries, entries-insert, empty_of_len, get-empty}
 use Rattle.std.specs.FinMap.Entries.{by_order}
 use Rattle.std.proofs.lemmas.Cmp.{tied_itself}
 use Rattle.std.proofs.lemmas.Option.{none-some}

@@ -1,5 +1,5 @@
 -- Additions to a set, one after another.
-use Rattle.std.specs.Prelude.{◌≡◌, ◌⊎◌, ℕ, Bool, ⊤, List, [], ◌∷◌, IsOk}
+use Rattle.std.specs.Prelude.{◌≡◌, ◌⊎◌, ◌↔◌, ℕ, Bool, ⊤, List, [], ◌∷◌, IsOk}
 use Rattle.pay_numbered.specs.Numbers.{ByNumber, judged, set_after}
 
 -- a set after one more came
@@ -20,3 +20,7 @@ AreTaken same number most set (x ∷ later) = IsOk (judged same number most set 
 abbrev pub IsIn : {X : Type 0} → List X → X → Type 0
 IsIn [] y = ⊥
 IsIn (x ∷ list) y = (x ≡ y) ⊎ IsIn list y
+
+-- two lists have the same ones, in whatever order and however often
+abbrev pub HaveTheSame : {X : Type 0} → List X → List X → Type 0
+HaveTheSame {X = X} list other = (x : X) → IsIn list x ↔ IsIn other x

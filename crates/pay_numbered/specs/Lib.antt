@@ -1,4 +1,5 @@
 pub mod Numbers
 pub mod Kept
 pub mod InTurn
+pub mod Laws
 pub mod Words

@@ -1,10 +1,10 @@
 //! Laws of sets of what has numbers. Each is the contract of a function that does nothing: a caller whose
 //! proof needs a law calls its function.
-ghost use Rattle.std.specs.Prelude.{◌≡◌, ◌≢◌, ◌↔◌, ℕ, ◌<◌, ◌≤◌, List, ◌∷◌, ◌++◌};
+ghost use Rattle.std.specs.Prelude.{◌≡◌, ◌≢◌, ◌↔◌, ℕ, ◌<◌, ◌≤◌};
 ghost use Rattle.std.specs.FinMap as map;
 ghost use Rattle.std.specs.List.{AllByRecursion};
 ghost use Rattle.pay_numbered.specs.Numbers.{ByNumber, IsNumbered, judged};
-ghost use Rattle.pay_numbered.specs.InTurn.{AreTaken, after_all, IsIn};
+ghost use Rattle.pay_numbered.specs.Laws.{OneMoreIsAmong, OrderIsForgotten};
 
 use crate::numbered::Numbered;
 use crate::numbered_set::{Addition, AdditionFault};
@@ -33,8 +33,7 @@ pub fn judgements<T: Numbered>()
 pub fn one_more<T: Numbered>()
     ensures numbered { (most : ℕ) (set : ByNumber T) (x : T) → IsNumbered T.number most set → judged T.same T.number most set x ≡ Ok Addition.Added
         → IsNumbered T.number most (map.insert set (T.number x) x) }
-    ensures among { (set : ByNumber T) (x : T) → map.get set (T.number x) ≡ None
-        → (before : List T) × (after : List T) × (map.values set ≡ before ++ after) × (map.values (map.insert set (T.number x) x) ≡ before ++ x ∷ after) }
+    ensures among { OneMoreIsAmong T.number }
     ensures taken_out { (set : ByNumber T) (x : T) → map.get set (T.number x) ≡ None
         → map.remove (map.insert set (T.number x) x) (T.number x) ≡ set }
 {}
@@ -48,9 +47,5 @@ pub fn numbers<T: Numbered>()
 /// A set forgets in what order additions came, and how often: where those of one list are taken one after
 /// another, then so are those of another list that has the same ones, and the set is the same in the end.
 pub fn order_forgets_arrival<T: Numbered>()
-    ensures { (most : ℕ) (set : ByNumber T) (list other : List T)
-        → ((x : T) → IsIn list x ↔ IsIn other x)
-        → AreTaken T.same T.number most set list
-        → AreTaken T.same T.number most set other
-        × (after_all T.same T.number most set other ≡ after_all T.same T.number most set list) }
+    ensures { OrderIsForgotten T.same T.number }
 {}

@@ -9,6 +9,7 @@ use smallvec::SmallVec;
 use std::alloc::{AllocError, AllocFailed, Global};
 use std::default::MadeWith;
 use std::marker::Model;
+use thiserror::Error;
 
 /// What an addition that is not refused does to a set.
 #[derive(Clone, Copy, Debug, PartialEq, Eq)]
@@ -20,13 +21,16 @@ pub enum Addition {
 }
 
 /// Why an addition is refused. The set stays as it was.
-#[derive(Clone, Copy, Debug, PartialEq, Eq)]
+#[derive(Clone, Copy, Debug, PartialEq, Eq, Error)]
 pub enum AdditionFault {
     /// Another one of the set has its number.
+    #[error("Conflict")]
     Conflict,
     /// The set has as many as it may have.
+    #[error("Full")]
     Full,
     /// No memory for one more.
+    #[error("Memory")]
     Memory,
 }
 
@@ -122,7 +126,7 @@ impl<T: Numbered + MadeWith<Global>, const MOST: usize, const INLINE: usize> Num
         self.items.as_slice()
     }
 
-    /// The same, copied. An `Err` is want of memory.
+    /// The same, copied. An `Err` is out of memory.
     pub fn list(&self, alloc: Global) -> Result<Vec<T>, AllocError>
         ensures all { IfOk result (λ items. items.items ≡ map.values self.now) }
         ensures numbered { IsNumbered T.number MOST self.now }

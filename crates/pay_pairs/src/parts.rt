@@ -48,7 +48,7 @@ fn is_leg(tables: &Tables, entry: &Touch, exit: &Touch) -> bool
 ///
 /// Of the rail taps in their order, neighbours are a leg if they are a tap on the way in and one on the
 /// way out, at most so many seconds apart: at one and the same station `same_limit`, and at two
-/// stations the allowed time of their span. Every other rail tap is a lone one. An `Err` is want of
+/// stations the allowed time of their span. Every other rail tap is a lone one. An `Err` is out of
 /// memory.
 pub fn legs(alloc: Global, tables: &Tables, taps: &[Touch]) -> Result<Vec<RailPart>, AllocError>
     ensures described { IfOk result (λ parts. AreParts tables.now taps.now parts.items) }

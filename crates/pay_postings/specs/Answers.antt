@@ -1,10 +1,11 @@
 -- What it is to answer by a definition, or to want memory.
-use Rattle.std.specs.Prelude.{◌≡◌, List, Option, Some, None, Result, Ok, Err, IsOk}
+use Rattle.std.specs.Prelude.{◌≡◌, ◌≢◌, Bool, List, Option, Some, None, Result, Ok, Err, IsOk, MatchResult}
 use Rattle.pay_quotes.specs.declared.posting.Posting.{Posting}
 use Rattle.pay_quotes.specs.Words.{QuoteParts}
 use Rattle.pay_postings.specs.declared.fault.PostFault.{PostFault}
-use Rattle.pay_postings.specs.declared.fault.PostFault.TheVariants.{Memory}
+use Rattle.pay_postings.specs.declared.fault.PostFault.TheVariants.{BadArchive, Memory}
 use Rattle.pay_postings.specs.Postings.{post, posted_anew}
+use Rattle.pay_postings.specs.NewRows.{with_new}
 
 -- the answer to a quote, and all postings then: those before where it is refused, and where memory is wanting, which it never is for a quote that is refused
 abbrev pub IsPosted : Result Posting PostFault → List Posting → List Posting → QuoteParts → Type 0
@@ -18,3 +19,16 @@ IsJudged (Ok (Some kept)) list quote = post list quote ≡ Ok (kept, list)
 IsJudged (Ok None) list quote = post list quote ≡ posted_anew list quote
 IsJudged (Err Memory) list quote = IsOk (post list quote)
 IsJudged (Err fault) list quote = post list quote ≡ Err fault
+
+-- the answer to a quote, with whether its posting is new and so stands behind those before, and all postings then; or why it is refused
+abbrev pub IsPostedNewOrKept : Result (Posting × Bool) PostFault → List Posting → List Posting → QuoteParts → Type 0
+IsPostedNewOrKept result old new quote =
+    MatchResult result (λ answer. (post old quote ≡ Ok (answer.0, new)) × (new ≡ with_new answer.1 answer.0 old)) (λ fault. fault ≢ Memory → post old quote ≡ Err fault)
+
+-- an archive of which a definition gives nothing is refused as a bad one, and any other for want of memory alone
+abbrev pub IsRefusedAsBad : {X : Type 0} → Option X → PostFault → Type 0
+IsRefusedAsBad given fault = fault ≢ Memory → (fault ≡ BadArchive) × (given ≡ None)
+
+-- what is read of an archive is what a definition gives, or it is refused so
+abbrev pub IsReadAs : {X : Type 0} → Result X PostFault → Option X → Type 0
+IsReadAs result given = MatchResult result (λ x. given ≡ Some x) (IsRefusedAsBad given)

@@ -1,5 +1,5 @@
 -- Accounts beside the ledger that they were read of, and what a batch adds to it.
-use Rattle.std.specs.Prelude.{◌≡◌, ◌≢◌, ℕ, ◌==◌, true, List, [], ◌++◌, map, filter, Some, Result, Ok, Err, MatchResult}
+use Rattle.std.specs.Prelude.{◌≡◌, ◌≢◌, ℕ, ◌==◌, true, List, [], ◌++◌, map, filter, Some, Result, Ok, Err, MatchResult, Bool, ◌∷◌}
 use Rattle.std.specs.FinMap as finite
 use Rattle.std.specs.List.{AllByRecursion}
 use Rattle.pay_taps.specs.declared.tap.Tap.{Tap}
@@ -11,7 +11,8 @@ use Rattle.pay_postings.specs.declared.fault.PostFault.TheVariants.{Memory}
 use Rattle.pay_postings.specs.Faults.{◌>>=◌}
 use Rattle.pay_postings.specs.Postings.{post_each}
 use Rattle.pay_postings.specs.Archive.{archived_sets}
-use Rattle.pay_postings.specs.Ledger.{LedgerParts}
+use Rattle.pay_postings.specs.Ledger.{LedgerParts, posted}
+use Rattle.pay_postings.specs.NewRows.{with_new}
 use Rattle.pay_postings.specs.AccountRows.{of_account}
 use Rattle.pay_postings.specs.SetRows.{tap_row, fix_row}
 use Rattle.pay_postings.specs.Archived.{ArchivedParts, AccountsParts}
@@ -55,9 +56,23 @@ pub record BatchLists : Type 0 where
 abbrev pub lists : Batch → BatchLists
 lists batch = record { given = batch.given.items; postings = batch.postings.items; taps = batch.taps.items; fixes = batch.fixes.items }
 
+-- the lists with a posting given behind, which is to be written too where it is new
+abbrev pub with_given : Bool → Posting → BatchLists → BatchLists
+with_given is_new given batch = record { given = batch.given ++ given ∷ []; postings = with_new is_new given batch.postings; taps = batch.taps; fixes = batch.fixes }
+
+-- and with new taps and corrections behind
+abbrev pub with_new_of_set : List Tap → List Fix → BatchLists → BatchLists
+with_new_of_set taps fixes batch = record { given = batch.given; postings = batch.postings; taps = batch.taps ++ taps; fixes = batch.fixes ++ fixes }
+
 -- a ledger with a batch
 abbrev pub with_batch : LedgerParts → BatchLists → LedgerParts
 with_batch ledger batch = record { postings = ledger.postings ++ batch.postings; taps = ledger.taps ++ batch.taps; fixes = ledger.fixes ++ batch.fixes }
+
+-- An answer is the batch of quotes and sets for a ledger: the ledger with it is what posting them makes of it, and the postings given
+-- are those of the quotes. Or it is why one of them is refused.
+abbrev pub IsBatchFor : Result Batch PostFault → LedgerParts → List QuoteParts → List SetsParts → Type 0
+IsBatchFor result ledger quotes sets =
+    MatchResult result (λ batch. posted ledger quotes sets ≡ Ok (batch.given.items, with_batch ledger (lists batch))) (λ fault. fault ≢ Memory → posted ledger quotes sets ≡ Err fault)
 
 -- quotes and sets posted behind a batch: its postings and theirs, and the ledger then
 abbrev pub posted_behind : LedgerParts → BatchLists → List QuoteParts → List SetsParts → Result (List Posting × LedgerParts) PostFault

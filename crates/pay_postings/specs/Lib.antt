@@ -13,6 +13,7 @@ pub mod InRange
 pub mod NewRows
 pub mod Archived
 pub mod Batches
+pub mod Laws
 mod WorkedRows
 mod BatchRows
 pub mod Words

@@ -1,6 +1,5 @@
 -- Words for the crates above: what posting quotes does to a ledger, what its postings come to, the rows of postings, taps and
 -- corrections and back, and the ledger with a batch.
-pub use Rattle.pay_postings.specs.Faults.{fault_number, fault_name}
 pub use Rattle.pay_postings.specs.Amounts.{total, no_amounts, added, less, IsMoney}
 pub use Rattle.pay_postings.specs.Postings.{is_quote_of, is_of, postings_of, net, shares_posted, last_of, post, post_each, last_quote_of}
 pub use Rattle.pay_postings.specs.Kept.{IsKept, AreKept, AreRead}
@@ -12,4 +11,6 @@ pub use Rattle.pay_postings.specs.SetRows.{tap_row, fix_row, tap_from_row, fix_f
 pub use Rattle.pay_postings.specs.InRange.{IsTapInRange, IsFixInRange}
 pub use Rattle.pay_postings.specs.NewRows.{new_taps, new_fixes}
 pub use Rattle.pay_postings.specs.Archived.{ArchivedParts, parts, AccountsParts}
-pub use Rattle.pay_postings.specs.Batches.{taps_of, fixes_of, archived_of, Agrees, IsThere, Covers, BatchLists, lists, with_batch}
+pub use Rattle.pay_postings.specs.Batches.{taps_of, fixes_of, archived_of, Agrees, IsThere, Covers, BatchLists, lists, with_batch, IsBatchFor}
+pub use Rattle.pay_postings.specs.Answers.{IsRefusedAsBad, IsReadAs}
+pub use Rattle.pay_postings.specs.Laws.{OncePosted, PostedStayKept, ByLastQuote, NetIsDue, SharesAreDue, SharesComeToDue, PostingsAreReadBack}

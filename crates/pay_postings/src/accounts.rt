@@ -1,9 +1,8 @@
-ghost use Rattle.std.specs.Prelude.{◌≡◌, ◌≢◌, [], ◌∷◌, Some, None, Ok, Err, MatchResult, IfSome, IfNone, OnOk, OnErr};
+ghost use Rattle.std.specs.Prelude.{◌≡◌, [], ◌∷◌, Some, None, IfSome, IfNone, OnOk, OnErr};
 ghost use Rattle.std.specs.FinMap as map;
-ghost use Rattle.pay_postings.specs.declared.fault.PostFault.TheVariants.{Memory};
-ghost use Rattle.pay_postings.specs.Ledger.{LedgerParts, posted};
+ghost use Rattle.pay_postings.specs.Ledger.{LedgerParts};
 ghost use Rattle.pay_postings.specs.Archived.{parts};
-ghost use Rattle.pay_postings.specs.Batches.{Agrees, Covers, with_batch, lists, AreQuotesPosted, AreSetsPosted};
+ghost use Rattle.pay_postings.specs.Batches.{Agrees, Covers, lists, IsBatchFor, AreQuotesPosted, AreSetsPosted};
 
 use crate::archived::{Archived, post};
 use crate::batch::Batch;
@@ -47,7 +46,7 @@ impl Accounts {
         self.archived.contains_key(&account)
     }
 
-    /// Adds what a ledger has of an account, in the place of what was there. An `Err` is want of memory, and all is as
+    /// Adds what a ledger has of an account, in the place of what was there. An `Err` is out of memory, and all is as
     /// before.
     pub fn add(&mut self, account: u32, archived: Archived) -> Result<(), AllocError>
         ensures ok { OnOk result (self.new ≡ map.insert self.old account (parts archived)) }
@@ -129,8 +128,7 @@ impl Accounts {
         quotes: &[Quote],
         sets: &[Sets],
     ) -> Result<Batch, PostFault>
-        ensures { (ledger : LedgerParts) → Agrees self.old ledger → Covers self.old quotes.now sets.now
-            → MatchResult result (λ batch. posted ledger quotes.now sets.now ≡ Ok (batch.given.items, with_batch ledger (lists batch))) (λ fault. fault ≢ Memory → posted ledger quotes.now sets.now ≡ Err fault) }
+        ensures { (ledger : LedgerParts) → Agrees self.old ledger → Covers self.old quotes.now sets.now → IsBatchFor result ledger quotes.now sets.now }
     {
         let mut batch = Batch::new(alloc);
         self.post_quotes(&mut batch, quotes)?;

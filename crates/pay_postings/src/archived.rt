@@ -1,8 +1,6 @@
-ghost use Rattle.std.specs.Prelude.{◌≡◌, ◌≢◌, ◌++◌, map, Ok, Err, MatchResult, OnOk};
-ghost use Rattle.pay_postings.specs.declared.fault.PostFault.TheVariants.{Memory};
-ghost use Rattle.pay_postings.specs.Postings.{post};
+ghost use Rattle.std.specs.Prelude.{◌≡◌, ◌++◌, map, OnOk};
+ghost use Rattle.pay_postings.specs.Answers.{IsPostedNewOrKept};
 ghost use Rattle.pay_postings.specs.SetRows.{tap_row, fix_row};
-ghost use Rattle.pay_postings.specs.NewRows.{with_new};
 ghost use Rattle.pay_postings.specs.Archived.{parts};
 
 use crate::fault::PostFault;
@@ -28,7 +26,7 @@ pub struct Archived {
 
 /// Posts a quote, and tells whether its posting is new.
 pub(crate) fn post(posted: &mut Posted, quote: &Quote) -> Result<(Posting, bool), PostFault>
-    ensures { MatchResult result (λ answer. (post posted.old quote.now ≡ Ok (answer.0, posted.new)) × (posted.new ≡ with_new answer.1 answer.0 posted.old)) (λ fault. fault ≢ Memory → post posted.old quote.now ≡ Err fault) }
+    ensures { IsPostedNewOrKept result posted.old posted.new quote.now }
 {
     let before = posted.as_slice().len();
     let given = posted.post(quote)?;
@@ -36,7 +34,7 @@ pub(crate) fn post(posted: &mut Posted, quote: &Quote) -> Result<(Posting, bool)
     Ok((given, is_new))
 }
 
-/// Adds the rows of taps. An `Err` is want of memory.
+/// Adds the rows of taps. An `Err` is out of memory.
 fn add_tap_rows(rows: &mut Vec<TapRow>, taps: &[Tap]) -> Result<(), AllocError>
     ensures { OnOk result (rows.new.items ≡ rows.old.items ++ map tap_row taps.now) }
 {
@@ -46,7 +44,7 @@ fn add_tap_rows(rows: &mut Vec<TapRow>, taps: &[Tap]) -> Result<(), AllocError>
     Ok(())
 }
 
-/// Adds the rows of corrections. An `Err` is want of memory.
+/// Adds the rows of corrections. An `Err` is out of memory.
 fn add_fix_rows(rows: &mut Vec<FixRow>, fixes: &[Fix]) -> Result<(), AllocError>
     ensures { OnOk result (rows.new.items ≡ rows.old.items ++ map fix_row fixes.now) }
 {
@@ -57,7 +55,7 @@ fn add_fix_rows(rows: &mut Vec<FixRow>, fixes: &[Fix]) -> Result<(), AllocError>
 }
 
 impl Archived {
-    /// Adds the rows of taps and corrections. An `Err` is want of memory.
+    /// Adds the rows of taps and corrections. An `Err` is out of memory.
     pub(crate) fn add_rows(&mut self, taps: &[Tap], fixes: &[Fix]) -> Result<(), AllocError>
         ensures { OnOk result (parts self.new ≡ record { postings = self.old.posted; taps = self.old.taps.items ++ map tap_row taps.now; fixes = self.old.fixes.items ++ map fix_row fixes.now }) }
     {

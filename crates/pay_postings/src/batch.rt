@@ -1,6 +1,5 @@
-ghost use Rattle.std.specs.Prelude.{◌≡◌, [], ◌∷◌, ◌++◌, OnOk};
-ghost use Rattle.pay_postings.specs.NewRows.{with_new};
-ghost use Rattle.pay_postings.specs.Batches.{lists};
+ghost use Rattle.std.specs.Prelude.{◌≡◌, [], OnOk};
+ghost use Rattle.pay_postings.specs.Batches.{lists, with_given, with_new_of_set};
 
 use pay_fix::Fix;
 use pay_quotes::Posting;
@@ -33,9 +32,9 @@ impl Batch {
         }
     }
 
-    /// Adds the posting of a quote, which is to be written if it is new. An `Err` is want of memory.
+    /// Adds the posting of a quote, which is to be written if it is new. An `Err` is out of memory.
     pub(crate) fn add_posting(&mut self, given: Posting, is_new: bool) -> Result<(), AllocError>
-        ensures { OnOk result (lists self.new ≡ record { given = self.old.given.items ++ given ∷ []; postings = with_new is_new given self.old.postings.items; taps = self.old.taps.items; fixes = self.old.fixes.items }) }
+        ensures { OnOk result (lists self.new ≡ with_given is_new given (lists self.old)) }
     {
         if is_new {
             self.postings.push(given.clone()?)?;
@@ -44,9 +43,9 @@ impl Batch {
         Ok(())
     }
 
-    /// Adds new taps and corrections. An `Err` is want of memory.
+    /// Adds new taps and corrections. An `Err` is out of memory.
     pub(crate) fn add_set(&mut self, taps: &[Tap], fixes: &[Fix]) -> Result<(), AllocError>
-        ensures { OnOk result (lists self.new ≡ record { given = self.old.given.items; postings = self.old.postings.items; taps = self.old.taps.items ++ taps.now; fixes = self.old.fixes.items ++ fixes.now }) }
+        ensures { OnOk result (lists self.new ≡ with_new_of_set taps.now fixes.now (lists self.old)) }
     {
         self.taps.extend_from_slice(taps)?;
         self.fixes.extend_from_slice(fixes)?;

@@ -1,15 +1,15 @@
 //! Why quotes and sets are not posted.
-ghost use Rattle.std.specs.Prelude.{◌≡◌, ◌↔◌, IsTrue};
-ghost use Rattle.pay_postings.specs.Faults.{fault_number, fault_name};
-
 use std::alloc::AllocError;
+use thiserror::Error;
 
-/// Why a posting is refused.
-#[derive(Clone, Copy, Debug, PartialEq, Eq)]
+/// Why a posting is refused. It is shown as its number and name.
+#[derive(Clone, Copy, Debug, PartialEq, Eq, Error)]
 pub enum PostFault {
     /// 45: the ledger holds what is no posting.
+    #[error("45 BadArchive")]
     BadArchive,
     /// 42: a later quote was posted already, of this version and through this day.
+    #[error("42 StaleQuote")]
     StaleQuote {
         /// The account of the quote.
         account: u32,
@@ -19,39 +19,14 @@ pub enum PostFault {
         through: u32,
     },
     /// 47: what is due differs from what was posted for the same version and day.
+    #[error("47 QuoteDiffers")]
     QuoteDiffers,
     /// 46: the archive has another tap or correction of that number.
+    #[error("46 ArchiveConflict")]
     ArchiveConflict,
     /// 90: the memory for it was refused.
+    #[error("90 Memory")]
     Memory,
-}
-
-impl PostFault {
-    /// The number that is printed.
-    pub fn number(self) -> u16
-        ensures { result ≡ fault_number self }
-    {
-        match self {
-            PostFault::BadArchive => 45,
-            PostFault::StaleQuote { .. } => 42,
-            PostFault::QuoteDiffers => 47,
-            PostFault::ArchiveConflict => 46,
-            PostFault::Memory => 90,
-        }
-    }
-
-    /// The name that is printed.
-    pub fn name(self) -> &'static str
-        ensures { result.now ≡ fault_name self }
-    {
-        match self {
-            PostFault::BadArchive => "BadArchive",
-            PostFault::StaleQuote { .. } => "StaleQuote",
-            PostFault::QuoteDiffers => "QuoteDiffers",
-            PostFault::ArchiveConflict => "ArchiveConflict",
-            PostFault::Memory => "Memory",
-        }
-    }
 }
 
 /// A growth that was refused.

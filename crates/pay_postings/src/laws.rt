@@ -1,45 +1,30 @@
 //! What postings come to, and that what is written as rows is read back as it was. Each law is the contract of a function that
 //! does nothing: a caller whose proof needs a law calls its function.
-ghost use Rattle.std.specs.Prelude.{◌≡◌, ◌≢◌, ◌<◌, ◌⊎◌, pos, List, [], map, Some, Ok, Err, ℕ, ℤ, length, IsPermutation};
-ghost use Rattle.std.specs.List.{AllByRecursion};
+ghost use Rattle.std.specs.Prelude.{◌≡◌, List, [], Some, Ok};
 ghost use Rattle.pay_quotes.specs.declared.posting.Posting.{Posting};
-ghost use Rattle.pay_quotes.specs.Words.{QuoteParts, IsQuote, SetsParts};
-ghost use Rattle.pay_postings.specs.Amounts.{total};
-ghost use Rattle.pay_postings.specs.Postings.{net, shares_posted, post, last_quote_of};
+ghost use Rattle.pay_quotes.specs.Words.{QuoteParts, IsQuote};
+ghost use Rattle.pay_postings.specs.Postings.{post};
 ghost use Rattle.pay_postings.specs.Kept.{AreKept};
-ghost use Rattle.pay_postings.specs.Ledger.{LedgerParts, posted};
 ghost use Rattle.pay_taps.specs.declared.tap.Tap.{Tap};
 ghost use Rattle.pay_fix.specs.declared.fix.Fix.{Fix};
-ghost use Rattle.pay_rows.specs.declared.row.ShareRow.{ShareRow};
 ghost use Rattle.pay_postings.specs.SetRows.{tap_row, tap_from_row, fix_row, fix_from_row};
 ghost use Rattle.pay_postings.specs.InRange.{IsTapInRange, IsFixInRange};
-ghost use Rattle.pay_postings.specs.PostingRows.{postings_from_rows};
-ghost use Rattle.pay_postings.specs.AccountRows.{of_account, rows_of, shares_of, RiseBehind};
+ghost use Rattle.pay_postings.specs.Laws.{PostedStayKept, NetIsDue, SharesAreDue, SharesComeToDue, PostingsAreReadBack};
 
 /// Postings that were posted one after another stay such when one more quote is posted, and no postings are such.
 pub fn kept()
     ensures none { AreKept [] }
     ensures one_more { (list after : List Posting) (quote : QuoteParts) (given : Posting) → AreKept list → IsQuote quote
         → post list quote ≡ Ok (given, after) → AreKept after }
-    ensures all { (ledger after : LedgerParts) (quotes : List QuoteParts) (sets : List SetsParts) (given : List Posting)
-        → AreKept ledger.postings → AllByRecursion IsQuote quotes → posted ledger quotes sets ≡ Ok (given, after) → AreKept after.postings }
+    ensures all { PostedStayKept }
 {}
 
 /// Once quotes were posted, payments less refunds are what is due by the last quote of each account and week, and
 /// what fell to each operator is its share, all of it together.
 pub fn payments_come_to_what_is_due()
-    ensures net { (ledger after : LedgerParts) (quotes : List QuoteParts) (sets : List SetsParts) (given : List Posting)
-        → AreKept ledger.postings → AllByRecursion IsQuote quotes → posted ledger quotes sets ≡ Ok (given, after)
-        → (quote : QuoteParts) → last_quote_of quote.account quote.week quotes ≡ Some quote
-        → net quote.account quote.week after.postings ≡ pos quote.due }
-    ensures by_operator { (ledger after : LedgerParts) (quotes : List QuoteParts) (sets : List SetsParts) (given : List Posting)
-        → AreKept ledger.postings → AllByRecursion IsQuote quotes → posted ledger quotes sets ≡ Ok (given, after)
-        → (quote : QuoteParts) → last_quote_of quote.account quote.week quotes ≡ Some quote
-        → shares_posted quote.account quote.week after.postings ≡ map pos quote.shares }
-    ensures together { (ledger after : LedgerParts) (quotes : List QuoteParts) (sets : List SetsParts) (given : List Posting)
-        → AreKept ledger.postings → AllByRecursion IsQuote quotes → posted ledger quotes sets ≡ Ok (given, after)
-        → (quote : QuoteParts) → last_quote_of quote.account quote.week quotes ≡ Some quote
-        → total (shares_posted quote.account quote.week after.postings) ≡ pos quote.due }
+    ensures net { NetIsDue }
+    ensures by_operator { SharesAreDue }
+    ensures together { SharesComeToDue }
 {}
 
 /// A tap in its ranges is read back from its row.
@@ -61,8 +46,5 @@ pub fn same_row()
 /// Of postings that were posted one after another and have rising numbers, those of an account are read back from
 /// their rows, in order, and from the rows of their shares, in any order.
 pub fn postings_back()
-    ensures { (account : ℕ) (before : ℤ) (ids : List ℤ) (list : List Posting) (shares : List ShareRow)
-        → AreKept list → length ids ≡ length list → RiseBehind before ids
-        → IsPermutation (shares_of account ids list) shares
-        → postings_from_rows account (rows_of account ids list) shares ≡ Some (of_account account list) }
+    ensures { PostingsAreReadBack }
 {}

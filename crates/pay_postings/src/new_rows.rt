@@ -114,7 +114,7 @@ fn is_new_fix(archived: &[FixRow], fix: &Fix) -> Result<bool, PostFault>
     }
 }
 
-/// One more at the end, if it is new. An `Err` is want of memory.
+/// One more at the end, if it is new. An `Err` is out of memory.
 fn add_new<X: Copy>(list: &mut Vec<X>, x: X, is_new: bool) -> Result<(), AllocError>
     ensures { OnOk result (list.new.items ≡ with_new is_new x list.old.items) }
 {

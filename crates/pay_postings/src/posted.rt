@@ -112,7 +112,7 @@ fn is_as_due(quote: &Quote, posted: &Quote) -> bool
     quote.due() == posted.due() && quote.shares() == posted.shares()
 }
 
-/// A posting as it is. An `Err` is want of memory.
+/// A posting as it is. An `Err` is out of memory.
 fn copied(posting: &Posting) -> Result<Posting, AllocError>
     ensures { IfOk result (λ p. p ≡ posting.now) }
 {
@@ -187,7 +187,7 @@ impl Posted {
         }
     }
 
-    /// A quote as a further posting. An `Err` is want of memory.
+    /// A quote as a further posting. An `Err` is out of memory.
     fn posting_of(&self, quote: &Quote) -> Result<Posting, AllocError>
         ensures value { IfOk result (λ p. p ≡ posting_of self.now quote.now) }
         ensures read { IfOk result (λ p. AreRead (self.now ++ p ∷ [])) }

@@ -1,9 +1,9 @@
-ghost use Rattle.std.specs.Prelude.{◌≡◌, ◌≢◌, ◌≤◌, ◌++◌, ◌∷◌, [], pos, map, sum, unsigned_abs, All, find, Some, None, MatchResult, IfOk, OnOk, IfSome, true};
+ghost use Rattle.std.specs.Prelude.{◌≡◌, ◌≤◌, ◌++◌, ◌∷◌, [], pos, map, sum, unsigned_abs, All, find, IfOk, OnOk, IfSome, true};
 ghost use Rattle.std.specs.List.{list_all};
 ghost use Rattle.std.specs.Option.{option_map};
 ghost use Rattle.pay_money.specs.declared.limits.TheConstants.{MOST_MONEY, OPERATORS};
 ghost use Rattle.pay_quotes.specs.Words.{IsQuote};
-ghost use Rattle.pay_postings.specs.declared.fault.PostFault.TheVariants.{BadArchive, Memory};
+ghost use Rattle.pay_postings.specs.Answers.{IsReadAs};
 ghost use Rattle.pay_postings.specs.Amounts.{IsMoney, added};
 ghost use Rattle.pay_postings.specs.Kept.{AreRead};
 ghost use Rattle.pay_postings.specs.PostingRows.{is_money, is_share_row, is_natural, is_share_of, amount_of, amounts_of, naturals, quote_from_row, quote_behind, is_amount_behind, posting_behind, week_from_row, posting_from_row, postings_from_rows, posting_row, share_rows, share_rows_from, share_row};
@@ -235,7 +235,7 @@ pub fn postings_from_rows(
     rows: &[(i64, PostingRow)],
     shares: &[ShareRow],
 ) -> Result<Posted, PostFault>
-    ensures { MatchResult result (λ postings. postings_from_rows account rows.now shares.now ≡ Some postings) (λ fault. fault ≢ Memory → (fault ≡ BadArchive) × (postings_from_rows account rows.now shares.now ≡ None)) }
+    ensures { IsReadAs result (postings_from_rows account rows.now shares.now) }
 {
     if !are_share_rows(shares) {
         return Err(PostFault::BadArchive);
@@ -263,7 +263,7 @@ pub fn posting_row(posting: &Posting) -> PostingRow
     }
 }
 
-/// One more row of a share, unless its amount is 0. An `Err` is want of memory.
+/// One more row of a share, unless its amount is 0. An `Err` is out of memory.
 fn add_share(
     rows: &mut Vec<ShareRow>,
     id: i64,

@@ -33,7 +33,7 @@ impl Model for Sets {
 }
 
 impl Sets {
-    /// The taps and the corrections of an account. An `Err` is want of memory.
+    /// The taps and the corrections of an account. An `Err` is out of memory.
     pub fn of(
         alloc: Global,
         account: u32,

@@ -4,3 +4,5 @@ pub mod Steps
 pub mod Told
 pub mod Found
 pub mod Kinds
+pub mod Calls
+pub mod Words

@@ -1,5 +1,5 @@
 -- The rows of the ledger, and what it is for a database to hold them.
-use Rattle.std.specs.Prelude.{◌≡◌, ◌<ℤ◌, ℤ, pos, List, [], ◌∷◌, map, drop, codes}
+use Rattle.std.specs.Prelude.{◌≡◌, ◌<ℤ◌, ℤ, pos, List, [], ◌∷◌, ◌++◌, map, drop, codes}
 use Rattle.sqlite.specs.declared.types.Value.TheVariants.{Null, Int, Text}
 use Rattle.sqlite.specs.Order.{Row}
 use Rattle.sqlite.specs.Tree.{rowid}
@@ -59,3 +59,19 @@ pub record HoldsRows (db : Database) (rows : LedgerRows) : Type 0 where
 
 abbrev pub no_rows : LedgerRows
 no_rows = record { postings = []; shares = []; taps = []; fixes = [] }
+
+-- ---- the rows with one more, behind the others
+
+-- a posting of an account, beside the number that it got
+abbrev pub with_posting : ℤ → ℤ → PostingRow → LedgerRows → LedgerRows
+with_posting id account row rows = record rows { postings = rows.postings ++ (id, account, row) ∷ [] }
+
+abbrev pub with_share : ShareRow → LedgerRows → LedgerRows
+with_share row rows = record rows { shares = rows.shares ++ row ∷ [] }
+
+-- a tap and a correction of an account
+abbrev pub with_tap : ℤ → TapRow → LedgerRows → LedgerRows
+with_tap account row rows = record rows { taps = rows.taps ++ (account, row) ∷ [] }
+
+abbrev pub with_fix : ℤ → FixRow → LedgerRows → LedgerRows
+with_fix account row rows = record rows { fixes = rows.fixes ++ (account, row) ∷ [] }

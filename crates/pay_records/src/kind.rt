@@ -1,11 +1,7 @@
-ghost use Rattle.std.specs.Prelude.{◌≡◌, [], IsTrue, IfOk, OnOk, Err};
-ghost use Rattle.sqlite.specs.Held.{state};
-ghost use Rattle.sqlite.specs.State.{HasCleanDisk, KeepsCommit, IsUnchanged, Survives};
-ghost use Rattle.sqlite.specs.Listing.{understood};
-ghost use Rattle.pay_records.specs.Tables.{no_schema};
-ghost use Rattle.pay_records.specs.Rows.{LedgerRows, HoldsRows};
-ghost use Rattle.pay_records.specs.Kinds.{presence_of, together, IsToldBy, posting_tables_in, tables_in, kind_by, IsKindOf, IsOfKind};
+ghost use Rattle.std.specs.Prelude.{◌≡◌, [], IfOk, Err};
+ghost use Rattle.pay_records.specs.Kinds.{is_there, together, IsToldBy, posting_tables_in, tables_in, kind_by, IsKindOf, IsOfKind};
 ghost use Rattle.pay_records.specs.declared.fault.ReadFault.TheVariants.{BadArchive};
+ghost use Rattle.pay_records.specs.Calls.{LeavesAsBefore, CommitsNothing, CommitsNothingInside, StaysInside, Answers, SeesInSchema, SeesNoTables, FindsInRows};
 
 use crate::fault::ReadFault;
 use crate::read::query;
@@ -66,10 +62,10 @@ fn told_by(prepared: &Result<Statement, Error>) -> Result<Presence, ReadFault>
 /// Whether the table that a query reads is there.
 fn presence_by<S: Alter>(tx: &mut Transaction<'_, S>, sql: &str) -> Result<Presence, ReadFault>
     ensures same_reference { tx.new.conn.ghost_name ≡ tx.old.conn.ghost_name }
-    ensures value { HasCleanDisk (state S.Store tx.new.conn.now) → IfOk result (λ p. (p ≡ presence_of (understood (state S.Store tx.old.conn.now).now.schema sql.now)) × IsUnchanged (state S.Store tx.old.conn.now) (state S.Store tx.new.conn.now)) }
+    ensures value { SeesInSchema S.Store tx.old.conn.now tx.new.conn.now result (λ schema. is_there schema sql.now) }
     ensures never_bad { result ≡ Err BadArchive → ⊥ }
-    ensures kept { HasCleanDisk (state S.Store tx.new.conn.now) → KeepsCommit (state S.Store tx.old.conn.now) (state S.Store tx.new.conn.now) }
-    ensures survives { Survives (state S.Store tx.old.conn.now) (state S.Store tx.new.conn.now) (λ _. ⊥) }
+    ensures kept { CommitsNothing S.Store tx.old.conn.now tx.new.conn.now }
+    ensures survives { LeavesAsBefore S.Store tx.old.conn.now tx.new.conn.now }
 {
     let prepared = tx.prepare(sql);
     told_by(&prepared)
@@ -78,10 +74,10 @@ fn presence_by<S: Alter>(tx: &mut Transaction<'_, S>, sql: &str) -> Result<Prese
 /// Whether the tables of what was posted are there.
 fn posting_tables<S: Alter>(tx: &mut Transaction<'_, S>) -> Result<Presence, ReadFault>
     ensures same_reference { tx.new.conn.ghost_name ≡ tx.old.conn.ghost_name }
-    ensures value { HasCleanDisk (state S.Store tx.new.conn.now) → IfOk result (λ p. (p ≡ posting_tables_in (state S.Store tx.old.conn.now).now.schema) × IsUnchanged (state S.Store tx.old.conn.now) (state S.Store tx.new.conn.now)) }
+    ensures value { SeesInSchema S.Store tx.old.conn.now tx.new.conn.now result posting_tables_in }
     ensures never_bad { result ≡ Err BadArchive → ⊥ }
-    ensures kept { HasCleanDisk (state S.Store tx.new.conn.now) → KeepsCommit (state S.Store tx.old.conn.now) (state S.Store tx.new.conn.now) }
-    ensures survives { Survives (state S.Store tx.old.conn.now) (state S.Store tx.new.conn.now) (λ _. ⊥) }
+    ensures kept { CommitsNothing S.Store tx.old.conn.now tx.new.conn.now }
+    ensures survives { LeavesAsBefore S.Store tx.old.conn.now tx.new.conn.now }
 {
     let meta = presence_by(tx, "SELECT name, version FROM meta")?;
     let postings = presence_by(
@@ -95,10 +91,10 @@ fn posting_tables<S: Alter>(tx: &mut Transaction<'_, S>) -> Result<Presence, Rea
 /// Whether all five tables are there.
 fn tables<S: Alter>(tx: &mut Transaction<'_, S>) -> Result<Presence, ReadFault>
     ensures same_reference { tx.new.conn.ghost_name ≡ tx.old.conn.ghost_name }
-    ensures value { HasCleanDisk (state S.Store tx.new.conn.now) → IfOk result (λ p. (p ≡ tables_in (state S.Store tx.old.conn.now).now.schema) × IsUnchanged (state S.Store tx.old.conn.now) (state S.Store tx.new.conn.now)) }
+    ensures value { SeesInSchema S.Store tx.old.conn.now tx.new.conn.now result tables_in }
     ensures never_bad { result ≡ Err BadArchive → ⊥ }
-    ensures kept { HasCleanDisk (state S.Store tx.new.conn.now) → KeepsCommit (state S.Store tx.old.conn.now) (state S.Store tx.new.conn.now) }
-    ensures survives { Survives (state S.Store tx.old.conn.now) (state S.Store tx.new.conn.now) (λ _. ⊥) }
+    ensures kept { CommitsNothing S.Store tx.old.conn.now tx.new.conn.now }
+    ensures survives { LeavesAsBefore S.Store tx.old.conn.now tx.new.conn.now }
 {
     let postings = posting_tables(tx)?;
     let taps = presence_by(
@@ -134,11 +130,11 @@ fn kind_by(rows: &[Row]) -> Kind
 /// By its tables, and by the rows of `meta`.
 fn by_tables<S: Alter>(tx: &mut Transaction<'_, S>) -> Result<Kind, ReadFault>
     ensures same_reference { tx.new.conn.ghost_name ≡ tx.old.conn.ghost_name }
-    ensures value { HasCleanDisk (state S.Store tx.new.conn.now) → IfOk result (IsKindOf (state S.Store tx.old.conn.now) (state S.Store tx.new.conn.now)) }
-    ensures inside { HasCleanDisk (state S.Store tx.new.conn.now) → IsTrue (state S.Store tx.old.conn.now).in_transaction → OnOk result (IsTrue (state S.Store tx.new.conn.now).in_transaction) }
+    ensures value { Answers S.Store tx.old.conn.now tx.new.conn.now result IsKindOf }
+    ensures inside { StaysInside S.Store tx.old.conn.now tx.new.conn.now result }
     ensures never_bad { result ≡ Err BadArchive → ⊥ }
-    ensures kept { HasCleanDisk (state S.Store tx.new.conn.now) → IsTrue (state S.Store tx.old.conn.now).in_transaction → KeepsCommit (state S.Store tx.old.conn.now) (state S.Store tx.new.conn.now) }
-    ensures survives { Survives (state S.Store tx.old.conn.now) (state S.Store tx.new.conn.now) (λ _. ⊥) }
+    ensures kept { CommitsNothingInside S.Store tx.old.conn.now tx.new.conn.now }
+    ensures survives { LeavesAsBefore S.Store tx.old.conn.now tx.new.conn.now }
 {
     match tables(tx)? {
         Presence::Missing => Ok(Kind::Blank),
@@ -150,13 +146,13 @@ fn by_tables<S: Alter>(tx: &mut Transaction<'_, S>) -> Result<Kind, ReadFault>
 /// What a database is to a ledger.
 pub fn kind_of<S: Alter>(tx: &mut Transaction<'_, S>) -> Result<Kind, ReadFault>
     ensures same_reference { tx.new.conn.ghost_name ≡ tx.old.conn.ghost_name }
-    ensures value { HasCleanDisk (state S.Store tx.new.conn.now) → IfOk result (λ kind. IsOfKind (state S.Store tx.old.conn.now).now kind) }
-    ensures blank { HasCleanDisk (state S.Store tx.new.conn.now) → IfOk result (λ kind. (state S.Store tx.old.conn.now).now.schema ≡ no_schema → (kind ≡ Kind.Blank) × IsUnchanged (state S.Store tx.old.conn.now) (state S.Store tx.new.conn.now)) }
-    ensures ledger { HasCleanDisk (state S.Store tx.new.conn.now) → IfOk result (λ kind. (rows : LedgerRows) → HoldsRows (state S.Store tx.old.conn.now).now rows → (kind ≡ Kind.Ledger) × IsUnchanged (state S.Store tx.old.conn.now) (state S.Store tx.new.conn.now)) }
-    ensures inside { HasCleanDisk (state S.Store tx.new.conn.now) → IsTrue (state S.Store tx.old.conn.now).in_transaction → OnOk result (IsTrue (state S.Store tx.new.conn.now).in_transaction) }
+    ensures value { Answers S.Store tx.old.conn.now tx.new.conn.now result (λ old _ kind. IsOfKind old.now kind) }
+    ensures blank { SeesNoTables S.Store tx.old.conn.now tx.new.conn.now result Kind.Blank }
+    ensures ledger { FindsInRows S.Store tx.old.conn.now tx.new.conn.now result (λ _ kind. kind ≡ Kind.Ledger) }
+    ensures inside { StaysInside S.Store tx.old.conn.now tx.new.conn.now result }
     ensures never_bad { result ≡ Err BadArchive → ⊥ }
-    ensures kept { HasCleanDisk (state S.Store tx.new.conn.now) → IsTrue (state S.Store tx.old.conn.now).in_transaction → KeepsCommit (state S.Store tx.old.conn.now) (state S.Store tx.new.conn.now) }
-    ensures survives { Survives (state S.Store tx.old.conn.now) (state S.Store tx.new.conn.now) (λ _. ⊥) }
+    ensures kept { CommitsNothingInside S.Store tx.old.conn.now tx.new.conn.now }
+    ensures survives { LeavesAsBefore S.Store tx.old.conn.now tx.new.conn.now }
 {
     by_tables(tx)
 }

@@ -1,10 +1,9 @@
-ghost use Rattle.std.specs.Prelude.{◌≡◌, IsPermutation, IsTrue, IfOk, OnOk, Err};
-ghost use Rattle.sqlite.specs.Held.{state};
+ghost use Rattle.std.specs.Prelude.{◌≡◌, IsPermutation, Err};
 ghost use Rattle.sqlite.specs.Values.{bound};
-ghost use Rattle.sqlite.specs.State.{HasCleanDisk, KeepsCommit, Survives, Shown};
-ghost use Rattle.pay_records.specs.Rows.{LedgerRows, HoldsRows};
-ghost use Rattle.pay_records.specs.Found.{Finds, postings_of, shares_of, taps_of, fixes_of};
+ghost use Rattle.sqlite.specs.State.{Shown};
+ghost use Rattle.pay_records.specs.Found.{postings_of, shares_of, taps_of, fixes_of};
 ghost use Rattle.pay_records.specs.declared.fault.ReadFault.TheVariants.{BadArchive};
+ghost use Rattle.pay_records.specs.Calls.{LeavesAsBefore, CommitsNothingInside, StaysInsideOrOut, Answers, FindsInRows, NeverBadOfRows};
 
 use crate::fault::ReadFault;
 use crate::told::{all, all_beside};
@@ -20,11 +19,11 @@ pub(crate) fn query<S: Alter>(
     params: &[ValueRef<'_>],
 ) -> Result<Vec<Row>, ReadFault>
     ensures same_reference { tx.new.conn.ghost_name ≡ tx.old.conn.ghost_name }
-    ensures shown { HasCleanDisk (state S.Store tx.new.conn.now) → IfOk result (λ rows. Shown sql.now (bound params.now) (state S.Store tx.old.conn.now) (state S.Store tx.new.conn.now) rows.items) }
+    ensures shown { Answers S.Store tx.old.conn.now tx.new.conn.now result (λ old new rows. Shown sql.now (bound params.now) old new rows.items) }
     ensures never_bad { result ≡ Err BadArchive → ⊥ }
-    ensures inside { HasCleanDisk (state S.Store tx.new.conn.now) → OnOk result ((state S.Store tx.new.conn.now).in_transaction ≡ (state S.Store tx.old.conn.now).in_transaction) }
-    ensures kept { HasCleanDisk (state S.Store tx.new.conn.now) → IsTrue (state S.Store tx.old.conn.now).in_transaction → KeepsCommit (state S.Store tx.old.conn.now) (state S.Store tx.new.conn.now) }
-    ensures survives { Survives (state S.Store tx.old.conn.now) (state S.Store tx.new.conn.now) (λ _. ⊥) }
+    ensures inside { StaysInsideOrOut S.Store tx.old.conn.now tx.new.conn.now result }
+    ensures kept { CommitsNothingInside S.Store tx.old.conn.now tx.new.conn.now }
+    ensures survives { LeavesAsBefore S.Store tx.old.conn.now tx.new.conn.now }
 {
     Ok(tx.query_all(sql, params)?)
 }
@@ -36,11 +35,11 @@ pub fn postings_of<S: Alter>(
     account: i64,
 ) -> Result<Vec<(i64, PostingRow)>, ReadFault>
     ensures same_reference { tx.new.conn.ghost_name ≡ tx.old.conn.ghost_name }
-    ensures found { HasCleanDisk (state S.Store tx.new.conn.now) → IfOk result (λ list. Finds (state S.Store tx.old.conn.now) (state S.Store tx.new.conn.now) (λ rows. list.items ≡ postings_of account rows)) }
-    ensures never_bad { HasCleanDisk (state S.Store tx.new.conn.now) → result ≡ Err BadArchive → (rows : LedgerRows) → HoldsRows (state S.Store tx.old.conn.now).now rows → ⊥ }
-    ensures inside { HasCleanDisk (state S.Store tx.new.conn.now) → OnOk result ((state S.Store tx.new.conn.now).in_transaction ≡ (state S.Store tx.old.conn.now).in_transaction) }
-    ensures kept { HasCleanDisk (state S.Store tx.new.conn.now) → IsTrue (state S.Store tx.old.conn.now).in_transaction → KeepsCommit (state S.Store tx.old.conn.now) (state S.Store tx.new.conn.now) }
-    ensures survives { Survives (state S.Store tx.old.conn.now) (state S.Store tx.new.conn.now) (λ _. ⊥) }
+    ensures found { FindsInRows S.Store tx.old.conn.now tx.new.conn.now result (λ rows list. list.items ≡ postings_of account rows) }
+    ensures never_bad { NeverBadOfRows S.Store tx.old.conn.now tx.new.conn.now result }
+    ensures inside { StaysInsideOrOut S.Store tx.old.conn.now tx.new.conn.now result }
+    ensures kept { CommitsNothingInside S.Store tx.old.conn.now tx.new.conn.now }
+    ensures survives { LeavesAsBefore S.Store tx.old.conn.now tx.new.conn.now }
 {
     let rows = query(
         tx,
@@ -57,11 +56,11 @@ pub fn shares_of<S: Alter>(
     account: i64,
 ) -> Result<Vec<ShareRow>, ReadFault>
     ensures same_reference { tx.new.conn.ghost_name ≡ tx.old.conn.ghost_name }
-    ensures found { HasCleanDisk (state S.Store tx.new.conn.now) → IfOk result (λ list. Finds (state S.Store tx.old.conn.now) (state S.Store tx.new.conn.now) (λ rows. IsPermutation (shares_of account rows) list.items)) }
-    ensures never_bad { HasCleanDisk (state S.Store tx.new.conn.now) → result ≡ Err BadArchive → (rows : LedgerRows) → HoldsRows (state S.Store tx.old.conn.now).now rows → ⊥ }
-    ensures inside { HasCleanDisk (state S.Store tx.new.conn.now) → OnOk result ((state S.Store tx.new.conn.now).in_transaction ≡ (state S.Store tx.old.conn.now).in_transaction) }
-    ensures kept { HasCleanDisk (state S.Store tx.new.conn.now) → IsTrue (state S.Store tx.old.conn.now).in_transaction → KeepsCommit (state S.Store tx.old.conn.now) (state S.Store tx.new.conn.now) }
-    ensures survives { Survives (state S.Store tx.old.conn.now) (state S.Store tx.new.conn.now) (λ _. ⊥) }
+    ensures found { FindsInRows S.Store tx.old.conn.now tx.new.conn.now result (λ rows list. IsPermutation (shares_of account rows) list.items) }
+    ensures never_bad { NeverBadOfRows S.Store tx.old.conn.now tx.new.conn.now result }
+    ensures inside { StaysInsideOrOut S.Store tx.old.conn.now tx.new.conn.now result }
+    ensures kept { CommitsNothingInside S.Store tx.old.conn.now tx.new.conn.now }
+    ensures survives { LeavesAsBefore S.Store tx.old.conn.now tx.new.conn.now }
 {
     let rows = query(
         tx,
@@ -78,11 +77,11 @@ pub fn taps_of<S: Alter>(
     account: i64,
 ) -> Result<Vec<TapRow>, ReadFault>
     ensures same_reference { tx.new.conn.ghost_name ≡ tx.old.conn.ghost_name }
-    ensures found { HasCleanDisk (state S.Store tx.new.conn.now) → IfOk result (λ list. Finds (state S.Store tx.old.conn.now) (state S.Store tx.new.conn.now) (λ rows. list.items ≡ taps_of account rows)) }
-    ensures never_bad { HasCleanDisk (state S.Store tx.new.conn.now) → result ≡ Err BadArchive → (rows : LedgerRows) → HoldsRows (state S.Store tx.old.conn.now).now rows → ⊥ }
-    ensures inside { HasCleanDisk (state S.Store tx.new.conn.now) → OnOk result ((state S.Store tx.new.conn.now).in_transaction ≡ (state S.Store tx.old.conn.now).in_transaction) }
-    ensures kept { HasCleanDisk (state S.Store tx.new.conn.now) → IsTrue (state S.Store tx.old.conn.now).in_transaction → KeepsCommit (state S.Store tx.old.conn.now) (state S.Store tx.new.conn.now) }
-    ensures survives { Survives (state S.Store tx.old.conn.now) (state S.Store tx.new.conn.now) (λ _. ⊥) }
+    ensures found { FindsInRows S.Store tx.old.conn.now tx.new.conn.now result (λ rows list. list.items ≡ taps_of account rows) }
+    ensures never_bad { NeverBadOfRows S.Store tx.old.conn.now tx.new.conn.now result }
+    ensures inside { StaysInsideOrOut S.Store tx.old.conn.now tx.new.conn.now result }
+    ensures kept { CommitsNothingInside S.Store tx.old.conn.now tx.new.conn.now }
+    ensures survives { LeavesAsBefore S.Store tx.old.conn.now tx.new.conn.now }
 {
     let rows = query(
         tx,
@@ -99,11 +98,11 @@ pub fn fixes_of<S: Alter>(
     account: i64,
 ) -> Result<Vec<FixRow>, ReadFault>
     ensures same_reference { tx.new.conn.ghost_name ≡ tx.old.conn.ghost_name }
-    ensures found { HasCleanDisk (state S.Store tx.new.conn.now) → IfOk result (λ list. Finds (state S.Store tx.old.conn.now) (state S.Store tx.new.conn.now) (λ rows. list.items ≡ fixes_of account rows)) }
-    ensures never_bad { HasCleanDisk (state S.Store tx.new.conn.now) → result ≡ Err BadArchive → (rows : LedgerRows) → HoldsRows (state S.Store tx.old.conn.now).now rows → ⊥ }
-    ensures inside { HasCleanDisk (state S.Store tx.new.conn.now) → OnOk result ((state S.Store tx.new.conn.now).in_transaction ≡ (state S.Store tx.old.conn.now).in_transaction) }
-    ensures kept { HasCleanDisk (state S.Store tx.new.conn.now) → IsTrue (state S.Store tx.old.conn.now).in_transaction → KeepsCommit (state S.Store tx.old.conn.now) (state S.Store tx.new.conn.now) }
-    ensures survives { Survives (state S.Store tx.old.conn.now) (state S.Store tx.new.conn.now) (λ _. ⊥) }
+    ensures found { FindsInRows S.Store tx.old.conn.now tx.new.conn.now result (λ rows list. list.items ≡ fixes_of account rows) }
+    ensures never_bad { NeverBadOfRows S.Store tx.old.conn.now tx.new.conn.now result }
+    ensures inside { StaysInsideOrOut S.Store tx.old.conn.now tx.new.conn.now result }
+    ensures kept { CommitsNothingInside S.Store tx.old.conn.now tx.new.conn.now }
+    ensures survives { LeavesAsBefore S.Store tx.old.conn.now tx.new.conn.now }
 {
     let rows = query(
         tx,
@@ -119,11 +118,11 @@ pub fn all_taps<S: Alter>(
     tx: &mut Transaction<'_, S>,
 ) -> Result<Vec<(i64, TapRow)>, ReadFault>
     ensures same_reference { tx.new.conn.ghost_name ≡ tx.old.conn.ghost_name }
-    ensures found { HasCleanDisk (state S.Store tx.new.conn.now) → IfOk result (λ list. Finds (state S.Store tx.old.conn.now) (state S.Store tx.new.conn.now) (λ rows. list.items ≡ rows.taps)) }
-    ensures never_bad { HasCleanDisk (state S.Store tx.new.conn.now) → result ≡ Err BadArchive → (rows : LedgerRows) → HoldsRows (state S.Store tx.old.conn.now).now rows → ⊥ }
-    ensures inside { HasCleanDisk (state S.Store tx.new.conn.now) → OnOk result ((state S.Store tx.new.conn.now).in_transaction ≡ (state S.Store tx.old.conn.now).in_transaction) }
-    ensures kept { HasCleanDisk (state S.Store tx.new.conn.now) → IsTrue (state S.Store tx.old.conn.now).in_transaction → KeepsCommit (state S.Store tx.old.conn.now) (state S.Store tx.new.conn.now) }
-    ensures survives { Survives (state S.Store tx.old.conn.now) (state S.Store tx.new.conn.now) (λ _. ⊥) }
+    ensures found { FindsInRows S.Store tx.old.conn.now tx.new.conn.now result (λ rows list. list.items ≡ rows.taps) }
+    ensures never_bad { NeverBadOfRows S.Store tx.old.conn.now tx.new.conn.now result }
+    ensures inside { StaysInsideOrOut S.Store tx.old.conn.now tx.new.conn.now result }
+    ensures kept { CommitsNothingInside S.Store tx.old.conn.now tx.new.conn.now }
+    ensures survives { LeavesAsBefore S.Store tx.old.conn.now tx.new.conn.now }
 {
     let rows = query(
         tx,
@@ -139,11 +138,11 @@ pub fn all_fixes<S: Alter>(
     tx: &mut Transaction<'_, S>,
 ) -> Result<Vec<(i64, FixRow)>, ReadFault>
     ensures same_reference { tx.new.conn.ghost_name ≡ tx.old.conn.ghost_name }
-    ensures found { HasCleanDisk (state S.Store tx.new.conn.now) → IfOk result (λ list. Finds (state S.Store tx.old.conn.now) (state S.Store tx.new.conn.now) (λ rows. list.items ≡ rows.fixes)) }
-    ensures never_bad { HasCleanDisk (state S.Store tx.new.conn.now) → result ≡ Err BadArchive → (rows : LedgerRows) → HoldsRows (state S.Store tx.old.conn.now).now rows → ⊥ }
-    ensures inside { HasCleanDisk (state S.Store tx.new.conn.now) → OnOk result ((state S.Store tx.new.conn.now).in_transaction ≡ (state S.Store tx.old.conn.now).in_transaction) }
-    ensures kept { HasCleanDisk (state S.Store tx.new.conn.now) → IsTrue (state S.Store tx.old.conn.now).in_transaction → KeepsCommit (state S.Store tx.old.conn.now) (state S.Store tx.new.conn.now) }
-    ensures survives { Survives (state S.Store tx.old.conn.now) (state S.Store tx.new.conn.now) (λ _. ⊥) }
+    ensures found { FindsInRows S.Store tx.old.conn.now tx.new.conn.now result (λ rows list. list.items ≡ rows.fixes) }
+    ensures never_bad { NeverBadOfRows S.Store tx.old.conn.now tx.new.conn.now result }
+    ensures inside { StaysInsideOrOut S.Store tx.old.conn.now tx.new.conn.now result }
+    ensures kept { CommitsNothingInside S.Store tx.old.conn.now tx.new.conn.now }
+    ensures survives { LeavesAsBefore S.Store tx.old.conn.now tx.new.conn.now }
 {
     let rows = query(
         tx,

@@ -1,16 +1,15 @@
-ghost use Rattle.std.specs.Prelude.{◌≡◌, OnOk};
-ghost use Rattle.sqlite.specs.Held.{state};
-ghost use Rattle.sqlite.specs.State.{HasCleanDisk, KeepsCommit, Survives};
+ghost use Rattle.std.specs.Prelude.{◌≡◌};
 ghost use Rattle.pay_records.specs.Tables.{no_schema, with_meta, with_postings, with_shares, with_taps, ledger_schema};
 ghost use Rattle.pay_records.specs.Steps.{Makes, MakesLedger};
+ghost use Rattle.pay_records.specs.Calls.{LeavesAsBefore, CommitsNothing, Does};
 
 use sqlite::{Alter, Error, Transaction};
 
 fn make_meta<S: Alter>(tx: &mut Transaction<'_, S>) -> Result<usize, Error>
     ensures same_reference { tx.new.conn.ghost_name ≡ tx.old.conn.ghost_name }
-    ensures made { HasCleanDisk (state S.Store tx.new.conn.now) → OnOk result (Makes (state S.Store tx.old.conn.now) (state S.Store tx.new.conn.now) no_schema with_meta) }
-    ensures kept { HasCleanDisk (state S.Store tx.new.conn.now) → KeepsCommit (state S.Store tx.old.conn.now) (state S.Store tx.new.conn.now) }
-    ensures survives { Survives (state S.Store tx.old.conn.now) (state S.Store tx.new.conn.now) (λ _. ⊥) }
+    ensures made { Does S.Store tx.old.conn.now tx.new.conn.now result (λ old new. Makes old new no_schema with_meta) }
+    ensures kept { CommitsNothing S.Store tx.old.conn.now tx.new.conn.now }
+    ensures survives { LeavesAsBefore S.Store tx.old.conn.now tx.new.conn.now }
 {
     tx.execute(
         "CREATE TABLE meta (name TEXT NOT NULL PRIMARY KEY, version INTEGER NOT NULL) STRICT",
@@ -20,9 +19,9 @@ fn make_meta<S: Alter>(tx: &mut Transaction<'_, S>) -> Result<usize, Error>
 
 fn make_postings<S: Alter>(tx: &mut Transaction<'_, S>) -> Result<usize, Error>
     ensures same_reference { tx.new.conn.ghost_name ≡ tx.old.conn.ghost_name }
-    ensures made { HasCleanDisk (state S.Store tx.new.conn.now) → OnOk result (Makes (state S.Store tx.old.conn.now) (state S.Store tx.new.conn.now) with_meta with_postings) }
-    ensures kept { HasCleanDisk (state S.Store tx.new.conn.now) → KeepsCommit (state S.Store tx.old.conn.now) (state S.Store tx.new.conn.now) }
-    ensures survives { Survives (state S.Store tx.old.conn.now) (state S.Store tx.new.conn.now) (λ _. ⊥) }
+    ensures made { Does S.Store tx.old.conn.now tx.new.conn.now result (λ old new. Makes old new with_meta with_postings) }
+    ensures kept { CommitsNothing S.Store tx.old.conn.now tx.new.conn.now }
+    ensures survives { LeavesAsBefore S.Store tx.old.conn.now tx.new.conn.now }
 {
     tx.execute(
         "CREATE TABLE postings (id INTEGER PRIMARY KEY AUTOINCREMENT, account INTEGER NOT NULL, week INTEGER NOT NULL, through INTEGER NOT NULL, version INTEGER NOT NULL, due INTEGER NOT NULL, amount INTEGER NOT NULL, UNIQUE (account, week, through, version)) STRICT",
@@ -32,9 +31,9 @@ fn make_postings<S: Alter>(tx: &mut Transaction<'_, S>) -> Result<usize, Error>
 
 fn make_shares<S: Alter>(tx: &mut Transaction<'_, S>) -> Result<usize, Error>
     ensures same_reference { tx.new.conn.ghost_name ≡ tx.old.conn.ghost_name }
-    ensures made { HasCleanDisk (state S.Store tx.new.conn.now) → OnOk result (Makes (state S.Store tx.old.conn.now) (state S.Store tx.new.conn.now) with_postings with_shares) }
-    ensures kept { HasCleanDisk (state S.Store tx.new.conn.now) → KeepsCommit (state S.Store tx.old.conn.now) (state S.Store tx.new.conn.now) }
-    ensures survives { Survives (state S.Store tx.old.conn.now) (state S.Store tx.new.conn.now) (λ _. ⊥) }
+    ensures made { Does S.Store tx.old.conn.now tx.new.conn.now result (λ old new. Makes old new with_postings with_shares) }
+    ensures kept { CommitsNothing S.Store tx.old.conn.now tx.new.conn.now }
+    ensures survives { LeavesAsBefore S.Store tx.old.conn.now tx.new.conn.now }
 {
     tx.execute(
         "CREATE TABLE shares (posting INTEGER NOT NULL REFERENCES postings (id), operator INTEGER NOT NULL, amount INTEGER NOT NULL, PRIMARY KEY (posting, operator)) STRICT",
@@ -44,9 +43,9 @@ fn make_shares<S: Alter>(tx: &mut Transaction<'_, S>) -> Result<usize, Error>
 
 fn make_taps<S: Alter>(tx: &mut Transaction<'_, S>) -> Result<usize, Error>
     ensures same_reference { tx.new.conn.ghost_name ≡ tx.old.conn.ghost_name }
-    ensures made { HasCleanDisk (state S.Store tx.new.conn.now) → OnOk result (Makes (state S.Store tx.old.conn.now) (state S.Store tx.new.conn.now) with_shares with_taps) }
-    ensures kept { HasCleanDisk (state S.Store tx.new.conn.now) → KeepsCommit (state S.Store tx.old.conn.now) (state S.Store tx.new.conn.now) }
-    ensures survives { Survives (state S.Store tx.old.conn.now) (state S.Store tx.new.conn.now) (λ _. ⊥) }
+    ensures made { Does S.Store tx.old.conn.now tx.new.conn.now result (λ old new. Makes old new with_shares with_taps) }
+    ensures kept { CommitsNothing S.Store tx.old.conn.now tx.new.conn.now }
+    ensures survives { LeavesAsBefore S.Store tx.old.conn.now tx.new.conn.now }
 {
     tx.execute(
         "CREATE TABLE taps (account INTEGER NOT NULL, reader INTEGER NOT NULL, seq INTEGER NOT NULL, utc INTEGER NOT NULL, day INTEGER NOT NULL, second INTEGER NOT NULL, place INTEGER NOT NULL, kind INTEGER NOT NULL, PRIMARY KEY (account, reader, seq)) STRICT",
@@ -56,9 +55,9 @@ fn make_taps<S: Alter>(tx: &mut Transaction<'_, S>) -> Result<usize, Error>
 
 fn make_fixes<S: Alter>(tx: &mut Transaction<'_, S>) -> Result<usize, Error>
     ensures same_reference { tx.new.conn.ghost_name ≡ tx.old.conn.ghost_name }
-    ensures made { HasCleanDisk (state S.Store tx.new.conn.now) → OnOk result (Makes (state S.Store tx.old.conn.now) (state S.Store tx.new.conn.now) with_taps ledger_schema) }
-    ensures kept { HasCleanDisk (state S.Store tx.new.conn.now) → KeepsCommit (state S.Store tx.old.conn.now) (state S.Store tx.new.conn.now) }
-    ensures survives { Survives (state S.Store tx.old.conn.now) (state S.Store tx.new.conn.now) (λ _. ⊥) }
+    ensures made { Does S.Store tx.old.conn.now tx.new.conn.now result (λ old new. Makes old new with_taps ledger_schema) }
+    ensures kept { CommitsNothing S.Store tx.old.conn.now tx.new.conn.now }
+    ensures survives { LeavesAsBefore S.Store tx.old.conn.now tx.new.conn.now }
 {
     tx.execute(
         "CREATE TABLE fixes (account INTEGER NOT NULL, staff INTEGER NOT NULL, seq INTEGER NOT NULL, what INTEGER NOT NULL, a INTEGER NOT NULL, b INTEGER NOT NULL, c INTEGER NOT NULL, d INTEGER NOT NULL, e INTEGER NOT NULL, PRIMARY KEY (account, staff, seq)) STRICT",
@@ -68,9 +67,9 @@ fn make_fixes<S: Alter>(tx: &mut Transaction<'_, S>) -> Result<usize, Error>
 
 fn add_meta<S: Alter>(tx: &mut Transaction<'_, S>) -> Result<usize, Error>
     ensures same_reference { tx.new.conn.ghost_name ≡ tx.old.conn.ghost_name }
-    ensures made { HasCleanDisk (state S.Store tx.new.conn.now) → OnOk result (MakesLedger (state S.Store tx.old.conn.now) (state S.Store tx.new.conn.now) ledger_schema) }
-    ensures kept { HasCleanDisk (state S.Store tx.new.conn.now) → KeepsCommit (state S.Store tx.old.conn.now) (state S.Store tx.new.conn.now) }
-    ensures survives { Survives (state S.Store tx.old.conn.now) (state S.Store tx.new.conn.now) (λ _. ⊥) }
+    ensures made { Does S.Store tx.old.conn.now tx.new.conn.now result (λ old new. MakesLedger old new ledger_schema) }
+    ensures kept { CommitsNothing S.Store tx.old.conn.now tx.new.conn.now }
+    ensures survives { LeavesAsBefore S.Store tx.old.conn.now tx.new.conn.now }
 {
     tx.execute(
         "INSERT INTO meta (name, version) VALUES ('farebox', 1)",
@@ -80,9 +79,9 @@ fn add_meta<S: Alter>(tx: &mut Transaction<'_, S>) -> Result<usize, Error>
 
 fn make_first<S: Alter>(tx: &mut Transaction<'_, S>) -> Result<(), Error>
     ensures same_reference { tx.new.conn.ghost_name ≡ tx.old.conn.ghost_name }
-    ensures made { HasCleanDisk (state S.Store tx.new.conn.now) → OnOk result (Makes (state S.Store tx.old.conn.now) (state S.Store tx.new.conn.now) no_schema with_shares) }
-    ensures kept { HasCleanDisk (state S.Store tx.new.conn.now) → KeepsCommit (state S.Store tx.old.conn.now) (state S.Store tx.new.conn.now) }
-    ensures survives { Survives (state S.Store tx.old.conn.now) (state S.Store tx.new.conn.now) (λ _. ⊥) }
+    ensures made { Does S.Store tx.old.conn.now tx.new.conn.now result (λ old new. Makes old new no_schema with_shares) }
+    ensures kept { CommitsNothing S.Store tx.old.conn.now tx.new.conn.now }
+    ensures survives { LeavesAsBefore S.Store tx.old.conn.now tx.new.conn.now }
 {
     make_meta(tx)?;
     make_postings(tx)?;
@@ -93,9 +92,9 @@ fn make_first<S: Alter>(tx: &mut Transaction<'_, S>) -> Result<(), Error>
 /// Makes the five tables, and the row that says what they are.
 pub fn make<S: Alter>(tx: &mut Transaction<'_, S>) -> Result<(), Error>
     ensures same_reference { tx.new.conn.ghost_name ≡ tx.old.conn.ghost_name }
-    ensures made { HasCleanDisk (state S.Store tx.new.conn.now) → OnOk result (MakesLedger (state S.Store tx.old.conn.now) (state S.Store tx.new.conn.now) no_schema) }
-    ensures kept { HasCleanDisk (state S.Store tx.new.conn.now) → KeepsCommit (state S.Store tx.old.conn.now) (state S.Store tx.new.conn.now) }
-    ensures survives { Survives (state S.Store tx.old.conn.now) (state S.Store tx.new.conn.now) (λ _. ⊥) }
+    ensures made { Does S.Store tx.old.conn.now tx.new.conn.now result (λ old new. MakesLedger old new no_schema) }
+    ensures kept { CommitsNothing S.Store tx.old.conn.now tx.new.conn.now }
+    ensures survives { LeavesAsBefore S.Store tx.old.conn.now tx.new.conn.now }
 {
     make_first(tx)?;
     make_taps(tx)?;

@@ -24,7 +24,7 @@ use Rattle.pay_rows.specs.declared.row.TapRow.{TapRow}
 use Rattle.pay_rows.specs.declared.row.FixRow.{FixRow}
 use Rattle.pay_postings.specs.Ranged.{◌>>=◌}
 use Rattle.pay_restore.specs.Restored.{tap_of_row, fix_of_row, with_tap_rows, with_fix_rows, restored}
-use Rattle.pay_restore.specs.Archives.{tap_account, fix_account, tap_rows, fix_rows, IsArchivedTap, IsArchivedFix, IsArchive, IsSetOf, HasOf, AreRestored}
+use Rattle.pay_restore.specs.Archives.{tap_account, fix_account, tap_rows, fix_rows, IsArchivedTap, IsArchivedFix, IsArchive, IsSetOf, HasOf, AreRestored, AreTold}
 use Rattle.pay_restore.proofs.Sets.{number_total, exact_numbers}
 use Rattle.pay_restore.proofs.Taken.{Fits}
 use Rattle.pay_restore.proofs.Values.{first, second}
@@ -101,9 +101,6 @@ module _ (mid end : State) (tap_list : List Tap) (fix_list : List Fix) (tapped :
   }
 
 -- ---- what rows tell
-
-abbrev AreTold : List (ℤ × TapRow) → List (ℤ × FixRow) → List (ℕ × Accepted) → Type 0
-AreTold rows further accounts = (tap_list : List Tap) × (fix_list : List Fix) × (map tap_of_row rows ≡ map Some tap_list) × (map fix_of_row further ≡ map Some fix_list) × AreRestored tap_list fix_list accounts
 
 pub told : (tables : FareTables) (rows : List (ℤ × TapRow)) (further : List (ℤ × FixRow)) (accounts : List (ℕ × Accepted)) → restored tables rows further ≡ Some accounts → AreTold rows further accounts
 told tables rows further accounts e = by_taps (with_tap_rows tables none rows) refl e

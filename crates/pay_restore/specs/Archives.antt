@@ -18,7 +18,7 @@ use Rattle.pay_account.specs.Words.{Accepted, is_known, is_known_fix}
 use Rattle.pay_rows.specs.declared.row.TapRow.{TapRow}
 use Rattle.pay_rows.specs.declared.row.FixRow.{FixRow}
 use Rattle.pay_postings.specs.Words.{tap_row, fix_row, IsTapInRange, IsFixInRange}
-use Rattle.pay_restore.specs.Restored.{tap_of_row}
+use Rattle.pay_restore.specs.Restored.{tap_of_row, fix_of_row}
 
 -- whose a tap is, and whose a correction
 abbrev pub tap_account : Tap → ℕ
@@ -77,6 +77,10 @@ pub record AreRestored (taps : List Tap) (fixes : List Fix) (accounts : List (�
   pub occurring : (a : ℕ) → (is_some (find nat_cmp a accounts) ≡ true) ↔ (HasOf tap_account taps a ⊎ HasOf fix_account fixes a)
   pub own_taps : (a : ℕ) (accepted : Accepted) → find nat_cmp a accounts ≡ Some accepted → IsSetOf tap_account tap_number taps a accepted.taps
   pub own_fixes : (a : ℕ) (accepted : Accepted) → find nat_cmp a accounts ≡ Some accepted → IsSetOf fix_account fix_number fixes a accepted.fixes
+
+-- rows tell taps and corrections, each row one, and the accounts are restored of just these
+abbrev pub AreTold : List (ℤ × TapRow) → List (ℤ × FixRow) → List (ℕ × Accepted) → Type 0
+AreTold rows further accounts = (taps : List Tap) × (fixes : List Fix) × (map tap_of_row rows ≡ map Some taps) × (map fix_of_row further ≡ map Some fixes) × AreRestored taps fixes accounts
 
 -- ---- worked rows
 

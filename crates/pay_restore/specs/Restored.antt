@@ -1,19 +1,18 @@
 -- The accounts of an archive: each archived tap and correction is handed to its account again, all taps first.
-use Rattle.std.specs.Prelude.{◌≡◌, ◌≢◌, ℕ, ℤ, pos, negsuc, true, false, if◌then◌else◌, List, [], ◌∷◌, Option, Some, None, Result, Ok, Err, MatchResult, refl}
+use Rattle.std.specs.Prelude.{◌≡◌, ℕ, ℤ, pos, negsuc, true, false, if◌then◌else◌, List, [], ◌∷◌, map as each, Option, Some, None, Result, Ok, Err, MatchResult, refl}
 use Rattle.std.specs.FinMap as map
 use Rattle.pay_tables.specs.Words.{FareTables}
 use Rattle.pay_taps.specs.declared.tap.Tap.{Tap}
 use Rattle.pay_fix.specs.declared.fix.Fix.{Fix}
 use Rattle.pay_account.specs.Words.{Accepted, with_tap, with_fix, tap_result, fix_result, State, accepted_of}
-use Rattle.pay_account.specs.declared.fares.Priced.{Priced}
+use Rattle.pay_quotes.specs.declared.priced.Priced.{Priced}
 use Rattle.pay_account.specs.declared.fares.TapFault.{TapFault}
 use Rattle.pay_account.specs.declared.fares.TapFault.TheVariants.{UnknownPlace}
 use Rattle.pay_postings.specs.declared.fault.PostFault.{PostFault}
-use Rattle.pay_postings.specs.declared.fault.PostFault.TheVariants.{BadArchive, Memory}
 use Rattle.pay_postings.specs.Ranged.{◌>>=◌, ranged}
 use Rattle.pay_rows.specs.declared.row.TapRow.{TapRow}
 use Rattle.pay_rows.specs.declared.row.FixRow.{FixRow}
-use Rattle.pay_postings.specs.Words.{tap_from_row, fix_from_row}
+use Rattle.pay_postings.specs.Words.{tap_from_row, fix_from_row, IsRefusedAsBad}
 
 -- accounts count from 1
 abbrev pub account_number : ℤ → Option ℕ
@@ -81,7 +80,11 @@ restored tables taps fixes = do
 
 -- An answer is what a definition gives. A refusal is want of memory, or there is none, and it tells a bad archive.
 abbrev pub IsRestoredAs : {U X : Type 0} → Result U PostFault → Option X → X → Type 0
-IsRestoredAs result given now = MatchResult result (λ _. given ≡ Some now) (λ fault. fault ≢ Memory → (fault ≡ BadArchive) × (given ≡ None))
+IsRestoredAs result given now = MatchResult result (λ _. given ≡ Some now) (IsRefusedAsBad given)
+
+-- the numbers of accounts, and beside each what it has accepted
+abbrev pub with_accepted : {F : Type 0} → (F → ℕ) → (F → Accepted) → List F → List (ℕ × Accepted)
+with_accepted account accepted list = each (λ a. (account a, accepted a)) list
 
 -- ---- worked rows
 

@@ -26,7 +26,7 @@ pub(crate) fn take<F: Fares>(alloc: Global, accounts: &mut BTreeMap<u32, F>, num
     }
 }
 
-/// Keeps an account at its number. An `Err` is want of memory.
+/// Keeps an account at its number. An `Err` is out of memory.
 pub(crate) fn keep<F: Fares>(accounts: &mut BTreeMap<u32, F>, account: F) -> Result<(), AllocError>
     requires { 1 ≤ F.account account }
     ensures state { OnOk result (held F.accepted accounts.new.entries ≡ map.insert (held F.accepted accounts.old.entries) (F.account account) (F.accepted account)) }
@@ -37,7 +37,7 @@ pub(crate) fn keep<F: Fares>(accounts: &mut BTreeMap<u32, F>, account: F) -> Res
     Ok(())
 }
 
-/// The accounts in ascending order of their numbers. An `Err` is want of memory.
+/// The accounts in ascending order of their numbers. An `Err` is out of memory.
 pub(crate) fn in_order<F: Fares>(
     alloc: Global,
     accounts: BTreeMap<u32, F>,

@@ -1,11 +1,11 @@
-ghost use Rattle.std.specs.Prelude.{◌≡◌, ◌≢◌, map as each, Some, None, MatchResult, IfOk, OnOk};
+ghost use Rattle.std.specs.Prelude.{◌≡◌, map as each, Some, MatchResult, IfOk, OnOk};
 ghost use Rattle.std.specs.List.{IsDistinct};
 ghost use Rattle.std.specs.List.Sorted.{IsStrictlySortedBy};
 ghost use Rattle.std.specs.Ordering.{nat_cmp, eq_by_cmp};
-ghost use Rattle.pay_postings.specs.declared.fault.PostFault.TheVariants.{BadArchive, Memory};
+ghost use Rattle.pay_postings.specs.Words.{IsRefusedAsBad};
 ghost use Rattle.pay_account.specs.Words.{ArePriced};
 ghost use Rattle.pay_restore.specs.Kept.{held, AreKept};
-ghost use Rattle.pay_restore.specs.Restored.{with_tap_row, with_tap_rows, with_fix_row, with_fix_rows, restored, IsRestoredAs};
+ghost use Rattle.pay_restore.specs.Restored.{with_tap_row, with_tap_rows, with_fix_row, with_fix_rows, restored, with_accepted, IsRestoredAs};
 
 use crate::keeping::{in_order, keep, take};
 use crate::reading::{fix_of_row, tap_of_row};
@@ -101,8 +101,7 @@ pub fn restored<F: Fares>(
     taps: &[(i64, TapRow)],
     fixes: &[(i64, FixRow)],
 ) -> Result<Vec<F>, PostFault>
-    ensures answer { MatchResult result (λ accounts. restored tables.now taps.now fixes.now ≡ Some (each (λ a. (F.account a, F.accepted a)) accounts.items))
-        (λ fault. fault ≢ Memory → (fault ≡ BadArchive) × (restored tables.now taps.now fixes.now ≡ None)) }
+    ensures answer { MatchResult result (λ accounts. restored tables.now taps.now fixes.now ≡ Some (with_accepted F.account F.accepted accounts.items)) (IsRefusedAsBad (restored tables.now taps.now fixes.now)) }
 
     // So they may be those that a shard begins with.
     ensures ascending { IfOk result (λ accounts. IsStrictlySortedBy nat_cmp (each F.account accounts.items)) }

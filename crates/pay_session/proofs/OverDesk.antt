@@ -2,7 +2,6 @@
 use Rattle.std.proofs.Common.{◌≡◌, ℕ, Bool, List, [], ◌∷◌, ◌++◌, Option, Some, None, IfSome, Result, sym, ap, ◌∙◌, subst, refl, append_assoc, append-nil}
 use Rattle.jiff.specs.declared.tz.timezone.TimeZone.{TimeZone}
 use Rattle.pay_quotes.specs.declared.posting.Posting.{Posting}
-use Rattle.pay_shard.specs.declared.asked.Asked.{Asked}
 use Rattle.pay_shard.specs.declared.reply.Answer.{Answer}
 use Rattle.pay_shard.specs.Words.{AreKept, Standing, DeskParts}
 use Rattle.pay_session.specs.Asks.{asks_of}
@@ -15,7 +14,7 @@ use Rattle.pay_session.specs.declared.request.Request.{Request}
 use Rattle.pay_session.specs.declared.service.Service.{Service}
 use Rattle.pay_session.specs.declared.stop.SessionFault.{SessionFault}
 use Rattle.pay_session.specs.declared.stop.SessionFault.TheVariants.{Read, Write}
-use Rattle.pay_session.specs.declared.till.CloseFault.{CloseFault}
+use Rattle.pay_wire.specs.declared.refusal.Refusal.{Refusal}
 
 -- ---- lists of what was taken
 
@@ -37,7 +36,7 @@ answered_kept old new (t ∷ ts) kept f = (one_kept old new t t.answer kept f.0,
 
 -- ---- runs
 
-module _ {D O T K : Type 0} (parts : D → DeskParts O) (Closes : T → ℕ → ℕ → List Taken → Result (List Posting) CloseFault → T → Type 0) (till_origin : T → K) where
+module _ {D O T K : Type 0} (parts : D → DeskParts O) (Closes : T → ℕ → ℕ → List Taken → Result (List Posting) Refusal → T → Type 0) (till_origin : T → K) where
   -- what may come of a request, as a service says it
   abbrev pub Serves : Service D T → Request → Event → Service D T → Type 0
   Serves before request event after =

@@ -15,7 +15,6 @@ use Rattle.pay_session.specs.Served.{IsServedAs}
 use Rattle.pay_session.specs.Serving.{IsPut, IsCloseSaidAt, IsStep, IsWithin, MaySometimeRefuse, MaySometimeBeLate}
 use Rattle.pay_session.specs.declared.asks.Asks.{Asks}
 use Rattle.pay_session.specs.declared.asks.Asks.TheVariants as asks
-use Rattle.pay_session.specs.declared.till.CloseFault.{CloseFault}
 
 -- ---- a command that was put
 
@@ -60,7 +59,7 @@ at_once before = record { same_origin = refl; same_shards = refl; more = []; wai
 
 -- ---- steps
 
-module _ {D O T : Type 0} (parts : D → DeskParts O) (Closes : T → ℕ → ℕ → List Taken → Result (List Posting) CloseFault → T → Type 0) where
+module _ {D O T : Type 0} (parts : D → DeskParts O) (Closes : T → ℕ → ℕ → List Taken → Result (List Posting) Refusal → T → Type 0) where
   abbrev Served : D → Asks → Event → T → T → Type 0
   Served desk = IsServedAs (parts desk).standing.shards (MaySometimeRefuse parts (parts desk).standing) (MaySometimeBeLate parts (parts desk).standing) Closes
 

@@ -15,8 +15,6 @@ use Rattle.pay_wire.specs.declared.refusal.Refusal.TheVariants as refusal
 use Rattle.pay_wire.specs.declared.reply.Reply.{Reply}
 use Rattle.pay_wire.specs.declared.reply.Reply.TheVariants as replies
 use Rattle.pay_wire.specs.Words.{spelling_of_reply}
-use Rattle.pay_session.specs.declared.till.CloseFault.{CloseFault}
-use Rattle.pay_session.specs.declared.till.CloseFault.TheVariants as close_fault
 
 -- a command that a desk took, and the answer to it, where it came
 pub record Taken : Type 0 where
@@ -46,17 +44,6 @@ refusal_of_desk desk_fault.Window = refusal.Window
 refusal_of_desk desk_fault.Late = refusal.Late
 refusal_of_desk desk_fault.Memory = refusal.Memory
 
--- why a day was not closed
-abbrev pub refusal_of_close : CloseFault → Refusal
-refusal_of_close close_fault.NotHere = refusal.NotHere
-refusal_of_close close_fault.StaleQuote = refusal.StaleQuote
-refusal_of_close close_fault.Store = refusal.Store
-refusal_of_close close_fault.DeskFault = refusal.DeskFault
-refusal_of_close close_fault.BadArchive = refusal.BadArchive
-refusal_of_close close_fault.ArchiveConflict = refusal.ArchiveConflict
-refusal_of_close close_fault.QuoteDiffers = refusal.QuoteDiffers
-refusal_of_close close_fault.Memory = refusal.Memory
-
 -- A desk's reply. Quotes are the reply to no line: a desk that gives them has failed.
 abbrev pub said : DeskReply → Reply
 said (desk_reply.Priced priced) = replies.Priced priced
@@ -67,9 +54,9 @@ said (desk_reply.Quotes batch) = replies.No refusal.DeskFault
 said desk_reply.Memory = replies.No refusal.Memory
 
 -- what a close of a day came to
-abbrev pub said_of_close : ℕ → Result (List Posting) CloseFault → Reply
+abbrev pub said_of_close : ℕ → Result (List Posting) Refusal → Reply
 said_of_close day (Ok postings) = replies.Closed (record { day = day; postings = postings })
-said_of_close day (Err why) = replies.No (refusal_of_close why)
+said_of_close day (Err why) = replies.No why
 
 -- ---- lists of events
 

@@ -1,5 +1,5 @@
 -- How requests are answered over a desk and a till.
-use Rattle.std.specs.Prelude.{◌≡◌, ◌⊎◌, ℕ, ◌<◌, suc, Bool, true, false, not, List, [], ◌∷◌, ◌++◌, Option, Some, None, IfNone, Result, Err, ⊤}
+use Rattle.std.specs.Prelude.{◌≡◌, ◌⊎◌, ℕ, ◌<◌, suc, Bool, true, false, not, List, [], ◌∷◌, ◌++◌, Option, Some, None, IfNone, Result, Err, IsTrue, IfErr, ⊤, refl}
 use Rattle.std.specs.List.{AllByRecursion, list_any}
 use Rattle.jiff.specs.declared.tz.timezone.TimeZone.{TimeZone}
 use Rattle.pay_quotes.specs.declared.posting.Posting.{Posting}
@@ -15,8 +15,7 @@ use Rattle.pay_wire.specs.declared.reply.Reply.TheVariants as replies
 use Rattle.pay_session.specs.declared.asks.Asks.{Asks}
 use Rattle.pay_session.specs.declared.asks.Asks.TheVariants as asks
 use Rattle.pay_session.specs.declared.request.Request.{Request}
-use Rattle.pay_session.specs.declared.till.CloseFault.{CloseFault}
-use Rattle.pay_session.specs.declared.till.CloseFault.TheVariants as close_fault
+use Rattle.pay_wire.specs.declared.refusal.Refusal.{Refusal}
 use Rattle.pay_session.specs.Asks.{asks_of}
 use Rattle.pay_session.specs.Events.{Taken, Event, said, refusal_of_desk, said_of_close, commands_of, AreAnswered}
 
@@ -34,6 +33,22 @@ abbrev pub brings_quotes : Option Answer → Bool
 brings_quotes (Some answer) = gives_quotes answer.reply
 brings_quotes None = false
 
+-- whether a close may be refused so: nothing is closed here, the quotes did not come, the ledger refuses, or memory ran out
+abbrev pub is_of_close : Refusal → Bool
+is_of_close refusal.NotHere = true
+is_of_close refusal.StaleQuote = true
+is_of_close refusal.Store = true
+is_of_close refusal.DeskFault = true
+is_of_close refusal.BadArchive = true
+is_of_close refusal.ArchiveConflict = true
+is_of_close refusal.QuoteDiffers = true
+is_of_close refusal.Memory = true
+is_of_close _ = false
+
+-- a desk's own fault is none of a close
+not_late : is_of_close refusal.Late ≡ false
+not_late = refl
+
 -- With `Refuses` for how a desk may refuse a command, and `Late` for whether a reply of it may be late.
 module _ (Refuses : DeskFault → Type 0) (Late : Type 0) where
   -- an answer is missing where it may be late alone
@@ -45,14 +60,15 @@ module _ (Refuses : DeskFault → Type 0) (Late : Type 0) where
   IsShort put = ((fault : DeskFault) × Refuses fault) ⊎ (list_any (λ (t : Taken). not (brings_quotes t.answer)) put ≡ true)
 
   -- A close, with `Closes` for what the till says of it: what was put, and the answer.
-  pub record IsClose (Closes : List Taken → Result (List Posting) CloseFault → Type 0) (day of : ℕ) (put : List Taken) (result : Result (List Posting) CloseFault) : Type 0 where
+  pub record IsClose (Closes : List Taken → Result (List Posting) Refusal → Type 0) (day of : ℕ) (put : List Taken) (result : Result (List Posting) Refusal) : Type 0 where
     pub quotes : AreQuotes day of 0 put
     pub in_time : AreInTime put
-    pub short : result ≡ Err close_fault.DeskFault → IsShort put
+    pub short : result ≡ Err refusal.DeskFault → IsShort put
+    pub of_close : IfErr result (λ why. IsTrue (is_of_close why))
     pub closes : Closes put result
 
   -- What a close did over a desk: what was put for it was taken, and the answers are the transcript's.
-  pub record IsClosed (Closes : List Taken → Result (List Posting) CloseFault → Type 0) (day of : ℕ) (before after : List (ℕ × Asked)) (transcript : ℕ → Option Answer) (result : Result (List Posting) CloseFault) : Type 0 where
+  pub record IsClosed (Closes : List Taken → Result (List Posting) Refusal → Type 0) (day of : ℕ) (before after : List (ℕ × Asked)) (transcript : ℕ → Option Answer) (result : Result (List Posting) Refusal) : Type 0 where
     pub put : List Taken
     pub close : IsClose Closes day of put result
     pub added : after ≡ before ++ commands_of put
@@ -78,10 +94,10 @@ module _ (Refuses : DeskFault → Type 0) (Late : Type 0) where
 
 -- With `Closes` for what the till says of a close: the till before, the day, how many shards answer, what was put, the answer,
 -- the till after.
-module _ {T : Type 0} (of : ℕ) (Refuses : DeskFault → Type 0) (Late : Type 0) (Closes : T → ℕ → ℕ → List Taken → Result (List Posting) CloseFault → T → Type 0) where
+module _ {T : Type 0} (of : ℕ) (Refuses : DeskFault → Type 0) (Late : Type 0) (Closes : T → ℕ → ℕ → List Taken → Result (List Posting) Refusal → T → Type 0) where
   -- a close, by the till
   pub record IsTillClosed (day : ℕ) (event : Event) (before after : T) : Type 0 where
-    pub result : Result (List Posting) CloseFault
+    pub result : Result (List Posting) Refusal
     pub close : IsClose Refuses Late (λ put answer. Closes before day of put answer after) day of event.put result
     pub told : event.reply ≡ said_of_close day result
 

@@ -9,7 +9,7 @@ use Rattle.pay_wire.specs.declared.reply.Reply.{Reply}
 use Rattle.pay_session.specs.Events.{Taken, Event, said_of_close, commands_of, AreAnswered}
 use Rattle.pay_session.specs.Served.{IsTaken, IsRefused, IsServedAs, IsClosed}
 use Rattle.pay_session.specs.declared.asks.Asks.{Asks}
-use Rattle.pay_session.specs.declared.till.CloseFault.{CloseFault}
+use Rattle.pay_wire.specs.declared.refusal.Refusal.{Refusal}
 
 -- A desk stood so before a line and does so within it: beside what waits of before, no more than a close has put, which is one
 -- for each shard.
@@ -37,8 +37,8 @@ pub record IsPut (Refuses : DeskFault → Type 0) (Late : Type 0) (a : Asked) (b
   pub said : AreAnswered transcript event.put
 
 -- a till closed a day over a desk, and this is what was said
-pub record IsCloseSaid (Refuses : DeskFault → Type 0) (Late : Type 0) (Closes : List Taken → Result (List Posting) CloseFault → Type 0) (day of : ℕ) (before after : List (ℕ × Asked)) (transcript : ℕ → Option Answer) (line : Reply) : Type 0 where
-  pub result : Result (List Posting) CloseFault
+pub record IsCloseSaid (Refuses : DeskFault → Type 0) (Late : Type 0) (Closes : List Taken → Result (List Posting) Refusal → Type 0) (day of : ℕ) (before after : List (ℕ × Asked)) (transcript : ℕ → Option Answer) (line : Reply) : Type 0 where
+  pub result : Result (List Posting) Refusal
   pub closed : IsClosed Refuses Late Closes day of before after transcript result
   pub told : line ≡ said_of_close day result
 
@@ -51,20 +51,20 @@ module _ {D O : Type 0} (parts : D → DeskParts O) where
 
   -- A till closed a day over it. `Closes` says of the till what a close comes to, by how many shards answer, what was put, and
   -- the answer.
-  abbrev pub IsClosedAt : D → D → ℕ → (ℕ → List Taken → Result (List Posting) CloseFault → Type 0) → Result (List Posting) CloseFault → Type 0
+  abbrev pub IsClosedAt : D → D → ℕ → (ℕ → List Taken → Result (List Posting) Refusal → Type 0) → Result (List Posting) Refusal → Type 0
   IsClosedAt before after day Closes result =
       IsClosed (MaySometimeRefuse parts (parts before).standing) (MaySometimeBeLate parts (parts before).standing) (Closes (parts before).standing.shards) day (parts before).standing.shards
       (parts before).taken (parts after).taken (parts after).transcript result
 
   -- and this is what was said
-  abbrev pub IsCloseSaidAt : D → D → ℕ → (ℕ → List Taken → Result (List Posting) CloseFault → Type 0) → Reply → Type 0
+  abbrev pub IsCloseSaidAt : D → D → ℕ → (ℕ → List Taken → Result (List Posting) Refusal → Type 0) → Reply → Type 0
   IsCloseSaidAt before after day Closes line =
       IsCloseSaid (MaySometimeRefuse parts (parts before).standing) (MaySometimeBeLate parts (parts before).standing) (Closes (parts before).standing.shards) day (parts before).standing.shards
       (parts before).taken (parts after).taken (parts after).transcript line
 
   -- What a request comes to was answered, over a desk and a till: the desk took the event's commands, and nothing else, and stands
   -- as before.
-  pub record IsStep {T : Type 0} (Closes : T → ℕ → ℕ → List Taken → Result (List Posting) CloseFault → T → Type 0) (asks : Asks) (event : Event) (before after : D × T) : Type 0 where
+  pub record IsStep {T : Type 0} (Closes : T → ℕ → ℕ → List Taken → Result (List Posting) Refusal → T → Type 0) (asks : Asks) (event : Event) (before after : D × T) : Type 0 where
     pub served : IsServedAs (parts before.0).standing.shards (MaySometimeRefuse parts (parts before.0).standing) (MaySometimeBeLate parts (parts before.0).standing) Closes asks event before.1 after.1
     pub added : (parts after.0).taken ≡ (parts before.0).taken ++ commands_of event.put
     pub said : AreAnswered (parts after.0).transcript event.put

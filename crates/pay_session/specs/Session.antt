@@ -17,7 +17,7 @@ use Rattle.pay_session.specs.declared.sessions.Done.{Done}
 use Rattle.pay_session.specs.declared.stop.SessionFault.{SessionFault}
 use Rattle.pay_session.specs.declared.stop.SessionFault.TheVariants.{Read, Write}
 use Rattle.pay_session.specs.declared.request.Request.{Request}
-use Rattle.pay_session.specs.declared.till.CloseFault.{CloseFault}
+use Rattle.pay_wire.specs.declared.refusal.Refusal.{Refusal}
 
 -- what a desk and a till were before a session and are after it: what the desk took, its transcript after, and the till
 pub record Sides (T : Type 0) : Type 0 where
@@ -27,7 +27,7 @@ pub record Sides (T : Type 0) : Type 0 where
   pub till_before : T
   pub till_after : T
 
-module _ {T : Type 0} (zone : TimeZone) (of : ℕ) (Refuses : DeskFault → Type 0) (Late : Type 0) (Closes : T → ℕ → ℕ → List Taken → Result (List Posting) CloseFault → T → Type 0) where
+module _ {T : Type 0} (zone : TimeZone) (of : ℕ) (Refuses : DeskFault → Type 0) (Late : Type 0) (Closes : T → ℕ → ℕ → List Taken → Result (List Posting) Refusal → T → Type 0) where
   -- These requests were answered by these events, in order; the desk took the events' commands, each once and in order, and
   -- nothing else; and the answers that came are the transcript's.
   pub record IsSession (sides : Sides T) (requests : List Request) (events : List Event) : Type 0 where
@@ -82,7 +82,7 @@ sides parts before after = record { taken_before = (parts before.0).taken; taken
 
 -- A session in a zone, from before to after: the desk, the till, what the reader has left, and what the writer holds, each where
 -- it is known. With `Closes` for what the till says of a close.
-module _ {D O T : Type 0} (zone : TimeZone) (parts : D → DeskParts O) (Closes : T → ℕ → ℕ → List Taken → Result (List Posting) CloseFault → T → Type 0) where
+module _ {D O T : Type 0} (zone : TimeZone) (parts : D → DeskParts O) (Closes : T → ℕ → ℕ → List Taken → Result (List Posting) Refusal → T → Type 0) where
   -- it ended by itself
   abbrev pub Ends : (before after : D × T × Option (List ℕ) × Option (List ℕ)) → Done → Type 0
   Ends before after done = IfSome before.2 (λ input.
@@ -96,7 +96,7 @@ module _ {D O T : Type 0} (zone : TimeZone) (parts : D → DeskParts O) (Closes 
       (sides parts (before.0, before.1) (after.0, after.1)) input after.2 before.3 after.3)
 
 -- the same of a service that lends the desk and the till, of what the reader has left, and of what the writer holds
-module _ {D O T : Type 0} (parts : D → DeskParts O) (Closes : T → ℕ → ℕ → List Taken → Result (List Posting) CloseFault → T → Type 0) where
+module _ {D O T : Type 0} (parts : D → DeskParts O) (Closes : T → ℕ → ℕ → List Taken → Result (List Posting) Refusal → T → Type 0) where
   abbrev pub ServiceEnds : (before after : Service D T × Option (List ℕ) × Option (List ℕ)) → Done → Type 0
   ServiceEnds before after done =
       Ends before.0.zone.now parts Closes (before.0.desk.now, before.0.till.now, before.1, before.2) (after.0.desk.now, after.0.till.now, after.1, after.2) done

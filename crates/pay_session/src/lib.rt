@@ -18,4 +18,4 @@ pub use asks::Asks;
 pub use request::Request;
 pub use sessions::{Done, session};
 pub use stop::SessionFault;
-pub use till::{CloseFault, NoTill, Till};
+pub use till::{NoTill, Till};

@@ -20,7 +20,7 @@ use std::io::{BufRead, Write};
 pub(crate) struct Progress {
     line: BegunLine,
     answered: u128,
-    // Whether memory was wanting for a request.
+    // Whether memory ran out for a request.
     lacked_memory: bool,
 }
 
@@ -237,7 +237,7 @@ impl Progress {
     }
 }
 
-/// Whether a request was refused for want of memory.
+/// Whether a request was refused because memory ran out.
 fn lacks_memory(reply: &Reply) -> bool
     ensures { result ≡ lacks_memory reply.now }
 {

@@ -1,10 +1,9 @@
 //! What answers the requests of a session: a zone, a desk and a till.
 ghost use Rattle.std.specs.Prelude.{◌≡◌, ◌≤◌};
 ghost use Rattle.pay_day.specs.declared.limits.TheConstants.{FIRST_DAY, LAST_DAY};
-ghost use Rattle.pay_shard.specs.declared.asked.Asked.{Asked};
 ghost use Rattle.pay_shard.specs.Words.{AreKept};
 ghost use Rattle.pay_session.specs.Asks.{IsOfAccount};
-ghost use Rattle.pay_session.specs.Events.{Event, refusal_of, refusal_of_desk, refusal_of_close, said, said_of_close};
+ghost use Rattle.pay_session.specs.Events.{Event, refusal_of, refusal_of_desk, said};
 ghost use Rattle.pay_session.specs.Requests.{IsAsked};
 ghost use Rattle.pay_session.specs.Serving.{IsPutAt, IsCloseSaidAt};
 ghost use Rattle.pay_session.specs.SessionSteps.{IsAnswered};
@@ -12,9 +11,8 @@ ghost use Rattle.pay_session.specs.declared.request.Request.{Request};
 
 use crate::asks::{Asks, asks_of};
 use crate::request::Request;
-use crate::till::{CloseFault, Till};
+use crate::till::Till;
 use jiff::tz::TimeZone;
-use pay_quotes::Postings;
 use pay_shard::{Command, Desk, DeskFault};
 use pay_wire::{Closed, Refusal, Reply};
 
@@ -96,7 +94,7 @@ fn close<D: Desk, T: Till>(till: &mut T, desk: &mut D, day: u32) -> Reply
 {
     match till.close(desk, day) {
         Ok(postings) => Reply::Closed(Closed { day, postings }),
-        Err(fault) => Reply::No(refusal_of_close(fault)),
+        Err(why) => Reply::No(why),
     }
 }
 
@@ -136,21 +134,5 @@ fn refusal_of_desk(fault: DeskFault) -> Refusal
         DeskFault::Window => Refusal::Window,
         DeskFault::Late => Refusal::Late,
         DeskFault::Memory => Refusal::Memory,
-    }
-}
-
-/// Why a day is not closed, as a line says it.
-fn refusal_of_close(fault: CloseFault) -> Refusal
-    ensures { result ≡ refusal_of_close fault }
-{
-    match fault {
-        CloseFault::NotHere => Refusal::NotHere,
-        CloseFault::StaleQuote => Refusal::StaleQuote,
-        CloseFault::Store => Refusal::Store,
-        CloseFault::DeskFault => Refusal::DeskFault,
-        CloseFault::BadArchive => Refusal::BadArchive,
-        CloseFault::ArchiveConflict => Refusal::ArchiveConflict,
-        CloseFault::QuoteDiffers => Refusal::QuoteDiffers,
-        CloseFault::Memory => Refusal::Memory,
     }
 }

@@ -18,7 +18,7 @@ pub struct Done {
     pub answered: u128,
     /// Whether a `QUIT` ended the session, and not the end of the input.
     pub quit: bool,
-    /// Whether memory was wanting for a line: its reply is `NO 90 Memory`.
+    /// Whether memory ran out for a line: its reply is `NO 90 Memory`.
     pub lacked_memory: bool,
 }
 

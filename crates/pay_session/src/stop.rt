@@ -1,18 +1,21 @@
 //! Why a session stops before its end.
-ghost use Rattle.std.specs.Prelude.{◌≡◌, ◌↔◌, IsOk, IfOk, IfErr};
+ghost use Rattle.std.specs.Prelude.{◌≡◌, ◌↔◌, IsOk, IfErr};
 ghost use Rattle.std.specs.IoError.{error_kind};
 ghost use Rattle.pay_session.specs.Stops.{IsFailure, fault_of};
 
 use pay_wire::WriteFault;
 use std::io;
 use std::io::ErrorKind;
+use thiserror::Error;
 
 /// What broke a session off. `answered` counts the replies that were written and flushed before.
-#[derive(Clone, Copy, Debug, PartialEq, Eq)]
+#[derive(Clone, Copy, Debug, PartialEq, Eq, Error)]
 pub enum SessionFault {
     /// The reader failed, or its buffer was filled [`MOST_FILLS`](crate::limits::MOST_FILLS) times without an end.
+    #[error("input fault")]
     Read { answered: u128 },
     /// The writer failed. Of the next reply it may hold a front.
+    #[error("output fault")]
     Write { answered: u128 },
 }
 

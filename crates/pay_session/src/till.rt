@@ -5,33 +5,12 @@ ghost use Rattle.pay_day.specs.declared.limits.TheConstants.{FIRST_DAY, LAST_DAY
 ghost use Rattle.pay_shard.specs.Words.{AreKept};
 ghost use Rattle.pay_session.specs.Events.{Taken};
 ghost use Rattle.pay_session.specs.Serving.{IsClosedAt};
-ghost use Rattle.pay_session.specs.declared.till.CloseFault.{CloseFault};
-ghost use Rattle.pay_session.specs.declared.till.CloseFault.TheVariants.{NotHere};
+ghost use Rattle.pay_wire.specs.declared.refusal.Refusal.{Refusal};
+ghost use Rattle.pay_wire.specs.declared.refusal.Refusal.TheVariants.{NotHere};
 
 use pay_quotes::Postings;
 use pay_shard::Desk;
-use std::marker::Model;
-
-/// Why a day is not closed. Nothing was posted.
-#[derive(Clone, Copy, Debug, PartialEq, Eq)]
-pub enum CloseFault {
-    /// 34: nothing is closed here.
-    NotHere,
-    /// 42: a later quote was posted already.
-    StaleQuote,
-    /// 43: the ledger's store failed.
-    Store,
-    /// 44: the quotes did not come.
-    DeskFault,
-    /// 45: the ledger holds what is no posting or no archive.
-    BadArchive,
-    /// 46: the archive has another tap or correction of that number.
-    ArchiveConflict,
-    /// 47: what is due differs from what was posted for the same quote.
-    QuoteDiffers,
-    /// 90: no memory.
-    Memory,
-}
+use pay_wire::Refusal;
 
 /// Closes days: asks a desk for the quotes of all accounts, and posts them.
 pub trait Till: Drop {
@@ -43,12 +22,12 @@ pub trait Till: Drop {
 
     /// What a close comes to: the till before it, the service day, how many shards answer, what was put, the answer, and the
     /// till after it.
-    ghost Closes: { Self → ℕ → ℕ → List Taken → Result (List Posting) CloseFault → Self → Type 0 };
+    ghost Closes: { Self → ℕ → ℕ → List Taken → Result (List Posting) Refusal → Self → Type 0 };
 
     /// Closes a service day, counted from 1970-01-01, over a desk: nothing is put but Quotes of that day, one for each shard in
     /// order, as far as it comes, and each is got. It answers `DeskFault` only where the desk took one of them not, or some
-    /// brought no quotes.
-    fn close<D: Desk>(&mut self, desk: &mut D, day: u32) -> Result<Postings, CloseFault>
+    /// brought no quotes. Its refusal is the line's: `NotHere`, `DeskFault`, `Memory`, or one of a ledger (42, 43, 45 to 47).
+    fn close<D: Desk>(&mut self, desk: &mut D, day: u32) -> Result<Postings, Refusal>
         requires { (FIRST_DAY ≤ day) × (day ≤ LAST_DAY) }
         ensures closed { IsClosedAt D.parts desk.old desk.new day (λ of put answer. Closes self.old day of put answer self.new) result }
         ensures transcript { AreKept (D.parts desk.old).transcript (D.parts desk.new).transcript }
@@ -62,7 +41,7 @@ pub struct NoTill;
 
 impl Till for NoTill {
     ghost use Rattle.std.specs.Prelude.{◌≡◌, [], Err, ⊤};
-    ghost use Rattle.pay_session.specs.declared.till.CloseFault.TheVariants.{NotHere};
+    ghost use Rattle.pay_wire.specs.declared.refusal.Refusal.TheVariants.{NotHere};
 
     ghost Origin = { ⊤ };
 
@@ -70,7 +49,7 @@ impl Till for NoTill {
 
     ghost Closes = { λ before day of put result after. (put ≡ []) × (result ≡ Err NotHere) × (after ≡ before) };
 
-    fn close<D: Desk>(&mut self, _: &mut D, _: u32) -> Result<Postings, CloseFault> {
-        Err(CloseFault::NotHere)
+    fn close<D: Desk>(&mut self, _: &mut D, _: u32) -> Result<Postings, Refusal> {
+        Err(Refusal::NotHere)
     }
 }

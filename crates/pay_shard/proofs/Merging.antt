@@ -11,7 +11,7 @@ use Rattle.pay_tables.specs.Words.{FareTables}
 use Rattle.pay_taps.specs.declared.tap.Tap.{Tap}
 use Rattle.pay_fix.specs.declared.fix.Fix.{Fix}
 use Rattle.pay_account.specs.Words.{Accepted, nothing, sets, tap_result, fix_result, after_tap, after_fix, shown, quote}
-use Rattle.pay_account.specs.declared.fares.Priced.{Priced}
+use Rattle.pay_quotes.specs.declared.priced.Priced.{Priced}
 use Rattle.pay_account.specs.declared.fares.TapFault.{TapFault}
 use Rattle.pay_account.specs.declared.fares.FixFault.{FixFault}
 use Rattle.pay_shard.specs.BatchParts.{batch_of, batch}

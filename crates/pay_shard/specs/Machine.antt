@@ -4,7 +4,7 @@ use Rattle.pay_tables.specs.Words.{FareTables}
 use Rattle.pay_taps.specs.declared.tap.Tap.{Tap}
 use Rattle.pay_fix.specs.declared.fix.Fix.{Fix}
 use Rattle.pay_account.specs.Words.{tap_result, fix_result, shown, quote}
-use Rattle.pay_account.specs.declared.fares.Priced.{Priced}
+use Rattle.pay_quotes.specs.declared.priced.Priced.{Priced}
 use Rattle.pay_account.specs.declared.fares.TapFault.{TapFault}
 use Rattle.pay_account.specs.declared.fares.FixFault.{FixFault}
 use Rattle.pay_shard.specs.State.{after_tap_of, after_fix_of}

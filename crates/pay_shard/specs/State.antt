@@ -4,7 +4,7 @@ use Rattle.std.specs.FinMap as map
 use Rattle.pay_taps.specs.declared.tap.Tap.{Tap}
 use Rattle.pay_fix.specs.declared.fix.Fix.{Fix}
 use Rattle.pay_account.specs.Words.{Accepted, State, accepted_of, after_tap, after_fix}
-use Rattle.pay_account.specs.declared.fares.Priced.{Priced}
+use Rattle.pay_quotes.specs.declared.priced.Priced.{Priced}
 use Rattle.pay_account.specs.declared.fares.TapFault.{TapFault}
 use Rattle.pay_account.specs.declared.fares.FixFault.{FixFault}
 

@@ -48,7 +48,7 @@ impl<F: Fares> Model for Accounts<F> {
         × ArePriced F.account (F.IsPricedBy (arc_value a.tables)) a.accounts.items };
 }
 
-/// The place of each account by its number. An `Err` is want of memory.
+/// The place of each account by its number. An `Err` is out of memory.
 fn places_of<F: Fares>(alloc: Global, accounts: &[F]) -> Result<BTreeMap<u32, usize>, AllocError>
     requires { IsDistinct (eq_by_cmp nat_cmp) (each F.account accounts.now) }
     ensures ok { IfOk result (λ places. ArePlaces places.entries (each F.account accounts.now)) }

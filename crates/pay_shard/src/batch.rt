@@ -32,7 +32,7 @@ impl Batch {
         }
     }
 
-    /// One account more. Where memory is wanting, the batch is of no further use.
+    /// One account more. After an `Err` the batch is of no further use.
     pub(crate) fn push(&mut self, quote: Quote, sets: Sets) -> Result<(), AllocError>
         ensures { OnOk result (self.new ≡ record { quotes = self.old.quotes ++ quote ∷ []; sets = self.old.sets ++ sets ∷ [] }) }
     {

@@ -8,17 +8,22 @@ use crate::command::Command;
 use crate::reply::Reply;
 use crate::ticket::Ticket;
 use std::alloc::AllocError;
+use thiserror::Error;
 
 /// Why a desk takes no command, or gives no reply.
-#[derive(Clone, Copy, Debug, PartialEq, Eq)]
+#[derive(Clone, Copy, Debug, PartialEq, Eq, Error)]
 pub enum DeskFault {
     /// 30: the queue to the shard is full.
+    #[error("30 Busy")]
     Busy,
     /// 31: as many commands wait for their replies as may.
+    #[error("31 Window")]
     Window,
     /// 52: the reply has not come. The command may have taken effect.
+    #[error("52 Late")]
     Late,
     /// 90: no memory.
+    #[error("90 Memory")]
     Memory,
 }
 

@@ -27,7 +27,7 @@ pub fn order_forgets_arrival()
     // refused for none of it.
     ensures accepted { AskedAlikeEndsAlike }
 
-    // Where the same ones were accepted, nothing else that was asked makes a difference, nor want of memory.
+    // Where the same ones were accepted, nothing else that was asked makes a difference, nor whether memory ran out.
     ensures among_others { AcceptedAlikeEndsAlike }
 {
     pay_account::laws::order_forgets_arrival();

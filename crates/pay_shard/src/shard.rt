@@ -122,7 +122,7 @@ impl<F: Fares> Shard<F> {
         self.journal.capacity() - self.journal.len()
     }
 
-    /// Makes room for so many more items. An `Err` is want of memory.
+    /// Makes room for so many more items. An `Err` is out of memory.
     pub fn reserve(&mut self, items: usize) -> Result<(), AllocError>
         ensures same { self.new ≡ with_room self.old self.new.room }
         ensures ok { OnOk result (items ≤ self.new.room) }

@@ -10,10 +10,11 @@ use Rattle.pay_tables.specs.declared.band.Band.{Band}
 use Rattle.pay_tables.specs.declared.band.Cover.{Cover}
 use Rattle.pay_tables.specs.declared.band.Cover.TheVariants.{Buses, Zones}
 use Rattle.pay_tables.specs.Words.{FareTables}
-use Rattle.pay_account.specs.declared.shown.Line.{Line}
-use Rattle.pay_account.specs.declared.shown.LineKind.{LineKind}
-use Rattle.pay_account.specs.declared.shown.LineKind.TheVariants as kind
-use Rattle.pay_statement.specs.Statement.{kind_name, leading_zero, two_digits, time_of_day, cover_name, band_name, band_at, columns, fields_of_line, row}
+use Rattle.pay_quotes.specs.declared.shown.Line.{Line}
+use Rattle.pay_quotes.specs.declared.shown.LineKind.{LineKind}
+use Rattle.pay_quotes.specs.declared.shown.LineKind.TheVariants as kind
+use Rattle.pay_quotes.specs.Words.{word_of_kind}
+use Rattle.pay_statement.specs.Statement.{leading_zero, two_digits, time_of_day, cover_name, band_name, band_at, columns, fields_of_line, row}
 
 -- ---- bytes that fail a test
 
@@ -55,7 +56,7 @@ IsPlain field = needs_quotes default_writer field ≡ false
 number_plain : (n : ℕ) → IsPlain (decimal n)
 number_plain n = decimal_of (needs_byte default_writer) (λ d. glyph (nat_lt d 10) d) n
 
-kind_plain : (what : LineKind) → IsPlain (kind_name what)
+kind_plain : (what : LineKind) → IsPlain (word_of_kind what)
 kind_plain kind.Rail = refl
 kind_plain kind.Same = refl
 kind_plain kind.Lone = refl
@@ -107,5 +108,5 @@ row_of_columns = plain_row (codes "day") (codes "kind") _ (refl, (refl, (refl, (
 
 pub row_of_line : (tables : FareTables) (line : Line) → row_text default_writer (fields_of_line tables line) ≡ row (fields_of_line tables line)
 row_of_line tables line =
-    plain_row (decimal line.day) (kind_name line.kind) _
+    plain_row (decimal line.day) (word_of_kind line.kind) _
     (number_plain line.day, (kind_plain line.kind, (number_plain line.from, (number_plain line.to, (time_plain line.second, (number_plain line.fare, (band_plain (band_at tables line.band), tt)))))))

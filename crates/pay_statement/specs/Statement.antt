@@ -6,18 +6,12 @@ use Rattle.pay_tables.specs.declared.band.Band.{Band}
 use Rattle.pay_tables.specs.declared.band.Cover.{Cover}
 use Rattle.pay_tables.specs.declared.band.Cover.TheVariants.{Buses, Zones}
 use Rattle.pay_tables.specs.Words.{FareTables}
-use Rattle.pay_account.specs.declared.shown.Line.{Line}
-use Rattle.pay_account.specs.declared.shown.LineKind.{LineKind}
-use Rattle.pay_account.specs.declared.shown.LineKind.TheVariants as kind
+use Rattle.pay_quotes.specs.declared.shown.Line.{Line}
+use Rattle.pay_quotes.specs.declared.shown.LineKind.{LineKind}
+use Rattle.pay_quotes.specs.declared.shown.LineKind.TheVariants as kind
+use Rattle.pay_quotes.specs.Words.{word_of_kind}
 
 -- ---- fields
-
--- what a journey was, in capital letters
-abbrev pub kind_name : LineKind → List ℕ
-kind_name kind.Rail = codes "RAIL"
-kind_name kind.Same = codes "SAME"
-kind_name kind.Lone = codes "LONE"
-kind_name kind.Bus = codes "BUS"
 
 -- a number of one digit has a zero before it
 abbrev pub leading_zero : ℕ → List ℕ
@@ -56,7 +50,7 @@ columns = codes "day" ∷ codes "kind" ∷ codes "from" ∷ codes "to" ∷ codes
 -- a journey: its service day, what it was, from where to where, the local time of its first tap, its fare in pence before caps, and its band
 abbrev pub fields_of_line : FareTables → Line → List (List ℕ)
 fields_of_line tables line =
-    decimal line.day ∷ kind_name line.kind ∷ decimal line.from ∷ decimal line.to ∷ time_of_day line.second ∷ decimal line.fare ∷ band_name (band_at tables line.band) ∷ []
+    decimal line.day ∷ word_of_kind line.kind ∷ decimal line.from ∷ decimal line.to ∷ time_of_day line.second ∷ decimal line.fare ∷ band_name (band_at tables line.band) ∷ []
 
 -- fields as a row: a comma between each two, and the newline at the end
 abbrev pub row : List (List ℕ) → List ℕ

@@ -1,11 +1,10 @@
 //! The fields of a row, as text.
 ghost use Rattle.std.specs.Prelude.{◌≡◌, ◌+◌, ◌++◌, ◌≤◌, length, codes, decimal};
 ghost use Rattle.arrayvec.specs.ArrayVec.{array_vec_len};
-ghost use Rattle.pay_statement.specs.Statement.{kind_name, leading_zero, two_digits, time_of_day, cover_name, band_at, band_name};
+ghost use Rattle.pay_statement.specs.Statement.{leading_zero, two_digits, time_of_day, cover_name, band_at, band_name};
 
 use arrayvec::ArrayVec;
 use itoa::Buffer;
-use pay_account::LineKind;
 use pay_tables::{Cover, Tables};
 
 /// No number of 64 bits has more digits.
@@ -25,18 +24,6 @@ pub(crate) fn number(value: u64) -> Field
     let mut field = ArrayVec::new();
     put_number(&mut field, value);
     field
-}
-
-/// What a journey was.
-pub(crate) fn kind_name(kind: LineKind) -> &'static [u8]
-    ensures { result.now ≡ kind_name kind }
-{
-    match kind {
-        LineKind::Rail => b"RAIL",
-        LineKind::Same => b"SAME",
-        LineKind::Lone => b"LONE",
-        LineKind::Bus => b"BUS",
-    }
 }
 
 /// The time at a second of the day, as `07:00:00`.

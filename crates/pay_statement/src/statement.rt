@@ -5,16 +5,18 @@ ghost use Rattle.csv.specs.Writing.{default_writer, row_text, text_written};
 ghost use Rattle.pay_statement.specs.Statement.{columns, fields_of_line, row, rows_of_lines, statement_text};
 ghost use Rattle.pay_statement.specs.Rows.{IsBetweenRows};
 
-use crate::fields::{band_name, kind_name, number, time_of_day};
+use crate::fields::{band_name, number, time_of_day};
 use csv::Writer;
-use pay_account::Line;
+use pay_quotes::Line;
 use pay_tables::Tables;
 use std::io::Write;
+use thiserror::Error;
 
 /// Why a statement was not written.
-#[derive(Clone, Copy, Debug, PartialEq, Eq)]
+#[derive(Clone, Copy, Debug, PartialEq, Eq, Error)]
 pub enum StatementFault {
     /// The writer failed, or what makes the rows did. How much was written by then is open.
+    #[error("output fault")]
     Write,
 }
 
@@ -112,7 +114,7 @@ fn write_line<W: Write + Drop>(
         rows,
         &[
             day.as_slice(),
-            kind_name(line.kind),
+            line.kind.word(),
             from.as_slice(),
             to.as_slice(),
             start.as_slice(),

@@ -3,10 +3,11 @@ use Rattle.std.specs.Prelude.{◌≡◌, ◌≢◌, ℕ, ◌+◌, ◌*◌, ◌-�
 use Rattle.std.specs.List.{list_any, find}
 use Rattle.std.specs.Ordering.{nat_cmp}
 use Rattle.std.specs.FinMap.{FinMap, get, len}
+use Rattle.pay_money.specs.declared.limits.TheConstants.{OPERATORS}
 use Rattle.pay_tables.specs.declared.band.Band.{Band}
 use Rattle.pay_tables.specs.declared.counts.Counts.{Counts}
 use Rattle.pay_tables.specs.declared.interchange.Interchange.{Interchange}
-use Rattle.pay_tables.specs.declared.limits.TheConstants.{MOST_ZONES, MOST_MINUTES, MOST_FARE, MOST_HOPPER_SECONDS, MOST_SAME_SECONDS, MOST_INTERCHANGE_SECONDS, MOST_PLACE, MOST_OPERATORS, MOST_BANDS}
+use Rattle.pay_tables.specs.declared.limits.TheConstants.{MOST_ZONES, MOST_MINUTES, MOST_FARE, MOST_HOPPER_SECONDS, MOST_SAME_SECONDS, MOST_INTERCHANGE_SECONDS, MOST_PLACE, MOST_BANDS}
 use Rattle.pay_tables.specs.declared.place.Place.{Place}
 use Rattle.pay_tables.specs.declared.place.Place.TheVariants.{Station, Route}
 use Rattle.pay_tables.specs.declared.rules.Rules.{Rules}
@@ -25,7 +26,7 @@ pub record AreRules (r : Rules) : Type 0 where
 
 -- operators are numbered from 1 on
 abbrev pub IsOperator : ℕ → Type 0
-IsOperator operator = (1 ≤ operator) × (operator ≤ MOST_OPERATORS)
+IsOperator operator = (1 ≤ operator) × (operator ≤ OPERATORS)
 
 -- what may stand at a number: a station in one of the zones or in two neighbouring ones, or a route
 abbrev pub IsPlace : ℕ → Place → Type 0
@@ -59,6 +60,19 @@ pub record FareTables : Type 0 where
   -- the stations and routes by their numbers
   pub places : FinMap nat_cmp Place
   pub interchanges : List Interchange
+
+-- these tables, from what is said of fares and of legs, and of caps, holidays and places
+abbrev pub tables_from : ℕ × List ℕ × Rules × List Single → List Band × List ℕ × FinMap nat_cmp Place × List Interchange → FareTables
+tables_from fares others = record {
+  zones = fares.0;
+  minutes = fares.1;
+  rules = fares.2;
+  singles = fares.3;
+  bands = others.0;
+  holidays = others.1;
+  places = others.2;
+  interchanges = others.3;
+}
 
 -- the station at a number; a number without a place, which no accepted tap has, counts as a station in zone 1
 abbrev pub station_at : FareTables → ℕ → Place

@@ -21,9 +21,6 @@ pub const MOST_INTERCHANGE_SECONDS: u32 = 7_200;
 /// The greatest number of a place.
 pub const MOST_PLACE: u32 = 65_535;
 
-/// How many operators there may be: the greatest number of one.
-pub const MOST_OPERATORS: u32 = 16;
-
 /// How many bands a fare file may list.
 pub const MOST_BANDS: usize = 12;
 

@@ -33,34 +33,18 @@ pub struct Tables {
 }
 
 impl Model for Tables {
-    ghost use Rattle.pay_tables.specs.FareTables.{FareTables, IsFareTables};
+    ghost use Rattle.pay_tables.specs.FareTables.{FareTables, IsFareTables, tables_from};
     ghost use Rattle.pay_tables.specs.Codes.{fare_tables_code};
 
     ghost Value = { FareTables };
 
     ghost coded = { fare_tables_code };
 
-    ghost view = { λ t. record {
-      zones = t.zones;
-      minutes = t.minutes.items;
-      rules = t.rules;
-      singles = t.singles.items;
-      bands = t.bands.items;
-      holidays = t.holidays.items;
-      places = t.places;
-      interchanges = t.interchanges.items;
-    } };
+    ghost view = { λ t. tables_from (t.zones, t.minutes.items, t.rules, t.singles.items)
+        (t.bands.items, t.holidays.items, t.places, t.interchanges.items) };
 
-    ghost invariant = { λ t. IsFareTables (record {
-      zones = t.zones;
-      minutes = t.minutes.items;
-      rules = t.rules;
-      singles = t.singles.items;
-      bands = t.bands.items;
-      holidays = t.holidays.items;
-      places = t.places;
-      interchanges = t.interchanges.items;
-    }) };
+    ghost invariant = { λ t. IsFareTables (tables_from (t.zones, t.minutes.items, t.rules, t.singles.items)
+        (t.bands.items, t.holidays.items, t.places, t.interchanges.items)) };
 }
 
 impl Tables {

@@ -11,7 +11,7 @@ use pay_taps::{Kind, Tap};
 use std::alloc::AllocError;
 use std::process::Abort;
 
-// What follows asks again where memory is wanting once: `rt try --test --fail-alloc N` runs the test with each
+// What follows asks again if memory runs out once: `rt try --test --fail-alloc N` runs the test with each
 // allocation behind those of the fare file failing in turn.
 
 /// The result of a tap.

@@ -20,7 +20,7 @@ pub fn empty_desk<R: Abort + AllocGlobal>(rt: &R, tables: Tables) -> LocalDesk<A
     LocalDesk::new(rt.alloc(), tables, none).expect(rt, "memory")
 }
 
-/// The reply to what is put, and none where memory is wanting.
+/// The reply to what is put, and none if memory runs out.
 fn answered(desk: &mut LocalDesk<Account>, command: Command) -> Option<Reply>
     requires { IsForShards 1 command }
 {

@@ -18,6 +18,8 @@ mod desks;
 #[cfg(test)]
 mod fare_files;
 #[cfg(test)]
+mod faults;
+#[cfg(test)]
 mod fixes;
 #[cfg(test)]
 mod given;

@@ -25,7 +25,7 @@ pub fn quote<R: Abort>(rt: &R, of: Named, due: Due) -> Quote {
     Quote::rebuilt(of.0, of.1, of.2, of.3, Pence::new(due.0), shares).expect(rt, "a quote")
 }
 
-/// Posts a quote, and asks again where memory is wanting once.
+/// Posts a quote, and asks again if memory runs out once.
 fn charged(postings: &mut Posted, quote: &Quote) -> Result<Charged, PostFault> {
     let posting = match postings.post(quote) {
         Err(PostFault::Memory) => postings.post(quote)?,
@@ -126,17 +126,4 @@ fn posts_quotes(rt: HostRuntime) {
     expect_same(&rt, postings.shares(7, MONDAY), first_four(40, 300, 0, 0));
     expect_same(&rt, postings.shares(9, MONDAY), first_four(0, 0, 0, 0));
     expect_same(&rt, postings.into_postings().as_slice().len(), 6);
-}
-
-#[test]
-fn faults_have_numbers(rt: HostRuntime) {
-    for (fault, number, name) in [
-        (STALE, 42, "StaleQuote"),
-        (PostFault::BadArchive, 45, "BadArchive"),
-        (PostFault::ArchiveConflict, 46, "ArchiveConflict"),
-        (PostFault::QuoteDiffers, 47, "QuoteDiffers"),
-        (PostFault::Memory, 90, "Memory"),
-    ] {
-        expect_same(&rt, (fault.number(), fault.name()), (number, name));
-    }
 }

@@ -16,7 +16,7 @@ use pay_taps::Kind;
 use std::alloc::AllocError;
 use std::process::Abort;
 
-// What follows asks again where memory is wanting once, as for the prices of accounts.
+// What follows asks again if memory runs out once, as for the prices of accounts.
 
 /// What an account owes through a service day.
 fn quoted<F: Fares>(account: &F, tables: &Tables, through: u32) -> Result<Quote, AllocError>

@@ -1,7 +1,8 @@
-//! Sessions over a desk that refuses, is late and wants memory, and over a till that posts and refuses.
+//! Sessions over a desk that refuses, is late and runs out of memory, and over a till that posts and refuses.
 
-ghost use Rattle.std.specs.Prelude.{◌≤◌, ◌≢◌};
-ghost use Rattle.pay_session.specs.declared.till.CloseFault.TheVariants as close_fault;
+ghost use Rattle.std.specs.Prelude.{◌≤◌, ◌≢◌, IsTrue};
+ghost use Rattle.pay_session.specs.Words.{is_of_close};
+ghost use Rattle.pay_wire.specs.declared.refusal.Refusal.TheVariants as refusal;
 
 use crate::accounts::expect_price;
 use crate::desks::empty_desk;
@@ -10,14 +11,15 @@ use crate::streams::{Scripted, Trickle};
 use jiff::tz::TimeZone;
 use pay_account::{Account, Fares, Posting, Postings};
 use pay_money::limits::OPERATORS;
-use pay_session::{CloseFault, Done, SessionFault, Till, session};
+use pay_session::{Done, SessionFault, Till, session};
 use pay_shard::{Command, Desk, DeskFault, LocalDesk, Reply, Ticket};
 use pay_tables::Tables;
 use pay_taps::Kind;
+use pay_wire::Refusal;
 use std::process::Abort;
 
-/// Refuses its first, second and fourth command, is late with its reply to the third, and replies to the others that memory
-/// is wanting. It counts the commands.
+/// Refuses its first, second and fourth command, is late with its reply to the third, and replies to the others that it is
+/// out of memory. It counts the commands.
 #[derive(Drop)]
 struct Unwilling {
     local: LocalDesk<Account>,
@@ -69,21 +71,27 @@ impl Desk for Unwilling {
 #[derive(Drop)]
 struct Prepared<'a> {
     postings: Option<Postings>,
-    faults: &'a [CloseFault],
+    faults: &'a [Refusal],
     closes: usize,
 }
 
 impl Prepared<'_> {
-    fn next_fault(&mut self) -> CloseFault
-        ensures { result ≢ close_fault.DeskFault }
+    fn next_fault(&mut self) -> Refusal
+        ensures not_of_desk { result ≢ refusal.DeskFault }
+        ensures of_close { IsTrue (is_of_close result) }
     {
         match self.faults {
-            [] => CloseFault::NotHere,
+            [] => Refusal::NotHere,
             [fault, faults @ ..] => {
                 self.faults = faults;
                 match *fault {
-                    CloseFault::DeskFault => CloseFault::NotHere,
-                    fault => fault,
+                    Refusal::StaleQuote => Refusal::StaleQuote,
+                    Refusal::Store => Refusal::Store,
+                    Refusal::BadArchive => Refusal::BadArchive,
+                    Refusal::ArchiveConflict => Refusal::ArchiveConflict,
+                    Refusal::QuoteDiffers => Refusal::QuoteDiffers,
+                    Refusal::Memory => Refusal::Memory,
+                    _ => Refusal::NotHere,
                 }
             }
         }
@@ -99,7 +107,7 @@ impl Till for Prepared<'_> {
 
     ghost Closes = { λ before day of put result after. put ≡ [] };
 
-    fn close<D: Desk>(&mut self, _: &mut D, _: u32) -> Result<Postings, CloseFault> {
+    fn close<D: Desk>(&mut self, _: &mut D, _: u32) -> Result<Postings, Refusal> {
         self.closes = self.closes.saturating_add(1);
         match self.postings.take() {
             Some(postings) => Ok(postings),
@@ -109,14 +117,14 @@ impl Till for Prepared<'_> {
 }
 
 /// The faults at the closes behind the first, which posts.
-static FAULTS: [CloseFault; 7] = [
-    CloseFault::NotHere,
-    CloseFault::StaleQuote,
-    CloseFault::Store,
-    CloseFault::BadArchive,
-    CloseFault::ArchiveConflict,
-    CloseFault::QuoteDiffers,
-    CloseFault::Memory,
+static FAULTS: [Refusal; 7] = [
+    Refusal::NotHere,
+    Refusal::StaleQuote,
+    Refusal::Store,
+    Refusal::BadArchive,
+    Refusal::ArchiveConflict,
+    Refusal::QuoteDiffers,
+    Refusal::Memory,
 ];
 
 /// A command for each of the desk's replies, a close for each of the till's, and the end.

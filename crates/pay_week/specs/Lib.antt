@@ -1,2 +1,3 @@
 pub mod WeekPrices
+pub mod Laws
 pub mod Words

@@ -1,5 +1,5 @@
 -- The price of a week through one of its days.
-use Rattle.std.specs.Prelude.{◌≡◌, ℕ, ◌+◌, ◌-◌, List, [], ◌∷◌, map, sum_by, refl}
+use Rattle.std.specs.Prelude.{◌≡◌, ℕ, ◌+◌, ◌-◌, List, map, sum_by, refl}
 use Rattle.pay_tables.specs.declared.band.Band.{Band}
 use Rattle.pay_tables.specs.Words.{FareTables}
 use Rattle.pay_caps.specs.Words.{Journey, CellSums, charged, not_covered, capped_price, maximum_fares, capped_price_of, outside}

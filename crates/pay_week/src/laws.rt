@@ -1,10 +1,10 @@
 //! What is true of the prices of weeks themselves. Each law is the contract of a function that does
 //! nothing: a caller whose proof needs a law calls its function.
-ghost use Rattle.std.specs.Prelude.{◌≡◌, ◌≤◌, ◌+◌, ◌∷◌, ◌++◌, List, map, sum_by};
-ghost use Rattle.pay_tables.specs.declared.band.Band.{Band};
+ghost use Rattle.std.specs.Prelude.{◌≡◌, ◌≤◌, List, map, sum_by};
 ghost use Rattle.pay_tables.specs.Words.{FareTables};
-ghost use Rattle.pay_caps.specs.Words.{Journey, cells_of, not_covered, day_price, maximum_fares};
-ghost use Rattle.pay_week.specs.WeekPrices.{capped_days, week_price, week_price_of};
+ghost use Rattle.pay_caps.specs.Words.{Journey, cells_of, day_price};
+ghost use Rattle.pay_week.specs.WeekPrices.{week_price, week_price_of};
+ghost use Rattle.pay_week.specs.Laws.{WeekIsWithinBand, WeekGrows};
 
 use pay_tables::Tables;
 
@@ -21,10 +21,8 @@ pub fn week_prices(tables: &Tables)
 /// journey more never makes it cheaper.
 pub fn bounds()
     ensures by_days { (tables : FareTables) (days : List (List Journey)) → week_price tables days ≤ sum_by (day_price tables) days }
-    ensures by_band { (tables : FareTables) (days : List (List Journey)) (before : List Band) (band : Band) (after : List Band) → tables.bands ≡ before ++ band ∷ after →
-        week_price tables days ≤ band.week + capped_days tables (map (not_covered tables band) days) + sum_by (maximum_fares tables) days }
-    ensures grows { (tables : FareTables) (before : List (List Journey)) (earlier : List Journey) (journey : Journey) (later : List Journey) (after : List (List Journey)) →
-        week_price tables (before ++ (earlier ++ later) ∷ after) ≤ week_price tables (before ++ (earlier ++ journey ∷ later) ∷ after) }
+    ensures by_band { WeekIsWithinBand }
+    ensures grows { WeekGrows }
 {
     pay_caps::laws::charges();
     pay_caps::laws::bounds();

@@ -1,7 +1,7 @@
 ghost use Rattle.std.specs.Prelude.{◌≡◌, ◌≤◌, ◌<◌, ◌+◌, ◌*◌, length, map, sum_by, slice_get, Some};
 ghost use Rattle.pay_day.specs.declared.limits.TheConstants.{DAYS_PER_WEEK};
 ghost use Rattle.pay_tables.specs.declared.limits.TheConstants.{MOST_FARE};
-ghost use Rattle.pay_caps.specs.declared.limits.TheConstants.{MOST_SUM};
+ghost use Rattle.pay_money.specs.declared.limits.TheConstants.{MOST_MONEY};
 ghost use Rattle.pay_caps.specs.Words.{capped_sum, lower, outside, outside_of, total};
 ghost use Rattle.pay_week.specs.WeekPrices.{capped_days_of, maximum_of, week_price_of, due};
 
@@ -14,7 +14,7 @@ fn capped_days(tables: &Tables, days: &[Cells]) -> Pence
     requires { length days.now ≤ DAYS_PER_WEEK }
     ensures value { result ≡ capped_days_of tables.now days.now }
     ensures no_more { result ≤ sum_by capped_sum days.now }
-    ensures in_range { result ≤ DAYS_PER_WEEK * MOST_SUM }
+    ensures in_range { result ≤ DAYS_PER_WEEK * MOST_MONEY }
 {
     let mut sum = Pence::ZERO;
     for cells in days {
@@ -27,7 +27,7 @@ fn capped_days(tables: &Tables, days: &[Cells]) -> Pence
 fn capped_days_outside(tables: &Tables, days: &[Cells], place: u8) -> Pence
     requires { length days.now ≤ DAYS_PER_WEEK }
     ensures value { result ≡ capped_days_of tables.now (map (outside_of (slice_get tables.now.bands place)) days.now) }
-    ensures in_range { result ≤ DAYS_PER_WEEK * MOST_SUM }
+    ensures in_range { result ≤ DAYS_PER_WEEK * MOST_MONEY }
 {
     let mut sum = Pence::ZERO;
     for cells in days {
@@ -40,7 +40,7 @@ fn capped_days_outside(tables: &Tables, days: &[Cells], place: u8) -> Pence
 fn maximum_of(days: &[Cells]) -> Pence
     requires { length days.now ≤ DAYS_PER_WEEK }
     ensures value { result ≡ maximum_of days.now }
-    ensures in_range { result ≤ DAYS_PER_WEEK * MOST_SUM }
+    ensures in_range { result ≤ DAYS_PER_WEEK * MOST_MONEY }
 {
     let mut sum = Pence::ZERO;
     for cells in days {

@@ -6,12 +6,12 @@ use Rattle.std.specs.Str.{bytes_eq}
 use Rattle.std.specs.List.{join_with_byte, flat_map, AllByRecursion}
 use Rattle.pay_wire.specs.declared.refusal.Refusal.{Refusal}
 use Rattle.pay_wire.specs.declared.refusal.Refusal.TheVariants.{OutOfTime, UnknownPlace, Conflict, AccountFull, FixConflict, FixesFull, Busy, Window, NotHere, StaleQuote, Store, DeskFault, BadArchive, ArchiveConflict, QuoteDiffers, BadLine, LongLine, Late, Memory}
-use Rattle.pay_account.specs.declared.fares.Priced.{Priced}
-use Rattle.pay_account.specs.Words.{Posting, QuoteParts}
-use Rattle.pay_account.specs.declared.shown.Line.{Line}
-use Rattle.pay_account.specs.declared.shown.LineKind.{LineKind}
-use Rattle.pay_account.specs.declared.shown.LineKind.TheVariants as kind
-use Rattle.pay_account.specs.declared.shown.Shown.{Shown}
+use Rattle.pay_quotes.specs.declared.priced.Priced.{Priced}
+use Rattle.pay_quotes.specs.declared.posting.Posting.{Posting}
+use Rattle.pay_quotes.specs.Words.{QuoteParts, word_of_kind}
+use Rattle.pay_quotes.specs.declared.shown.Line.{Line}
+use Rattle.pay_quotes.specs.declared.shown.LineKind.TheVariants as kind
+use Rattle.pay_quotes.specs.declared.shown.Shown.{Shown}
 use Rattle.pay_money.specs.declared.limits.TheConstants.{OPERATORS}
 use Rattle.pay_wire.specs.declared.reply.Closed.{Closed}
 use Rattle.pay_wire.specs.declared.reply.Reply.{Reply}
@@ -69,13 +69,6 @@ words_of_priced p =
 -- a refusal: its number and its name
 abbrev pub words_of_refusal : Refusal → List (List ℕ)
 words_of_refusal r = codes "NO" ∷ decimal (refusal_number r) ∷ refusal_name r ∷ []
-
--- what a journey was, in capital letters
-abbrev pub word_of_kind : LineKind → List ℕ
-word_of_kind kind.Rail = codes "RAIL"
-word_of_kind kind.Same = codes "SAME"
-word_of_kind kind.Lone = codes "LONE"
-word_of_kind kind.Bus = codes "BUS"
 
 -- a journey: what it was, from where to where, the instant of its first tap, and its fare
 abbrev pub words_of_journey : Line → List (List ℕ)

@@ -7,9 +7,11 @@ ghost use Rattle.pay_wire.specs.Output.{has_failed};
 
 use std::io;
 use std::io::{ErrorKind, Write};
+use thiserror::Error;
 
 /// Why a writer has not taken a reply.
-#[derive(Clone, Copy, Debug, PartialEq, Eq)]
+#[derive(Clone, Copy, Debug, PartialEq, Eq, Error)]
+#[error("output fault")]
 pub enum WriteFault {
     /// A write failed, and was not interrupted.
     Failed(ErrorKind),

@@ -1,13 +1,13 @@
 //! Replies as lines.
 ghost use Rattle.std.specs.Prelude.{◌≡◌, ◌+◌, ◌++◌, ◌∷◌, [], ◌*◌, ◌≤◌, ◌<◌, length, map, decimal};
 ghost use Rattle.arrayvec.specs.ArrayVec.{array_vec_len};
-ghost use Rattle.pay_wire.specs.Replies.{line_of_words, text_of_fields, words_of_priced, words_of_shown, words_of_share, words_of_shares, words_of_quote, words_of_due, words_of_posting, words_of_closed, words_of_refusal, words_of_reply, word_of_kind, words_of_journey, postings_of_reply, journeys_of_reply};
+ghost use Rattle.pay_wire.specs.Replies.{line_of_words, text_of_fields, words_of_priced, words_of_shown, words_of_share, words_of_shares, words_of_quote, words_of_due, words_of_posting, words_of_closed, words_of_refusal, words_of_reply, words_of_journey, postings_of_reply, journeys_of_reply};
 
 use crate::refusal::Refusal;
 use arrayvec::ArrayVec;
 use itoa::{Buffer, Integer};
-use pay_account::{Line, LineKind, Posting, Postings, Priced, Quote, Shown};
 use pay_money::limits::OPERATORS;
+use pay_quotes::{Line, Posting, Postings, Priced, Quote, Shown};
 
 /// No line of a reply is longer, its newline among its bytes.
 pub const REPLY_BYTES: usize = 514;
@@ -101,25 +101,13 @@ pub fn journey_line(journey: &Line) -> SpelledLine
     ensures { result.items ≡ line_of_words (words_of_journey journey.now) }
 {
     let mut line = started(b"JNY ");
-    put(&mut line, kind_word(journey.kind));
+    put(&mut line, journey.kind.word());
     put_field(&mut line, journey.from);
     put_field(&mut line, journey.to);
     put_field(&mut line, journey.utc);
     put_field(&mut line, journey.fare.pence());
     put(&mut line, b"\n");
     line
-}
-
-fn kind_word(kind: LineKind) -> &'static [u8]
-    ensures word { result.now ≡ word_of_kind kind }
-    ensures short { length result.now ≤ 4 }
-{
-    match kind {
-        LineKind::Rail => b"RAIL",
-        LineKind::Same => b"SAME",
-        LineKind::Lone => b"LONE",
-        LineKind::Bus => b"BUS",
-    }
 }
 
 fn render_shown(shown: &Shown) -> SpelledLine

@@ -6,7 +6,7 @@ ghost use Rattle.pay_wire.specs.Replies.{spelling_of_reply, ending_of_reply, tex
 
 use crate::output::{Output, State, WriteFault};
 use crate::reply::{Reply, journey_line, main_line, posting_line};
-use pay_account::{Line, Posting};
+use pay_quotes::{Line, Posting};
 use std::io::{ErrorKind, Write};
 
 /// Writes some of the bytes, and says how many. An interrupted writer has taken none and is not at fault.

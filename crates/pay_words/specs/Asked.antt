@@ -1,5 +1,5 @@
 -- What the words of the process ask for.
-use Rattle.std.specs.Prelude.{◌≡◌, ◌≤◌, ◌==◌, ℕ, List, [], ◌∷◌, codes, refl}
+use Rattle.std.specs.Prelude.{◌≡◌, ◌≢◌, ◌≤◌, ◌==◌, ℕ, List, [], ◌∷◌, codes, slice_index, refl, Result, MatchResult, IsOkAnd}
 use Rattle.std.specs.Prelude.{◌⊎◌, ⊤, Bool, true, Option, Some, None, slice_get, if◌then◌else◌}
 use Rattle.std.specs.Str.{bytes_eq, chars}
 use Rattle.std.specs.Str.Parse.{digits_value, without_leading_plus}
@@ -205,6 +205,38 @@ abbrev pub without_dashes : List Text → List Text
 without_dashes [] = []
 without_dashes (word ∷ rest) =
     if bytes_eq word (codes "--") then rest else word ∷ without_dashes rest
+
+-- ---- the words of each job
+
+-- it does not begin with a hyphen (45)
+abbrev pub HasNoHyphen : Text → Type 0
+HasNoHyphen word = slice_index word 0 ≢ 45
+
+-- it is the job that is asked for
+abbrev pub IsJob : Asked → Result Job WordsFault → Type 0
+IsJob what result = IsOkAnd result (λ job. job_asked job ≡ what)
+
+-- it is, or memory was refused
+abbrev pub IsJobOrMemory : Asked → Result Job WordsFault → Type 0
+IsJobOrMemory what result = MatchResult result (λ job. job_asked job ≡ what) (λ fault. fault ≡ Memory)
+
+-- two words with no hyphen before them are the values of `run`
+abbrev pub RunIsTaken : List Text → Result Job WordsFault → Type 0
+RunIsTaken words result = (name fares zone : Text) → words ≡ name ∷ codes "run" ∷ fares ∷ zone ∷ []
+    → HasNoHyphen fares → HasNoHyphen zone
+    → IsJobOrMemory (run fares zone) result
+
+-- one word with no hyphen before it is the value of `check`
+abbrev pub CheckIsTaken : List Text → Result Job WordsFault → Type 0
+CheckIsTaken words result = (name fares : Text) → words ≡ name ∷ codes "check" ∷ fares ∷ []
+    → HasNoHyphen fares
+    → IsJobOrMemory (check fares) result
+
+-- two words with no hyphen before them and two numbers in their ranges are the values of `statement`
+abbrev pub StatementIsTaken : List Text → Result Job WordsFault → Type 0
+StatementIsTaken words result = (name fares zone account day : Text) → words ≡ name ∷ codes "statement" ∷ fares ∷ zone ∷ account ∷ day ∷ []
+    → HasNoHyphen fares → HasNoHyphen zone → is_account account ≡ true → is_day day ≡ true
+    → IsJobOrMemory (statement fares zone (number_of account) (number_of day)) result
 
 -- ---- worked rows
 

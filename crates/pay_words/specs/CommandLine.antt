@@ -1,7 +1,7 @@
 -- What the command line takes, as `clap` has it, and what its matches and errors come to.
 use Rattle.std.specs.Prelude.{◌≡◌, ℕ, ⊤, true, codes, List, Option, Some, None, option_map}
 use Rattle.std.specs.String.{string_bytes}
-use Rattle.clap.specs.Words.{App, Row, Rule, Text, first_of, new_app, new_rule, subcommand_rows_of}
+use Rattle.clap.specs.Words.{App, Row, Rule, Text, first_of, first_value, found_of, one_text, new_app, new_rule, subcommand_rows_of}
 use Rattle.clap.specs.Words.{with_rule, with_subcommand}
 use Rattle.clap.specs.Walk.{one_of}
 use Rattle.clap.specs.Simple.{on_top}
@@ -69,6 +69,15 @@ abbrev pub GivesStatement : ArgMatches → Text → Text → ℕ → ℕ → Typ
 GivesStatement m fares zone account day = (n : Text) × (d : Text)
     × (option_map values_with_numbers (subcommand_rows_of m) ≡ Some (codes "statement", Some fares, Some zone, Some n, Some d))
     × (is_account n ≡ true) × (number_of n ≡ account) × (is_day d ≡ true) × (number_of d ≡ day)
+
+-- the matches have these values of FARES and ZONE
+abbrev pub HasFaresAndZone : ArgMatches → Text → Text → Type 0
+HasFaresAndZone m fares zone = (first_value (found_of m) (codes "FARES") ≡ Some fares) × (first_value (found_of m) (codes "ZONE") ≡ Some zone)
+
+-- and these words of ACCOUNT and DAY, which are numbers in their ranges
+abbrev pub HasNumbers : ArgMatches → Text → Text → Type 0
+HasNumbers m account day = (one_text (found_of m) (codes "ACCOUNT") ≡ Some account) × (one_text (found_of m) (codes "DAY") ≡ Some day)
+    × (is_account account ≡ true) × (is_day day ≡ true)
 
 -- help was asked for, or memory was refused
 abbrev pub IsHelpOrMemory : WordsFault → Type 0

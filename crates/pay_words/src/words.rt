@@ -1,19 +1,20 @@
 //! The words that the program is started with, and the job that they ask for.
-ghost use Rattle.std.specs.Prelude.{◌≡◌, ◌≢◌, ℕ, ◌≤◌, [], ◌∷◌, true, false, codes, drop, slice_index};
-ghost use Rattle.std.specs.Prelude.{IfOk, IfErr, IsOkAnd, MatchResult};
+ghost use Rattle.std.specs.Prelude.{◌≡◌, ℕ, ◌≤◌, true, false, codes, drop};
+ghost use Rattle.std.specs.Prelude.{IfOk, IfErr};
 ghost use Rattle.clap.specs.Walk.{texts};
 ghost use Rattle.clap.specs.Words.{app_of, first_value, found_of, kind_of, one_text};
 ghost use Rattle.clap.specs.declared.builder.command.Command.TheViews.{out-Command as fields_of};
 ghost use Rattle.pay_words.specs.CommandLine.{GivesCheck, GivesRun, GivesStatement};
-ghost use Rattle.pay_words.specs.CommandLine.{IsFaultOfKind, IsHelpOrMemory, IsVersionOrMemory};
+ghost use Rattle.pay_words.specs.CommandLine.{HasFaresAndZone, HasNumbers, IsFaultOfKind, IsHelpOrMemory, IsVersionOrMemory};
 ghost use Rattle.pay_words.specs.CommandLine.{check_app, farebox_app, run_app, statement_app};
 ghost use Rattle.pay_words.specs.CommandLine.{required_number, required_word};
 ghost use Rattle.clap.specs.Words.{shape_of, with_rule, with_subcommand};
 ghost use Rattle.clap.specs.ValueTests.{is_unsigned_in};
 ghost use Rattle.clap.specs.Walk.{rule_of};
-ghost use Rattle.pay_words.specs.Asked.{IsFaultOf, Text, asked, job_asked, AreJobWords, IsJobInRange};
+ghost use Rattle.pay_words.specs.Asked.{IsFaultOf, Text, asked, job_asked, AreJobWords, IsJob, IsJobInRange};
+ghost use Rattle.pay_words.specs.Asked.{RunIsTaken, CheckIsTaken, StatementIsTaken};
 ghost use Rattle.pay_words.specs.Asked.{check as check_asked, run as run_asked, without_dashes};
-ghost use Rattle.pay_words.specs.Asked.{statement as statement_asked, is_account, is_day, number_of};
+ghost use Rattle.pay_words.specs.Asked.{statement as statement_asked, number_of};
 ghost use Rattle.pay_words.specs.declared.words.WordsFault.TheVariants.{Memory};
 
 use crate::help;
@@ -22,6 +23,7 @@ use clap::builder::ValueParser;
 use clap::error::ErrorKind;
 use clap::{Arg, ArgMatches, Command, Error};
 use std::alloc::{AllocError, Global};
+use thiserror::Error;
 
 /// The version of the program.
 const VERSION: &str = "0.1.0";
@@ -61,15 +63,19 @@ pub struct StatementWords<'a> {
 }
 
 /// Why the words give no job.
-#[derive(Debug, Drop)]
+#[derive(Debug, Drop, Error)]
 pub enum WordsFault {
     /// The words ask for help, and this is its text.
+    #[error("{0}")]
     Help(String),
     /// The words ask for the version, and this is the line that says it.
+    #[error("{0}")]
     Version(String),
     /// The words name no program, or are not those that the program takes.
+    #[error("usage")]
     Usage,
     /// Memory for reading the words was refused.
+    #[error("90 Memory")]
     Memory,
 }
 
@@ -97,26 +103,13 @@ pub fn read_words<'a>(alloc: Global, words: &'a [&'a str]) -> Result<Job<'a>, Wo
         AreJobWords job (without_dashes (drop 1 (texts words.entry.now)))) }
 
     // Two words with no hyphen (45) before them are the values of `run`.
-    ensures run { (name fares zone : Text)
-        → texts words.entry.now ≡ name ∷ codes "run" ∷ fares ∷ zone ∷ []
-        → slice_index fares 0 ≢ 45 → slice_index zone 0 ≢ 45
-        → MatchResult result (λ job. job_asked job ≡ run_asked fares zone)
-        (λ fault. fault ≡ Memory) }
+    ensures run { RunIsTaken (texts words.entry.now) result }
 
     // One word with no hyphen before it is the value of `check`.
-    ensures check { (name fares : Text) → texts words.entry.now ≡ name ∷ codes "check" ∷ fares ∷ []
-        → slice_index fares 0 ≢ 45
-        → MatchResult result (λ job. job_asked job ≡ check_asked fares)
-        (λ fault. fault ≡ Memory) }
+    ensures check { CheckIsTaken (texts words.entry.now) result }
 
     // Two words with no hyphen before them and two numbers in their ranges are the values of `statement`.
-    ensures statement { (name fares zone account day : Text)
-        → texts words.entry.now ≡ name ∷ codes "statement" ∷ fares ∷ zone ∷ account ∷ day ∷ []
-        → slice_index fares 0 ≢ 45 → slice_index zone 0 ≢ 45
-        → is_account account ≡ true → is_day day ≡ true
-        → MatchResult result (λ job.
-        job_asked job ≡ statement_asked fares zone (number_of account) (number_of day))
-        (λ fault. fault ≡ Memory) }
+    ensures statement { StatementIsTaken (texts words.entry.now) result }
 {
     let command = farebox_command(alloc)?;
     match command.try_get_matches_from(words) {
@@ -214,13 +207,10 @@ fn number_word<'a>(alloc: Global, name: &'a str, help: &'a str, least: u64, most
 }
 
 fn job_of<'a>(matches: &ArgMatches<'a>) -> Result<Job<'a>, WordsFault>
-    ensures run { (fares zone : Text) → GivesRun matches.now fares zone
-        → IsOkAnd result (λ job. job_asked job ≡ run_asked fares zone) }
-    ensures check { (fares : Text) → GivesCheck matches.now fares
-        → IsOkAnd result (λ job. job_asked job ≡ check_asked fares) }
+    ensures run { (fares zone : Text) → GivesRun matches.now fares zone → IsJob (run_asked fares zone) result }
+    ensures check { (fares : Text) → GivesCheck matches.now fares → IsJob (check_asked fares) result }
     ensures statement { (fares zone : Text) (account day : ℕ)
-        → GivesStatement matches.now fares zone account day
-        → IsOkAnd result (λ job. job_asked job ≡ statement_asked fares zone account day) }
+        → GivesStatement matches.now fares zone account day → IsJob (statement_asked fares zone account day) result }
 {
     match matches.subcommand() {
         Some(("run", run)) => run_job(run),
@@ -231,10 +221,7 @@ fn job_of<'a>(matches: &ArgMatches<'a>) -> Result<Job<'a>, WordsFault>
 }
 
 fn run_job<'a>(run: &ArgMatches<'a>) -> Result<Job<'a>, WordsFault>
-    ensures { (fares zone : Text)
-        → first_value (found_of run.now) (codes "FARES") ≡ Some fares
-        → first_value (found_of run.now) (codes "ZONE") ≡ Some zone
-        → IsOkAnd result (λ job. job_asked job ≡ run_asked fares zone) }
+    ensures { (fares zone : Text) → HasFaresAndZone run.now fares zone → IsJob (run_asked fares zone) result }
 {
     match (run.get_str("FARES"), run.get_str("ZONE")) {
         (Some(fares), Some(zone)) => Ok(Job::Run(RunWords { fares, zone })),
@@ -244,7 +231,7 @@ fn run_job<'a>(run: &ArgMatches<'a>) -> Result<Job<'a>, WordsFault>
 
 fn check_job<'a>(check: &ArgMatches<'a>) -> Result<Job<'a>, WordsFault>
     ensures { (fares : Text) → first_value (found_of check.now) (codes "FARES") ≡ Some fares
-        → IsOkAnd result (λ job. job_asked job ≡ check_asked fares) }
+        → IsJob (check_asked fares) result }
 {
     match check.get_str("FARES") {
         Some(fares) => Ok(Job::Check { fares }),
@@ -254,13 +241,8 @@ fn check_job<'a>(check: &ArgMatches<'a>) -> Result<Job<'a>, WordsFault>
 
 fn statement_job<'a>(statement: &ArgMatches<'a>) -> Result<Job<'a>, WordsFault>
     ensures { (fares zone account day : Text)
-        → first_value (found_of statement.now) (codes "FARES") ≡ Some fares
-        → first_value (found_of statement.now) (codes "ZONE") ≡ Some zone
-        → one_text (found_of statement.now) (codes "ACCOUNT") ≡ Some account
-        → one_text (found_of statement.now) (codes "DAY") ≡ Some day
-        → is_account account ≡ true → is_day day ≡ true
-        → IsOkAnd result (λ job.
-        job_asked job ≡ statement_asked fares zone (number_of account) (number_of day)) }
+        → HasFaresAndZone statement.now fares zone → HasNumbers statement.now account day
+        → IsJob (statement_asked fares zone (number_of account) (number_of day)) result }
 {
     let account = number_of(statement, "ACCOUNT");
     let day = number_of(statement, "DAY");
@@ -278,8 +260,7 @@ fn statement_of<'a>(
     day: Option<u32>,
 ) -> Result<Job<'a>, WordsFault>
     ensures { (a d : ℕ) → account ≡ Some a → day ≡ Some d
-        → IsOkAnd result (λ job.
-        job_asked job ≡ statement_asked fares.entry.now zone.entry.now a d) }
+        → IsJob (statement_asked fares.entry.now zone.entry.now a d) result }
 {
     match (account, day) {
         (Some(account), Some(day)) => Ok(Job::Statement(StatementWords {

@@ -1,4 +1,4 @@
-use Rattle.std.proofs.Common.{◌≡◌, ◌≤◌, ◌+◌, ◌*◌, take, sum_by}
+use Rattle.std.proofs.Common.{◌≡◌, ◌≤◌, ◌*◌, take, sum_by}
 use Rattle.pay_fix.specs.declared.limits.TheConstants.{MOST_CREDIT}
 use Rattle.pay_fix.specs.Given.{given_by}
 use Rattle.pay_fix.proofs.given.credits.Given as goal

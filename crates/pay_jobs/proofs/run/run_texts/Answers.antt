@@ -2,7 +2,7 @@ use Rattle.std.proofs.Common.{None, Some, refl}
 use Rattle.std.proofs.lemmas.Result.{err_from_is_err_and}
 use Rattle.std.specs.Arc.{arc_value}
 use Rattle.sqlite.proofs.Callers.{memory_is_clean}
-use Rattle.pay_ledger.specs.Opening.{nothing}
+use Rattle.pay_ledger.specs.Words.{nothing}
 use Rattle.pay_jobs.specs.Machine.{new_machine}
 use Rattle.pay_jobs.proofs.Runs.{RunFails_refused, RunFails_session, RunFails_unmade, ends_alone, fails_alone}
 use Rattle.pay_jobs.proofs.run.run_texts.Goals as goal

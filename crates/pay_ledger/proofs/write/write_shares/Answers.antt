@@ -1,6 +1,6 @@
 use Rattle.std.proofs.Common.{subst, ◌∙◌}
 use Rattle.sqlite.specs.Held.{state}
-use Rattle.pay_records.specs.Rows.{HoldsRows}
+use Rattle.pay_records.specs.Words.{HoldsRows}
 use Rattle.pay_ledger.specs.Steps.{GoesOn}
 use Rattle.pay_ledger.proofs.Along.{goes_then, stays_then, was_clean, on_err, one_more}
 use Rattle.pay_ledger.proofs.write.write_shares.Goals as goal

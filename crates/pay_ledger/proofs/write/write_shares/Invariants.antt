@@ -1,7 +1,7 @@
 use Rattle.std.proofs.Common.{◌≡◌, ◌++◌, take}
 use Rattle.sqlite.specs.Held.{state}
 use Rattle.sqlite.specs.State.{HasCleanDisk}
-use Rattle.pay_records.specs.Rows.{LedgerRows, HoldsRows}
+use Rattle.pay_records.specs.Words.{LedgerRows, HoldsRows}
 use Rattle.pay_ledger.specs.Steps.{GoesOn}
 use Rattle.pay_ledger.proofs.write.write_shares.Given as goal
 

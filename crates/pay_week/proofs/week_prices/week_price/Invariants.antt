@@ -1,6 +1,6 @@
 use Rattle.std.proofs.Common.{◌≡◌, ◌*◌, ◌≤◌, map, drop, sum_by}
 use Rattle.pay_day.specs.declared.limits.TheConstants.{DAYS_PER_WEEK}
-use Rattle.pay_caps.specs.declared.limits.TheConstants.{MOST_SUM}
+use Rattle.pay_money.specs.declared.limits.TheConstants.{MOST_MONEY}
 use Rattle.pay_caps.specs.Words.{capped_sum, charged, lowest, offers, outside}
 use Rattle.pay_week.specs.WeekPrices.{week_cap, capped_days_of}
 use Rattle.pay_week.proofs.week_prices.week_price.Given as goal
@@ -12,5 +12,5 @@ invariant-loop-place l = record {
       lowest l.best (offers week_cap (λ band. capped_days_of l.tables (map (outside band.cover) l.days)) l.place (drop l.place l.tables.bands))
       ≡ charged week_cap (capped_days_of l.tables l.days) (λ band. capped_days_of l.tables (map (outside band.cover) l.days)) l.tables.bands;
   no_more : l.best.0 ≤ sum_by capped_sum l.days;
-  in_range : l.best.0 ≤ DAYS_PER_WEEK * MOST_SUM;
+  in_range : l.best.0 ≤ DAYS_PER_WEEK * MOST_MONEY;
 }

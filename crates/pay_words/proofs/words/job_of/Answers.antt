@@ -4,8 +4,7 @@ use Rattle.pay_words.proofs.words.job_of.Goals as goal
 
 pub returns-in-Some-run-default-clause-run : goal.returns-in-Some-run-default-clause-run
 returns-in-Some-run-default-clause-run c = λ fares zone gives.
-    let values = run_values c.args.matches.now (found_of c.in-Some-run-default.run'.now) fares zone c.in-Some-run-default.ensures.rows gives in
-    c.run_job.ensures fares zone values.0 values.1
+    c.run_job.ensures fares zone (run_values c.args.matches.now (found_of c.in-Some-run-default.run'.now) fares zone c.in-Some-run-default.ensures.rows gives)
 
 pub returns-in-Some-check-default-clause-check : goal.returns-in-Some-check-default-clause-check
 returns-in-Some-check-default-clause-check c = λ fares gives.
@@ -15,4 +14,4 @@ pub returns-in-Some-statement-default-clause-statement : goal.returns-in-Some-st
 returns-in-Some-statement-default-clause-statement c = λ fares zone account day gives.
     let found = found_of c.in-Some-statement-default.statement.now in
     let values = statement_values c.args.matches.now found fares zone account day c.in-Some-statement-default.ensures.rows gives in
-    rw (← gives.4, ← gives.6) (c.statement_job.ensures fares zone gives.0 gives.1 values.0 values.1 values.2 values.3 gives.3 gives.5)
+    rw (← gives.4, ← gives.6) (c.statement_job.ensures fares zone gives.0 gives.1 (values.0, values.1) (values.2, values.3, gives.3, gives.5))

@@ -1,6 +1,4 @@
-use Rattle.std.proofs.Common.{◌≡◌, ◌∙◌, ap, sym, subst, rules}
-use Rattle.std.specs.FinMap as map
-use Rattle.pay_numbered.specs.Kept.{set_of}
+use Rattle.std.proofs.Common.{sym}
 use Rattle.pay_numbered.proofs.KeptList.{not_found, taken_out}
 use Rattle.pay_numbered.proofs.OneMore.{same_without}
 use Rattle.pay_numbered.proofs.numbered_set.NumberedSet.remove.Goals as goal

@@ -1,4 +1,5 @@
-ghost use Rattle.std.specs.Prelude.{◌≡◌};
+ghost use Rattle.std.specs.Prelude.{◌≡◌, ◌≤◌, length};
+ghost use Rattle.pay_quotes.specs.KindWords.{word_of_kind};
 
 use pay_money::Pence;
 use std::marker::Model;
@@ -14,6 +15,21 @@ pub enum LineKind {
     Lone,
     /// A boarding of a bus or a tram.
     Bus,
+}
+
+impl LineKind {
+    /// Its word in replies and statements, in capital letters.
+    pub fn word(self) -> &'static [u8]
+        ensures word { result.now ≡ word_of_kind self }
+        ensures short { length result.now ≤ 4 }
+    {
+        match self {
+            LineKind::Rail => b"RAIL",
+            LineKind::Same => b"SAME",
+            LineKind::Lone => b"LONE",
+            LineKind::Bus => b"BUS",
+        }
+    }
 }
 
 /// A journey as it is shown.
@@ -45,8 +61,8 @@ pub struct Lines {
 
 impl Model for Lines {
     ghost use Rattle.std.specs.Prelude.{List};
-    ghost use Rattle.pay_account.specs.declared.shown.Line.{Line};
-    ghost use Rattle.pay_account.specs.LinesCode.{lines_code};
+    ghost use Rattle.pay_quotes.specs.declared.shown.Line.{Line};
+    ghost use Rattle.pay_quotes.specs.LinesCode.{lines_code};
 
     ghost Value = { List Line };
 

@@ -1,8 +1,8 @@
 -- How lines are stored, so that a model may hold them.
 use Rattle.std.specs.Prelude.{List}
 use Rattle.std.specs.Coded.{Coded, coded_list}
-use Rattle.pay_account.specs.declared.shown.Line.{Line}
-use Rattle.pay_account.specs.contracts.shown.Line as line
+use Rattle.pay_quotes.specs.declared.shown.Line.{Line}
+use Rattle.pay_quotes.specs.contracts.shown.Line as line
 
 -- lines are stored as a list
 abbrev pub lines_code : Coded (List Line)

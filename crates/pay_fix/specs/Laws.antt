@@ -1,0 +1,37 @@
+-- What is so of every account's taps and corrections.
+use Rattle.std.specs.Prelude.{◌≡◌, ℕ, false, None}
+use Rattle.std.specs.FinMap.{get, insert, values}
+use Rattle.pay_numbered.specs.Words.{IsNumbered}
+use Rattle.pay_taps.specs.declared.limits.TheConstants.{MOST_TAPS}
+use Rattle.pay_taps.specs.declared.tap.Tap.{Tap}
+use Rattle.pay_taps.specs.Words.{Taps}
+use Rattle.pay_taps.specs.Words.{number as tap_number}
+use Rattle.pay_fix.specs.declared.limits.TheConstants.{MOST_FIXES}
+use Rattle.pay_fix.specs.declared.fix.Fix.{Fix}
+use Rattle.pay_fix.specs.declared.fix.What.TheVariants.{Void, Credit, Drop}
+use Rattle.pay_fix.specs.Credits.{CreditOf}
+use Rattle.pay_fix.specs.Fixes.{Fixes, number, is_dropped}
+use Rattle.pay_fix.specs.Effective.{effective}
+
+-- corrections with one more
+abbrev pub with_fix : Fixes → Fix → Fixes
+with_fix fixes fix = insert fixes (number fix) fix
+
+-- a Void of a tap leaves the effective taps that there are without the two, unless a Drop has named it before
+abbrev pub VoidTakesOut : Type 0
+VoidTakesOut = (taps : Taps) (fixes : Fixes) (tap : Tap) (void : Fix) → IsNumbered tap_number MOST_TAPS taps
+    → get taps (tap_number tap) ≡ None → get fixes (number void) ≡ None
+    → void.what ≡ Void tap.reader tap.seq → is_dropped (values fixes) (number void) ≡ false
+    → effective (insert taps (tap_number tap) tap) (with_fix fixes void) ≡ effective taps fixes
+
+-- a Drop of a Void leaves the effective taps that there were before the Void
+abbrev pub DropRestores : Type 0
+DropRestores = (taps : Taps) (fixes : Fixes) (void drop : Fix) (reader seq : ℕ) → IsNumbered number MOST_FIXES fixes
+    → get fixes (number void) ≡ None → get (with_fix fixes void) (number drop) ≡ None
+    → void.what ≡ Void reader seq → drop.what ≡ Drop void.staff void.seq
+    → effective taps (with_fix (with_fix fixes void) drop) ≡ effective taps fixes
+
+-- a Credit changes no effective tap
+abbrev pub CreditChangesNoTap : Type 0
+CreditChangesNoTap = (taps : Taps) (fixes : Fixes) (fix : Fix) (credit : CreditOf) → get fixes (number fix) ≡ None → fix.what ≡ Credit credit
+    → effective taps (with_fix fixes fix) ≡ effective taps fixes

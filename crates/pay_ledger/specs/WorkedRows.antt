@@ -1,0 +1,110 @@
+-- Worked rows: a ledger of one posting, one tap and one credit, as the rows of its tables and as a database.
+use Rattle.std.specs.Prelude.{◌≡◌, ◌==◌, if◌then◌else◌, ℕ, ℤ, pos, List, [], ◌∷◌, map, replicate, codes, true, false, refl}
+use Rattle.std.proofs.Common.{arith}
+use Rattle.std.proofs.lemmas.Int.{ints}
+use Rattle.sqlite.specs.declared.types.Value.TheVariants.{Null, Int, Text}
+use Rattle.sqlite.specs.Order.{Row}
+use Rattle.sqlite.specs.Effect.{Database}
+use Rattle.pay_taps.specs.declared.tap.Kind.TheVariants.{Bus}
+use Rattle.pay_taps.specs.declared.tap.Tap.{Tap}
+use Rattle.pay_fix.specs.declared.fix.Fix.{Fix}
+use Rattle.pay_fix.specs.declared.fix.What.TheVariants.{Credit}
+use Rattle.pay_quotes.specs.declared.posting.Posting.{Posting}
+use Rattle.pay_postings.specs.declared.fault.PostFault.TheVariants.{QuoteDiffers, Memory}
+use Rattle.pay_postings.specs.Words.{LedgerParts}
+use Rattle.pay_records.specs.Words.{LedgerRows, no_rows, ledger_schema}
+use Rattle.pay_records.specs.declared.fault.ReadFault.TheVariants as read
+use Rattle.pay_ledger.specs.declared.fault.LedgerFault.TheVariants.{Refused}
+use Rattle.pay_ledger.specs.Faults.{ledger_fault_of_read, is_of_store, open_fault_number, open_fault_of_read}
+use Rattle.pay_ledger.specs.Keeps.{row_of_posting, row_of_tap, row_of_fix, AreRowsOf, Keeps, with_shares, with_postings, with_taps, with_fixes}
+use Rattle.pay_ledger.specs.Opening.{nothing}
+
+-- 8.60 is due of account 7 for a week through its Tuesday, of which 5.00 fall to operator 1 and 3.60 to operator 3
+abbrev charge : Posting
+charge = record {
+  quote = record { account = 7; week = 19_730; through = 19_731; version = 2; due = 860; shares = 500 ∷ 0 ∷ 360 ∷ replicate 13 0 };
+  amount = pos 860;
+  share_amounts = pos 500 ∷ pos 0 ∷ pos 360 ∷ replicate 13 (pos 0);
+}
+
+abbrev bus : Tap
+bus = record { account = 7; reader = 12; seq = 4; place = 31; kind = Bus; stamp = record { utc = 1_704_700_000; day = 19_730; second = 28_000 } }
+
+abbrev credit : Fix
+credit = record { account = 7; staff = 2; seq = 0; what = Credit (record { day = 19_731; pence = 50 }) }
+
+abbrev ledger : LedgerParts
+ledger = record { postings = charge ∷ []; taps = bus ∷ []; fixes = credit ∷ [] }
+
+posting_as_row : row_of_posting (pos 3, charge) ≡ (pos 3, pos 7, record { week = pos 19_730; through = pos 19_731; version = pos 2; due = pos 860; amount = pos 860 })
+posting_as_row = refl
+
+tap_as_row : row_of_tap bus ≡ (pos 7, record { reader = pos 12; seq = pos 4; utc = pos 1_704_700_000; day = pos 19_730; second = pos 28_000; place = pos 31; kind = pos 2 })
+tap_as_row = refl
+
+credit_as_row : row_of_fix credit ≡ (pos 7, record { staff = pos 2; seq = pos 0; what = pos 2; a = pos 19_731; b = pos 50; c = pos 0; d = pos 0; e = pos 0 })
+credit_as_row = refl
+
+-- an operator to which nothing fell has no row
+abbrev rows : LedgerRows
+rows = record {
+  postings = (pos 3, pos 7, record { week = pos 19_730; through = pos 19_731; version = pos 2; due = pos 860; amount = pos 860 }) ∷ [];
+  shares = record { posting = pos 3; operator = pos 1; amount = pos 500 } ∷ record { posting = pos 3; operator = pos 3; amount = pos 360 } ∷ [];
+  taps = (pos 7, record { reader = pos 12; seq = pos 4; utc = pos 1_704_700_000; day = pos 19_730; second = pos 28_000; place = pos 31; kind = pos 2 }) ∷ [];
+  fixes = (pos 7, record { staff = pos 2; seq = pos 0; what = pos 2; a = pos 19_731; b = pos 50; c = pos 0; d = pos 0; e = pos 0 }) ∷ [];
+}
+
+are_its_rows : AreRowsOf ledger rows
+are_its_rows = record { ids = pos 3 ∷ []; as_long = refl; postings = refl; shares = refl; taps = refl; fixes = refl }
+
+nothing_has_no_rows : AreRowsOf nothing no_rows
+nothing_has_no_rows = record { ids = []; as_long = refl; postings = refl; shares = refl; taps = refl; fixes = refl }
+
+-- a row of whole numbers, beside its rowid
+abbrev stored : ℤ → List ℤ → Row
+stored rowid numbers = Int rowid ∷ map Int numbers
+
+-- the trees are those of meta, postings, shares, taps and fixes
+abbrev rows_in : ℕ → List Row
+rows_in tree =
+    if tree == 0 then (Int (pos 1) ∷ Text (codes "farebox") ∷ Int (pos 1) ∷ []) ∷ []
+    else if tree == 2 then (Int (pos 3) ∷ Null ∷ map Int (pos 7 ∷ pos 19_730 ∷ pos 19_731 ∷ pos 2 ∷ pos 860 ∷ pos 860 ∷ [])) ∷ []
+    else if tree == 5 then stored (pos 1) (pos 3 ∷ pos 1 ∷ pos 500 ∷ []) ∷ stored (pos 2) (pos 3 ∷ pos 3 ∷ pos 360 ∷ []) ∷ []
+    else if tree == 7 then stored (pos 1) (pos 7 ∷ pos 12 ∷ pos 4 ∷ pos 1_704_700_000 ∷ pos 19_730 ∷ pos 28_000 ∷ pos 31 ∷ pos 2 ∷ []) ∷ []
+    else if tree == 9 then stored (pos 1) (pos 7 ∷ pos 2 ∷ pos 0 ∷ pos 2 ∷ pos 19_731 ∷ pos 50 ∷ pos 0 ∷ pos 0 ∷ pos 0 ∷ []) ∷ []
+    else []
+
+abbrev database : Database
+database = record { schema = ledger_schema; trees = rows_in }
+
+it_is_kept : Keeps database ledger
+it_is_kept = record {
+  rows = rows;
+  held = record {
+    schema_is = refl;
+    meta = refl;
+    postings = refl;
+    postings_rise = (pos 3, refl, omega (arith, ints), tt);
+    shares = record { rising = (pos 1, refl, omega (arith, ints), (pos 2, refl, omega (arith, ints), tt)); are = refl };
+    taps = record { rising = (pos 1, refl, omega (arith, ints), tt); are = refl };
+    fixes = record { rising = (pos 1, refl, omega (arith, ints), tt); are = refl };
+  };
+  are = are_its_rows;
+}
+
+-- posted and archived one after another
+all_of_it : with_fixes (credit ∷ []) (with_taps (bus ∷ []) (with_postings (charge ∷ []) nothing)) ≡ ledger
+all_of_it = refl
+
+shares_of_another : (with_shares (record { posting = pos 4; operator = pos 1; amount = pos 9 } ∷ []) rows).shares
+    ≡ record { posting = pos 3; operator = pos 1; amount = pos 500 } ∷ record { posting = pos 3; operator = pos 3; amount = pos 360 } ∷ record { posting = pos 4; operator = pos 1; amount = pos 9 } ∷ []
+shares_of_another = refl
+
+not_of_store : is_of_store (ledger_fault_of_read read.BadArchive) ≡ false
+not_of_store = refl
+
+memory_of_store : is_of_store (Refused Memory) ≡ true
+memory_of_store = refl
+
+bad_column_at_opening : open_fault_number (open_fault_of_read read.BadArchive) ≡ 40
+bad_column_at_opening = refl

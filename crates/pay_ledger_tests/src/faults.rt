@@ -1,0 +1,77 @@
+//! What the faults of a ledger, of a close and of a run print.
+
+use crate::given::expect_same;
+use pay_close::NotClosed;
+use pay_jobs::WeekFault;
+use pay_ledger::{LedgerFault, OpenFault};
+use pay_postings::PostFault;
+use pay_records::ReadFault;
+use pay_session::SessionFault;
+use pay_shard::DeskFault;
+use std::alloc::AllocGlobal;
+use std::fmt::Display;
+use std::process::Abort;
+
+/// Each of these faults prints the text beside it.
+fn expect_printed<R: Abort + AllocGlobal, F: Display>(rt: &R, rows: &[(F, &str)]) {
+    for (fault, text) in rows {
+        let printed = fault.to_string(rt.alloc()).expect(rt, "memory for a text");
+        expect_same(rt, printed.as_str(), *text);
+    }
+}
+
+#[test]
+fn prints_why_a_ledger_refuses(rt: HostRuntime) {
+    expect_printed(
+        &rt,
+        &[
+            (ReadFault::BadArchive, "45 BadArchive"),
+            (ReadFault::Store, "43 Store"),
+            (ReadFault::Memory, "90 Memory"),
+        ],
+    );
+    expect_printed(
+        &rt,
+        &[
+            (OpenFault::NotALedger, "40 NotALedger"),
+            (OpenFault::Version, "41 Version"),
+            (OpenFault::Store, "43 Store"),
+            (OpenFault::Memory, "90 Memory"),
+        ],
+    );
+    expect_printed(
+        &rt,
+        &[
+            (LedgerFault::Store, "43 Store"),
+            (
+                LedgerFault::Refused(PostFault::QuoteDiffers),
+                "47 QuoteDiffers",
+            ),
+        ],
+    );
+}
+
+#[test]
+fn prints_why_a_day_is_not_closed_or_a_week_not_told(rt: HostRuntime) {
+    expect_printed(
+        &rt,
+        &[
+            (NotClosed::Desk(DeskFault::Late), "44 DeskFault"),
+            (NotClosed::Ledger(LedgerFault::Store), "43 Store"),
+            (
+                NotClosed::Ledger(LedgerFault::Refused(PostFault::Memory)),
+                "90 Memory",
+            ),
+        ],
+    );
+    expect_printed(
+        &rt,
+        &[
+            (
+                WeekFault::Session(SessionFault::Read { answered: 2 }),
+                "input fault",
+            ),
+            (WeekFault::Memory, "90 Memory"),
+        ],
+    );
+}
