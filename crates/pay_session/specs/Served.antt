@@ -45,7 +45,7 @@ is_of_close refusal.QuoteDiffers = true
 is_of_close refusal.Memory = true
 is_of_close _ = false
 
--- a desk's own fault is none of a close
+-- that a reply did not come in time is no refusal of a close
 not_late : is_of_close refusal.Late ≡ false
 not_late = refl
 
