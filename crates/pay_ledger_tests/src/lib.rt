@@ -5,8 +5,6 @@
 #[cfg(test)]
 mod accounts;
 #[cfg(test)]
-mod closes;
-#[cfg(test)]
 mod faults;
 #[cfg(test)]
 mod given;

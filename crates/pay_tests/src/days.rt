@@ -14,20 +14,3 @@ fn stamps_by_the_clock_of_a_zone(rt: HostRuntime) {
     let clock = Date::constant(2024, 3, 31).at(4, 29, 59, 0);
     expect_same(&rt, shown(&london, 1_711_855_799), clock);
 }
-
-#[test]
-fn moments_from_parts(rt: HostRuntime) {
-    let moment = Moment::from_parts(1_704_688_199, 19_729, 16_199).expect(&rt, "a moment");
-    expect_same(
-        &rt,
-        (moment.utc(), moment.day(), moment.second()),
-        (1_704_688_199, 19_729, 16_199),
-    );
-    expect_same(&rt, Moment::from_parts(1_704_688_199, 19_729, 86_400), None);
-}
-
-#[test]
-fn weeks(rt: HostRuntime) {
-    expect_same(&rt, (day_of_week(19_736), monday(19_736)), (6, 19_730));
-    assert!(rt; is_in_week_of(19_732, 19_736) && !is_in_week_of(19_732, 19_737));
-}

@@ -48,20 +48,6 @@ fn keeps_corrections_by_number(rt: HostRuntime) {
     }
 }
 
-#[test]
-fn ranges_of_a_credit(rt: HostRuntime) {
-    expect_same(&rt, Credit::from_parts(3, 1), None);
-    expect_same(&rt, Credit::from_parts(50_001, 1), None);
-    expect_same(&rt, Credit::from_parts(4, 0), None);
-    expect_same(&rt, Credit::from_parts(4, 100_001), None);
-    let most = Credit::from_parts(50_000, 100_000).expect(&rt, "a credit");
-    expect_same(
-        &rt,
-        (most.day(), most.pence()),
-        (50_000, Pence::new(100_000)),
-    );
-}
-
 /// Whether touches are boardings of these numbers, in order.
 fn expect_order<R: Abort>(rt: &R, list: &[Touch], seqs: &[u32]) {
     assert!(rt;

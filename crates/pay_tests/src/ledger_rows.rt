@@ -1,9 +1,9 @@
-//! Postings, taps and corrections as rows of the ledger, both ways, and those that are new beside archived ones.
+//! Postings as rows of the ledger, both ways, and the taps and corrections that are new beside archived ones.
 
 use crate::given::{MONDAY, expect_same, sample, tap_at};
 use crate::postings::quote;
 use pay_account::{Account, Fares, Posting, Sets};
-use pay_fix::{Credit, Fix, What};
+use pay_fix::{Fix, What};
 use pay_postings::*;
 use pay_rows::*;
 use pay_taps::{Kind, Tap};
@@ -152,30 +152,6 @@ pub const TAPPED: TapRow = TapRow {
     kind: 0,
 };
 
-#[test]
-fn taps_there_and_back(rt: HostRuntime) {
-    let tap = tap_at(&rt, 2, 25_200, 10, Kind::In);
-    let boarded = Tap {
-        kind: Kind::Bus,
-        ..tap
-    };
-    expect_same(&rt, tap_row(&tap), TAPPED);
-    for (row, wanted) in [
-        (TAPPED, Some(tap)),
-        (TapRow { kind: 2, ..TAPPED }, Some(boarded)),
-        (TapRow { kind: 3, ..TAPPED }, None),
-        (
-            TapRow {
-                reader: 0,
-                ..TAPPED
-            },
-            None,
-        ),
-    ] {
-        expect_same(&rt, tap_from_row(7, &row), wanted);
-    }
-}
-
 /// A correction of account 7 by staff 3.
 fn fix(what: What) -> Fix {
     Fix {
@@ -197,45 +173,6 @@ fn row_of(what: i64, of: (i64, i64, i64, i64, i64)) -> FixRow {
         c: of.2,
         d: of.3,
         e: of.4,
-    }
-}
-
-/// A correction has this row, which is read back as the correction.
-fn expect_fix<R: Abort>(rt: &R, fix: &Fix, row: &FixRow) {
-    expect_same(rt, fix_row(fix), *row);
-    expect_same(rt, fix_from_row(7, row), Some(*fix));
-}
-
-#[test]
-fn corrections_there_and_back(rt: HostRuntime) {
-    let stamp = tap_at(&rt, 2, 27_000, 12, Kind::Out).stamp;
-    let credit = Credit::from_parts(MONDAY, 1_200).expect(&rt, "a credit");
-    for (what, row) in [
-        (What::Void(5, 6), row_of(0, (5, 6, 0, 0, 0))),
-        (
-            What::Fill(stamp, 12, Kind::Out),
-            row_of(1, (1_704_699_000, 19_730, 27_000, 12, 1)),
-        ),
-        (What::Credit(credit), row_of(2, (19_730, 1_200, 0, 0, 0))),
-        (What::Drop(3, 9), row_of(3, (3, 9, 0, 0, 0))),
-    ] {
-        expect_fix(&rt, &fix(what), &row);
-    }
-}
-
-/// Rows that are no correction: a form that there is not, and a number where the form has none.
-static NO_FIXES: [(i64, (i64, i64, i64, i64, i64)); 5] = [
-    (4, (5, 6, 0, 0, 0)),
-    (0, (5, 6, 1, 0, 0)),
-    (0, (5, 6, 0, 1, 0)),
-    (2, (19_730, 1_200, 0, 0, 1)),
-    (3, (3, 9, 0, 0, 1)),
-];
-
-#[test]
-fn rows_of_no_correction(rt: HostRuntime) {
-    for (what, of) in &NO_FIXES {
-        expect_same(&rt, fix_from_row(7, &row_of(*what, *of)), None);
     }
 }
 

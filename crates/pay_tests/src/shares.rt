@@ -3,7 +3,7 @@
 use crate::given::{expect_same, sample, touch_at};
 use pay_links::*;
 use pay_money::limits::OPERATORS;
-use pay_money::{Pence, apportion, part};
+use pay_money::{Pence, apportion};
 use pay_pairs::{Leg, legs};
 use pay_shares::{shares, weights};
 use pay_taps::Kind;
@@ -24,17 +24,6 @@ pub fn first_four(one: u64, two: u64, three: u64, four: u64) -> [u64; OPERATORS]
     all[2] = three;
     all[3] = four;
     all
-}
-
-#[test]
-fn parts_of_a_total(rt: HostRuntime) {
-    expect_same(&rt, [part(490, 2, 0), part(490, 2, 1)], [245, 245]);
-    expect_same(
-        &rt,
-        [part(7, 3, 0), part(7, 3, 1), part(7, 3, 2)],
-        [2, 2, 3],
-    );
-    expect_same(&rt, part(u64::MAX, 2, 1), 9_223_372_036_854_775_808);
 }
 
 #[test]

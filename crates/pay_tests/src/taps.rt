@@ -76,6 +76,15 @@ fn push<R: Abort>(rt: &R, list: &mut Vec<Touch>, filled: bool, second: u32) {
     .expect(rt, "memory");
 }
 
+#[test]
+fn makes_room_in_a_timeline(rt: HostRuntime) {
+    let mut taps = Timeline::new(rt.alloc());
+    let mut steps = Steps::new();
+    expect_same(&rt, taps.reserve(), Ok(()));
+    expect_same(&rt, (taps.len(), taps.is_empty()), (0, true));
+    expect_same(&rt, (taps.at(0, &mut steps), steps.count()), (None, 0));
+}
+
 // Where two have one instant, that which was not filled in comes first.
 #[test]
 fn orders_touches(rt: HostRuntime) {

@@ -192,10 +192,3 @@ fn expect_not_flushed<R: Abort + AllocGlobal>(rt: &R, kind: ErrorKind) {
     };
     expect_end(rt, writer, Err(WriteFault::NotFlushed(kind)), 77, 3);
 }
-
-// Those of every other refusal are in replies, here and by `tests/program`.
-#[test]
-fn gives_a_refusal_its_number(rt: HostRuntime) {
-    let refusal = Refusal::DeskFault;
-    expect_same(&rt, (refusal.number(), refusal.name()), (44, "DeskFault"));
-}
