@@ -87,7 +87,7 @@ module _ {X : Type 0} (lt : X → X → Bool) where
   NoTies [] = Unit {0}
   NoTies (x ∷ xs) = AllByRecursion (λ y. ties lt x y ≡ false) xs × NoTies xs
 
-  all_put : (P : X → Type 0) (x : X) (ys : List X) → P x → AllByRecursion P ys → AllByRecursion P (put_by x ys)
+  pub all_put : (P : X → Type 0) (x : X) (ys : List X) → P x → AllByRecursion P ys → AllByRecursion P (put_by x ys)
   all_put P x [] p h = (p, tt)
   all_put P x (y ∷ ys) p h = elim (lt y x) as (λ b. AllByRecursion P (cond b (y ∷ put_by x ys) (x ∷ y ∷ ys))) [ true ↦ (h.0, all_put P x ys p h.1) | false ↦ (p, h) ]
 
@@ -133,7 +133,7 @@ module _ {X : Type 0} (lt : X → X → Bool) where
     all_after x y [] p h = tt
     all_after x y (z ∷ zs) p h = (o.chain z y x h.0 p, all_after x y zs p h.1)
 
-    rises_put : (x : X) (ys : List X) → Rises ys → Rises (put_by x ys)
+    pub rises_put : (x : X) (ys : List X) → Rises ys → Rises (put_by x ys)
     rises_put x [] h = (tt, tt)
     rises_put x (y ∷ ys) h = elim (lt y x) as (λ b. lt y x ≡ b → Rises (cond b (y ∷ put_by x ys) (x ∷ y ∷ ys))) [
       | true ↦ λ e. (all_put (λ z. lt z y ≡ false) x ys (o.one_way y x e) h.0, rises_put x ys h.1)

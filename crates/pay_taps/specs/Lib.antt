@@ -1,4 +1,5 @@
 pub mod Taps
 pub mod SameTap
 pub mod Order
+pub mod Timelines
 pub mod Words

@@ -1,12 +1,16 @@
-//! Taps of an account: the set of accepted taps by number, and the order of effective ones.
+//! Taps of an account: the set of accepted taps by number, the order of effective ones, and timelines of them.
 #![tactic(auto)]
 
 pub mod laws;
 pub mod limits;
 mod order;
+mod steps;
 mod tap;
 mod tap_set;
+mod timeline;
 
 pub use order::sort_touches;
+pub use steps::Steps;
 pub use tap::{Kind, Tap, Touch};
 pub use tap_set::TapSet;
+pub use timeline::Timeline;
