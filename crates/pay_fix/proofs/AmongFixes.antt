@@ -20,51 +20,51 @@ or_swap true false w = refl
 or_swap false v w = refl
 
 module _ {X : Type 0} where
-  any_among : (p : X → Bool) (before : List X) (x : X) (after : List X) → list_any p (before ++ x ∷ after) ≡ (p x || list_any p (before ++ after))
+  pub any_among : (p : X → Bool) (before : List X) (x : X) (after : List X) → list_any p (before ++ x ∷ after) ≡ (p x || list_any p (before ++ after))
   any_among p [] x after = refl
   any_among p (y ∷ before) x after = ap (λ b. p y || b) (any_among p before x after) ∙ or_swap (p y) (p x) (list_any p (before ++ after))
 
-  any_same : (p q : X → Bool) (list : List X) → AllByRecursion (λ x. p x ≡ q x) list → list_any p list ≡ list_any q list
+  pub any_same : (p q : X → Bool) (list : List X) → AllByRecursion (λ x. p x ≡ q x) list → list_any p list ≡ list_any q list
   any_same p q [] h = refl
   any_same p q (x ∷ list) h = ap (λ b. b || list_any p list) h.0 ∙ ap (λ b. q x || b) (any_same p q list h.1)
 
-  flat_among : {Y : Type 0} (f : X → List Y) (before : List X) (x : X) (after : List X) → f x ≡ [] → flat_map f (before ++ x ∷ after) ≡ flat_map f (before ++ after)
+  pub flat_among : {Y : Type 0} (f : X → List Y) (before : List X) (x : X) (after : List X) → f x ≡ [] → flat_map f (before ++ x ∷ after) ≡ flat_map f (before ++ after)
   flat_among f [] x after none = ap (λ l. l ++ flat_map f after) none
   flat_among f (y ∷ before) x after none = ap (λ l. f y ++ l) (flat_among f before x after none)
 
-  flat_same : {Y : Type 0} (f g : X → List Y) (list : List X) → AllByRecursion (λ x. f x ≡ g x) list → flat_map f list ≡ flat_map g list
+  pub flat_same : {Y : Type 0} (f g : X → List Y) (list : List X) → AllByRecursion (λ x. f x ≡ g x) list → flat_map f list ≡ flat_map g list
   flat_same f g [] h = refl
   flat_same f g (x ∷ list) h = ap (λ l. l ++ flat_map f list) h.0 ∙ ap (λ l. g x ++ l) (flat_same f g list h.1)
 
-  filter_same : (p q : X → Bool) (list : List X) → AllByRecursion (λ x. p x ≡ q x) list → filter p list ≡ filter q list
+  pub filter_same : (p q : X → Bool) (list : List X) → AllByRecursion (λ x. p x ≡ q x) list → filter p list ≡ filter q list
   filter_same p q [] h = refl
   filter_same p q (x ∷ list) h = ap (λ b. cond b (x ∷ filter p list) (filter p list)) h.0 ∙ ap (λ l. cond (q x) (x ∷ l) l) (filter_same p q list h.1)
 
-  filter_among : (p : X → Bool) (before : List X) (x : X) (after : List X) → p x ≡ false → filter p (before ++ x ∷ after) ≡ filter p (before ++ after)
+  pub filter_among : (p : X → Bool) (before : List X) (x : X) (after : List X) → p x ≡ false → filter p (before ++ x ∷ after) ≡ filter p (before ++ after)
   filter_among p [] x after e = ap (λ b. cond b (x ∷ filter p after) (filter p after)) e
   filter_among p (y ∷ before) x after e = ap (λ l. cond (p y) (y ∷ l) l) (filter_among p before x after e)
 
-  all_more : {P Q : X → Type 0} (list : List X) → ((x : X) → P x → Q x) → AllByRecursion P list → AllByRecursion Q list
+  pub all_more : {P Q : X → Type 0} (list : List X) → ((x : X) → P x → Q x) → AllByRecursion P list → AllByRecursion Q list
   all_more [] f h = tt
   all_more (x ∷ list) f h = (f x h.0, all_more list f h.1)
 
-  all_of : {P : X → Type 0} (list : List X) → ((x : X) → P x) → AllByRecursion P list
+  pub all_of : {P : X → Type 0} (list : List X) → ((x : X) → P x) → AllByRecursion P list
   all_of [] f = tt
   all_of (x ∷ list) f = (f x, all_of list f)
 
-is_false : (b : Bool) → (b ≡ true → ⊥) → b ≡ false
+pub is_false : (b : Bool) → (b ≡ true → ⊥) → b ≡ false
 is_false true h = absurd (h refl)
 is_false false h = refl
 
-and_false : (b : Bool) → (b && false) ≡ false
+pub and_false : (b : Bool) → (b && false) ≡ false
 and_false true = refl
 and_false false = refl
 
-either : (b : Bool) → ◌≡◌ {A = List Touch} (if b then [] else []) []
+pub either : (b : Bool) → ◌≡◌ {A = List Touch} (if b then [] else []) []
 either true = refl
 either false = refl
 
-other_number : (a b : ℕ × ℕ) → b ≢ a → is_number a b ≡ false
+pub other_number : (a b : ℕ × ℕ) → b ≢ a → is_number a b ≡ false
 other_number a b h = is_false (is_number a b) (λ e. h (sym (number_from_same a b e)))
 
 -- ---- a correction that is no Drop leaves the others standing
@@ -76,16 +76,16 @@ module _ (before : List Fix) (x : Fix) (after : List Fix) where
   abbrev rest : List Fix
   rest = before ++ after
 
-  stands_alike : ((n : ℕ × ℕ) → drops n x.what ≡ false) → (f : Fix) → stands more f ≡ stands rest f
+  pub stands_alike : ((n : ℕ × ℕ) → drops n x.what ≡ false) → (f : Fix) → stands more f ≡ stands rest f
   stands_alike none f =
       ap (λ b. is_drop f.what || not b) (any_among (λ (fix : Fix). drops (number f) fix.what) before x after ∙ ap (λ b. b || is_dropped rest (number f)) (none (number f)))
 
-  voided_alike : ((n : ℕ × ℕ) → drops n x.what ≡ false) → (n : ℕ × ℕ) → is_voided more n ≡ ((voids n x.what && stands rest x) || is_voided rest n)
+  pub voided_alike : ((n : ℕ × ℕ) → drops n x.what ≡ false) → (n : ℕ × ℕ) → is_voided more n ≡ ((voids n x.what && stands rest x) || is_voided rest n)
   voided_alike none n =
       any_same (λ (f : Fix). voids n f.what && stands more f) (λ (f : Fix). voids n f.what && stands rest f) more (all_of more (λ f. ap (λ b. voids n f.what && b) (stands_alike none f)))
       ∙ any_among (λ (f : Fix). voids n f.what && stands rest f) before x after
 
-  filled_alike : ((n : ℕ × ℕ) → drops n x.what ≡ false) → fill_of (x.staff, x.seq) x.what ≡ [] → filled more ≡ filled rest
+  pub filled_alike : ((n : ℕ × ℕ) → drops n x.what ≡ false) → fill_of (x.staff, x.seq) x.what ≡ [] → filled more ≡ filled rest
   filled_alike none no_fill =
       flat_same (filled_by more) (filled_by rest) more (all_of more (λ f. ap (λ b. if b then fill_of (f.staff, f.seq) f.what else []) (stands_alike none f)))
       ∙ flat_among (filled_by rest) before x after (ap (λ l. if stands rest x then l else []) no_fill ∙ either (stands rest x))

@@ -2,6 +2,8 @@
 use Rattle.std.specs.Prelude.{ℕ, Bool, true, false, not, ◌&&◌, if◌then◌else◌, List, [], ◌∷◌, ◌++◌, map, filter}
 use Rattle.std.specs.List.{list_any, flat_map}
 use Rattle.std.specs.FinMap.{values}
+use Rattle.pay_day.specs.Words.{Stamp}
+use Rattle.pay_taps.specs.declared.tap.Kind.{Kind}
 use Rattle.pay_taps.specs.declared.tap.Tap.{Tap}
 use Rattle.pay_taps.specs.declared.tap.Touch.{Touch}
 use Rattle.pay_taps.specs.Words.{Taps, touch_of, in_order}
@@ -24,9 +26,13 @@ is_voided accepted named = list_any (λ (fix : Fix). voids named fix.what && sta
 abbrev pub not_voided : List Fix → List Tap → List Tap
 not_voided accepted taps = filter (λ (tap : Tap). not (is_voided accepted (tap_number tap))) taps
 
--- the tap that a Fill adds, under the Fill's number; no other correction adds one
+-- the tap that a Fill of a number adds
+abbrev pub touch_of_fill : ℕ × ℕ → Stamp → ℕ → Kind → Touch
+touch_of_fill own stamp place kind = record { filled = true; first = own.0; second = own.1; stamp = stamp; place = place; kind = kind }
+
+-- the tap of a correction that is a Fill; no other correction adds one
 abbrev pub fill_of : ℕ × ℕ → What → List Touch
-fill_of own (Fill stamp place kind) = record { filled = true; first = own.0; second = own.1; stamp = stamp; place = place; kind = kind } ∷ []
+fill_of own (Fill stamp place kind) = touch_of_fill own stamp place kind ∷ []
 fill_of own _ = []
 
 -- the tap of a correction that is a Fill and stands

@@ -4,7 +4,7 @@ use Rattle.std.specs.FinMap.{get, insert, values}
 use Rattle.pay_numbered.specs.Words.{IsNumbered}
 use Rattle.pay_taps.specs.declared.limits.TheConstants.{MOST_TAPS}
 use Rattle.pay_taps.specs.declared.tap.Tap.{Tap}
-use Rattle.pay_taps.specs.Words.{Taps}
+use Rattle.pay_taps.specs.Words.{Taps, HaveOwnNumbers, IsInOrder}
 use Rattle.pay_taps.specs.Words.{number as tap_number}
 use Rattle.pay_fix.specs.declared.limits.TheConstants.{MOST_FIXES}
 use Rattle.pay_fix.specs.declared.fix.Fix.{Fix}
@@ -12,6 +12,7 @@ use Rattle.pay_fix.specs.declared.fix.What.TheVariants.{Void, Credit, Drop}
 use Rattle.pay_fix.specs.Credits.{CreditOf}
 use Rattle.pay_fix.specs.Fixes.{Fixes, number, is_dropped}
 use Rattle.pay_fix.specs.Effective.{effective}
+use Rattle.pay_fix.specs.Changes.{IsChanged, change_by_tap, change_by_fix}
 
 -- corrections with one more
 abbrev pub with_fix : Fixes → Fix → Fixes
@@ -35,3 +36,24 @@ DropRestores = (taps : Taps) (fixes : Fixes) (void drop : Fix) (reader seq : ℕ
 abbrev pub CreditChangesNoTap : Type 0
 CreditChangesNoTap = (taps : Taps) (fixes : Fixes) (fix : Fix) (credit : CreditOf) → get fixes (number fix) ≡ None → fix.what ≡ Credit credit
     → effective taps (with_fix fixes fix) ≡ effective taps fixes
+
+-- effective taps have numbers of their own
+abbrev pub EffectiveHaveOwnNumbers : Type 0
+EffectiveHaveOwnNumbers = (taps : Taps) (fixes : Fixes) → IsNumbered tap_number MOST_TAPS taps → IsNumbered number MOST_FIXES fixes
+    → HaveOwnNumbers (effective taps fixes)
+
+-- and are in order
+abbrev pub EffectiveAreInOrder : Type 0
+EffectiveAreInOrder = (taps : Taps) (fixes : Fixes) → IsInOrder (effective taps fixes)
+
+-- a further tap changes the effective taps as `change_by_tap` says
+abbrev pub TapChanges : Type 0
+TapChanges = (taps : Taps) (fixes : Fixes) (tap : Tap) → IsNumbered tap_number MOST_TAPS taps → IsNumbered number MOST_FIXES fixes
+    → get taps (tap_number tap) ≡ None
+    → IsChanged (change_by_tap fixes tap) (effective taps fixes) (effective (insert taps (tap_number tap) tap) fixes)
+
+-- and a further correction as `change_by_fix` says
+abbrev pub FixChanges : Type 0
+FixChanges = (taps : Taps) (fixes : Fixes) (fix : Fix) → IsNumbered tap_number MOST_TAPS taps → IsNumbered number MOST_FIXES fixes
+    → get fixes (number fix) ≡ None
+    → IsChanged (change_by_fix taps fixes fix) (effective taps fixes) (effective taps (with_fix fixes fix))

@@ -1,6 +1,6 @@
 //! What is true of corrections themselves. Each law is the contract of a function that does nothing: a caller
 //! whose proof needs a law calls its function.
-ghost use Rattle.pay_fix.specs.Laws.{VoidTakesOut, DropRestores, CreditChangesNoTap};
+ghost use Rattle.pay_fix.specs.Laws.{VoidTakesOut, DropRestores, CreditChangesNoTap, EffectiveHaveOwnNumbers, EffectiveAreInOrder, TapChanges, FixChanges};
 
 use crate::fix::Fix;
 use pay_taps::Tap;
@@ -27,4 +27,30 @@ pub fn credit_changes_no_tap()
     ensures { CreditChangesNoTap }
 {
     pay_numbered::laws::one_more::<Fix>();
+}
+
+/// Effective taps have numbers of their own, and are in order.
+pub fn own_numbers()
+    ensures own_numbers { EffectiveHaveOwnNumbers }
+    ensures in_order { EffectiveAreInOrder }
+{
+    pay_taps::laws::order();
+}
+
+/// A further tap changes the effective taps as `change_by_tap` says.
+pub fn tap_changes()
+    ensures { TapChanges }
+{
+    pay_numbered::laws::one_more::<Tap>();
+    pay_taps::laws::order();
+    pay_taps::laws::order_forgets_arrival();
+}
+
+/// A further correction changes the effective taps as `change_by_fix` says.
+pub fn fix_changes()
+    ensures { FixChanges }
+{
+    pay_numbered::laws::one_more::<Fix>();
+    pay_taps::laws::order();
+    pay_taps::laws::order_forgets_arrival();
 }

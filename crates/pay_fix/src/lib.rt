@@ -2,6 +2,7 @@
 //! taps that its taps and its corrections make.
 #![tactic(auto)]
 
+mod change;
 mod credit;
 mod fix;
 mod fix_set;
@@ -12,6 +13,7 @@ mod named;
 mod standing;
 mod touches;
 
+pub use change::{Change, change_by_fix, change_by_tap};
 pub use credit::Credit;
 pub use fix::{Fix, What};
 pub use fix_set::FixSet;

@@ -1,6 +1,7 @@
 ghost use Rattle.std.specs.Prelude.{◌≡◌};
 ghost use Rattle.pay_fix.specs.Fixes.{is_drop, drops, is_dropped, stands};
 ghost use Rattle.pay_fix.specs.Effective.{voids, is_voided};
+ghost use Rattle.pay_fix.specs.Changes.{is_voided_by_another};
 
 use crate::fix::{Fix, What};
 use pay_numbered::Numbered;
@@ -55,4 +56,12 @@ pub fn is_voided(fixes: &[Fix], named: (u16, u32)) -> bool
     fixes
         .iter()
         .any(|fix| fix.voids(named) && stands(fixes, fix))
+}
+
+/// Whether one of these corrections other than that of a staff and seq, `own`, is a Void that stands, and names
+/// the tap of a reader and seq.
+pub fn is_voided_by_another(fixes: &[Fix], own: (u16, u32), named: (u16, u32)) -> bool
+    ensures { result ≡ is_voided_by_another fixes.now own named }
+{
+    fixes.iter().any(|fix| fix.number() != own && fix.voids(named) && stands(fixes, fix))
 }

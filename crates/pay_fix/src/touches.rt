@@ -2,13 +2,14 @@ ghost use Rattle.std.specs.Prelude.{◌≡◌, ◌≤◌, ◌+◌, ◌++◌, map
 ghost use Rattle.std.specs.List.{flat_map};
 ghost use Rattle.pay_taps.specs.Words.{touch_of};
 ghost use Rattle.pay_fix.specs.declared.limits.TheConstants.{MOST_TOUCHES};
-ghost use Rattle.pay_fix.specs.Effective.{not_voided, effective, fill_of, filled_by};
+ghost use Rattle.pay_fix.specs.Effective.{not_voided, effective, touch_of_fill, fill_of, filled_by};
 
 use crate::fix::{Fix, What};
 use crate::fix_set::FixSet;
 use crate::standing::{is_voided, stands};
+use pay_day::Moment;
 use pay_numbered::Numbered;
-use pay_taps::{Tap, TapSet, Touch, sort_touches};
+use pay_taps::{Kind, Tap, TapSet, Touch, sort_touches};
 use std::alloc::{AllocError, Global};
 
 /// Adds the taps that no standing Void names, as effective ones.
@@ -24,20 +25,27 @@ fn add_taps(list: &mut Vec<Touch>, taps: &[Tap], fixes: &[Fix]) -> Result<(), Al
     Ok(())
 }
 
+/// The tap that a Fill of a number adds.
+pub fn touch_of_fill(own: (u16, u32), stamp: Moment, place: u16, kind: Kind) -> Touch
+    ensures { result ≡ touch_of_fill own stamp place kind }
+{
+    Touch {
+        filled: true,
+        first: own.0,
+        second: own.1,
+        stamp,
+        place,
+        kind,
+    }
+}
+
 /// Adds the tap that a correction adds, if it is a Fill.
 fn add_fill(list: &mut Vec<Touch>, fix: &Fix) -> Result<(), AllocError>
     ensures value { OnOk result (list.new.items ≡ list.old.items ++ fill_of (fix.now.staff, fix.now.seq) fix.now.what) }
     ensures few { OnOk result (length list.new.items ≤ length list.old.items + 1) }
 {
     if let What::Fill(stamp, place, kind) = fix.what {
-        list.push(Touch {
-            filled: true,
-            first: fix.staff,
-            second: fix.seq,
-            stamp,
-            place,
-            kind,
-        })?;
+        list.push(touch_of_fill(fix.number(), stamp, place, kind))?;
     }
     Ok(())
 }
