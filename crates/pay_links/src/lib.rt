@@ -4,7 +4,9 @@
 mod journey;
 pub mod laws;
 mod links;
+mod starts;
 
 pub use journey::{Journey, Run};
 pub use links::journeys;
 pub use pay_pairs::{Leg, legs};
+pub use starts::starts_at;

@@ -15,7 +15,7 @@ fn is_same(leg: &Leg) -> bool
 }
 
 /// Whether a leg is linked with the next one.
-fn is_linked(tables: &Tables, leg: &Leg, next: &Leg) -> bool
+pub(crate) fn is_linked(tables: &Tables, leg: &Leg, next: &Leg) -> bool
     ensures { result ≡ is_linked tables.now leg.now next.now }
 {
     if is_same(leg) || is_same(next) {

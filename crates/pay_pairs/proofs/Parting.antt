@@ -29,6 +29,14 @@ exit_is_no_entry tables entry exit next h k =
     let in' = (in_then_out exit.kind next.kind _ k).0 in
     cc
 
+-- so no leg begins with an exit
+pub no_leg_behind : (tables : FareTables) (entry exit next : Touch) → is_leg tables entry exit ≡ true → is_leg tables exit next ≡ false
+no_leg_behind tables entry exit next h = not_both (is_leg tables exit next) refl
+  where
+    not_both : (together : Bool) → is_leg tables exit next ≡ together → together ≡ false
+    not_both true k = absurd (exit_is_no_entry tables entry exit next h k)
+    not_both false k = refl
+
 -- two taps that are a leg, before a parting
 leg_first : (tables : FareTables) (entry exit : Touch) (taps : List Touch) (parts : List RailPart) →
     is_leg tables entry exit ≡ true → AreParts tables taps parts → AreParts tables (entry ∷ exit ∷ taps) (leg entry exit ∷ parts)

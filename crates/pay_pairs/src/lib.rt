@@ -4,6 +4,6 @@
 pub mod laws;
 mod parts;
 
-pub use parts::{Leg, RailPart, legs};
+pub use parts::{Leg, RailPart, is_leg, legs};
 pub use pay_tables::Tables;
 pub use pay_taps::Touch;

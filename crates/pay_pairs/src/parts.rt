@@ -34,8 +34,9 @@ fn allowed_seconds_between(tables: &Tables, entry: &Touch, exit: &Touch) -> u32
     tables.max_seconds(span(&stations))
 }
 
-/// Whether a tap and the next one are a leg.
-fn is_leg(tables: &Tables, entry: &Touch, exit: &Touch) -> bool
+/// Whether a rail tap and the next one are a leg: one on the way in and one on the way out, at most so
+/// many seconds later as are allowed between their places.
+pub fn is_leg(tables: &Tables, entry: &Touch, exit: &Touch) -> bool
     ensures { result ≡ is_leg tables.now entry.now exit.now }
 {
     entry.kind == Kind::In

@@ -1,0 +1,55 @@
+ghost use Rattle.std.specs.Prelude.{◌≡◌};
+ghost use Rattle.pay_links.specs.Starts.{leg_between, are_linked, starts_at};
+
+use crate::links::is_linked;
+use pay_pairs::{Leg, Tables, Touch, is_leg};
+
+/// The leg of a tap and the next one, where there are both and they are one.
+fn leg_between(tables: &Tables, tap: &Option<Touch>, next: &Option<Touch>) -> Option<Leg>
+    ensures { result ≡ leg_between tables.now tap.now next.now }
+{
+    let (Some(entry), Some(exit)) = (tap, next) else {
+        return None;
+    };
+    if is_leg(tables, entry, exit) {
+        Some(Leg {
+            entry: *entry,
+            exit: *exit,
+        })
+    } else {
+        None
+    }
+}
+
+/// Whether there are a leg and one right behind it, and the one is linked with the other.
+fn are_linked(tables: &Tables, leg: &Option<Leg>, next: &Option<Leg>) -> bool
+    ensures { result ≡ are_linked tables.now leg.now next.now }
+{
+    match (leg, next) {
+        (Some(leg), Some(next)) => is_linked(tables, leg, next),
+        _ => false,
+    }
+}
+
+/// Whether a journey starts at a rail tap, by the two taps before it, the farther first, and the one
+/// behind it.
+///
+/// None does where the tap before it and it are a leg, nor where it and the one behind it are a leg with
+/// which the leg of the two taps before it is linked. One does at every other tap.
+pub fn starts_at(
+    tables: &Tables,
+    farther: &Option<Touch>,
+    nearer: &Option<Touch>,
+    tap: &Touch,
+    next: &Option<Touch>,
+) -> bool
+    ensures { result ≡ starts_at tables.now farther.now nearer.now tap.now next.now }
+{
+    let here = Some(*tap);
+    if leg_between(tables, nearer, &here).is_some() {
+        return false;
+    }
+    let before = leg_between(tables, farther, nearer);
+    let behind = leg_between(tables, &here, next);
+    !are_linked(tables, &before, &behind)
+}
