@@ -9,3 +9,4 @@ pub mod CellLaws
 pub mod Lowest
 pub mod Prices
 pub mod Taking
+pub mod Stretches

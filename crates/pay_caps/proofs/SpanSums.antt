@@ -2,6 +2,8 @@
 use Rattle.std.proofs.Common.{◌≡◌, ℕ, ◌+◌, ◌-◌, ◌≤◌, ◌<◌, Bool, true, false, not, if◌then◌else◌, List, map, length, set, get_or, drop, refl, ap, sym, ◌∙◌, subst, arith}
 use Rattle.std.specs.Prelude.{sum}
 use Rattle.std.proofs.lemmas.Grind.{get_or_default_zero}
+use Rattle.std.proofs.lemmas.List.{get_or-set_same, length-set}
+use Rattle.std.proofs.lemmas.List.Sums.{sum_by-set}
 use Rattle.pay_tables.specs.declared.band.Cover.{Cover}
 use Rattle.pay_tables.specs.declared.limits.TheConstants.{MOST_ZONES}
 use Rattle.pay_tables.specs.declared.zones.Span.{Span}
@@ -12,7 +14,7 @@ use Rattle.pay_caps.specs.declared.cell.Cell.TheVariants.{Rail, Buses, Maximum}
 use Rattle.pay_caps.specs.declared.limits.TheConstants.{SPANS}
 use Rattle.pay_caps.specs.CellSums.{CellSums}
 use Rattle.pay_caps.specs.Covers.{IsCell}
-use Rattle.pay_caps.specs.Cells.{AreSums, all_spans, span_at, added, taken, changed_at, sum_at, sum_where, spans_outside}
+use Rattle.pay_caps.specs.Cells.{AreSums, all_spans, span_at, added, taken, changed_at, sum_at, sum_where, total, spans_outside}
 use Rattle.pay_caps.proofs.Sums.{if_passed}
 use Rattle.pay_caps.proofs.AllSpans.{place_of, at_its_place}
 use Rattle.pay_caps.proofs.Weights.{weighed, weighed_at, weighs_at_most, weighs_more, changed_is_set, place_below}
@@ -21,6 +23,13 @@ use Rattle.pay_caps.proofs.Steps.{weighs_from, half_cleared, one_cleared, cleare
 abbrev sums : List ℕ → ℕ → ℕ → CellSums
 sums spans buses maximum = record { spans = spans; buses = buses; maximum = maximum }
 
+place_within : (span : Span) (spans : List ℕ) → IsSpan MOST_ZONES span → length spans ≡ SPANS → place_of span < length spans
+place_within span spans within all = omega (arith, all, place_below (place_of span) (map (λ (one : Span). same_span one span) all_spans) (at_its_place span within))
+
+-- the sum of a span is what stands at its place
+at_place : (span : Span) (spans : List ℕ) → IsSpan MOST_ZONES span → length spans ≡ SPANS → sum_where (λ one. same_span one span) spans ≡ get_or spans (place_of span) 0
+at_place span spans within all = weighed_at (λ (one : Span). same_span one span) (place_of span) all_spans spans (at_its_place span within) all
+
 -- what stands at a place, however it is asked for
 there : (spans : List ℕ) (place n : ℕ) → place < length spans → n ≡ get_or spans place n → n ≡ get_or spans place 0
 there spans place n below is = is ∙ get_or_default_zero spans place n below
@@ -28,7 +37,7 @@ there spans place n below is = is ∙ get_or_default_zero spans place n below
 changed_is : (span : Span) (f : ℕ → ℕ) (spans : List ℕ) (place n : ℕ) → IsSpan MOST_ZONES span → length spans ≡ SPANS → place ≡ place_of span → n ≡ get_or spans place n
     → set spans place (f n) ≡ changed_at span f spans
 changed_is span f spans place n within all is stands =
-    let below : place < length spans = subst (λ (i : ℕ). i < length spans) (sym is) (omega (arith, all, place_below (place_of span) (map (λ (one : Span). same_span one span) all_spans) (at_its_place span within))) in
+    let below : place < length spans = subst (λ (i : ℕ). i < length spans) (sym is) (place_within span spans within all) in
     ap (λ (m : ℕ). set spans place (f m)) (there spans place n below stands)
     ∙ ap (λ (i : ℕ). set spans i (f (get_or spans i 0))) is
     ∙ sym (changed_is_set (λ (one : Span). same_span one span) f (place_of span) all_spans spans (at_its_place span within) all)
@@ -54,10 +63,10 @@ taken_from_span cell span fare place n spans buses maximum self is within same a
 pub is_there : (cell : Cell) (span : Span) (fare place n : ℕ) (spans : List ℕ) (buses maximum : ℕ) (self : CellSums) → cell ≡ Rail span → IsCell MOST_ZONES cell → sums spans buses maximum ≡ self
     → length spans ≡ SPANS → place ≡ place_of span → n ≡ get_or spans place n → fare ≤ sum_at cell self → fare ≤ get_or spans place n
 is_there cell span fare place n spans buses maximum self is within same all at stands enough =
-    let stands_once = at_its_place span (within_of cell span is within) in
-    let below : place < length spans = subst (λ (i : ℕ). i < length spans) (sym at) (omega (arith, all, place_below (place_of span) (map (λ (one : Span). same_span one span) all_spans) stands_once)) in
+    let in_range = within_of cell span is within in
+    let below : place < length spans = subst (λ (i : ℕ). i < length spans) (sym at) (place_within span spans in_range all) in
     let its : sum_at cell self ≡ n =
-    ap (λ (c : Cell). sum_at c self) is ∙ ap (sum_at (Rail span)) (sym same) ∙ weighed_at (λ (one : Span). same_span one span) (place_of span) all_spans spans stands_once all
+    ap (λ (c : Cell). sum_at c self) is ∙ ap (sum_at (Rail span)) (sym same) ∙ at_place span spans in_range all
     ∙ ap (λ (i : ℕ). get_or spans i 0) (sym at) ∙ sym (there spans place n below stands) in
     omega (arith, its, enough, stands)
 
@@ -68,6 +77,36 @@ added_there (Rail span) fare self now within all is =
     ∙ weighs_more (λ (one : Span). same_span one span) (λ (one : Span). same_span one span) fare true (λ _ e. e) (place_of span) all_spans self.spans (at_its_place span within) all
 added_there Buses fare self now within all is = ap (sum_at Buses) is
 added_there Maximum fare self now within all is = ap (sum_at Maximum) is
+
+-- what is there is less by what was taken
+pub taken_there : (cell : Cell) (fare : ℕ) (self now : CellSums) → IsCell MOST_ZONES cell → length self.spans ≡ SPANS → fare ≤ sum_at cell self → now ≡ taken cell fare self
+    → sum_at cell self ≡ sum_at cell now + fare
+taken_there (Rail span) fare self now within all enough is =
+    let less : ℕ = get_or self.spans (place_of span) 0 - fare in
+    let after =
+    ap (sum_at (Rail span)) is
+    ∙ ap (sum_where (λ one. same_span one span)) (changed_is_set (λ (one : Span). same_span one span) (λ m. m - fare) (place_of span) all_spans self.spans (at_its_place span within) all)
+    ∙ at_place span (set self.spans (place_of span) less) within (length-set self.spans (place_of span) less ∙ all)
+    ∙ get_or-set_same self.spans (place_of span) less 0 (place_within span self.spans within all) in
+    omega (arith, at_place span self.spans within all, after, enough)
+taken_there Buses fare self now within all enough is = omega (arith, ap (sum_at Buses) is, enough)
+taken_there Maximum fare self now within all enough is = omega (arith, ap (sum_at Maximum) is, enough)
+
+-- and so are all of them together
+pub taken_of_all : (cell : Cell) (fare : ℕ) (self now : CellSums) → IsCell MOST_ZONES cell → length self.spans ≡ SPANS → fare ≤ sum_at cell self → now ≡ taken cell fare self
+    → total self ≡ total now + fare
+taken_of_all (Rail span) fare self now within all enough is =
+    let less : ℕ = get_or self.spans (place_of span) 0 - fare in
+    omega (
+      arith,
+      ap total is,
+      ap sum (changed_is_set (λ (one : Span). same_span one span) (λ m. m - fare) (place_of span) all_spans self.spans (at_its_place span within) all),
+      sum_by-set (λ (m : ℕ). m) self.spans (place_of span) less 0 (place_within span self.spans within all),
+      at_place span self.spans within all,
+      enough,
+    )
+taken_of_all Buses fare self now within all enough is = omega (arith, ap total is, enough)
+taken_of_all Maximum fare self now within all enough is = omega (arith, ap total is, enough)
 
 -- ---- outside of a band
 

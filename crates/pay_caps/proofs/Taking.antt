@@ -11,7 +11,7 @@ use Rattle.pay_caps.proofs.Prices.{as_many}
 use Rattle.pay_caps.proofs.SpanSums.{added_there}
 
 -- wherever a journey stands, its fare was added to the sums of the others
-among : (tables : FareTables) (before : List Journey) (journey : Journey) (after : List Journey)
+pub among : (tables : FareTables) (before : List Journey) (journey : Journey) (after : List Journey)
     → cells_of tables (before ++ journey ∷ after) ≡ added (cell_of tables journey) (fare tables journey) (cells_of tables (before ++ after))
 among tables before journey after =
     cells_in_any_order tables (before ++ journey ∷ after) (journey ∷ (before ++ after)) (IsPermutation-middle before journey after) ∙ one_journey_more tables journey (before ++ after)

@@ -4,14 +4,33 @@ use Rattle.pay_tables.specs.declared.band.Band.{Band}
 use Rattle.pay_tables.specs.Words.{FareTables}
 use Rattle.pay_fares.specs.Words.{Journey, fare}
 use Rattle.pay_caps.specs.Covers.{cell_of, is_capped}
-use Rattle.pay_caps.specs.Cells.{taken, cells_of}
+use Rattle.pay_caps.specs.Cells.{taken, sum_at, cells_of}
 use Rattle.pay_caps.specs.Lowest.{charged}
 use Rattle.pay_caps.specs.DayPrices.{fares, not_covered, maximum_fares, day_price}
+use Rattle.pay_caps.specs.Stretches.{all_added, all_taken}
 
 -- where the fare of one of some journeys is taken from their sums, what is left are the sums of the others
 abbrev pub OthersAreLeft : FareTables → Type 0
 OthersAreLeft tables = (before : List Journey) (journey : Journey) (after : List Journey)
     → taken (cell_of tables journey) (fare tables journey) (cells_of tables (before ++ journey ∷ after)) ≡ cells_of tables (before ++ after)
+
+-- where the fares of a stretch of journeys are taken from the sums of all, what is left are the sums of the others
+abbrev pub StretchIsTaken : FareTables → Type 0
+StretchIsTaken tables = (left stretch right : List Journey) → all_taken tables stretch (cells_of tables (left ++ stretch ++ right)) ≡ cells_of tables (left ++ right)
+
+-- where some of the stretch are taken, the rest of it is left beside the others
+abbrev pub RestIsLeft : FareTables → Type 0
+RestIsLeft tables = (left stretch right done rest : List Journey) → stretch ≡ done ++ rest
+    → all_taken tables done (cells_of tables (left ++ stretch ++ right)) ≡ cells_of tables (left ++ rest ++ right)
+
+-- so that each fare is there when it is taken
+abbrev pub EachFareIsThere : FareTables → Type 0
+EachFareIsThere tables = (left stretch right done : List Journey) (journey : Journey) (rest : List Journey) → stretch ≡ done ++ journey ∷ rest
+    → fare tables journey ≤ sum_at (cell_of tables journey) (all_taken tables done (cells_of tables (left ++ stretch ++ right)))
+
+-- where the fares of a stretch of journeys are added to the sums of the others, these become the sums of all
+abbrev pub StretchIsAdded : FareTables → Type 0
+StretchIsAdded tables = (left stretch right : List Journey) → all_added tables stretch (cells_of tables (left ++ right)) ≡ cells_of tables (left ++ stretch ++ right)
 
 -- a day costs no more than what a band caps and leaves outside, and its maximum fares
 abbrev pub DayIsWithinBand : Type 0

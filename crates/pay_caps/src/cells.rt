@@ -131,7 +131,9 @@ impl Cells {
     pub fn take(&mut self, cell: Cell, fare: Pence)
         requires is_cell { IsCell MOST_ZONES cell }
         requires there { fare ≤ sum_at cell self.old }
-        ensures { self.new ≡ taken cell fare self.old }
+        ensures value { self.new ≡ taken cell fare self.old }
+        ensures sum { total self.old ≡ total self.new + fare }
+        ensures there { sum_at cell self.old ≡ sum_at cell self.new + fare }
     {
         match cell {
             Cell::Rail(span) => {

@@ -12,7 +12,7 @@ ghost use Rattle.pay_caps.specs.Covers.{cell_of, IsCell};
 ghost use Rattle.pay_caps.specs.Cells.{no_fares, added, taken, sum_at, cells_of, outside, total};
 ghost use Rattle.pay_caps.specs.Lowest.{charged};
 ghost use Rattle.pay_caps.specs.DayPrices.{fares, not_covered, capped_price, maximum_fares, day_price, capped_price_of, day_price_of};
-ghost use Rattle.pay_caps.specs.Laws.{OthersAreLeft, DayIsWithinBand, ChargeIsWithinBand};
+ghost use Rattle.pay_caps.specs.Laws.{OthersAreLeft, StretchIsTaken, RestIsLeft, EachFareIsThere, StretchIsAdded, DayIsWithinBand, ChargeIsWithinBand};
 
 use pay_tables::Tables;
 
@@ -36,6 +36,17 @@ pub fn takes(tables: &Tables)
     ensures left { OthersAreLeft tables.now }
 {
     day_prices(tables);
+}
+
+/// The fares of a stretch of journeys can be taken from the sums of all, one after another, which leaves
+/// the sums of the others, and added to these again. It does not matter where the stretch stands.
+pub fn stretches(tables: &Tables)
+    ensures others_left { StretchIsTaken tables.now }
+    ensures rest_left { RestIsLeft tables.now }
+    ensures there { EachFareIsThere tables.now }
+    ensures all_again { StretchIsAdded tables.now }
+{
+    takes(tables);
 }
 
 /// What a band leaves outside of the sums of journeys are the sums of those that it does not cover.

@@ -1,2 +1,3 @@
 pub mod LastPaying
 pub mod PayingSets
+pub mod Stretches

@@ -1,5 +1,6 @@
 -- The Hopper rule, one boarding after the other: only the last one that paid has to be remembered.
 use Rattle.std.specs.Prelude.{◌≡◌, ℕ, ◌+◌, Bool, true, false, List, [], ◌∷◌, Option, Some, None, map, nat_lt, if◌then◌else◌, refl}
+use Rattle.std.specs.List.{fold, zip}
 use Rattle.pay_day.specs.Words.{Stamp}
 use Rattle.pay_taps.specs.declared.tap.Kind.TheVariants.{Bus}
 use Rattle.pay_taps.specs.declared.tap.Touch.{Touch}
@@ -18,6 +19,14 @@ abbrev pub marks_by_last : ℕ → Option Stamp → List Touch → List Bool
 marks_by_last hopper last [] = []
 marks_by_last hopper last (tap ∷ later) =
     pays_by_last hopper last tap.stamp.utc ∷ marks_by_last hopper (last_paid_after hopper last tap.stamp) later
+
+-- the moment of the last boarding that paid, after some more, where `last` is that of the last one before them that paid
+abbrev pub last_paid_over : ℕ → Option Stamp → List Touch → Option Stamp
+last_paid_over hopper last taps = fold (λ before tap. last_paid_after hopper before tap.stamp) last taps
+
+-- the moment of the last of some boardings that is marked, by a mark for each
+abbrev pub last_marked : List Bool → List Touch → Option Stamp
+last_marked marks taps = fold (λ (before : Option Stamp) (one : Bool × Touch). if one.0 then Some one.1.stamp else before) None (zip marks taps)
 
 -- the morning of Monday 2024-01-08, from 07:00
 morning : ℕ → Stamp
@@ -58,3 +67,25 @@ from_the_next_paying = refl
 at_one_instant : marks_by_last 3600 None (map boarding (0 ∷ 0 ∷ [])) ≡ true ∷ false ∷ []
 unfolding boarding morning
 at_one_instant = refl
+
+-- after the boardings at 0, 3,000, 5,000 and 6,601 seconds, that at 5,000 is the last that paid
+over_four : last_paid_over 3600 None (map boarding (0 ∷ 3000 ∷ 5000 ∷ 6601 ∷ [])) ≡ Some (morning 5000)
+unfolding boarding morning
+over_four = refl
+
+-- after one at 07:00, those within the hour change nothing
+over_free_ones : last_paid_over 3600 (Some (morning 0)) (map boarding (3000 ∷ 3600 ∷ [])) ≡ Some (morning 0)
+unfolding boarding morning
+over_free_ones = refl
+
+over_none : last_paid_over 3600 None [] ≡ None
+over_none = refl
+
+-- the last one that is marked stands behind all others that are
+last_of_marked : last_marked (true ∷ false ∷ true ∷ false ∷ []) (map boarding (0 ∷ 3000 ∷ 5000 ∷ 6601 ∷ [])) ≡ Some (morning 5000)
+unfolding boarding morning
+last_of_marked = refl
+
+none_marked : last_marked (false ∷ false ∷ []) (map boarding (0 ∷ 3000 ∷ [])) ≡ None
+unfolding boarding morning
+none_marked = refl

@@ -1,3 +1,4 @@
 pub mod Hopper
 pub mod LastPaid
+pub mod Laws
 pub mod Words

@@ -4,6 +4,7 @@ ghost use Rattle.std.specs.Prelude.{◌≡◌, ℕ, Bool, List, None};
 ghost use Rattle.pay_taps.specs.declared.tap.Touch.{Touch};
 ghost use Rattle.pay_hopper.specs.Hopper.{IsPayingSet, instants_of, paying_marks};
 ghost use Rattle.pay_hopper.specs.LastPaid.{marks_by_last};
+ghost use Rattle.pay_hopper.specs.Laws.{MarksInStretches, LastInStretches, PayingTapsRestart, LastPaidIsMarked, LastMarkedFromBehind};
 
 /// The rule speaks of paying taps to say which taps pay, and still there is one such set for any
 /// instants, and it can be computed.
@@ -16,4 +17,22 @@ pub fn one_set()
 /// Whoever goes over bus taps one by one, and remembers only the last that paid, finds that set.
 pub fn by_the_last()
     ensures { (hopper : ℕ) (taps : List Touch) → marks_by_last hopper None taps ≡ paying_marks hopper (instants_of taps) }
+{}
+
+/// Bus taps may be marked in stretches: of the earlier taps, only the last that paid counts for the later.
+pub fn in_stretches()
+    ensures marks { MarksInStretches }
+    ensures last { LastInStretches }
+{}
+
+/// Where a bus tap pays by either of two moments of the last one before it that paid, it and all taps
+/// behind it have the same marks by both.
+pub fn paying_taps_restart()
+    ensures { PayingTapsRestart }
+{}
+
+/// The last bus tap that paid is the last that is marked, and that one is found from behind.
+pub fn last_paid_by_marks()
+    ensures same { LastPaidIsMarked }
+    ensures from_behind { LastMarkedFromBehind }
 {}
