@@ -6,7 +6,7 @@ use Rattle.pay_tables.specs.Words.{FareTables}
 use Rattle.pay_taps.specs.declared.tap.Touch.{Touch}
 use Rattle.pay_links.specs.declared.journey.Journey.{Journey}
 use Rattle.pay_links.specs.Words.{first_tap}
-use Rattle.pay_week.specs.Words.{day_price, week_price}
+use Rattle.pay_week.specs.Words.{CellSums, cells_of, day_price, week_price}
 use Rattle.pay_quotes.specs.declared.priced.Priced.{Priced}
 use Rattle.pay_quotes.specs.Accepted.{Accepted, touches}
 use Rattle.pay_account.specs.Journeys.{journeys_of, is_on}
@@ -35,14 +35,22 @@ price_of_day tables list day = day_price tables (journeys_on list day)
 abbrev pub price_of_week : FareTables → List Journey → ℕ → ℕ
 price_of_week tables list through = week_price tables (map (journeys_on list) (days_through through))
 
--- the price of a service day and of its week through Sunday, of touches in order
-abbrev pub prices_of_touches : FareTables → List Touch → Bool → ℕ → Priced
-prices_of_touches tables list again day = record {
+-- the price of a service day and of its week through Sunday, of all journeys
+abbrev pub prices_of_journeys : FareTables → List Journey → Bool → ℕ → Priced
+prices_of_journeys tables list again day = record {
   again = again;
   day = day;
-  day_price = price_of_day tables (journeys_of tables list) day;
-  week_price = price_of_week tables (journeys_of tables list) (sunday day);
+  day_price = price_of_day tables list day;
+  week_price = price_of_week tables list (sunday day);
 }
+
+-- and of touches in order
+abbrev pub prices_of_touches : FareTables → List Touch → Bool → ℕ → Priced
+prices_of_touches tables touches again day = prices_of_journeys tables (journeys_of tables touches) again day
+
+-- the sums of the fares of a day's journeys, for each day of a day's week
+abbrev pub sums_of_week : FareTables → List Journey → ℕ → List CellSums
+sums_of_week tables list day = map (λ each. cells_of tables (journeys_on list each)) (days_through (sunday day))
 
 -- and of what an account has accepted
 abbrev pub prices : FareTables → Accepted → Bool → ℕ → Priced

@@ -1,9 +1,13 @@
 //! What the results of taps and corrections mean. Each law is the contract of a function that does nothing: a
 //! caller whose proof needs a law calls its function.
+ghost use Rattle.std.specs.List.{range_with_len};
 ghost use Rattle.std.specs.Prelude.{◌≡◌, ◌≢◌, ◌↔◌, ◌≤◌, ℕ, false, length, sum};
 ghost use Rattle.pay_money.specs.declared.limits.TheConstants.{OPERATORS};
+ghost use Rattle.pay_day.specs.Words.{IsDay, monday, sunday};
+ghost use Rattle.pay_day.specs.declared.limits.TheConstants.{DAYS_PER_WEEK};
 ghost use Rattle.pay_tables.specs.Words.{FareTables};
 ghost use Rattle.pay_quotes.specs.Accepted.{Accepted};
+ghost use Rattle.pay_account.specs.Prices.{days_through};
 ghost use Rattle.pay_account.specs.Quotes.{quote, carried};
 ghost use Rattle.pay_account.specs.Places.{is_known, is_known_fix};
 ghost use Rattle.pay_account.specs.TapResults.{tap_result};
@@ -83,3 +87,8 @@ pub fn quotes(tables: &Tables)
     pay_money::laws::each_in_its_place();
     pay_money::laws::nothing_for_nothing();
 }
+
+/// A week has seven days, from its Monday on.
+pub fn week_days()
+    ensures { (day : ℕ) → IsDay day → days_through (sunday day) ≡ range_with_len (monday day) DAYS_PER_WEEK }
+{}

@@ -1,8 +1,10 @@
-ghost use Rattle.std.specs.Prelude.{◌≡◌, ◌≤◌, length, IfOk};
+ghost use Rattle.std.specs.Prelude.{◌≡◌, ◌≤◌, List, length, IfOk};
 ghost use Rattle.pay_day.specs.Words.{IsDay};
+ghost use Rattle.pay_day.specs.declared.limits.TheConstants.{DAYS_PER_WEEK};
 ghost use Rattle.pay_fix.specs.declared.limits.TheConstants.{MOST_TOUCHES};
+ghost use Rattle.pay_links.specs.declared.journey.Journey.{Journey};
 ghost use Rattle.pay_week.specs.Words.{capped_price};
-ghost use Rattle.pay_account.specs.Prices.{journeys_on, price_of_day, prices_of_touches};
+ghost use Rattle.pay_account.specs.Prices.{journeys_on, price_of_day, prices_of_journeys, prices_of_touches, sums_of_week};
 
 use crate::journeys::rail_journeys;
 use crate::week_cells::{cells_of_week, cells_on};
@@ -12,7 +14,7 @@ use pay_money::Pence;
 use pay_quotes::Priced;
 use pay_tables::Tables;
 use pay_taps::Touch;
-use pay_week::{day_price, week_price};
+use pay_week::{Cells, day_price, week_price};
 use std::alloc::{AllocError, Global};
 
 /// The price of a service day, of all journeys, and the band that gives it.
@@ -23,6 +25,23 @@ pub fn price_on(tables: &Tables, journeys: &[Journey], day: u32) -> (Pence, Opti
 {
     pay_week::day_laws::day_prices(tables);
     day_price(tables, &cells_on(tables, journeys, day))
+}
+
+/// The price of a service day and of its week through Sunday, by the sums of the fares of each day of that week.
+pub fn price_by_sums(tables: &Tables, week: &[Cells], again: bool, day: u32) -> Priced
+    requires is_day { IsDay day }
+    requires whole { length week.now ≡ DAYS_PER_WEEK }
+    ensures { (list : List Journey) → week.now ≡ sums_of_week tables.now list day → result ≡ prices_of_journeys tables.now list again day }
+{
+    pay_week::day_laws::day_prices(tables);
+    pay_week::laws::week_prices(tables);
+    let (day_price, _) = day_price(tables, &week[day_of_week(day) as usize]);
+    Priced {
+        again,
+        day,
+        day_price,
+        week_price: week_price(tables, week),
+    }
 }
 
 /// The price of a service day and of its week through Sunday, of these touches in order.
@@ -39,15 +58,6 @@ pub fn price(
     ensures { IfOk result (λ p. p ≡ prices_of_touches tables.now touches.now again day) }
 {
     let rail = rail_journeys(alloc, tables, touches)?;
-    pay_week::day_laws::day_prices(tables);
-    pay_week::laws::week_prices(tables);
     let week = cells_of_week(tables, &rail, touches, day);
-    let days = &week[..];
-    let (day_price, _) = day_price(tables, &days[day_of_week(day) as usize]);
-    Ok(Priced {
-        again,
-        day,
-        day_price,
-        week_price: week_price(tables, days),
-    })
+    Ok(price_by_sums(tables, &week, again, day))
 }

@@ -1,12 +1,12 @@
-ghost use Rattle.std.specs.Prelude.{◌≡◌, ◌≤◌, ◌+◌, ◌*◌, ◌++◌, if◌then◌else◌, length, map, sum_by};
-ghost use Rattle.pay_day.specs.Words.{IsDay, sunday};
+ghost use Rattle.std.specs.Prelude.{◌≡◌, ◌≤◌, ◌+◌, ◌*◌, ◌++◌, if◌then◌else◌, length, sum_by};
+ghost use Rattle.pay_day.specs.Words.{IsDay};
 ghost use Rattle.pay_hopper.specs.Words.{last_paid_after};
 ghost use Rattle.pay_tables.specs.declared.limits.TheConstants.{MOST_FARE};
 ghost use Rattle.pay_fix.specs.declared.limits.TheConstants.{MOST_TOUCHES};
 ghost use Rattle.pay_money.specs.declared.limits.TheConstants.{MOST_MONEY};
 ghost use Rattle.pay_week.specs.Words.{cells_of, total};
 ghost use Rattle.pay_account.specs.Journeys.{boardings, is_bus, next_boarding};
-ghost use Rattle.pay_account.specs.Prices.{days_through, journeys_on};
+ghost use Rattle.pay_account.specs.Prices.{journeys_on, sums_of_week};
 ghost use Rattle.pay_account.specs.WeekCells.{week_with_journey, week_with_journeys, with_journey};
 
 use crate::journeys::{day_of, is_on, next_boarding};
@@ -81,7 +81,7 @@ pub fn cells_of_week(tables: &Tables, rail: &[Journey], touches: &[Touch], day: 
     requires few_rail { length rail.now ≤ MOST_TOUCHES }
     requires few { length touches.now ≤ MOST_TOUCHES }
     requires is_day { IsDay day }
-    ensures { result ≡ map (λ each. cells_of tables.now (journeys_on (rail.now ++ boardings tables.now touches.now) each)) (days_through (sunday day)) }
+    ensures { result ≡ sums_of_week tables.now (rail.now ++ boardings tables.now touches.now) day }
 {
     pay_week::day_laws::sums();
     let monday = monday(day);
@@ -95,7 +95,7 @@ pub fn cells_of_week(tables: &Tables, rail: &[Journey], touches: &[Touch], day: 
 pub fn cells_of_days(tables: &Tables, journeys: &[Journey], day: u32) -> Week
     requires few { length journeys.now ≤ MOST_TOUCHES }
     requires is_day { IsDay day }
-    ensures { result ≡ map (λ each. cells_of tables.now (journeys_on journeys.now each)) (days_through (sunday day)) }
+    ensures { result ≡ sums_of_week tables.now journeys.now day }
 {
     pay_week::day_laws::sums();
     let mut week = [Cells::new(); DAYS_PER_WEEK as usize];
