@@ -1,0 +1,139 @@
+-- Few journeys are disturbed, and their taps are all that is read of them.
+use Rattle.std.proofs.Common.{◌≡◌, ℕ, zero, suc, ◌+◌, ◌-◌, ◌<◌, ◌≤◌, Bool, true, false, List, [], length, ◌∷◌, ◌++◌, map, flat_map, take, drop, None, refl, sym, ap, ◌∙◌, length-take, arith}
+use Rattle.std.specs.List.{insert}
+use Rattle.std.proofs.lemmas.List.{get_or-append-add, get_or_append_left}
+use Rattle.std.proofs.lemmas.List.Edits.{length-insert, length-between}
+use Rattle.pay_pairs.specs.Words.{FareTables, Touch, legs}
+use Rattle.pay_links.specs.Starts.{taps_of_leg}
+use Rattle.pay_links.specs.Words.{journeys, starts, start_marks, taps_of_journey, MarksAreCut, StartsAreLocal, JourneysHaveEachTap}
+use Rattle.pay_links.specs.declared.journey.Journey.{Journey}
+use Rattle.pay_links.specs.declared.journey.Journey.TheVariants as journey
+use Rattle.pay_book.specs.Rail.{mark_in, taps_in, IsStretch}
+use Rattle.pay_book.proofs.Marks.{as_many, marks_before, marks_behind_it}
+use Rattle.pay_book.proofs.Between.{AreInThree, first_apart, second_apart, fewer_in_three, more_in_three}
+
+-- ---- how many journeys start
+
+abbrev count : List Bool → ℕ
+count [] = 0
+count (true ∷ marks) = suc (count marks)
+count (false ∷ marks) = count marks
+
+-- marks of which only the first few may be true
+first_few : (few : ℕ) (marks : List Bool) → ((place : ℕ) → few ≤ place → place < length marks → mark_in marks place ≡ false) → count marks ≤ few
+first_few few [] none = omega arith
+first_few zero (true ∷ marks) none = let one : true ≡ false = none zero (omega arith) (omega arith) in absurd (cc)
+first_few zero (false ∷ marks) none = first_few zero marks (λ place le lt. none (suc place) (omega arith) (omega arith))
+first_few (suc few) (true ∷ marks) none =
+    let rest = first_few few marks (λ place le lt. none (suc place) (omega arith) (omega arith)) in omega arith
+first_few (suc few) (false ∷ marks) none =
+    let rest = first_few few marks (λ place le lt. none (suc place) (omega arith) (omega arith)) in omega arith
+
+-- marks of which only that before a place, and a few from there on, may be true
+few_around : (middle few : ℕ) (marks : List Bool) → ((place : ℕ) → suc place < middle → mark_in marks place ≡ false) →
+    ((place : ℕ) → middle + few ≤ place → place < length marks → mark_in marks place ≡ false) → count marks ≤ suc few
+few_around zero few marks before behind = let most = first_few few marks (λ place le lt. behind place (omega arith) lt) in omega arith
+few_around (suc zero) few marks before behind = first_few (suc few) marks (λ place le lt. behind place (omega arith) lt)
+few_around (suc (suc middle)) few [] before behind = omega arith
+few_around (suc (suc middle)) few (true ∷ marks) before behind = let one : true ≡ false = before zero (omega arith) in absurd (cc)
+few_around (suc (suc middle)) few (false ∷ marks) before behind =
+    few_around (suc middle) few marks (λ place lt. before (suc place) (omega arith)) (λ place le lt. behind (suc place) (omega arith) (omega arith))
+
+-- and the first mark of all
+one_more : (mark : Bool) (marks : List Bool) → count (mark ∷ marks) ≤ suc (count marks)
+one_more true marks = omega arith
+one_more false marks = omega arith
+
+few_with_first : (middle few : ℕ) (marks : List Bool) → ((place : ℕ) → 0 < place → suc place < middle → mark_in marks place ≡ false) →
+    ((place : ℕ) → middle + few ≤ place → place < length marks → mark_in marks place ≡ false) → count marks ≤ suc (suc few)
+few_with_first middle few [] before behind = omega arith
+few_with_first middle few (mark ∷ marks) before behind =
+    let rest = few_around (middle - 1) few marks (λ place lt. before (suc place) (omega arith) (omega arith)) (λ place le lt. behind (suc place) (omega arith) (omega arith)) in
+    let all = one_more mark marks in omega arith
+
+-- ---- a journey for each start
+
+none_more : (others : List Touch) (marks : List Bool) → count (map (λ _. false) others ++ marks) ≡ count marks
+none_more [] marks = refl
+none_more (tap ∷ others) marks = none_more others marks
+
+one_each : (list : List Journey) → count (start_marks list) ≡ length list
+one_each [] = refl
+one_each (journey.Run run ∷ later) = ap suc (none_more (run.first.exit ∷ flat_map taps_of_leg run.others) (start_marks later) ∙ one_each later)
+one_each (journey.Same leg ∷ later) = ap suc (one_each later)
+one_each (journey.Lone tap ∷ later) = ap suc (one_each later)
+one_each (journey.Bus tap pays ∷ later) = ap suc (one_each later)
+
+counted_by_marks : StartsAreLocal → (tables : FareTables) (taps : List Touch) → length (journeys tables (legs tables taps)) ≡ count (starts tables taps)
+counted_by_marks local tables taps = sym (ap count (local tables taps) ∙ one_each (journeys tables (legs tables taps)))
+
+-- ---- the marks of a stretch
+
+mark_within : MarksAreCut → (tables : FareTables) (taps a b c : List Touch) → AreInThree tables taps a b c →
+    (from place : ℕ) → length a ≡ from → place < length b → mark_in (starts tables b) place ≡ mark_in (starts tables taps) (from + place)
+mark_within marks tables taps a b c three from place long lt =
+    let whole : starts tables taps ≡ starts tables a ++ (starts tables b ++ starts tables c) =
+    ap (starts tables) three.parts ∙ marks tables a (b ++ c) (first_apart tables taps a b c three)
+    ∙ ap (λ (list : List Bool). starts tables a ++ list) (marks tables b c (second_apart marks tables taps a b c three)) in
+    let many_a = as_many tables None None a in
+    let many_b = as_many tables None None b in
+    let at : length (starts tables a) + place ≡ from + place = omega arith in
+    sym (ap (λ (list : List Bool). mark_in list (from + place)) whole
+    ∙ ap (mark_in (starts tables a ++ (starts tables b ++ starts tables c))) (sym at)
+    ∙ get_or-append-add (starts tables a) (starts tables b ++ starts tables c) place true
+    ∙ get_or_append_left (starts tables b) (starts tables c) true place (omega arith))
+
+pub few_fewer : MarksAreCut → StartsAreLocal → (tables : FareTables) (fewer : List Touch) (touch : Touch) (place from to : ℕ) → IsStretch tables fewer touch place from to →
+    length (journeys tables (legs tables (taps_in from to fewer))) ≤ 4
+few_fewer marks local tables fewer touch place from to s =
+    let over = s.from_before in let under = s.to_behind in let within = s.within in
+    let b = taps_in from to fewer in
+    let long_a : length (take from fewer) ≡ from = let n = length-take from fewer in omega arith in
+    let long_b : length b ≡ to - from = length-between fewer from to within in
+    let many = as_many tables None None b in
+    let same : (k : ℕ) → k < length b → mark_in (starts tables b) k ≡ mark_in (starts tables fewer) (from + k) =
+    λ k lt. mark_within marks tables fewer (take from fewer) b (drop to fewer) (fewer_in_three tables fewer touch place from to s) from k long_a lt in
+    let most : count (starts tables b) ≤ 4 = few_with_first (place - from) 2 (starts tables b)
+    (λ k some lt. same k (omega arith) ∙ s.none_before (from + k) (omega arith) (omega arith))
+    (λ k le lt. same k (omega arith) ∙ s.none_behind (from + k) (omega arith) (omega arith)) in
+    let counted = counted_by_marks local tables b in omega arith
+
+pub few_more : MarksAreCut → StartsAreLocal → (tables : FareTables) (fewer : List Touch) (touch : Touch) (place from to : ℕ) → IsStretch tables fewer touch place from to →
+    length (journeys tables (legs tables (insert (taps_in from to fewer) (place - from) touch))) ≤ 5
+few_more marks local tables fewer touch place from to s =
+    let over = s.from_before in let under = s.to_behind in let within = s.within in
+    let inside : place ≤ length fewer = omega arith in
+    let b = insert (taps_in from to fewer) (place - from) touch in
+    let long_a : length (take from fewer) ≡ from = let n = length-take from fewer in omega arith in
+    let long_in : length (taps_in from to fewer) ≡ to - from = length-between fewer from to within in
+    let long_b : length b ≡ length (taps_in from to fewer) + 1 = length-insert (taps_in from to fewer) (place - from) touch (omega arith) in
+    let many = as_many tables None None b in
+    let same : (k : ℕ) → k < length b → mark_in (starts tables b) k ≡ mark_in (starts tables (insert fewer place touch)) (from + k) =
+    λ k lt. mark_within marks tables (insert fewer place touch) (take from fewer) b (drop to fewer) (more_in_three tables fewer touch place from to s) from k long_a lt in
+    let back : (k : ℕ) → place + 3 ≤ k → mark_in (starts tables (insert fewer place touch)) k ≡ mark_in (starts tables fewer) (k - 1) =
+    λ k le. let e : k ≡ suc (k - 1) = omega arith in
+    ap (mark_in (starts tables (insert fewer place touch))) e ∙ marks_behind_it tables fewer place (k - 1) touch (omega arith) inside in
+    let most : count (starts tables b) ≤ 5 = few_with_first (place - from) 3 (starts tables b)
+    (λ k some lt. same k (omega arith) ∙ marks_before tables fewer place (from + k) touch (omega arith) inside ∙ s.none_before (from + k) (omega arith) (omega arith))
+    (λ k le lt. same k (omega arith) ∙ back (from + k) (omega arith) ∙ s.none_behind (from + k - 1) (omega arith) (omega arith)) in
+    let counted = counted_by_marks local tables b in omega arith
+
+-- ---- the same of what was computed
+
+pub few_finished : MarksAreCut → StartsAreLocal → (tables : FareTables) (fewer : List Touch) (touch : Touch) (place from to : ℕ) (taps more : List Touch) (less with_it : List Journey) →
+    IsStretch tables fewer touch place from to → taps ≡ taps_in from to fewer → less ≡ journeys tables (legs tables taps) →
+    more ≡ insert taps (place - from) touch → with_it ≡ journeys tables (legs tables more) → (length less ≤ 4) × (length with_it ≤ 5)
+few_finished marks local tables fewer touch place from to taps more less with_it s same less_is more_is with_is =
+    let a : length less ≡ length (journeys tables (legs tables (taps_in from to fewer))) =
+    ap length (less_is ∙ ap (λ (list : List Touch). journeys tables (legs tables list)) same) in
+    let b : length with_it ≡ length (journeys tables (legs tables (insert (taps_in from to fewer) (place - from) touch))) =
+    ap length (with_is ∙ ap (λ (list : List Touch). journeys tables (legs tables list)) (more_is ∙ ap (λ (list : List Touch). insert list (place - from) touch) same)) in
+    let most = few_fewer marks local tables fewer touch place from to s in
+    let most_with = few_more marks local tables fewer touch place from to s in
+    (omega arith, omega arith)
+
+-- the taps of a stretch are those of its journeys
+pub taps_finished : JourneysHaveEachTap → (tables : FareTables) (fewer : List Touch) (from to : ℕ) (taps : List Touch) (less : List Journey) → to ≤ length fewer →
+    taps ≡ taps_in from to fewer → less ≡ journeys tables (legs tables taps) → length (flat_map taps_of_journey less) ≡ to - from
+taps_finished each tables fewer from to taps less within same less_is =
+    ap (λ (list : List Journey). length (flat_map taps_of_journey list)) less_is ∙ ap length (each tables taps ∙ same) ∙ length-between fewer from to within

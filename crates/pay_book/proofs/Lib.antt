@@ -1,0 +1,14 @@
+pub mod Sums
+pub mod Replacing
+pub mod Weeks
+pub mod Boarded
+pub mod KeptMarks
+pub mod LastPaid
+pub mod PlacesAgain
+pub mod Written
+pub mod Marks
+pub mod Fewer
+pub mod Stretches
+pub mod Between
+pub mod FewJourneys
+pub mod Keeping

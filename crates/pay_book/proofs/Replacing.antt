@@ -1,0 +1,95 @@
+-- Some of the journeys whose sums are kept, replaced by others.
+use Rattle.std.proofs.Common.{◌≡◌, ℕ, ◌+◌, ◌*◌, ◌≤◌, cond, not, List, [], ◌∷◌, ◌++◌, length, sum_by, refl, sym, ap, ◌∙◌, subst, eq-eqb, arith}
+use Rattle.std.proofs.lemmas.List.{length-append}
+use Rattle.std.proofs.lemmas.List.Elements.{filter-append}
+use Rattle.std.proofs.lemmas.List.Filters.{length-filter_both}
+use Rattle.std.proofs.lemmas.List.Sums.{sum_by-cons}
+use Rattle.pay_fix.specs.declared.limits.TheConstants.{MOST_TOUCHES}
+use Rattle.pay_tables.specs.declared.limits.TheConstants.{MOST_FARE}
+use Rattle.pay_tables.specs.Words.{FareTables}
+use Rattle.pay_links.specs.declared.journey.Journey.{Journey}
+use Rattle.pay_caps.specs.Words.{CellSums, cell_of, cells_of, fare, fares, sum_at, total, all_added, all_taken, StretchIsTaken, EachFareIsThere, StretchIsAdded}
+use Rattle.pay_account.specs.Journeys.{is_on}
+use Rattle.pay_account.specs.Prices.{journeys_on}
+use Rattle.pay_book.specs.Days.{Days, sums_on, day_of, AreKept, AreSums, AreThere, HaveRoomFor, StayKept}
+
+-- ---- the parts of a day
+
+parts_on : (left some right : List Journey) (day : ℕ) → journeys_on (left ++ some ++ right) day ≡ journeys_on left day ++ journeys_on some day ++ journeys_on right day
+parts_on left some right day = filter-append (is_on day) (left ++ some) right ∙ ap (λ (l : List Journey). l ++ journeys_on right day) (filter-append (is_on day) left some)
+
+-- those before and behind a journey on its own day
+around : (done : List Journey) (one : Journey) (rest : List Journey) → journeys_on (done ++ one ∷ rest) (day_of one) ≡ journeys_on done (day_of one) ++ one ∷ journeys_on rest (day_of one)
+around done one rest =
+    filter-append (is_on (day_of one)) done (one ∷ rest)
+    ∙ ap (λ b. journeys_on done (day_of one) ++ cond b (one ∷ journeys_on rest (day_of one)) (journeys_on rest (day_of one))) (eq-eqb (day_of one) (day_of one) refl)
+
+-- ---- what is kept
+
+kept_front : (days : Days) (front back : List Journey) → AreKept days (front ++ back) → AreKept days front
+kept_front days [] back h = tt
+kept_front days (one ∷ front) back h = (h.0, kept_front days front back h.1)
+
+kept_back : (days : Days) (front back : List Journey) → AreKept days (front ++ back) → AreKept days back
+kept_back days [] back h = h
+kept_back days (one ∷ front) back h = kept_back days front back h.1
+
+kept_both : (days : Days) (front back : List Journey) → AreKept days front → AreKept days back → AreKept days (front ++ back)
+kept_both days [] back f b = b
+kept_both days (one ∷ front) back f b = (f.0, kept_both days front back f.1 b)
+
+pub kept_still : (before now : Days) (list : List Journey) → StayKept before now → AreKept before list → AreKept now list
+kept_still before now [] stay h = tt
+kept_still before now (one ∷ list) stay h = (stay (day_of one) h.0, kept_still before now list stay h.1)
+
+pub middle_kept : (tables : FareTables) (days : Days) (left some right : List Journey) → AreSums tables days (left ++ some ++ right) → AreKept days some
+middle_kept tables days left some right are = kept_back days left some (kept_front days (left ++ some) right are.kept)
+
+-- ---- taken
+
+pub all_there : (tables : FareTables) → EachFareIsThere tables → (days : Days) (left some right : List Journey) → AreSums tables days (left ++ some ++ right) → AreThere tables days some
+all_there tables law days left some right are done one rest e =
+    let day : ℕ = day_of one in
+    let on : List Journey → List Journey = λ (l : List Journey). journeys_on l day in
+    let before : sums_on days day ≡ cells_of tables (on left ++ on some ++ on right) = are.sums day ∙ ap (cells_of tables) (parts_on left some right day) in
+    subst (λ (sums : CellSums). fare tables one ≤ sum_at (cell_of tables one) (all_taken tables (on done) sums)) (sym before)
+    (law (on left) (on some) (on right) (on done) one (on rest) (ap on e ∙ around done one rest))
+
+pub left_then : (tables : FareTables) → StretchIsTaken tables → (days now : Days) (left some right : List Journey) → AreSums tables days (left ++ some ++ right)
+    → ((day : ℕ) → sums_on now day ≡ all_taken tables (journeys_on some day) (sums_on days day))
+    → (day : ℕ) → sums_on now day ≡ cells_of tables (journeys_on left day ++ journeys_on right day)
+left_then tables law days now left some right are taken day =
+    taken day
+    ∙ ap (all_taken tables (journeys_on some day)) (are.sums day ∙ ap (cells_of tables) (parts_on left some right day))
+    ∙ law (journeys_on left day) (journeys_on some day) (journeys_on right day)
+
+-- ---- added
+
+few_fares : (tables : FareTables) → ((journey : Journey) → fare tables journey ≤ MOST_FARE) → (list : List Journey) → sum_by (fare tables) list ≤ length list * MOST_FARE
+few_fares tables each [] = omega arith
+few_fares tables each (journey ∷ list) = omega (arith, sum_by-cons (fare tables) journey list, each journey, few_fares tables each list)
+
+few_on : (list : List Journey) (day : ℕ) → length (journeys_on list day) ≤ length list
+few_on list day = omega (arith, length-filter_both (is_on day) (λ journey. not (is_on day journey)) (λ _. refl) list)
+
+pub room_then : (tables : FareTables) → ((journey : Journey) → fare tables journey ≤ MOST_FARE) → ((list : List Journey) → total (cells_of tables list) ≡ fares tables list) → (now : Days) (left new right : List Journey)
+    → ((day : ℕ) → sums_on now day ≡ cells_of tables (journeys_on left day ++ journeys_on right day)) → length (left ++ new ++ right) ≤ MOST_TOUCHES → HaveRoomFor now (length new * MOST_FARE)
+room_then tables each all now left new right are few day =
+    let on : List Journey → List Journey = λ (l : List Journey). journeys_on l day in
+    let sum : total (sums_on now day) ≡ sum_by (fare tables) (on left ++ on right) = ap total (are day) ∙ all (on left ++ on right) in
+    let count : length (on left ++ on right) + length new ≤ MOST_TOUCHES =
+    omega (arith, few, length-append (on left) (on right), few_on left day, few_on right day, length-append (left ++ new) right, length-append left new) in
+    omega (arith, sum, few_fares tables each (on left ++ on right), count)
+
+pub sums_then : (tables : FareTables) → StretchIsAdded tables → (now last : Days) (left new right : List Journey)
+    → ((day : ℕ) → sums_on now day ≡ cells_of tables (journeys_on left day ++ journeys_on right day))
+    → ((day : ℕ) → sums_on last day ≡ all_added tables (journeys_on new day) (sums_on now day))
+    → (day : ℕ) → sums_on last day ≡ cells_of tables (journeys_on (left ++ new ++ right) day)
+sums_then tables law now last left new right are added day =
+    added day ∙ ap (all_added tables (journeys_on new day)) (are day) ∙ law (journeys_on left day) (journeys_on new day) (journeys_on right day)
+    ∙ ap (cells_of tables) (sym (parts_on left new right day))
+
+pub kept_then : (tables : FareTables) (days last : Days) (left old new right : List Journey) → AreSums tables days (left ++ old ++ right) → AreKept days new → StayKept days last → AreKept last (left ++ new ++ right)
+kept_then tables days last left old new right are kept stay =
+    kept_still days last (left ++ new ++ right) stay
+    (kept_both days (left ++ new) right (kept_both days left new (kept_front days left old (kept_front days (left ++ old) right are.kept)) kept) (kept_back days (left ++ old) right are.kept))

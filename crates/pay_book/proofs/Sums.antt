@@ -1,0 +1,63 @@
+-- The sums of days, as journeys are added or taken one after another.
+use Rattle.std.proofs.Common.{◌≡◌, ℕ, zero, suc, ◌+◌, ◌≤◌, ◌<◌, List, [], ◌∷◌, length, take, drop, get_or, IsSome, sym, ap, ◌∙◌, subst, add-one, arith}
+use Rattle.std.specs.List.{fold}
+use Rattle.std.proofs.Math.Seq.{drop-cons}
+use Rattle.std.proofs.lemmas.List.Elements.{filter-append, All-from_recursion}
+use Rattle.std.proofs.lemmas.List.Sums.{fold-append}
+use Rattle.pay_tables.specs.Words.{FareTables}
+use Rattle.pay_links.specs.declared.journey.Journey.{Journey}
+use Rattle.pay_caps.specs.Words.{CellSums, cell_of, fare, sum_at, all_taken}
+use Rattle.pay_account.specs.Journeys.{is_on}
+use Rattle.pay_account.specs.Prices.{journeys_on}
+use Rattle.pay_book.specs.Days.{Days, kept_on, sums_on, day_of, AreKept, AreThere, StayKept}
+
+-- the journey at an index, and those behind it
+pub next_of : (list : List Journey) (i : ℕ) (journey : Journey) → i < length list → journey ≡ get_or list i journey → drop i list ≡ journey ∷ drop (i + 1) list
+next_of list i journey below same =
+    drop-cons list i journey below ∙ ap (λ (j : Journey). j ∷ drop (suc i) list) (sym same) ∙ ap (λ (k : ℕ). journey ∷ drop k list) (sym (add-one i))
+
+-- what is to be done, after one more
+pub one_more_done : (change : CellSums → Journey → CellSums) (before now : CellSums) (list : List Journey) (i : ℕ) (journey : Journey) (day : ℕ) → i < length list → journey ≡ get_or list i journey
+    → now ≡ fold change before (journeys_on (journey ∷ []) day)
+    → fold change now (journeys_on (drop (i + 1) list) day) ≡ fold change before (journeys_on (drop i list) day)
+one_more_done change before now list i journey day below same is =
+    let rest : List Journey = drop (i + 1) list in
+    ap (λ (sums : CellSums). fold change sums (journeys_on rest day)) is
+    ∙ sym (fold-append change before (journeys_on (journey ∷ []) day) (journeys_on rest day))
+    ∙ ap (fold change before) (sym (filter-append (is_on day) (journey ∷ []) rest))
+    ∙ ap (λ (l : List Journey). fold change before (journeys_on l day)) (sym (next_of list i journey below same))
+
+-- the fares of those behind one are there, once its own was taken
+pub rest_there : (tables : FareTables) (before now : Days) (list : List Journey) (i : ℕ) (journey : Journey) → i < length list → journey ≡ get_or list i journey
+    → ((day : ℕ) → sums_on now day ≡ all_taken tables (journeys_on (journey ∷ []) day) (sums_on before day))
+    → AreThere tables before (drop i list) → AreThere tables now (drop (i + 1) list)
+rest_there tables before now list i journey below same is there done one rest e =
+    let day : ℕ = day_of one in
+    let all : all_taken tables (journeys_on (journey ∷ done) day) (sums_on before day) ≡ all_taken tables (journeys_on done day) (sums_on now day) =
+    ap (λ (l : List Journey). all_taken tables l (sums_on before day)) (filter-append (is_on day) (journey ∷ []) done)
+    ∙ fold-append _ (sums_on before day) (journeys_on (journey ∷ []) day) (journeys_on done day)
+    ∙ ap (λ (sums : CellSums). all_taken tables (journeys_on done day) sums) (sym (is day)) in
+    subst (λ (sums : CellSums). fare tables one ≤ sum_at (cell_of tables one) sums) all
+    (there (journey ∷ done) one rest (next_of list i journey below same ∙ ap (λ (l : List Journey). journey ∷ l) e))
+
+-- the fare of the next one is there
+pub next_there : (tables : FareTables) (days : Days) (list : List Journey) (i : ℕ) (journey : Journey) → i < length list → journey ≡ get_or list i journey
+    → AreThere tables days (drop i list) → fare tables journey ≤ sum_at (cell_of tables journey) (sums_on days (day_of journey))
+next_there tables days list i journey below same there = there [] journey (drop (i + 1) list) (next_of list i journey below same)
+
+-- sums are kept of the day of the next one
+pub next_kept : (before now : Days) (list : List Journey) (i : ℕ) (journey : Journey) → i < length list → journey ≡ get_or list i journey
+    → AreKept before list → StayKept before now → IsSome (kept_on now (day_of journey))
+next_kept before now list i journey below same kept stay =
+    stay (day_of journey) (subst (λ (j : Journey). IsSome (kept_on before (day_of j))) (sym same) (All-from_recursion (λ j. IsSome (kept_on before (day_of j))) list kept i journey below))
+
+-- and of one more than before
+pub one_more_kept : (before now : Days) (list : List Journey) (i : ℕ) (journey : Journey) → i < length list → journey ≡ get_or list i journey
+    → StayKept before now → IsSome (kept_on now (day_of journey)) → AreKept before (take i list) → AreKept now (take (i + 1) list)
+one_more_kept before now list i journey below same stay here kept =
+    subst (λ (k : ℕ). AreKept now (take k list)) (sym (add-one i)) (pushed list i below same kept)
+  where
+    pushed : (list : List Journey) (i : ℕ) → i < length list → journey ≡ get_or list i journey → AreKept before (take i list) → AreKept now (take (suc i) list)
+    pushed [] i below same kept = absurd (omega arith)
+    pushed (one ∷ list) zero below same kept = (subst (λ (j : Journey). IsSome (kept_on now (day_of j))) same here, tt)
+    pushed (one ∷ list) (suc i) below same kept = (stay (day_of one) kept.0, pushed list i (omega arith) same kept.1)

@@ -1,0 +1,13 @@
+use Rattle.std.proofs.Common.{◌≡◌, ℕ, ◌+◌, ◌*◌, ◌≤◌, drop}
+use Rattle.pay_tables.specs.declared.limits.TheConstants.{MOST_FARE}
+use Rattle.pay_caps.specs.Words.{total, all_added}
+use Rattle.pay_account.specs.Prices.{journeys_on}
+use Rattle.pay_book.specs.Days.{sums_on, StayKept}
+use Rattle.pay_book.proofs.days.add_all.Given as goal
+
+abbrev pub invariant-loop-journey : goal.invariant-loop-journey
+invariant-loop-journey l = record {
+  left : (day : ℕ) → all_added l.tables (journeys_on (drop l.journey-index l.journeys) day) (sums_on l.days.entries day) ≡ all_added l.tables (journeys_on l.journeys day) (sums_on l.fn.days.entries day);
+  kept : StayKept l.fn.days.entries l.days.entries;
+  fits : (day : ℕ) → total (sums_on l.days.entries day) ≤ total (sums_on l.fn.days.entries day) + l.journey-index * MOST_FARE;
+}

@@ -1,0 +1,10 @@
+use Rattle.std.proofs.Common.{◌≡◌, ℕ, take}
+use Rattle.pay_book.specs.Days.{sums_on, AreKept, StayKept}
+use Rattle.pay_book.proofs.days.open_all.Given as goal
+
+abbrev pub invariant-loop-journey : goal.invariant-loop-journey
+invariant-loop-journey l = record {
+  same : (other : ℕ) → sums_on l.days.entries other ≡ sums_on l.fn.days.entries other;
+  kept : StayKept l.fn.days.entries l.days.entries;
+  opened : AreKept l.days.entries (take l.journey-index l.journeys);
+}

@@ -1,0 +1,35 @@
+use Rattle.std.proofs.Common.{◌∙◌, ap, arith}
+use Rattle.pay_pairs.specs.Words.{legs}
+use Rattle.pay_links.specs.Words.{journeys}
+use Rattle.pay_book.specs.Rail.{fewer_of}
+use Rattle.pay_book.proofs.Between.{finished}
+use Rattle.pay_book.proofs.FewJourneys.{few_finished, taps_finished}
+use Rattle.pay_book.proofs.rail.disturbed_by.Goals as goal
+
+pub returns-clause-disturbed : goal.returns-clause-disturbed
+returns-clause-disturbed c =
+    finished c.cut.ensures.journeys c.cut.ensures.marks c.args.tables.now c.args.rail.now.touches c.args.touch.now c.args.is_there _ c.place-place.result
+    c.stretch_around-stretch.result.from c.stretch_around-stretch.result.to c.in_ok-taps.taps.items _ c.in_ok-fewer.fewer.items c.in_ok-more.more.items
+    c.place-place.ensures.place c.stretch_around-stretch.ensures.stretch c.in_ok-taps.ensures.taps
+    (c.in_ok-fewer.ensures ∙ ap (λ l. journeys c.args.tables.now (legs c.args.tables.now l)) c.deref.ensures.value)
+    c.in_ok-insert.ensures.items
+    (c.in_ok-more.ensures ∙ ap (λ l. journeys c.args.tables.now (legs c.args.tables.now l)) c.deref-2.ensures.value)
+
+pub returns-clause-few : goal.returns-clause-few
+returns-clause-few c =
+    few_finished c.cut.ensures.marks c.starts_are_local.ensures.local c.args.tables.now (fewer_of c.args.is_there c.place-place.result c.args.rail.now.touches)
+    c.args.touch.now c.place-place.result c.stretch_around-stretch.result.from c.stretch_around-stretch.result.to c.in_ok-taps.taps.items _
+    c.in_ok-fewer.fewer.items c.in_ok-more.more.items c.stretch_around-stretch.ensures.stretch c.in_ok-taps.ensures.taps
+    (c.in_ok-fewer.ensures ∙ ap (λ l. journeys c.args.tables.now (legs c.args.tables.now l)) c.deref.ensures.value)
+    c.in_ok-insert.ensures.items
+    (c.in_ok-more.ensures ∙ ap (λ l. journeys c.args.tables.now (legs c.args.tables.now l)) c.deref-2.ensures.value)
+
+pub returns-clause-steps : goal.returns-clause-steps
+returns-clause-steps c =
+    let taps = taps_finished c.each_tap.ensures c.args.tables.now (fewer_of c.args.is_there c.place-place.result c.args.rail.now.touches)
+    c.stretch_around-stretch.result.from c.stretch_around-stretch.result.to c.in_ok-taps.taps.items c.in_ok-fewer.fewer.items
+    c.stretch_around-stretch.ensures.stretch.within c.in_ok-taps.ensures.taps
+    (c.in_ok-fewer.ensures ∙ ap (λ l. journeys c.args.tables.now (legs c.args.tables.now l)) c.deref.ensures.value) in
+    let read = c.taps_of_stretch.ensures.steps in
+    let near = c.stretch_around-stretch.ensures.steps in
+    omega arith

@@ -1,0 +1,59 @@
+-- The sums of the fares of days, as a book keeps them.
+use Rattle.std.specs.Prelude.{◌≡◌, ℕ, ◌+◌, ◌≤◌, List, ◌∷◌, ◌++◌, length, Option, IsSome, unwrap_or}
+use Rattle.std.specs.BTreeMap.{is_at}
+use Rattle.std.specs.List.{AllByRecursion}
+use Rattle.std.specs.Map.{lookup}
+use Rattle.std.specs.Ordering.{nat_cmp}
+use Rattle.pay_links.specs.Words.{first_tap}
+use Rattle.pay_links.specs.declared.journey.Journey.{Journey}
+use Rattle.pay_tables.specs.Words.{FareTables}
+use Rattle.pay_fix.specs.declared.limits.TheConstants.{MOST_TOUCHES}
+use Rattle.pay_money.specs.declared.limits.TheConstants.{MOST_MONEY}
+use Rattle.pay_caps.specs.Words.{CellSums, cell_of, cells_of, no_fares, sum_at, total, fare, all_taken}
+use Rattle.pay_account.specs.Prices.{journeys_on}
+
+-- the days of which sums are kept, each with its own
+abbrev pub Days : Type 0
+Days = List (ℕ × CellSums)
+
+-- what is kept of a day
+abbrev pub kept_on : Days → ℕ → Option CellSums
+kept_on days day = lookup (is_at (nat_cmp day)) days
+
+-- the sums of a day: of one that is not kept there are no fares
+abbrev pub sums_on : Days → ℕ → CellSums
+sums_on days day = unwrap_or (kept_on days day) no_fares
+
+-- the day of a journey
+abbrev pub day_of : Journey → ℕ
+day_of journey = (first_tap journey).stamp.day
+
+-- sums are kept of the day of each journey
+abbrev pub AreKept : Days → List Journey → Type 0
+AreKept days list = AllByRecursion (λ journey. IsSome (kept_on days (day_of journey))) list
+
+-- what is kept is the sums of these journeys, and so of each of their days
+pub record AreSums (tables : FareTables) (days : Days) (list : List Journey) : Type 0 where
+  pub kept : AreKept days list
+  pub sums : (day : ℕ) → sums_on days day ≡ cells_of tables (journeys_on list day)
+
+-- the fare of each of these journeys is there when it is taken, behind those before it
+abbrev pub AreThere : FareTables → Days → List Journey → Type 0
+AreThere tables days list = (done : List Journey) (journey : Journey) (rest : List Journey) → list ≡ done ++ journey ∷ rest
+    → fare tables journey ≤ sum_at (cell_of tables journey) (all_taken tables (journeys_on done (day_of journey)) (sums_on days (day_of journey)))
+
+-- so much more can be added to the sums of any day
+abbrev pub HaveRoomFor : Days → ℕ → Type 0
+HaveRoomFor days pence = (day : ℕ) → total (sums_on days day) + pence ≤ MOST_MONEY
+
+-- sums that are kept stay kept
+abbrev pub StayKept : Days → Days → Type 0
+StayKept before after = (day : ℕ) → IsSome (kept_on before day) → IsSome (kept_on after day)
+
+-- some journeys, whose sums are kept beside those of others, can be replaced by other ones: sums are kept of their days, and with them there are not too many
+pub record CanReplace (tables : FareTables) (days : Days) (old new : List Journey) : Type 0 where
+  pub left : List Journey
+  pub right : List Journey
+  pub sums : AreSums tables days (left ++ old ++ right)
+  pub kept : AreKept days new
+  pub few : length (left ++ new ++ right) ≤ MOST_TOUCHES

@@ -1,0 +1,5 @@
+pub mod Days
+pub mod Boardings
+pub mod Stretches
+pub mod Rail
+pub mod Kept

@@ -1,0 +1,134 @@
+//! Rail taps that enter or leave: where journeys start then, and which journeys it changes.
+ghost use Rattle.std.specs.Prelude.{◌≡◌, ◌<◌, ◌≤◌, ◌+◌, ◌-◌, ◌++◌, true, length, slice_get, Some, IfOk, OnOk};
+ghost use Rattle.std.specs.List.{flat_map};
+ghost use Rattle.pay_taps.specs.Words.{place_of};
+ghost use Rattle.pay_pairs.specs.Words.{legs};
+ghost use Rattle.pay_links.specs.Words.{starts, journeys, taps_of_journey};
+ghost use Rattle.pay_book.specs.Rail.{second_before, mark_in, AreMarkedElsewhere, fewer_of, taps_in, at_most_one, IsDisturbedBy};
+
+use crate::stretch::{Stretch, stretch_around, tap_at};
+use pay_links::Journey;
+use pay_pairs::{Tables, Touch};
+use pay_taps::{Steps, Timeline};
+use std::alloc::{AllocError, Global};
+
+/// The journeys by rail that a tap disturbs, without it and with it.
+#[derive(Drop)]
+pub(crate) struct Disturbed {
+    pub(crate) fewer: Vec<Journey>,
+    pub(crate) more: Vec<Journey>,
+}
+
+/// The tap two places before one.
+#[tactic(auto, using(crate::proofs::Fewer::at_most_one_read))]
+fn second_before(rail: &Timeline, place: usize, steps: &mut Steps) -> Option<Touch>
+    ensures value { result ≡ second_before rail.now.touches place }
+    ensures steps { steps.new ≤ steps.old + 1 }
+{
+    if place == 0 {
+        return None;
+    }
+    rail.before(place - 1, steps)
+}
+
+/// Whether a journey starts at a tap, by the taps next to it.
+#[tactic(auto, using(crate::proofs::Marks::mark_by_place, crate::proofs::Fewer::at_most_one_read))]
+fn mark_of(tables: &Tables, rail: &Timeline, place: usize, steps: &mut Steps) -> bool
+    requires { place < length rail.now.touches }
+    ensures value { result ≡ mark_in (starts tables.now rail.now.touches) place }
+    ensures steps { steps.new ≤ steps.old + 4 }
+{
+    let Some(tap) = rail.at(place, steps) else {
+        return true;
+    };
+    let farther = second_before(rail, place, steps);
+    let nearer = rail.before(place, steps);
+    let next = rail.after(place, steps);
+    pay_links::starts_at(tables, &farther, &nearer, &tap, &next)
+}
+
+/// Marks the taps around a place again, once a tap was put in or taken out there.
+pub(crate) fn mark_again(
+    tables: &Tables,
+    rail: &Timeline,
+    marks: &mut [bool],
+    place: usize,
+    steps: &mut Steps,
+)
+    requires { AreMarkedElsewhere tables.now rail.now.touches place marks.old }
+    ensures marks { marks.new ≡ starts tables.now rail.now.touches }
+    ensures steps { steps.new ≤ steps.old + 16 }
+{
+    let end = place.saturating_add(3).min(marks.len());
+    for at in place.saturating_sub(1)..end {
+        marks[at] = mark_of(tables, rail, at, steps);
+    }
+}
+
+/// Adds a tap, where there is one. An `Err` is out of memory.
+fn add_tap(taps: &mut Vec<Touch>, tap: Option<Touch>) -> Result<(), AllocError>
+    ensures { OnOk result (taps.new.items ≡ taps.old.items ++ at_most_one tap) }
+{
+    if let Some(tap) = tap {
+        taps.push(tap)?;
+    }
+    Ok(())
+}
+
+/// The taps of a stretch, without the one that disturbs it, with room for that. An `Err` is out of
+/// memory.
+fn taps_of_stretch(
+    alloc: Global,
+    rail: &Timeline,
+    place: usize,
+    is_there: bool,
+    stretch: &Stretch,
+    steps: &mut Steps,
+) -> Result<Vec<Touch>, AllocError>
+    requires { stretch.now.from ≤ stretch.now.to }
+    ensures taps { IfOk result (λ taps. taps.items ≡ taps_in stretch.now.from stretch.now.to (fewer_of is_there place rail.now.touches)) }
+    ensures steps { steps.new ≤ steps.old + (stretch.now.to - stretch.now.from) }
+{
+    let mut taps = Vec::with_capacity(alloc, (stretch.to - stretch.from).saturating_add(1))?;
+    for at in stretch.from..stretch.to {
+        add_tap(&mut taps, tap_at(rail, place, is_there, at, steps))?;
+    }
+    Ok(taps)
+}
+
+/// The journeys by rail of taps in order. An `Err` is out of memory.
+fn journeys_of(alloc: Global, tables: &Tables, taps: &[Touch]) -> Result<Vec<Journey>, AllocError>
+    ensures { IfOk result (λ list. list.items ≡ journeys tables.now (legs tables.now taps.now)) }
+{
+    let parts = pay_pairs::legs(alloc, tables, taps)?;
+    pay_links::journeys(alloc, tables, &parts)
+}
+
+/// The journeys that a rail tap changes as it enters, or as it leaves where it is there: what they are
+/// without it and with it. All others stay as they are. An `Err` is out of memory.
+pub(crate) fn disturbed_by(
+    alloc: Global,
+    tables: &Tables,
+    rail: &Timeline,
+    marks: &[bool],
+    touch: &Touch,
+    is_there: bool,
+    steps: &mut Steps,
+) -> Result<Disturbed, AllocError>
+    requires there { is_there ≡ true → slice_get rail.now.touches (place_of touch.now rail.now.touches) ≡ Some touch.now }
+    requires marked { marks.now ≡ starts tables.now rail.now.touches }
+    ensures disturbed { IfOk result (λ d. IsDisturbedBy tables.now rail.now.touches touch.now is_there d.fewer.items d.more.items) }
+    ensures few { IfOk result (λ d. (length d.fewer.items ≤ 4) × (length d.more.items ≤ 5)) }
+    ensures steps { IfOk result (λ d. steps.new ≤ steps.old + 6 + length (flat_map taps_of_journey d.fewer.items)) }
+{
+    pay_links::laws::starts_are_local();
+    pay_links::laws::each_tap();
+    pay_links::laws::cut();
+    let place = rail.place(touch);
+    let stretch = stretch_around(tables, rail, marks, touch, place, is_there, steps);
+    let mut taps = taps_of_stretch(alloc, rail, place, is_there, &stretch, steps)?;
+    let fewer = journeys_of(alloc, tables, &taps)?;
+    taps.insert(place - stretch.from, *touch)?;
+    let more = journeys_of(alloc, tables, &taps)?;
+    Ok(Disturbed { fewer, more })
+}
