@@ -18,7 +18,8 @@ use Rattle.pay_links.specs.declared.journey.Journey.{Journey}
 use Rattle.pay_links.specs.declared.journey.Journey.TheVariants as journey
 use Rattle.pay_book.specs.Boardings.{boarding, boarded, is_paying, marks_of, marked}
 use Rattle.pay_book.specs.Days.{Days, AreKept, AreSums, CanReplace}
-use Rattle.pay_book.specs.Kept.{all_journeys}
+use Rattle.pay_book.specs.Kept.{all_journeys, IsRight, AreAsBefore}
+use Rattle.pay_book.specs.declared.kept.Kept.{Kept}
 use Rattle.pay_book.specs.Rail.{AreMarkedElsewhere}
 use Rattle.pay_book.proofs.Marks.{as_many, marked_with_one_more, marked_with_one_fewer}
 
@@ -194,3 +195,15 @@ removed_there given marks base place its is same at = is ∙ ap (λ (l : List Bo
 
 pub fits_there : (given base : List Bool) (place its : ℕ) (list listed : List Journey) → given ≡ base → place ≡ its → listed ≡ list → its + length list ≤ length base → place + length listed ≤ length given
 fits_there given base place its list listed same at listed_same fits = omega (arith, ap length same, at, ap length listed_same, fits)
+
+-- ---- what is kept, where taps and marks are as before
+
+pub right_stays : (tables : FareTables) (before now : Kept) → AreAsBefore before now → ((list : List Journey) → AreSums tables before.days.entries list → AreSums tables now.days.entries list)
+    → IsRight tables before → IsRight tables now
+right_stays tables before now same sums right = record {
+  starts = same.starts ∙ right.starts ∙ ap (starts tables) (sym same.rail);
+  pays = same.pays ∙ right.pays ∙ ap (marks_by_last tables.rules.hopper None) (sym same.buses);
+  sums =
+      subst (λ (l : List Touch). AreSums tables now.days.entries (all_journeys tables l now.buses.touches)) (sym same.rail)
+      (subst (λ (l : List Touch). AreSums tables now.days.entries (all_journeys tables before.rail.touches l)) (sym same.buses) (sums _ right.sums));
+}

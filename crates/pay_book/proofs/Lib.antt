@@ -12,3 +12,4 @@ pub mod Stretches
 pub mod Between
 pub mod FewJourneys
 pub mod Keeping
+pub mod Changing

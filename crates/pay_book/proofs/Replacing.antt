@@ -93,3 +93,7 @@ pub kept_then : (tables : FareTables) (days last : Days) (left old new right : L
 kept_then tables days last left old new right are kept stay =
     kept_still days last (left ++ new ++ right) stay
     (kept_both days (left ++ new) right (kept_both days left new (kept_front days left old (kept_front days (left ++ old) right are.kept)) kept) (kept_back days (left ++ old) right are.kept))
+
+-- days of which more sums are kept, and the same, are right for the same journeys
+pub sums_stay : (before now : Days) → ((day : ℕ) → sums_on now day ≡ sums_on before day) → StayKept before now → (tables : FareTables) (list : List Journey) → AreSums tables before list → AreSums tables now list
+sums_stay before now same stay tables list are = record { kept = kept_still before now list stay are.kept; sums = λ day. same day ∙ are.sums day }

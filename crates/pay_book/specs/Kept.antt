@@ -1,15 +1,28 @@
 -- What is kept of an account beside what it has accepted, and when that is right.
-use Rattle.std.specs.Prelude.{◌≡◌, ◌≤◌, ◌<◌, List, ◌++◌, None}
+use Rattle.std.specs.Prelude.{◌≡◌, ◌+◌, ◌≤◌, ◌<◌, ⊤, Bool, true, false, if◌then◌else◌, List, ◌∷◌, ◌++◌, length, filter, slice_get, Some, None}
+use Rattle.std.specs.List.{remove}
 use Rattle.std.specs.Vec.{vec_capacity, vec_len}
 use Rattle.pay_tables.specs.Words.{FareTables}
 use Rattle.pay_taps.specs.declared.tap.Touch.{Touch}
+use Rattle.pay_taps.specs.Words.{place_of, put_in, AreTimed, HaveOwnNumbers}
+use Rattle.pay_fix.specs.Words.{IsChanged}
+use Rattle.pay_fix.specs.declared.change.Change.{Change}
+use Rattle.pay_fix.specs.declared.change.Change.TheVariants.{Nothing, Enters, Leaves}
+use Rattle.pay_fix.specs.declared.limits.TheConstants.{MOST_TOUCHES}
 use Rattle.pay_hopper.specs.Words.{marks_by_last}
 use Rattle.pay_pairs.specs.Words.{legs}
 use Rattle.pay_links.specs.Words.{journeys, starts}
 use Rattle.pay_links.specs.declared.journey.Journey.{Journey}
-use Rattle.pay_book.specs.Boardings.{boarded}
-use Rattle.pay_book.specs.Days.{AreSums}
+use Rattle.pay_account.specs.Journeys.{is_bus, is_rail}
+use Rattle.pay_book.specs.Boardings.{boarded, fewer_of}
+use Rattle.pay_book.specs.Boardings.{IsDisturbed as AreDisturbed}
+use Rattle.pay_book.specs.Days.{AreKept, AreSums}
+use Rattle.pay_book.specs.Rail.{IsDisturbedBy}
+use Rattle.pay_book.specs.declared.boardings.Boardings.{Boardings}
 use Rattle.pay_book.specs.declared.kept.Kept.{Kept}
+use Rattle.pay_book.specs.declared.kept.Repair.{Repair}
+use Rattle.pay_book.specs.declared.kept.Repair.TheVariants as repair
+use Rattle.pay_book.specs.declared.rail.Disturbed.{Disturbed}
 
 -- the journeys of rail taps and of bus taps, each in order
 abbrev pub all_journeys : FareTables → List Touch → List Touch → List Journey
@@ -34,3 +47,69 @@ pub record AreAsBefore (before after : Kept) : Type 0 where
   pub starts : after.starts.items ≡ before.starts.items
   pub buses : after.buses.touches ≡ before.buses.touches
   pub pays : after.pays.items ≡ before.pays.items
+
+-- ---- what a command changes
+
+-- taps of one kind, by rail or on buses, after a change: one of that kind more or less
+abbrev pub taps_after : (Touch → Bool) → Change → List Touch → List Touch
+taps_after is_kind Nothing taps = taps
+taps_after is_kind (Enters touch) taps = if is_kind touch then put_in touch taps else taps
+taps_after is_kind (Leaves touch) taps = if is_kind touch then remove taps (place_of touch taps) else taps
+
+-- a change of taps of one kind that can be: one enters whose number none has, or one leaves that is there
+abbrev pub IsPossibleFor : (Touch → Bool) → Change → List Touch → Type 0
+IsPossibleFor is_kind Nothing taps = ⊤
+IsPossibleFor is_kind (Enters touch) taps = is_kind touch ≡ true → HaveOwnNumbers (touch ∷ taps)
+IsPossibleFor is_kind (Leaves touch) taps = is_kind touch ≡ true → slice_get taps (place_of touch taps) ≡ Some touch
+
+-- and of all taps, of which there are never too many
+pub record IsPossible (kept : Kept) (change : Change) : Type 0 where
+  pub rail : IsPossibleFor is_rail change kept.rail.touches
+  pub buses : IsPossibleFor is_bus change kept.buses.touches
+  pub few : length kept.rail.touches + length kept.buses.touches ≤ MOST_TOUCHES
+  pub few_then : length (taps_after is_rail change kept.rail.touches) + length (taps_after is_bus change kept.buses.touches) ≤ MOST_TOUCHES
+
+-- what a tap by rail disturbs as it enters or leaves, with room for it; sums are kept of the days of the journeys that there are then
+pub record IsPreparedByRail (tables : FareTables) (kept : Kept) (touch : Touch) (is_there : Bool) (found : Disturbed) : Type 0 where
+  pub kind : is_bus touch ≡ false
+  pub room : HasRoom kept
+  pub disturbed : IsDisturbedBy tables kept.rail.touches touch is_there found.fewer.items found.more.items
+  pub opened : AreKept kept.days.entries (if is_there then found.fewer.items else found.more.items)
+
+-- and one on a bus
+pub record IsPreparedOnBus (tables : FareTables) (kept : Kept) (touch : Touch) (is_there : Bool) (found : Boardings) : Type 0 where
+  pub kind : is_bus touch ≡ true
+  pub room : HasRoom kept
+  pub disturbed : AreDisturbed tables.rules.hopper (fewer_of is_there (place_of touch kept.buses.touches) kept.buses.touches) touch found.fewer.items found.more.items
+  pub opened : AreKept kept.days.entries (if is_there then found.fewer.items else found.more.items)
+  pub within : place_of touch kept.buses.touches ≤ length kept.pays.items
+  pub inside : is_there ≡ true → place_of touch kept.buses.touches < length kept.pays.items
+
+abbrev pub IsPreparedFor : FareTables → Kept → Touch → Bool → Repair → Type 0
+IsPreparedFor tables kept touch is_there repair.Nothing = ⊥
+IsPreparedFor tables kept touch is_there (repair.Rail found) = IsPreparedByRail tables kept touch is_there found
+IsPreparedFor tables kept touch is_there (repair.Bus found) = IsPreparedOnBus tables kept touch is_there found
+
+-- what a change disturbs
+abbrev pub IsPrepared : FareTables → Kept → Change → Repair → Type 0
+IsPrepared tables kept Nothing repair = ⊤
+IsPrepared tables kept (Enters touch) repair = IsPreparedFor tables kept touch false repair
+IsPrepared tables kept (Leaves touch) repair = IsPreparedFor tables kept touch true repair
+
+-- what is kept is that of these effective taps
+pub record IsKeptOf (tables : FareTables) (touches : List Touch) (kept : Kept) : Type 0 where
+  pub right : IsRight tables kept
+  pub rail : kept.rail.touches ≡ filter is_rail touches
+  pub buses : kept.buses.touches ≡ filter is_bus touches
+
+-- ---- laws
+
+-- effective taps of one kind after a change are what that change makes of those before it
+abbrev pub ChangesEachKind : Type 0
+ChangesEachKind = (is_kind : Touch → Bool) (change : Change) (before after : List Touch) → AreTimed before → AreTimed after → IsChanged change before after
+    → filter is_kind after ≡ taps_after is_kind change (filter is_kind before)
+
+-- and the change can be
+abbrev pub ChangesArePossible : Type 0
+ChangesArePossible = (is_kind : Touch → Bool) (change : Change) (before after : List Touch) → AreTimed before → AreTimed after → IsChanged change before after
+    → IsPossibleFor is_kind change (filter is_kind before)

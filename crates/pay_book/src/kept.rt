@@ -1,21 +1,27 @@
 //! What is kept of an account beside what it has accepted: its effective taps in order with a mark each, and the sums of its days.
-ghost use Rattle.std.specs.Prelude.{◌≡◌, ◌≤◌, ◌<◌, ◌+◌, ◌∷◌, length, Some, slice_get, OnOk, OnErr, IfOk};
+ghost use Rattle.std.specs.Prelude.{◌≡◌, ◌≤◌, ◌<◌, ◌+◌, [], ◌∷◌, List, length, true, false, if◌then◌else◌, Some, slice_get, OnOk, IfOk};
 ghost use Rattle.std.specs.List.{insert, remove};
 ghost use Rattle.std.specs.Vec.{vec_capacity, vec_len};
 ghost use Rattle.pay_fix.specs.declared.limits.TheConstants.{MOST_TOUCHES};
 ghost use Rattle.pay_taps.specs.Words.{place_of, put_in, HaveOwnNumbers};
-ghost use Rattle.pay_book.specs.Boardings.{IsDisturbed as AreDisturbed};
+ghost use Rattle.pay_tables.specs.Words.{FareTables};
+ghost use Rattle.pay_links.specs.declared.journey.Journey.{Journey};
+ghost use Rattle.pay_book.specs.Boardings.{IsDisturbed as AreDisturbed, fewer_of};
 ghost use Rattle.pay_book.specs.Days.{AreKept};
-ghost use Rattle.pay_book.specs.Kept.{IsRight, HasRoom, AreAsBefore};
-ghost use Rattle.pay_book.specs.Rail.{IsDisturbed};
+ghost use Rattle.pay_fix.specs.declared.change.Change.TheVariants as Change;
+ghost use Rattle.pay_account.specs.Journeys.{is_bus, is_rail};
+ghost use Rattle.pay_book.specs.Kept.{IsRight, IsKeptOf, HasRoom, AreAsBefore, IsPossible, IsPrepared, IsPreparedFor, taps_after};
+ghost use Rattle.pay_book.specs.Rail.{IsDisturbed, IsDisturbedBy};
 
 use crate::boardings::Boardings;
 use crate::rail::Disturbed;
 use crate::{boardings, days, laws, rail};
 use pay_caps::Cells;
+use pay_fix::Change;
+use pay_links::Journey;
 use pay_tables::Tables;
-use pay_taps::{Steps, Timeline, Touch};
-use std::alloc::AllocError;
+use pay_taps::{Kind, Steps, Timeline, Touch};
+use std::alloc::{AllocError, Global};
 use std::collections::BTreeMap;
 
 /// The effective taps of an account by rail, with a mark where a journey starts, and those on buses, with a mark where one pays; and
@@ -27,6 +33,17 @@ pub(crate) struct Kept {
     pub(crate) buses: Timeline,
     pub(crate) pays: Vec<bool>,
     pub(crate) days: BTreeMap<u32, Cells>,
+}
+
+/// What a tap that enters or leaves disturbs.
+#[derive(Drop)]
+pub(crate) enum Repair {
+    /// None does.
+    Nothing,
+    /// A tap by rail, which changes these journeys.
+    Rail(Disturbed),
+    /// A tap on a bus, which changes these boardings.
+    Bus(Boardings),
 }
 
 /// Puts in a mark, for which there is room.
@@ -41,17 +58,114 @@ fn insert_mark(marks: &mut Vec<bool>, place: usize, mark: bool)
     }
 }
 
+/// The journeys that there are next: those without a tap where it was there, and else those with it.
+fn pick<'a>(fewer: &'a [Journey], more: &'a [Journey], is_there: bool) -> &'a [Journey]
+    ensures { result.now ≡ (if is_there then fewer.now else more.now) }
+{
+    if is_there { fewer } else { more }
+}
+
 impl Kept {
+    /// What is kept of an account that has no effective taps.
+    pub(crate) fn new(alloc: Global) -> Kept
+        ensures { (tables : FareTables) → IsKeptOf tables [] result }
+    {
+        pay_caps::laws::sums();
+        Kept {
+            rail: Timeline::new(alloc),
+            starts: Vec::new(alloc),
+            buses: Timeline::new(alloc),
+            pays: Vec::new(alloc),
+            days: BTreeMap::new(alloc),
+        }
+    }
+
     /// Makes room for a tap more. An `Err` is out of memory.
     fn reserve(&mut self) -> Result<(), AllocError>
         ensures same { AreAsBefore self.old self.new }
-        ensures days { self.new.days ≡ self.old.days }
+        ensures right { (tables : FareTables) → IsRight tables self.old → IsRight tables self.new }
         ensures room { OnOk result (HasRoom self.new) }
     {
         self.rail.reserve()?;
         self.starts.reserve(1)?;
         self.buses.reserve()?;
         self.pays.reserve(1)
+    }
+
+    /// Finds the journeys that a rail tap disturbs as it enters, or as it leaves where it is there, and makes room for it and for the
+    /// sums of their days. Nothing changes that is told. An `Err` is out of memory.
+    fn prepare_rail(
+        &mut self,
+        alloc: Global,
+        tables: &Tables,
+        touch: &Touch,
+        is_there: bool,
+        steps: &mut Steps,
+    ) -> Result<Disturbed, AllocError>
+        requires right { IsRight tables.now self.old }
+        requires there { is_there ≡ true → slice_get self.old.rail.touches (place_of touch.now self.old.rail.touches) ≡ Some touch.now }
+        ensures same { AreAsBefore self.old self.new }
+        ensures right { IsRight tables.now self.new }
+        ensures room { OnOk result (HasRoom self.new) }
+        ensures opened { IfOk result (λ found. AreKept self.new.days.entries (if is_there then found.fewer.items else found.more.items)) }
+        ensures disturbed { IfOk result (λ found. IsDisturbedBy tables.now self.old.rail.touches touch.now is_there found.fewer.items found.more.items) }
+    {
+        self.reserve()?;
+        let found = rail::disturbed_by(
+            alloc,
+            tables,
+            &self.rail,
+            &self.starts,
+            touch,
+            is_there,
+            steps,
+        )?;
+        self.open(pick(&found.fewer, &found.more, is_there))?;
+        Ok(found)
+    }
+
+    /// The same of a bus tap, and the boardings that it disturbs.
+    fn prepare_bus(
+        &mut self,
+        alloc: Global,
+        tables: &Tables,
+        touch: &Touch,
+        is_there: bool,
+        steps: &mut Steps,
+    ) -> Result<Boardings, AllocError>
+        requires right { IsRight tables.now self.old }
+        requires there { is_there ≡ true → slice_get self.old.buses.touches (place_of touch.now self.old.buses.touches) ≡ Some touch.now }
+        ensures same { AreAsBefore self.old self.new }
+        ensures right { IsRight tables.now self.new }
+        ensures room { OnOk result (HasRoom self.new) }
+        ensures opened { IfOk result (λ found. AreKept self.new.days.entries (if is_there then found.fewer.items else found.more.items)) }
+        ensures within { OnOk result (place_of touch.now self.old.buses.touches ≤ length self.new.pays.items) }
+        ensures inside { OnOk result (is_there ≡ true → place_of touch.now self.old.buses.touches < length self.new.pays.items) }
+        ensures disturbed { let fewer = fewer_of is_there (place_of touch.now self.old.buses.touches) self.old.buses.touches in
+            IfOk result (λ found. AreDisturbed tables.now.rules.hopper fewer touch.now found.fewer.items found.more.items) }
+    {
+        self.reserve()?;
+        let found = boardings::disturbed(
+            alloc,
+            tables,
+            &self.buses,
+            &self.pays,
+            touch,
+            is_there,
+            steps,
+        )?;
+        self.open(pick(&found.fewer, &found.more, is_there))?;
+        Ok(found)
+    }
+
+    /// Keeps sums of the days of these journeys, and changes none. An `Err` is out of memory.
+    fn open(&mut self, journeys: &[Journey]) -> Result<(), AllocError>
+        ensures same { AreAsBefore self.old self.new }
+        ensures room { HasRoom self.old → HasRoom self.new }
+        ensures right { (tables : FareTables) → IsRight tables self.old → IsRight tables self.new }
+        ensures opened { OnOk result (AreKept self.new.days.entries journeys.now) }
+    {
+        days::open_all(&mut self.days, journeys)
     }
 
     /// Puts in a rail tap, which disturbs these journeys.
@@ -134,5 +248,105 @@ impl Kept {
         self.pays.remove(place);
         boardings::mark(&mut self.pays, place, &found.fewer);
         days::replace(&mut self.days, tables, &found.more, &found.fewer);
+    }
+
+    /// What a tap disturbs that enters, or that leaves where it is there.
+    fn prepare_tap(
+        &mut self,
+        alloc: Global,
+        tables: &Tables,
+        touch: &Touch,
+        is_there: bool,
+        steps: &mut Steps,
+    ) -> Result<Repair, AllocError>
+        requires right { IsRight tables.now self.old }
+        requires rail { is_bus touch.now ≡ false → is_there ≡ true → slice_get self.old.rail.touches (place_of touch.now self.old.rail.touches) ≡ Some touch.now }
+        requires buses { is_bus touch.now ≡ true → is_there ≡ true → slice_get self.old.buses.touches (place_of touch.now self.old.buses.touches) ≡ Some touch.now }
+        ensures same { AreAsBefore self.old self.new }
+        ensures right { IsRight tables.now self.new }
+        ensures prepared { IfOk result (λ repair. IsPreparedFor tables.now self.new touch.now is_there repair) }
+    {
+        if touch.kind == Kind::Bus {
+            let found = self.prepare_bus(alloc, tables, touch, is_there, steps)?;
+            return Ok(Repair::Bus(found));
+        }
+        let found = self.prepare_rail(alloc, tables, touch, is_there, steps)?;
+        Ok(Repair::Rail(found))
+    }
+
+    /// Puts in a tap, for which all is prepared. It takes no memory.
+    fn enter(&mut self, tables: &Tables, touch: &Touch, repair: &Repair, steps: &mut Steps)
+        requires right { IsRight tables.now self.old }
+        requires possible { IsPossible self.old (Change.Enters touch.now) }
+        requires prepared { IsPreparedFor tables.now self.old touch.now false repair.now }
+        ensures right { IsRight tables.now self.new }
+        ensures rail { self.new.rail.touches ≡ taps_after is_rail (Change.Enters touch.now) self.old.rail.touches }
+        ensures buses { self.new.buses.touches ≡ taps_after is_bus (Change.Enters touch.now) self.old.buses.touches }
+    {
+        pay_taps::laws::places();
+        match repair {
+            Repair::Nothing => {}
+            Repair::Rail(found) => self.enter_rail(tables, *touch, found, steps),
+            Repair::Bus(found) => self.enter_bus(tables, *touch, found),
+        }
+    }
+
+    /// Takes out a tap, for which all is prepared. It takes no memory.
+    fn leave(&mut self, tables: &Tables, touch: &Touch, repair: &Repair, steps: &mut Steps)
+        requires right { IsRight tables.now self.old }
+        requires possible { IsPossible self.old (Change.Leaves touch.now) }
+        requires prepared { IsPreparedFor tables.now self.old touch.now true repair.now }
+        ensures right { IsRight tables.now self.new }
+        ensures rail { self.new.rail.touches ≡ taps_after is_rail (Change.Leaves touch.now) self.old.rail.touches }
+        ensures buses { self.new.buses.touches ≡ taps_after is_bus (Change.Leaves touch.now) self.old.buses.touches }
+    {
+        match repair {
+            Repair::Nothing => {}
+            Repair::Rail(found) => self.leave_rail(tables, touch, found, steps),
+            Repair::Bus(found) => self.leave_bus(tables, touch, found),
+        }
+    }
+
+    /// Finds what a change disturbs, and makes all that it needs. Nothing changes that is told. An `Err` is out of memory.
+    pub(crate) fn prepare(
+        &mut self,
+        alloc: Global,
+        tables: &Tables,
+        change: &Change,
+        steps: &mut Steps,
+    ) -> Result<Repair, AllocError>
+        requires right { IsRight tables.now self.old }
+        requires possible { IsPossible self.old change.now }
+        ensures same { AreAsBefore self.old self.new }
+        ensures right { IsRight tables.now self.new }
+        ensures prepared { IfOk result (λ repair. IsPrepared tables.now self.new change.now repair) }
+    {
+        match change {
+            Change::Nothing => Ok(Repair::Nothing),
+            Change::Enters(touch) => self.prepare_tap(alloc, tables, touch, false, steps),
+            Change::Leaves(touch) => self.prepare_tap(alloc, tables, touch, true, steps),
+        }
+    }
+
+    /// Makes a change, for which all is prepared. It takes no memory.
+    pub(crate) fn apply(
+        &mut self,
+        tables: &Tables,
+        change: &Change,
+        repair: &Repair,
+        steps: &mut Steps,
+    )
+        requires right { IsRight tables.now self.old }
+        requires possible { IsPossible self.old change.now }
+        requires prepared { IsPrepared tables.now self.old change.now repair.now }
+        ensures right { IsRight tables.now self.new }
+        ensures rail { self.new.rail.touches ≡ taps_after is_rail change.now self.old.rail.touches }
+        ensures buses { self.new.buses.touches ≡ taps_after is_bus change.now self.old.buses.touches }
+    {
+        match change {
+            Change::Nothing => {}
+            Change::Enters(touch) => self.enter(tables, touch, repair, steps),
+            Change::Leaves(touch) => self.leave(tables, touch, repair, steps),
+        }
     }
 }
