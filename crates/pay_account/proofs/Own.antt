@@ -1,8 +1,11 @@
 -- What an account has accepted is its own.
-use Rattle.std.proofs.Common.{◌≡◌, ℕ, None, List, [], ◌∷◌, ◌++◌, length, map, ap, sym, ◌∙◌, subst, arith}
+use Rattle.std.proofs.Common.{◌≡◌, ℕ, None, Result, Ok, Err, List, [], ◌∷◌, ◌++◌, length, map, ap, sym, ◌∙◌, subst, arith}
 use Rattle.std.specs.FinMap as set_map
 use Rattle.std.specs.List.{AllByRecursion}
-use Rattle.pay_numbered.specs.Words.{ByNumber, number_cmp}
+use Rattle.pay_numbered.specs.declared.numbered_set.Addition.{Addition}
+use Rattle.pay_numbered.specs.declared.numbered_set.Addition.TheVariants.{Added, Repeat}
+use Rattle.pay_numbered.specs.declared.numbered_set.AdditionFault.{AdditionFault}
+use Rattle.pay_numbered.specs.Words.{ByNumber, number_cmp, set_after}
 use Rattle.pay_taps.specs.declared.tap.Tap.{Tap}
 use Rattle.pay_taps.specs.Words.{Taps, number as tap_number}
 use Rattle.pay_fix.specs.declared.fix.Fix.{Fix}
@@ -46,3 +49,21 @@ fix_is_own account taps fixes more fix among none is own before = record {
   own_taps = before.own_taps;
   own_fixes = subst (λ (those : Fixes). AreFixesOf account (set_map.values those)) (sym is) (all_and_one (λ (f : Fix). f.account ≡ account) fixes (set_map.insert fixes (fix_number fix) fix) fix (among none) own before.own_fixes);
 }
+
+-- ---- whatever came of an addition
+
+pub own_after_tap : (account : ℕ) (taps more : Taps) (fixes : Fixes) (tap : Tap) (result : Result Addition AdditionFault)
+    → (set_map.get taps (tap_number tap) ≡ None → (before : List Tap) × (after : List Tap) × (set_map.values taps ≡ before ++ after) × (set_map.values (set_map.insert taps (tap_number tap) tap) ≡ before ++ tap ∷ after))
+    → set_map.get taps (tap_number tap) ≡ None → more ≡ set_after tap_number result taps tap → tap.account ≡ account → AreOwn account (record { taps = taps; fixes = fixes })
+    → AreOwn account (record { taps = more; fixes = fixes })
+own_after_tap account taps more fixes tap (Ok Added) among none is own before = tap_is_own account taps more fixes tap among none is own before
+own_after_tap account taps more fixes tap (Ok Repeat) among none is own before = subst (λ (those : Taps). AreOwn account (record { taps = those; fixes = fixes })) (sym is) before
+own_after_tap account taps more fixes tap (Err fault) among none is own before = subst (λ (those : Taps). AreOwn account (record { taps = those; fixes = fixes })) (sym is) before
+
+pub own_after_fix : (account : ℕ) (taps : Taps) (fixes more : Fixes) (fix : Fix) (result : Result Addition AdditionFault)
+    → (set_map.get fixes (fix_number fix) ≡ None → (before : List Fix) × (after : List Fix) × (set_map.values fixes ≡ before ++ after) × (set_map.values (set_map.insert fixes (fix_number fix) fix) ≡ before ++ fix ∷ after))
+    → set_map.get fixes (fix_number fix) ≡ None → more ≡ set_after fix_number result fixes fix → fix.account ≡ account → AreOwn account (record { taps = taps; fixes = fixes })
+    → AreOwn account (record { taps = taps; fixes = more })
+own_after_fix account taps fixes more fix (Ok Added) among none is own before = fix_is_own account taps fixes more fix among none is own before
+own_after_fix account taps fixes more fix (Ok Repeat) among none is own before = subst (λ (those : Fixes). AreOwn account (record { taps = taps; fixes = those })) (sym is) before
+own_after_fix account taps fixes more fix (Err fault) among none is own before = subst (λ (those : Fixes). AreOwn account (record { taps = taps; fixes = those })) (sym is) before

@@ -1,10 +1,14 @@
-ghost use Rattle.std.specs.Prelude.{◌≡◌, ◌+◌, ◌≤◌, IfOk};
+ghost use Rattle.std.specs.Prelude.{◌≡◌, ◌+◌, ◌≤◌, true, Ok, Err, IfOk, IfErr, OnOk, OnErr};
+ghost use Rattle.pay_numbered.specs.declared.numbered_set.Addition.TheVariants as Addition;
 ghost use Rattle.pay_taps.specs.declared.limits.TheConstants.{MOST_TAPS};
+ghost use Rattle.pay_taps.specs.Words.{judged};
 ghost use Rattle.pay_fix.specs.declared.limits.TheConstants.{MOST_FIXES};
+ghost use Rattle.pay_fix.specs.Words.{judged as judged_fix};
 ghost use Rattle.pay_day.specs.Words.{IsDay};
-ghost use Rattle.pay_quotes.specs.Accepted.{version};
+ghost use Rattle.pay_quotes.specs.Accepted.{version, with_tap, with_fix};
 ghost use Rattle.pay_account.specs.Prices.{prices};
-ghost use Rattle.pay_account.specs.FixResults.{prices_named};
+ghost use Rattle.pay_account.specs.TapResults.{tap_added, tap_result};
+ghost use Rattle.pay_account.specs.FixResults.{prices_named, fix_added, fix_result};
 
 use crate::fares::{Fares, FixFault, TapFault};
 use crate::journeys::journeys_of;
@@ -57,6 +61,76 @@ impl Account {
         ensures in_range { result ≤ MOST_TAPS + MOST_FIXES }
     {
         self.taps.len() + self.fixes.len()
+    }
+
+    /// The accepted taps.
+    pub fn taps(&self) -> &TapSet
+        ensures { result.now ≡ self.now.1.taps }
+    {
+        &self.taps
+    }
+
+    /// The accepted corrections.
+    pub fn fixes(&self) -> &FixSet
+        ensures { result.now ≡ self.now.1.fixes }
+    {
+        &self.fixes
+    }
+
+    /// What comes of a tap where memory suffices: it is to be accepted, it is a repeat, or it is refused.
+    pub fn judge_tap(&self, tables: &Tables, tap: &Tap) -> Result<Addition, TapFault>
+        ensures judged { IfOk result (λ it. judged self.now.1.taps tap.now ≡ Ok it) }
+        ensures priced { IfOk result (λ it. tap_result tables.now self.now.1 tap.now ≡ tap_added tables.now self.now.1 tap.now (Ok it)) }
+        ensures refused { IfErr result (λ fault. tap_result tables.now self.now.1 tap.now ≡ Err fault) }
+    {
+        if !is_known(tables, tap.place, tap.kind) {
+            return Err(TapFault::UnknownPlace);
+        }
+        Ok(self.taps.judge(tap)?)
+    }
+
+    /// Accepts a tap that is judged to be accepted, and prices nothing. An `Err` is out of memory.
+    pub fn accept_tap(&mut self, tap: Tap) -> Result<(), AllocError>
+        requires own { tap.account ≡ self.old.0 }
+        requires judged { judged self.old.1.taps tap ≡ Ok Addition.Added }
+        ensures same_account { self.new.0 ≡ self.old.0 }
+        ensures accepted { OnOk result (self.new.1 ≡ with_tap self.old.1 tap) }
+        ensures same { OnErr result (self.new.1 ≡ self.old.1) }
+    {
+        pay_numbered::laws::judgements::<Tap>();
+        pay_numbered::laws::one_more::<Tap>();
+        match self.taps.add(tap) {
+            Ok(_) => Ok(()),
+            Err(_) => Err(AllocError),
+        }
+    }
+
+    /// What comes of a correction where memory suffices.
+    pub fn judge_fix(&self, tables: &Tables, fix: &Fix) -> Result<Addition, FixFault>
+        ensures judged { IfOk result (λ it. judged_fix self.now.1.fixes fix.now ≡ Ok it) }
+        ensures priced { IfOk result (λ it. fix_result tables.now self.now.1 fix.now ≡ fix_added tables.now self.now.1 fix.now (Ok it)) }
+        ensures refused { IfErr result (λ fault. fix_result tables.now self.now.1 fix.now ≡ Err fault) }
+    {
+        if !is_known_fix(tables, &fix.what) {
+            return Err(FixFault::UnknownPlace);
+        }
+        Ok(self.fixes.judge(fix)?)
+    }
+
+    /// Accepts a correction that is judged to be accepted, and prices nothing. An `Err` is out of memory.
+    pub fn accept_fix(&mut self, fix: Fix) -> Result<(), AllocError>
+        requires own { fix.account ≡ self.old.0 }
+        requires judged { judged_fix self.old.1.fixes fix ≡ Ok Addition.Added }
+        ensures same_account { self.new.0 ≡ self.old.0 }
+        ensures accepted { OnOk result (self.new.1 ≡ with_fix self.old.1 fix) }
+        ensures same { OnErr result (self.new.1 ≡ self.old.1) }
+    {
+        pay_numbered::laws::judgements::<Fix>();
+        pay_numbered::laws::one_more::<Fix>();
+        match self.fixes.add(fix) {
+            Ok(_) => Ok(()),
+            Err(_) => Err(AllocError),
+        }
     }
 
     /// The prices of a day and its week.

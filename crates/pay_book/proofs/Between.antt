@@ -7,7 +7,8 @@ use Rattle.pay_taps.specs.Words.{put_in, place_of, PutInAtPlace}
 use Rattle.pay_pairs.specs.Words.{FareTables, Touch, legs}
 use Rattle.pay_links.specs.Words.{journeys, starts, MarksAreCut, JourneysAreCut}
 use Rattle.pay_links.specs.declared.journey.Journey.{Journey}
-use Rattle.pay_book.specs.Rail.{mark_in, taps_in, at_most_one, IsCut, IsStretch, IsDisturbed, fewer_of}
+use Rattle.pay_book.specs.Rail.{mark_in, taps_in, at_most_one, IsCut, IsStretch, IsDisturbed}
+use Rattle.pay_book.specs.Fewer.{fewer_of}
 use Rattle.pay_book.proofs.Marks.{as_many, put_back}
 
 -- ---- taps from one place up to before another

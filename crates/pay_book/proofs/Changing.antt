@@ -1,32 +1,14 @@
 -- What a change makes of the effective taps of one kind.
 use Rattle.std.proofs.Common.{◌≡◌, Bool, true, false, cond, Some, List, [], ◌∷◌, filter, slice_get, refl, sym, ap, ◌∙◌, subst}
-use Rattle.std.specs.List.{AllByRecursion, IsDistinct, remove}
+use Rattle.std.specs.List.{remove}
 use Rattle.pay_fix.specs.declared.change.Change.TheVariants.{Nothing, Enters, Leaves}
 use Rattle.pay_taps.specs.declared.tap.Touch.{Touch}
-use Rattle.pay_taps.specs.Order.{same_number}
-use Rattle.pay_taps.specs.Words.{place_of, put_in, AreTimed, HaveOwnNumbers, StandsAtPlace, TakenOutAtPlace, SomeWithOneMore}
+use Rattle.pay_taps.specs.Words.{place_of, put_in, AreTimed, StandsAtPlace, TakenOutAtPlace, SomeWithOneMore, OwnNumberAmongSome}
 use Rattle.pay_book.specs.Kept.{ChangesEachKind, ChangesArePossible}
-
--- ---- numbers of some
-
-all_of_some : (P : Touch → Type 0) (p : Touch → Bool) (list : List Touch) → AllByRecursion P list → AllByRecursion P (filter p list)
-all_of_some P p [] h = tt
-all_of_some P p (o ∷ os) h = elim (p o) as (λ b. AllByRecursion P (cond b (o ∷ filter p os) (filter p os))) [ true ↦ (h.0, all_of_some P p os h.1) | false ↦ all_of_some P p os h.1 ]
-
-own_of_some : (p : Touch → Bool) (list : List Touch) → HaveOwnNumbers list → HaveOwnNumbers (filter p list)
-unfolding IsDistinct
-own_of_some p [] h = tt
-own_of_some p (o ∷ os) h = elim (p o) as (λ b. HaveOwnNumbers (cond b (o ∷ filter p os) (filter p os))) [
-  | true ↦ (all_of_some (λ y. same_number o y ≡ false) p os h.0, own_of_some p os h.1)
-  | false ↦ own_of_some p os h.1
-]
-
-own_with_some : (p : Touch → Bool) (touch : Touch) (list : List Touch) → p touch ≡ true → HaveOwnNumbers (touch ∷ list) → HaveOwnNumbers (touch ∷ filter p list)
-own_with_some p touch list is h = subst (λ b. HaveOwnNumbers (cond b (touch ∷ filter p list) (filter p list))) is (own_of_some p (touch ∷ list) h)
 
 -- ---- a touch of the kind
 
-module _ (stands : StandsAtPlace) (taken_out : TakenOutAtPlace) (some : SomeWithOneMore) where
+module _ (stands : StandsAtPlace) (taken_out : TakenOutAtPlace) (some : SomeWithOneMore) (own : OwnNumberAmongSome) where
   -- those that there are with a touch of the kind
   with_it : (p : Touch → Bool) (touch : Touch) (fewer more : List Touch) → p touch ≡ true → AreTimed fewer → more ≡ put_in touch fewer → filter p more ≡ put_in touch (filter p fewer)
   with_it p touch fewer more is timed e = ap (filter p) e ∙ some p touch fewer timed.in_order ∙ ap (λ b. cond b (put_in touch (filter p fewer)) (filter p fewer)) is
@@ -48,7 +30,7 @@ module _ (stands : StandsAtPlace) (taken_out : TakenOutAtPlace) (some : SomeWith
 
   pub possible : ChangesArePossible
   possible p Nothing before after timed then e = tt
-  possible p (Enters touch) before after timed then e = λ is. own_with_some p touch before is e.own_numbers
+  possible p (Enters touch) before after timed then e = λ is. own p touch before e.own_numbers
   possible p (Leaves touch) before after timed then e = λ is.
       let more = with_it p touch after before is then e.in_place in
       subst (λ (l : List Touch). slice_get l (place_of touch l) ≡ Some touch) (sym more)

@@ -9,7 +9,6 @@ use Rattle.std.proofs.lemmas.Slice.Zip.{length-zip}
 use Rattle.pay_fix.specs.declared.limits.TheConstants.{MOST_TOUCHES}
 use Rattle.pay_tables.specs.Words.{FareTables}
 use Rattle.pay_taps.specs.declared.tap.Touch.{Touch}
-use Rattle.pay_taps.specs.Order.{comes_before}
 use Rattle.pay_taps.specs.Words.{place_of, put_in, PutInAtPlace}
 use Rattle.pay_hopper.specs.Words.{marks_by_last}
 use Rattle.pay_pairs.specs.Words.{legs}
@@ -21,7 +20,7 @@ use Rattle.pay_book.specs.Days.{Days, AreKept, AreSums, CanReplace}
 use Rattle.pay_book.specs.Kept.{all_journeys, IsRight, AreAsBefore}
 use Rattle.pay_book.specs.declared.kept.Kept.{Kept}
 use Rattle.pay_book.specs.Rail.{AreMarkedElsewhere}
-use Rattle.pay_book.proofs.Marks.{as_many, marked_with_one_more, marked_with_one_fewer}
+use Rattle.pay_book.proofs.Marks.{as_many, marked_once_in, marked_once_out}
 
 -- ---- how many journeys there are
 
@@ -69,28 +68,17 @@ rail_can_be_replaced law tables fewer more buses old new left right days with_it
 
 -- ---- a touch more
 
-place_within : (touch : Touch) (touches : List Touch) → place_of touch touches ≤ length touches
-place_within touch [] = omega arith
-place_within touch (other ∷ others) = elim (comes_before other touch) as (λ b. cond b (suc (place_of touch others)) 0 ≤ suc (length others)) [
-  | true ↦ let rest = place_within touch others in omega arith
-  | false ↦ omega arith
-]
-
-pub place_in_marks : (tables : FareTables) (touch : Touch) (touches : List Touch) (place : ℕ) (marks : List Bool) → place ≡ place_of touch touches → marks ≡ starts tables touches → place ≤ length marks
-place_in_marks tables touch touches place marks is are = omega (arith, is, ap length are, as_many tables None None touches, place_within touch touches)
+pub place_in_marks : (tables : FareTables) (touches : List Touch) (place : ℕ) (marks : List Bool) → place ≤ length touches → marks ≡ starts tables touches → place ≤ length marks
+place_in_marks tables touches place marks within are = omega (arith, within, ap length are, as_many tables None None touches)
 
 -- the length of touches with one more
-pub one_longer : PutInAtPlace → (touch : Touch) (touches : List Touch) → length (put_in touch touches) ≡ length touches + 1
-one_longer law touch touches = ap length (law touch touches) ∙ length-insert touches (place_of touch touches) touch (place_within touch touches)
+pub one_longer : PutInAtPlace → (touch : Touch) (touches : List Touch) (place : ℕ) → place ≡ place_of touch touches → place ≤ length touches → length (put_in touch touches) ≡ length touches + 1
+one_longer law touch touches place is within = ap length (law touch touches) ∙ length-insert touches (place_of touch touches) touch (omega (arith, is, within))
 
-pub entered_marks : PutInAtPlace → (tables : FareTables) (rail now : List Touch) (touch : Touch) (place : ℕ) (old marks : List Bool) → now ≡ put_in touch rail → place ≡ place_of touch rail → old ≡ starts tables rail
-    → marks ≡ insert old place true → AreMarkedElsewhere tables now place marks
-entered_marks law tables rail now touch place old marks after is were are =
-    let taps : now ≡ insert rail place touch = after ∙ law touch rail ∙ ap (λ (n : ℕ). insert rail n touch) (sym is) in
-    let written : marks ≡ insert (starts tables rail) place true = are ∙ ap (λ (l : List Bool). insert l place true) were in
-    let within : place ≤ length rail = omega (arith, is, place_within touch rail) in
-    subst (AreMarkedElsewhere tables now place) (sym written)
-    (subst (λ (l : List Touch). AreMarkedElsewhere tables l place (insert (starts tables rail) place true)) (sym taps) (marked_with_one_more tables rail place touch true within))
+pub entered_marks : PutInAtPlace → (tables : FareTables) (rail now : List Touch) (touch : Touch) (place : ℕ) (old marks : List Bool) → now ≡ put_in touch rail → place ≡ place_of touch rail → place ≤ length rail
+    → old ≡ starts tables rail → marks ≡ insert old place true → AreMarkedElsewhere tables now place marks
+entered_marks law tables rail now touch place old marks after is within were are =
+    marked_once_in law tables rail now touch place true marks after is within (are ∙ ap (λ (l : List Bool). insert l place true) were)
 
 -- ---- sums, before and after
 
@@ -119,10 +107,7 @@ all_written tables touches n marks given rest are as_long many =
 pub left_marks : (tables : FareTables) (rail now : List Touch) (touch : Touch) (place : ℕ) (old marks : List Bool) → now ≡ remove rail place → slice_get rail (place_of touch rail) ≡ Some touch → place ≡ place_of touch rail
     → old ≡ starts tables rail → marks ≡ remove old place → AreMarkedElsewhere tables now place marks
 left_marks tables rail now touch place old marks after there is were are =
-    let written : marks ≡ remove (starts tables rail) place = are ∙ ap (λ (l : List Bool). remove l place) were in
-    let stands : slice_get rail place ≡ Some touch = ap (slice_get rail) is ∙ there in
-    subst (AreMarkedElsewhere tables now place) (sym written)
-    (subst (λ (l : List Touch). AreMarkedElsewhere tables l place (remove (starts tables rail) place)) (sym after) (marked_with_one_fewer tables rail place touch stands))
+    marked_once_out tables rail now touch place marks after (ap (slice_get rail) is ∙ there) (are ∙ ap (λ (l : List Bool). remove l place) were)
 
 pub place_below_marks : (tables : FareTables) (rail : List Touch) (touch : Touch) (place : ℕ) (marks : List Bool) → slice_get rail (place_of touch rail) ≡ Some touch → place ≡ place_of touch rail → marks ≡ starts tables rail → place < length marks
 place_below_marks tables rail touch place marks there is are =

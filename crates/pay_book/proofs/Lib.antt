@@ -4,7 +4,6 @@ pub mod Weeks
 pub mod Boarded
 pub mod KeptMarks
 pub mod LastPaid
-pub mod PlacesAgain
 pub mod Written
 pub mod Marks
 pub mod Fewer

@@ -9,7 +9,8 @@ use Rattle.pay_taps.specs.Words.{touch_before}
 use Rattle.pay_pairs.specs.Words.{FareTables, Touch}
 use Rattle.pay_links.specs.Words.{starts}
 use Rattle.pay_book.specs.declared.stretch.Around.{Around}
-use Rattle.pay_book.specs.Rail.{second_before, starts_if_there, starts_in, mark_in, IsCut, IsAround, IsPlaced, IsFirstPlace, IsLastPlace, IsStretch, StandsThere, fewer_of, starts_at_it, starts_before_it, starts_behind_it, starts_further}
+use Rattle.pay_book.specs.Rail.{second_before, starts_if_there, starts_in, mark_in, IsCut, IsAround, IsPlaced, IsFirstPlace, IsLastPlace, IsStretch, StandsThere, starts_at_it, starts_before_it, starts_behind_it, starts_further}
+use Rattle.pay_book.specs.Fewer.{fewer_of}
 use Rattle.pay_book.proofs.Marks.{as_many, put_back, before_same, behind_same, it_stands, mark_by_place, marks_before, marks_behind_it}
 
 -- where a journey starts the taps are cut

@@ -21,10 +21,6 @@ boarded_after hopper last taps = map boarding (zip taps (marks_by_last hopper la
 abbrev pub boarded : ℕ → List Touch → List Journey
 boarded hopper taps = boarded_after hopper None taps
 
--- the touches without the one at a place, if that is there
-abbrev pub fewer_of : Bool → ℕ → List Touch → List Touch
-fewer_of is_there place touches = if is_there then remove touches place else touches
-
 -- whether a journey is a boarding that pays
 abbrev pub is_paying : Journey → Bool
 is_paying (journey.Bus tap pays) = pays
@@ -82,16 +78,6 @@ RoomWithoutIt = (hopper : ℕ) (touches : List Touch) (touch : Touch) (fewer mor
     → slice_get touches (place_of touch touches) ≡ Some touch → IsDisturbed hopper (remove touches (place_of touch touches)) touch fewer more
     → place_of touch touches + length fewer ≤ length (remove (marks_by_last hopper None touches) (place_of touch touches))
 
--- the place of a touch is the same once it is taken out
-abbrev pub PlaceWithoutIt : Type 0
-PlaceWithoutIt = (touch : Touch) (touches : List Touch) → AreTimed touches → slice_get touches (place_of touch touches) ≡ Some touch
-    → place_of touch (remove touches (place_of touch touches)) ≡ place_of touch touches
-
--- and all is as before where it is put in again
-abbrev pub PutInAgain : Type 0
-PutInAgain = (touch : Touch) (touches : List Touch) → AreTimed touches → slice_get touches (place_of touch touches) ≡ Some touch
-    → put_in touch (remove touches (place_of touch touches)) ≡ touches
-
 -- ---- worked rows: boardings on Monday 2024-01-08, so many seconds after 07:00
 
 bus_tap : ℕ → Touch
@@ -124,15 +110,6 @@ one_twice = refl
 none_twice : any_pays_twice (journey.Bus (bus_tap 4000) true ∷ journey.Bus (bus_tap 7300) false ∷ []) (journey.Bus (bus_tap 4000) false ∷ journey.Bus (bus_tap 7300) true ∷ []) ≡ false
 unfolding bus_tap
 none_twice = refl
-
--- where the tap is there, all but it
-one_fewer : fewer_of true 1 (map bus_tap (0 ∷ 3601 ∷ 4000 ∷ [])) ≡ map bus_tap (0 ∷ 4000 ∷ [])
-unfolding bus_tap
-one_fewer = refl
-
-none_fewer : fewer_of false 1 (map bus_tap (0 ∷ 4000 ∷ [])) ≡ map bus_tap (0 ∷ 4000 ∷ [])
-unfolding bus_tap
-none_fewer = refl
 
 -- two marks from the second place on
 two_marked : marked (true ∷ true ∷ false ∷ true ∷ []) 1 (journey.Bus (bus_tap 4000) false ∷ journey.Bus (bus_tap 7300) true ∷ []) ≡ true ∷ false ∷ true ∷ true ∷ []

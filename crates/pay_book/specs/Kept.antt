@@ -14,7 +14,8 @@ use Rattle.pay_pairs.specs.Words.{legs}
 use Rattle.pay_links.specs.Words.{journeys, starts}
 use Rattle.pay_links.specs.declared.journey.Journey.{Journey}
 use Rattle.pay_account.specs.Journeys.{is_bus, is_rail}
-use Rattle.pay_book.specs.Boardings.{boarded, fewer_of}
+use Rattle.pay_book.specs.Boardings.{boarded}
+use Rattle.pay_book.specs.Fewer.{fewer_of}
 use Rattle.pay_book.specs.Boardings.{IsDisturbed as AreDisturbed}
 use Rattle.pay_book.specs.Days.{AreKept, AreSums}
 use Rattle.pay_book.specs.Rail.{IsDisturbedBy}

@@ -1,3 +1,4 @@
+pub mod Fewer
 pub mod Days
 pub mod Boardings
 pub mod Stretches

@@ -6,6 +6,7 @@ use Rattle.pay_pairs.specs.Words.{FareTables, Touch, legs}
 use Rattle.pay_pairs.specs.Words.kind_variants.{Out}
 use Rattle.pay_links.specs.Words.{journeys, starts_at, starts, AreApart}
 use Rattle.pay_links.specs.declared.journey.Journey.{Journey}
+use Rattle.pay_book.specs.Fewer.{fewer_of}
 use Rattle.pay_book.specs.declared.stretch.Around.{Around}
 
 -- ---- marks by their places
@@ -39,10 +40,6 @@ pub record AreMarkedElsewhere (tables : FareTables) (taps : List Touch) (place :
   pub behind : (other : ℕ) → place + 2 < other → mark_in marks other ≡ mark_in (starts tables taps) other
 
 -- ---- the stretch that a tap disturbs
-
--- the taps without one that is there at its place, or that is not among them
-abbrev pub fewer_of : Bool → ℕ → List Touch → List Touch
-fewer_of is_there place taps = if is_there then remove taps place else taps
 
 -- a tap stands at a place of the taps where it is there, and else may be put in there
 abbrev pub StandsThere : Bool → ℕ → Touch → List Touch → Type 0

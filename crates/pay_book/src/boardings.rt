@@ -3,7 +3,8 @@ ghost use Rattle.std.specs.Option.{option_map};
 ghost use Rattle.pay_taps.specs.declared.tap.Touch.{Touch};
 ghost use Rattle.pay_taps.specs.Words.{place_of, AreTimed};
 ghost use Rattle.pay_hopper.specs.Words.{pays_by_last, marks_by_last, last_paid_over};
-ghost use Rattle.pay_book.specs.Boardings.{boarding, boarded_after, fewer_of, IsDisturbed, is_paying, marked};
+ghost use Rattle.pay_book.specs.Boardings.{boarding, boarded_after, IsDisturbed, is_paying, marked};
+ghost use Rattle.pay_book.specs.Fewer.{fewer_of};
 ghost use Rattle.pay_book.specs.Stretches.{with_later, Meet, HaveGoneOn};
 
 use pay_day::Moment;

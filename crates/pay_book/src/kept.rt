@@ -6,7 +6,8 @@ ghost use Rattle.pay_fix.specs.declared.limits.TheConstants.{MOST_TOUCHES};
 ghost use Rattle.pay_taps.specs.Words.{place_of, put_in, HaveOwnNumbers};
 ghost use Rattle.pay_tables.specs.Words.{FareTables};
 ghost use Rattle.pay_links.specs.declared.journey.Journey.{Journey};
-ghost use Rattle.pay_book.specs.Boardings.{IsDisturbed as AreDisturbed, fewer_of};
+ghost use Rattle.pay_book.specs.Boardings.{IsDisturbed as AreDisturbed};
+ghost use Rattle.pay_book.specs.Fewer.{fewer_of};
 ghost use Rattle.pay_book.specs.Days.{AreKept};
 ghost use Rattle.pay_fix.specs.declared.change.Change.TheVariants as Change;
 ghost use Rattle.pay_account.specs.Journeys.{is_bus, is_rail};
@@ -242,7 +243,7 @@ impl Kept {
     {
         pay_links::laws::each_tap();
         laws::kept_marks();
-        laws::place_kept();
+        pay_taps::laws::places();
         self.buses.len();
         let place = self.buses.remove(touch);
         self.pays.remove(place);

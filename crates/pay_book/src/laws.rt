@@ -1,6 +1,6 @@
 //! Laws of the boardings that are kept. Each is the contract of a function that does nothing: a caller whose proof needs a
 //! law calls its function.
-ghost use Rattle.pay_book.specs.Boardings.{BoardedByAll, MarkedWithIt, MarkedWithoutIt, RoomWithIt, RoomWithoutIt, PlaceWithoutIt, PutInAgain};
+ghost use Rattle.pay_book.specs.Boardings.{BoardedByAll, MarkedWithIt, MarkedWithoutIt, RoomWithIt, RoomWithoutIt};
 ghost use Rattle.pay_book.specs.Kept.{ChangesEachKind, ChangesArePossible};
 
 /// Boardings by the last one that paid are those by the Hopper rule.
@@ -20,18 +20,11 @@ pub(crate) fn kept_marks()
     pay_taps::laws::places();
 }
 
-/// A tap that is taken out of its place belongs there still.
-pub(crate) fn place_kept()
-    ensures place { PlaceWithoutIt }
-    ensures put_in { PutInAgain }
-{
-    pay_taps::laws::places();
-}
-
 /// What a change makes of an account's effective taps it makes of those by rail and of those on buses.
 pub(crate) fn changes()
     ensures each_kind { ChangesEachKind }
     ensures possible { ChangesArePossible }
 {
     pay_taps::laws::places();
+    pay_taps::laws::timed();
 }

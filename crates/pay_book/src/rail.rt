@@ -4,7 +4,8 @@ ghost use Rattle.std.specs.List.{flat_map};
 ghost use Rattle.pay_taps.specs.Words.{place_of};
 ghost use Rattle.pay_pairs.specs.Words.{legs};
 ghost use Rattle.pay_links.specs.Words.{starts, journeys, taps_of_journey};
-ghost use Rattle.pay_book.specs.Rail.{second_before, mark_in, AreMarkedElsewhere, fewer_of, taps_in, at_most_one, IsDisturbedBy};
+ghost use Rattle.pay_book.specs.Rail.{second_before, mark_in, AreMarkedElsewhere, taps_in, at_most_one, IsDisturbedBy};
+ghost use Rattle.pay_book.specs.Fewer.{fewer_of};
 
 use crate::stretch::{Stretch, stretch_around, tap_at};
 use pay_links::Journey;

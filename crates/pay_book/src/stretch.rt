@@ -3,7 +3,8 @@ ghost use Rattle.std.specs.Prelude.{◌≡◌, ◌≤◌, ◌<◌, ◌+◌, ◌-
 ghost use Rattle.pay_taps.specs.Words.{touch_before};
 ghost use Rattle.pay_pairs.specs.Words.{Touch};
 ghost use Rattle.pay_links.specs.Words.{starts};
-ghost use Rattle.pay_book.specs.Rail.{second_before, third_before, fewer_of, mark_in, starts_if_there};
+ghost use Rattle.pay_book.specs.Rail.{second_before, third_before, mark_in, starts_if_there};
+ghost use Rattle.pay_book.specs.Fewer.{fewer_of};
 ghost use Rattle.pay_book.specs.Rail.{IsAround, starts_at_it, starts_before_it, starts_behind_it, starts_further};
 ghost use Rattle.pay_book.specs.Rail.{IsPlaced, IsFirstPlace, IsLastPlace, IsStretch, StandsThere};
 

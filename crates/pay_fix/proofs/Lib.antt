@@ -6,3 +6,4 @@ pub mod Becomes
 pub mod Further
 pub mod Withdrawn
 pub mod Changed
+pub mod Few

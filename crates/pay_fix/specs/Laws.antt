@@ -1,12 +1,12 @@
 -- What is so of every account's taps and corrections.
-use Rattle.std.specs.Prelude.{◌≡◌, ℕ, false, None}
+use Rattle.std.specs.Prelude.{◌≡◌, ◌≤◌, ℕ, false, None, length}
 use Rattle.std.specs.FinMap.{get, insert, values}
 use Rattle.pay_numbered.specs.Words.{IsNumbered}
 use Rattle.pay_taps.specs.declared.limits.TheConstants.{MOST_TAPS}
 use Rattle.pay_taps.specs.declared.tap.Tap.{Tap}
 use Rattle.pay_taps.specs.Words.{Taps, HaveOwnNumbers, IsInOrder}
 use Rattle.pay_taps.specs.Words.{number as tap_number}
-use Rattle.pay_fix.specs.declared.limits.TheConstants.{MOST_FIXES}
+use Rattle.pay_fix.specs.declared.limits.TheConstants.{MOST_FIXES, MOST_TOUCHES}
 use Rattle.pay_fix.specs.declared.fix.Fix.{Fix}
 use Rattle.pay_fix.specs.declared.fix.What.TheVariants.{Void, Credit, Drop}
 use Rattle.pay_fix.specs.Credits.{CreditOf}
@@ -45,6 +45,11 @@ EffectiveHaveOwnNumbers = (taps : Taps) (fixes : Fixes) → IsNumbered tap_numbe
 -- and are in order
 abbrev pub EffectiveAreInOrder : Type 0
 EffectiveAreInOrder = (taps : Taps) (fixes : Fixes) → IsInOrder (effective taps fixes)
+
+-- and there are never too many
+abbrev pub EffectiveAreFew : Type 0
+EffectiveAreFew = (taps : Taps) (fixes : Fixes) → IsNumbered tap_number MOST_TAPS taps → IsNumbered number MOST_FIXES fixes
+    → length (effective taps fixes) ≤ MOST_TOUCHES
 
 -- a further tap changes the effective taps as `change_by_tap` says
 abbrev pub TapChanges : Type 0

@@ -1,6 +1,6 @@
 //! What is true of corrections themselves. Each law is the contract of a function that does nothing: a caller
 //! whose proof needs a law calls its function.
-ghost use Rattle.pay_fix.specs.Laws.{VoidTakesOut, DropRestores, CreditChangesNoTap, EffectiveHaveOwnNumbers, EffectiveAreInOrder, TapChanges, FixChanges};
+ghost use Rattle.pay_fix.specs.Laws.{VoidTakesOut, DropRestores, CreditChangesNoTap, EffectiveHaveOwnNumbers, EffectiveAreInOrder, EffectiveAreFew, TapChanges, FixChanges};
 
 use crate::fix::Fix;
 use pay_taps::Tap;
@@ -29,10 +29,11 @@ pub fn credit_changes_no_tap()
     pay_numbered::laws::one_more::<Fix>();
 }
 
-/// Effective taps have numbers of their own, and are in order.
+/// Effective taps have numbers of their own, and are in order. There are at most as many as `MOST_TOUCHES`.
 pub fn own_numbers()
     ensures own_numbers { EffectiveHaveOwnNumbers }
     ensures in_order { EffectiveAreInOrder }
+    ensures few { EffectiveAreFew }
 {
     pay_taps::laws::order();
 }

@@ -1,3 +1,4 @@
 pub mod Sorting
 pub mod TouchOrder
 pub mod Places
+pub mod PlacesAgain

@@ -7,7 +7,7 @@ use Rattle.std.specs.Bool.{beq}
 use Rattle.std.proofs.lemmas.List.Sorted.{sorted_far}
 use Rattle.pay_taps.specs.declared.tap.Touch.{Touch}
 use Rattle.pay_taps.specs.Order.{comes_before, put_in, same_number, IsInOrder, HaveOwnNumbers}
-use Rattle.pay_taps.specs.Timelines.{AreTimed, place_of, PutInAtPlace, StandsAtPlace, TakenOutAtPlace, SomeWithOneMore}
+use Rattle.pay_taps.specs.Timelines.{AreTimed, place_of, PutInAtPlace, StandsAtPlace, TakenOutAtPlace, SomeWithOneMore, OwnNumberAmongSome}
 use Rattle.pay_taps.proofs.Sorting.{Rises, not_before_itself, rises_from_sorted, sorted_from_rises, rises_put, all_put}
 use Rattle.pay_taps.proofs.TouchOrder.{touches_ranked}
 
@@ -69,6 +69,10 @@ own_filter p (o ∷ os) h = elim (p o) as (λ b. HaveOwnNumbers (cond b (o ∷ f
   | true ↦ (all_filter (λ y. same_number o y ≡ false) p os h.0, own_filter p os h.1)
   | false ↦ own_filter p os h.1
 ]
+
+pub own_number_among_some : OwnNumberAmongSome
+unfolding IsDistinct
+own_number_among_some p t list h = (all_filter (λ y. same_number t y ≡ false) p list h.0, own_filter p list h.1)
 
 -- before all that it does not come after, a touch is put in front
 in_front : (t : Touch) (list : List Touch) → AllByRecursion (λ y. comes_before y t ≡ false) list → put_in t list ≡ t ∷ list

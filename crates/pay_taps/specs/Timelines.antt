@@ -50,10 +50,23 @@ StandsAtPlace = (touch : Touch) (touches : List Touch) →
 abbrev pub TakenOutAtPlace : Type 0
 TakenOutAtPlace = (touch : Touch) (touches : List Touch) → remove (put_in touch touches) (place_of touch touches) ≡ touches
 
+-- one that stands there keeps its place while it is taken out, and all is as before where it is put in again
+abbrev pub PlaceWithoutIt : Type 0
+PlaceWithoutIt = (touch : Touch) (touches : List Touch) → AreTimed touches → slice_get touches (place_of touch touches) ≡ Some touch
+    → place_of touch (remove touches (place_of touch touches)) ≡ place_of touch touches
+
+abbrev pub PutInAgain : Type 0
+PutInAgain = (touch : Touch) (touches : List Touch) → AreTimed touches → slice_get touches (place_of touch touches) ≡ Some touch
+    → put_in touch (remove touches (place_of touch touches)) ≡ touches
+
 -- some of the touches, once one is put in among all, are those with that one put in, if it is one of them
 abbrev pub SomeWithOneMore : Type 0
 SomeWithOneMore = (p : Touch → Bool) (touch : Touch) (touches : List Touch) → IsInOrder touches →
     filter p (put_in touch touches) ≡ (if p touch then put_in touch (filter p touches) else filter p touches)
+
+-- a touch with a number that none of the touches has, has one that none of some of them has
+abbrev pub OwnNumberAmongSome : Type 0
+OwnNumberAmongSome = (p : Touch → Bool) (touch : Touch) (touches : List Touch) → HaveOwnNumbers (touch ∷ touches) → HaveOwnNumbers (touch ∷ filter p touches)
 
 -- ---- worked rows: bus taps about 07:00 on 2024-01-08
 

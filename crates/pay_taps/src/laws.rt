@@ -4,7 +4,7 @@ ghost use Rattle.std.specs.Prelude.{◌≡◌, ◌∷◌, Bool, List, filter, Is
 ghost use Rattle.std.specs.List.Sorted.{IsStable};
 ghost use Rattle.pay_taps.specs.declared.tap.Touch.{Touch};
 ghost use Rattle.pay_taps.specs.Order.{touch_cmp, cmp_by, put_in, in_order, in_order_by, IsInOrder, HaveOwnNumbers};
-ghost use Rattle.pay_taps.specs.Timelines.{AreTimed, PutInAtPlace, StandsAtPlace, TakenOutAtPlace, SomeWithOneMore};
+ghost use Rattle.pay_taps.specs.Timelines.{AreTimed, PutInAtPlace, StandsAtPlace, TakenOutAtPlace, PlaceWithoutIt, PutInAgain, SomeWithOneMore, OwnNumberAmongSome};
 
 /// To put in order moves touches and does nothing else.
 pub fn order()
@@ -32,6 +32,8 @@ pub fn places()
     ensures put_in { PutInAtPlace }
     ensures stands { StandsAtPlace }
     ensures taken_out { TakenOutAtPlace }
+    ensures place_kept { PlaceWithoutIt }
+    ensures again { PutInAgain }
     ensures some { SomeWithOneMore }
 {}
 
@@ -39,4 +41,5 @@ pub fn places()
 pub fn timed()
     ensures some { (p : Touch → Bool) (touches : List Touch) → AreTimed touches → AreTimed (filter p touches) }
     ensures with_one_more { (touch : Touch) (touches : List Touch) → AreTimed touches → HaveOwnNumbers (touch ∷ touches) → AreTimed (put_in touch touches) }
+    ensures own_number { OwnNumberAmongSome }
 {}

@@ -92,6 +92,7 @@ impl Timeline {
         requires room { 1 ≤ self.old.room }
         requires own_number { HaveOwnNumbers (touch ∷ self.old.touches) }
         ensures place { result ≡ place_of touch self.old.touches }
+        ensures within { result ≤ length self.old.touches }
         ensures after { self.new.touches ≡ put_in touch self.old.touches }
     {
         let place = self.place(&touch);

@@ -5,6 +5,6 @@ pub returns : goal.returns
 returns c =
     let places = c.places.ensures in
     record {
-      each_kind = each_kind places.stands places.taken_out places.some;
-      possible = possible places.stands places.taken_out places.some;
+      each_kind = each_kind places.stands places.taken_out places.some c.timed.ensures.own_number;
+      possible = possible places.stands places.taken_out places.some c.timed.ensures.own_number;
     }

@@ -1,7 +1,7 @@
 use Rattle.std.proofs.Common.{◌∙◌, ap, arith}
 use Rattle.pay_pairs.specs.Words.{legs}
 use Rattle.pay_links.specs.Words.{journeys}
-use Rattle.pay_book.specs.Rail.{fewer_of}
+use Rattle.pay_book.specs.Fewer.{fewer_of}
 use Rattle.pay_book.proofs.Between.{finished}
 use Rattle.pay_book.proofs.FewJourneys.{few_finished, taps_finished}
 use Rattle.pay_book.proofs.rail.disturbed_by.Goals as goal

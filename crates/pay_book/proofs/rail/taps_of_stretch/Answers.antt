@@ -1,5 +1,5 @@
 use Rattle.std.proofs.Common.{arith, ◌≡◌, ◌∙◌, sym}
-use Rattle.pay_book.specs.Rail.{fewer_of}
+use Rattle.pay_book.specs.Fewer.{fewer_of}
 use Rattle.pay_book.proofs.Between.{none_in, grown, up_to}
 use Rattle.pay_book.proofs.rail.taps_of_stretch.Goals as goal
 

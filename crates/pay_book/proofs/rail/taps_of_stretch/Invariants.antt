@@ -1,5 +1,6 @@
 use Rattle.std.proofs.Common.{◌≡◌, ◌≤◌, ◌+◌, ◌-◌}
-use Rattle.pay_book.specs.Rail.{fewer_of, taps_in}
+use Rattle.pay_book.specs.Rail.{taps_in}
+use Rattle.pay_book.specs.Fewer.{fewer_of}
 use Rattle.pay_book.proofs.rail.taps_of_stretch.Given as goal
 
 abbrev pub invariant-loop-at : goal.invariant-loop-at

@@ -1,5 +1,5 @@
 use Rattle.pay_book.proofs.Stretches.{placed_by, place_within, from_to}
-use Rattle.pay_book.specs.Rail.{fewer_of}
+use Rattle.pay_book.specs.Fewer.{fewer_of}
 use Rattle.pay_book.proofs.stretch.stretch_around.Goals as goal
 
 pub first_place-requires : goal.first_place-requires

@@ -29,7 +29,7 @@ replace-requires c =
     let buses = c.args.self.now.buses.touches in
     let can =
     boardings_can_be_replaced c.each_tap.ensures tables c.args.self.now.rail.touches buses (put_in c.args.touch buses) found.fewer.items found.more.items c.requires.disturbed.left c.requires.disturbed.right days
-    c.requires.disturbed.with_it c.requires.disturbed.without_it c.requires.right.sums c.requires.kept (omega (arith, one_longer c.places.ensures.put_in c.args.touch buses, c.requires.few)) in
+    c.requires.disturbed.with_it c.requires.disturbed.without_it c.requires.right.sums c.requires.kept (omega (arith, one_longer c.places.ensures.put_in c.args.touch buses c.insert-place.result c.insert-place.ensures.place c.insert-place.ensures.within, c.requires.few)) in
     subst (λ old. CanReplace tables days old c.deref-3.result.now) (sym c.deref-2.ensures.value) (subst (λ new. CanReplace tables days found.fewer.items new) (sym c.deref-3.ensures.value) can)
 
 pub returns-clause-right : goal.returns-clause-right

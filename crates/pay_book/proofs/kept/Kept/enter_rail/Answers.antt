@@ -7,12 +7,12 @@ use Rattle.pay_book.proofs.kept.Kept.enter_rail.Goals as goal
 
 pub insert_mark-requires-clause-within : goal.insert_mark-requires-clause-within
 insert_mark-requires-clause-within c =
-    place_in_marks c.args.tables.now c.args.touch c.args.self.now.rail.touches c.insert-place.result c.args.self.now.starts.items c.insert-place.ensures.place c.requires.right.starts
+    place_in_marks c.args.tables.now c.args.self.now.rail.touches c.insert-place.result c.args.self.now.starts.items c.insert-place.ensures.within c.requires.right.starts
 
 pub mark_again-requires : goal.mark_again-requires
 mark_again-requires c =
     entered_marks c.places.ensures.put_in c.args.tables.now c.args.self.now.rail.touches c.insert-place.new.self.touches c.args.touch c.insert-place.result c.args.self.now.starts.items c.deref_mut.result.now
-    c.insert-place.ensures.after c.insert-place.ensures.place c.requires.right.starts (c.deref_mut.ensures.value ∙ c.insert_mark.ensures)
+    c.insert-place.ensures.after c.insert-place.ensures.place c.insert-place.ensures.within c.requires.right.starts (c.deref_mut.ensures.value ∙ c.insert_mark.ensures)
 
 pub replace-requires : goal.replace-requires
 replace-requires c =
@@ -22,7 +22,7 @@ replace-requires c =
     let rail = c.args.self.now.rail.touches in
     let can =
     rail_can_be_replaced c.each_tap.ensures tables rail (put_in c.args.touch rail) c.args.self.now.buses.touches found.fewer.items found.more.items c.requires.disturbed.before c.requires.disturbed.behind days
-    c.requires.disturbed.all_more c.requires.disturbed.all_fewer c.requires.right.sums c.requires.kept (omega (arith, one_longer c.places.ensures.put_in c.args.touch rail, c.requires.few)) in
+    c.requires.disturbed.all_more c.requires.disturbed.all_fewer c.requires.right.sums c.requires.kept (omega (arith, one_longer c.places.ensures.put_in c.args.touch rail c.insert-place.result c.insert-place.ensures.place c.insert-place.ensures.within, c.requires.few)) in
     subst (λ old. CanReplace tables days old c.deref-2.result.now) (sym c.deref.ensures.value) (subst (λ new. CanReplace tables days found.fewer.items new) (sym c.deref-2.ensures.value) can)
 
 pub returns-clause-right : goal.returns-clause-right
@@ -35,7 +35,7 @@ returns-clause-right c =
     let right = c.requires.disturbed.behind in
     let elsewhere =
     entered_marks c.places.ensures.put_in tables rail c.insert-place.new.self.touches c.args.touch c.insert-place.result c.args.self.now.starts.items c.deref_mut.result.now c.insert-place.ensures.after
-    c.insert-place.ensures.place c.requires.right.starts (c.deref_mut.ensures.value ∙ c.insert_mark.ensures) in
+    c.insert-place.ensures.place c.insert-place.ensures.within c.requires.right.starts (c.deref_mut.ensures.value ∙ c.insert_mark.ensures) in
     record {
       starts = all_written tables c.insert-place.new.self.touches _ c.mark_again.new.marks c.deref_mut.result.now _ c.mark_again.ensures.marks elsewhere.as_many c.deref_mut.ensures.len;
       pays = c.requires.right.pays;

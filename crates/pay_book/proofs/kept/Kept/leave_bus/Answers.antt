@@ -29,7 +29,7 @@ replace-requires c =
     let buses = c.args.self.now.buses.touches in
     let touch = c.args.touch.now in
     let fewer = remove buses (place_of touch buses) in
-    let again = ap (boarded hopper) (sym (c.place_kept.ensures.put_in touch buses c.len.ensures.timed c.requires.there)) ∙ c.requires.disturbed.with_it in
+    let again = ap (boarded hopper) (sym (c.places.ensures.again touch buses c.len.ensures.timed c.requires.there)) ∙ c.requires.disturbed.with_it in
     let can =
     boardings_can_be_replaced c.each_tap.ensures tables c.args.self.now.rail.touches buses fewer found.more.items found.fewer.items c.requires.disturbed.left c.requires.disturbed.right days
     c.requires.disturbed.without_it again c.requires.right.sums c.requires.kept (omega (arith, one_shorter touch buses (place_of touch buses) c.requires.there, c.requires.few)) in
@@ -48,7 +48,7 @@ returns-clause-right c =
     let found = c.args.found.now in
     let left = c.requires.disturbed.left in
     let right = c.requires.disturbed.right in
-    let again = ap (boarded hopper) (sym (c.place_kept.ensures.put_in touch buses c.len.ensures.timed c.requires.there)) ∙ c.requires.disturbed.with_it in
+    let again = ap (boarded hopper) (sym (c.places.ensures.again touch buses c.len.ensures.timed c.requires.there)) ∙ c.requires.disturbed.with_it in
     let given =
     c.deref_mut.ensures.value ∙ removed_there c.remove.new.self.items c.args.self.now.pays.items (marks_by_last hopper None buses) c.remove-place.result its c.remove.ensures.items c.requires.right.pays c.remove-place.ensures.place in
     let room = c.kept_marks.ensures.room_without_it hopper buses touch found.fewer.items found.more.items c.len.ensures.timed c.requires.there c.requires.disturbed in

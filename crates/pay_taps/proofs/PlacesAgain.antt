@@ -3,8 +3,10 @@ use Rattle.std.proofs.Common.{◌≡◌, ℕ, zero, suc, ◌+◌, ◌<◌, true,
 use Rattle.std.specs.List.{insert, remove}
 use Rattle.std.proofs.lemmas.Option.{slice_get_within, unwrap_or-slice_get}
 use Rattle.pay_taps.specs.declared.tap.Touch.{Touch}
-use Rattle.pay_taps.specs.Order.{comes_before}
-use Rattle.pay_taps.specs.Words.{put_in, place_of, IsInOrder, PutInAtPlace}
+use Rattle.pay_taps.specs.Order.{comes_before, put_in}
+use Rattle.pay_taps.specs.Timelines.{place_of, PlaceWithoutIt, PutInAgain}
+use Rattle.pay_taps.specs.Order.{IsInOrder}
+use Rattle.pay_taps.proofs.Places.{put_in_at_place}
 
 in_front : (t : Touch) (list : List Touch) → ((next : Touch) → slice_get list 0 ≡ Some next → comes_before next t ≡ false) → place_of t list ≡ 0
 in_front t [] h = refl
@@ -38,18 +40,16 @@ not_before t list n up here next e =
     let moved = subst (λ (k : ℕ). comes_before (get_or list k t) (get_or list n t) ≡ false) index less in
     subst (λ (a : Touch). comes_before a t ≡ false) other (subst (λ (b : Touch). comes_before (get_or list (suc n) t) b ≡ false) one moved)
 
-pub place_without : (t : Touch) (list : List Touch) → IsInOrder list → slice_get list (place_of t list) ≡ Some t
-    → place_of t (remove list (place_of t list)) ≡ place_of t list
-place_without t list up here = same_without t list (not_before t list (place_of t list) up here)
+pub place_without : PlaceWithoutIt
+place_without t list timed here = same_without t list (not_before t list (place_of t list) timed.in_order here)
 
 put_back_at : {X : Type 0} (list : List X) (n : ℕ) (x : X) → slice_get list n ≡ Some x → insert (remove list n) n x ≡ list
 put_back_at [] n x e = absurd (cc)
 put_back_at (o ∷ os) zero x e = cc
 put_back_at {X = X} (o ∷ os) (suc n) x e = ap (λ (l : List X). o ∷ l) (put_back_at os n x e)
 
-pub put_back : PutInAtPlace → (t : Touch) (list : List Touch) → IsInOrder list → slice_get list (place_of t list) ≡ Some t
-    → put_in t (remove list (place_of t list)) ≡ list
-put_back at_place t list up here =
-    at_place t (remove list (place_of t list))
-    ∙ ap (λ (n : ℕ). insert (remove list (place_of t list)) n t) (place_without t list up here)
+pub put_back : PutInAgain
+put_back t list timed here =
+    put_in_at_place t (remove list (place_of t list))
+    ∙ ap (λ (n : ℕ). insert (remove list (place_of t list)) n t) (place_without t list timed here)
     ∙ put_back_at list (place_of t list) t here
