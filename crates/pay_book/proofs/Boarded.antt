@@ -4,14 +4,13 @@ use Rattle.std.specs.List.{remove, zip}
 use Rattle.std.proofs.lemmas.List.{length-take, take-append-drop}
 use Rattle.pay_day.specs.Words.{Stamp}
 use Rattle.pay_taps.specs.declared.tap.Touch.{Touch}
-use Rattle.pay_taps.specs.Words.{put_in, place_of, IsInOrder, PutInAtPlace}
+use Rattle.pay_taps.specs.Words.{put_in, place_of, AreTimed, PutInAtPlace, PlaceWithoutIt, PutInAgain}
 use Rattle.pay_hopper.specs.Words.{pays_by_last, last_paid_after, last_paid_over, PayingTapsRestart}
 use Rattle.pay_links.specs.declared.journey.Journey.{Journey}
 use Rattle.pay_book.specs.Boardings.{boarding, boarded_after, boarded, is_paying, any_pays_twice, IsDisturbed}
 use Rattle.pay_book.specs.Fewer.{fewer_of}
 use Rattle.pay_book.specs.Stretches.{with_later, Meet, HaveGoneOn}
 use Rattle.pay_book.specs.declared.boardings.Stretch.{Stretch}
-use Rattle.pay_book.proofs.PlacesAgain.{place_without, put_back}
 
 pub boarded_in_stretches : (hopper : ℕ) (last : Option Stamp) (earlier later : List Touch)
     → boarded_after hopper last (earlier ++ later) ≡ boarded_after hopper last earlier ++ boarded_after hopper (last_paid_over hopper last earlier) later
@@ -135,24 +134,24 @@ one_further hopper old new taps place tap all e so_far more =
     so_far ∙ ap (with_later hopper old) (at_place taps place tap e) ∙ more (drop (suc place) taps) ∙ ap (λ (n : ℕ). with_later hopper new (drop n taps)) next
 
 -- what a touch disturbs at its place, whether it stands there or not
-pub disturbed_by : PutInAtPlace → (hopper : ℕ) (touches : List Touch) (touch : Touch) (is_there : Bool) (place first : ℕ) (old new : Stretch × Stretch)
-    → IsInOrder touches → (is_there ≡ true → slice_get touches (place_of touch touches) ≡ Some touch)
+pub disturbed_by : PutInAtPlace → PlaceWithoutIt → PutInAgain → (hopper : ℕ) (touches : List Touch) (touch : Touch) (is_there : Bool) (place first : ℕ) (old new : Stretch × Stretch)
+    → AreTimed touches → (is_there ≡ true → slice_get touches (place_of touch touches) ≡ Some touch)
     → place ≡ place_of touch touches → place ≤ length touches → first ≡ cond is_there (suc place) place → Meet hopper (drop first touches) old new
     → with_later hopper old.0 (drop first touches) ≡ boarded_after hopper (last_paid_over hopper None (take place touches)) (drop first touches)
     → with_later hopper old.1 (drop first touches) ≡ boarded_after hopper (last_paid_over hopper None (take place touches)) (touch ∷ drop first touches)
     → any_pays_twice new.0.boardings.items (drop 1 new.1.boardings.items) ≡ false
     → IsDisturbed hopper (fewer_of is_there (place_of touch touches) touches) touch new.0.boardings.items new.1.boardings.items
-disturbed_by put hopper touches touch true place first old new up there is_place within is_first m without with_it no_others =
+disturbed_by put place_without put_back hopper touches touch true place first old new up there is_place within is_first m without with_it no_others =
     let fewer = remove touches (place_of touch touches) in
     let parts : fewer ≡ take place touches ++ drop first touches = cc in
-    let again = put_back put touch touches up (there refl) in
+    let again = put_back touch touches up (there refl) in
     let same = place_without touch touches up (there refl) in
     let whole = take-append-drop (place_of touch touches) touches in
     let its = at_place touches (place_of touch touches) touch (there refl) in
     let more : put_in touch fewer ≡ take place touches ++ touch ∷ drop first touches = cc in
     let start : length (take place touches) ≡ place_of touch fewer = omega (arith, length-take place touches, same) in
     disturbed_is hopper (take place touches) (drop first touches) fewer touch old new m without with_it parts more start no_others
-disturbed_by put hopper touches touch false place first old new up there is_place within is_first m without with_it no_others =
+disturbed_by put place_without put_back hopper touches touch false place first old new up there is_place within is_first m without with_it no_others =
     let whole = take-append-drop place touches in
     let parts : touches ≡ take place touches ++ drop first touches = cc in
     let its = put touch touches in

@@ -1,10 +1,13 @@
 -- What a change makes of the effective taps of one kind.
-use Rattle.std.proofs.Common.{◌≡◌, Bool, true, false, cond, Some, List, [], ◌∷◌, filter, slice_get, refl, sym, ap, ◌∙◌, subst}
+use Rattle.std.proofs.Common.{◌≡◌, ◌≤◌, ◌<◌, ◌+◌, suc, Bool, true, false, not, cond, length, arith, Some, List, [], ◌∷◌, filter, slice_get, refl, sym, ap, ◌∙◌, subst}
 use Rattle.std.specs.List.{remove}
 use Rattle.pay_fix.specs.declared.change.Change.TheVariants.{Nothing, Enters, Leaves}
 use Rattle.pay_taps.specs.declared.tap.Touch.{Touch}
 use Rattle.pay_taps.specs.Words.{place_of, put_in, AreTimed, StandsAtPlace, TakenOutAtPlace, SomeWithOneMore, OwnNumberAmongSome}
-use Rattle.pay_book.specs.Kept.{ChangesEachKind, ChangesArePossible}
+use Rattle.pay_fix.specs.declared.limits.TheConstants.{MOST_TOUCHES}
+use Rattle.pay_account.specs.Journeys.{is_bus, is_rail}
+use Rattle.pay_book.specs.Kept.{taps_after, ChangesEachKind, ChangesArePossible}
+use Rattle.pay_book.proofs.KeptMarks.{one_more}
 
 -- ---- a touch of the kind
 
@@ -35,3 +38,19 @@ module _ (stands : StandsAtPlace) (taken_out : TakenOutAtPlace) (some : SomeWith
       let more = with_it p touch after before is then e.in_place in
       subst (λ (l : List Touch). slice_get l (place_of touch l) ≡ Some touch) (sym more)
       (ap (slice_get (put_in touch (filter p after))) (stands touch (filter p after)).0 ∙ (stands touch (filter p after)).1)
+
+-- ---- where one more is possible, there are fewer before
+
+pub room_for_rail : (touch : Touch) (rail buses : List Touch) → is_bus touch ≡ false → length (taps_after is_rail (Enters touch) rail) + length (taps_after is_bus (Enters touch) buses) ≤ MOST_TOUCHES
+    → length rail + length buses < MOST_TOUCHES
+room_for_rail touch rail buses kind few =
+    let longer : length (taps_after is_rail (Enters touch) rail) ≡ suc (length rail) = ap (λ b. length (cond (not b) (put_in touch rail) rail)) kind ∙ one_more touch rail in
+    let same : length (taps_after is_bus (Enters touch) buses) ≡ length buses = ap (λ b. length (cond b (put_in touch buses) buses)) kind in
+    omega (arith, longer, same, few)
+
+pub room_for_bus : (touch : Touch) (rail buses : List Touch) → is_bus touch ≡ true → length (taps_after is_rail (Enters touch) rail) + length (taps_after is_bus (Enters touch) buses) ≤ MOST_TOUCHES
+    → length rail + length buses < MOST_TOUCHES
+room_for_bus touch rail buses kind few =
+    let same : length (taps_after is_rail (Enters touch) rail) ≡ length rail = ap (λ b. length (cond (not b) (put_in touch rail) rail)) kind in
+    let longer : length (taps_after is_bus (Enters touch) buses) ≡ suc (length buses) = ap (λ b. length (cond b (put_in touch buses) buses)) kind ∙ one_more touch buses in
+    omega (arith, longer, same, few)

@@ -6,19 +6,18 @@ use Rattle.std.proofs.lemmas.List.Edits.{length-insert, length-remove}
 use Rattle.pay_day.specs.Words.{Stamp}
 use Rattle.pay_taps.specs.declared.tap.Touch.{Touch}
 use Rattle.pay_taps.specs.Order.{comes_before}
-use Rattle.pay_taps.specs.Words.{put_in, place_of, PutInAtPlace}
+use Rattle.pay_taps.specs.Words.{put_in, place_of, PlaceWithoutIt, PutInAgain}
 use Rattle.pay_hopper.specs.Words.{pays_by_last, last_paid_after, marks_by_last}
 use Rattle.pay_links.specs.declared.journey.Journey.{Journey}
 use Rattle.pay_book.specs.Boardings.{boarded_after, boarded, is_paying, marks_of, marked, IsDisturbed, MarkedWithIt, MarkedWithoutIt, RoomWithIt, RoomWithoutIt}
 use Rattle.pay_book.proofs.Boarded.{boarded_each}
 use Rattle.pay_book.proofs.LastPaid.{marks_each}
-use Rattle.pay_book.proofs.PlacesAgain.{place_without, put_back}
 
 marks_of_boarded : (hopper : ℕ) (last : Option Stamp) (taps : List Touch) → marks_of (boarded_after hopper last taps) ≡ marks_by_last hopper last taps
 marks_of_boarded hopper last [] = refl
 marks_of_boarded hopper last (tap ∷ taps) = ap (λ (l : List Bool). pays_by_last hopper last tap.stamp.utc ∷ l) (marks_of_boarded hopper (last_paid_after hopper last tap.stamp) taps)
 
-one_more : (t : Touch) (list : List Touch) → length (put_in t list) ≡ suc (length list)
+pub one_more : (t : Touch) (list : List Touch) → length (put_in t list) ≡ suc (length list)
 one_more t [] = refl
 one_more t (o ∷ os) = elim (comes_before o t) as (λ b. length (cond b (o ∷ put_in t os) (t ∷ o ∷ os)) ≡ suc (suc (length os))) [
   | true ↦ ap suc (one_more t os)
@@ -96,13 +95,13 @@ without hopper touches touch fewer more found =
     ∙ sym (in_three hopper touches found.left fewer found.right found.without_it)
 
 -- the touches that are held, in place of those without the one that leaves
-pub marked_without_it : PutInAtPlace → MarkedWithoutIt
-marked_without_it put hopper touches touch fewer more timed there found =
+pub marked_without_it : PlaceWithoutIt → PutInAgain → MarkedWithoutIt
+marked_without_it place_without put_back hopper touches touch fewer more timed there found =
     let left = remove touches (place_of touch touches) in
     subst (λ (place : ℕ). marked (remove (marks_by_last hopper None touches) place) place fewer ≡ marks_by_last hopper None left)
-    (place_without touch touches timed.in_order there)
+    (place_without touch touches timed there)
     (subst (λ (held : List Touch). marked (remove (marks_by_last hopper None held) (place_of touch left)) (place_of touch left) fewer ≡ marks_by_last hopper None left)
-    (put_back put touch touches timed.in_order there) (without hopper left touch fewer more found))
+    (put_back touch touches timed there) (without hopper left touch fewer more found))
 
 pub room_with_it : RoomWithIt
 room_with_it hopper touches touch fewer more found mark =
@@ -125,9 +124,9 @@ room_without hopper touches touch fewer more found =
     let within : place < length (marks_by_last hopper None (put_in touch touches)) = omega arith in
     omega (arith, length-remove (marks_by_last hopper None (put_in touch touches)) place within)
 
-pub room_without_it : PutInAtPlace → RoomWithoutIt
-room_without_it put hopper touches touch fewer more timed there found =
+pub room_without_it : PlaceWithoutIt → PutInAgain → RoomWithoutIt
+room_without_it place_without put_back hopper touches touch fewer more timed there found =
     let left = remove touches (place_of touch touches) in
-    subst (λ (place : ℕ). place + length fewer ≤ length (remove (marks_by_last hopper None touches) place)) (place_without touch touches timed.in_order there)
+    subst (λ (place : ℕ). place + length fewer ≤ length (remove (marks_by_last hopper None touches) place)) (place_without touch touches timed there)
     (subst (λ (held : List Touch). place_of touch left + length fewer ≤ length (remove (marks_by_last hopper None held) (place_of touch left)))
-    (put_back put touch touches timed.in_order there) (room_without hopper left touch fewer more found))
+    (put_back touch touches timed there) (room_without hopper left touch fewer more found))

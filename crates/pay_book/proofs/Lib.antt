@@ -12,3 +12,5 @@ pub mod Between
 pub mod FewJourneys
 pub mod Keeping
 pub mod Changing
+pub mod Accepting
+pub mod Stored

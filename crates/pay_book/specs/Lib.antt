@@ -4,3 +4,5 @@ pub mod Boardings
 pub mod Stretches
 pub mod Rail
 pub mod Kept
+pub mod Books
+pub mod Stored

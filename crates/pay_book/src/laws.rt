@@ -1,7 +1,14 @@
 //! Laws of the boardings that are kept. Each is the contract of a function that does nothing: a caller whose proof needs a
 //! law calls its function.
 ghost use Rattle.pay_book.specs.Boardings.{BoardedByAll, MarkedWithIt, MarkedWithoutIt, RoomWithIt, RoomWithoutIt};
+ghost use Rattle.std.specs.Prelude.{List, [], ◌≡◌};
+ghost use Rattle.pay_tables.specs.Words.{FareTables};
+ghost use Rattle.pay_book.specs.Books.{BookParts};
 ghost use Rattle.pay_book.specs.Kept.{ChangesEachKind, ChangesArePossible};
+ghost use Rattle.pay_book.specs.Stored.{IsKept, IsStored, TapIsChange, FixIsChange, ChangeIsPossible, ChangeIsMade};
+
+use pay_fix::Fix;
+use pay_taps::Tap;
 
 /// Boardings by the last one that paid are those by the Hopper rule.
 pub(crate) fn boarded_by_all()
@@ -24,7 +31,39 @@ pub(crate) fn kept_marks()
 pub(crate) fn changes()
     ensures each_kind { ChangesEachKind }
     ensures possible { ChangesArePossible }
+    ensures can_be { ChangeIsPossible }
+    ensures made { ChangeIsMade }
 {
     pay_taps::laws::places();
     pay_taps::laws::timed();
+}
+
+/// A tap that is accepted changes the effective taps of its account by at most one.
+pub(crate) fn tap_is_change()
+    ensures { TapIsChange }
+{
+    pay_numbered::laws::judgements::<Tap>();
+    pay_numbered::laws::one_more::<Tap>();
+    pay_fix::laws::own_numbers();
+    pay_fix::laws::tap_changes();
+}
+
+/// And so does a correction.
+pub(crate) fn fix_is_change()
+    ensures { FixIsChange }
+{
+    pay_numbered::laws::judgements::<Fix>();
+    pay_numbered::laws::one_more::<Fix>();
+    pay_fix::laws::own_numbers();
+    pay_fix::laws::fix_changes();
+}
+
+/// What a book keeps is right: its stored journeys by rail, the marks of its boardings and the sums of its days are those of the
+/// definitions over all that it has accepted, whatever came, and in whatever order.
+pub fn stored()
+    ensures { (tables : FareTables) (book : BookParts) → IsKept tables book → IsStored tables book }
+{
+    pay_links::laws::kept_as_marks();
+    pay_hopper::laws::by_the_last();
+    boarded_by_all();
 }

@@ -2,8 +2,11 @@
 #![tactic(auto)]
 
 mod boardings;
+mod book;
 mod days;
 mod kept;
-mod laws;
+pub mod laws;
 mod rail;
 mod stretch;
+
+pub use book::Book;

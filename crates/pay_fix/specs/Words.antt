@@ -6,4 +6,4 @@ pub use Rattle.pay_fix.specs.Effective.{effective}
 pub use Rattle.pay_fix.specs.Changes.{IsOneMore, IsChanged, change_by_tap, change_by_fix}
 pub use Rattle.pay_fix.specs.Named.{day_named}
 pub use Rattle.pay_fix.specs.Given.{credits}
-pub use Rattle.pay_fix.specs.Laws.{with_fix, VoidTakesOut, DropRestores, CreditChangesNoTap, EffectiveHaveOwnNumbers, EffectiveAreInOrder, TapChanges, FixChanges}
+pub use Rattle.pay_fix.specs.Laws.{with_fix, VoidTakesOut, DropRestores, CreditChangesNoTap, EffectiveHaveOwnNumbers, EffectiveAreInOrder, EffectiveAreFew, TapChanges, FixChanges}

@@ -1,0 +1,37 @@
+-- What a book keeps, by the definitions over all that it has accepted.
+use Rattle.std.proofs.Common.{◌≡◌, ◌++◌, ℕ, Bool, List, [], map, filter, None, refl, sym, ap, ◌∙◌, subst}
+use Rattle.std.specs.FinMap as set_map
+use Rattle.pay_taps.specs.declared.tap.Touch.{Touch}
+use Rattle.pay_tables.specs.Words.{FareTables}
+use Rattle.pay_hopper.specs.Words.{instants_of, paying_marks, marks_by_last}
+use Rattle.pay_pairs.specs.Words.{legs}
+use Rattle.pay_links.specs.Words.{journeys, starts, journeys_by_marks, JourneysAreKeptAsMarks}
+use Rattle.pay_links.specs.declared.journey.Journey.{Journey}
+use Rattle.pay_account.specs.Words.{touches, prices}
+use Rattle.pay_account.specs.Journeys.{is_bus, is_rail, rail_journeys, boardings, journeys_of}
+use Rattle.pay_book.specs.Boardings.{boarded, BoardedByAll}
+use Rattle.pay_book.specs.Books.{BookParts}
+use Rattle.pay_book.specs.Days.{AreSums}
+use Rattle.pay_book.specs.Kept.{all_journeys}
+use Rattle.pay_book.specs.Stored.{IsKept, IsStored}
+
+-- all journeys of the taps that are kept
+pub all_of_kept : BoardedByAll → (tables : FareTables) (book : BookParts) → IsKept tables book → all_journeys tables book.rail book.buses ≡ journeys_of tables (touches book.accepted)
+all_of_kept by_all tables book kept =
+    let its = touches book.accepted in
+    ap (λ (rail : List Touch). journeys tables (legs tables rail) ++ boarded tables.rules.hopper book.buses) kept.rail
+    ∙ ap (λ (buses : List Touch). rail_journeys tables its ++ boarded tables.rules.hopper buses) kept.buses
+    ∙ ap (λ (list : List Journey). rail_journeys tables its ++ list) (by_all tables.rules.hopper (filter is_bus its))
+
+pub sums_of_kept : BoardedByAll → (tables : FareTables) (book : BookParts) → IsKept tables book → AreSums tables book.days (journeys_of tables (touches book.accepted))
+sums_of_kept by_all tables book kept = subst (AreSums tables book.days) (all_of_kept by_all tables book kept) kept.sums
+
+pub stored : JourneysAreKeptAsMarks → ((hopper : ℕ) (taps : List Touch) → marks_by_last hopper None taps ≡ paying_marks hopper (instants_of taps)) → BoardedByAll
+    → (tables : FareTables) (book : BookParts) → IsKept tables book → IsStored tables book
+stored marked by_last by_all tables book kept = record {
+  journeys =
+      ap (λ (marks : List Bool). journeys_by_marks marks book.rail) kept.starts ∙ marked tables book.rail
+      ∙ ap (λ (rail : List Touch). journeys tables (legs tables rail)) kept.rail;
+  pays = kept.pays ∙ by_last tables.rules.hopper book.buses ∙ ap (λ (buses : List Touch). paying_marks tables.rules.hopper (instants_of buses)) kept.buses;
+  sums = sums_of_kept by_all tables book kept;
+}

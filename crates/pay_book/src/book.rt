@@ -1,0 +1,192 @@
+ghost use Rattle.std.specs.Prelude.{◌≡◌, List, Ok, OnOk, OnErr};
+ghost use Rattle.pay_day.specs.Words.{IsDay};
+ghost use Rattle.pay_numbered.specs.declared.numbered_set.Addition.TheVariants as Addition;
+ghost use Rattle.pay_taps.specs.Words.{judged};
+ghost use Rattle.pay_fix.specs.Words.{judged as judged_fix};
+ghost use Rattle.pay_account.specs.Words.{prices, prices_named, with_tap, with_fix};
+ghost use Rattle.pay_book.specs.Stored.{IsKept};
+
+use crate::days;
+use crate::kept::Kept;
+use crate::laws;
+use pay_account::{Account, Fares, FixFault, Lines, Priced, Quote, Sets, Shown, TapFault};
+use pay_fix::{Fix, What, change_by_fix, change_by_tap, day_named};
+use pay_money::Pence;
+use pay_numbered::Addition;
+use pay_tables::Tables;
+use pay_taps::{Steps, Tap};
+use std::alloc::{AllocError, Global};
+use std::marker::Model;
+
+/// An account that keeps its effective taps in order with the marks of its journeys, and the sums of each day's fares. A tap or a
+/// correction changes what it disturbs of these, and prices are read from the sums. In a contract it is all of this.
+#[derive(Drop)]
+pub struct Book {
+    alloc: Global,
+    account: Account,
+    kept: Kept,
+    steps: Steps,
+}
+
+impl Model for Book {
+    ghost use Rattle.pay_book.specs.Books.{BookParts, book_code};
+
+    ghost Value = { BookParts };
+
+    ghost coded = { book_code };
+
+    ghost view = { λ b. record {
+        account = b.account.0;
+        accepted = b.account.1;
+        rail = b.kept.rail.touches;
+        starts = b.kept.starts.items;
+        buses = b.kept.buses.touches;
+        pays = b.kept.pays.items;
+        days = b.kept.days.entries;
+        steps = b.steps;
+    } };
+}
+
+impl Book {
+    /// How many stored taps the last tap or correction read.
+    pub fn steps(&self) -> u64
+        ensures { result ≡ self.now.steps }
+    {
+        self.steps.count()
+    }
+
+    /// The prices of a day and its week.
+    fn prices(&self, tables: &Tables, again: bool, day: u32) -> Priced
+        requires is_day { IsDay day }
+        requires kept { IsKept tables.now self.now }
+        ensures { result ≡ prices tables.now self.now.accepted again day }
+    {
+        laws::boarded_by_all();
+        days::prices(tables, &self.kept.days, again, day)
+    }
+
+    /// The prices of the day that a correction names.
+    fn prices_named(&self, tables: &Tables, again: bool, what: &What) -> Priced
+        requires kept { IsKept tables.now self.now }
+        ensures { result ≡ prices_named tables.now self.now.accepted again what.now }
+    {
+        match day_named(self.account.taps(), self.account.fixes(), what) {
+            Some(day) => self.prices(tables, again, day),
+            None => Priced {
+                again,
+                day: 0,
+                day_price: Pence::ZERO,
+                week_price: Pence::ZERO,
+            },
+        }
+    }
+
+    /// Accepts a tap that is judged to be accepted. An `Err` is out of memory: then it is as before.
+    fn add_tap(&mut self, tables: &Tables, tap: Tap) -> Result<(), AllocError>
+        requires own { tap.account ≡ self.old.account }
+        requires judged { judged self.old.accepted.taps tap ≡ Ok Addition.Added }
+        requires kept { IsKept tables.now self.old }
+        ensures same_account { self.new.account ≡ self.old.account }
+        ensures accepted { OnOk result (self.new.accepted ≡ with_tap self.old.accepted tap) }
+        ensures same { OnErr result (self.new.accepted ≡ self.old.accepted) }
+        ensures kept { IsKept tables.now self.new }
+    {
+        laws::changes();
+        laws::tap_is_change();
+        self.account.taps().len();
+        self.account.fixes().len();
+        let change = change_by_tap(self.account.fixes(), &tap);
+        let repair = self
+            .kept
+            .prepare(self.alloc, tables, &change, &mut self.steps)?;
+        self.account.accept_tap(tap)?;
+        self.kept.apply(tables, &change, &repair, &mut self.steps);
+        Ok(())
+    }
+
+    /// Accepts a correction that is judged to be accepted. An `Err` is out of memory: then it is as before.
+    fn add_fix(&mut self, tables: &Tables, fix: Fix) -> Result<(), AllocError>
+        requires own { fix.account ≡ self.old.account }
+        requires judged { judged_fix self.old.accepted.fixes fix ≡ Ok Addition.Added }
+        requires kept { IsKept tables.now self.old }
+        ensures same_account { self.new.account ≡ self.old.account }
+        ensures accepted { OnOk result (self.new.accepted ≡ with_fix self.old.accepted fix) }
+        ensures same { OnErr result (self.new.accepted ≡ self.old.accepted) }
+        ensures kept { IsKept tables.now self.new }
+    {
+        laws::changes();
+        laws::fix_is_change();
+        self.account.taps().len();
+        self.account.fixes().len();
+        let change = change_by_fix(self.account.taps(), self.account.fixes(), &fix);
+        let repair = self
+            .kept
+            .prepare(self.alloc, tables, &change, &mut self.steps)?;
+        self.account.accept_fix(fix)?;
+        self.kept.apply(tables, &change, &repair, &mut self.steps);
+        Ok(())
+    }
+}
+
+impl Fares for Book {
+    ghost use Rattle.pay_book.specs.Stored.{IsKept};
+
+    ghost account = { λ b. b.account };
+
+    ghost accepted = { λ b. b.accepted };
+
+    ghost IsPricedBy = { IsKept };
+
+    fn new(alloc: Global, number: u32) -> Book {
+        Book {
+            alloc,
+            account: Account::new(alloc, number),
+            kept: Kept::new(alloc),
+            steps: Steps::new(),
+        }
+    }
+
+    fn number(&self) -> u32 {
+        self.account.number()
+    }
+
+    fn tap(&mut self, tables: &Tables, tap: Tap) -> Result<Priced, TapFault> {
+        pay_account::laws::refusals();
+        self.steps = Steps::new();
+        match self.account.judge_tap(tables, &tap)? {
+            Addition::Repeat => Ok(self.prices(tables, true, tap.stamp.day())),
+            Addition::Added => {
+                self.add_tap(tables, tap)?;
+                Ok(self.prices(tables, false, tap.stamp.day()))
+            }
+        }
+    }
+
+    fn fix(&mut self, tables: &Tables, fix: Fix) -> Result<Priced, FixFault> {
+        pay_account::laws::refusals_of_fixes();
+        self.steps = Steps::new();
+        match self.account.judge_fix(tables, &fix)? {
+            Addition::Repeat => Ok(self.prices_named(tables, true, &fix.what)),
+            Addition::Added => {
+                self.add_fix(tables, fix)?;
+                Ok(self.prices_named(tables, false, &fix.what))
+            }
+        }
+    }
+
+    fn show(&self, tables: &Tables, day: u32) -> Result<Shown, AllocError> {
+        self.account.show(tables, day)
+    }
+
+    fn quote(&self, tables: &Tables, through: u32) -> Result<Quote, AllocError> {
+        self.account.quote(tables, through)
+    }
+
+    fn lines(&self, tables: &Tables, week: u32) -> Result<Lines, AllocError> {
+        self.account.lines(tables, week)
+    }
+
+    fn sets(&self) -> Result<Sets, AllocError> {
+        self.account.sets()
+    }
+}
