@@ -5,7 +5,7 @@ ghost use Rattle.sqlite.specs.Held.{state};
 ghost use Rattle.pay_jobs.specs.LineRuns.{LinesEnd, LinesFail};
 
 use jiff::tz::TimeZone;
-use pay_account::Account;
+use pay_book::Book;
 use pay_close::LedgerTill;
 use pay_ledger::Ledger;
 use pay_session::{Done, SessionFault, session};
@@ -17,7 +17,7 @@ use std::io::{BufRead, Write};
 use std::sync::Arc;
 
 /// A desk over one shard without accounts. It takes no memory.
-pub(crate) fn new_desk(alloc: Global, tables: Arc<Tables>) -> LocalDesk<Account>
+pub(crate) fn new_desk(alloc: Global, tables: Arc<Tables>) -> LocalDesk<Book>
     ensures tables { result.shard.tables ≡ arc_value tables }
     ensures base { result.shard.base ≡ map.empty }
     ensures journal { result.shard.journal ≡ [] }

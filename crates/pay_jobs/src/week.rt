@@ -10,7 +10,8 @@ ghost use Rattle.pay_jobs.specs.declared.week.WeekFault.TheVariants.{Session, Me
 
 use crate::lines::new_desk;
 use jiff::tz::TimeZone;
-use pay_account::{Account, Fares, Lines};
+use pay_account::{Fares, Lines};
+use pay_book::Book;
 use pay_day::monday;
 use pay_session::{NoTill, SessionFault, session};
 use pay_shard::Shard;
@@ -51,7 +52,7 @@ impl From<SessionFault> for WeekFault {
 /// The journeys of a week of an account. The week is named by its Monday. An account that has accepted nothing has none.
 fn lines_of(
     alloc: Global,
-    shard: &Shard<Account>,
+    shard: &Shard<Book>,
     account: u32,
     week: u32,
 ) -> Result<Lines, AllocError>
@@ -61,7 +62,7 @@ fn lines_of(
 {
     match shard.account(account) {
         Some(held) => held.lines(shard.tables(), week),
-        None => Account::new(alloc, account).lines(shard.tables(), week),
+        None => Book::new(alloc, account).lines(shard.tables(), week),
     }
 }
 
