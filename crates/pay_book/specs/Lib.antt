@@ -6,3 +6,4 @@ pub mod Rail
 pub mod Kept
 pub mod Books
 pub mod Stored
+pub mod History

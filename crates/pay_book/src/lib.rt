@@ -4,9 +4,11 @@
 mod boardings;
 mod book;
 mod days;
+mod history;
 mod kept;
 pub mod laws;
 mod rail;
 mod stretch;
 
 pub use book::Book;
+pub use history::{Sent, book_of};

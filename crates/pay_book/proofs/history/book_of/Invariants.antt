@@ -1,0 +1,14 @@
+use Rattle.std.proofs.Common.{◌≡◌, map, drop}
+use Rattle.std.specs.List.{AllByRecursion}
+use Rattle.pay_account.specs.Words.{nothing}
+use Rattle.pay_account.specs.Changes.{after_all}
+use Rattle.pay_book.specs.History.{account_of, change_of}
+use Rattle.pay_book.specs.Stored.{IsKept}
+use Rattle.pay_book.proofs.history.book_of.Given as goal
+
+abbrev pub invariant-loop-one : goal.invariant-loop-one
+invariant-loop-one l = record {
+  account : l.book.account ≡ l.account;
+  kept : IsKept l.tables l.book;
+  accepted : after_all l.tables l.book.accepted (map change_of (drop l.one-index l.sent)) ≡ after_all l.tables nothing (map change_of l.sent);
+}
