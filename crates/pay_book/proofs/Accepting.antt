@@ -30,9 +30,10 @@ both_kinds : (list : List Touch) → length (filter is_bus list) + length (filte
 both_kinds list = length-filter_both is_bus is_rail (λ touch. refl) list
 
 pub made : ChangesEachKind → ChangeIsMade
-made each change before after kept is taps =
-    (ap (taps_after is_rail change) taps.rail ∙ sym (each is_rail change before after is.timed is.timed_then is.changed),
-    ap (taps_after is_bus change) taps.buses ∙ sym (each is_bus change before after is.timed is.timed_then is.changed))
+made each change before after kept is taps = (
+  ap (taps_after is_rail change) taps.rail ∙ sym (each is_rail change before after is.timed is.timed_then is.changed),
+  ap (taps_after is_bus change) taps.buses ∙ sym (each is_bus change before after is.timed is.timed_then is.changed),
+)
 
 pub can_be : ChangesEachKind → ChangesArePossible → ChangeIsPossible
 can_be each possible change before after kept is taps =
@@ -98,7 +99,7 @@ pub nothing_kept : (tables : FareTables) (account : ℕ × Accepted) (kept : Kep
       starts = kept.starts.items;
       buses = kept.buses.touches;
       pays = kept.pays.items;
-      days = kept.days.entries;
+      days = kept.days;
       steps = steps;
     })
 nothing_kept tables account kept steps is of = record {

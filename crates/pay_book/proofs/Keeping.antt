@@ -183,12 +183,12 @@ fits_there given base place its list listed same at listed_same fits = omega (ar
 
 -- ---- what is kept, where taps and marks are as before
 
-pub right_stays : (tables : FareTables) (before now : Kept) → AreAsBefore before now → ((list : List Journey) → AreSums tables before.days.entries list → AreSums tables now.days.entries list)
+pub right_stays : (tables : FareTables) (before now : Kept) → AreAsBefore before now → ((list : List Journey) → AreSums tables before.days list → AreSums tables now.days list)
     → IsRight tables before → IsRight tables now
 right_stays tables before now same sums right = record {
   starts = same.starts ∙ right.starts ∙ ap (starts tables) (sym same.rail);
   pays = same.pays ∙ right.pays ∙ ap (marks_by_last tables.rules.hopper None) (sym same.buses);
   sums =
-      subst (λ (l : List Touch). AreSums tables now.days.entries (all_journeys tables l now.buses.touches)) (sym same.rail)
-      (subst (λ (l : List Touch). AreSums tables now.days.entries (all_journeys tables before.rail.touches l)) (sym same.buses) (sums _ right.sums));
+      subst (λ (l : List Touch). AreSums tables now.days (all_journeys tables l now.buses.touches)) (sym same.rail)
+      (subst (λ (l : List Touch). AreSums tables now.days (all_journeys tables before.rail.touches l)) (sym same.buses) (sums _ right.sums));
 }

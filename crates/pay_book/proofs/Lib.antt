@@ -1,3 +1,4 @@
+pub mod InStep
 pub mod Sums
 pub mod Replacing
 pub mod Weeks

@@ -33,7 +33,7 @@ all_journeys tables rail buses = journeys tables (legs tables rail) ++ boarded t
 pub record IsRight (tables : FareTables) (kept : Kept) : Type 0 where
   pub starts : kept.starts.items ≡ starts tables kept.rail.touches
   pub pays : kept.pays.items ≡ marks_by_last tables.rules.hopper None kept.buses.touches
-  pub sums : AreSums tables kept.days.entries (all_journeys tables kept.rail.touches kept.buses.touches)
+  pub sums : AreSums tables kept.days (all_journeys tables kept.rail.touches kept.buses.touches)
 
 -- there is room for a tap more, with its mark
 pub record HasRoom (kept : Kept) : Type 0 where
@@ -75,14 +75,14 @@ pub record IsPreparedByRail (tables : FareTables) (kept : Kept) (touch : Touch) 
   pub kind : is_bus touch ≡ false
   pub room : HasRoom kept
   pub disturbed : IsDisturbedBy tables kept.rail.touches touch is_there found.fewer.items found.more.items
-  pub opened : AreKept kept.days.entries (if is_there then found.fewer.items else found.more.items)
+  pub opened : AreKept kept.days (if is_there then found.fewer.items else found.more.items)
 
 -- and one on a bus
 pub record IsPreparedOnBus (tables : FareTables) (kept : Kept) (touch : Touch) (is_there : Bool) (found : Boardings) : Type 0 where
   pub kind : is_bus touch ≡ true
   pub room : HasRoom kept
   pub disturbed : AreDisturbed tables.rules.hopper (fewer_of is_there (place_of touch kept.buses.touches) kept.buses.touches) touch found.fewer.items found.more.items
-  pub opened : AreKept kept.days.entries (if is_there then found.fewer.items else found.more.items)
+  pub opened : AreKept kept.days (if is_there then found.fewer.items else found.more.items)
   pub within : place_of touch kept.buses.touches ≤ length kept.pays.items
   pub inside : is_there ≡ true → place_of touch kept.buses.touches < length kept.pays.items
 

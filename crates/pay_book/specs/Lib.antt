@@ -1,4 +1,5 @@
 pub mod Fewer
+pub mod InStep
 pub mod Days
 pub mod Boardings
 pub mod Stretches

@@ -6,9 +6,8 @@ ghost use Rattle.pay_fix.specs.Words.{judged as judged_fix};
 ghost use Rattle.pay_account.specs.Words.{prices, prices_named, with_tap, with_fix};
 ghost use Rattle.pay_book.specs.Stored.{IsKept};
 
-use crate::days;
 use crate::kept::Kept;
-use crate::laws;
+use crate::{days, laws};
 use pay_account::{Account, Fares, FixFault, Lines, Priced, Quote, Sets, Shown, TapFault};
 use pay_fix::{Fix, What, change_by_fix, change_by_tap, day_named};
 use pay_money::Pence;
@@ -36,14 +35,14 @@ impl Model for Book {
     ghost coded = { book_code };
 
     ghost view = { λ b. record {
-        account = b.account.0;
-        accepted = b.account.1;
-        rail = b.kept.rail.touches;
-        starts = b.kept.starts.items;
-        buses = b.kept.buses.touches;
-        pays = b.kept.pays.items;
-        days = b.kept.days.entries;
-        steps = b.steps;
+      account = b.account.0;
+      accepted = b.account.1;
+      rail = b.kept.rail.touches;
+      starts = b.kept.starts.items;
+      buses = b.kept.buses.touches;
+      pays = b.kept.pays.items;
+      days = b.kept.days;
+      steps = b.steps;
     } };
 }
 

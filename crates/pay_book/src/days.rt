@@ -1,7 +1,5 @@
 //! The sums of the fares of each day on which a journey began.
 ghost use Rattle.std.specs.Prelude.{◌≡◌, ◌≤◌, ◌+◌, ◌*◌, ℕ, List, [], ◌∷◌, ◌++◌, length, map, IsSome, Some, cond, OnOk};
-ghost use Rattle.std.specs.BTreeMap.{is_at};
-ghost use Rattle.std.specs.Ordering.{nat_cmp};
 ghost use Rattle.pay_day.specs.Words.{IsDay, sunday};
 ghost use Rattle.pay_money.specs.declared.limits.TheConstants.{MOST_MONEY};
 ghost use Rattle.pay_tables.specs.declared.limits.TheConstants.{MOST_FARE};
@@ -10,6 +8,7 @@ ghost use Rattle.pay_links.specs.declared.journey.Journey.{Journey};
 ghost use Rattle.pay_account.specs.Prices.{days_through, journeys_on, prices_of_journeys};
 ghost use Rattle.pay_book.specs.Days.{kept_on, sums_on, day_of, AreKept, AreSums, AreThere, CanReplace, HaveRoomFor, StayKept};
 
+use crate::day_sums::DaySums;
 use pay_account::{Priced, price_by_sums};
 use pay_caps::{Cells, cell_of, fare};
 use pay_day::limits::DAYS_PER_WEEK;
@@ -17,92 +16,64 @@ use pay_day::monday;
 use pay_links::Journey;
 use pay_tables::Tables;
 use std::alloc::AllocError;
-use std::collections::BTreeMap;
 
 /// The sums of a day: where none are kept, no fares.
-pub(crate) fn sums(days: &BTreeMap<u32, Cells>, day: u32) -> Cells
-    ensures { result ≡ sums_on days.now.entries day }
+pub(crate) fn sums(days: &DaySums, day: u32) -> Cells
+    ensures { result ≡ sums_on days.now day }
 {
-    match days.get(&day) {
-        Some(cells) => *cells,
+    match days.get(day) {
+        Some(cells) => cells,
         None => Cells::new(),
     }
 }
 
-/// Keeps other sums of a day, of which some are kept.
-fn set(days: &mut BTreeMap<u32, Cells>, day: u32, cells: Cells)
-    requires { IsSome (kept_on days.old.entries day) }
-    ensures { (other : ℕ) → kept_on days.new.entries other ≡ cond (is_at (nat_cmp day) other) (Some cells) (kept_on days.old.entries other) }
-{
-    match days.insert(day, cells) {
-        Ok(_) => {}
-        Err(_) => unreachable!(),
-    }
-}
-
-/// Keeps sums of a day: no fares, where none were kept. An `Err` is out of memory.
-fn open(days: &mut BTreeMap<u32, Cells>, day: u32) -> Result<(), AllocError>
-    ensures same { (other : ℕ) → sums_on days.new.entries other ≡ sums_on days.old.entries other }
-    ensures kept { StayKept days.old.entries days.new.entries }
-    ensures open { OnOk result (IsSome (kept_on days.new.entries day)) }
-{
-    if days.contains_key(&day) {
-        return Ok(());
-    }
-    days.insert(day, Cells::new())?;
-    Ok(())
-}
-
 /// Keeps sums of the day of each of these journeys, and changes none. An `Err` is out of memory.
-pub(crate) fn open_all(
-    days: &mut BTreeMap<u32, Cells>,
-    journeys: &[Journey],
-) -> Result<(), AllocError>
-    ensures same { (other : ℕ) → sums_on days.new.entries other ≡ sums_on days.old.entries other }
-    ensures kept { StayKept days.old.entries days.new.entries }
-    ensures open { OnOk result (AreKept days.new.entries journeys.now) }
+pub(crate) fn open_all(days: &mut DaySums, journeys: &[Journey]) -> Result<(), AllocError>
+    ensures same { (other : ℕ) → sums_on days.new other ≡ sums_on days.old other }
+    ensures kept { StayKept days.old days.new }
+    ensures open { OnOk result (AreKept days.new journeys.now) }
 {
     for journey in journeys {
-        open(days, journey.first_tap().stamp.day())?;
+        days.open(journey.first_tap().stamp.day())?;
     }
     Ok(())
 }
 
 /// Adds the fare of a journey to the sums of its day.
-fn add(days: &mut BTreeMap<u32, Cells>, tables: &Tables, journey: &Journey)
-    requires kept { IsSome (kept_on days.old.entries (day_of journey.now)) }
-    requires fits { HaveRoomFor days.old.entries MOST_FARE }
-    ensures sums { (day : ℕ) → sums_on days.new.entries day ≡ all_added tables.now (journeys_on (journey.now ∷ []) day) (sums_on days.old.entries day) }
-    ensures in_range { (day : ℕ) → total (sums_on days.new.entries day) ≤ total (sums_on days.old.entries day) + MOST_FARE }
-    ensures kept { StayKept days.old.entries days.new.entries }
+fn add(days: &mut DaySums, tables: &Tables, journey: &Journey)
+    requires kept { IsSome (kept_on days.old (day_of journey.now)) }
+    requires fits { HaveRoomFor days.old MOST_FARE }
+    ensures sums { (day : ℕ) → sums_on days.new day ≡ all_added tables.now (journeys_on (journey.now ∷ []) day) (sums_on days.old day) }
+    ensures in_range { (day : ℕ) → total (sums_on days.new day) ≤ total (sums_on days.old day) + MOST_FARE }
+    ensures kept { StayKept days.old days.new }
 {
     pay_caps::laws::day_prices(tables);
     let day = journey.first_tap().stamp.day();
     let mut cells = sums(days, day);
     cells.add(cell_of(tables, journey), fare(tables, journey));
-    set(days, day, cells);
+    days.set(day, cells);
 }
 
 /// Takes the fare of a journey from the sums of its day.
-fn take(days: &mut BTreeMap<u32, Cells>, tables: &Tables, journey: &Journey)
-    requires kept { IsSome (kept_on days.old.entries (day_of journey.now)) }
-    requires there { fare tables.now journey.now ≤ sum_at (cell_of tables.now journey.now) (sums_on days.old.entries (day_of journey.now)) }
-    ensures sums { (day : ℕ) → sums_on days.new.entries day ≡ all_taken tables.now (journeys_on (journey.now ∷ []) day) (sums_on days.old.entries day) }
-    ensures kept { StayKept days.old.entries days.new.entries }
+fn take(days: &mut DaySums, tables: &Tables, journey: &Journey)
+    requires kept { IsSome (kept_on days.old (day_of journey.now)) }
+    requires there { fare tables.now journey.now ≤ sum_at (cell_of tables.now journey.now) (sums_on days.old (day_of journey.now)) }
+    ensures sums { (day : ℕ) → sums_on days.new day ≡ all_taken tables.now (journeys_on (journey.now ∷ []) day) (sums_on days.old day) }
+    ensures kept { StayKept days.old days.new }
 {
     pay_caps::laws::day_prices(tables);
     let day = journey.first_tap().stamp.day();
     let mut cells = sums(days, day);
     cells.take(cell_of(tables, journey), fare(tables, journey));
-    set(days, day, cells);
+    days.set(day, cells);
 }
 
 /// Adds the fares of journeys to the sums of their days.
-pub(crate) fn add_all(days: &mut BTreeMap<u32, Cells>, tables: &Tables, journeys: &[Journey])
-    requires kept { AreKept days.old.entries journeys.now }
-    requires fits { HaveRoomFor days.old.entries (length journeys.now * MOST_FARE) }
-    ensures sums { (day : ℕ) → sums_on days.new.entries day ≡ all_added tables.now (journeys_on journeys.now day) (sums_on days.old.entries day) }
-    ensures kept { StayKept days.old.entries days.new.entries }
+pub(crate) fn add_all(days: &mut DaySums, tables: &Tables, journeys: &[Journey])
+    requires kept { AreKept days.old journeys.now }
+    requires fits { HaveRoomFor days.old (length journeys.now * MOST_FARE) }
+    ensures sums { (day : ℕ) → sums_on days.new day ≡ all_added tables.now (journeys_on journeys.now day) (sums_on days.old day) }
+    ensures kept { StayKept days.old days.new }
 {
     for journey in journeys {
         add(days, tables, journey);
@@ -110,11 +81,11 @@ pub(crate) fn add_all(days: &mut BTreeMap<u32, Cells>, tables: &Tables, journeys
 }
 
 /// Takes the fares of journeys from the sums of their days.
-pub(crate) fn take_all(days: &mut BTreeMap<u32, Cells>, tables: &Tables, journeys: &[Journey])
-    requires kept { AreKept days.old.entries journeys.now }
-    requires there { AreThere tables.now days.old.entries journeys.now }
-    ensures sums { (day : ℕ) → sums_on days.new.entries day ≡ all_taken tables.now (journeys_on journeys.now day) (sums_on days.old.entries day) }
-    ensures kept { StayKept days.old.entries days.new.entries }
+pub(crate) fn take_all(days: &mut DaySums, tables: &Tables, journeys: &[Journey])
+    requires kept { AreKept days.old journeys.now }
+    requires there { AreThere tables.now days.old journeys.now }
+    ensures sums { (day : ℕ) → sums_on days.new day ≡ all_taken tables.now (journeys_on journeys.now day) (sums_on days.old day) }
+    ensures kept { StayKept days.old days.new }
 {
     for journey in journeys {
         take(days, tables, journey);
@@ -122,14 +93,9 @@ pub(crate) fn take_all(days: &mut BTreeMap<u32, Cells>, tables: &Tables, journey
 }
 
 /// Takes the fares of some journeys from the sums of their days, and adds those of others in their place.
-pub(crate) fn replace(
-    days: &mut BTreeMap<u32, Cells>,
-    tables: &Tables,
-    old: &[Journey],
-    new: &[Journey],
-)
-    requires { CanReplace tables.now days.old.entries old.now new.now }
-    ensures { (left right : List Journey) → AreSums tables.now days.old.entries (left ++ old.now ++ right) → AreSums tables.now days.new.entries (left ++ new.now ++ right) }
+pub(crate) fn replace(days: &mut DaySums, tables: &Tables, old: &[Journey], new: &[Journey])
+    requires { CanReplace tables.now days.old old.now new.now }
+    ensures { (left right : List Journey) → AreSums tables.now days.old (left ++ old.now ++ right) → AreSums tables.now days.new (left ++ new.now ++ right) }
 {
     pay_caps::fare_laws::fares_within(tables);
     pay_caps::laws::day_prices(tables);
@@ -139,9 +105,9 @@ pub(crate) fn replace(
 }
 
 /// The sums of each day of a day's week, from Monday through Sunday.
-fn week(days: &BTreeMap<u32, Cells>, day: u32) -> [Cells; DAYS_PER_WEEK as usize]
+fn week(days: &DaySums, day: u32) -> [Cells; DAYS_PER_WEEK as usize]
     requires { IsDay day }
-    ensures { result ≡ map (sums_on days.now.entries) (days_through (sunday day)) }
+    ensures { result ≡ map (sums_on days.now) (days_through (sunday day)) }
 {
     pay_account::laws::week_days();
     let monday = monday(day);
@@ -157,9 +123,9 @@ fn week(days: &BTreeMap<u32, Cells>, day: u32) -> [Cells; DAYS_PER_WEEK as usize
 }
 
 /// The price of a service day and of its week through Sunday, by what is kept of them.
-pub(crate) fn prices(tables: &Tables, days: &BTreeMap<u32, Cells>, again: bool, day: u32) -> Priced
+pub(crate) fn prices(tables: &Tables, days: &DaySums, again: bool, day: u32) -> Priced
     requires { IsDay day }
-    ensures { (list : List Journey) → AreSums tables.now days.now.entries list → result ≡ prices_of_journeys tables.now list again day }
+    ensures { (list : List Journey) → AreSums tables.now days.now list → result ≡ prices_of_journeys tables.now list again day }
 {
     price_by_sums(tables, &week(days, day), again, day)
 }

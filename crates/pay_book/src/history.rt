@@ -45,7 +45,12 @@ fn hand(book: &mut Book, tables: &Tables, sent: &Sent) -> Result<(), AllocError>
 
 /// The book of an account to which these came, in this order: it has accepted what is accepted of them, and what it stores is right,
 /// whatever their order. An `Err` is out of memory.
-pub fn book_of(alloc: Global, tables: &Tables, account: u32, sent: &[Sent]) -> Result<Book, AllocError>
+pub fn book_of(
+    alloc: Global,
+    tables: &Tables,
+    account: u32,
+    sent: &[Sent],
+) -> Result<Book, AllocError>
     requires { AllByRecursion (λ one. account_of one ≡ account) sent.now }
     ensures accepted { IfOk result (λ book. book.accepted ≡ after_all tables.now nothing (map change_of sent.now)) }
     ensures stored { IfOk result (λ book. IsStored tables.now book) }

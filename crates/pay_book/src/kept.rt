@@ -15,15 +15,15 @@ ghost use Rattle.pay_book.specs.Kept.{IsRight, IsKeptOf, HasRoom, AreAsBefore, I
 ghost use Rattle.pay_book.specs.Rail.{IsDisturbed, IsDisturbedBy};
 
 use crate::boardings::Boardings;
+use crate::day_sums::DaySums;
+use crate::put_in::put_in;
 use crate::rail::Disturbed;
 use crate::{boardings, days, laws, rail};
-use pay_caps::Cells;
 use pay_fix::Change;
 use pay_links::Journey;
 use pay_tables::Tables;
 use pay_taps::{Kind, Steps, Timeline, Touch};
 use std::alloc::{AllocError, Global};
-use std::collections::BTreeMap;
 
 /// The effective taps of an account by rail, with a mark where a journey starts, and those on buses, with a mark where one pays; and
 /// of each day on which a journey began the sums of its fares.
@@ -33,7 +33,7 @@ pub(crate) struct Kept {
     pub(crate) starts: Vec<bool>,
     pub(crate) buses: Timeline,
     pub(crate) pays: Vec<bool>,
-    pub(crate) days: BTreeMap<u32, Cells>,
+    pub(crate) days: DaySums,
 }
 
 /// What a tap that enters or leaves disturbs.
@@ -45,18 +45,6 @@ pub(crate) enum Repair {
     Rail(Disturbed),
     /// A tap on a bus, which changes these boardings.
     Bus(Boardings),
-}
-
-/// Puts in a mark, for which there is room.
-fn insert_mark(marks: &mut Vec<bool>, place: usize, mark: bool)
-    requires within { place ≤ length marks.old.items }
-    requires room { vec_len marks.old < vec_capacity marks.old }
-    ensures { marks.new.items ≡ insert marks.old.items place mark }
-{
-    match marks.insert(place, mark) {
-        Ok(()) => {}
-        Err(_) => unreachable!(),
-    }
 }
 
 /// The journeys that there are next: those without a tap where it was there, and else those with it.
@@ -77,7 +65,7 @@ impl Kept {
             starts: Vec::new(alloc),
             buses: Timeline::new(alloc),
             pays: Vec::new(alloc),
-            days: BTreeMap::new(alloc),
+            days: DaySums::new(alloc),
         }
     }
 
@@ -108,7 +96,7 @@ impl Kept {
         ensures same { AreAsBefore self.old self.new }
         ensures right { IsRight tables.now self.new }
         ensures room { OnOk result (HasRoom self.new) }
-        ensures opened { IfOk result (λ found. AreKept self.new.days.entries (if is_there then found.fewer.items else found.more.items)) }
+        ensures opened { IfOk result (λ found. AreKept self.new.days (if is_there then found.fewer.items else found.more.items)) }
         ensures disturbed { IfOk result (λ found. IsDisturbedBy tables.now self.old.rail.touches touch.now is_there found.fewer.items found.more.items) }
     {
         self.reserve()?;
@@ -139,7 +127,7 @@ impl Kept {
         ensures same { AreAsBefore self.old self.new }
         ensures right { IsRight tables.now self.new }
         ensures room { OnOk result (HasRoom self.new) }
-        ensures opened { IfOk result (λ found. AreKept self.new.days.entries (if is_there then found.fewer.items else found.more.items)) }
+        ensures opened { IfOk result (λ found. AreKept self.new.days (if is_there then found.fewer.items else found.more.items)) }
         ensures within { OnOk result (place_of touch.now self.old.buses.touches ≤ length self.new.pays.items) }
         ensures inside { OnOk result (is_there ≡ true → place_of touch.now self.old.buses.touches < length self.new.pays.items) }
         ensures disturbed { let fewer = fewer_of is_there (place_of touch.now self.old.buses.touches) self.old.buses.touches in
@@ -164,7 +152,7 @@ impl Kept {
         ensures same { AreAsBefore self.old self.new }
         ensures room { HasRoom self.old → HasRoom self.new }
         ensures right { (tables : FareTables) → IsRight tables self.old → IsRight tables self.new }
-        ensures opened { OnOk result (AreKept self.new.days.entries journeys.now) }
+        ensures opened { OnOk result (AreKept self.new.days journeys.now) }
     {
         days::open_all(&mut self.days, journeys)
     }
@@ -175,7 +163,7 @@ impl Kept {
         requires room { HasRoom self.old }
         requires own_number { HaveOwnNumbers (touch ∷ self.old.rail.touches) }
         requires few { length self.old.rail.touches + length self.old.buses.touches < MOST_TOUCHES }
-        requires kept { AreKept self.old.days.entries found.now.more.items }
+        requires kept { AreKept self.old.days found.now.more.items }
         requires disturbed { IsDisturbed tables.now self.old.rail.touches (put_in touch self.old.rail.touches) found.now.fewer.items found.now.more.items }
         ensures right { IsRight tables.now self.new }
         ensures rail { self.new.rail.touches ≡ put_in touch self.old.rail.touches }
@@ -184,7 +172,7 @@ impl Kept {
         pay_taps::laws::places();
         pay_links::laws::each_tap();
         let place = self.rail.insert(touch);
-        insert_mark(&mut self.starts, place, true);
+        put_in(&mut self.starts, place, true);
         rail::mark_again(tables, &self.rail, &mut self.starts, place, steps);
         days::replace(&mut self.days, tables, &found.fewer, &found.more);
     }
@@ -194,7 +182,7 @@ impl Kept {
         requires right { IsRight tables.now self.old }
         requires there { slice_get self.old.rail.touches (place_of touch.now self.old.rail.touches) ≡ Some touch.now }
         requires few { length self.old.rail.touches + length self.old.buses.touches ≤ MOST_TOUCHES }
-        requires kept { AreKept self.old.days.entries found.now.fewer.items }
+        requires kept { AreKept self.old.days found.now.fewer.items }
         requires disturbed { IsDisturbed tables.now (remove self.old.rail.touches (place_of touch.now self.old.rail.touches)) self.old.rail.touches found.now.fewer.items found.now.more.items }
         ensures right { IsRight tables.now self.new }
         ensures rail { self.new.rail.touches ≡ remove self.old.rail.touches (place_of touch.now self.old.rail.touches) }
@@ -213,7 +201,7 @@ impl Kept {
         requires room { HasRoom self.old }
         requires own_number { HaveOwnNumbers (touch ∷ self.old.buses.touches) }
         requires few { length self.old.rail.touches + length self.old.buses.touches < MOST_TOUCHES }
-        requires kept { AreKept self.old.days.entries found.now.more.items }
+        requires kept { AreKept self.old.days found.now.more.items }
         requires within { place_of touch self.old.buses.touches ≤ length self.old.pays.items }
         requires disturbed { AreDisturbed tables.now.rules.hopper self.old.buses.touches touch found.now.fewer.items found.now.more.items }
         ensures right { IsRight tables.now self.new }
@@ -224,7 +212,7 @@ impl Kept {
         pay_links::laws::each_tap();
         laws::kept_marks();
         let place = self.buses.insert(touch);
-        insert_mark(&mut self.pays, place, true);
+        put_in(&mut self.pays, place, true);
         boardings::mark(&mut self.pays, place, &found.more);
         days::replace(&mut self.days, tables, &found.fewer, &found.more);
     }
@@ -234,7 +222,7 @@ impl Kept {
         requires right { IsRight tables.now self.old }
         requires there { slice_get self.old.buses.touches (place_of touch.now self.old.buses.touches) ≡ Some touch.now }
         requires few { length self.old.rail.touches + length self.old.buses.touches ≤ MOST_TOUCHES }
-        requires kept { AreKept self.old.days.entries found.now.fewer.items }
+        requires kept { AreKept self.old.days found.now.fewer.items }
         requires within { place_of touch.now self.old.buses.touches < length self.old.pays.items }
         requires disturbed { AreDisturbed tables.now.rules.hopper (remove self.old.buses.touches (place_of touch.now self.old.buses.touches)) touch.now found.now.fewer.items found.now.more.items }
         ensures right { IsRight tables.now self.new }

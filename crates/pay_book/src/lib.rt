@@ -3,10 +3,12 @@
 
 mod boardings;
 mod book;
+mod day_sums;
 mod days;
 mod history;
 mod kept;
 pub mod laws;
+mod put_in;
 mod rail;
 mod stretch;
 

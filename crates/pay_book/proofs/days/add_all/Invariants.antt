@@ -7,7 +7,7 @@ use Rattle.pay_book.proofs.days.add_all.Given as goal
 
 abbrev pub invariant-loop-journey : goal.invariant-loop-journey
 invariant-loop-journey l = record {
-  left : (day : ℕ) → all_added l.tables (journeys_on (drop l.journey-index l.journeys) day) (sums_on l.days.entries day) ≡ all_added l.tables (journeys_on l.journeys day) (sums_on l.fn.days.entries day);
-  kept : StayKept l.fn.days.entries l.days.entries;
-  fits : (day : ℕ) → total (sums_on l.days.entries day) ≤ total (sums_on l.fn.days.entries day) + l.journey-index * MOST_FARE;
+  left : (day : ℕ) → all_added l.tables (journeys_on (drop l.journey-index l.journeys) day) (sums_on l.days day) ≡ all_added l.tables (journeys_on l.journeys day) (sums_on l.fn.days day);
+  kept : StayKept l.fn.days l.days;
+  fits : (day : ℕ) → total (sums_on l.days day) ≤ total (sums_on l.fn.days day) + l.journey-index * MOST_FARE;
 }

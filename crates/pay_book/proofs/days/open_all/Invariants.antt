@@ -4,7 +4,7 @@ use Rattle.pay_book.proofs.days.open_all.Given as goal
 
 abbrev pub invariant-loop-journey : goal.invariant-loop-journey
 invariant-loop-journey l = record {
-  same : (other : ℕ) → sums_on l.days.entries other ≡ sums_on l.fn.days.entries other;
-  kept : StayKept l.fn.days.entries l.days.entries;
-  opened : AreKept l.days.entries (take l.journey-index l.journeys);
+  same : (other : ℕ) → sums_on l.days other ≡ sums_on l.fn.days other;
+  kept : StayKept l.fn.days l.days;
+  opened : AreKept l.days (take l.journey-index l.journeys);
 }

@@ -6,7 +6,7 @@ use Rattle.pay_book.proofs.days.take_all.Given as goal
 
 abbrev pub invariant-loop-journey : goal.invariant-loop-journey
 invariant-loop-journey l = record {
-  left : (day : ℕ) → all_taken l.tables (journeys_on (drop l.journey-index l.journeys) day) (sums_on l.days.entries day) ≡ all_taken l.tables (journeys_on l.journeys day) (sums_on l.fn.days.entries day);
-  kept : StayKept l.fn.days.entries l.days.entries;
-  there : AreThere l.tables l.days.entries (drop l.journey-index l.journeys);
+  left : (day : ℕ) → all_taken l.tables (journeys_on (drop l.journey-index l.journeys) day) (sums_on l.days day) ≡ all_taken l.tables (journeys_on l.journeys day) (sums_on l.fn.days day);
+  kept : StayKept l.fn.days l.days;
+  there : AreThere l.tables l.days (drop l.journey-index l.journeys);
 }

@@ -18,13 +18,13 @@ mark-requires c =
     let base = insert (marks_by_last hopper None buses) its true in
     let found = c.args.found.now in
     fits_there c.deref_mut.result.now base c.insert-place.result its found.more.items c.deref.result.now
-    (c.deref_mut.ensures.value ∙ inserted_there c.insert_mark.new.marks.items c.args.self.now.pays.items (marks_by_last hopper None buses) c.insert-place.result its c.insert_mark.ensures c.requires.right.pays c.insert-place.ensures.place)
+    (c.deref_mut.ensures.value ∙ inserted_there c.put_in.new.list.items c.args.self.now.pays.items (marks_by_last hopper None buses) c.insert-place.result its c.put_in.ensures c.requires.right.pays c.insert-place.ensures.place)
     c.insert-place.ensures.place c.deref.ensures.value (c.kept_marks.ensures.room_with_it hopper buses touch found.fewer.items found.more.items c.requires.disturbed true)
 
 pub replace-requires : goal.replace-requires
 replace-requires c =
     let tables = c.args.tables.now in
-    let days = c.args.self.now.days.entries in
+    let days = c.args.self.now.days in
     let found = c.args.found.now in
     let buses = c.args.self.now.buses.touches in
     let can =
@@ -45,7 +45,7 @@ returns-clause-right c =
     let left = c.requires.disturbed.left in
     let right = c.requires.disturbed.right in
     let given =
-    c.deref_mut.ensures.value ∙ inserted_there c.insert_mark.new.marks.items c.args.self.now.pays.items (marks_by_last hopper None buses) c.insert-place.result its c.insert_mark.ensures c.requires.right.pays c.insert-place.ensures.place in
+    c.deref_mut.ensures.value ∙ inserted_there c.put_in.new.list.items c.args.self.now.pays.items (marks_by_last hopper None buses) c.insert-place.result its c.put_in.ensures c.requires.right.pays c.insert-place.ensures.place in
     let room = c.kept_marks.ensures.room_with_it hopper buses touch found.fewer.items found.more.items c.requires.disturbed true in
     record {
       starts = c.requires.right.starts;
@@ -55,8 +55,8 @@ returns-clause-right c =
           ∙ c.kept_marks.ensures.with_it hopper buses touch found.fewer.items found.more.items c.requires.disturbed true
           ∙ ap (marks_by_last hopper None) (sym c.insert-place.ensures.after);
       sums =
-          bus_sums_after tables rail (put_in touch buses) c.insert-place.new.self.touches found.more.items c.deref-3.result.now left right c.replace.new.days.entries c.insert-place.ensures.after c.deref-3.ensures.value
+          bus_sums_after tables rail (put_in touch buses) c.insert-place.new.self.touches found.more.items c.deref-3.result.now left right c.replace.new.days c.insert-place.ensures.after c.deref-3.ensures.value
           c.requires.disturbed.with_it
           (c.replace.ensures (journeys tables (legs tables rail) ++ left) right
-          (bus_sums_before tables rail buses found.fewer.items c.deref-2.result.now left right c.args.self.now.days.entries c.deref-2.ensures.value c.requires.disturbed.without_it c.requires.right.sums));
+          (bus_sums_before tables rail buses found.fewer.items c.deref-2.result.now left right c.args.self.now.days c.deref-2.ensures.value c.requires.disturbed.without_it c.requires.right.sums));
     }

@@ -5,19 +5,19 @@ use Rattle.pay_book.specs.Days.{CanReplace}
 use Rattle.pay_book.proofs.Keeping.{place_in_marks, entered_marks, one_longer, rail_can_be_replaced, rail_sums_before, rail_sums_after, all_written}
 use Rattle.pay_book.proofs.kept.Kept.enter_rail.Goals as goal
 
-pub insert_mark-requires-clause-within : goal.insert_mark-requires-clause-within
-insert_mark-requires-clause-within c =
+pub put_in-requires-clause-within : goal.put_in-requires-clause-within
+put_in-requires-clause-within c =
     place_in_marks c.args.tables.now c.args.self.now.rail.touches c.insert-place.result c.args.self.now.starts.items c.insert-place.ensures.within c.requires.right.starts
 
 pub mark_again-requires : goal.mark_again-requires
 mark_again-requires c =
     entered_marks c.places.ensures.put_in c.args.tables.now c.args.self.now.rail.touches c.insert-place.new.self.touches c.args.touch c.insert-place.result c.args.self.now.starts.items c.deref_mut.result.now
-    c.insert-place.ensures.after c.insert-place.ensures.place c.insert-place.ensures.within c.requires.right.starts (c.deref_mut.ensures.value ∙ c.insert_mark.ensures)
+    c.insert-place.ensures.after c.insert-place.ensures.place c.insert-place.ensures.within c.requires.right.starts (c.deref_mut.ensures.value ∙ c.put_in.ensures)
 
 pub replace-requires : goal.replace-requires
 replace-requires c =
     let tables = c.args.tables.now in
-    let days = c.args.self.now.days.entries in
+    let days = c.args.self.now.days in
     let found = c.args.found.now in
     let rail = c.args.self.now.rail.touches in
     let can =
@@ -35,13 +35,13 @@ returns-clause-right c =
     let right = c.requires.disturbed.behind in
     let elsewhere =
     entered_marks c.places.ensures.put_in tables rail c.insert-place.new.self.touches c.args.touch c.insert-place.result c.args.self.now.starts.items c.deref_mut.result.now c.insert-place.ensures.after
-    c.insert-place.ensures.place c.insert-place.ensures.within c.requires.right.starts (c.deref_mut.ensures.value ∙ c.insert_mark.ensures) in
+    c.insert-place.ensures.place c.insert-place.ensures.within c.requires.right.starts (c.deref_mut.ensures.value ∙ c.put_in.ensures) in
     record {
       starts = all_written tables c.insert-place.new.self.touches _ c.mark_again.new.marks c.deref_mut.result.now _ c.mark_again.ensures.marks elsewhere.as_many c.deref_mut.ensures.len;
       pays = c.requires.right.pays;
       sums =
-          rail_sums_after tables (put_in c.args.touch rail) c.insert-place.new.self.touches buses found.more.items c.deref-2.result.now left right c.replace.new.days.entries c.insert-place.ensures.after c.deref-2.ensures.value
+          rail_sums_after tables (put_in c.args.touch rail) c.insert-place.new.self.touches buses found.more.items c.deref-2.result.now left right c.replace.new.days c.insert-place.ensures.after c.deref-2.ensures.value
           c.requires.disturbed.all_more
           (c.replace.ensures left (right ++ boarded tables.rules.hopper buses)
-          (rail_sums_before tables rail buses found.fewer.items c.deref.result.now left right c.args.self.now.days.entries c.deref.ensures.value c.requires.disturbed.all_fewer c.requires.right.sums));
+          (rail_sums_before tables rail buses found.fewer.items c.deref.result.now left right c.args.self.now.days c.deref.ensures.value c.requires.disturbed.all_fewer c.requires.right.sums));
     }

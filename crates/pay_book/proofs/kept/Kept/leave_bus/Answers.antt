@@ -24,7 +24,7 @@ pub replace-requires : goal.replace-requires
 replace-requires c =
     let tables = c.args.tables.now in
     let hopper = tables.rules.hopper in
-    let days = c.args.self.now.days.entries in
+    let days = c.args.self.now.days in
     let found = c.args.found.now in
     let buses = c.args.self.now.buses.touches in
     let touch = c.args.touch.now in
@@ -61,8 +61,8 @@ returns-clause-right c =
           ∙ c.kept_marks.ensures.without_it hopper buses touch found.fewer.items found.more.items c.len.ensures.timed c.requires.there c.requires.disturbed
           ∙ ap (marks_by_last hopper None) (sym after);
       sums =
-          bus_sums_after tables rail fewer c.remove-place.new.self.touches found.fewer.items c.deref-3.result.now left right c.replace.new.days.entries after c.deref-3.ensures.value
+          bus_sums_after tables rail fewer c.remove-place.new.self.touches found.fewer.items c.deref-3.result.now left right c.replace.new.days after c.deref-3.ensures.value
           c.requires.disturbed.without_it
           (c.replace.ensures (journeys tables (legs tables rail) ++ left) right
-          (bus_sums_before tables rail buses found.more.items c.deref-2.result.now left right c.args.self.now.days.entries c.deref-2.ensures.value again c.requires.right.sums));
+          (bus_sums_before tables rail buses found.more.items c.deref-2.result.now left right c.args.self.now.days c.deref-2.ensures.value again c.requires.right.sums));
     }

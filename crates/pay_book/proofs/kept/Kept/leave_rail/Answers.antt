@@ -19,7 +19,7 @@ mark_again-requires c =
 pub replace-requires : goal.replace-requires
 replace-requires c =
     let tables = c.args.tables.now in
-    let days = c.args.self.now.days.entries in
+    let days = c.args.self.now.days in
     let found = c.args.found.now in
     let rail = c.args.self.now.rail.touches in
     let touch = c.args.touch.now in
@@ -44,10 +44,10 @@ returns-clause-right c =
       starts = all_written tables c.remove-place.new.self.touches _ c.mark_again.new.marks c.deref_mut.result.now _ c.mark_again.ensures.marks elsewhere.as_many c.deref_mut.ensures.len;
       pays = c.requires.right.pays;
       sums =
-          rail_sums_after tables (remove rail (place_of touch rail)) c.remove-place.new.self.touches buses found.fewer.items c.deref-2.result.now left right c.replace.new.days.entries
+          rail_sums_after tables (remove rail (place_of touch rail)) c.remove-place.new.self.touches buses found.fewer.items c.deref-2.result.now left right c.replace.new.days
           (c.remove-place.ensures.after ∙ removed_there c.remove-place.ensures.place) c.deref-2.ensures.value c.requires.disturbed.all_fewer
           (c.replace.ensures left (right ++ boarded tables.rules.hopper buses)
-          (rail_sums_before tables rail buses found.more.items c.deref.result.now left right c.args.self.now.days.entries c.deref.ensures.value c.requires.disturbed.all_more c.requires.right.sums));
+          (rail_sums_before tables rail buses found.more.items c.deref.result.now left right c.args.self.now.days c.deref.ensures.value c.requires.disturbed.all_more c.requires.right.sums));
     }
   where
     removed_there : c.remove-place.result ≡ place_of c.args.touch.now c.args.self.now.rail.touches → remove c.args.self.now.rail.touches c.remove-place.result ≡ remove c.args.self.now.rail.touches (place_of c.args.touch.now c.args.self.now.rail.touches)

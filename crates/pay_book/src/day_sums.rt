@@ -1,0 +1,119 @@
+ghost use Rattle.std.specs.Prelude.{◌≡◌, ◌≤◌, ◌<◌, ◌↔◌, [], ℕ, IsSome, IsTrue, Some, cond, length, slice_get, OnOk};
+ghost use Rattle.std.specs.BTreeMap.{is_at};
+ghost use Rattle.std.specs.List.{insert};
+ghost use Rattle.std.specs.Ordering.{nat_cmp};
+ghost use Rattle.std.specs.Vec.{vec_capacity, vec_len};
+ghost use Rattle.pay_book.specs.Days.{kept_on, sums_on, StayKept};
+ghost use Rattle.pay_book.specs.InStep.{AreRising, IsPlaceOf};
+
+use crate::put_in::put_in;
+use pay_caps::Cells;
+use std::alloc::{AllocError, Global};
+use std::marker::Model;
+
+/// Days in ascending order, each with the sums of its fares. In a contract it is the list of both.
+#[derive(Drop)]
+pub(crate) struct DaySums {
+    days: Vec<u32>,
+    // Apart from the days, so that a search reads these alone.
+    sums: Vec<Cells>,
+}
+
+impl Model for DaySums {
+    ghost use Rattle.std.specs.Prelude.{ℕ, List};
+    ghost use Rattle.std.specs.Coded.{coded_list, coded×, coded_ℕ};
+    ghost use Rattle.std.specs.List.{zip};
+    ghost use Rattle.pay_caps.specs.CellSums.{CellSums, sums_code};
+    ghost use Rattle.pay_book.specs.InStep.{AreInStep};
+
+    ghost Value = { List (ℕ × CellSums) };
+
+    ghost coded = { coded_list (coded× coded_ℕ sums_code) };
+
+    ghost view = { λ d. zip d.days.items d.sums.items };
+
+    ghost invariant = { λ d. AreInStep d.days.items d.sums.items };
+}
+
+/// Where a day stands among days in order, or would stand.
+fn place_in(days: &[u32], day: u32) -> usize
+    requires { AreRising days.now }
+    ensures place { IsPlaceOf day days.now result }
+    ensures within { result ≤ length days.now }
+{
+    days.partition_point(|other| *other < day)
+}
+
+/// Whether a day stands at a place.
+fn stands_at(days: &[u32], place: usize, day: u32) -> bool
+    ensures { IsTrue result ↔ (slice_get days.now place ≡ Some day) }
+{
+    match days.get(place) {
+        Some(other) => *other == day,
+        None => false,
+    }
+}
+
+/// Makes room for the sums of a further day. Most accounts have one day for a long time, so the first takes no more than its own.
+fn reserve(sums: &mut Vec<Cells>) -> Result<(), AllocError>
+    ensures same { sums.new.items ≡ sums.old.items }
+    ensures room { OnOk result (vec_len sums.new < vec_capacity sums.new) }
+{
+    if sums.is_empty() {
+        sums.reserve_exact(1)
+    } else {
+        sums.reserve(1)
+    }
+}
+
+impl DaySums {
+    /// No days.
+    pub(crate) fn new(alloc: Global) -> DaySums
+        ensures { result ≡ [] }
+    {
+        DaySums {
+            days: Vec::new(alloc),
+            sums: Vec::new(alloc),
+        }
+    }
+
+    /// The sums of a day, where they are kept.
+    pub(crate) fn get(&self, day: u32) -> Option<Cells>
+        ensures { result ≡ kept_on self.now day }
+    {
+        let place = place_in(&self.days, day);
+        if stands_at(&self.days, place, day) {
+            Some(self.sums[place])
+        } else {
+            None
+        }
+    }
+
+    /// Keeps other sums of a day, of which some are kept.
+    pub(crate) fn set(&mut self, day: u32, cells: Cells)
+        requires { IsSome (kept_on self.old day) }
+        ensures { (other : ℕ) → kept_on self.new other ≡ cond (is_at (nat_cmp day) other) (Some cells) (kept_on self.old other) }
+    {
+        let place = place_in(&self.days, day);
+        if stands_at(&self.days, place, day) {
+            self.sums[place] = cells;
+        }
+    }
+
+    /// Keeps sums of a day: no fares, where none were kept. An `Err` is out of memory.
+    pub(crate) fn open(&mut self, day: u32) -> Result<(), AllocError>
+        ensures same { (other : ℕ) → sums_on self.new other ≡ sums_on self.old other }
+        ensures kept { StayKept self.old self.new }
+        ensures open { OnOk result (IsSome (kept_on self.new day)) }
+    {
+        let place = place_in(&self.days, day);
+        if stands_at(&self.days, place, day) {
+            return Ok(());
+        }
+        self.days.reserve(1)?;
+        reserve(&mut self.sums)?;
+        put_in(&mut self.days, place, day);
+        put_in(&mut self.sums, place, Cells::new());
+        Ok(())
+    }
+}
