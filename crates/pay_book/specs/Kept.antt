@@ -35,10 +35,13 @@ pub record IsRight (tables : FareTables) (kept : Kept) : Type 0 where
   pub pays : kept.pays.items ≡ marks_by_last tables.rules.hopper None kept.buses.touches
   pub sums : AreSums tables kept.days (all_journeys tables kept.rail.touches kept.buses.touches)
 
--- there is room for a tap more, with its mark
-pub record HasRoom (kept : Kept) : Type 0 where
+-- there is room for a tap more by rail, with its mark
+pub record HasRoomByRail (kept : Kept) : Type 0 where
   pub rail : 1 ≤ kept.rail.room
   pub starts : vec_len kept.starts < vec_capacity kept.starts
+
+-- and for one on a bus
+pub record HasRoomOnBuses (kept : Kept) : Type 0 where
   pub buses : 1 ≤ kept.buses.room
   pub pays : vec_len kept.pays < vec_capacity kept.pays
 
@@ -73,14 +76,14 @@ pub record IsPossible (kept : Kept) (change : Change) : Type 0 where
 -- what a tap by rail disturbs as it enters or leaves, with room for it; sums are kept of the days of the journeys that there are then
 pub record IsPreparedByRail (tables : FareTables) (kept : Kept) (touch : Touch) (is_there : Bool) (found : Disturbed) : Type 0 where
   pub kind : is_bus touch ≡ false
-  pub room : HasRoom kept
+  pub room : HasRoomByRail kept
   pub disturbed : IsDisturbedBy tables kept.rail.touches touch is_there found.fewer.items found.more.items
   pub opened : AreKept kept.days (if is_there then found.fewer.items else found.more.items)
 
 -- and one on a bus
 pub record IsPreparedOnBus (tables : FareTables) (kept : Kept) (touch : Touch) (is_there : Bool) (found : Boardings) : Type 0 where
   pub kind : is_bus touch ≡ true
-  pub room : HasRoom kept
+  pub room : HasRoomOnBuses kept
   pub disturbed : AreDisturbed tables.rules.hopper (fewer_of is_there (place_of touch kept.buses.touches) kept.buses.touches) touch found.fewer.items found.more.items
   pub opened : AreKept kept.days (if is_there then found.fewer.items else found.more.items)
   pub within : place_of touch kept.buses.touches ≤ length kept.pays.items

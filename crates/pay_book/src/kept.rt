@@ -11,7 +11,7 @@ ghost use Rattle.pay_book.specs.Fewer.{fewer_of};
 ghost use Rattle.pay_book.specs.Days.{AreKept};
 ghost use Rattle.pay_fix.specs.declared.change.Change.TheVariants as Change;
 ghost use Rattle.pay_account.specs.Journeys.{is_bus, is_rail};
-ghost use Rattle.pay_book.specs.Kept.{IsRight, IsKeptOf, HasRoom, AreAsBefore, IsPossible, IsPrepared, IsPreparedFor, taps_after};
+ghost use Rattle.pay_book.specs.Kept.{IsRight, IsKeptOf, HasRoomByRail, HasRoomOnBuses, AreAsBefore, IsPossible, IsPrepared, IsPreparedFor, taps_after};
 ghost use Rattle.pay_book.specs.Rail.{IsDisturbed, IsDisturbedBy};
 
 use crate::boardings::Boardings;
@@ -69,14 +69,22 @@ impl Kept {
         }
     }
 
-    /// Makes room for a tap more. An `Err` is out of memory.
-    fn reserve(&mut self) -> Result<(), AllocError>
+    /// Makes room for a tap more by rail. An `Err` is out of memory.
+    fn reserve_by_rail(&mut self) -> Result<(), AllocError>
         ensures same { AreAsBefore self.old self.new }
         ensures right { (tables : FareTables) → IsRight tables self.old → IsRight tables self.new }
-        ensures room { OnOk result (HasRoom self.new) }
+        ensures room { OnOk result (HasRoomByRail self.new) }
     {
         self.rail.reserve()?;
-        self.starts.reserve(1)?;
+        self.starts.reserve(1)
+    }
+
+    /// Makes room for one more on a bus. An `Err` is out of memory.
+    fn reserve_on_buses(&mut self) -> Result<(), AllocError>
+        ensures same { AreAsBefore self.old self.new }
+        ensures right { (tables : FareTables) → IsRight tables self.old → IsRight tables self.new }
+        ensures room { OnOk result (HasRoomOnBuses self.new) }
+    {
         self.buses.reserve()?;
         self.pays.reserve(1)
     }
@@ -95,11 +103,11 @@ impl Kept {
         requires there { is_there ≡ true → slice_get self.old.rail.touches (place_of touch.now self.old.rail.touches) ≡ Some touch.now }
         ensures same { AreAsBefore self.old self.new }
         ensures right { IsRight tables.now self.new }
-        ensures room { OnOk result (HasRoom self.new) }
+        ensures room { OnOk result (HasRoomByRail self.new) }
         ensures opened { IfOk result (λ found. AreKept self.new.days (if is_there then found.fewer.items else found.more.items)) }
         ensures disturbed { IfOk result (λ found. IsDisturbedBy tables.now self.old.rail.touches touch.now is_there found.fewer.items found.more.items) }
     {
-        self.reserve()?;
+        self.reserve_by_rail()?;
         let found = rail::disturbed_by(
             alloc,
             tables,
@@ -126,14 +134,14 @@ impl Kept {
         requires there { is_there ≡ true → slice_get self.old.buses.touches (place_of touch.now self.old.buses.touches) ≡ Some touch.now }
         ensures same { AreAsBefore self.old self.new }
         ensures right { IsRight tables.now self.new }
-        ensures room { OnOk result (HasRoom self.new) }
+        ensures room { OnOk result (HasRoomOnBuses self.new) }
         ensures opened { IfOk result (λ found. AreKept self.new.days (if is_there then found.fewer.items else found.more.items)) }
         ensures within { OnOk result (place_of touch.now self.old.buses.touches ≤ length self.new.pays.items) }
         ensures inside { OnOk result (is_there ≡ true → place_of touch.now self.old.buses.touches < length self.new.pays.items) }
         ensures disturbed { let fewer = fewer_of is_there (place_of touch.now self.old.buses.touches) self.old.buses.touches in
             IfOk result (λ found. AreDisturbed tables.now.rules.hopper fewer touch.now found.fewer.items found.more.items) }
     {
-        self.reserve()?;
+        self.reserve_on_buses()?;
         let found = boardings::disturbed(
             alloc,
             tables,
@@ -150,7 +158,8 @@ impl Kept {
     /// Keeps sums of the days of these journeys, and changes none. An `Err` is out of memory.
     fn open(&mut self, journeys: &[Journey]) -> Result<(), AllocError>
         ensures same { AreAsBefore self.old self.new }
-        ensures room { HasRoom self.old → HasRoom self.new }
+        ensures room_by_rail { HasRoomByRail self.old → HasRoomByRail self.new }
+        ensures room_on_buses { HasRoomOnBuses self.old → HasRoomOnBuses self.new }
         ensures right { (tables : FareTables) → IsRight tables self.old → IsRight tables self.new }
         ensures opened { OnOk result (AreKept self.new.days journeys.now) }
     {
@@ -160,7 +169,7 @@ impl Kept {
     /// Puts in a rail tap, which disturbs these journeys.
     fn enter_rail(&mut self, tables: &Tables, touch: Touch, found: &Disturbed, steps: &mut Steps)
         requires right { IsRight tables.now self.old }
-        requires room { HasRoom self.old }
+        requires room { HasRoomByRail self.old }
         requires own_number { HaveOwnNumbers (touch ∷ self.old.rail.touches) }
         requires few { length self.old.rail.touches + length self.old.buses.touches < MOST_TOUCHES }
         requires kept { AreKept self.old.days found.now.more.items }
@@ -198,7 +207,7 @@ impl Kept {
     /// Puts in a bus tap, which disturbs these boardings.
     fn enter_bus(&mut self, tables: &Tables, touch: Touch, found: &Boardings)
         requires right { IsRight tables.now self.old }
-        requires room { HasRoom self.old }
+        requires room { HasRoomOnBuses self.old }
         requires own_number { HaveOwnNumbers (touch ∷ self.old.buses.touches) }
         requires few { length self.old.rail.touches + length self.old.buses.touches < MOST_TOUCHES }
         requires kept { AreKept self.old.days found.now.more.items }
