@@ -8,3 +8,6 @@ returns-in-Some c = told_as c.lines.result _ c.args.shard.now.tables _ _ c.args.
 pub returns-in-None : goal.returns-in-None
 returns-in-None c =
     told_as c.lines-in-None-2.result _ c.args.shard.now.tables _ _ c.args.week c.tables-in-None.ensures (c.new.ensures.nothing ∙ sym c.in-None.ensures.nothing) c.lines-in-None-2.ensures
+
+pub lines-requires-in-None-clause-priced_by : goal.lines-requires-in-None-clause-priced_by
+lines-requires-in-None-clause-priced_by c = c.new.ensures.any c.tables-in-None.result.now
