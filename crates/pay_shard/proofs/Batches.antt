@@ -77,10 +77,3 @@ module _ (tables : FareTables) (state : State) (through shard of : ℕ) where
   pub all_quoted : (accounts : List ℕ) → finite.entries state ≡ map at accounts → fold (batch_with tables state (through, shard, of)) (record { quotes = []; sets = [] }) accounts ≡ batch tables state through shard of
   unfolding join
   all_quoted accounts e = all_after (record { quotes = []; sets = [] }) accounts ∙ ap (λ es. batch_of tables through (filter is_chosen es)) (sym e)
-
-abbrev pub of_number : State → ℕ → ℕ × Accepted
-of_number state n = (n, accepted_of state n)
-
-pub by_number : (state : State) (ps : List (ℕ × ℕ)) → map (λ (e : ℕ × ℕ). of_number state e.0) ps ≡ map (of_number state) (map (λ (e : ℕ × ℕ). e.0) ps)
-by_number state [] = refl
-by_number state (e ∷ ps) = ap (λ (l : List (ℕ × Accepted)). of_number state e.0 ∷ l) (by_number state ps)

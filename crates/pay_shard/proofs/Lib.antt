@@ -3,6 +3,7 @@ pub mod AccountChanges
 pub mod ArrivalOrder
 pub mod AskedChanges
 pub mod Batches
+pub mod Blocks
 pub mod FirstOnes
 pub mod Journals
 pub mod LocalDesks

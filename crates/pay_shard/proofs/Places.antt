@@ -1,22 +1,24 @@
 -- Accounts one beside another, by their numbers and by their places.
-use Rattle.std.proofs.Common.{◌≡◌, ℕ, zero, suc, ◌+◌, ◌<◌, ◌≤◌, Bool, true, false, cond, ◌&&◌, T, List, [], ◌∷◌, ◌++◌, map, length, take, get_or, set, nat_lt, Option, Some, None, is_some, unwrap_or, refl, sym, ap, ◌∙◌, subst, arith}
-use Rattle.std.specs.BTreeMap.{is_at}
-use Rattle.std.specs.Cmp.{nat_cmp_total, eq_by_cmp_equiv}
+use Rattle.std.proofs.Common.{◌≡◌, ℕ, zero, suc, ◌+◌, ◌<◌, ◌≤◌, Bool, true, false, cond, ◌&&◌, ◌||◌, T, List, [], ◌∷◌, ◌++◌, map, length, take, get_or, set, nat_lt, nat_eq, eqb-true, eq-eqb, inl, inr, Option, Some, None, is_some, unwrap_or, refl, sym, ap, ◌∙◌, subst, arith}
+use Rattle.std.specs.Cmp.{nat_cmp_total, eq_by_cmp_equiv, nat_eq_equiv}
 use Rattle.std.specs.FinMap as finite
 use Rattle.std.specs.FinMap.{find, is_sorted, get-from_entries, get-insert, get-from_sorted, entries-from_sorted, from_entries_push, same_map, nat_cmp-IsAntisymmetric}
 use Rattle.std.specs.FinMap.Entries.{below_all}
 use Rattle.std.specs.List.{AllByRecursion, IsDistinct}
-use Rattle.std.specs.List.Sorted.{IsStrictlySortedBy}
+use Rattle.std.specs.List.Sorted.{IsStrictlySortedBy, IsSorted, IsPermutation}
 use Rattle.std.specs.Map.{lookup}
 use Rattle.std.specs.Option.{option_map, IfNone}
+use Rattle.std.specs.Set.{is_member}
 use Rattle.std.specs.Ordering.{nat_cmp, eq_by_cmp, is_eq, is_lt}
 use Rattle.std.specs.declared.cmp.Ordering.{Ordering}
 use Rattle.std.specs.declared.cmp.Ordering.TheVariants.{Less, Equal, Greater}
 use Rattle.std.proofs.Math.Seq.{map-set_same}
-use Rattle.std.proofs.lemmas.Bool.{lt-ltb}
+use Rattle.std.proofs.lemmas.Bool.{lt-ltb, cases_lt}
 use Rattle.std.proofs.lemmas.List.{map-append, length-map}
+use Rattle.std.proofs.lemmas.List.Sorted.{IsNonDecreasingBy-from_sort, list_any-IsPermutation}
+use Rattle.std.proofs.lemmas.Map.Keys.{IsDistinct-IsPermutation, apart_from_distinct, sorted_from_strictly_increasing}
 use Rattle.pay_account.specs.Words.{Accepted, nothing}
-use Rattle.pay_shard.specs.Held.{place_of, ArePlaces, state_of}
+use Rattle.pay_shard.specs.Held.{place_of, ArePlaces, AreNumbersOf, state_of}
 use Rattle.pay_shard.specs.State.{kept}
 use Rattle.pay_account.specs.State.{State, accepted_of}
 
@@ -30,6 +32,18 @@ equal Greater p = cc
 
 pub one_number : (p q : ℕ) → same_number p q ≡ true → p ≡ q
 one_number p q e = nat_cmp-IsAntisymmetric p q (equal (nat_cmp p q) e)
+
+equal_to : (k q : ℕ) → nat_eq k q ≡ same_number k q
+equal_to k q = by (nat_eq k q) (same_number k q) refl refl
+  where
+    by : (a b : Bool) → nat_eq k q ≡ a → same_number k q ≡ b → a ≡ b
+    by true true e f = refl
+    by false false e f = refl
+    by true false e f = let same : true ≡ false = sym ((eq_by_cmp_equiv nat_cmp_total).refl k) ∙ ap (same_number k) (eqb-true k q e) ∙ f in absurd (cc)
+    by false true e f = let same = eq-eqb k q (one_number k q f) in absurd (cc)
+
+tells_same : (k q : ℕ) → nat_eq k q ≡ same_number q k
+tells_same k q = equal_to k q ∙ (eq_by_cmp_equiv nat_cmp_total).symm k q
 
 some_suc : (o : Option ℕ) (i : ℕ) → option_map suc o ≡ Some i → (j : ℕ) × (o ≡ Some j) × (i ≡ suc j)
 some_suc None i e = absurd (cc)
@@ -65,25 +79,44 @@ both : (a b : Bool) → T a → T b → T (a && b)
 both true b p q = q
 both false b p q = p
 
-below_rises : (x : ℕ) (ps : List (ℕ × ℕ)) → AllByRecursion (λ y. nat_cmp x y ≡ Less) (map (λ (e : ℕ × ℕ). e.0) ps) → T (below_all nat_cmp x ps)
-below_rises x [] h = tt
-below_rises x (e ∷ ps) h = both (is_lt (nat_cmp x e.0)) (below_all nat_cmp x ps) (subst (λ r. T (is_lt r)) (sym h.0) tt) (below_rises x ps h.1)
+module _ (f : ℕ → Accepted) where
+  abbrev with_accepted : ℕ → ℕ × Accepted
+  with_accepted n = (n, f n)
 
-pub sorted_rises : (ps : List (ℕ × ℕ)) → IsStrictlySortedBy nat_cmp (map (λ (e : ℕ × ℕ). e.0) ps) → T (is_sorted nat_cmp ps)
-unfolding IsStrictlySortedBy
-sorted_rises [] h = tt
-sorted_rises (e ∷ ps) h = both (below_all nat_cmp e.0 ps) (is_sorted nat_cmp ps) (below_rises e.0 ps h.0) (sorted_rises ps h.1)
+  below_rises : (n : ℕ) (ns : List ℕ) → AllByRecursion (λ m. nat_cmp n m ≡ Less) ns → T (below_all nat_cmp n (map with_accepted ns))
+  below_rises n [] h = tt
+  below_rises n (m ∷ ns) h = both (is_lt (nat_cmp n m)) (below_all nat_cmp n (map with_accepted ns)) (subst (λ r. T (is_lt r)) (sym h.0) tt) (below_rises n ns h.1)
 
-below_still : (f : ℕ → Accepted) (x : ℕ) (ps : List (ℕ × ℕ)) → below_all nat_cmp x (map (λ (e : ℕ × ℕ). (e.0, f e.0)) ps) ≡ below_all nat_cmp x ps
-below_still f x [] = refl
-below_still f x (e ∷ ps) = ap (λ b. is_lt (nat_cmp x e.0) && b) (below_still f x ps)
+  sorted_rises : (ns : List ℕ) → IsStrictlySortedBy nat_cmp ns → T (is_sorted nat_cmp (map with_accepted ns))
+  unfolding IsStrictlySortedBy
+  sorted_rises [] h = tt
+  sorted_rises (n ∷ ns) h = both (below_all nat_cmp n (map with_accepted ns)) (is_sorted nat_cmp (map with_accepted ns)) (below_rises n ns h.0) (sorted_rises ns h.1)
 
-sorted_same : (f : ℕ → Accepted) (ps : List (ℕ × ℕ)) → is_sorted nat_cmp (map (λ (e : ℕ × ℕ). (e.0, f e.0)) ps) ≡ is_sorted nat_cmp ps
-sorted_same f [] = refl
-sorted_same f (e ∷ ps) = λ i. below_still f e.0 ps i && sorted_same f ps i
+  find_each : (ns : List ℕ) (q : ℕ) → find nat_cmp q (map with_accepted ns) ≡ cond (is_member nat_eq ns q) (Some (f q)) None
+  find_each [] q = refl
+  find_each (n ∷ ns) q = by (same_number q n) refl (find_each ns q) ∙ ap (λ b. cond (b || is_member nat_eq ns q) (Some (f q)) None) (sym (equal_to q n))
+    where
+      by : (b : Bool) → same_number q n ≡ b → find nat_cmp q (map with_accepted ns) ≡ cond (is_member nat_eq ns q) (Some (f q)) None
+          → cond b (Some (f n)) (find nat_cmp q (map with_accepted ns)) ≡ cond (b || is_member nat_eq ns q) (Some (f q)) None
+      by true here rest = ap (λ k. Some (f k)) (sym (one_number q n here))
+      by false off rest = rest
 
-still_sorted : (f : ℕ → Accepted) (ps : List (ℕ × ℕ)) → T (is_sorted nat_cmp ps) → T (is_sorted nat_cmp (map (λ (e : ℕ × ℕ). (e.0, f e.0)) ps))
-still_sorted f ps h = subst T (sym (sorted_same f ps)) h
+-- numbers in order, of which none stands twice
+numbers_ascend : (ns : List ℕ) → IsSorted nat_cmp ns → IsDistinct nat_eq ns → IsStrictlySortedBy nat_cmp ns
+numbers_ascend ns sorted distinct = sorted_from_strictly_increasing ns (λ k within.
+    let rises = IsNonDecreasingBy-from_sort (λ n. n) ns sorted k (k + 1) 0 (omega arith) within in
+    let apart = apart_from_distinct nat_eq ns k (k + 1) 0 distinct (omega arith) within in
+    elim (cases_lt (get_or ns k 0) (get_or ns (k + 1) 0)) [
+      | inl below ↦ below
+      | inr above ↦ let same = eq-eqb (get_or ns k 0) (get_or ns (k + 1) 0) (omega arith) in absurd (cc)
+    ])
+
+pub numbers_of_keys : (places : List (ℕ × ℕ)) (keys sorted : List ℕ) → IsDistinct nat_eq keys → ((q : ℕ) → is_some (lookup (nat_eq q) places) ≡ is_member nat_eq keys q)
+    → IsPermutation keys sorted → IsSorted nat_cmp sorted → AreNumbersOf places sorted
+numbers_of_keys places keys sorted distinct has moved ascend = record {
+  ascend = numbers_ascend sorted ascend (IsDistinct-IsPermutation nat_eq nat_eq_equiv.symm keys sorted moved distinct);
+  same = λ q. has q ∙ list_any-IsPermutation (nat_eq q) keys sorted moved;
+}
 
 -- ---- numbers
 
@@ -105,10 +138,10 @@ place_pushed (n ∷ ns) q none p = by (same_number q n) refl none (place_pushed 
 
 -- a number is written at its place
 pub places_more : (ps written : List (ℕ × ℕ)) (ns : List ℕ) (k n : ℕ) → ArePlaces ps ns → place_of k ns ≡ None → n ≡ length ns
-    → ((q : ℕ) → lookup (is_at (nat_cmp q)) written ≡ cond (is_at (nat_cmp k) q) (Some n) (lookup (is_at (nat_cmp q)) ps)) → ArePlaces written (ns ++ k ∷ [])
+    → ((q : ℕ) → lookup (nat_eq q) written ≡ cond (nat_eq k q) (Some n) (lookup (nat_eq q) ps)) → ArePlaces written (ns ++ k ∷ [])
 places_more ps written ns k n are none size h q =
-    h q ∙ ap (cond (is_at (nat_cmp k) q) (Some n)) (are q)
-    ∙ ap (λ b. cond b (Some n) (place_of q ns)) ((eq_by_cmp_equiv nat_cmp_total).symm k q)
+    h q ∙ ap (cond (nat_eq k q) (Some n)) (are q)
+    ∙ ap (λ b. cond b (Some n) (place_of q ns)) (tells_same k q)
     ∙ ap (λ m. cond (same_number q k) (Some m) (place_of q ns)) size
     ∙ sym (place_pushed ns k none q)
 
@@ -144,7 +177,7 @@ take_all (n ∷ ns) zero h = absurd (omega (arith, h))
 take_all (n ∷ ns) (suc i) h = ap (λ (l : List ℕ). n ∷ l) (take_all ns i (omega (arith, h)))
 
 pub next_placed : (ps written : List (ℕ × ℕ)) (ns : List ℕ) (k i : ℕ) → IsDistinct same_number ns → i < length ns → k ≡ get_or ns i 0 → ArePlaces ps (take i ns)
-    → ((q : ℕ) → lookup (is_at (nat_cmp q)) written ≡ cond (is_at (nat_cmp k) q) (Some i) (lookup (is_at (nat_cmp q)) ps)) → ArePlaces written (take (i + 1) ns)
+    → ((q : ℕ) → lookup (nat_eq q) written ≡ cond (nat_eq k q) (Some i) (lookup (nat_eq q) ps)) → ArePlaces written (take (i + 1) ns)
 next_placed ps written ns k i apart lt is are h =
     let next : suc i ≡ i + 1 = omega arith in
     subst (λ j. ArePlaces written (take j ns)) next (subst (ArePlaces written) (sym (take_next ns i 0 lt))
@@ -279,67 +312,53 @@ module _ {F : Type 0} (account : F → ℕ) (accepted : F → Accepted) where
 
   -- ---- all in ascending order of their numbers
 
-  find_each : (f : ℕ → Accepted) (ps : List (ℕ × ℕ)) (q : ℕ) → find nat_cmp q (map (λ (e : ℕ × ℕ). (e.0, f e.0)) ps) ≡ option_map (λ (_ : ℕ). f q) (lookup (is_at (nat_cmp q)) ps)
-  find_each f [] q = refl
-  find_each f (e ∷ ps) q = by (same_number q e.0) refl (find_each f ps q)
-    where
-      by : (b : Bool) → same_number q e.0 ≡ b → find nat_cmp q (map (λ (e : ℕ × ℕ). (e.0, f e.0)) ps) ≡ option_map (λ (_ : ℕ). f q) (lookup (is_at (nat_cmp q)) ps)
-          → cond b (Some (f e.0)) (find nat_cmp q (map (λ (e : ℕ × ℕ). (e.0, f e.0)) ps)) ≡ option_map (λ (_ : ℕ). f q) (cond b (Some e.1) (lookup (is_at (nat_cmp q)) ps))
-      by true here rest = ap (λ k. Some (f k)) (sym (one_number q e.0 here))
-      by false off rest = rest
-
   alike : (list : List F) (q : ℕ) → is_some (finite.get (state_of account accepted list) q) ≡ is_some (place_of q (map account list))
   unfolding state_of
   alike list q = ap is_some (get-from_entries nat_cmp_total (map entry list) q) ∙ both_none list q
 
-  get_by_place : (list : List F) (q : ℕ) → option_map (λ (_ : ℕ). accepted_of (state_of account accepted list) q) (place_of q (map account list)) ≡ finite.get (state_of account accepted list) q
-  get_by_place list q = by (finite.get (state_of account accepted list) q) (place_of q (map account list)) refl (alike list q)
+  get_if_there : (list : List F) (q : ℕ) → cond (is_some (place_of q (map account list))) (Some (accepted_of (state_of account accepted list) q)) None ≡ finite.get (state_of account accepted list) q
+  get_if_there list q = ap (λ b. cond b (Some (accepted_of (state_of account accepted list) q)) None) (sym (alike list q)) ∙ by (finite.get (state_of account accepted list) q)
     where
-      by : (o : Option Accepted) (i : Option ℕ) → finite.get (state_of account accepted list) q ≡ o → is_some o ≡ is_some i → option_map (λ (_ : ℕ). unwrap_or o nothing) i ≡ o
-      by None None e is = refl
-      by (Some x) (Some i) e is = refl
-      by None (Some i) e is = absurd (cc)
-      by (Some x) None e is = absurd (cc)
+      by : (o : Option Accepted) → cond (is_some o) (Some (unwrap_or o nothing)) None ≡ o
+      by None = refl
+      by (Some x) = refl
 
-  -- an entry of the state by its number alone
-  abbrev pub at_number : State → ℕ × ℕ → ℕ × Accepted
-  at_number state place = (place.0, accepted_of state place.0)
-
-  pub entries_by_place : (list : List F) (ps : List (ℕ × ℕ)) → ArePlaces ps (map account list) → T (is_sorted nat_cmp ps)
-      → finite.entries (state_of account accepted list) ≡ map (at_number (state_of account accepted list)) ps
-  entries_by_place list ps are rising =
+  pub entries_by_number : (list : List F) (places : List (ℕ × ℕ)) (numbers : List ℕ) → ArePlaces places (map account list) → AreNumbersOf places numbers
+      → finite.entries (state_of account accepted list) ≡ map (λ n. (n, accepted_of (state_of account accepted list) n)) numbers
+  entries_by_number list places numbers are of_all =
       let state = state_of account accepted list in
-      let es = map (at_number state) ps in
-      let sorted = still_sorted (accepted_of state) ps rising in
-      ap finite.entries (same_map nat_cmp_total nat_cmp-IsAntisymmetric state (finite.from_sorted es) (λ q. sym (
-      get-from_sorted nat_cmp es q sorted ∙ find_each (accepted_of state) ps q ∙ ap (option_map (λ (_ : ℕ). accepted_of state q)) (are q) ∙ get_by_place list q)))
-      ∙ entries-from_sorted nat_cmp es sorted
+      let all = map (with_accepted (accepted_of state)) numbers in
+      let rising = sorted_rises (accepted_of state) numbers of_all.ascend in
+      ap finite.entries (same_map nat_cmp_total nat_cmp-IsAntisymmetric state (finite.from_sorted all) (λ q. sym (
+      get-from_sorted nat_cmp all q rising ∙ find_each (accepted_of state) numbers q
+      ∙ ap (λ b. cond b (Some (accepted_of state q)) None) (sym (of_all.same q) ∙ ap is_some (are q)) ∙ get_if_there list q)))
+      ∙ entries-from_sorted nat_cmp all rising
 
   -- ---- as the functions ask for it
 
-  pub placed : (list : List F) (ps : List (ℕ × ℕ)) (q i : ℕ) → ArePlaces ps (map account list) → Some i ≡ lookup (is_at (nat_cmp q)) ps → place_of q (map account list) ≡ Some i
+  pub placed : (list : List F) (ps : List (ℕ × ℕ)) (q i : ℕ) → ArePlaces ps (map account list) → Some i ≡ lookup (nat_eq q) ps → place_of q (map account list) ≡ Some i
   placed list ps q i are is = sym (are q) ∙ sym is
 
-  pub missing : (list : List F) (ps : List (ℕ × ℕ)) (q : ℕ) (now : State) → state_of account accepted list ≡ now → ArePlaces ps (map account list) → None ≡ lookup (is_at (nat_cmp q)) ps → finite.get now q ≡ None
+  pub missing : (list : List F) (ps : List (ℕ × ℕ)) (q : ℕ) (now : State) → state_of account accepted list ≡ now → ArePlaces ps (map account list) → None ≡ lookup (nat_eq q) ps → finite.get now q ≡ None
   missing list ps q now v are none = ap (λ s. finite.get s q) (sym v) ∙ get_none list q (sym (are q) ∙ sym none)
 
   -- the account at a number's place is that number's, and what it has accepted is kept there
-  pub held : (list : List F) (ps : List (ℕ × ℕ)) (q i : ℕ) (now : State) (a : F) → state_of account accepted list ≡ now → ArePlaces ps (map account list) → Some i ≡ lookup (is_at (nat_cmp q)) ps
+  pub held : (list : List F) (ps : List (ℕ × ℕ)) (q i : ℕ) (now : State) (a : F) → state_of account accepted list ≡ now → ArePlaces ps (map account list) → Some i ≡ lookup (nat_eq q) ps
       → a ≡ get_or list i a → (account a ≡ q) × (finite.get now q ≡ Some (accepted a))
   held list ps q i now a v are is at =
       let it = get_found list q i a (placed list ps q i are is) at in
       (it.0, ap (λ s. finite.get s q) (sym v) ∙ it.1)
 
-  pub is_held : (list : List F) (ps : List (ℕ × ℕ)) (q i : ℕ) (now : State) (a : F) → state_of account accepted list ≡ now → ArePlaces ps (map account list) → Some i ≡ lookup (is_at (nat_cmp q)) ps
+  pub is_held : (list : List F) (ps : List (ℕ × ℕ)) (q i : ℕ) (now : State) (a : F) → state_of account accepted list ≡ now → ArePlaces ps (map account list) → Some i ≡ lookup (nat_eq q) ps
       → a ≡ get_or list i a → accepted a ≡ accepted_of now q
   is_held list ps q i now a v are is at = sym (ap (λ o. unwrap_or o nothing) ((held list ps q i now a v are is at).1))
 
-  pub inside : (list : List F) (ps : List (ℕ × ℕ)) (q i : ℕ) → ArePlaces ps (map account list) → Some i ≡ lookup (is_at (nat_cmp q)) ps → i < length list
+  pub inside : (list : List F) (ps : List (ℕ × ℕ)) (q i : ℕ) → ArePlaces ps (map account list) → Some i ≡ lookup (nat_eq q) ps → i < length list
   inside list ps q i are is = within list q i (placed list ps q i are is)
 
   -- an account was given something
   pub kept_at : (new : Bool) (list : List F) (ps : List (ℕ × ℕ)) (q i : ℕ) (now : State) (a w : F) (after : Accepted → Accepted) → state_of account accepted list ≡ now → ArePlaces ps (map account list)
-      → Some i ≡ lookup (is_at (nat_cmp q)) ps → a ≡ get_or list i a → account w ≡ account a → accepted w ≡ after (accepted a) → (new ≡ false → after (accepted a) ≡ accepted a)
+      → Some i ≡ lookup (nat_eq q) ps → a ≡ get_or list i a → account w ≡ account a → accepted w ≡ after (accepted a) → (new ≡ false → after (accepted a) ≡ accepted a)
       → state_of account accepted (set list i w) ≡ kept new now q (after (accepted_of now q))
   kept_at true list ps q i now a w after v are is at own gives same =
       state_set list q i w (placed list ps q i are is) (own ∙ (held list ps q i now a v are is at).0)
@@ -352,7 +371,7 @@ module _ {F : Type 0} (account : F → ℕ) (accepted : F → Accepted) where
 
   -- a new account is kept at its number
   pub opened : (list : List F) (ps written : List (ℕ × ℕ)) (k n : ℕ) (now : State) (w : F) → state_of account accepted list ≡ now → ArePlaces ps (map account list) → finite.get now (account w) ≡ None → k ≡ account w → n ≡ length list
-      → ((q : ℕ) → lookup (is_at (nat_cmp q)) written ≡ cond (is_at (nat_cmp k) q) (Some n) (lookup (is_at (nat_cmp q)) ps)) → ArePlaces written (map account (list ++ w ∷ []))
+      → ((q : ℕ) → lookup (nat_eq q) written ≡ cond (nat_eq k q) (Some n) (lookup (nat_eq q) ps)) → ArePlaces written (map account (list ++ w ∷ []))
   opened list ps written k n now w v are none is size h =
       let absent = place_none list (account w) (ap (λ s. finite.get s (account w)) v ∙ none) in
       subst (ArePlaces written) (ap (λ m. map account list ++ m ∷ []) is ∙ sym (map-append account list (w ∷ [])))

@@ -1,5 +1,5 @@
 -- How a desk stands, what it took, and what it answered.
-use Rattle.std.specs.Prelude.{◌≡◌, ℕ, ◌<◌, ◌==◌, false, not, if◌then◌else◌, List, [], ◌∷◌, ◌++◌, filter, Option, Some, None, ⊤, refl}
+use Rattle.std.specs.Prelude.{◌≡◌, ℕ, ◌<◌, ◌==◌, false, not, if◌then◌else◌, List, [], ◌∷◌, filter, Option, Some, None, ⊤, refl}
 use Rattle.std.specs.List.{AllByRecursion}
 use Rattle.pay_shard.specs.declared.asked.Asked.{Asked}
 use Rattle.pay_shard.specs.declared.asked.Asked.TheVariants as asked

@@ -1,9 +1,10 @@
 -- How accounts are kept: one beside another, and of each number its place.
-use Rattle.std.specs.Prelude.{◌≡◌, ℕ, suc, cond, List, [], ◌∷◌, map, Option, Some, None, option_map, refl}
-use Rattle.std.specs.BTreeMap.{is_at}
+use Rattle.std.specs.Prelude.{◌≡◌, ℕ, suc, cond, nat_eq, is_some, List, [], ◌∷◌, map, Option, Some, None, option_map, refl}
 use Rattle.std.specs.Coded.{Coded, code_by, coded×}
 use Rattle.std.specs.FinMap as finite
+use Rattle.std.specs.List.Sorted.{IsStrictlySortedBy}
 use Rattle.std.specs.Map.{lookup}
+use Rattle.std.specs.Set.{is_member}
 use Rattle.std.specs.Ordering.{nat_cmp, eq_by_cmp}
 use Rattle.pay_tables.specs.Codes.{fare_tables_code}
 use Rattle.pay_tables.specs.Words.{FareTables}
@@ -24,7 +25,12 @@ place_of q (n ∷ ns) = cond (eq_by_cmp nat_cmp q n) (Some 0) (option_map suc (p
 
 -- each number's place is known
 abbrev pub ArePlaces : List (ℕ × ℕ) → List ℕ → Type 0
-ArePlaces places numbers = (q : ℕ) → lookup (is_at (nat_cmp q)) places ≡ place_of q numbers
+ArePlaces places numbers = (q : ℕ) → lookup (nat_eq q) places ≡ place_of q numbers
+
+-- the numbers whose places are known, in ascending order
+pub record AreNumbersOf (places : List (ℕ × ℕ)) (numbers : List ℕ) : Type 0 where
+  pub ascend : IsStrictlySortedBy nat_cmp numbers
+  pub same : (q : ℕ) → is_some (lookup (nat_eq q) places) ≡ is_member nat_eq numbers q
 
 module _ {F : Type 0} (account : F → ℕ) (accepted : F → Accepted) where
   -- what accounts have accepted, by their numbers

@@ -7,6 +7,7 @@ pub mod Machine
 pub mod Runs
 pub mod Held
 pub mod Laws
+pub mod JournalParts
 pub mod ShardParts
 pub mod Merges
 pub mod Changes

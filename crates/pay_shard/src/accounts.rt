@@ -1,14 +1,16 @@
-ghost use Rattle.std.specs.Prelude.{◌≡◌, ◌<◌, ◌≤◌, map as each, [], IsOk, IfOk, IfErr, IfSome, IfNone, OnOk, OnErr, None};
+ghost use Rattle.std.specs.Prelude.{◌≡◌, ◌<◌, ◌≤◌, ℕ, nat_eq, is_some, map as each, [], IsOk, IfOk, IfErr, IfSome, IfNone, OnOk, OnErr, None};
 ghost use Rattle.std.specs.Arc.{arc_value};
 ghost use Rattle.std.specs.FinMap as map;
+ghost use Rattle.std.specs.HashMap.{get, keys};
 ghost use Rattle.std.specs.List.{IsDistinct};
 ghost use Rattle.std.specs.Ordering.{nat_cmp, eq_by_cmp};
+ghost use Rattle.std.specs.Set.{is_member};
 ghost use Rattle.pay_day.specs.Words.{IsDay};
 ghost use Rattle.pay_account.specs.Words.{IsTapResult, IsFixResult, shown, quote};
 ghost use Rattle.pay_shard.specs.State.{after_tap_of, after_fix_of};
 ghost use Rattle.pay_account.specs.State.{accepted_of, ArePriced};
 ghost use Rattle.pay_shard.specs.BatchParts.{batch, batch_if_quoted, batch_with};
-ghost use Rattle.pay_shard.specs.Held.{ArePlaces, state_of};
+ghost use Rattle.pay_shard.specs.Held.{ArePlaces, AreNumbersOf, state_of};
 
 use crate::batch::Batch;
 use crate::selection::is_quoted;
@@ -17,7 +19,7 @@ use pay_fix::Fix;
 use pay_tables::Tables;
 use pay_taps::Tap;
 use std::alloc::{AllocError, AllocFailed, Global};
-use std::collections::BTreeMap;
+use std::collections::HashMap;
 use std::marker::Model;
 use std::sync::Arc;
 
@@ -28,7 +30,7 @@ pub struct Accounts<F: Fares> {
     alloc: Global,
     tables: Arc<Tables>,
     // The place of each account by its number.
-    places: BTreeMap<u32, usize>,
+    places: HashMap<u32, usize>,
     accounts: Vec<F>,
 }
 
@@ -49,16 +51,34 @@ impl<F: Fares> Model for Accounts<F> {
 }
 
 /// The place of each account by its number. An `Err` is out of memory.
-fn places_of<F: Fares>(alloc: Global, accounts: &[F]) -> Result<BTreeMap<u32, usize>, AllocError>
+fn places_of<F: Fares>(alloc: Global, accounts: &[F]) -> Result<HashMap<u32, usize>, AllocError>
     requires { IsDistinct (eq_by_cmp nat_cmp) (each F.account accounts.now) }
     ensures ok { IfOk result (λ places. ArePlaces places.entries (each F.account accounts.now)) }
     ensures none { accounts.now ≡ [] → IsOk result }
 {
-    let mut places = BTreeMap::new(alloc);
+    let mut places = HashMap::new(alloc);
     for place in 0..accounts.len() {
         places.insert(accounts[place].number(), place)?;
     }
     Ok(places)
+}
+
+/// The numbers of accounts, in whatever order. An `Err` is out of memory.
+fn keys_of(alloc: Global, places: &HashMap<u32, usize>) -> Result<Vec<u32>, AllocError>
+    ensures all { IfOk result (λ numbers. numbers.items ≡ keys places.now) }
+    ensures distinct { IfOk result (λ numbers. IsDistinct nat_eq numbers.items) }
+    ensures has { IfOk result (λ numbers. (q : ℕ) → is_some (get nat_eq places.now q) ≡ is_member nat_eq numbers.items q) }
+{
+    places.keys().copied().collect(alloc)
+}
+
+/// The numbers of accounts in ascending order. An `Err` is out of memory.
+fn numbers_of(alloc: Global, places: &HashMap<u32, usize>) -> Result<Vec<u32>, AllocError>
+    ensures { IfOk result (λ numbers. AreNumbersOf places.now.entries numbers.items) }
+{
+    let mut numbers = keys_of(alloc, places)?;
+    numbers.sort_unstable();
+    Ok(numbers)
 }
 
 /// Quotes an account in a batch, if it has a tap or a Fill on a day of the week through that day.
@@ -245,7 +265,8 @@ impl<F: Fares> Accounts<F> {
         ensures { IfOk result (λ it. it ≡ batch self.now.tables self.now.state through shard of) }
     {
         let mut batch = Batch::new(self.alloc);
-        for account in self.places.keys() {
+        let numbers = numbers_of(self.alloc, &self.places)?;
+        for account in &numbers {
             self.add_account(&mut batch, *account, through, shard, of)?;
         }
         Ok(batch)

@@ -3,7 +3,6 @@ ghost use Rattle.std.specs.Arc.{arc_value};
 ghost use Rattle.std.specs.FinMap as map;
 ghost use Rattle.std.specs.List.{IsDistinct};
 ghost use Rattle.std.specs.Ordering.{nat_cmp, eq_by_cmp};
-ghost use Rattle.std.specs.Vec.{vec_capacity, vec_len};
 ghost use Rattle.pay_account.specs.Words.{nothing};
 ghost use Rattle.pay_account.specs.State.{accepted_of, ArePriced};
 ghost use Rattle.pay_shard.specs.Held.{state_of};
@@ -13,6 +12,7 @@ ghost use Rattle.pay_shard.specs.ShardParts.{state_now, answers_given, next_answ
 
 use crate::accounts::Accounts;
 use crate::item::{Entry, Item};
+use crate::journal::Journal;
 use crate::reply::{Answer, Reply};
 use pay_account::Fares;
 use pay_tables::Tables;
@@ -28,13 +28,12 @@ use std::sync::Arc;
 pub struct Shard<F: Fares> {
     number: u8,
     accounts: Accounts<F>,
-    journal: Vec<Item>,
+    journal: Journal,
     base: Snapshot<Accounts<F>>,
 }
 
 impl<F: Fares> Model for Shard<F> {
-    ghost use Rattle.std.specs.Prelude.{◌≡◌, ◌-◌};
-    ghost use Rattle.std.specs.Vec.{vec_capacity, vec_len};
+    ghost use Rattle.std.specs.Prelude.{◌≡◌};
     ghost use Rattle.pay_shard.specs.Runs.{replay, IsHistory};
     ghost use Rattle.pay_shard.specs.ShardParts.{ShardParts, shard_code};
 
@@ -47,7 +46,7 @@ impl<F: Fares> Model for Shard<F> {
       tables = s.accounts.tables;
       base = s.base.value.state;
       journal = s.journal.items;
-      room = vec_capacity s.journal - vec_len s.journal;
+      room = s.journal.room;
     } };
 
     ghost invariant = { λ s. (s.accounts.state ≡ replay s.accounts.tables s.base.value.state s.journal.items)
@@ -59,19 +58,6 @@ fn is_memory(reply: &Reply) -> bool
     ensures { result ≡ is_memory reply.now }
 {
     matches!(reply, Reply::Memory)
-}
-
-/// Adds an item to a journal that has room for it.
-fn add(journal: &mut Vec<Item>, item: Item)
-    requires { vec_len journal.old < vec_capacity journal.old }
-    ensures items { journal.new.items ≡ journal.old.items ++ item ∷ [] }
-    ensures len { vec_len journal.new ≡ vec_len journal.old + 1 }
-    ensures capacity { vec_capacity journal.old ≤ vec_capacity journal.new }
-{
-    match journal.push(item) {
-        Ok(()) => {}
-        Err(_) => unreachable!(),
-    }
 }
 
 impl<F: Fares> Shard<F> {
@@ -97,7 +83,7 @@ impl<F: Fares> Shard<F> {
             number,
             base: Snapshot::of(&accounts),
             accounts,
-            journal: Vec::new(alloc),
+            journal: Journal::new(alloc),
         })
     }
 
@@ -119,7 +105,7 @@ impl<F: Fares> Shard<F> {
     pub fn room(&self) -> usize
         ensures { result ≡ self.now.room }
     {
-        self.journal.capacity() - self.journal.len()
+        self.journal.room()
     }
 
     /// Makes room for so many more items. An `Err` is out of memory.
@@ -133,9 +119,10 @@ impl<F: Fares> Shard<F> {
     }
 
     /// All that was asked, in order.
-    pub fn journal(&self) -> &[Item]
-        ensures value { result.now ≡ self.now.journal }
-        ensures history { IsHistory self.now.tables self.now.base result.now }
+    pub fn journal(&self) -> &Journal
+        ensures value { result.now.items ≡ self.now.journal }
+        ensures room { result.now.room ≡ self.now.room }
+        ensures history { IsHistory self.now.tables self.now.base result.now.items }
     {
         &self.journal
     }
@@ -172,7 +159,7 @@ impl<F: Fares> Shard<F> {
             entry: *entry,
             refused_memory: is_memory(&reply),
         };
-        add(&mut self.journal, item);
+        self.journal.push(item);
         Answer {
             shard: self.number,
             place,

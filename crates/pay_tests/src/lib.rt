@@ -22,6 +22,8 @@ mod fixes;
 #[cfg(test)]
 mod given;
 #[cfg(test)]
+mod journals;
+#[cfg(test)]
 mod journeys;
 #[cfg(test)]
 mod ledger_rows;

@@ -1,14 +1,12 @@
-use Rattle.std.proofs.Common.{◌≤◌, ◌<◌, map as each, ap, sym, ◌∙◌, subst}
-use Rattle.std.specs.BTreeMap.{is_at}
+use Rattle.std.proofs.Common.{◌≤◌, ◌<◌, nat_eq, map as each, ap, sym, ◌∙◌, subst}
 use Rattle.std.specs.Map.{lookup}
-use Rattle.std.specs.Ordering.{nat_cmp}
 use Rattle.std.proofs.lemmas.List.{length-map}
 use Rattle.pay_shard.specs.Held.{ArePlaces}
 use Rattle.pay_shard.proofs.Places.{next_placed, take_all, number_at}
 use Rattle.pay_shard.proofs.accounts.places_of.Goals as goal
 
 pub loop-place-init : goal.loop-place-init
-loop-place-init g c = λ q. ap (lookup (is_at (nat_cmp q))) c.new-places.ensures.empty
+loop-place-init g c = λ q. ap (lookup (nat_eq q)) c.new-places.ensures.empty
 
 pub loop-place-preserved : goal.loop-place-preserved
 loop-place-preserved g c =

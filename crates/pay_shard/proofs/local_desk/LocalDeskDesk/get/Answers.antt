@@ -1,4 +1,4 @@
-use Rattle.std.proofs.Common.{ap, sym, ◌∙◌, subst, ℕ, List}
+use Rattle.std.proofs.Common.{ap, ◌∙◌, subst, ℕ, List}
 use Rattle.pay_tables.specs.Words.{FareTables}
 use Rattle.pay_shard.specs.Desks.{Standing, without, IsReplyTo}
 use Rattle.pay_shard.specs.LocalParts.{commands_of, transcript_of, tickets_of}

@@ -1,0 +1,64 @@
+ghost use Rattle.std.specs.Prelude.{◌≡◌, ◌<◌, [], ◌∷◌, ◌++◌, length, IfOk, slice_get};
+ghost use Rattle.pay_shard.specs.declared.block.TheConstants.{BLOCK_ITEMS};
+
+use crate::item::Item;
+use std::alloc::{AllocError, Global};
+use std::marker::Model;
+
+/// How many items a block of a journal has at most.
+pub(crate) const BLOCK_ITEMS: usize = 1_024;
+
+/// A block of a journal. In a contract it is its items.
+#[derive(Drop)]
+pub struct Block {
+    items: Vec<Item>,
+}
+
+impl Model for Block {
+    ghost use Rattle.std.specs.Prelude.{◌≤◌, List};
+    ghost use Rattle.std.specs.Vec.{vec_capacity};
+    ghost use Rattle.pay_shard.specs.declared.item.Item.{Item};
+    ghost use Rattle.pay_shard.specs.declared.block.TheConstants.{BLOCK_ITEMS};
+
+    ghost Value = { List Item };
+
+    ghost view = { λ b. b.items.items };
+
+    ghost invariant = { λ b. BLOCK_ITEMS ≤ vec_capacity b.items };
+}
+
+impl Block {
+    /// With no items, and memory for all that it may have.
+    pub(crate) fn new(alloc: Global) -> Result<Block, AllocError>
+        ensures { IfOk result (λ block. block ≡ []) }
+    {
+        Ok(Block {
+            items: Vec::with_capacity(alloc, BLOCK_ITEMS)?,
+        })
+    }
+
+    /// One item more, which takes no memory.
+    pub(crate) fn add(&mut self, item: Item)
+        requires { length self.old < BLOCK_ITEMS }
+        ensures { self.new ≡ self.old ++ item ∷ [] }
+    {
+        match self.items.push(item) {
+            Ok(()) => {}
+            Err(_) => unreachable!(),
+        }
+    }
+
+    /// The item at a place.
+    pub(crate) fn get(&self, place: usize) -> Option<Item>
+        ensures { result ≡ slice_get self.now place }
+    {
+        self.items.get(place).copied()
+    }
+
+    /// Its items.
+    pub fn items(&self) -> &[Item]
+        ensures { result.now ≡ self.now }
+    {
+        &self.items
+    }
+}
