@@ -1,11 +1,13 @@
 -- The price of the sums of a week's journeys is the price of the journeys; and what is so of every such price.
-use Rattle.std.proofs.Common.{◌≡◌, ℕ, ◌+◌, ◌≤◌, Bool, true, false, not, if◌then◌else◌, List, [], ◌∷◌, ◌++◌, map, filter, sum_by, refl, ap, arith}
+use Rattle.std.proofs.Common.{◌≡◌, ℕ, ◌+◌, ◌≤◌, Bool, true, false, not, if◌then◌else◌, List, [], ◌∷◌, ◌++◌, map, filter, sum_by, refl, sym, ap, ◌∙◌, arith}
 use Rattle.std.proofs.lemmas.List.{map-append}
 use Rattle.std.proofs.lemmas.List.Elements.{filter-append}
 use Rattle.std.proofs.lemmas.List.Sums.{sum_by-cons, sum_by-append}
 use Rattle.pay_tables.specs.declared.band.Band.{Band}
 use Rattle.pay_tables.specs.Words.{FareTables}
-use Rattle.pay_caps.specs.Words.{Journey, CellSums, capped_sum, total, Offer, charged, cells_of, covers, not_covered, outside, capped_price, capped_price_of, maximum_fares, day_price}
+use Rattle.pay_caps.specs.Words.{Journey, CellSums, capped_sum, total, Offer, charged, cells_of, covers, not_covered, outside, capped_price, capped_price_of, maximum_fares, day_price, fares}
+use Rattle.pay_caps.specs.DayPrices.{day_cap}
+use Rattle.pay_week.specs.Laws.{EmptyDayIsFree}
 use Rattle.pay_week.specs.WeekPrices.{week_cap, capped_days, capped_days_of, maximum_of, week_price, week_price_of}
 
 -- what the sums of a day's journeys come to
@@ -154,3 +156,33 @@ one_journey_grows tables monotone grows maximum before earlier journey later aft
 pub all_fares : (days : List CellSums) → sum_by total days ≡ sum_by capped_sum days + maximum_of days
 all_fares [] = refl
 all_fares (sums ∷ days) = omega (arith, sum_by-cons total sums days, sum_by-cons capped_sum sums days, sum_by-cons (λ (s : CellSums). s.maximum) sums days, all_fares days)
+
+-- ---- days without journeys
+
+nothing_capped : IsAtMostAll → (tables : FareTables) → (capped_price tables []).0 ≡ 0
+nothing_capped most tables = let none = most day_cap 0 (λ band. fares tables (not_covered tables band [])) tables.bands in omega arith
+
+days_without : IsAtMostAll → (tables : FareTables) (before after : List (List Journey)) → capped_days tables (before ++ [] ∷ after) ≡ capped_days tables (before ++ after)
+days_without most tables before after =
+    let price = λ (list : List Journey). (capped_price tables list).0 in
+    omega (arith, sum_by-append price before ([] ∷ after), sum_by-append price before after, sum_by-cons price [] after, nothing_capped most tables)
+
+pub empty_day_free : IsAtMostAll → AreChargedAlike → EmptyDayIsFree
+empty_day_free most alike tables before after =
+    let more : List (List Journey) = before ++ [] ∷ after in
+    let fewer : List (List Journey) = before ++ after in
+    omega (
+      arith,
+      ap (λ (offer : Offer). offer.0)
+          (alike week_cap (capped_days tables more) (capped_days tables fewer) (λ band. capped_days tables (map (not_covered tables band) more)) (λ band. capped_days tables (map (not_covered tables band) fewer)) tables.bands
+          (days_without most tables before after)
+          (λ band.
+            ap (capped_days tables) (map-append (not_covered tables band) before ([] ∷ after)) ∙ days_without most tables (map (not_covered tables band) before) (map (not_covered tables band) after)
+            ∙ sym (ap (capped_days tables) (map-append (not_covered tables band) before after)))),
+      sum_by-append (maximum_fares tables) before ([] ∷ after),
+      sum_by-append (maximum_fares tables) before after,
+      sum_by-cons (maximum_fares tables) [] after,
+    )
+
+pub nothing_free : IsAtMostAll → (tables : FareTables) → week_price tables [] ≡ 0
+nothing_free most tables = let none = most week_cap 0 (λ band. capped_days tables (map (not_covered tables band) [])) tables.bands in omega arith

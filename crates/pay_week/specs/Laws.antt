@@ -1,5 +1,5 @@
 -- What is so of all prices of a week.
-use Rattle.std.specs.Prelude.{◌≡◌, ◌≤◌, ◌+◌, ◌∷◌, ◌++◌, List, map, sum_by}
+use Rattle.std.specs.Prelude.{◌≡◌, ◌≤◌, ◌+◌, [], ◌∷◌, ◌++◌, List, map, sum_by}
 use Rattle.pay_tables.specs.declared.band.Band.{Band}
 use Rattle.pay_tables.specs.Words.{FareTables}
 use Rattle.pay_caps.specs.Words.{Journey, not_covered, maximum_fares}
@@ -14,3 +14,7 @@ WeekIsWithinBand = (tables : FareTables) (days : List (List Journey)) (before : 
 abbrev pub WeekGrows : Type 0
 WeekGrows = (tables : FareTables) (before : List (List Journey)) (earlier : List Journey) (journey : Journey) (later : List Journey) (after : List (List Journey))
     → week_price tables (before ++ (earlier ++ later) ∷ after) ≤ week_price tables (before ++ (earlier ++ journey ∷ later) ∷ after)
+
+-- a day without journeys may be left out of a week
+abbrev pub EmptyDayIsFree : Type 0
+EmptyDayIsFree = (tables : FareTables) (before after : List (List Journey)) → week_price tables (before ++ [] ∷ after) ≡ week_price tables (before ++ after)

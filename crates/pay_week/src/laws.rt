@@ -1,10 +1,10 @@
 //! What is true of the prices of weeks themselves. Each law is the contract of a function that does
 //! nothing: a caller whose proof needs a law calls its function.
-ghost use Rattle.std.specs.Prelude.{◌≡◌, ◌≤◌, List, map, sum_by};
+ghost use Rattle.std.specs.Prelude.{◌≡◌, ◌≤◌, [], List, map, sum_by};
 ghost use Rattle.pay_tables.specs.Words.{FareTables};
 ghost use Rattle.pay_caps.specs.Words.{Journey, cells_of, day_price};
 ghost use Rattle.pay_week.specs.WeekPrices.{week_price, week_price_of};
-ghost use Rattle.pay_week.specs.Laws.{WeekIsWithinBand, WeekGrows};
+ghost use Rattle.pay_week.specs.Laws.{WeekIsWithinBand, WeekGrows, EmptyDayIsFree};
 
 use pay_tables::Tables;
 
@@ -26,4 +26,12 @@ pub fn bounds()
 {
     pay_caps::laws::charges();
     pay_caps::laws::bounds();
+}
+
+/// Days without journeys may be left out of a week, and a week of no days costs nothing.
+pub fn empty_days()
+    ensures free { EmptyDayIsFree }
+    ensures nothing { (tables : FareTables) → week_price tables [] ≡ 0 }
+{
+    pay_caps::laws::charges();
 }
