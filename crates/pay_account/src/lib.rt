@@ -15,4 +15,3 @@ mod week_lines;
 pub use account::Account;
 pub use fares::{Fares, FixFault, TapFault};
 pub use pay_quotes::{Line, LineKind, Lines, Posting, Postings, Priced, Quote, Sets, Shown};
-pub use prices::price_by_sums;

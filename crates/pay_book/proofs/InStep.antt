@@ -1,5 +1,5 @@
 -- Days in ascending order and their sums: what is kept of a day, and of all days after a change of one.
-use Rattle.std.proofs.Common.{◌≡◌, ◌≢◌, ◌↔◌, IsTrue, IsSome, unwrap_or, ℕ, zero, suc, ◌<◌, ◌≤◌, Bool, true, false, cond, Option, Some, None, List, [], ◌∷◌, length, get_or, slice_get, slice_set, ◌⊎◌, inl, inr, refl, sym, ap, ◌∙◌, subst, arith}
+use Rattle.std.proofs.Common.{◌≡◌, ◌≢◌, ◌↔◌, ◌==◌, IsTrue, IsSome, unwrap_or, ℕ, zero, suc, ◌<◌, ◌≤◌, Bool, true, false, cond, Option, Some, None, List, [], ◌∷◌, length, get_or, slice_get, slice_set, ◌⊎◌, inl, inr, refl, sym, ap, ◌∙◌, subst, arith}
 use Rattle.std.specs.BTreeMap.{is_at}
 use Rattle.std.specs.Cmp.{nat_cmp_is}
 use Rattle.std.specs.List.{insert, zip, AllByRecursion}
@@ -9,20 +9,20 @@ use Rattle.std.specs.Map.{lookup}
 use Rattle.std.specs.Ordering.{nat_cmp, is_eq}
 use Rattle.std.specs.declared.cmp.Ordering.TheVariants.{Less, Equal, Greater}
 use mathlib.Core.Logic.{⊎_elim}
-use Rattle.std.proofs.lemmas.Bool.{cases_lt, ltb-true, ltb-false, lt-ltb}
+use Rattle.std.proofs.lemmas.Bool.{cases_lt, eqb-true, ltb-true, ltb-false, lt-ltb}
 use Rattle.pay_caps.specs.Words.{CellSums, no_fares}
 use Rattle.pay_book.specs.Days.{Days, kept_on, sums_on, StayKept}
 use Rattle.pay_book.specs.InStep.{AreRising, IsPlaceOf, AreInStep}
 
 -- ---- one day and another
 
-at_itself : (day : ℕ) → is_at (nat_cmp day) day ≡ true
+pub at_itself : (day : ℕ) → is_at (nat_cmp day) day ≡ true
 at_itself day = ap is_eq (sym (nat_cmp_is day day Equal refl))
 
-not_before : (day other : ℕ) → other < day → is_at (nat_cmp day) other ≡ false
+pub not_before : (day other : ℕ) → other < day → is_at (nat_cmp day) other ≡ false
 not_before day other lt = ap is_eq (sym (nat_cmp_is day other Greater lt))
 
-not_behind : (day other : ℕ) → day < other → is_at (nat_cmp day) other ≡ false
+pub not_behind : (day other : ℕ) → day < other → is_at (nat_cmp day) other ≡ false
 not_behind day other lt = ap is_eq (sym (nat_cmp_is day other Less lt))
 
 either : (day other : ℕ) → (day ≡ other) ⊎ (is_at (nat_cmp day) other ≡ false)
@@ -47,12 +47,12 @@ found day (d ∷ days) (s ∷ sums) zero long at there =
 found day (d ∷ days) (s ∷ sums) (suc place) long at there =
     ap (λ b. cond b (Some s) (lookup (is_at (nat_cmp day)) (zip days sums))) (not_before day d at.0) ∙ found day days sums place (omega arith) at.1 there
 
-none_behind : (day : ℕ) (days : List ℕ) (sums : List CellSums) → AllByRecursion (λ other. day < other) days → lookup (is_at (nat_cmp day)) (zip days sums) ≡ None
+pub none_behind : (day : ℕ) (days : List ℕ) (sums : List CellSums) → AllByRecursion (λ other. day < other) days → lookup (is_at (nat_cmp day)) (zip days sums) ≡ None
 none_behind day [] sums all = refl
 none_behind day (d ∷ days) [] all = refl
 none_behind day (d ∷ days) (s ∷ sums) all = ap (λ b. cond b (Some s) (lookup (is_at (nat_cmp day)) (zip days sums))) (not_behind day d all.0) ∙ none_behind day days sums all.1
 
-all_further : (day other : ℕ) (days : List ℕ) → day < other → AllByRecursion (λ d. other < d) days → AllByRecursion (λ d. day < d) days
+pub all_further : (day other : ℕ) (days : List ℕ) → day < other → AllByRecursion (λ d. other < d) days → AllByRecursion (λ d. day < d) days
 all_further day other [] lt all = tt
 all_further day other (d ∷ days) lt all = (omega (arith, all.0), all_further day other days lt all.1)
 
@@ -240,3 +240,8 @@ module _ (day : ℕ) (days more : List ℕ) (sums with_more : List CellSums) (pl
       as_long_with (d ∷ days) [] place long = absurd (omega arith)
       as_long_with (d ∷ days) (s ∷ sums) zero long = ap suc long
       as_long_with (d ∷ days) (s ∷ sums) (suc place) long = ap suc (as_long_with days sums place (omega arith))
+
+-- ---- a day that is another
+
+pub same_day : (one other : ℕ) → (one == other) ≡ true → one ≡ other
+same_day one other is = eqb-true one other is

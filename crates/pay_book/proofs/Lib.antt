@@ -1,4 +1,5 @@
 pub mod InStep
+pub mod OfDays
 pub mod Sums
 pub mod Replacing
 pub mod Weeks

@@ -1,7 +1,7 @@
 -- The sums of the fares of days, as a book keeps them.
-use Rattle.std.specs.Prelude.{◌≡◌, ℕ, ◌+◌, ◌≤◌, List, ◌∷◌, ◌++◌, length, Option, IsSome, unwrap_or}
+use Rattle.std.specs.Prelude.{◌≡◌, ℕ, ◌+◌, ◌≤◌, List, [], ◌∷◌, ◌++◌, length, Option, Some, None, IsSome, unwrap_or}
 use Rattle.std.specs.BTreeMap.{is_at}
-use Rattle.std.specs.List.{AllByRecursion}
+use Rattle.std.specs.List.{AllByRecursion, flat_map}
 use Rattle.std.specs.Map.{lookup}
 use Rattle.std.specs.Ordering.{nat_cmp}
 use Rattle.pay_links.specs.Words.{first_tap}
@@ -19,6 +19,15 @@ Days = List (ℕ × CellSums)
 -- what is kept of a day
 abbrev pub kept_on : Days → ℕ → Option CellSums
 kept_on days day = lookup (is_at (nat_cmp day)) days
+
+-- the sums of a day, where they are kept
+abbrev pub if_kept : Option CellSums → List CellSums
+if_kept None = []
+if_kept (Some sums) = sums ∷ []
+
+-- those of some days that are kept
+abbrev pub kept_of : Days → List ℕ → List CellSums
+kept_of days those = flat_map (λ day. if_kept (kept_on days day)) those
 
 -- the sums of a day: of one that is not kept there are no fares
 abbrev pub sums_on : Days → ℕ → CellSums

@@ -1,9 +1,9 @@
-ghost use Rattle.std.specs.Prelude.{◌≡◌, ◌≤◌, ◌<◌, ◌↔◌, [], ℕ, IsSome, IsTrue, Some, cond, length, slice_get, OnOk};
+ghost use Rattle.std.specs.Prelude.{◌≡◌, ◌≤◌, ◌<◌, ◌+◌, ◌^◌, ◌↔◌, [], ℕ, IsSome, IsTrue, Some, ◌-◌, cond, length, take, drop, slice_get, OnOk};
 ghost use Rattle.std.specs.BTreeMap.{is_at};
-ghost use Rattle.std.specs.List.{insert};
+ghost use Rattle.std.specs.List.{range_with_len};
 ghost use Rattle.std.specs.Ordering.{nat_cmp};
 ghost use Rattle.std.specs.Vec.{vec_capacity, vec_len};
-ghost use Rattle.pay_book.specs.Days.{kept_on, sums_on, StayKept};
+ghost use Rattle.pay_book.specs.Days.{kept_on, kept_of, sums_on, StayKept};
 ghost use Rattle.pay_book.specs.InStep.{AreRising, IsPlaceOf};
 
 use crate::put_in::put_in;
@@ -54,6 +54,14 @@ fn stands_at(days: &[u32], place: usize, day: u32) -> bool
     }
 }
 
+/// The sums from a place on, as far as before another.
+fn between(sums: &[Cells], from: usize, to: usize) -> &[Cells]
+    requires { (from ≤ to) × (to ≤ length sums.now) }
+    ensures { result.now ≡ take (to - from) (drop from sums.now) }
+{
+    &sums[from..to]
+}
+
 /// Makes room for the sums of a further day. Most accounts have one day for a long time, so the first takes no more than its own.
 fn reserve(sums: &mut Vec<Cells>) -> Result<(), AllocError>
     ensures same { sums.new.items ≡ sums.old.items }
@@ -87,6 +95,17 @@ impl DaySums {
         } else {
             None
         }
+    }
+
+    /// The kept sums of so many days from one on, in their order.
+    pub(crate) fn of_days(&self, first: u32, count: u32) -> &[Cells]
+        requires { first + count < 2 ^ 32 }
+        ensures kept { result.now ≡ kept_of self.now (range_with_len first count) }
+        ensures few { length result.now ≤ count }
+    {
+        let from = place_in(&self.days, first);
+        let to = place_in(&self.days, first + count);
+        between(&self.sums, from, to)
     }
 
     /// Keeps other sums of a day, of which some are kept.

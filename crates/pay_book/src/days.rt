@@ -1,19 +1,22 @@
 //! The sums of the fares of each day on which a journey began.
 ghost use Rattle.std.specs.Prelude.{◌≡◌, ◌≤◌, ◌+◌, ◌*◌, ℕ, List, [], ◌∷◌, ◌++◌, length, map, IsSome, Some, cond, OnOk};
-ghost use Rattle.pay_day.specs.Words.{IsDay, sunday};
+ghost use Rattle.pay_day.specs.Words.{IsDay};
+ghost use Rattle.pay_day.specs.declared.limits.TheConstants.{DAYS_PER_WEEK};
 ghost use Rattle.pay_money.specs.declared.limits.TheConstants.{MOST_MONEY};
 ghost use Rattle.pay_tables.specs.declared.limits.TheConstants.{MOST_FARE};
-ghost use Rattle.pay_caps.specs.Words.{cell_of, fare, sum_at, total, all_added, all_taken};
+ghost use Rattle.pay_caps.specs.Words.{cell_of, cells_of, fare, sum_at, total, all_added, all_taken};
+ghost use Rattle.pay_week.specs.Words.{week_price};
 ghost use Rattle.pay_links.specs.declared.journey.Journey.{Journey};
-ghost use Rattle.pay_account.specs.Prices.{days_through, journeys_on, prices_of_journeys};
+ghost use Rattle.pay_account.specs.Prices.{journeys_on, price_of_day, prices_of_journeys};
 ghost use Rattle.pay_book.specs.Days.{kept_on, sums_on, day_of, AreKept, AreSums, AreThere, CanReplace, HaveRoomFor, StayKept};
 
 use crate::day_sums::DaySums;
-use pay_account::{Priced, price_by_sums};
+use pay_account::Priced;
 use pay_caps::{Cells, cell_of, fare};
 use pay_day::limits::DAYS_PER_WEEK;
 use pay_day::monday;
 use pay_links::Journey;
+use pay_money::Pence;
 use pay_tables::Tables;
 use std::alloc::AllocError;
 
@@ -104,22 +107,29 @@ pub(crate) fn replace(days: &mut DaySums, tables: &Tables, old: &[Journey], new:
     add_all(days, tables, new);
 }
 
-/// The sums of each day of a day's week, from Monday through Sunday.
-fn week(days: &DaySums, day: u32) -> [Cells; DAYS_PER_WEEK as usize]
-    requires { IsDay day }
-    ensures { result ≡ map (sums_on days.now) (days_through (sunday day)) }
+/// The price of a week, by the sums of its days that have any.
+fn week_of(tables: &Tables, week: &[Cells]) -> Pence
+    requires { length week.now ≤ DAYS_PER_WEEK }
+    ensures { (lists : List (List Journey)) → week.now ≡ map (cells_of tables.now) lists → result ≡ week_price tables.now lists }
 {
-    pay_account::laws::week_days();
-    let monday = monday(day);
-    [
-        sums(days, monday),
-        sums(days, monday + 1),
-        sums(days, monday + 2),
-        sums(days, monday + 3),
-        sums(days, monday + 4),
-        sums(days, monday + 5),
-        sums(days, monday + 6),
-    ]
+    pay_week::laws::week_prices(tables);
+    pay_week::laws::empty_days();
+    if week.is_empty() {
+        return Pence::ZERO;
+    }
+    pay_week::week_price(tables, week)
+}
+
+/// The price of a service day, by what is kept of it.
+fn day_of(tables: &Tables, days: &DaySums, day: u32) -> Pence
+    ensures { (list : List Journey) → AreSums tables.now days.now list → result ≡ price_of_day tables.now list day }
+{
+    pay_caps::laws::day_prices(tables);
+    pay_caps::laws::bounds();
+    match days.get(day) {
+        Some(cells) => pay_caps::day_price(tables, &cells).0,
+        None => Pence::ZERO,
+    }
 }
 
 /// The price of a service day and of its week through Sunday, by what is kept of them.
@@ -127,5 +137,13 @@ pub(crate) fn prices(tables: &Tables, days: &DaySums, again: bool, day: u32) -> 
     requires { IsDay day }
     ensures { (list : List Journey) → AreSums tables.now days.now list → result ≡ prices_of_journeys tables.now list again day }
 {
-    price_by_sums(tables, &week(days, day), again, day)
+    pay_account::laws::week_days();
+    pay_week::laws::empty_days();
+    let week = days.of_days(monday(day), DAYS_PER_WEEK);
+    Priced {
+        again,
+        day,
+        day_price: day_of(tables, days, day),
+        week_price: week_of(tables, week),
+    }
 }

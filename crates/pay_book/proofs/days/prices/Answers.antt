@@ -1,8 +1,11 @@
-use Rattle.std.proofs.Common.{◌∙◌}
-use Rattle.pay_day.specs.Words.{sunday}
-use Rattle.pay_account.specs.Prices.{days_through}
-use Rattle.pay_book.proofs.Weeks.{each_sums}
+use Rattle.std.proofs.Common.{ℕ, ◌∙◌, ap, sym}
+use Rattle.std.specs.List.{range_with_len}
+use Rattle.pay_day.specs.declared.limits.TheConstants.{DAYS_PER_WEEK}
+use Rattle.pay_book.proofs.Weeks.{priced_as}
 use Rattle.pay_book.proofs.days.prices.Goals as goal
 
 pub returns : goal.returns
-returns c = λ list are. c.price_by_sums.ensures list (c.week.ensures ∙ each_sums c.args.tables.now c.args.days.now list are (days_through (sunday c.args.day)))
+returns c = λ list are.
+    priced_as c.empty_days.ensures.free c.args.tables.now c.args.days.now list c.args.again c.args.day c.day_of.result c.week_of.result c.of_days-week.result.now (range_with_len c.monday.result DAYS_PER_WEEK) are
+    (c.day_of.ensures list are) c.of_days-week.ensures.kept
+    (c.week_days.ensures c.args.day c.requires ∙ ap (λ (first : ℕ). range_with_len first DAYS_PER_WEEK) (sym c.monday.ensures.value)) c.week_of.ensures

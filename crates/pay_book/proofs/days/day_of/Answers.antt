@@ -1,0 +1,10 @@
+use Rattle.std.proofs.Common.{◌∙◌, ap, sym}
+use Rattle.pay_book.proofs.Weeks.{day_as, day_of_none}
+use Rattle.pay_book.proofs.days.day_of.Goals as goal
+
+pub returns-in-Some : goal.returns-in-Some
+returns-in-Some c = λ list are.
+    day_as c.args.tables.now c.args.days.now list c.args.day c.in-Some.cells c.day_price.result.0 c.day_prices.ensures.day are (sym c.get.ensures ∙ c.in-Some.is) c.day_price.ensures.price
+
+pub returns-in-None : goal.returns-in-None
+returns-in-None c = λ list are. day_of_none c.args.tables.now c.args.days.now list c.args.day (c.bounds.ensures.by_fares c.args.tables.now) are (sym c.get.ensures ∙ c.in-None.is)
