@@ -14,9 +14,9 @@ use Rattle.pay_caps.specs.declared.cell.Cell.TheVariants.{Rail, Buses, Maximum}
 use Rattle.pay_caps.specs.declared.limits.TheConstants.{SPANS}
 use Rattle.pay_caps.specs.CellSums.{CellSums}
 use Rattle.pay_caps.specs.Covers.{IsCell}
-use Rattle.pay_caps.specs.Cells.{AreSums, all_spans, span_at, added, taken, changed_at, sum_at, sum_where, total, spans_outside}
+use Rattle.pay_caps.specs.Cells.{AreSums, used_of, all_spans, span_at, added, taken, changed_at, sum_at, sum_where, total, spans_outside}
 use Rattle.pay_caps.proofs.Sums.{if_passed}
-use Rattle.pay_caps.proofs.AllSpans.{place_of, at_its_place}
+use Rattle.pay_caps.proofs.AllSpans.{count_of_spans, place_of, at_its_place}
 use Rattle.pay_caps.proofs.Weights.{weighed, weighed_at, weighs_at_most, weighs_more, changed_is_set, place_below}
 use Rattle.pay_caps.proofs.Steps.{weighs_from, half_cleared, one_cleared, cleared_at_most, cleared_length}
 
@@ -115,11 +115,11 @@ chosen true n = refl
 chosen false n = refl
 
 -- one span more
-pub outside_from : (cover : Cover) (spans : List ℕ) (place n : ℕ) → place < SPANS → length spans ≡ SPANS → n ≡ (if covers_span cover (span_at place) then 0 else get_or spans place 0)
+pub outside_from : (cover : Cover) (spans : List ℕ) (place n : ℕ) → place < length spans → length spans ≤ SPANS → n ≡ (if covers_span cover (span_at place) then 0 else get_or spans place 0)
     → weighed (λ span. not (covers_span cover span)) (drop place all_spans) (drop place spans)
     ≡ n + weighed (λ span. not (covers_span cover span)) (drop (place + 1) all_spans) (drop (place + 1) spans)
-outside_from cover spans place n below all is =
-    let from = weighs_from (λ (span : Span). not (covers_span cover span)) all_spans spans place (record { from = 0; to = 0 }) 0 below all in
+outside_from cover spans place n below few is =
+    let from = weighs_from (λ (span : Span). not (covers_span cover span)) all_spans spans place (record { from = 0; to = 0 }) 0 (omega (arith, below, few, count_of_spans)) below in
     omega (arith, from, is, chosen (covers_span cover (span_at place)) (get_or spans place 0))
 
 pub outside_is_part : (cover : Cover) (spans : List ℕ) → sum_where (λ span. not (covers_span cover span)) spans ≤ sum spans
@@ -129,9 +129,14 @@ pub cleared_from : (cover : Cover) (spans : List ℕ) (place n : ℕ) → place 
     → half_cleared (covers_span cover) all_spans (set spans place n) (place + 1) ≡ half_cleared (covers_span cover) all_spans spans place
 cleared_from cover spans place n below all is = one_cleared (covers_span cover) all_spans spans place (record { from = 0; to = 0 }) n below all is
 
+pub outside_length : (cover : Cover) (spans : List ℕ) → length spans ≡ SPANS → length (spans_outside cover spans) ≡ SPANS
+outside_length cover spans all = cleared_length (covers_span cover) all_spans spans all
+
 -- what a band leaves outside of sums are sums
-pub are_outside : (cover : Cover) (spans : List ℕ) (buses maximum : ℕ) (left : List ℕ) → AreSums (sums spans buses maximum) → left ≡ spans_outside cover spans → AreSums (sums left 0 maximum)
-are_outside cover spans buses maximum left are is = record {
+pub are_outside : (cover : Cover) (spans : List ℕ) (buses maximum used : ℕ) (left : List ℕ) (now : ℕ) → AreSums (sums spans buses maximum) used → left ≡ spans_outside cover spans → now ≡ used_of left
+    → AreSums (sums left 0 maximum) now
+are_outside cover spans buses maximum used left now are is walked = record {
   spans = ap length is ∙ cleared_length (covers_span cover) all_spans spans are.spans;
   fits = omega (arith, are.fits, ap sum is, cleared_at_most (covers_span cover) all_spans spans);
+  walked = walked;
 }

@@ -1,10 +1,10 @@
-ghost use Rattle.std.specs.Prelude.{◌≡◌, ◌≤◌, ◌<◌, ◌+◌, not, if◌then◌else◌, length, sum, slice_get, slice_index};
+ghost use Rattle.std.specs.Prelude.{◌≡◌, ◌≤◌, ◌<◌, ◌+◌, not, if◌then◌else◌, length, max, sum, take, slice_get, slice_index};
 ghost use Rattle.pay_tables.specs.declared.limits.TheConstants.{MOST_ZONES};
 ghost use Rattle.pay_caps.specs.declared.limits.TheConstants.{SPANS};
 ghost use Rattle.pay_money.specs.declared.limits.TheConstants.{MOST_MONEY};
 ghost use Rattle.pay_tables.specs.Words.{IsSpan, covers_span};
 ghost use Rattle.pay_caps.specs.Covers.{IsCell};
-ghost use Rattle.pay_caps.specs.Cells.{span_at, no_fares, added, taken, sum_at, total, capped_sum, sum_where, outside_sum, spans_outside, outside, outside_of};
+ghost use Rattle.pay_caps.specs.Cells.{span_at, used_of, no_fares, added, taken, sum_at, total, capped_sum, sum_where, outside_sum, spans_outside, outside, outside_of};
 
 use crate::cell::Cell;
 use crate::limits::SPANS;
@@ -19,11 +19,14 @@ pub struct Cells {
     spans: [Pence; SPANS],
     buses: Pence,
     maximum: Pence,
+    /// How many sums of spans there are up to the last one that is not 0: a walk over them ends there.
+    used: u8,
 }
 
 impl Model for Cells {
     ghost use Rattle.pay_caps.specs.CellSums.{CellSums, sums_code};
-    ghost use Rattle.pay_caps.specs.Cells.{AreSums};
+    ghost use Rattle.pay_caps.specs.Cells.{AreSums, used_of};
+    ghost use Rattle.std.proofs.Common.{ap, sym, ℕ};
 
     ghost Value = { CellSums };
 
@@ -31,9 +34,11 @@ impl Model for Cells {
 
     ghost view = { λ c. record { spans = c.spans; buses = c.buses; maximum = c.maximum } };
 
-    ghost inverse = { λ s. record { spans = s.spans; buses = s.buses; maximum = s.maximum } };
+    ghost inverse = { λ s. record { spans = s.spans; buses = s.buses; maximum = s.maximum; used = used_of s.spans } };
 
-    ghost invariant = { λ c. AreSums (record { spans = c.spans; buses = c.buses; maximum = c.maximum }) };
+    ghost inverse_ok = { λ a h. ap (λ (used : ℕ). record { spans = a.spans; buses = a.buses; maximum = a.maximum; used = used }) (sym h.walked) };
+
+    ghost invariant = { λ c. AreSums (record { spans = c.spans; buses = c.buses; maximum = c.maximum }) c.used };
 }
 
 /// All spans within nine zones, by their last zone and then by their first.
@@ -106,6 +111,7 @@ impl Cells {
             spans: [Pence::ZERO; SPANS],
             buses: Pence::ZERO,
             maximum: Pence::ZERO,
+            used: 0,
         }
     }
 
@@ -121,6 +127,7 @@ impl Cells {
             Cell::Rail(span) => {
                 let place = place_of(span);
                 self.spans[place] = self.spans[place] + fare;
+                self.used = used_with(&self.spans, self.used, place);
             }
             Cell::Buses => self.buses = self.buses + fare,
             Cell::Maximum => self.maximum = self.maximum + fare,
@@ -139,6 +146,7 @@ impl Cells {
             Cell::Rail(span) => {
                 let place = place_of(span);
                 self.spans[place] = self.spans[place] - fare;
+                self.used = used_with(&self.spans, self.used, place);
             }
             Cell::Buses => self.buses = self.buses - fare,
             Cell::Maximum => self.maximum = self.maximum - fare,
@@ -150,7 +158,7 @@ impl Cells {
         ensures value { result ≡ capped_sum self.now }
         ensures in_range { result + self.now.maximum ≤ MOST_MONEY }
     {
-        self.buses + sum_of(&self.spans)
+        self.buses + sum_of(self.used_spans())
     }
 
     /// The sum of the maximum fares.
@@ -166,7 +174,7 @@ impl Cells {
         ensures value { result ≡ outside_sum cover self.now }
         ensures in_range { result ≤ MOST_MONEY }
     {
-        sum_outside(&self.spans, cover)
+        sum_outside(self.used_spans(), cover)
     }
 
     /// The fares that a band leaves outside, with the maximum fares. The band is told by its place in the
@@ -180,15 +188,52 @@ impl Cells {
         }
     }
 
+    /// The sums of spans through the last one that is not 0.
+    fn used_spans(&self) -> &[Pence]
+        ensures value { result.now ≡ take (used_of self.now.spans) self.now.spans }
+        ensures few { length result.now ≤ SPANS }
+        ensures fits { sum result.now + self.now.buses + self.now.maximum ≤ MOST_MONEY }
+    {
+        &self.spans[..usize::from(self.used)]
+    }
+
     fn outside_of(&self, cover: Cover) -> Cells
         ensures { result ≡ outside cover self.now }
     {
+        let spans = spans_outside(self.spans, cover);
         Cells {
-            spans: spans_outside(self.spans, cover),
+            spans,
             buses: Pence::ZERO,
             maximum: self.maximum,
+            used: used_to(&spans, SPANS),
         }
     }
+}
+
+/// How many sums there are up to the last one that is not 0. It is at most so many.
+fn used_to(spans: &[Pence; SPANS], most: usize) -> u8
+    requires in_most { used_of spans.now ≤ most }
+    requires in_range { most ≤ SPANS }
+    ensures { result ≡ used_of spans.now }
+{
+    let mut used = most;
+    while used > 0 {
+        if spans[used - 1].pence() != 0 {
+            return used as u8;
+        }
+        used -= 1;
+    }
+    0
+}
+
+/// The same where one of the sums was changed: so many were in use before.
+fn used_with(spans: &[Pence; SPANS], used: u8, place: usize) -> u8
+    requires is_place { place < SPANS }
+    requires in_range { used ≤ SPANS }
+    requires before { used_of spans.now ≤ max used (place + 1) }
+    ensures { result ≡ used_of spans.now }
+{
+    used_to(spans, usize::from(used).max(place + 1))
 }
 
 /// The sum of all spans.
@@ -205,8 +250,8 @@ fn sum_of(spans: &[Pence]) -> Pence
 
 /// The sum of a span, if it is not covered, and else nothing.
 fn outside_at(spans: &[Pence], cover: Cover, place: usize) -> Pence
-    requires is_place { place < SPANS }
-    requires all { length spans.now ≡ SPANS }
+    requires is_place { place < length spans.now }
+    requires few { length spans.now ≤ SPANS }
     ensures { result ≡ (if covers_span cover (span_at place) then 0 else slice_index spans.now place) }
 {
     if cover.covers(ALL_SPANS[place]) {
@@ -217,13 +262,13 @@ fn outside_at(spans: &[Pence], cover: Cover, place: usize) -> Pence
 
 /// The sum of the spans that are not covered.
 fn sum_outside(spans: &[Pence], cover: Cover) -> Pence
-    requires all { length spans.now ≡ SPANS }
+    requires few { length spans.now ≤ SPANS }
     requires fits { sum spans.now ≤ MOST_MONEY }
     ensures value { result ≡ sum_where (λ span. not (covers_span cover span)) spans.now }
     ensures in_range { result ≤ MOST_MONEY }
 {
     let mut total = Pence::ZERO;
-    for place in 0..SPANS {
+    for place in 0..spans.len() {
         total = total + outside_at(spans, cover, place);
     }
     total

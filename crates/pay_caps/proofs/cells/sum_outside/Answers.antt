@@ -1,4 +1,8 @@
-use Rattle.std.proofs.Common.{arith}
+use Rattle.std.proofs.Common.{arith, not}
+use Rattle.pay_tables.specs.declared.zones.Span.{Span}
+use Rattle.pay_tables.specs.Words.{covers_span}
+use Rattle.pay_caps.specs.Cells.{all_spans}
+use Rattle.pay_caps.proofs.Steps.{weighs_behind}
 use Rattle.pay_caps.proofs.SpanSums.{outside_from, outside_is_part}
 use Rattle.pay_caps.proofs.cells.sum_outside.Goals as goal
 
@@ -7,7 +11,7 @@ add-total-requires c =
     omega (
       arith,
       c.loop-place.invariant,
-      outside_from c.args.cover c.args.spans.now c.loop-place.place c.outside_at.result c.loop-place-test.true c.requires.all c.outside_at.ensures,
+      outside_from c.args.cover c.args.spans.now c.loop-place.place c.outside_at.result c.loop-place-test.true c.requires.few c.outside_at.ensures,
       outside_is_part c.args.cover c.args.spans.now,
       c.requires.fits,
     )
@@ -18,8 +22,12 @@ loop-place-preserved c =
       arith,
       c.add-total.ensures,
       c.loop-place.invariant,
-      outside_from c.args.cover c.args.spans.now c.loop-place.place c.outside_at.result c.loop-place-test.true c.requires.all c.outside_at.ensures,
+      outside_from c.args.cover c.args.spans.now c.loop-place.place c.outside_at.result c.loop-place-test.true c.requires.few c.outside_at.ensures,
     )
 
 pub returns-clause-in_range : goal.returns-clause-in_range
 returns-clause-in_range c = omega (arith, c.loop-place.invariant, outside_is_part c.args.cover c.args.spans.now, c.requires.fits)
+
+pub returns-clause-value : goal.returns-clause-value
+returns-clause-value c =
+    omega (arith, c.loop-place.invariant, weighs_behind (λ (span : Span). not (covers_span c.args.cover span)) all_spans c.args.spans.now c.loop-place.place c.loop-place-test.false)

@@ -1,6 +1,7 @@
-use Rattle.std.proofs.Common.{length, ap, ◌∙◌, sym}
+use Rattle.std.proofs.Common.{arith, length, ap, ◌∙◌, sym}
 use Rattle.pay_caps.proofs.AllSpans.{place_is}
 use Rattle.pay_caps.proofs.SpanSums.{taken_from_span, is_there, taken_there, taken_of_all}
+use Rattle.pay_caps.proofs.Used.{used_is_few, used_with_one}
 use Rattle.pay_caps.proofs.cells.Cells.take.Goals as goal
 
 pub sub-requires : goal.sub-requires
@@ -22,3 +23,9 @@ pub returns-in-Rail-clause-there : goal.returns-in-Rail-clause-there
 returns-in-Rail-clause-there c =
     taken_there c.args.cell c.args.fare c.args.self.now _ c.requires.is_cell (sym (ap (λ sums. length sums.spans) c.self.view_is) ∙ c.self.invariant.spans) c.requires.there
     (returns-in-Rail-clause-value c)
+
+pub used_with-self-inside-requires-clause-in_range : goal.used_with-self-inside-requires-clause-in_range
+used_with-self-inside-requires-clause-in_range c = omega (arith, used_is_few c.self.inside.spans)
+
+pub used_with-self-inside-requires-clause-before : goal.used_with-self-inside-requires-clause-before
+used_with-self-inside-requires-clause-before c = omega (arith, used_with_one c.self.inside.spans c.place_of-place.result c.sub.result, c.self.invariant.walked)
