@@ -1,5 +1,5 @@
 -- What the calls of cells do with the sums of spans.
-use Rattle.std.proofs.Common.{◌≡◌, ℕ, ◌+◌, ◌-◌, ◌≤◌, ◌<◌, Bool, true, false, not, if◌then◌else◌, List, map, length, set, get_or, drop, refl, ap, sym, ◌∙◌, subst, arith}
+use Rattle.std.proofs.Common.{◌≡◌, ℕ, ◌+◌, ◌-◌, ◌≤◌, ◌<◌, Bool, true, false, not, ◌&&◌, if◌then◌else◌, List, map, length, set, get_or, drop, None, refl, ap, sym, ◌∙◌, subst, arith}
 use Rattle.std.specs.Prelude.{sum}
 use Rattle.std.proofs.lemmas.Grind.{get_or_default_zero}
 use Rattle.std.proofs.lemmas.List.{get_or-set_same, length-set}
@@ -14,11 +14,14 @@ use Rattle.pay_caps.specs.declared.cell.Cell.TheVariants.{Rail, Buses, Maximum}
 use Rattle.pay_caps.specs.declared.limits.TheConstants.{SPANS}
 use Rattle.pay_caps.specs.CellSums.{CellSums}
 use Rattle.pay_caps.specs.Covers.{IsCell}
-use Rattle.pay_caps.specs.Cells.{AreSums, used_of, all_spans, span_at, added, taken, changed_at, sum_at, sum_where, total, spans_outside}
+use Rattle.pay_caps.specs.Lowest.{lowest, offers}
+use Rattle.pay_caps.specs.DayPrices.{day_cap, capped_price_of}
+use Rattle.pay_tables.specs.Words.{FareTables}
+use Rattle.pay_caps.specs.Cells.{AreSums, used_of, all_spans, span_at, added, taken, changed_at, capped_sum, sum_at, sum_where, total, spans_outside, outside, outside_sum}
 use Rattle.pay_caps.proofs.Sums.{if_passed}
 use Rattle.pay_caps.proofs.AllSpans.{count_of_spans, place_of, at_its_place}
 use Rattle.pay_caps.proofs.Weights.{weighed, weighed_at, weighs_at_most, weighs_more, changed_is_set, place_below}
-use Rattle.pay_caps.proofs.Steps.{weighs_from, half_cleared, one_cleared, cleared_at_most, cleared_length}
+use Rattle.pay_caps.proofs.Steps.{weighs_from, half_cleared, one_cleared, cleared_at_most, cleared_length, weighs_cleared, sum_of_cleared}
 
 abbrev sums : List ℕ → ℕ → ℕ → CellSums
 sums spans buses maximum = record { spans = spans; buses = buses; maximum = maximum }
@@ -128,6 +131,42 @@ outside_is_part cover spans = weighs_at_most (λ (span : Span). not (covers_span
 pub cleared_from : (cover : Cover) (spans : List ℕ) (place n : ℕ) → place < SPANS → length spans ≡ SPANS → n ≡ (if covers_span cover (span_at place) then 0 else get_or spans place 0)
     → half_cleared (covers_span cover) all_spans (set spans place n) (place + 1) ≡ half_cleared (covers_span cover) all_spans spans place
 cleared_from cover spans place n below all is = one_cleared (covers_span cover) all_spans spans place (record { from = 0; to = 0 }) n below all is
+
+-- ---- outside of two bands
+
+-- the spans that neither covers
+abbrev pub outside_both : Cover → Cover → Span → Bool
+outside_both first second span = not (covers_span first span) && not (covers_span second span)
+
+neither : (first second : Bool) (n : ℕ) → (if first then 0 else (if second then 0 else n)) ≡ if_passed (not first && not second) n
+neither true second n = refl
+neither false true n = refl
+neither false false n = refl
+
+pub outside_both_from : (first second : Cover) (spans : List ℕ) (place n : ℕ) → place < length spans → length spans ≤ SPANS
+    → n ≡ (if covers_span first (span_at place) then 0 else (if covers_span second (span_at place) then 0 else get_or spans place 0))
+    → weighed (outside_both first second) (drop place all_spans) (drop place spans) ≡ n + weighed (outside_both first second) (drop (place + 1) all_spans) (drop (place + 1) spans)
+outside_both_from first second spans place n below few is =
+    let from = weighs_from (outside_both first second) all_spans spans place (record { from = 0; to = 0 }) 0 (omega (arith, below, few, count_of_spans)) below in
+    omega (arith, from, is, neither (covers_span first (span_at place)) (covers_span second (span_at place)) (get_or spans place 0))
+
+pub outside_both_is_part : (first second : Cover) (spans : List ℕ) → sum_where (outside_both first second) spans ≤ sum spans
+outside_both_is_part first second spans = weighs_at_most (outside_both first second) all_spans spans
+
+-- what the second leaves of what the first leaves
+pub outside_of_outside : (first second : Cover) (self : CellSums) → outside_sum second (outside first self) ≡ sum_where (outside_both first second) self.spans
+outside_of_outside first second self = weighs_cleared (covers_span first) (λ (span : Span). not (covers_span second span)) all_spans self.spans
+
+pub all_outside : (cover : Cover) (self : CellSums) → capped_sum (outside cover self) ≡ outside_sum cover self
+all_outside cover self = omega (arith, sum_of_cleared (covers_span cover) all_spans self.spans)
+
+-- before any band has offered
+pub offers_outside : (tables : FareTables) (cover : Cover) (self : CellSums) (all : ℕ) → all ≡ outside_sum cover self
+    → lowest (all, None) (offers day_cap (λ band. outside_sum band.cover (outside cover self)) 0 tables.bands) ≡ capped_price_of tables (outside cover self)
+offers_outside tables cover self all is =
+    ap (λ (n : ℕ). lowest (n, None) (offers day_cap (λ band. outside_sum band.cover (outside cover self)) 0 tables.bands)) (is ∙ sym (all_outside cover self))
+
+-- ---- the sums of what is outside
 
 pub outside_length : (cover : Cover) (spans : List ℕ) → length spans ≡ SPANS → length (spans_outside cover spans) ≡ SPANS
 outside_length cover spans all = cleared_length (covers_span cover) all_spans spans all

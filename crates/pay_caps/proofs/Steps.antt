@@ -1,5 +1,5 @@
 -- One span after another.
-use Rattle.std.proofs.Common.{◌≡◌, ℕ, ◌+◌, ◌≤◌, ◌<◌, zero, suc, Bool, true, false, if◌then◌else◌, List, [], ◌∷◌, ◌++◌, map, length, set, get_or, take, drop, add-one, refl, ap, arith}
+use Rattle.std.proofs.Common.{◌≡◌, ℕ, ◌+◌, ◌≤◌, ◌<◌, zero, suc, Bool, true, false, not, ◌&&◌, if◌then◌else◌, List, [], ◌∷◌, ◌++◌, map, length, set, get_or, take, drop, add-one, refl, ap, arith}
 use Rattle.std.specs.Prelude.{sum}
 use Rattle.std.specs.List.{zip}
 use Rattle.std.proofs.lemmas.List.Sums.{sum_by-cons}
@@ -63,3 +63,38 @@ pub cleared_length : {X : Type 0} (c : X → Bool) (xs : List X) (ns : List ℕ)
 cleared_length c [] ns len = refl
 cleared_length c (x ∷ xs) [] len = absurd (omega (arith, len))
 cleared_length c (x ∷ xs) (n ∷ ns) len = ap suc (cleared_length c xs ns (omega (arith, len)))
+
+-- what weighs of what is left is what passes both tests
+pub weighs_cleared : {X : Type 0} (c g : X → Bool) (xs : List X) (ns : List ℕ) → weighed g xs (cleared c xs ns) ≡ weighed (λ x. not (c x) && g x) xs ns
+weighs_cleared c g [] ns = refl
+weighs_cleared c g (x ∷ xs) [] = refl
+weighs_cleared {X} c g (x ∷ xs) (n ∷ ns) =
+    omega (
+      arith,
+      sum_by-cons (λ (one : X × ℕ). if g one.0 then one.1 else 0) (x, if c x then 0 else n) (zip xs (cleared c xs ns)),
+      sum_by-cons (λ (one : X × ℕ). if not (c one.0) && g one.0 then one.1 else 0) (x, n) (zip xs ns),
+      left (c x) (g x) n,
+      weighs_cleared c g xs ns,
+    )
+  where
+    left : (covered counts : Bool) (n : ℕ) → (if counts then (if covered then 0 else n) else 0) ≡ (if not covered && counts then n else 0)
+    left true true n = refl
+    left true false n = refl
+    left false true n = refl
+    left false false n = refl
+
+pub sum_of_cleared : {X : Type 0} (c : X → Bool) (xs : List X) (ns : List ℕ) → sum (cleared c xs ns) ≡ weighed (λ x. not (c x)) xs ns
+sum_of_cleared c [] ns = refl
+sum_of_cleared c (x ∷ xs) [] = refl
+sum_of_cleared {X} c (x ∷ xs) (n ∷ ns) =
+    omega (
+      arith,
+      sum_by-cons (λ (m : ℕ). m) (if c x then 0 else n) (cleared c xs ns),
+      sum_by-cons (λ (one : X × ℕ). if not (c one.0) then one.1 else 0) (x, n) (zip xs ns),
+      left (c x) n,
+      sum_of_cleared c xs ns,
+    )
+  where
+    left : (covered : Bool) (n : ℕ) → (if covered then 0 else n) ≡ (if not covered then n else 0)
+    left true n = refl
+    left false n = refl

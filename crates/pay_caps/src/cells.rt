@@ -1,4 +1,4 @@
-ghost use Rattle.std.specs.Prelude.{◌≡◌, ◌≤◌, ◌<◌, ◌+◌, not, if◌then◌else◌, length, max, sum, take, slice_get, slice_index};
+ghost use Rattle.std.specs.Prelude.{◌≡◌, ◌≤◌, ◌<◌, ◌+◌, ◌&&◌, not, if◌then◌else◌, length, max, sum, take, slice_get, slice_index};
 ghost use Rattle.pay_tables.specs.declared.limits.TheConstants.{MOST_ZONES};
 ghost use Rattle.pay_caps.specs.declared.limits.TheConstants.{SPANS};
 ghost use Rattle.pay_money.specs.declared.limits.TheConstants.{MOST_MONEY};
@@ -177,6 +177,14 @@ impl Cells {
         sum_outside(self.used_spans(), cover)
     }
 
+    /// The sum of the fares that two bands leave outside, without the maximum fares.
+    pub fn outside_both_sum(&self, first: Cover, second: Cover) -> Pence
+        ensures value { result ≡ outside_sum second (outside first self.now) }
+        ensures in_range { result ≤ MOST_MONEY }
+    {
+        sum_outside_both(self.used_spans(), first, second)
+    }
+
     /// The fares that a band leaves outside, with the maximum fares. The band is told by its place in the
     /// fare file; where none stands there, all fares are outside.
     pub fn outside(&self, tables: &Tables, band: u8) -> Cells
@@ -270,6 +278,32 @@ fn sum_outside(spans: &[Pence], cover: Cover) -> Pence
     let mut total = Pence::ZERO;
     for place in 0..spans.len() {
         total = total + outside_at(spans, cover, place);
+    }
+    total
+}
+
+/// The sum of a span, if neither of two bands covers it, and else nothing.
+fn outside_both_at(spans: &[Pence], first: Cover, second: Cover, place: usize) -> Pence
+    requires is_place { place < length spans.now }
+    requires few { length spans.now ≤ SPANS }
+    ensures { result ≡ (if covers_span first (span_at place) then 0 else if covers_span second (span_at place) then 0 else slice_index spans.now place) }
+{
+    if first.covers(ALL_SPANS[place]) {
+        return Pence::ZERO;
+    }
+    outside_at(spans, second, place)
+}
+
+/// The sum of the spans that neither of two bands covers.
+fn sum_outside_both(spans: &[Pence], first: Cover, second: Cover) -> Pence
+    requires few { length spans.now ≤ SPANS }
+    requires fits { sum spans.now ≤ MOST_MONEY }
+    ensures value { result ≡ sum_where (λ span. not (covers_span first span) && not (covers_span second span)) spans.now }
+    ensures in_range { result ≤ MOST_MONEY }
+{
+    let mut total = Pence::ZERO;
+    for place in 0..spans.len() {
+        total = total + outside_both_at(spans, first, second, place);
     }
     total
 }
