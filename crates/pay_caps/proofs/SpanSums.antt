@@ -1,7 +1,6 @@
 -- What the calls of cells do with the sums of spans.
 use Rattle.std.proofs.Common.{◌≡◌, ℕ, ◌+◌, ◌-◌, ◌≤◌, ◌<◌, Bool, true, false, not, ◌&&◌, if◌then◌else◌, List, map, length, set, get_or, drop, None, refl, ap, sym, ◌∙◌, subst, arith}
 use Rattle.std.specs.Prelude.{sum}
-use Rattle.std.proofs.lemmas.Grind.{get_or_default_zero}
 use Rattle.std.proofs.lemmas.List.{get_or-set_same, length-set}
 use Rattle.std.proofs.lemmas.List.Sums.{sum_by-set}
 use Rattle.pay_tables.specs.declared.band.Cover.{Cover}
@@ -33,45 +32,37 @@ place_within span spans within all = omega (arith, all, place_below (place_of sp
 at_place : (span : Span) (spans : List ℕ) → IsSpan MOST_ZONES span → length spans ≡ SPANS → sum_where (λ one. same_span one span) spans ≡ get_or spans (place_of span) 0
 at_place span spans within all = weighed_at (λ (one : Span). same_span one span) (place_of span) all_spans spans (at_its_place span within) all
 
--- what stands at a place, however it is asked for
-there : (spans : List ℕ) (place n : ℕ) → place < length spans → n ≡ get_or spans place n → n ≡ get_or spans place 0
-there spans place n below is = is ∙ get_or_default_zero spans place n below
-
-changed_is : (span : Span) (f : ℕ → ℕ) (spans : List ℕ) (place n : ℕ) → IsSpan MOST_ZONES span → length spans ≡ SPANS → place ≡ place_of span → n ≡ get_or spans place n
-    → set spans place (f n) ≡ changed_at span f spans
-changed_is span f spans place n within all is stands =
-    let below : place < length spans = subst (λ (i : ℕ). i < length spans) (sym is) (place_within span spans within all) in
-    ap (λ (m : ℕ). set spans place (f m)) (there spans place n below stands)
-    ∙ ap (λ (i : ℕ). set spans i (f (get_or spans i 0))) is
+changed_is : (span : Span) (f : ℕ → ℕ) (spans : List ℕ) (place : ℕ) → IsSpan MOST_ZONES span → length spans ≡ SPANS → place ≡ place_of span
+    → set spans place (f (get_or spans place 0)) ≡ changed_at span f spans
+changed_is span f spans place within all is =
+    ap (λ (i : ℕ). set spans i (f (get_or spans i 0))) is
     ∙ sym (changed_is_set (λ (one : Span). same_span one span) f (place_of span) all_spans spans (at_its_place span within) all)
 
 within_of : (cell : Cell) (span : Span) → cell ≡ Rail span → IsCell MOST_ZONES cell → IsSpan MOST_ZONES span
 within_of cell span is within = subst (IsCell MOST_ZONES) is within
 
-pub added_to_span : (cell : Cell) (span : Span) (fare place n : ℕ) (spans : List ℕ) (buses maximum : ℕ) (self : CellSums) → cell ≡ Rail span → IsCell MOST_ZONES cell → sums spans buses maximum ≡ self
-    → length spans ≡ SPANS → place ≡ place_of span → n ≡ get_or spans place n → (now : ℕ) → now ≡ get_or spans place n + fare → sums (set spans place now) buses maximum ≡ added cell fare self
-added_to_span cell span fare place n spans buses maximum self is within same all at stands now grown =
-    ap (λ (m : ℕ). sums (set spans place m) buses maximum) (grown ∙ ap (λ (m : ℕ). m + fare) (sym stands))
-    ∙ ap (λ (ns : List ℕ). sums ns buses maximum) (changed_is span (λ m. m + fare) spans place n (within_of cell span is within) all at stands)
+pub added_to_span : (cell : Cell) (span : Span) (fare place : ℕ) (spans : List ℕ) (buses maximum : ℕ) (self : CellSums) → cell ≡ Rail span → IsCell MOST_ZONES cell → sums spans buses maximum ≡ self
+    → length spans ≡ SPANS → place ≡ place_of span → (now : ℕ) → now ≡ get_or spans place 0 + fare → sums (set spans place now) buses maximum ≡ added cell fare self
+added_to_span cell span fare place spans buses maximum self is within same all at now grown =
+    ap (λ (m : ℕ). sums (set spans place m) buses maximum) grown
+    ∙ ap (λ (ns : List ℕ). sums ns buses maximum) (changed_is span (λ m. m + fare) spans place (within_of cell span is within) all at)
     ∙ ap (added (Rail span) fare) same ∙ ap (λ (c : Cell). added c fare self) (sym is)
 
-pub taken_from_span : (cell : Cell) (span : Span) (fare place n : ℕ) (spans : List ℕ) (buses maximum : ℕ) (self : CellSums) → cell ≡ Rail span → IsCell MOST_ZONES cell → sums spans buses maximum ≡ self
-    → length spans ≡ SPANS → place ≡ place_of span → n ≡ get_or spans place n → (now : ℕ) → now ≡ get_or spans place n - fare → sums (set spans place now) buses maximum ≡ taken cell fare self
-taken_from_span cell span fare place n spans buses maximum self is within same all at stands now less =
-    ap (λ (m : ℕ). sums (set spans place m) buses maximum) (less ∙ ap (λ (m : ℕ). m - fare) (sym stands))
-    ∙ ap (λ (ns : List ℕ). sums ns buses maximum) (changed_is span (λ m. m - fare) spans place n (within_of cell span is within) all at stands)
+pub taken_from_span : (cell : Cell) (span : Span) (fare place : ℕ) (spans : List ℕ) (buses maximum : ℕ) (self : CellSums) → cell ≡ Rail span → IsCell MOST_ZONES cell → sums spans buses maximum ≡ self
+    → length spans ≡ SPANS → place ≡ place_of span → (now : ℕ) → now ≡ get_or spans place 0 - fare → sums (set spans place now) buses maximum ≡ taken cell fare self
+taken_from_span cell span fare place spans buses maximum self is within same all at now less =
+    ap (λ (m : ℕ). sums (set spans place m) buses maximum) less
+    ∙ ap (λ (ns : List ℕ). sums ns buses maximum) (changed_is span (λ m. m - fare) spans place (within_of cell span is within) all at)
     ∙ ap (taken (Rail span) fare) same ∙ ap (λ (c : Cell). taken c fare self) (sym is)
 
 -- a sum that is there can be taken
-pub is_there : (cell : Cell) (span : Span) (fare place n : ℕ) (spans : List ℕ) (buses maximum : ℕ) (self : CellSums) → cell ≡ Rail span → IsCell MOST_ZONES cell → sums spans buses maximum ≡ self
-    → length spans ≡ SPANS → place ≡ place_of span → n ≡ get_or spans place n → fare ≤ sum_at cell self → fare ≤ get_or spans place n
-is_there cell span fare place n spans buses maximum self is within same all at stands enough =
-    let in_range = within_of cell span is within in
-    let below : place < length spans = subst (λ (i : ℕ). i < length spans) (sym at) (place_within span spans in_range all) in
-    let its : sum_at cell self ≡ n =
-    ap (λ (c : Cell). sum_at c self) is ∙ ap (sum_at (Rail span)) (sym same) ∙ at_place span spans in_range all
-    ∙ ap (λ (i : ℕ). get_or spans i 0) (sym at) ∙ sym (there spans place n below stands) in
-    omega (arith, its, enough, stands)
+pub is_there : (cell : Cell) (span : Span) (fare place : ℕ) (spans : List ℕ) (buses maximum : ℕ) (self : CellSums) → cell ≡ Rail span → IsCell MOST_ZONES cell → sums spans buses maximum ≡ self
+    → length spans ≡ SPANS → place ≡ place_of span → fare ≤ sum_at cell self → fare ≤ get_or spans place 0
+is_there cell span fare place spans buses maximum self is within same all at enough =
+    let its : sum_at cell self ≡ get_or spans place 0 =
+    ap (λ (c : Cell). sum_at c self) is ∙ ap (sum_at (Rail span)) (sym same) ∙ at_place span spans (within_of cell span is within) all
+    ∙ ap (λ (i : ℕ). get_or spans i 0) (sym at) in
+    omega (arith, its, enough)
 
 -- what was added is there
 pub added_there : (cell : Cell) (fare : ℕ) (self now : CellSums) → IsCell MOST_ZONES cell → length self.spans ≡ SPANS → now ≡ added cell fare self → sum_at cell now ≡ sum_at cell self + fare

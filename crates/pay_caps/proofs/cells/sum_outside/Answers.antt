@@ -6,12 +6,12 @@ use Rattle.pay_caps.proofs.Steps.{weighs_behind}
 use Rattle.pay_caps.proofs.SpanSums.{outside_from, outside_is_part}
 use Rattle.pay_caps.proofs.cells.sum_outside.Goals as goal
 
-pub add-total-requires : goal.add-total-requires
-add-total-requires c =
+pub overflow_add-total : goal.overflow_add-total
+overflow_add-total c =
     omega (
       arith,
       c.loop-place.invariant,
-      outside_from c.args.cover c.args.spans.now c.loop-place.place c.outside_at.result c.loop-place-test.true c.requires.few c.outside_at.ensures,
+      outside_from c.args.cover c.args.spans.now c.loop-place.place c.outside_at-total.result c.loop-place-test.true c.requires.few c.outside_at-total.ensures,
       outside_is_part c.args.cover c.args.spans.now,
       c.requires.fits,
     )
@@ -20,9 +20,8 @@ pub loop-place-preserved : goal.loop-place-preserved
 loop-place-preserved c =
     omega (
       arith,
-      c.add-total.ensures,
       c.loop-place.invariant,
-      outside_from c.args.cover c.args.spans.now c.loop-place.place c.outside_at.result c.loop-place-test.true c.requires.few c.outside_at.ensures,
+      outside_from c.args.cover c.args.spans.now c.loop-place.place c.outside_at-total.result c.loop-place-test.true c.requires.few c.outside_at-total.ensures,
     )
 
 pub returns-clause-in_range : goal.returns-clause-in_range

@@ -4,12 +4,12 @@ use Rattle.pay_caps.proofs.Steps.{weighs_behind}
 use Rattle.pay_caps.proofs.SpanSums.{outside_both, outside_both_from, outside_both_is_part}
 use Rattle.pay_caps.proofs.cells.sum_outside_both.Goals as goal
 
-pub add-total-requires : goal.add-total-requires
-add-total-requires c =
+pub overflow_add-total : goal.overflow_add-total
+overflow_add-total c =
     omega (
       arith,
       c.loop-place.invariant,
-      outside_both_from c.args.first c.args.second c.args.spans.now c.loop-place.place c.outside_both_at.result c.loop-place-test.true c.requires.few c.outside_both_at.ensures,
+      outside_both_from c.args.first c.args.second c.args.spans.now c.loop-place.place c.outside_both_at-total.result c.loop-place-test.true c.requires.few c.outside_both_at-total.ensures,
       outside_both_is_part c.args.first c.args.second c.args.spans.now,
       c.requires.fits,
     )
@@ -18,9 +18,8 @@ pub loop-place-preserved : goal.loop-place-preserved
 loop-place-preserved c =
     omega (
       arith,
-      c.add-total.ensures,
       c.loop-place.invariant,
-      outside_both_from c.args.first c.args.second c.args.spans.now c.loop-place.place c.outside_both_at.result c.loop-place-test.true c.requires.few c.outside_both_at.ensures,
+      outside_both_from c.args.first c.args.second c.args.spans.now c.loop-place.place c.outside_both_at-total.result c.loop-place-test.true c.requires.few c.outside_both_at-total.ensures,
     )
 
 pub returns-clause-value : goal.returns-clause-value

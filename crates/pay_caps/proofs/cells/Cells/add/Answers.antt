@@ -6,8 +6,8 @@ use Rattle.pay_caps.proofs.cells.Cells.add.Goals as goal
 
 pub returns-in-Rail-clause-value : goal.returns-in-Rail-clause-value
 returns-in-Rail-clause-value c =
-    added_to_span c.args.cell c.in-Rail.span c.args.fare c.place_of-place.result c.index-self-place.result c.self.inside.spans c.self.inside.buses c.self.inside.maximum c.args.self.now
-    c.in-Rail.is c.requires.is_cell c.self.view_is c.self.invariant.spans (place_is c.in-Rail.span c.place_of-place.result c.place_of-place.ensures.in_range c.place_of-place.ensures.stands) c.index-self-place.is c.add.result c.add.ensures
+    added_to_span c.args.cell c.in-Rail.span c.args.fare c.place_of-place.result c.self.inside.spans c.self.inside.buses c.self.inside.maximum c.args.self.now
+    c.in-Rail.is c.requires.is_cell c.self.view_is c.self.invariant.spans (place_is c.in-Rail.span c.place_of-place.result c.place_of-place.ensures.in_range c.place_of-place.ensures.stands) c.more.result c.more.ensures
 
 pub returns-in-Rail-clause-there : goal.returns-in-Rail-clause-there
 returns-in-Rail-clause-there c =
@@ -17,4 +17,4 @@ pub used_with-self-inside-requires-clause-in_range : goal.used_with-self-inside-
 used_with-self-inside-requires-clause-in_range c = omega (arith, used_is_few c.self.inside.spans)
 
 pub used_with-self-inside-requires-clause-before : goal.used_with-self-inside-requires-clause-before
-used_with-self-inside-requires-clause-before c = omega (arith, used_with_one c.self.inside.spans c.place_of-place.result c.add.result, c.self.invariant.walked)
+used_with-self-inside-requires-clause-before c = omega (arith, used_with_one c.self.inside.spans c.place_of-place.result c.more.result, c.self.invariant.walked)

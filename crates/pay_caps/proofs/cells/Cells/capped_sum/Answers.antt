@@ -8,7 +8,7 @@ pub returns-clause-value : goal.returns-clause-value
 returns-clause-value c =
     omega (
       arith,
-      c.add.ensures,
+      c.pence.ensures,
       c.sum_of.ensures,
       ap sum c.used_spans.ensures.value,
       sum_of_used c.args.self.now.spans (used_of c.args.self.now.spans) (omega arith),
