@@ -4,6 +4,7 @@ pub mod Sums
 pub mod AllSpans
 pub mod Weights
 pub mod Steps
+pub mod Used
 pub mod SpanSums
 pub mod CellLaws
 pub mod Lowest

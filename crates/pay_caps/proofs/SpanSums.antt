@@ -1,7 +1,6 @@
 -- What the calls of cells do with the sums of spans.
-use Rattle.std.proofs.Common.{◌≡◌, ℕ, ◌+◌, ◌-◌, ◌≤◌, ◌<◌, Bool, true, false, not, if◌then◌else◌, List, map, length, set, get_or, drop, refl, ap, sym, ◌∙◌, subst, arith}
+use Rattle.std.proofs.Common.{◌≡◌, ℕ, ◌+◌, ◌-◌, ◌≤◌, ◌<◌, Bool, true, false, not, ◌&&◌, if◌then◌else◌, List, map, length, set, get_or, drop, None, refl, ap, sym, ◌∙◌, subst, arith}
 use Rattle.std.specs.Prelude.{sum}
-use Rattle.std.proofs.lemmas.Grind.{get_or_default_zero}
 use Rattle.std.proofs.lemmas.List.{get_or-set_same, length-set}
 use Rattle.std.proofs.lemmas.List.Sums.{sum_by-set}
 use Rattle.pay_tables.specs.declared.band.Cover.{Cover}
@@ -14,11 +13,14 @@ use Rattle.pay_caps.specs.declared.cell.Cell.TheVariants.{Rail, Buses, Maximum}
 use Rattle.pay_caps.specs.declared.limits.TheConstants.{SPANS}
 use Rattle.pay_caps.specs.CellSums.{CellSums}
 use Rattle.pay_caps.specs.Covers.{IsCell}
-use Rattle.pay_caps.specs.Cells.{AreSums, all_spans, span_at, added, taken, changed_at, sum_at, sum_where, total, spans_outside}
+use Rattle.pay_caps.specs.Lowest.{lowest, offers}
+use Rattle.pay_caps.specs.DayPrices.{day_cap, capped_price_of}
+use Rattle.pay_tables.specs.Words.{FareTables}
+use Rattle.pay_caps.specs.Cells.{AreSums, used_of, all_spans, span_at, added, taken, changed_at, capped_sum, sum_at, sum_where, total, spans_outside, outside, outside_sum}
 use Rattle.pay_caps.proofs.Sums.{if_passed}
-use Rattle.pay_caps.proofs.AllSpans.{place_of, at_its_place}
+use Rattle.pay_caps.proofs.AllSpans.{count_of_spans, place_of, at_its_place}
 use Rattle.pay_caps.proofs.Weights.{weighed, weighed_at, weighs_at_most, weighs_more, changed_is_set, place_below}
-use Rattle.pay_caps.proofs.Steps.{weighs_from, half_cleared, one_cleared, cleared_at_most, cleared_length}
+use Rattle.pay_caps.proofs.Steps.{weighs_from, half_cleared, one_cleared, cleared_at_most, cleared_length, weighs_cleared, sum_of_cleared}
 
 abbrev sums : List ℕ → ℕ → ℕ → CellSums
 sums spans buses maximum = record { spans = spans; buses = buses; maximum = maximum }
@@ -30,45 +32,37 @@ place_within span spans within all = omega (arith, all, place_below (place_of sp
 at_place : (span : Span) (spans : List ℕ) → IsSpan MOST_ZONES span → length spans ≡ SPANS → sum_where (λ one. same_span one span) spans ≡ get_or spans (place_of span) 0
 at_place span spans within all = weighed_at (λ (one : Span). same_span one span) (place_of span) all_spans spans (at_its_place span within) all
 
--- what stands at a place, however it is asked for
-there : (spans : List ℕ) (place n : ℕ) → place < length spans → n ≡ get_or spans place n → n ≡ get_or spans place 0
-there spans place n below is = is ∙ get_or_default_zero spans place n below
-
-changed_is : (span : Span) (f : ℕ → ℕ) (spans : List ℕ) (place n : ℕ) → IsSpan MOST_ZONES span → length spans ≡ SPANS → place ≡ place_of span → n ≡ get_or spans place n
-    → set spans place (f n) ≡ changed_at span f spans
-changed_is span f spans place n within all is stands =
-    let below : place < length spans = subst (λ (i : ℕ). i < length spans) (sym is) (place_within span spans within all) in
-    ap (λ (m : ℕ). set spans place (f m)) (there spans place n below stands)
-    ∙ ap (λ (i : ℕ). set spans i (f (get_or spans i 0))) is
+changed_is : (span : Span) (f : ℕ → ℕ) (spans : List ℕ) (place : ℕ) → IsSpan MOST_ZONES span → length spans ≡ SPANS → place ≡ place_of span
+    → set spans place (f (get_or spans place 0)) ≡ changed_at span f spans
+changed_is span f spans place within all is =
+    ap (λ (i : ℕ). set spans i (f (get_or spans i 0))) is
     ∙ sym (changed_is_set (λ (one : Span). same_span one span) f (place_of span) all_spans spans (at_its_place span within) all)
 
 within_of : (cell : Cell) (span : Span) → cell ≡ Rail span → IsCell MOST_ZONES cell → IsSpan MOST_ZONES span
 within_of cell span is within = subst (IsCell MOST_ZONES) is within
 
-pub added_to_span : (cell : Cell) (span : Span) (fare place n : ℕ) (spans : List ℕ) (buses maximum : ℕ) (self : CellSums) → cell ≡ Rail span → IsCell MOST_ZONES cell → sums spans buses maximum ≡ self
-    → length spans ≡ SPANS → place ≡ place_of span → n ≡ get_or spans place n → (now : ℕ) → now ≡ get_or spans place n + fare → sums (set spans place now) buses maximum ≡ added cell fare self
-added_to_span cell span fare place n spans buses maximum self is within same all at stands now grown =
-    ap (λ (m : ℕ). sums (set spans place m) buses maximum) (grown ∙ ap (λ (m : ℕ). m + fare) (sym stands))
-    ∙ ap (λ (ns : List ℕ). sums ns buses maximum) (changed_is span (λ m. m + fare) spans place n (within_of cell span is within) all at stands)
+pub added_to_span : (cell : Cell) (span : Span) (fare place : ℕ) (spans : List ℕ) (buses maximum : ℕ) (self : CellSums) → cell ≡ Rail span → IsCell MOST_ZONES cell → sums spans buses maximum ≡ self
+    → length spans ≡ SPANS → place ≡ place_of span → (now : ℕ) → now ≡ get_or spans place 0 + fare → sums (set spans place now) buses maximum ≡ added cell fare self
+added_to_span cell span fare place spans buses maximum self is within same all at now grown =
+    ap (λ (m : ℕ). sums (set spans place m) buses maximum) grown
+    ∙ ap (λ (ns : List ℕ). sums ns buses maximum) (changed_is span (λ m. m + fare) spans place (within_of cell span is within) all at)
     ∙ ap (added (Rail span) fare) same ∙ ap (λ (c : Cell). added c fare self) (sym is)
 
-pub taken_from_span : (cell : Cell) (span : Span) (fare place n : ℕ) (spans : List ℕ) (buses maximum : ℕ) (self : CellSums) → cell ≡ Rail span → IsCell MOST_ZONES cell → sums spans buses maximum ≡ self
-    → length spans ≡ SPANS → place ≡ place_of span → n ≡ get_or spans place n → (now : ℕ) → now ≡ get_or spans place n - fare → sums (set spans place now) buses maximum ≡ taken cell fare self
-taken_from_span cell span fare place n spans buses maximum self is within same all at stands now less =
-    ap (λ (m : ℕ). sums (set spans place m) buses maximum) (less ∙ ap (λ (m : ℕ). m - fare) (sym stands))
-    ∙ ap (λ (ns : List ℕ). sums ns buses maximum) (changed_is span (λ m. m - fare) spans place n (within_of cell span is within) all at stands)
+pub taken_from_span : (cell : Cell) (span : Span) (fare place : ℕ) (spans : List ℕ) (buses maximum : ℕ) (self : CellSums) → cell ≡ Rail span → IsCell MOST_ZONES cell → sums spans buses maximum ≡ self
+    → length spans ≡ SPANS → place ≡ place_of span → (now : ℕ) → now ≡ get_or spans place 0 - fare → sums (set spans place now) buses maximum ≡ taken cell fare self
+taken_from_span cell span fare place spans buses maximum self is within same all at now less =
+    ap (λ (m : ℕ). sums (set spans place m) buses maximum) less
+    ∙ ap (λ (ns : List ℕ). sums ns buses maximum) (changed_is span (λ m. m - fare) spans place (within_of cell span is within) all at)
     ∙ ap (taken (Rail span) fare) same ∙ ap (λ (c : Cell). taken c fare self) (sym is)
 
 -- a sum that is there can be taken
-pub is_there : (cell : Cell) (span : Span) (fare place n : ℕ) (spans : List ℕ) (buses maximum : ℕ) (self : CellSums) → cell ≡ Rail span → IsCell MOST_ZONES cell → sums spans buses maximum ≡ self
-    → length spans ≡ SPANS → place ≡ place_of span → n ≡ get_or spans place n → fare ≤ sum_at cell self → fare ≤ get_or spans place n
-is_there cell span fare place n spans buses maximum self is within same all at stands enough =
-    let in_range = within_of cell span is within in
-    let below : place < length spans = subst (λ (i : ℕ). i < length spans) (sym at) (place_within span spans in_range all) in
-    let its : sum_at cell self ≡ n =
-    ap (λ (c : Cell). sum_at c self) is ∙ ap (sum_at (Rail span)) (sym same) ∙ at_place span spans in_range all
-    ∙ ap (λ (i : ℕ). get_or spans i 0) (sym at) ∙ sym (there spans place n below stands) in
-    omega (arith, its, enough, stands)
+pub is_there : (cell : Cell) (span : Span) (fare place : ℕ) (spans : List ℕ) (buses maximum : ℕ) (self : CellSums) → cell ≡ Rail span → IsCell MOST_ZONES cell → sums spans buses maximum ≡ self
+    → length spans ≡ SPANS → place ≡ place_of span → fare ≤ sum_at cell self → fare ≤ get_or spans place 0
+is_there cell span fare place spans buses maximum self is within same all at enough =
+    let its : sum_at cell self ≡ get_or spans place 0 =
+    ap (λ (c : Cell). sum_at c self) is ∙ ap (sum_at (Rail span)) (sym same) ∙ at_place span spans (within_of cell span is within) all
+    ∙ ap (λ (i : ℕ). get_or spans i 0) (sym at) in
+    omega (arith, its, enough)
 
 -- what was added is there
 pub added_there : (cell : Cell) (fare : ℕ) (self now : CellSums) → IsCell MOST_ZONES cell → length self.spans ≡ SPANS → now ≡ added cell fare self → sum_at cell now ≡ sum_at cell self + fare
@@ -115,11 +109,11 @@ chosen true n = refl
 chosen false n = refl
 
 -- one span more
-pub outside_from : (cover : Cover) (spans : List ℕ) (place n : ℕ) → place < SPANS → length spans ≡ SPANS → n ≡ (if covers_span cover (span_at place) then 0 else get_or spans place 0)
+pub outside_from : (cover : Cover) (spans : List ℕ) (place n : ℕ) → place < length spans → length spans ≤ SPANS → n ≡ (if covers_span cover (span_at place) then 0 else get_or spans place 0)
     → weighed (λ span. not (covers_span cover span)) (drop place all_spans) (drop place spans)
     ≡ n + weighed (λ span. not (covers_span cover span)) (drop (place + 1) all_spans) (drop (place + 1) spans)
-outside_from cover spans place n below all is =
-    let from = weighs_from (λ (span : Span). not (covers_span cover span)) all_spans spans place (record { from = 0; to = 0 }) 0 below all in
+outside_from cover spans place n below few is =
+    let from = weighs_from (λ (span : Span). not (covers_span cover span)) all_spans spans place (record { from = 0; to = 0 }) 0 (omega (arith, below, few, count_of_spans)) below in
     omega (arith, from, is, chosen (covers_span cover (span_at place)) (get_or spans place 0))
 
 pub outside_is_part : (cover : Cover) (spans : List ℕ) → sum_where (λ span. not (covers_span cover span)) spans ≤ sum spans
@@ -129,9 +123,50 @@ pub cleared_from : (cover : Cover) (spans : List ℕ) (place n : ℕ) → place 
     → half_cleared (covers_span cover) all_spans (set spans place n) (place + 1) ≡ half_cleared (covers_span cover) all_spans spans place
 cleared_from cover spans place n below all is = one_cleared (covers_span cover) all_spans spans place (record { from = 0; to = 0 }) n below all is
 
+-- ---- outside of two bands
+
+-- the spans that neither covers
+abbrev pub outside_both : Cover → Cover → Span → Bool
+outside_both first second span = not (covers_span first span) && not (covers_span second span)
+
+neither : (first second : Bool) (n : ℕ) → (if first then 0 else (if second then 0 else n)) ≡ if_passed (not first && not second) n
+neither true second n = refl
+neither false true n = refl
+neither false false n = refl
+
+pub outside_both_from : (first second : Cover) (spans : List ℕ) (place n : ℕ) → place < length spans → length spans ≤ SPANS
+    → n ≡ (if covers_span first (span_at place) then 0 else (if covers_span second (span_at place) then 0 else get_or spans place 0))
+    → weighed (outside_both first second) (drop place all_spans) (drop place spans) ≡ n + weighed (outside_both first second) (drop (place + 1) all_spans) (drop (place + 1) spans)
+outside_both_from first second spans place n below few is =
+    let from = weighs_from (outside_both first second) all_spans spans place (record { from = 0; to = 0 }) 0 (omega (arith, below, few, count_of_spans)) below in
+    omega (arith, from, is, neither (covers_span first (span_at place)) (covers_span second (span_at place)) (get_or spans place 0))
+
+pub outside_both_is_part : (first second : Cover) (spans : List ℕ) → sum_where (outside_both first second) spans ≤ sum spans
+outside_both_is_part first second spans = weighs_at_most (outside_both first second) all_spans spans
+
+-- what the second leaves of what the first leaves
+pub outside_of_outside : (first second : Cover) (self : CellSums) → outside_sum second (outside first self) ≡ sum_where (outside_both first second) self.spans
+outside_of_outside first second self = weighs_cleared (covers_span first) (λ (span : Span). not (covers_span second span)) all_spans self.spans
+
+pub all_outside : (cover : Cover) (self : CellSums) → capped_sum (outside cover self) ≡ outside_sum cover self
+all_outside cover self = omega (arith, sum_of_cleared (covers_span cover) all_spans self.spans)
+
+-- before any band has offered
+pub offers_outside : (tables : FareTables) (cover : Cover) (self : CellSums) (all : ℕ) → all ≡ outside_sum cover self
+    → lowest (all, None) (offers day_cap (λ band. outside_sum band.cover (outside cover self)) 0 tables.bands) ≡ capped_price_of tables (outside cover self)
+offers_outside tables cover self all is =
+    ap (λ (n : ℕ). lowest (n, None) (offers day_cap (λ band. outside_sum band.cover (outside cover self)) 0 tables.bands)) (is ∙ sym (all_outside cover self))
+
+-- ---- the sums of what is outside
+
+pub outside_length : (cover : Cover) (spans : List ℕ) → length spans ≡ SPANS → length (spans_outside cover spans) ≡ SPANS
+outside_length cover spans all = cleared_length (covers_span cover) all_spans spans all
+
 -- what a band leaves outside of sums are sums
-pub are_outside : (cover : Cover) (spans : List ℕ) (buses maximum : ℕ) (left : List ℕ) → AreSums (sums spans buses maximum) → left ≡ spans_outside cover spans → AreSums (sums left 0 maximum)
-are_outside cover spans buses maximum left are is = record {
+pub are_outside : (cover : Cover) (spans : List ℕ) (buses maximum used : ℕ) (left : List ℕ) (now : ℕ) → AreSums (sums spans buses maximum) used → left ≡ spans_outside cover spans → now ≡ used_of left
+    → AreSums (sums left 0 maximum) now
+are_outside cover spans buses maximum used left now are is walked = record {
   spans = ap length is ∙ cleared_length (covers_span cover) all_spans spans are.spans;
   fits = omega (arith, are.fits, ap sum is, cleared_at_most (covers_span cover) all_spans spans);
+  walked = walked;
 }

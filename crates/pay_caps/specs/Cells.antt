@@ -1,5 +1,5 @@
 -- What is done with the sums of fares, and what those of a day's journeys are.
-use Rattle.std.specs.Prelude.{◌≡◌, ℕ, ◌+◌, ◌-◌, ◌≤◌, not, Bool, true, false, if◌then◌else◌, List, length, get_or, map, filter, replicate, sum, sum_by, Option, Some, None}
+use Rattle.std.specs.Prelude.{◌≡◌, ℕ, zero, ◌+◌, ◌-◌, ◌≤◌, not, Bool, true, false, if◌then◌else◌, List, [], ◌∷◌, length, get_or, map, filter, replicate, sum, sum_by, Option, Some, None}
 use Rattle.std.specs.List.{zip, flat_map, range_with_len}
 use Rattle.pay_tables.specs.declared.band.Band.{Band}
 use Rattle.pay_tables.specs.declared.band.Cover.{Cover}
@@ -63,10 +63,20 @@ capped_sum sums = sum sums.spans + sums.buses
 abbrev pub total : CellSums → ℕ
 total sums = capped_sum sums + sums.maximum
 
--- what sums are: one for each span, and together no more than the highest sum
-pub record AreSums (sums : CellSums) : Type 0 where
+-- how many sums are in use: those up to the last one that is not 0
+abbrev pub used_before : ℕ → ℕ → ℕ
+used_before zero zero = 0
+used_before sum used = used + 1
+
+abbrev pub used_of : List ℕ → ℕ
+used_of [] = 0
+used_of (sum ∷ sums) = used_before sum (used_of sums)
+
+-- what sums are: one for each span, of which so many are in use, and together no more than the highest sum
+pub record AreSums (sums : CellSums) (used : ℕ) : Type 0 where
   pub spans : length sums.spans ≡ SPANS
   pub fits : total sums ≤ MOST_MONEY
+  pub walked : used ≡ used_of sums.spans
 
 -- what a band leaves outside: the journeys by rail that it does not cover; all boardings are covered, and no maximum fare is
 abbrev pub outside_sum : Cover → CellSums → ℕ

@@ -1,10 +1,10 @@
-ghost use Rattle.std.specs.Prelude.{◌≡◌, ◌≤◌, ◌<◌, ◌+◌, not, if◌then◌else◌, length, sum, slice_get, slice_index};
+ghost use Rattle.std.specs.Prelude.{◌≡◌, ◌≤◌, ◌<◌, ◌+◌, ◌-◌, ◌&&◌, not, if◌then◌else◌, length, max, sum, take, slice_get, slice_index};
 ghost use Rattle.pay_tables.specs.declared.limits.TheConstants.{MOST_ZONES};
 ghost use Rattle.pay_caps.specs.declared.limits.TheConstants.{SPANS};
 ghost use Rattle.pay_money.specs.declared.limits.TheConstants.{MOST_MONEY};
 ghost use Rattle.pay_tables.specs.Words.{IsSpan, covers_span};
 ghost use Rattle.pay_caps.specs.Covers.{IsCell};
-ghost use Rattle.pay_caps.specs.Cells.{span_at, no_fares, added, taken, sum_at, total, capped_sum, sum_where, outside_sum, spans_outside, outside, outside_of};
+ghost use Rattle.pay_caps.specs.Cells.{span_at, used_of, no_fares, added, taken, sum_at, total, capped_sum, sum_where, outside_sum, spans_outside, outside, outside_of};
 
 use crate::cell::Cell;
 use crate::limits::SPANS;
@@ -14,16 +14,21 @@ use std::marker::Model;
 
 /// The fares of a day's journeys in sums: one for each span of zones, one for the boardings, and one for
 /// the maximum fares. In a contract they are a record of these.
+///
+/// All together they are no more than `MOST_MONEY`, so each fits in 32 bits.
 #[derive(Clone, Copy)]
 pub struct Cells {
-    spans: [Pence; SPANS],
-    buses: Pence,
-    maximum: Pence,
+    spans: [u32; SPANS],
+    buses: u32,
+    maximum: u32,
+    /// How many sums of spans there are up to the last one that is not 0: a walk over them ends there.
+    used: u8,
 }
 
 impl Model for Cells {
     ghost use Rattle.pay_caps.specs.CellSums.{CellSums, sums_code};
-    ghost use Rattle.pay_caps.specs.Cells.{AreSums};
+    ghost use Rattle.pay_caps.specs.Cells.{AreSums, used_of};
+    ghost use Rattle.std.proofs.Common.{ap, sym, ℕ};
 
     ghost Value = { CellSums };
 
@@ -31,9 +36,11 @@ impl Model for Cells {
 
     ghost view = { λ c. record { spans = c.spans; buses = c.buses; maximum = c.maximum } };
 
-    ghost inverse = { λ s. record { spans = s.spans; buses = s.buses; maximum = s.maximum } };
+    ghost inverse = { λ s. record { spans = s.spans; buses = s.buses; maximum = s.maximum; used = used_of s.spans } };
 
-    ghost invariant = { λ c. AreSums (record { spans = c.spans; buses = c.buses; maximum = c.maximum }) };
+    ghost inverse_ok = { λ a h. ap (λ (used : ℕ). record { spans = a.spans; buses = a.buses; maximum = a.maximum; used = used }) (sym h.walked) };
+
+    ghost invariant = { λ c. AreSums (record { spans = c.spans; buses = c.buses; maximum = c.maximum }) c.used };
 }
 
 /// All spans within nine zones, by their last zone and then by their first.
@@ -97,15 +104,39 @@ fn place_of(span: Span) -> usize
     to * (to - 1) / 2 + from - 1
 }
 
+/// A sum as money.
+fn pence(sum: u32) -> Pence
+    ensures { result ≡ sum }
+{
+    Pence::new(u64::from(sum))
+}
+
+/// A sum and a fare more.
+fn more(sum: u32, fare: Pence) -> u32
+    requires { sum + fare ≤ MOST_MONEY }
+    ensures { result ≡ sum + fare }
+{
+    sum + fare.pence() as u32
+}
+
+/// A sum less a fare that is in it.
+fn less(sum: u32, fare: Pence) -> u32
+    requires { fare ≤ sum }
+    ensures { result ≡ sum - fare }
+{
+    sum - fare.pence() as u32
+}
+
 impl Cells {
     /// No fares.
     pub fn new() -> Cells
         ensures { result ≡ no_fares }
     {
         Cells {
-            spans: [Pence::ZERO; SPANS],
-            buses: Pence::ZERO,
-            maximum: Pence::ZERO,
+            spans: [0; SPANS],
+            buses: 0,
+            maximum: 0,
+            used: 0,
         }
     }
 
@@ -120,10 +151,11 @@ impl Cells {
         match cell {
             Cell::Rail(span) => {
                 let place = place_of(span);
-                self.spans[place] = self.spans[place] + fare;
+                self.spans[place] = more(self.spans[place], fare);
+                self.used = used_with(&self.spans, self.used, place);
             }
-            Cell::Buses => self.buses = self.buses + fare,
-            Cell::Maximum => self.maximum = self.maximum + fare,
+            Cell::Buses => self.buses = more(self.buses, fare),
+            Cell::Maximum => self.maximum = more(self.maximum, fare),
         }
     }
 
@@ -138,10 +170,11 @@ impl Cells {
         match cell {
             Cell::Rail(span) => {
                 let place = place_of(span);
-                self.spans[place] = self.spans[place] - fare;
+                self.spans[place] = less(self.spans[place], fare);
+                self.used = used_with(&self.spans, self.used, place);
             }
-            Cell::Buses => self.buses = self.buses - fare,
-            Cell::Maximum => self.maximum = self.maximum - fare,
+            Cell::Buses => self.buses = less(self.buses, fare),
+            Cell::Maximum => self.maximum = less(self.maximum, fare),
         }
     }
 
@@ -150,7 +183,7 @@ impl Cells {
         ensures value { result ≡ capped_sum self.now }
         ensures in_range { result + self.now.maximum ≤ MOST_MONEY }
     {
-        self.buses + sum_of(&self.spans)
+        pence(self.buses + sum_of(self.used_spans()))
     }
 
     /// The sum of the maximum fares.
@@ -158,7 +191,7 @@ impl Cells {
         ensures value { result ≡ self.now.maximum }
         ensures in_range { result ≤ MOST_MONEY }
     {
-        self.maximum
+        pence(self.maximum)
     }
 
     /// The sum of the fares that a band leaves outside, without the maximum fares.
@@ -166,7 +199,15 @@ impl Cells {
         ensures value { result ≡ outside_sum cover self.now }
         ensures in_range { result ≤ MOST_MONEY }
     {
-        sum_outside(&self.spans, cover)
+        pence(sum_outside(self.used_spans(), cover))
+    }
+
+    /// The sum of the fares that two bands leave outside, without the maximum fares.
+    pub fn outside_both_sum(&self, first: Cover, second: Cover) -> Pence
+        ensures value { result ≡ outside_sum second (outside first self.now) }
+        ensures in_range { result ≤ MOST_MONEY }
+    {
+        pence(sum_outside_both(self.used_spans(), first, second))
     }
 
     /// The fares that a band leaves outside, with the maximum fares. The band is told by its place in the
@@ -180,57 +221,121 @@ impl Cells {
         }
     }
 
+    /// The sums of spans through the last one that is not 0.
+    #[tactic(auto, using(crate::proofs::Used::used_is_few))]
+    fn used_spans(&self) -> &[u32]
+        ensures value { result.now ≡ take (used_of self.now.spans) self.now.spans }
+        ensures few { length result.now ≤ SPANS }
+        ensures fits { sum result.now + self.now.buses + self.now.maximum ≤ MOST_MONEY }
+    {
+        &self.spans[..usize::from(self.used)]
+    }
+
     fn outside_of(&self, cover: Cover) -> Cells
         ensures { result ≡ outside cover self.now }
     {
+        let spans = spans_outside(self.spans, cover);
         Cells {
-            spans: spans_outside(self.spans, cover),
-            buses: Pence::ZERO,
+            spans,
+            buses: 0,
             maximum: self.maximum,
+            used: used_to(&spans, SPANS),
         }
     }
 }
 
-/// The sum of all spans.
-fn sum_of(spans: &[Pence]) -> Pence
+/// How many sums there are up to the last one that is not 0. It is at most so many.
+fn used_to(spans: &[u32; SPANS], most: usize) -> u8
+    requires in_most { used_of spans.now ≤ most }
+    requires in_range { most ≤ SPANS }
+    ensures { result ≡ used_of spans.now }
+{
+    let mut used = most;
+    while used > 0 {
+        if spans[used - 1] != 0 {
+            return used as u8;
+        }
+        used -= 1;
+    }
+    0
+}
+
+/// The same where one of the sums was changed: so many were in use before.
+fn used_with(spans: &[u32; SPANS], used: u8, place: usize) -> u8
+    requires is_place { place < SPANS }
+    requires in_range { used ≤ SPANS }
+    requires before { used_of spans.now ≤ max used (place + 1) }
+    ensures { result ≡ used_of spans.now }
+{
+    used_to(spans, usize::from(used).max(place + 1))
+}
+
+/// The sum of some sums.
+fn sum_of(spans: &[u32]) -> u32
     requires { sum spans.now ≤ MOST_MONEY }
     ensures { result ≡ sum spans.now }
 {
-    let mut total = Pence::ZERO;
+    let mut total = 0;
     for fare in spans {
-        total = total + *fare;
+        total += *fare;
     }
     total
 }
 
 /// The sum of a span, if it is not covered, and else nothing.
-fn outside_at(spans: &[Pence], cover: Cover, place: usize) -> Pence
-    requires is_place { place < SPANS }
-    requires all { length spans.now ≡ SPANS }
+fn outside_at(spans: &[u32], cover: Cover, place: usize) -> u32
+    requires is_place { place < length spans.now }
+    requires few { length spans.now ≤ SPANS }
     ensures { result ≡ (if covers_span cover (span_at place) then 0 else slice_index spans.now place) }
 {
     if cover.covers(ALL_SPANS[place]) {
-        return Pence::ZERO;
+        return 0;
     }
     spans[place]
 }
 
 /// The sum of the spans that are not covered.
-fn sum_outside(spans: &[Pence], cover: Cover) -> Pence
-    requires all { length spans.now ≡ SPANS }
+fn sum_outside(spans: &[u32], cover: Cover) -> u32
+    requires few { length spans.now ≤ SPANS }
     requires fits { sum spans.now ≤ MOST_MONEY }
     ensures value { result ≡ sum_where (λ span. not (covers_span cover span)) spans.now }
     ensures in_range { result ≤ MOST_MONEY }
 {
-    let mut total = Pence::ZERO;
-    for place in 0..SPANS {
-        total = total + outside_at(spans, cover, place);
+    let mut total = 0;
+    for place in 0..spans.len() {
+        total += outside_at(spans, cover, place);
+    }
+    total
+}
+
+/// The sum of a span, if neither of two bands covers it, and else nothing.
+fn outside_both_at(spans: &[u32], first: Cover, second: Cover, place: usize) -> u32
+    requires is_place { place < length spans.now }
+    requires few { length spans.now ≤ SPANS }
+    ensures { result ≡ (if covers_span first (span_at place) then 0 else if covers_span second (span_at place) then 0 else slice_index spans.now place) }
+{
+    if first.covers(ALL_SPANS[place]) {
+        return 0;
+    }
+    outside_at(spans, second, place)
+}
+
+/// The sum of the spans that neither of two bands covers.
+fn sum_outside_both(spans: &[u32], first: Cover, second: Cover) -> u32
+    requires few { length spans.now ≤ SPANS }
+    requires fits { sum spans.now ≤ MOST_MONEY }
+    ensures value { result ≡ sum_where (λ span. not (covers_span first span) && not (covers_span second span)) spans.now }
+    ensures in_range { result ≤ MOST_MONEY }
+{
+    let mut total = 0;
+    for place in 0..spans.len() {
+        total += outside_both_at(spans, first, second, place);
     }
     total
 }
 
 /// The sums of spans, without those that are covered.
-fn spans_outside(mut spans: [Pence; SPANS], cover: Cover) -> [Pence; SPANS]
+fn spans_outside(mut spans: [u32; SPANS], cover: Cover) -> [u32; SPANS]
     ensures { result ≡ spans_outside cover spans }
 {
     for place in 0..SPANS {

@@ -1,13 +1,13 @@
-ghost use Rattle.std.specs.Prelude.{◌≡◌, ◌≤◌, ◌+◌, Some};
+ghost use Rattle.std.specs.Prelude.{◌≡◌, ◌≤◌, ◌+◌, Some, slice_get};
 ghost use Rattle.pay_tables.specs.declared.limits.TheConstants.{MOST_FARE};
 ghost use Rattle.pay_money.specs.declared.limits.TheConstants.{MOST_MONEY};
-ghost use Rattle.pay_caps.specs.Cells.{capped_sum, outside_sum, total};
+ghost use Rattle.pay_caps.specs.Cells.{capped_sum, outside, outside_of, outside_sum, total};
 ghost use Rattle.pay_caps.specs.Lowest.{lower};
 ghost use Rattle.pay_caps.specs.DayPrices.{capped_price_of, day_price_of};
 
 use crate::cells::Cells;
 use pay_money::Pence;
-use pay_tables::{Band, Tables};
+use pay_tables::{Band, Cover, Tables};
 
 /// A price, and the band that gives it, by its place in the fare file, where one does.
 pub type Offer = (Pence, Option<u8>);
@@ -51,6 +51,49 @@ pub fn capped_price(tables: &Tables, cells: &Cells) -> Offer
         best = lower_of(best, cells, &bands[place], place as u8);
     }
     best
+}
+
+/// The same for what another band leaves outside: the cap, and what both leave outside.
+fn lower_of_outside(best: Offer, cells: &Cells, other: Cover, band: &Band, place: u8) -> Offer
+    requires { band.now.day ≤ MOST_FARE }
+    ensures value { result ≡ lower best (band.now.day + outside_sum band.now.cover (outside other cells.now), Some place) }
+    ensures no_more { result.0 ≤ best.0 }
+{
+    if band.day >= best.0 {
+        return best;
+    }
+    lower(
+        best,
+        (
+            band.day + cells.outside_both_sum(other, band.cover),
+            Some(place),
+        ),
+    )
+}
+
+/// `capped_price` of what a band leaves outside.
+fn price_outside(tables: &Tables, cells: &Cells, other: Cover) -> Offer
+    ensures value { result ≡ capped_price_of tables.now (outside other cells.now) }
+    ensures in_range { result.0 ≤ MOST_MONEY }
+{
+    let bands = tables.bands();
+    let mut best = (cells.outside_sum(other), None);
+    for place in 0..bands.len() {
+        best = lower_of_outside(best, cells, other, &bands[place], place as u8);
+    }
+    best
+}
+
+/// `capped_price` of what the band at a place in the fare file leaves outside; where none stands there, of
+/// all fares. It is that of `Cells::outside`, for which no cells have to be made.
+pub fn capped_price_outside(tables: &Tables, cells: &Cells, place: u8) -> Offer
+    ensures value { result ≡ capped_price_of tables.now (outside_of (slice_get tables.now.bands place) cells.now) }
+    ensures in_range { result.0 ≤ MOST_MONEY }
+{
+    match tables.bands().get(usize::from(place)) {
+        Some(band) => price_outside(tables, cells, band.cover),
+        None => capped_price(tables, cells),
+    }
 }
 
 /// The price of a day's fares, and the band that gives it, by its place in the fare file: that of

@@ -177,8 +177,8 @@ empty_day_free most alike tables before after =
           (alike week_cap (capped_days tables more) (capped_days tables fewer) (λ band. capped_days tables (map (not_covered tables band) more)) (λ band. capped_days tables (map (not_covered tables band) fewer)) tables.bands
           (days_without most tables before after)
           (λ band.
-            ap (capped_days tables) (map-append (not_covered tables band) before ([] ∷ after)) ∙ days_without most tables (map (not_covered tables band) before) (map (not_covered tables band) after)
-            ∙ sym (ap (capped_days tables) (map-append (not_covered tables band) before after)))),
+          ap (capped_days tables) (map-append (not_covered tables band) before ([] ∷ after)) ∙ days_without most tables (map (not_covered tables band) before) (map (not_covered tables band) after)
+          ∙ sym (ap (capped_days tables) (map-append (not_covered tables band) before after)))),
       sum_by-append (maximum_fares tables) before ([] ∷ after),
       sum_by-append (maximum_fares tables) before after,
       sum_by-cons (maximum_fares tables) [] after,

@@ -5,7 +5,7 @@ ghost use Rattle.pay_money.specs.declared.limits.TheConstants.{MOST_MONEY};
 ghost use Rattle.pay_caps.specs.Words.{capped_sum, lower, outside, outside_of, total};
 ghost use Rattle.pay_week.specs.WeekPrices.{capped_days_of, maximum_of, week_price_of, due};
 
-use pay_caps::{Cells, Offer, capped_price, lower};
+use pay_caps::{Cells, Offer, capped_price, capped_price_outside, lower};
 use pay_money::Pence;
 use pay_tables::{Band, Tables};
 
@@ -31,7 +31,7 @@ fn capped_days_outside(tables: &Tables, days: &[Cells], place: u8) -> Pence
 {
     let mut sum = Pence::ZERO;
     for cells in days {
-        sum = sum + capped_price(tables, &cells.outside(tables, place)).0;
+        sum = sum + capped_price_outside(tables, cells, place).0;
     }
     sum
 }
