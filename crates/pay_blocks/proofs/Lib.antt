@@ -1,0 +1,4 @@
+pub mod Edits
+pub mod Partitions
+pub mod Puts
+pub mod Joins
