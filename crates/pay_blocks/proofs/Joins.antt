@@ -18,7 +18,7 @@ module _ {X : Type 0} where
   starts_from start (b ∷ bs) zero d h lt = omega arith
   starts_from start (b ∷ bs) (suc k) d h lt = let rest = starts_from (start + length b.items) bs k d h.4 (omega arith) in omega arith
 
-  starts_rise : (start : ℕ) (blocks : List (BlockParts X)) (i j : ℕ) (d : BlockParts X) → AreLaid start blocks → i ≤ j → j < length blocks
+  pub starts_rise : (start : ℕ) (blocks : List (BlockParts X)) (i j : ℕ) (d : BlockParts X) → AreLaid start blocks → i ≤ j → j < length blocks
       → (get_or blocks i d).start ≤ (get_or blocks j d).start
   starts_rise start [] i j d h low lt = absurd (omega arith)
   starts_rise start (b ∷ bs) zero j d h low lt = let rest = starts_from start (b ∷ bs) j d h lt in omega arith

@@ -51,5 +51,6 @@ pub record AreKept {X : Type 0} (first : BlockParts X) (later : List (BlockParts
   pub few : length first.items ≤ MOST
   pub laid : AreLaid (length first.items) later
   pub counted : count ≡ length first.items + length (joined later)
+  pub fits : count < 2 ^ 64
   pub unused : spare ≡ []
   pub ready : 1 ≤ room → IsReady first later count spare_capacity blocks
