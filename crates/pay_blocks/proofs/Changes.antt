@@ -1,14 +1,13 @@
 -- A list in blocks once one more is put in, or one is taken out.
-use Rattle.std.proofs.Common.{◌≡◌, ◌≢◌, ℕ, zero, suc, ◌+◌, ◌-◌, ◌*◌, ◌^◌, ◌<◌, ◌≤◌, List, [], ◌∷◌, ◌++◌, length, take, drop, map, set, get_or, slice_get, Option, Some, None, refl, sym, ap, ◌∙◌, subst, arith, append_assoc, length-append}
-use Rattle.std.proofs.lemmas.List.{append-nil, get_or_default, take_more_set, drop-set-lt, take-set, length-set, get_or_at, length-take-le}
-use Rattle.std.specs.List.{insert, remove}
+use Rattle.std.proofs.Common.{◌≡◌, ◌≢◌, ℕ, zero, suc, ◌+◌, ◌-◌, ◌^◌, ◌<◌, ◌≤◌, List, [], ◌∷◌, ◌++◌, length, take, drop, map, set, get_or, slice_get, Option, sym, ap, ◌∙◌, subst, arith, append_assoc, length-append}
+use Rattle.std.proofs.lemmas.List.{get_or_default, take_more_set, drop-set-lt}
+use Rattle.std.specs.List.{insert}
 use Rattle.std.specs.Option.{option_to_list}
 use Rattle.pay_blocks.specs.declared.limits.TheConstants.{MOST}
 use Rattle.pay_blocks.specs.Parts.{BlockParts}
-use Rattle.pay_blocks.specs.Laid.{raised, lowered, joined, AreLaid, AreKept, IsReady, IsPut}
+use Rattle.pay_blocks.specs.Laid.{raised, joined, AreLaid, AreKept, IsPut}
 use Rattle.pay_blocks.proofs.Edits.{holds_further}
-use Rattle.pay_blocks.proofs.Joins.{IsHeld, held_first, held_later, within_held, inside_held, get_held, insert_held, remove_held, from_held, some_held, length_held,
-  joined_append, joined_raised, joined_lowered, joined_at, laid_append, laid_at, laid_before, laid_raised, laid_lowered, starts_within}
+use Rattle.pay_blocks.proofs.Joins.{IsHeld, held_first, held_later, within_held, inside_held, get_held, insert_held, from_held, some_held, joined_append, joined_raised, laid_append, laid_at, laid_before, laid_raised, starts_within}
 use Rattle.pay_blocks.proofs.Puts.{length-insert}
 
 module _ {X : Type 0} where
@@ -34,7 +33,7 @@ module _ {X : Type 0} where
       let w = f.within in
       subst (λ l. IsHeld l (first ++ joined (take (n - 1) later)) b.items (joined (drop (n - 1 + 1) later)) place b.start) f.whole
       (held_later first later (n - 1) b place f.laid (omega arith) at (subst (λ c. c.start ≤ place) (sym at) (f.begun (n - 1) b (omega arith)))
-        (λ i d low lt. f.ahead i d (omega arith) lt))
+      (λ i d low lt. f.ahead i d (omega arith) lt))
 
   pub its_own : (later : List (BlockParts X)) (k : ℕ) (d : BlockParts X) → k < length later → get_or later k d ≡ get_or later k (get_or later k d)
   its_own later k d lt = get_or_default later k d (get_or later k d) lt
@@ -158,7 +157,7 @@ module _ {X : Type 0} where
         start = start;
         few = p.few;
         laid = subst (λ l. AreLaid (length new.items) l) (sym e)
-          (subst (λ m. AreLaid m (option_to_list next ++ map raised later)) to
+            (subst (λ m. AreLaid m (option_to_list next ++ map raised later)) to
             (way_made first place item new next later p within (subst (λ m. AreLaid m later) (sym from) f.laid)));
         counted = let counted = kept.counted in omega arith;
         fits = fits;
@@ -182,7 +181,7 @@ module _ {X : Type 0} where
       let same : n ≡ n - 1 + 1 = omega arith in
       exchanged later later1 later2 _ (n - 1) new (omega arith) e1
       (e2 ∙ ap (λ m. take m later1 ++ (option_to_list next ++ map raised (drop m later1))) same
-        ∙ ap (λ l. take (n - 1 + 1) later1 ++ (option_to_list next ++ map raised l)) (behind_it later later1 (n - 1) new e1))
+      ∙ ap (λ l. take (n - 1 + 1) later1 ++ (option_to_list next ++ map raised l)) (behind_it later later1 (n - 1) new e1))
 
   pub shape_items : (first : List X) (front rest : List (BlockParts X)) (new : BlockParts X) → first ++ joined (front ++ new ∷ rest) ≡ (first ++ joined front) ++ (new.items ++ joined rest)
   shape_items first front rest new = ap (λ (l : List X). first ++ l) (joined_append front (new ∷ rest)) ∙ sym (append_assoc first (joined front) (new.items ++ joined rest))
@@ -216,10 +215,10 @@ module _ {X : Type 0} where
       let same : new.start ≡ old.start = p.start in
       let capacity : MOST ≤ new.capacity = let c = p.capacity in let d : MOST ≤ old.capacity = there.3 in omega arith in
       let behind : AreLaid (new.start + length new.items) (option_to_list next ++ map raised rest)
-        = way_made old (place - old.start) item new next rest p (omega arith) (subst (λ m. AreLaid (m + length old.items) rest) (sym from) there.4) in
+      = way_made old (place - old.start) item new next rest p (omega arith) (subst (λ m. AreLaid (m + length old.items) rest) (sym from) there.4) in
       subst (λ l. AreLaid (length first) l) (sym shape)
       (laid_append (length first) front (new ∷ (option_to_list next ++ map raised rest)) (laid_before (length first) later (n - 1) f.laid)
-        (same ∙ from, p.some, p.few, capacity, subst (λ m. AreLaid (m + length new.items) (option_to_list next ++ map raised rest)) (same ∙ from) behind))
+      (same ∙ from, p.some, p.few, capacity, subst (λ m. AreLaid (m + length new.items) (option_to_list next ++ map raised rest)) (same ∙ from) behind))
 
   pub kept_later : (first : BlockParts X) (later later2 : List (BlockParts X)) (all : List X) (place count room room2 spare_capacity spare_capacity2 blocks blocks2 : ℕ) (spare spare2 : List X) (item : X)
       → AreKept first later count room spare spare_capacity blocks → first.items ++ joined later ≡ all → place ≤ length all
@@ -245,4 +244,4 @@ module _ {X : Type 0} where
   starts_fit_set start count later later1 n new h e few some e1 k d low lt =
       subst (λ l. (get_or l k d).start < 2 ^ 64 - 1) (sym e1)
       (holds_further (λ b. b.start < 2 ^ 64 - 1) later (n - 1) new (λ j c from to. let most = starts_fit start count later h e j c to in omega arith) k d (omega arith)
-        (subst (λ l. k < length l) e1 lt))
+      (subst (λ l. k < length l) e1 lt))

@@ -1,5 +1,5 @@
 -- One more put in, one taken out, and one looked up, where a list is joined of two.
-use Rattle.std.proofs.Common.{◌≡◌, ℕ, zero, suc, ◌+◌, ◌-◌, ◌<◌, ◌≤◌, List, [], ◌∷◌, ◌++◌, length, take, drop, map, set, get_or, slice_get, Option, Some, None, refl, sym, ap, ◌∙◌, arith, append_assoc, length-append}
+use Rattle.std.proofs.Common.{◌≡◌, ℕ, zero, suc, ◌+◌, ◌-◌, ◌<◌, ◌≤◌, List, [], ◌∷◌, ◌++◌, length, take, drop, map, set, get_or, slice_get, refl, sym, ap, ◌∙◌, arith, append_assoc}
 use Rattle.std.proofs.lemmas.List.{take_more_set, drop-set-lt, drop_more, get_or-set_other, length-set, take_all, drop_all, append-nil}
 use Rattle.std.specs.List.{insert, remove}
 
@@ -69,7 +69,7 @@ module _ {X : Type 0} where
       let there : map f (drop i xs) ≡ f x ∷ map f (drop (i + 1) xs) = ap (map f) here ∙ ap (λ z. f z ∷ map f (drop (i + 1) xs)) (sym at) in
       let joined : (take i xs ++ y ∷ []) ++ map f (drop (i + 1) xs) ≡ take i xs ++ (y ∷ map f (drop (i + 1) xs)) = append_assoc (take i xs) (y ∷ []) (map f (drop (i + 1) xs)) in
       let all : take i xs ++ (y ∷ map f (drop (i + 1) xs)) ≡ take i xs ++ map f (drop i xs) =
-        ap (λ (l : List X). take i xs ++ l) (ap (λ z. z ∷ map f (drop (i + 1) xs)) is ∙ sym there) in
+      ap (λ (l : List X). take i xs ++ l) (ap (λ z. z ∷ map f (drop (i + 1) xs)) is ∙ sym there) in
       rw (front, behind) (joined ∙ all ∙ h)
 
   pub changed_all : (f : X → X) (xs : List X) (i : ℕ) (goal : List X) → length xs ≤ i → take i xs ++ map f (drop i xs) ≡ goal → xs ≡ goal

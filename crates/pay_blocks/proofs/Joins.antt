@@ -1,11 +1,10 @@
 -- Blocks that lie one behind another, and where a place of the list lies in them.
-use Rattle.std.proofs.Common.{◌≡◌, ℕ, zero, suc, ◌+◌, ◌-◌, ◌<◌, ◌≤◌, Bool, true, false, leb, nat_le, List, [], ◌∷◌, ◌++◌, length, take, drop, map, set, get_or, slice_get, Option, Some, None, refl, sym, ap, ◌∙◌, subst, arith, append_assoc, length-append}
+use Rattle.std.proofs.Common.{◌≡◌, ℕ, zero, suc, ◌+◌, ◌-◌, ◌<◌, ◌≤◌, true, false, nat_le, List, [], ◌∷◌, ◌++◌, length, take, drop, map, get_or, slice_get, refl, sym, ap, ◌∙◌, subst, arith, append_assoc, length-append}
 use Rattle.std.proofs.lemmas.List.{append-nil, take-append-drop, drop_more, length-drop, get_or-drop}
 use Rattle.std.proofs.lemmas.List.Concat.{flat_map-append}
 use Rattle.std.proofs.lemmas.Bool.Decides.{nat_tests}
 use Rattle.std.specs.List.{insert, remove}
 use Rattle.std.specs.List.Sorted.{IsPartitionedBy, IsPartitionPoint}
-use Rattle.pay_blocks.specs.declared.limits.TheConstants.{MOST}
 use Rattle.pay_blocks.specs.Parts.{BlockParts}
 use Rattle.pay_blocks.specs.Laid.{raised, lowered, joined, AreLaid}
 use Rattle.pay_blocks.proofs.Edits.{insert_left, insert_right, remove_left, remove_right, get_left, get_right, drop_left, drop_right, take_front}
@@ -146,7 +145,7 @@ module _ {X : Type 0} where
         begun = low;
         ends = λ some. let near : place < length first + length (joined (take k later)) + length b.items
             = before_first _ place (drop (k + 1) later) there.4 (λ d one. let e : k + 1 + 0 ≡ k + 1 = omega arith in
-              rw (get_or-drop (k + 1) later 0 d) (subst (λ n. place < (get_or later n d).start) (sym e) (ahead (k + 1) d (omega arith) (omega arith)))) some
+            rw (get_or-drop (k + 1) later 0 d) (subst (λ n. place < (get_or later n d).start) (sym e) (ahead (k + 1) d (omega arith) (omega arith)))) some
             in omega arith;
       }
 

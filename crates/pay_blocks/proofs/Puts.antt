@@ -1,10 +1,10 @@
 -- One more put into a block.
-use Rattle.std.proofs.Common.{◌≡◌, ℕ, zero, suc, ◌+◌, ◌-◌, ◌^◌, ◌<◌, ◌≤◌, List, [], ◌∷◌, ◌++◌, length, take, drop, Option, Some, None, refl, sym, ap, ◌∙◌, arith, append_assoc, length-append}
+use Rattle.std.proofs.Common.{◌≡◌, ℕ, zero, suc, ◌+◌, ◌-◌, ◌<◌, ◌≤◌, List, [], ◌∷◌, ◌++◌, length, take, drop, Some, refl, sym, ap, ◌∙◌, arith}
 use Rattle.std.proofs.lemmas.List.{append-nil, take-append-drop, length-take-le, length-drop, take_rest}
 use Rattle.std.specs.List.{insert}
 use Rattle.pay_blocks.specs.declared.limits.TheConstants.{HALF, MOST}
 use Rattle.pay_blocks.specs.Parts.{BlockParts}
-use Rattle.pay_blocks.specs.Laid.{raised, joined, AreLaid, IsPut}
+use Rattle.pay_blocks.specs.Laid.{raised, IsPut}
 use Rattle.pay_blocks.proofs.Edits.{insert_left, insert_right}
 
 module _ {X : Type 0} where
@@ -29,7 +29,7 @@ module _ {X : Type 0} where
       let next_start : next.start ≡ given.start + 1 = ap (λ b. b.start) up in
       let next_capacity : next.capacity ≡ given.capacity = ap (λ b. b.capacity) up in
       let all : new.items ++ next.items ≡ insert old.items offset item =
-        rw (new_is, next_is) (sym (insert_left (take HALF old.items) (drop HALF old.items) offset item (omega arith)) ∙ ap (λ (l : List X). insert l offset item) halves) in
+      rw (new_is, next_is) (sym (insert_left (take HALF old.items) (drop HALF old.items) offset item (omega arith)) ∙ ap (λ (l : List X). insert l offset item) halves) in
       record {
         start = n1 ∙ k1;
         items = ap (λ (l : List X). new.items ++ l) (append-nil next.items) ∙ all;
@@ -53,9 +53,9 @@ module _ {X : Type 0} where
       let next_is : next.items ≡ insert (drop HALF old.items) (offset - HALF) item = n2 ∙ ap (λ (l : List X). insert l (offset - HALF) item) g2 in
       let next_many : length next.items ≡ suc (length old.items - HALF) = ap length next_is ∙ length-insert (drop HALF old.items) (offset - HALF) item (omega arith) ∙ ap suc given_many in
       let right : insert (take HALF old.items ++ drop HALF old.items) offset item ≡ take HALF old.items ++ insert (drop HALF old.items) (offset - length (take HALF old.items)) item =
-        insert_right (take HALF old.items) (drop HALF old.items) offset item (omega arith) in
+      insert_right (take HALF old.items) (drop HALF old.items) offset item (omega arith) in
       let all : kept.items ++ next.items ≡ insert old.items offset item =
-        rw (k2, next_is) (sym (right ∙ ap (λ n. take HALF old.items ++ insert (drop HALF old.items) (offset - n) item) take_many) ∙ ap (λ (l : List X). insert l offset item) halves) in
+      rw (k2, next_is) (sym (right ∙ ap (λ n. take HALF old.items ++ insert (drop HALF old.items) (offset - n) item) take_many) ∙ ap (λ (l : List X). insert l offset item) halves) in
       record {
         start = k1;
         items = ap (λ (l : List X). kept.items ++ l) (append-nil next.items) ∙ all;

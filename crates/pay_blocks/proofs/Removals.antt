@@ -1,12 +1,12 @@
 -- A list in blocks once one is taken out.
-use Rattle.std.proofs.Common.{◌≡◌, ◌≢◌, ℕ, zero, suc, ◌+◌, ◌-◌, ◌<◌, ◌≤◌, List, [], ◌∷◌, ◌++◌, length, take, drop, map, set, get_or, slice_get, Option, Some, None, refl, sym, ap, ◌∙◌, subst, arith, append_assoc, length-append}
-use Rattle.std.proofs.lemmas.List.{append-nil, get_or_at, length-take-le}
-use Rattle.std.specs.List.{insert, remove}
+use Rattle.std.proofs.Common.{◌≡◌, ◌≢◌, ℕ, zero, suc, ◌+◌, ◌-◌, ◌<◌, ◌≤◌, List, [], ◌∷◌, ◌++◌, length, take, drop, map, set, get_or, refl, sym, ap, ◌∙◌, subst, arith, append_assoc, length-append}
+use Rattle.std.proofs.lemmas.List.{get_or_at, length-take-le}
+use Rattle.std.specs.List.{remove}
 use Rattle.pay_blocks.specs.declared.limits.TheConstants.{MOST}
 use Rattle.pay_blocks.specs.Parts.{BlockParts}
 use Rattle.pay_blocks.specs.Laid.{lowered, joined, AreLaid, AreKept}
 use Rattle.pay_blocks.proofs.Edits.{remove_right}
-use Rattle.pay_blocks.proofs.Joins.{IsHeld, remove_held, inside_held, joined_append, joined_lowered, laid_append, laid_at, laid_before, laid_lowered}
+use Rattle.pay_blocks.proofs.Joins.{remove_held, inside_held, joined_append, joined_lowered, laid_append, laid_at, laid_before, laid_lowered}
 use Rattle.pay_blocks.proofs.Changes.{IsFound, in_first, in_later, inside_first, exchanged, behind_it, shape_items}
 
 by_number : (P : Type 0) (n : ℕ) → (n ≡ 0 → P) → (1 ≤ n → P) → P
@@ -72,17 +72,17 @@ module _ {X : Type 0} where
       let same : n ≡ n - 1 + 1 = omega arith in
       let front : length (take (n - 1) later) ≡ n - 1 = length-take-le (n - 1) later (omega arith) in
       let shape : later2 ≡ take (n - 1) later ++ new ∷ map lowered (drop (n - 1 + 1) later) =
-        exchanged later later1 later2 (map lowered (drop (n - 1 + 1) later)) (n - 1) new (omega arith) e1
-        (e2 ∙ ap (λ m. take m later1 ++ map lowered (drop m later1)) same ∙ ap (λ l. take (n - 1 + 1) later1 ++ map lowered l) (behind_it later later1 (n - 1) new e1)) in
+      exchanged later later1 later2 (map lowered (drop (n - 1 + 1) later)) (n - 1) new (omega arith) e1
+      (e2 ∙ ap (λ m. take m later1 ++ map lowered (drop m later1)) same ∙ ap (λ l. take (n - 1 + 1) later1 ++ map lowered l) (behind_it later later1 (n - 1) new e1)) in
       let there : get_or later2 (n - 1) new ≡ new =
-        ap (λ l. get_or l (n - 1) new) shape ∙ get_or_at (take (n - 1) later) new (map lowered (drop (n - 1 + 1) later)) new (n - 1) front in
+      ap (λ l. get_or l (n - 1) new) shape ∙ get_or_at (take (n - 1) later) new (map lowered (drop (n - 1 + 1) later)) new (n - 1) front in
       record {
         at = at;
         start = start;
         items = items;
         capacity = capacity;
         empty = λ none. empty new (ap (λ b. length b.items) there ∙ none) ∙ ap (λ l. remove l (n - 1)) shape
-          ∙ remove_at (take (n - 1) later) (map lowered (drop (n - 1 + 1) later)) new (n - 1) front;
+            ∙ remove_at (take (n - 1) later) (map lowered (drop (n - 1 + 1) later)) new (n - 1) front;
         kept = λ has. kept new (subst (λ b. 1 ≤ length b.items) (sym there) has) ∙ shape;
       }
 
@@ -97,13 +97,13 @@ module _ {X : Type 0} where
       let rest = drop (n - 1 + 1) later in
       let taken = remove_held _ _ _ _ _ _ (in_later first later all place n old f some out.at) lt in
       let shown : (first ++ joined front) ++ (new.items ++ joined rest) ≡ remove all place =
-        ap (λ (l : List X). (first ++ joined front) ++ (l ++ joined rest)) out.items ∙ sym taken in
+      ap (λ (l : List X). (first ++ joined front) ++ (l ++ joined rest)) out.items ∙ sym taken in
       by_number (first ++ joined later3 ≡ remove all place) (length new.items)
       (λ none. ap (λ l. first ++ joined l) (out.empty none) ∙ ap (λ (l : List X). first ++ l) (joined_append front (map lowered rest))
-        ∙ ap (λ (l : List X). first ++ (joined front ++ l)) (joined_lowered rest) ∙ sym (append_assoc first (joined front) (joined rest))
-        ∙ ap (λ (l : List X). (first ++ joined front) ++ (l ++ joined rest)) (sym (is_none new.items none)) ∙ shown)
+      ∙ ap (λ (l : List X). first ++ (joined front ++ l)) (joined_lowered rest) ∙ sym (append_assoc first (joined front) (joined rest))
+      ∙ ap (λ (l : List X). (first ++ joined front) ++ (l ++ joined rest)) (sym (is_none new.items none)) ∙ shown)
       (λ has. ap (λ l. first ++ joined l) (out.kept has) ∙ shape_items first front (map lowered rest) new
-        ∙ ap (λ (l : List X). (first ++ joined front) ++ (new.items ++ l)) (joined_lowered rest) ∙ shown)
+      ∙ ap (λ (l : List X). (first ++ joined front) ++ (new.items ++ l)) (joined_lowered rest) ∙ shown)
 
   pub laid_removed : (first : List X) (later later3 : List (BlockParts X)) (all : List X) (place n : ℕ) (old new : BlockParts X)
       → IsFound first later all place n → n ≢ 0 → place < length all → IsTakenOut first later later3 all place n old new → AreLaid (length first) later3
@@ -119,14 +119,14 @@ module _ {X : Type 0} where
       let few : length old.items ≤ MOST = there.2 in
       let capacity : MOST ≤ new.capacity = let c = out.capacity in let d : MOST ≤ old.capacity = there.3 in omega arith in
       let behind : AreLaid (length first + length (joined front) + length new.items) (map lowered rest) =
-        laid_lowered (length first + length (joined front) + length old.items) (length first + length (joined front) + length new.items) rest (omega arith) there.4 in
+      laid_lowered (length first + length (joined front) + length old.items) (length first + length (joined front) + length new.items) rest (omega arith) there.4 in
       by_number (AreLaid (length first) later3) (length new.items)
       (λ none. let same : length first + length (joined front) + length new.items ≡ length first + length (joined front) = omega arith in
-        subst (λ l. AreLaid (length first) l) (sym (out.empty none))
-        (laid_append (length first) front (map lowered rest) (laid_before (length first) later (n - 1) f.laid) (subst (λ m. AreLaid m (map lowered rest)) same behind)))
+      subst (λ l. AreLaid (length first) l) (sym (out.empty none))
+      (laid_append (length first) front (map lowered rest) (laid_before (length first) later (n - 1) f.laid) (subst (λ m. AreLaid m (map lowered rest)) same behind)))
       (λ has. subst (λ l. AreLaid (length first) l) (sym (out.kept has))
-        (laid_append (length first) front (new ∷ map lowered rest) (laid_before (length first) later (n - 1) f.laid)
-          (out.start ∙ from, has, omega arith, capacity, behind)))
+      (laid_append (length first) front (new ∷ map lowered rest) (laid_before (length first) later (n - 1) f.laid)
+      (out.start ∙ from, has, omega arith, capacity, behind)))
 
   pub kept_removed : (first : BlockParts X) (later later3 : List (BlockParts X)) (all : List X) (place count room room2 spare_capacity spare_capacity2 blocks blocks2 : ℕ) (spare : List X)
       → AreKept first later count room spare spare_capacity blocks → first.items ++ joined later ≡ all → place < length all

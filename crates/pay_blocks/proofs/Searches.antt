@@ -4,7 +4,7 @@ use Rattle.std.proofs.lemmas.List.{get_or_append_left, get_or-append_right, get_
 use Rattle.std.specs.List.Sorted.{IsPartitionedBy, IsPartitionPoint}
 use Rattle.pay_blocks.specs.Parts.{BlockParts}
 use Rattle.pay_blocks.specs.Laid.{begins, joined, AreLaid}
-use Rattle.pay_blocks.proofs.Partitions.{parted_part, parted_at}
+use Rattle.pay_blocks.proofs.Partitions.{parted_at}
 use Rattle.pay_blocks.proofs.Joins.{joined_at, laid_at, starts_rise, starts_within}
 use Rattle.pay_blocks.proofs.Changes.{its_own}
 
@@ -37,8 +37,8 @@ module _ {X : Type 0} where
   found_part p before own behind all m e parted few point none next =
       let many : length all ≡ length before + (length own + length behind) = ap length e ∙ length-append before (own ++ behind) ∙ ap (λ k. length before + k) (length-append own behind) in
       parted_at p all (length before + m) parted (omega arith) (λ d some. held m none point d some few) (λ d lt. by_end (p (get_or all (length before + m) d) ≡ false) m (length own) few
-        (λ inside. ap p (own_item before own behind all m d e inside) ∙ point.1 m d (omega arith) inside)
-        (λ at. ap (λ k. p (get_or all (length before + k) d)) at ∙ ap p (next_item before own behind all d e) ∙ first_behind behind d next (omega arith)))
+      (λ inside. ap p (own_item before own behind all m d e inside) ∙ point.1 m d (omega arith) inside)
+      (λ at. ap (λ k. p (get_or all (length before + k) d)) at ∙ ap p (next_item before own behind all d e) ∙ first_behind behind d next (omega arith)))
     where
       held : (m : ℕ) → (m ≡ 0 → length before ≡ 0) → IsPartitionPoint (λ x. p x ≡ true) (λ x. p x ≡ false) own m → (d : X) → 1 ≤ length before + m → m ≤ length own
           → p (get_or all (length before + m - 1) d) ≡ true
@@ -46,6 +46,7 @@ module _ {X : Type 0} where
       held (suc m) none point d some few =
           let at : length before + suc m - 1 ≡ length before + m = omega arith in
           ap (λ k. p (get_or all k d)) at ∙ ap p (own_item before own behind all m d e (omega arith)) ∙ point.0 m d (omega arith) (omega arith)
+
       first_behind : (behind : List X) (d : X) → begins p behind ≡ false → 1 ≤ length behind → p (get_or behind 0 d) ≡ false
       first_behind [] d fails some = absurd (omega arith)
       first_behind (x ∷ xs) d fails some = fails
@@ -114,7 +115,7 @@ module _ {X : Type 0} where
       let same : 0 + m ≡ m = omega arith in
       subst (λ k. IsPartitionPoint (λ x. p x ≡ true) (λ x. p x ≡ false) all k) same
       (found_part p [] first (joined later) all m (sym whole) parted few point (λ z. refl)
-        (begins_joined p (length first) later laid (λ d some. blocks.1 0 d (omega arith) some)))
+      (begins_joined p (length first) later laid (λ d some. blocks.1 0 d (omega arith) some)))
 
   pub place_later : (p : X → Bool) (first : List X) (later : List (BlockParts X)) (all : List X) (n m : ℕ) (b : BlockParts X) → AreLaid (length first) later → first ++ joined later ≡ all → IsPartitionedBy p all
       → IsPartitionPoint (λ block. begins p block.items ≡ true) (λ block. begins p block.items ≡ false) later n → n ≤ length later → n ≢ 0 → b ≡ get_or later (n - 1) b
@@ -123,12 +124,13 @@ module _ {X : Type 0} where
       let rest : length (drop (n - 1 + 1) later) ≡ length later - (n - 1 + 1) = length-drop (n - 1 + 1) later in
       subst (λ k. IsPartitionPoint (λ x. p x ≡ true) (λ x. p x ≡ false) all (k + m)) (start_of first later (n - 1) b laid (omega arith) at)
       (found_part p (first ++ joined (take (n - 1) later)) b.items (joined (drop (n - 1 + 1) later)) all m (parts_of first later all (n - 1) b whole (omega arith) at) parted few point
-        (λ z. absurd (not_first b.items refl z))
-        (begins_joined p _ (drop (n - 1 + 1) later) (laid_at (length first) later (n - 1) b laid (omega arith) at).4
-          (λ d has. ap (λ c. begins p c.items) (get_or-drop (n - 1 + 1) later 0 d) ∙ blocks.1 (n - 1 + 1 + 0) d (omega arith) (omega arith))))
+      (λ z. absurd (not_first b.items refl z))
+      (begins_joined p _ (drop (n - 1 + 1) later) (laid_at (length first) later (n - 1) b laid (omega arith) at).4
+      (λ d has. ap (λ c. begins p c.items) (get_or-drop (n - 1 + 1) later 0 d) ∙ blocks.1 (n - 1 + 1 + 0) d (omega arith) (omega arith))))
     where
       first_holds : begins p b.items ≡ true
       first_holds = subst (λ c. begins p c.items ≡ true) (sym at) (blocks.0 (n - 1) b (omega arith) (omega arith))
+
       not_first : (own : List X) → b.items ≡ own → m ≡ 0 → ⊥
       not_first [] e z = let fails : begins p b.items ≡ false = ap (begins p) e in let y : begins p b.items ≡ true = first_holds in absurd (cc)
       not_first (x ∷ xs) e z =
@@ -142,7 +144,7 @@ module _ {X : Type 0} where
       → n ≤ length later → n ≢ 0 → b ≡ get_or later (n - 1) b → m ≤ length b.items → b.start + m ≤ length all
   place_within first later all n m b laid whole within some at few =
       let ends : b.start + length b.items ≤ length first + length (joined later) =
-        subst (λ c. c.start + length c.items ≤ length first + length (joined later)) (sym at) (starts_within (length first) later (n - 1) b laid (omega arith)) in
+      subst (λ c. c.start + length c.items ≤ length first + length (joined later)) (sym at) (starts_within (length first) later (n - 1) b laid (omega arith)) in
       let many : length all ≡ length first + length (joined later) = sym (ap length whole) ∙ length-append first (joined later) in
       omega arith
 

@@ -1,6 +1,6 @@
 -- How blocks lie one behind another.
-use Rattle.std.specs.Prelude.{◌≡◌, ℕ, ◌+◌, ◌-◌, ◌*◌, ◌^◌, ◌<◌, ◌≤◌, Bool, true, false, Option, List, [], ◌∷◌, ◌++◌, map, length, take, drop}
-use Rattle.std.specs.List.{flat_map, insert, remove}
+use Rattle.std.specs.Prelude.{◌≡◌, ℕ, ◌+◌, ◌-◌, ◌^◌, ◌<◌, ◌≤◌, Bool, false, Option, List, [], ◌∷◌, ◌++◌, length}
+use Rattle.std.specs.List.{flat_map, insert}
 use Rattle.std.specs.Option.{option_to_list}
 use Rattle.pay_blocks.specs.declared.limits.TheConstants.{MOST}
 use Rattle.pay_blocks.specs.Parts.{BlockParts}

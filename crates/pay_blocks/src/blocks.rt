@@ -12,7 +12,7 @@ use std::marker::Model;
 /// A list in blocks. In a contract it is its items, and for how many more there is room: none, or one.
 #[derive(Drop)]
 pub struct Blocks<T: Copy> {
-    // A list that is no longer than a block has this one alone.
+    // A list that never was longer than a block has this one alone. It may become empty before the others.
     first: Block<T>,
     later: Vec<Block<T>>,
     // The memory of a block to come.

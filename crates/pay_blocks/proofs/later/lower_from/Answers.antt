@@ -1,4 +1,4 @@
-use Rattle.std.proofs.Common.{arith, refl, sym, ap, ◌∙◌, subst, ◌-◌, ◌^◌, ◌<◌, ◌≤◌}
+use Rattle.std.proofs.Common.{arith, sym, ◌∙◌, subst, ◌≤◌}
 use Rattle.std.proofs.lemmas.List.{length-set}
 use Rattle.pay_blocks.specs.Laid.{lowered}
 use Rattle.pay_blocks.proofs.Edits.{changed_more, changed_all, holds_further}
@@ -13,7 +13,7 @@ loop-place-preserved g c = record {
   changed = changed_more lowered _ _ _ _ _ (omega (arith, c.args.blocks.now.ok.0)) c.index_mut-block.ensures.value c.lower.ensures c.loop-place.invariant.changed;
   fits = holds_further (λ b. 1 ≤ b.start) _ _ _ c.loop-place.invariant.fits;
   many = length-set _ _ _ ∙ c.loop-place.invariant.many;
-  capacity = c.loop-place.invariant.capacity
+  capacity = c.loop-place.invariant.capacity;
 }
 
 pub returns-clause-items : goal.returns-clause-items

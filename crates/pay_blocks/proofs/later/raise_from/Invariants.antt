@@ -7,5 +7,5 @@ invariant-loop-place g l = record {
   changed : take l.place l.blocks.items ++ map raised (drop l.place l.blocks.items) ≡ take l.fn.from l.fn.blocks.items ++ map raised (drop l.fn.from l.fn.blocks.items);
   fits : (k : ℕ) (d : _) → l.place ≤ k → k < length l.blocks.items → (get_or l.blocks.items k d).start < 2 ^ 64 - 1;
   many : length l.blocks.items ≡ length l.fn.blocks.items;
-  capacity : vec_capacity l.blocks ≡ vec_capacity l.fn.blocks
+  capacity : vec_capacity l.blocks ≡ vec_capacity l.fn.blocks;
 }

@@ -1,4 +1,4 @@
-use Rattle.std.proofs.Common.{arith, refl, ap, ◌∙◌, List, ◌++◌, ◌∷◌, []}
+use Rattle.std.proofs.Common.{arith, ap, ◌∙◌, ◌++◌, ◌∷◌, []}
 use Rattle.pay_blocks.proofs.Puts.{put_last}
 use Rattle.pay_blocks.proofs.block.Block.put_behind.Goals as goal
 

@@ -1,4 +1,4 @@
-use Rattle.std.proofs.Common.{arith, ap, ◌≡◌, ◌-◌, length, take, drop}
+use Rattle.std.proofs.Common.{arith, ap, length}
 use Rattle.std.proofs.lemmas.List.{length-take-le, length-drop}
 use Rattle.pay_blocks.specs.declared.limits.TheConstants.{HALF}
 use Rattle.pay_blocks.proofs.Puts.{put_low, put_high}

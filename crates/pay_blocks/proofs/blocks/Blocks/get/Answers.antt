@@ -1,5 +1,5 @@
 use Rattle.std.proofs.Common.{ap, ◌∙◌, ◌-◌, slice_get}
-use Rattle.pay_blocks.proofs.Changes.{IsFound, got_first, got_later}
+use Rattle.pay_blocks.proofs.Changes.{got_first, got_later}
 use Rattle.pay_blocks.proofs.blocks.Blocks.get.Goals as goal
 
 pub returns-then-begun-eq0 : goal.returns-then-begun-eq0

@@ -1,5 +1,5 @@
-use Rattle.std.proofs.Common.{ap, ◌∙◌, ◌≡◌, ◌≤◌, ◌<◌, ◌-◌, sym, subst, refl, length, arith}
-use Rattle.pay_blocks.proofs.Changes.{IsFound, starts_fit, starts_fit_set, inserted_first, kept_first, inserted_later, laid_later, kept_later, within_later, laid_few, laid_capacity}
+use Rattle.std.proofs.Common.{ap, ◌-◌, refl, arith}
+use Rattle.pay_blocks.proofs.Changes.{starts_fit, starts_fit_set, inserted_first, kept_first, inserted_later, laid_later, kept_later, within_later, laid_few, laid_capacity}
 use Rattle.pay_blocks.proofs.blocks.Blocks.insert.Goals as goal
 
 pub make_way-requires-clause-fits : goal.make_way-requires-clause-fits
@@ -47,9 +47,9 @@ pub invariant_of-self-2 : goal.invariant_of-self-2
 invariant_of-self-2 g c =
     kept_later _ _ _ _ _ _ _ _ _ _ _ _ _ _ _ c.self.invariant (ap (λ v. v.items) c.self.view_is) c.requires.within
     (inserted_later _ _ _ _ _ _ _ _ _ _ _ (record { laid = c.self.invariant.laid; within = c.begun-begun.ensures.within; begun = c.begun-begun.ensures.begun; ahead = c.begun-begun.ensures.ahead; whole = ap (λ v. v.items) c.self.view_is }) c.if-begun-eq0.false c.requires.within
-      c.put_in-next.ensures.put.2 c.put_in-next.ensures.put.3 c.put_in-next.ensures.put.4 c.make_way-2.ensures)
+    c.put_in-next.ensures.put.2 c.put_in-next.ensures.put.3 c.put_in-next.ensures.put.4 c.make_way-2.ensures)
     (laid_later _ _ _ _ _ _ _ _ _ _ _ (record { laid = c.self.invariant.laid; within = c.begun-begun.ensures.within; begun = c.begun-begun.ensures.begun; ahead = c.begun-begun.ensures.ahead; whole = ap (λ v. v.items) c.self.view_is }) c.if-begun-eq0.false c.requires.within
-      c.put_in-next.ensures.put.2 c.put_in-next.ensures.put.3 c.put_in-next.ensures.put.4 c.make_way-2.ensures)
+    c.put_in-next.ensures.put.2 c.put_in-next.ensures.put.3 c.put_in-next.ensures.put.4 c.make_way-2.ensures)
     c.put_in-next.ensures.spare refl
     (let room = c.requires.room in let same = ap (λ v. v.room) c.self.view_is in let ready = c.self.invariant.ready (omega arith) in omega (arith, ready.counts))
 

@@ -1,4 +1,4 @@
-use Rattle.std.proofs.Common.{ap, ◌∙◌, arith}
+use Rattle.std.proofs.Common.{ap}
 use Rattle.pay_blocks.proofs.Searches.{list_begun, list_more, list_done}
 use Rattle.pay_blocks.proofs.blocks.Blocks.list.Goals as goal
 

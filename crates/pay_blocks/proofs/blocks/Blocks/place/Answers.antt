@@ -1,4 +1,4 @@
-use Rattle.std.proofs.Common.{[], length-append, ap, ◌∙◌, ◌≡◌, ◌≤◌, ◌<◌, ◌+◌, ◌-◌, sym, subst, refl, length, arith, true, false}
+use Rattle.std.proofs.Common.{[], length-append, ap, ◌≡◌, ◌+◌, ◌-◌, sym, subst, refl, arith, true, false}
 use Rattle.pay_blocks.specs.Laid.{joined}
 use Rattle.std.specs.List.Sorted.{IsPartitionedBy, IsPartitionPoint}
 use Rattle.pay_blocks.proofs.Partitions.{parted_part}
@@ -24,7 +24,7 @@ place-requires-2 g c =
     let within = c.passed-passed.ensures.within in
     let some = c.if-passed-eq0.false in
     parted_part p _ _ _ (subst (IsPartitionedBy p)
-      (parts_of _ _ _ (c.passed-passed.result - 1) _ (ap (λ v. v.items) c.self.view_is) (omega arith) c.index-block.ensures) c.requires)
+    (parts_of _ _ _ (c.passed-passed.result - 1) _ (ap (λ v. v.items) c.self.view_is) (omega arith) c.index-block.ensures) c.requires)
 
 pub overflow_add-result : goal.overflow_add-result
 overflow_add-result g c =
@@ -42,4 +42,4 @@ returns-clause-place g c =
     let p = g.S.ComesAfter.after c.args.sought.now in
     subst (λ n. IsPartitionPoint (λ x. p x ≡ true) (λ x. p x ≡ false) c.args.self.now.items (n + c.place-2.result)) (sym c.start.ensures)
     (place_later p _ _ _ _ _ _ c.self.invariant.laid (ap (λ v. v.items) c.self.view_is) c.requires
-      c.passed-passed.ensures.passed c.passed-passed.ensures.within c.if-passed-eq0.false c.index-block.ensures c.place-2.ensures.within c.place-2.ensures.place)
+    c.passed-passed.ensures.passed c.passed-passed.ensures.within c.if-passed-eq0.false c.index-block.ensures c.place-2.ensures.within c.place-2.ensures.place)

@@ -1,4 +1,4 @@
-use Rattle.std.proofs.Common.{ap, ◌∙◌, ◌≡◌, ◌≤◌, ◌<◌, ◌-◌, sym, subst, refl, length, arith}
+use Rattle.std.proofs.Common.{ap, ◌∙◌, sym, refl}
 use Rattle.pay_blocks.proofs.Changes.{IsFound, got_first, got_later, inside_later}
 use Rattle.pay_blocks.proofs.Removals.{removed_first, kept_removed_first, taken_out, removed_later, laid_removed, kept_removed}
 use Rattle.pay_blocks.proofs.blocks.Blocks.remove.Goals as goal
