@@ -3,7 +3,7 @@ use Rattle.std.proofs.Common.{◌≡◌, ℕ, zero, suc, ◌+◌, ◌<◌, true,
 use Rattle.std.specs.List.{insert, remove}
 use Rattle.std.proofs.lemmas.Option.{slice_get_within, unwrap_or-slice_get}
 use Rattle.pay_taps.specs.declared.tap.Touch.{Touch}
-use Rattle.pay_taps.specs.Order.{comes_before, put_in}
+use Rattle.pay_taps.specs.Order.{comes_before}
 use Rattle.pay_taps.specs.Timelines.{place_of, PlaceWithoutIt, PutInAgain}
 use Rattle.pay_taps.specs.Order.{IsInOrder}
 use Rattle.pay_taps.proofs.Places.{put_in_at_place}

@@ -1,5 +1,5 @@
 -- The order of touches.
-use Rattle.std.proofs.Common.{◌≡◌, ℕ, Bool, true, false, List, [], ◌∷◌, Ordering, Less, Equal, Greater, is_lt, IsPermutation, eq-eqb, refl, sym}
+use Rattle.std.proofs.Common.{◌≡◌, ℕ, Bool, true, false, List, [], ◌∷◌, Ordering, Less, Equal, Greater, is_lt, IsPermutation, eq-eqb, refl}
 use Rattle.std.specs.Bool.{beq}
 use Rattle.std.specs.Ordering.{bool_cmp, ordering_then, ordering_reverse}
 use Rattle.std.specs.Cmp.{IsTotalOrder, IsStrictWeakOrder, nat_cmp_total, bool_cmp_total}

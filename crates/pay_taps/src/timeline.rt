@@ -5,25 +5,24 @@ ghost use Rattle.pay_taps.specs.Timelines.{AreTimed, place_of, touch_before, cou
 
 use crate::steps::Steps;
 use crate::tap::Touch;
+use pay_blocks::{Blocks, ComesAfter};
 use std::alloc::{AllocError, Global};
 use std::marker::Model;
 
 /// Effective taps in order, each with a number of its own. In a contract it is these, and for how many more there is room.
 #[derive(Drop)]
 pub struct Timeline {
-    touches: Vec<Touch>,
+    touches: Blocks<Touch>,
 }
 
 impl Model for Timeline {
-    ghost use Rattle.std.specs.Prelude.{◌-◌};
-    ghost use Rattle.std.specs.Vec.{vec_capacity, vec_len};
     ghost use Rattle.pay_taps.specs.Timelines.{TimelineParts, timeline_code, AreTimed};
 
     ghost Value = { TimelineParts };
 
     ghost coded = { timeline_code };
 
-    ghost view = { λ t. record { touches = t.touches.items; room = vec_capacity t.touches - vec_len t.touches } };
+    ghost view = { λ t. record { touches = t.touches.items; room = t.touches.room } };
 
     ghost invariant = { λ t. AreTimed t.touches.items };
 }
@@ -36,13 +35,12 @@ fn comes_before(one: &Touch, other: &Touch) -> bool
         < (other.stamp.utc(), other.filled, other.first, other.second)
 }
 
-/// How many touches come before one.
-fn place_in(touches: &[Touch], touch: &Touch) -> usize
-    requires { IsInOrder touches.now }
-    ensures place { result ≡ place_of touch.now touches.now }
-    ensures within { result ≤ length touches.now }
-{
-    touches.partition_point(|other| comes_before(other, touch))
+impl ComesAfter<Touch> for Touch {
+    ghost after = { λ touch other. comes_before other touch };
+
+    fn comes_after(&self, item: &Touch) -> bool {
+        comes_before(item, self)
+    }
 }
 
 impl Timeline {
@@ -51,7 +49,7 @@ impl Timeline {
         ensures { result.touches ≡ [] }
     {
         Timeline {
-            touches: Vec::new(alloc),
+            touches: Blocks::new(alloc),
         }
     }
 
@@ -76,7 +74,7 @@ impl Timeline {
         ensures room { OnOk result (1 ≤ self.new.room) }
         ensures there { 1 ≤ self.old.room → IsOk result }
     {
-        self.touches.reserve(1)
+        self.touches.reserve()
     }
 
     /// How many taps come before one: where it stands, or would stand.
@@ -84,7 +82,7 @@ impl Timeline {
         ensures place { result ≡ place_of touch.now self.now.touches }
         ensures within { result ≤ length self.now.touches }
     {
-        place_in(&self.touches, touch)
+        self.touches.place(touch)
     }
 
     /// Puts in a tap whose number none has yet, and answers its place. It takes no memory.
@@ -96,10 +94,8 @@ impl Timeline {
         ensures after { self.new.touches ≡ put_in touch self.old.touches }
     {
         let place = self.place(&touch);
-        match self.touches.insert(place, touch) {
-            Ok(()) => place,
-            Err(_) => unreachable!(),
-        }
+        self.touches.insert(place, touch);
+        place
     }
 
     /// Takes out a tap that is there, and answers its place.
@@ -118,7 +114,7 @@ impl Timeline {
         ensures value { result ≡ slice_get self.now.touches place }
         ensures steps { steps.new ≡ counted result steps.old }
     {
-        let found = self.touches.get(place).copied();
+        let found = self.touches.get(place);
         steps.add(&found);
         found
     }

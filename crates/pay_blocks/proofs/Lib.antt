@@ -1,0 +1,7 @@
+pub mod Edits
+pub mod Partitions
+pub mod Puts
+pub mod Joins
+pub mod Changes
+pub mod Removals
+pub mod Searches

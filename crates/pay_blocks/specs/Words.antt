@@ -1,0 +1,2 @@
+-- Words for the crates above.
+pub use Rattle.pay_blocks.specs.Parts.{BlocksParts}
