@@ -1,15 +1,24 @@
-//! By the sample fare file.
+//! Accounts that are priced from scratch, and those that are kept, by the sample fare file.
 
 ghost use Rattle.std.specs.Prelude.{◌≡◌};
 
 use crate::given::{MONDAY, expect_same, sample, tap_at};
 use pay_account::*;
+use pay_book::Book;
 use pay_fix::{Credit, Fix, What};
 use pay_money::Pence;
 use pay_tables::Tables;
 use pay_taps::{Kind, Tap};
 use std::alloc::AllocError;
 use std::process::Abort;
+
+/// Account 7, which has accepted nothing.
+pub fn empty_account<R: Abort + AllocGlobal, F: Fares>(rt: &R, tables: &Tables) -> F
+    ensures seven { F.account result ≡ 7 }
+    ensures priced_by { F.IsPricedBy tables.now result }
+{
+    F::new(rt.alloc(), 7)
+}
 
 // What follows asks again if memory runs out once: `rt try --test --fail-alloc N` runs the test with each
 // allocation behind those of the fare file failing in turn.
@@ -18,7 +27,8 @@ use std::process::Abort;
 fn sent<F: Fares>(account: &mut F, tables: &Tables, tap: &Tap) -> Result<Priced, TapFault>
     requires own { tap.now.account ≡ F.account account.old }
     requires priced_by { F.IsPricedBy tables.now account.old }
-    ensures { F.account account.new ≡ F.account account.old }
+    ensures same_account { F.account account.new ≡ F.account account.old }
+    ensures priced_by { F.IsPricedBy tables.now account.new }
 {
     match account.tap(tables, *tap) {
         Err(TapFault::Memory) => account.tap(tables, *tap),
@@ -30,7 +40,8 @@ fn sent<F: Fares>(account: &mut F, tables: &Tables, tap: &Tap) -> Result<Priced,
 fn fixed<F: Fares>(account: &mut F, tables: &Tables, fix: &Fix) -> Result<Priced, FixFault>
     requires own { fix.now.account ≡ F.account account.old }
     requires priced_by { F.IsPricedBy tables.now account.old }
-    ensures { F.account account.new ≡ F.account account.old }
+    ensures same_account { F.account account.new ≡ F.account account.old }
+    ensures priced_by { F.IsPricedBy tables.now account.new }
 {
     match account.fix(tables, *fix) {
         Err(FixFault::Memory) => account.fix(tables, *fix),
@@ -39,7 +50,7 @@ fn fixed<F: Fares>(account: &mut F, tables: &Tables, fix: &Fix) -> Result<Priced
 }
 
 /// What an account shows of a service day.
-fn shown<F: Fares>(account: &F, tables: &Tables, day: u32) -> Result<Shown, AllocError>
+pub fn shown<F: Fares>(account: &F, tables: &Tables, day: u32) -> Result<Shown, AllocError>
     requires { F.IsPricedBy tables.now account.now }
 {
     match account.show(tables, day) {
@@ -49,8 +60,16 @@ fn shown<F: Fares>(account: &F, tables: &Tables, day: u32) -> Result<Shown, Allo
 }
 
 /// Sends a tap, and compares the price of the day.
-pub fn expect_price<R: Abort>(rt: &R, account: &mut Account, tables: &Tables, tap: Tap, pence: u64)
-    ensures { account.new.0 ≡ account.old.0 }
+pub fn expect_price<R: Abort, F: Fares>(
+    rt: &R,
+    account: &mut F,
+    tables: &Tables,
+    tap: Tap,
+    pence: u64,
+)
+    requires { F.IsPricedBy tables.now account.old }
+    ensures same_account { F.account account.new ≡ F.account account.old }
+    ensures priced_by { F.IsPricedBy tables.now account.new }
 {
     let tap = Tap {
         account: account.number(),
@@ -82,57 +101,51 @@ fn expect_line<R: Abort>(
     );
 }
 
-// What the bus band leaves outside is shown without a band.
+/// Sends six taps, and compares what is shown of the day. What the bus band leaves outside is shown without a band.
+fn prices_and_shows<R: Abort, F: Fares>(rt: &R, tables: &Tables, account: &mut F)
+    requires seven { F.account account.old ≡ 7 }
+    requires priced_by { F.IsPricedBy tables.now account.old }
+{
+    let entry = tap_at(rt, 1, 25_200, 10, Kind::In);
+    expect_price(rt, account, tables, entry, 860);
+    let exit = tap_at(rt, 2, 26_400, 12, Kind::Out);
+    expect_price(rt, account, tables, exit, 340);
+    expect_boarding(rt, account, tables, 3, 28_800, 515);
+    expect_boarding(rt, account, tables, 4, 36_000, 690);
+    expect_boarding(rt, account, tables, 5, 43_200, 865);
+    expect_boarding(rt, account, tables, 6, 50_400, 865);
+    expect_shown(rt, account, tables);
+}
+
+/// Sends a boarding, and compares the price of the day.
+fn expect_boarding<R: Abort, F: Fares>(
+    rt: &R,
+    account: &mut F,
+    tables: &Tables,
+    seq: u32,
+    second: u32,
+    pence: u64,
+)
+    requires { F.IsPricedBy tables.now account.old }
+    ensures same_account { F.account account.new ≡ F.account account.old }
+    ensures priced_by { F.IsPricedBy tables.now account.new }
+{
+    let tap = tap_at(rt, seq, second, 50, Kind::Bus);
+    expect_price(rt, account, tables, tap, pence);
+}
+
 #[test]
 fn prices_taps_and_shows_them(rt: HostRuntime) {
     let tables = sample(&rt);
-    let mut account: Account = Fares::new(rt.alloc(), 7);
-    expect_price(
-        &rt,
-        &mut account,
-        &tables,
-        tap_at(&rt, 1, 25_200, 10, Kind::In),
-        860,
-    );
-    expect_price(
-        &rt,
-        &mut account,
-        &tables,
-        tap_at(&rt, 2, 26_400, 12, Kind::Out),
-        340,
-    );
-    expect_price(
-        &rt,
-        &mut account,
-        &tables,
-        tap_at(&rt, 3, 28_800, 50, Kind::Bus),
-        515,
-    );
-    expect_price(
-        &rt,
-        &mut account,
-        &tables,
-        tap_at(&rt, 4, 36_000, 50, Kind::Bus),
-        690,
-    );
-    expect_price(
-        &rt,
-        &mut account,
-        &tables,
-        tap_at(&rt, 5, 43_200, 50, Kind::Bus),
-        865,
-    );
-    expect_price(
-        &rt,
-        &mut account,
-        &tables,
-        tap_at(&rt, 6, 50_400, 50, Kind::Bus),
-        865,
-    );
-    expect_shown(&rt, &account, &tables);
+    let mut account: Account = empty_account(&rt, &tables);
+    prices_and_shows(&rt, &tables, &mut account);
+    let mut book: Book = empty_account(&rt, &tables);
+    prices_and_shows(&rt, &tables, &mut book);
 }
 
-fn expect_shown<R: Abort>(rt: &R, account: &Account, tables: &Tables) {
+fn expect_shown<R: Abort, F: Fares>(rt: &R, account: &F, tables: &Tables)
+    requires { F.IsPricedBy tables.now account.now }
+{
     let it = shown(account, tables, MONDAY).expect(rt, "memory");
     expect_same(
         rt,
@@ -146,15 +159,17 @@ fn expect_shown<R: Abort>(rt: &R, account: &Account, tables: &Tables) {
 }
 
 /// Sends a correction by staff 3, and compares the day that it names and the day's price.
-pub fn expect_fixed<R: Abort>(
+pub fn expect_fixed<R: Abort, F: Fares>(
     rt: &R,
-    account: &mut Account,
+    account: &mut F,
     tables: &Tables,
     seq: u32,
     what: What,
     named: (u32, u64),
 )
-    ensures { account.new.0 ≡ account.old.0 }
+    requires { F.IsPricedBy tables.now account.old }
+    ensures same_account { F.account account.new ≡ F.account account.old }
+    ensures priced_by { F.IsPricedBy tables.now account.new }
 {
     let fix = Fix {
         account: account.number(),
@@ -173,26 +188,25 @@ pub fn expect_fixed<R: Abort>(
 
 /// Account 7 after six items: a forgotten touch out is filled in, money is given back, the Fill is withdrawn, and the tap
 /// taken out, and then one that there is not.
-fn corrected<R: Abort + AllocGlobal>(rt: &R, tables: &Tables) -> Account {
-    let mut account: Account = Fares::new(rt.alloc(), 7);
+fn corrected<R: Abort + AllocGlobal, F: Fares>(rt: &R, tables: &Tables) -> F {
+    let mut account = F::new(rt.alloc(), 7);
     let entry = tap_at(rt, 1, 25_200, 10, Kind::In);
     let out = What::Fill(tap_at(rt, 2, 27_000, 12, Kind::Out).stamp, 12, Kind::Out);
     let credit = What::Credit(Credit::from_parts(MONDAY, 100).expect(rt, "a credit"));
     expect_price(rt, &mut account, tables, entry, 860);
-    for (seq, what, named) in [
-        (1, out, (MONDAY, 340)),
-        (2, credit, (MONDAY, 340)),
-        (3, What::Drop(3, 1), (MONDAY, 860)),
-        (4, What::Void(1, 1), (MONDAY, 0)),
-        (5, What::Void(9, 9), (0, 0)),
-    ] {
-        expect_fixed(rt, &mut account, tables, seq, what, named);
-    }
+    expect_fixed(rt, &mut account, tables, 1, out, (MONDAY, 340));
+    expect_fixed(rt, &mut account, tables, 2, credit, (MONDAY, 340));
+    expect_fixed(rt, &mut account, tables, 3, What::Drop(3, 1), (MONDAY, 860));
+    expect_fixed(rt, &mut account, tables, 4, What::Void(1, 1), (MONDAY, 0));
+    expect_fixed(rt, &mut account, tables, 5, What::Void(9, 9), (0, 0));
     account
 }
 
 #[test]
 fn corrections(rt: HostRuntime) {
     let tables = sample(&rt);
-    expect_same(&rt, corrected(&rt, &tables).version(), 6);
+    let account: Account = corrected(&rt, &tables);
+    expect_same(&rt, account.version(), 6);
+    let book: Book = corrected(&rt, &tables);
+    expect_same(&rt, book.number(), 7);
 }

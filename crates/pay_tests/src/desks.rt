@@ -5,7 +5,7 @@ ghost use Rattle.pay_shard.specs.Words.{IsForShards};
 
 use crate::given::{MONDAY, expect_same, sample, tap_at};
 use crate::shards::{day_price, due, quoted};
-use pay_account::Account;
+use pay_book::Book;
 use pay_money::Pence;
 use pay_shard::{Asked, Command, Desk, LocalDesk, Reply};
 use pay_tables::Tables;
@@ -14,14 +14,14 @@ use std::process::Abort;
 use std::sync::Arc;
 
 /// A desk with no accounts.
-pub fn empty_desk<R: Abort + AllocGlobal>(rt: &R, tables: Tables) -> LocalDesk<Account> {
+pub fn empty_desk<R: Abort + AllocGlobal>(rt: &R, tables: Tables) -> LocalDesk<Book> {
     let tables = Arc::new(rt.alloc(), tables).expect(rt, "memory");
-    let none: Vec<Account> = Vec::new(rt.alloc());
+    let none: Vec<Book> = Vec::new(rt.alloc());
     LocalDesk::new(rt.alloc(), tables, none).expect(rt, "memory")
 }
 
 /// The reply to what is put, and none if memory runs out.
-fn answered(desk: &mut LocalDesk<Account>, command: Command) -> Option<Reply>
+fn answered(desk: &mut LocalDesk<Book>, command: Command) -> Option<Reply>
     requires { IsForShards 1 command }
 {
     match desk.put(command) {
@@ -34,7 +34,7 @@ fn answered(desk: &mut LocalDesk<Account>, command: Command) -> Option<Reply>
 }
 
 /// The same, with ample memory.
-pub fn reply<R: Abort>(rt: &R, desk: &mut LocalDesk<Account>, asked: Asked) -> Reply
+pub fn reply<R: Abort>(rt: &R, desk: &mut LocalDesk<Book>, asked: Asked) -> Reply
     requires { IsForShards 1 asked }
 {
     let command = Command::of(asked).expect(rt, "a command");

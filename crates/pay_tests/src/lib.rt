@@ -8,6 +8,8 @@
 #[cfg(test)]
 mod accounts;
 #[cfg(test)]
+mod books;
+#[cfg(test)]
 mod caps;
 #[cfg(test)]
 mod days;

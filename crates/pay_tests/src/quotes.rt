@@ -3,11 +3,12 @@
 ghost use Rattle.std.specs.Prelude.{◌≡◌, ◌≤◌};
 ghost use Rattle.pay_day.specs.Words.{IsDay, monday};
 
-use crate::accounts::{expect_fixed, expect_price};
+use crate::accounts::{empty_account, expect_fixed, expect_price};
 use crate::given::{MONDAY, expect_same, sample, tap_at};
 use crate::shares::first_four;
 use crate::statements::{BY_RAIL, expect_statement};
 use pay_account::*;
+use pay_book::Book;
 use pay_fix::What;
 use pay_money::Pence;
 use pay_money::limits::OPERATORS;
@@ -51,10 +52,11 @@ fn kept<F: Fares>(account: &F) -> Result<Sets, AllocError> {
 }
 
 /// Account 7 after three journeys by rail at 340 pence each, which the band of zones 1 to 2 caps at 890.
-fn three_rides<R: Abort + AllocGlobal>(rt: &R, tables: &Tables) -> Account
-    ensures { result.0 ≡ 7 }
+fn three_rides<R: Abort + AllocGlobal, F: Fares>(rt: &R, tables: &Tables) -> F
+    ensures seven { F.account result ≡ 7 }
+    ensures priced_by { F.IsPricedBy tables.now result }
 {
-    let mut account: Account = Fares::new(rt.alloc(), 7);
+    let mut account = F::new(rt.alloc(), 7);
     ride(rt, &mut account, tables, 1, 25_200, (10, 12), (860, 340));
     ride(rt, &mut account, tables, 3, 27_000, (12, 10), (1_200, 680));
     ride(rt, &mut account, tables, 5, 28_800, (10, 12), (1_540, 890));
@@ -62,9 +64,9 @@ fn three_rides<R: Abort + AllocGlobal>(rt: &R, tables: &Tables) -> Account
 }
 
 /// Sends the taps of a leg of 20 minutes, and compares the price of the day after each.
-fn ride<R: Abort>(
+fn ride<R: Abort, F: Fares>(
     rt: &R,
-    account: &mut Account,
+    account: &mut F,
     tables: &Tables,
     seq: u32,
     second: u32,
@@ -73,7 +75,9 @@ fn ride<R: Abort>(
 )
     requires second { second ≤ 40_000 }
     requires seq { seq ≤ 40_000 }
-    ensures { account.new.0 ≡ account.old.0 }
+    requires priced_by { F.IsPricedBy tables.now account.old }
+    ensures same_account { F.account account.new ≡ F.account account.old }
+    ensures priced_by { F.IsPricedBy tables.now account.new }
 {
     let entry = tap_at(rt, seq, second, stations.0, Kind::In);
     let exit = tap_at(rt, seq + 1, second + 1_200, stations.1, Kind::Out);
@@ -81,46 +85,74 @@ fn ride<R: Abort>(
     expect_price(rt, account, tables, exit, prices.1);
 }
 
-#[test]
-fn quotes_what_is_due(rt: HostRuntime) {
-    let tables = sample(&rt);
-    let account = three_rides(&rt, &tables);
-    let quote = quoted(&account, &tables, MONDAY).expect(&rt, "memory");
+/// Compares what is due after the three journeys.
+fn expect_due<R: Abort, F: Fares>(rt: &R, tables: &Tables, account: &F)
+    requires numbered { 1 ≤ F.account account.now }
+    requires priced_by { F.IsPricedBy tables.now account.now }
+{
+    let quote = quoted(account, tables, MONDAY).expect(rt, "memory");
     expect_same(
-        &rt,
+        rt,
         (quote.account(), quote.week(), quote.through()),
         (7, MONDAY, MONDAY),
     );
-    expect_same(&rt, (quote.version(), quote.due()), (6, Pence::new(890)));
-    expect_same(&rt, *quote.shares(), first_four(593, 297, 0, 0));
+    expect_same(rt, (quote.version(), quote.due()), (6, Pence::new(890)));
+    expect_same(rt, *quote.shares(), first_four(593, 297, 0, 0));
+}
+
+#[test]
+fn quotes_what_is_due(rt: HostRuntime) {
+    let tables = sample(&rt);
+    let account: Account = three_rides(&rt, &tables);
+    expect_due(&rt, &tables, &account);
+    let book: Book = three_rides(&rt, &tables);
+    expect_due(&rt, &tables, &book);
+}
+
+/// Compares the journeys of the week after a fourth that is not finished.
+fn expect_listed<R: Abort + AllocGlobal, F: Fares>(rt: &R, tables: &Tables, account: &mut F)
+    requires { F.IsPricedBy tables.now account.old }
+{
+    let lone = tap_at(rt, 7, 43_200, 10, Kind::In);
+    expect_price(rt, account, tables, lone, 1_750);
+    let lines = listed(account, tables, MONDAY).expect(rt, "memory");
+    expect_statement(rt, lines.as_slice(), BY_RAIL);
 }
 
 #[test]
 fn lists_a_week(rt: HostRuntime) {
     let tables = sample(&rt);
-    let mut account = three_rides(&rt, &tables);
-    let lone = tap_at(&rt, 7, 43_200, 10, Kind::In);
-    expect_price(&rt, &mut account, &tables, lone, 1_750);
-    let lines = listed(&account, &tables, MONDAY).expect(&rt, "memory");
-    expect_statement(&rt, lines.as_slice(), BY_RAIL);
+    let mut account: Account = three_rides(&rt, &tables);
+    expect_listed(&rt, &tables, &mut account);
+    let mut book: Book = three_rides(&rt, &tables);
+    expect_listed(&rt, &tables, &mut book);
+}
+
+/// Sends a tap and a Void of it, and compares what was accepted.
+fn expect_kept<R: Abort, F: Fares>(rt: &R, tables: &Tables, account: &mut F)
+    requires { F.IsPricedBy tables.now account.old }
+{
+    let tap = tap_at(rt, 1, 25_200, 10, Kind::In);
+    expect_price(rt, account, tables, tap, 860);
+    let void = What::Void(1, 1);
+    expect_fixed(rt, account, tables, 1, void, (MONDAY, 0));
+    let sets = kept(account).expect(rt, "memory");
+    expect_same(rt, sets.account(), 7);
+    expect_same(
+        rt,
+        (sets.taps().first(), sets.taps().len()),
+        (Some(&tap), 1),
+    );
+    expect_same(rt, sets.fixes().len(), 1);
 }
 
 #[test]
 fn keeps_what_was_accepted(rt: HostRuntime) {
     let tables = sample(&rt);
-    let mut account: Account = Fares::new(rt.alloc(), 7);
-    let tap = tap_at(&rt, 1, 25_200, 10, Kind::In);
-    expect_price(&rt, &mut account, &tables, tap, 860);
-    let void = What::Void(1, 1);
-    expect_fixed(&rt, &mut account, &tables, 1, void, (MONDAY, 0));
-    let sets = kept(&account).expect(&rt, "memory");
-    expect_same(&rt, sets.account(), 7);
-    expect_same(
-        &rt,
-        (sets.taps().first(), sets.taps().len()),
-        (Some(&tap), 1),
-    );
-    expect_same(&rt, sets.fixes().len(), 1);
+    let mut account: Account = empty_account(&rt, &tables);
+    expect_kept(&rt, &tables, &mut account);
+    let mut book: Book = empty_account(&rt, &tables);
+    expect_kept(&rt, &tables, &mut book);
 }
 
 /// Whether the numbers of a quote of an account, at a version, for the week of the Monday through a day give one.

@@ -2,7 +2,8 @@
 
 use crate::given::{expect_list, sample};
 use crate::ledger_rows::TAPPED;
-use pay_account::{Account, Fares};
+use pay_account::Fares;
+use pay_book::Book;
 use pay_postings::PostFault;
 use pay_restore::restored;
 use pay_rows::{FixRow, TapRow};
@@ -43,7 +44,7 @@ fn counts<R: Abort + AllocGlobal>(
     fixes: &[(i64, FixRow)],
 ) -> Result<Vec<(u32, usize, usize)>, PostFault> {
     let tables = sample(rt);
-    let accounts: Vec<Account> = restored(rt.alloc(), &tables, taps, fixes)?;
+    let accounts: Vec<Book> = restored(rt.alloc(), &tables, taps, fixes)?;
     let mut counts = Vec::new(rt.alloc());
     for account in &accounts {
         let sets = account.sets()?;

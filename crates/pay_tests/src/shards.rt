@@ -5,7 +5,8 @@ ghost use Rattle.std.specs.Prelude.{◌≤◌, ◌<◌};
 
 use crate::given::{MONDAY, expect_same, sample, tap_at};
 use crate::shares::first_four;
-use pay_account::{Account, Priced, Quote};
+use pay_account::{Account, Fares, Priced, Quote};
+use pay_book::Book;
 use pay_fix::{Fix, What};
 use pay_money::Pence;
 use pay_shard::{Asked, Batch, Command, Entry, Refusal, Reply, Shard};
@@ -15,14 +16,18 @@ use std::process::Abort;
 use std::sync::Arc;
 
 /// A shard of this number, with no accounts.
-fn empty_shard<R: Abort + AllocGlobal>(rt: &R, tables: Tables, number: u8) -> Shard<Account> {
+pub fn empty_shard<R: Abort + AllocGlobal, F: Fares>(
+    rt: &R,
+    tables: Tables,
+    number: u8,
+) -> Shard<F> {
     let tables = Arc::new(rt.alloc(), tables).expect(rt, "memory");
-    let none: Vec<Account> = Vec::new(rt.alloc());
+    let none: Vec<F> = Vec::new(rt.alloc());
     Shard::new(rt.alloc(), number, tables, none).expect(rt, "memory")
 }
 
 /// The reply to what is asked, as the next item of a shard's journal.
-fn reply<R: Abort>(rt: &R, shard: &mut Shard<Account>, asked: Asked) -> Reply {
+pub fn reply<R: Abort, F: Fares>(rt: &R, shard: &mut Shard<F>, asked: Asked) -> Reply {
     let command = Command::of(asked).expect(rt, "a command");
     let entry = Entry {
         lane: 1,
@@ -49,7 +54,7 @@ pub fn day_price(reply: &Reply) -> Option<u64> {
 }
 
 /// Why a reply refuses.
-fn refusal(reply: &Reply) -> Option<Refusal> {
+pub fn refusal(reply: &Reply) -> Option<Refusal> {
     match reply {
         Reply::No(why) => Some(*why),
         _ => None,
@@ -91,53 +96,67 @@ fn tap_of(account: u32, tap: Tap) -> Asked {
 }
 
 /// Asks, and compares the price of the day that is told.
-fn expect_price<R: Abort>(rt: &R, shard: &mut Shard<Account>, asked: Asked, pence: u64) {
+fn expect_price<R: Abort, F: Fares>(rt: &R, shard: &mut Shard<F>, asked: Asked, pence: u64) {
     let told = reply(rt, shard, asked);
     expect_same(rt, day_price(&told), Some(pence));
 }
 
-#[test]
-fn a_shard_answers(rt: HostRuntime) {
-    let mut shard = empty_shard(&rt, sample(&rt), 3);
-    let first = tap_at(&rt, 1, 25_200, 50, Kind::Bus);
-    expect_price(&rt, &mut shard, tap_of(8, first), 175);
-    let second = tap_at(&rt, 1, 25_200, 50, Kind::Bus);
-    expect_price(&rt, &mut shard, tap_of(7, second), 175);
-    let other = tap_at(&rt, 1, 25_200, 10, Kind::In);
-    let refused = reply(&rt, &mut shard, tap_of(7, other));
-    expect_same(&rt, refusal(&refused), Some(Refusal::Conflict));
+/// Sends taps and a correction to a shard without accounts.
+fn expect_answers<R: Abort, F: Fares>(rt: &R, shard: &mut Shard<F>) {
+    let first = tap_at(rt, 1, 25_200, 50, Kind::Bus);
+    expect_price(rt, shard, tap_of(8, first), 175);
+    let second = tap_at(rt, 1, 25_200, 50, Kind::Bus);
+    expect_price(rt, shard, tap_of(7, second), 175);
+    let other = tap_at(rt, 1, 25_200, 10, Kind::In);
+    let refused = reply(rt, shard, tap_of(7, other));
+    expect_same(rt, refusal(&refused), Some(Refusal::Conflict));
     let void = Asked::Fix(Fix {
         account: 7,
         staff: 3,
         seq: 1,
         what: What::Void(1, 1),
     });
-    expect_price(&rt, &mut shard, void, 0);
-    expect_same(&rt, shard.journal().len(), 4);
-    expect_same(&rt, shard.account(8).is_some(), true);
-    expect_same(&rt, shard.account(9).is_none(), true);
+    expect_price(rt, shard, void, 0);
+    expect_same(rt, shard.journal().len(), 4);
+    expect_same(rt, shard.account(8).is_some(), true);
+    expect_same(rt, shard.account(9).is_none(), true);
 }
 
 #[test]
-fn a_shard_quotes(rt: HostRuntime) {
-    let mut shard = empty_shard(&rt, sample(&rt), 0);
-    let first = tap_at(&rt, 1, 25_200, 50, Kind::Bus);
-    expect_price(&rt, &mut shard, tap_of(8, first), 175);
-    let second = tap_at(&rt, 1, 25_200, 50, Kind::Bus);
-    expect_price(&rt, &mut shard, tap_of(7, second), 175);
+fn a_shard_answers(rt: HostRuntime) {
+    let mut accounts: Shard<Account> = empty_shard(&rt, sample(&rt), 3);
+    expect_answers(&rt, &mut accounts);
+    let mut books: Shard<Book> = empty_shard(&rt, sample(&rt), 3);
+    expect_answers(&rt, &mut books);
+}
+
+/// Sends two taps to a shard without accounts, and compares what it quotes.
+fn expect_quoted<R: Abort, F: Fares>(rt: &R, shard: &mut Shard<F>) {
+    let first = tap_at(rt, 1, 25_200, 50, Kind::Bus);
+    expect_price(rt, shard, tap_of(8, first), 175);
+    let second = tap_at(rt, 1, 25_200, 50, Kind::Bus);
+    expect_price(rt, shard, tap_of(7, second), 175);
     let asked = Asked::Due {
         account: 8,
         day: MONDAY,
     };
-    let owed = reply(&rt, &mut shard, asked);
-    expect_same(&rt, due(&owed), Some(Pence::new(175)));
+    let owed = reply(rt, shard, asked);
+    expect_same(rt, due(&owed), Some(Pence::new(175)));
     let all = Asked::Quotes {
         day: MONDAY,
         shard: 0,
         of: 1,
     };
-    let batch = reply(&rt, &mut shard, all);
-    expect_same(&rt, quoted(&batch), Some((2, 7)));
+    let batch = reply(rt, shard, all);
+    expect_same(rt, quoted(&batch), Some((2, 7)));
+}
+
+#[test]
+fn a_shard_quotes(rt: HostRuntime) {
+    let mut accounts: Shard<Account> = empty_shard(&rt, sample(&rt), 0);
+    expect_quoted(&rt, &mut accounts);
+    let mut books: Shard<Book> = empty_shard(&rt, sample(&rt), 0);
+    expect_quoted(&rt, &mut books);
 }
 
 /// Three journeys by rail: of each tap its number, its second of the Monday, its place and its kind, and the price of the
@@ -152,7 +171,7 @@ static RIDES: [(u32, u32, u16, Kind, u64); 6] = [
 ];
 
 /// So many shards with no accounts, the one of each number at its place.
-fn empty_shards<R: Abort + AllocGlobal>(rt: &R, of: u8) -> Vec<Shard<Account>> {
+fn empty_shards<R: Abort + AllocGlobal, F: Fares>(rt: &R, of: u8) -> Vec<Shard<F>> {
     let mut shards = Vec::new(rt.alloc());
     for number in 0..of {
         let shard = empty_shard(rt, sample(rt), number);
@@ -162,9 +181,9 @@ fn empty_shards<R: Abort + AllocGlobal>(rt: &R, of: u8) -> Vec<Shard<Account>> {
 }
 
 /// The reply of the shard at a place.
-fn reply_of<R: Abort>(
+fn reply_of<R: Abort, F: Fares>(
     rt: &R,
-    shards: &mut Vec<Shard<Account>>,
+    shards: &mut Vec<Shard<F>>,
     number: usize,
     asked: Asked,
 ) -> Reply {
@@ -173,7 +192,7 @@ fn reply_of<R: Abort>(
 }
 
 /// The prices that a reply tells.
-fn priced(reply: &Reply) -> Option<Priced> {
+pub fn priced(reply: &Reply) -> Option<Priced> {
     match reply {
         Reply::Priced(priced) => Some(*priced),
         _ => None,
@@ -192,7 +211,13 @@ fn expect_owed<R: Abort>(rt: &R, quote: &Quote, account: u32) {
 }
 
 /// Sends a tap of each of the accounts 1 to 8 to its shard.
-fn expect_taps<R: Abort>(rt: &R, shards: &mut Vec<Shard<Account>>, of: u32, tap: &Tap, pence: u64)
+fn expect_taps<R: Abort, F: Fares>(
+    rt: &R,
+    shards: &mut Vec<Shard<F>>,
+    of: u32,
+    tap: &Tap,
+    pence: u64,
+)
     requires { 0 < of }
 {
     for account in 1..9_u32 {
@@ -208,7 +233,7 @@ fn expect_taps<R: Abort>(rt: &R, shards: &mut Vec<Shard<Account>>, of: u32, tap:
 }
 
 /// Asks what each of these accounts owes at its shard.
-fn expect_due<R: Abort>(rt: &R, shards: &mut Vec<Shard<Account>>, of: u32)
+fn expect_due<R: Abort, F: Fares>(rt: &R, shards: &mut Vec<Shard<F>>, of: u32)
     requires { 0 < of }
 {
     for account in 1..9_u32 {
@@ -242,7 +267,7 @@ fn expect_batch<R: Abort>(rt: &R, batch: &Batch, number: u32, of: u32)
 }
 
 /// Asks each shard for its quotes.
-fn expect_quotes<R: Abort>(rt: &R, shards: &mut Vec<Shard<Account>>, of: u8)
+fn expect_quotes<R: Abort, F: Fares>(rt: &R, shards: &mut Vec<Shard<F>>, of: u8)
     requires { 0 < of }
 {
     for number in 0..of {
@@ -261,7 +286,7 @@ fn expect_quotes<R: Abort>(rt: &R, shards: &mut Vec<Shard<Account>>, of: u8)
 fn expect_over<R: Abort + AllocGlobal>(rt: &R, of: u8)
     requires { 0 < of }
 {
-    let mut shards = empty_shards(rt, of);
+    let mut shards: Vec<Shard<Book>> = empty_shards(rt, of);
     for (seq, second, place, kind, pence) in RIDES {
         let tap = tap_at(rt, seq, second, place, kind);
         expect_taps(rt, &mut shards, u32::from(of), &tap, pence);

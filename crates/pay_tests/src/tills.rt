@@ -10,6 +10,7 @@ use crate::given::{MONDAY, expect_same, sample, tap_at};
 use crate::streams::{Scripted, Trickle};
 use jiff::tz::TimeZone;
 use pay_account::{Account, Fares, Posting, Postings};
+use pay_book::Book;
 use pay_money::limits::OPERATORS;
 use pay_session::{Done, SessionFault, Till, session};
 use pay_shard::{Command, Desk, DeskFault, LocalDesk, Reply, Ticket};
@@ -22,7 +23,7 @@ use std::process::Abort;
 /// out of memory. It counts the commands.
 #[derive(Drop)]
 struct Unwilling {
-    local: LocalDesk<Account>,
+    local: LocalDesk<Book>,
     asked: u8,
 }
 
