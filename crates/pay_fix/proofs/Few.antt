@@ -39,8 +39,13 @@ few_filled accepted (fix ∷ fixes) =
 
 few_touches : (taps : List Tap) (fixes : List Fix) → length (touches_of taps fixes) ≤ length taps + length fixes
 few_touches taps fixes =
-    omega (arith, length-append (map touch_of (not_voided fixes taps)) (filled fixes), length-map (not_voided fixes taps) touch_of,
-    few_of_some (λ (tap : Tap). not (is_voided fixes (tap_number tap))) taps, few_filled fixes fixes)
+    omega (
+      arith,
+      length-append (map touch_of (not_voided fixes taps)) (filled fixes),
+      length-map (not_voided fixes taps) touch_of,
+      few_of_some (λ (tap : Tap). not (is_voided fixes (tap_number tap))) taps,
+      few_filled fixes fixes,
+    )
 
 as_many : {X : Type 0} (set : ByNumber X) → length (values set) ≡ len set
 as_many set = length-map (entries set) (λ entry. entry.1) ∙ sym (len-entries set)
