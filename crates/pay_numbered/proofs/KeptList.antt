@@ -59,7 +59,7 @@ module _ {X : Type 0} (number : X → ℕ × ℕ) where
   rising (x ∷ list) (suc k) d h lt = rising list k d (second _ _ h) (omega (arith, lt))
 
   -- along the list the orderings of a search rise
-  searchable : (list : List X) (q : ℕ × ℕ) → T (is_sorted number_cmp (numbered number list)) → IsNonDecreasingBy (λ (t : X). ordering_index (number_cmp (number t) q)) list
+  pub searchable : (list : List X) (q : ℕ × ℕ) → T (is_sorted number_cmp (numbered number list)) → IsNonDecreasingBy (λ (t : X). ordering_index (number_cmp (number t) q)) list
   searchable list q h =
       searchable_from_sorted number_total number list q (λ k d low lt.
       let next : suc k ≡ k + 1 = omega arith in
@@ -170,6 +170,10 @@ module _ {X : Type 0} (number : X → ℕ × ℕ) where
     -- a set has as many as its list
     pub count_of : (list : List X) (set : ByNumber X) → IsKept number most list → set_of number list ≡ set → len set ≡ length list
     count_of list set h kept = ap len (sym kept) ∙ set_len list h
+
+    -- and is made of just these
+    pub listed : (list : List X) (set : ByNumber X) → IsKept number most list → set_of number list ≡ set → list ≡ values set
+    listed list set h kept = sym (set_values list h) ∙ ap values kept
 
     -- ---- one that is put at its position
 

@@ -3,4 +3,5 @@ pub mod NumberOrder
 pub mod OneMore
 pub mod InTurn
 mod KeptList
+mod SoughtNumber
 mod Rows

@@ -3,7 +3,9 @@
 
 pub mod laws;
 mod numbered;
+mod numbered_blocks;
 mod numbered_set;
 
 pub use numbered::Numbered;
+pub use numbered_blocks::NumberedBlocks;
 pub use numbered_set::{Addition, AdditionFault, NumberedSet};

@@ -45,6 +45,17 @@ impl<T: Drop> From<AllocFailed<T>> for AdditionFault {
     }
 }
 
+impl From<AllocError> for AdditionFault {
+    ghost use Rattle.std.specs.Prelude.{◌≡◌};
+    ghost use Rattle.pay_numbered.specs.declared.numbered_set.AdditionFault.TheVariants.{Memory};
+
+    ghost from_gives = { λ _ fault. fault ≡ Memory };
+
+    fn from(_error: AllocError) -> AdditionFault {
+        AdditionFault::Memory
+    }
+}
+
 /// A set of at most `MOST` that have numbers of their own. In a contract it is the finite map from each
 /// number to what has it. Up to `INLINE` lie in the set itself, and more in a list in memory of its own.
 #[derive(Drop)]

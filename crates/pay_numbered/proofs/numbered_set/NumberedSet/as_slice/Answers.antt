@@ -1,12 +1,11 @@
-use Rattle.std.proofs.Common.{◌∙◌, ap, sym, subst, length, arith}
-use Rattle.std.specs.FinMap as map
+use Rattle.std.proofs.Common.{◌∙◌, ap, subst, length, arith}
 use Rattle.pay_numbered.specs.Numbers.{IsNumbered}
 use Rattle.pay_numbered.proofs.NumberOrder.{length_values}
-use Rattle.pay_numbered.proofs.KeptList.{set_values, set_numbered}
+use Rattle.pay_numbered.proofs.KeptList.{listed, set_numbered}
 use Rattle.pay_numbered.proofs.numbered_set.NumberedSet.as_slice.Goals as goal
 
 pub returns-clause-all : goal.returns-clause-all
-returns-clause-all g c = c.as_slice.ensures ∙ sym (set_values g.T.Numbered.number g.row.MOST _ c.self.invariant) ∙ ap (λ m. map.values m) c.self.view_is
+returns-clause-all g c = c.as_slice.ensures ∙ listed g.T.Numbered.number g.row.MOST _ c.args.self.now c.self.invariant c.self.view_is
 
 pub returns-clause-numbered : goal.returns-clause-numbered
 returns-clause-numbered g c = subst (IsNumbered g.T.Numbered.number g.row.MOST) c.self.view_is (set_numbered g.T.Numbered.number g.row.MOST _ c.self.invariant)
