@@ -1,5 +1,5 @@
 -- There are at most as many effective taps as taps and corrections.
-use Rattle.std.proofs.Common.{◌≡◌, ◌≤◌, ◌+◌, suc, sym, ◌∙◌, Bool, true, false, not, cond, if◌then◌else◌, ℕ, List, [], ◌∷◌, ◌++◌, length, map, filter, arith}
+use Rattle.std.proofs.Common.{◌≡◌, ◌≤◌, ◌+◌, suc, sym, ◌∙◌, Bool, true, false, not, cond, if◌then◌else◌, ℕ, List, [], ◌∷◌, length, map, filter, arith}
 use Rattle.std.specs.FinMap.{values, len, len-entries, entries}
 use Rattle.std.specs.List.{flat_map}
 use Rattle.std.proofs.lemmas.List.{length-map, length-append}
@@ -47,7 +47,7 @@ few_touches taps fixes =
       few_filled fixes fixes,
     )
 
-as_many : {X : Type 0} (set : ByNumber X) → length (values set) ≡ len set
+pub as_many : {X : Type 0} (set : ByNumber X) → length (values set) ≡ len set
 as_many set = length-map (entries set) (λ entry. entry.1) ∙ sym (len-entries set)
 
 pub effective_few : OrderMoves → (taps : Taps) (fixes : Fixes) → IsNumbered tap_number MOST_TAPS taps → IsNumbered number MOST_FIXES fixes → length (effective taps fixes) ≤ MOST_TOUCHES

@@ -7,3 +7,4 @@ pub mod Further
 pub mod Withdrawn
 pub mod Changed
 pub mod Few
+pub mod Runs

@@ -1,4 +1,5 @@
 ghost use Rattle.std.specs.Prelude.{◌≡◌, ◌≤◌, ◌+◌, ◌++◌, map, length, if◌then◌else◌, List, [], IfOk, OnOk};
+ghost use Rattle.std.specs.FinMap.{len, values};
 ghost use Rattle.std.specs.List.{flat_map};
 ghost use Rattle.pay_taps.specs.Words.{touch_of};
 ghost use Rattle.pay_fix.specs.declared.limits.TheConstants.{MOST_TOUCHES};
@@ -12,8 +13,8 @@ use pay_numbered::Numbered;
 use pay_taps::{Kind, Tap, TapSet, Touch, sort_touches};
 use std::alloc::{AllocError, Global};
 
-/// Adds the taps that no standing Void names, as effective ones.
-fn add_taps(list: &mut Vec<Touch>, taps: &[Tap], fixes: &[Fix]) -> Result<(), AllocError>
+/// Adds those of some taps that no standing Void names, as effective ones.
+fn add_run(list: &mut Vec<Touch>, taps: &[Tap], fixes: &[Fix]) -> Result<(), AllocError>
     ensures value { OnOk result (list.new.items ≡ list.old.items ++ map touch_of (not_voided fixes.now taps.now)) }
     ensures few { OnOk result (length list.new.items ≤ length list.old.items + length taps.now) }
 {
@@ -21,6 +22,20 @@ fn add_taps(list: &mut Vec<Touch>, taps: &[Tap], fixes: &[Fix]) -> Result<(), Al
         if !is_voided(fixes, tap.number()) {
             list.push(Touch::from(*tap))?;
         }
+    }
+    Ok(())
+}
+
+/// Adds the taps of an account that no standing Void names, as effective ones.
+fn add_taps(list: &mut Vec<Touch>, taps: &TapSet, fixes: &[Fix]) -> Result<(), AllocError>
+    ensures value { OnOk result (list.new.items ≡ list.old.items ++ map touch_of (not_voided fixes.now (values taps.now))) }
+    ensures few { OnOk result (length list.new.items ≤ length list.old.items + len taps.now) }
+{
+    let mut place = 0;
+    while place < taps.len() {
+        let run = taps.run_from(place);
+        add_run(list, run, fixes)?;
+        place += run.len();
     }
     Ok(())
 }
@@ -71,7 +86,7 @@ pub fn effective(alloc: Global, taps: &TapSet, fixes: &FixSet) -> Result<Vec<Tou
 {
     let mut list = Vec::with_capacity(alloc, taps.len() + fixes.len())?;
     let accepted = fixes.as_slice();
-    add_taps(&mut list, taps.as_slice(), accepted)?;
+    add_taps(&mut list, taps, accepted)?;
     add_fills(&mut list, accepted, accepted)?;
     sort_touches(&mut list)?;
     Ok(list)

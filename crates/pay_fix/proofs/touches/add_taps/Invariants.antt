@@ -1,10 +1,15 @@
-use Rattle.std.proofs.Common.{◌≡◌, ◌≤◌, ◌+◌, ◌++◌, length, map, drop}
+use Rattle.std.proofs.Common.{◌≡◌, ◌≤◌, ◌+◌, ◌-◌, ◌++◌, length, map, drop}
+use Rattle.std.specs.FinMap.{len, values}
 use Rattle.pay_taps.specs.Words.{touch_of}
 use Rattle.pay_fix.specs.Effective.{not_voided}
 use Rattle.pay_fix.proofs.touches.add_taps.Given as goal
 
-abbrev pub invariant-loop-tap : goal.invariant-loop-tap
-invariant-loop-tap l = record {
-  value : l.fn.list.items ++ map touch_of (not_voided l.fixes l.taps) ≡ l.list.items ++ map touch_of (not_voided l.fixes (drop l.tap-index l.taps));
-  few : length l.list.items ≤ length l.fn.list.items + l.tap-index;
+abbrev pub invariant-loop-place : goal.invariant-loop-place
+invariant-loop-place l = record {
+  within : l.place ≤ len l.taps;
+  value : l.fn.list.items ++ map touch_of (not_voided l.fixes (values l.taps)) ≡ l.list.items ++ map touch_of (not_voided l.fixes (drop l.place (values l.taps)));
+  few : length l.list.items ≤ length l.fn.list.items + l.place;
 }
+
+abbrev pub decreases-loop-place : goal.decreases-loop-place
+decreases-loop-place l = len l.taps - l.place
