@@ -4,4 +4,5 @@ pub mod OneMore
 pub mod InTurn
 mod KeptList
 mod SoughtNumber
+mod Fronts
 mod Rows

@@ -1,6 +1,7 @@
 //! Sets of what has a number of its own, as the taps and the corrections of an account have.
 #![tactic(auto)]
 
+mod fronted_list;
 pub mod laws;
 mod numbered;
 mod numbered_blocks;

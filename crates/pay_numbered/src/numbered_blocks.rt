@@ -1,24 +1,28 @@
-ghost use Rattle.std.specs.Prelude.{◌≡◌, ◌≤◌, ◌<◌, ◌↔◌, length, take, drop, IsTrue, IfOk, IfSome};
+ghost use Rattle.std.specs.Prelude.{◌≡◌, ◌^◌, ◌≤◌, ◌<◌, ◌↔◌, length, take, drop, IsTrue, IfOk, IfSome};
 ghost use Rattle.std.specs.FinMap as map;
 ghost use Rattle.std.specs.Ordering.{is_lt};
 ghost use Rattle.pay_numbered.specs.Kept.{IsRising, IsSought, IsPlaceFor};
 ghost use Rattle.pay_numbered.specs.Numbers.{IsNumbered, number_cmp, judged, IsJudged, set_after};
 
+use crate::fronted_list::FrontedList;
 use crate::numbered::Numbered;
 use crate::numbered_set::{Addition, AdditionFault};
-use pay_blocks::{Blocks, ComesAfter};
+use pay_blocks::ComesAfter;
 use std::alloc::{AllocError, Global};
+use std::default::MadeWith;
 use std::marker::Model;
 
 /// A set of at most `MOST` that have numbers of their own. In a contract it is the finite map from each
-/// number to what has it. It is kept in blocks, so that one more moves no more than a block, however many there are.
+/// number to what has it. Up to `INLINE` lie in the set itself, and the others in blocks, so that one more moves no
+/// more than a block, however many there are.
 #[derive(Drop)]
-pub struct NumberedBlocks<T: Numbered, const MOST: usize> {
+pub struct NumberedBlocks<T: Numbered, const MOST: usize, const INLINE: usize> {
     // In ascending order of their numbers.
-    items: Blocks<T>,
+    items: FrontedList<T, INLINE>,
 }
 
-impl<T: Numbered, const MOST: usize> Model for NumberedBlocks<T, MOST> {
+impl<T: Numbered, const MOST: usize, const INLINE: usize> Model
+    for NumberedBlocks<T, MOST, INLINE> {
     ghost use Rattle.std.specs.FinMap as map;
     ghost use Rattle.std.specs.Coded.{coded×, coded_ℕ};
     ghost use Rattle.pay_numbered.specs.Numbers.{ByNumber};
@@ -28,9 +32,9 @@ impl<T: Numbered, const MOST: usize> Model for NumberedBlocks<T, MOST> {
 
     ghost coded = { map.code (coded× coded_ℕ coded_ℕ) T.code };
 
-    ghost view = { λ set. set_of T.number set.items.items };
+    ghost view = { λ set. set_of T.number set.items };
 
-    ghost invariant = { λ set. IsKept T.number MOST set.items.items };
+    ghost invariant = { λ set. IsKept T.number MOST set.items };
 }
 
 /// A number that is sought.
@@ -49,9 +53,13 @@ impl<T: Numbered> ComesAfter<T> for Number {
 }
 
 /// Where a number stands among what has ascending numbers, and what has it, or else where it would stand.
-fn sought<T: Numbered>(items: &Blocks<T>, number: (u16, u32)) -> Result<(usize, T), usize>
-    requires { IsRising T.number items.now.items }
-    ensures { IsSought T.number number items.now.items result }
+fn sought<T: Numbered + MadeWith<Global>, const INLINE: usize>(
+    items: &FrontedList<T, INLINE>,
+    number: (u16, u32),
+) -> Result<(usize, T), usize>
+    requires rising { IsRising T.number items.now }
+    requires few { length items.now < 2 ^ 64 }
+    ensures { IsSought T.number number items.now result }
 {
     let place = items.place(&Number {
         first: number.0,
@@ -67,13 +75,17 @@ fn sought<T: Numbered>(items: &Blocks<T>, number: (u16, u32)) -> Result<(usize, 
     }
 }
 
-impl<T: Numbered, const MOST: usize> NumberedBlocks<T, MOST> {
+impl<T: Numbered + MadeWith<Global>, const MOST: usize, const INLINE: usize> NumberedBlocks<
+    T,
+    MOST,
+    INLINE,
+> {
     /// None. It takes no memory.
-    pub fn new(alloc: Global) -> NumberedBlocks<T, MOST>
+    pub fn new(alloc: Global) -> NumberedBlocks<T, MOST, INLINE>
         ensures { result ≡ map.empty }
     {
         NumberedBlocks {
-            items: Blocks::new(alloc),
+            items: FrontedList::new(alloc),
         }
     }
 
@@ -104,7 +116,7 @@ impl<T: Numbered, const MOST: usize> NumberedBlocks<T, MOST> {
     }
 
     /// Some of them from a place on, in ascending order of their numbers: by the first of the pair, then by the
-    /// second. They are as many as lie in one block, and at least one where one is there.
+    /// second. They are as many as lie in one piece, and at least one where one is there.
     pub fn run_from(&self, place: usize) -> &[T]
         requires { place ≤ map.len self.now }
         ensures items { result.now ≡ take (length result.now) (drop place (map.values self.now)) }
@@ -163,8 +175,7 @@ impl<T: Numbered, const MOST: usize> NumberedBlocks<T, MOST> {
         let Some(at) = self.place_for(&item)? else {
             return Ok(Addition::Repeat);
         };
-        self.items.reserve()?;
-        self.items.insert(at, item);
+        self.items.insert(at, item)?;
         Ok(Addition::Added)
     }
 }

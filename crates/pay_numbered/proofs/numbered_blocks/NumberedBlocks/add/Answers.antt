@@ -1,6 +1,5 @@
-use Rattle.std.proofs.Common.{◌≡◌, ap, subst, length, rules, arith}
+use Rattle.std.proofs.Common.{subst, rules, arith}
 use Rattle.std.specs.FinMap.{get, len}
-use Rattle.std.specs.List.{insert}
 use Rattle.pay_numbered.specs.Kept.{IsPlace}
 use Rattle.pay_numbered.specs.Numbers.{IsNumbered}
 use Rattle.pay_numbered.proofs.Judgement.{added_iff}
@@ -13,13 +12,13 @@ returns-in_err-at-clause-numbered g c = subst (IsNumbered g.T.Numbered.number g.
 pub returns-in_default-clause-numbered : goal.returns-in_default-clause-numbered
 returns-in_default-clause-numbered g c = subst (IsNumbered g.T.Numbered.number g.row.MOST) c.self.view_is (set_numbered g.T.Numbered.number g.row.MOST _ c.self.invariant)
 
-pub insert-requires-clause-within : goal.insert-requires-clause-within
-insert-requires-clause-within g c =
+pub insert-requires : goal.insert-requires
+insert-requires g c =
     let place : IsPlace g.T.Numbered.same g.T.Numbered.number g.row.MOST c.in-Some.at c.args.self.now c.args.item = search rules in
-    omega (arith, place.within, ap length c.reserve.ensures.items, count_of g.T.Numbered.number g.row.MOST _ c.args.self.now c.self.invariant c.self.view_is)
+    omega (arith, place.within, count_of g.T.Numbered.number g.row.MOST _ c.args.self.now c.self.invariant c.self.view_is)
 
-pub returns-in_err-reserve-clause-numbered : goal.returns-in_err-reserve-clause-numbered
-returns-in_err-reserve-clause-numbered g c = set_numbered g.T.Numbered.number g.row.MOST _ (rw c.reserve.ensures.items c.self.invariant)
+pub returns-in_err-insert-clause-numbered : goal.returns-in_err-insert-clause-numbered
+returns-in_err-insert-clause-numbered g c = set_numbered g.T.Numbered.number g.row.MOST _ (rw c.in_err-insert.ensures.err c.self.invariant)
 
 pub invariant_of-self-2 : goal.invariant_of-self-2
 invariant_of-self-2 g c =
@@ -27,7 +26,7 @@ invariant_of-self-2 g c =
     let met = g.met.T.Numbered in
     let place : IsPlace own.same own.number g.row.MOST c.in-Some.at c.args.self.now c.args.item = search rules in
     let room = (added_iff own.same met.same_is_one met.one_is_same g.row.MOST c.args.item (get c.args.self.now (own.number c.args.item)) (len c.args.self.now)).0 place.is_new in
-    (put_in_place own.number g.row.MOST own.same c.self.inside.items.items c.insert.new.self.items c.args.self.now c.args.item c.in-Some.at c.self.invariant c.self.view_is place room.0 room.1 (subst (λ l. c.insert.new.self.items ≡ insert l c.in-Some.at c.args.item) c.reserve.ensures.items c.insert.ensures)).1
+    (put_in_place own.number g.row.MOST own.same c.self.inside.items c.insert.new.self c.args.self.now c.args.item c.in-Some.at c.self.invariant c.self.view_is place room.0 room.1 c.in_ok-insert.ensures.ok).1
 
 pub returns-clause-after : goal.returns-clause-after
 returns-clause-after g c =
@@ -35,7 +34,7 @@ returns-clause-after g c =
     let met = g.met.T.Numbered in
     let place : IsPlace own.same own.number g.row.MOST c.in-Some.at c.args.self.now c.args.item = search rules in
     let room = (added_iff own.same met.same_is_one met.one_is_same g.row.MOST c.args.item (get c.args.self.now (own.number c.args.item)) (len c.args.self.now)).0 place.is_new in
-    (put_in_place own.number g.row.MOST own.same c.self.inside.items.items c.insert.new.self.items c.args.self.now c.args.item c.in-Some.at c.self.invariant c.self.view_is place room.0 room.1 (subst (λ l. c.insert.new.self.items ≡ insert l c.in-Some.at c.args.item) c.reserve.ensures.items c.insert.ensures)).0
+    (put_in_place own.number g.row.MOST own.same c.self.inside.items c.insert.new.self c.args.self.now c.args.item c.in-Some.at c.self.invariant c.self.view_is place room.0 room.1 c.in_ok-insert.ensures.ok).0
 
 pub returns-clause-numbered : goal.returns-clause-numbered
 returns-clause-numbered g c = set_numbered g.T.Numbered.number g.row.MOST _ (invariant_of-self-2 g c)

@@ -7,11 +7,11 @@ use Rattle.pay_numbered.proofs.numbered_blocks.NumberedBlocks.get.Goals as goal
 
 pub returns-in-Ok-clause-value : goal.returns-in-Ok-clause-value
 returns-in-Ok-clause-value g c =
-    sym (has g.T.Numbered.number g.row.MOST c.self.inside.items.items c.args.self.now (c.args.first, c.args.second) c.in-Ok.there c.self.invariant c.self.view_is c.in-Ok.ensures)
+    sym (has g.T.Numbered.number g.row.MOST c.self.inside.items c.args.self.now (c.args.first, c.args.second) c.in-Ok.there c.self.invariant c.self.view_is c.in-Ok.ensures)
 
 pub returns-in-Err-clause-value : goal.returns-in-Err-clause-value
 returns-in-Err-clause-value g c =
-    sym (has_none g.T.Numbered.number g.row.MOST c.self.inside.items.items c.args.self.now (c.args.first, c.args.second) c.in-Err.field-0 c.self.invariant c.self.view_is c.in-Err.ensures)
+    sym (has_none g.T.Numbered.number g.row.MOST c.self.inside.items c.args.self.now (c.args.first, c.args.second) c.in-Err.field-0 c.self.invariant c.self.view_is c.in-Err.ensures)
 
 pub returns-in-Ok-clause-own_number : goal.returns-in-Ok-clause-own_number
 returns-in-Ok-clause-own_number g c =
