@@ -3,7 +3,7 @@ use Rattle.std.proofs.Common.{◌≡◌, ℕ, ◌+◌, ◌-◌, ◌<◌, ◌≤�
 use Rattle.std.proofs.lemmas.List.{get_or_append_left}
 use Rattle.std.proofs.lemmas.List.Edits.{insert-append_right, remove-append_right}
 use Rattle.std.specs.List.Sorted.{IsPartitionedBy, IsPartitionPoint}
-use lib.Seq.{drop-append-add}
+use Rattle.std.proofs.Math.Seq.{drop-append-add}
 
 module _ {X : Type 0} where
   -- ---- what stands behind the front

@@ -1,10 +1,10 @@
 -- Worked rows: a few things with numbers, and small sets of them.
-use Rattle.std.proofs.Common.{◌≡◌, inl, inr, ℕ, ◌&&◌, nat_eq, Bool, [], ◌∷◌, Some, None, Ok, Err, Less, Equal, Greater, refl}
+use Rattle.std.proofs.Common.{◌≡◌, inl, inr, ℕ, ◌&&◌, nat_eq, Bool, [], ◌∷◌, Some, None, Ok, Err, Less, Equal, Greater, refl, arith}
 use Rattle.std.specs.FinMap.{empty, get, len, insert, remove, gets}
 use Rattle.pay_numbered.specs.declared.numbered_set.Addition.TheVariants.{Added, Repeat}
 use Rattle.pay_numbered.specs.declared.numbered_set.AdditionFault.TheVariants.{Conflict, Full, Memory}
 use Rattle.pay_numbered.specs.Numbers.{ByNumber, number_cmp, judgement, judged, IsJudged, set_after}
-use Rattle.pay_numbered.specs.Kept.{numbered}
+use Rattle.pay_numbered.specs.Kept.{numbered, IsRising, IsSought}
 use Rattle.pay_numbered.specs.InTurn.{after_all, AreTaken, IsIn}
 use Rattle.pay_numbered.proofs.NumberOrder.{number_total}
 
@@ -35,6 +35,18 @@ both_alike = refl
 
 at_their_numbers : numbered number (thing 1 4 20 ∷ thing 2 0 30 ∷ []) ≡ ((1, 4), thing 1 4 20) ∷ ((2, 0), thing 2 0 30) ∷ []
 at_their_numbers = refl
+
+rising : IsRising number (thing 1 4 20 ∷ thing 2 0 30 ∷ [])
+rising = tt
+
+-- ---- what a search finds
+
+second_sought : IsSought number (2, 0) (thing 1 4 20 ∷ thing 2 0 30 ∷ []) (Ok (1, thing 2 0 30))
+second_sought = ((λ d. refl), omega arith, refl)
+
+-- it would stand behind what there is
+none_sought : IsSought number (1, 5) (thing 1 4 20 ∷ []) (Err 1)
+none_sought = ((λ rises. ((λ k d low lt. let first : k ≡ 0 = omega arith in rw first refl), (λ k d low lt. absurd (omega arith)))), omega arith)
 
 -- ---- the judgement of one more, where two may be
 

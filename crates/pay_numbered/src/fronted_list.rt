@@ -1,4 +1,4 @@
-ghost use Rattle.std.specs.Prelude.{◌≡◌, ◌+◌, ◌^◌, ◌<◌, ◌≤◌, ◌↔◌, true, false, Some, [], ◌++◌, length, take, drop, slice_get, IsTrue, IfOk, OnOk, OnErr};
+ghost use Rattle.std.specs.Prelude.{◌≡◌, ◌^◌, ◌<◌, ◌≤◌, true, false, [], ◌++◌, length, take, drop, slice_get, IfOk, OnOk, OnErr};
 ghost use Rattle.std.specs.List.{insert, remove};
 ghost use Rattle.std.specs.List.Sorted.{IsPartitionedBy, IsPartitionPoint};
 
@@ -36,7 +36,7 @@ fn place_among<T: Copy, S: ComesAfter<T>>(items: &[T], sought: &S) -> usize
     items.partition_point(|item| sought.comes_after(item))
 }
 
-/// Puts an item into a full front, whose last one then is the first behind it. There is room for that.
+/// Puts an item into a full front, whose last one then is the first behind it, where there is room for that.
 fn put_in_full<T: Copy + MadeWith<Global>, const FRONT: usize>(
     front: &mut ArrayVec<T, FRONT, Global>,
     behind: &mut Blocks<T>,

@@ -35,15 +35,22 @@ fn add_at_last<R: Abort>(rt: &R, taps: &mut TapSet, tap: &Tap) {
     }
 }
 
-// They outgrow the set's own places. `rt try --test --fail-alloc N` runs it with each allocation failing in turn.
+// They outgrow the set's own places, and a block. `rt try --test --fail-alloc N` runs it with each allocation failing in turn.
 #[test]
 fn takes_more_taps_than_the_set_has_places(rt: HostRuntime) {
     let mut taps = TapSet::new(rt.alloc());
-    for seq in 0..40 {
-        add_at_last(&rt, &mut taps, &boarding(&rt, 39 - seq, 25_200));
+    for seq in 0..300 {
+        add_at_last(&rt, &mut taps, &boarding(&rt, 299 - seq, 25_200));
     }
-    expect_same(&rt, (taps.len(), taps.as_slice().len()), (40, 40));
-    expect_same(&rt, taps.as_slice().first().map(|tap| tap.seq), Some(0));
+    expect_same(&rt, taps.len(), 300);
+    expect_same(&rt, taps.run_from(0).first().map(|tap| tap.seq), Some(0));
+    if let Ok(list) = taps.list(rt.alloc()) {
+        expect_same(
+            &rt,
+            (list.len(), list.last().map(|tap| tap.seq)),
+            (300, Some(299)),
+        );
+    }
 }
 
 /// Whether touches are boardings of these numbers, in order.
@@ -61,7 +68,7 @@ fn lists_taps_by_number(rt: HostRuntime) {
     expect_same(&rt, taps.add(boarding(&rt, 1, 25_200)), Ok(Addition::Added));
     expect_same(&rt, taps.add(boarding(&rt, 4, 24_200)), Ok(Addition::Added));
     let list = taps.list(rt.alloc()).expect(&rt, "memory");
-    expect_same(&rt, list.as_slice(), taps.as_slice());
+    expect_same(&rt, list.as_slice(), taps.run_from(0));
 }
 
 /// Pushes a boarding at a second. Where it is filled in, its number is 1.
