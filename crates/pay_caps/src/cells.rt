@@ -1,8 +1,9 @@
-ghost use Rattle.std.specs.Prelude.{◌≡◌, ◌≤◌, ◌<◌, ◌+◌, ◌-◌, ◌&&◌, not, if◌then◌else◌, length, max, sum, take, slice_get, slice_index};
+ghost use Rattle.std.specs.Prelude.{Bool, ◌≡◌, ◌≤◌, ◌<◌, ◌+◌, ◌-◌, ◌&&◌, not, if◌then◌else◌, length, max, sum, slice_get, slice_index};
 ghost use Rattle.pay_tables.specs.declared.limits.TheConstants.{MOST_ZONES};
 ghost use Rattle.pay_caps.specs.declared.limits.TheConstants.{SPANS};
 ghost use Rattle.pay_money.specs.declared.limits.TheConstants.{MOST_MONEY};
 ghost use Rattle.pay_tables.specs.Words.{IsSpan, covers_span};
+ghost use Rattle.pay_tables.specs.declared.zones.Span.{Span};
 ghost use Rattle.pay_caps.specs.Covers.{IsCell};
 ghost use Rattle.pay_caps.specs.Cells.{span_at, used_of, no_fares, added, taken, sum_at, total, capped_sum, sum_where, outside_sum, spans_outside, outside, outside_of};
 
@@ -224,9 +225,10 @@ impl Cells {
     /// The sums of spans through the last one that is not 0.
     #[tactic(auto, using(crate::proofs::Used::used_is_few))]
     fn used_spans(&self) -> &[u32]
-        ensures value { result.now ≡ take (used_of self.now.spans) self.now.spans }
         ensures few { length result.now ≤ SPANS }
         ensures fits { sum result.now + self.now.buses + self.now.maximum ≤ MOST_MONEY }
+        ensures all { sum result.now ≡ sum self.now.spans }
+        ensures each { (counts : Span → Bool) → sum_where counts result.now ≡ sum_where counts self.now.spans }
     {
         &self.spans[..usize::from(self.used)]
     }

@@ -59,7 +59,7 @@ fn lower_of_outside(best: Offer, cells: &Cells, other: Cover, band: &Band, place
     ensures value { result ≡ lower best (band.now.day + outside_sum band.now.cover (outside other cells.now), Some place) }
     ensures no_more { result.0 ≤ best.0 }
 {
-    if band.day >= best.0 {
+    if best.0 <= band.day {
         return best;
     }
     lower(
