@@ -1,8 +1,9 @@
 -- How many of some sums are in use: all behind these are 0, so that a walk may end there.
 use Rattle.std.proofs.Common.{◌≡◌, ◌≢◌, ℕ, ◌+◌, ◌≤◌, ◌<◌, zero, suc, Bool, if◌then◌else◌, List, [], ◌∷◌, length, set, get_or, take, max, refl, ap, ◌∙◌, arith, get_or-set_other, inl, inr}
-use Rattle.std.specs.Prelude.{◌⊎◌, sum}
+use Rattle.std.specs.Prelude.{◌⊎◌, replicate, sum}
 use Rattle.std.specs.List.{zip}
 use Rattle.std.proofs.lemmas.List.Sums.{sum_by-cons}
+use Rattle.pay_caps.specs.declared.limits.TheConstants.{SPANS}
 use Rattle.pay_caps.specs.Cells.{used_before, used_of}
 use Rattle.pay_caps.proofs.Weights.{weighed, weighs_at_most}
 
@@ -30,11 +31,13 @@ at_most_one_more (suc n) used = omega arith
 -- ---- what is in use
 
 pub behind_used : (ns : List ℕ) (i : ℕ) → used_of ns ≤ i → get_or ns i 0 ≡ 0
+unfolding used_of
 behind_used [] i h = refl
 behind_used (n ∷ ns) zero h = none_used n (used_of ns) h
 behind_used (n ∷ ns) (suc i) h = behind_used ns i (fewer_used n (used_of ns) i h)
 
 pub used_at_most : (ns : List ℕ) (most : ℕ) → ((i : ℕ) → most ≤ i → get_or ns i 0 ≡ 0) → used_of ns ≤ most
+unfolding used_of
 used_at_most [] most h = omega arith
 used_at_most (n ∷ ns) zero h = none_before n (used_of ns) (h zero (omega arith)) (used_at_most ns zero (λ i low. h (suc i) (omega arith)))
   where
@@ -44,7 +47,12 @@ used_at_most (n ∷ ns) zero h = none_before n (used_of ns) (h zero (omega arith
     none_before (suc n) used e low = absurd (omega (arith, e))
 used_at_most (n ∷ ns) (suc most) h = omega (arith, at_most_one_more n (used_of ns), used_at_most ns most (λ i low. h (suc i) (omega (arith, low))))
 
+pub none_used_of_none : used_of (replicate SPANS 0) ≡ 0
+unfolding used_of
+none_used_of_none = refl
+
 pub used_is_few : (ns : List ℕ) → used_of ns ≤ length ns
+unfolding used_of
 used_is_few [] = omega arith
 used_is_few (n ∷ ns) = omega (arith, at_most_one_more n (used_of ns), used_is_few ns)
 
@@ -80,10 +88,12 @@ last_used ns place h there =
 -- ---- walks
 
 pub nothing_behind : (ns : List ℕ) → used_of ns ≤ 0 → sum ns ≡ 0
+unfolding used_of
 nothing_behind [] h = refl
 nothing_behind (n ∷ ns) h = omega (arith, sum_by-cons (λ (m : ℕ). m) n ns, none_used n (used_of ns) h, later_used n (used_of ns), nothing_behind ns (omega (arith, h, later_used n (used_of ns))))
 
 pub sum_of_used : (ns : List ℕ) (used : ℕ) → used_of ns ≤ used → sum (take used ns) ≡ sum ns
+unfolding used_of
 sum_of_used [] zero h = refl
 sum_of_used [] (suc used) h = refl
 sum_of_used (n ∷ ns) zero h = omega (arith, nothing_behind (n ∷ ns) h)
@@ -91,6 +101,7 @@ sum_of_used (n ∷ ns) (suc used) h =
     omega (arith, sum_by-cons (λ (m : ℕ). m) n ns, sum_by-cons (λ (m : ℕ). m) n (take used ns), sum_of_used ns used (fewer_used n (used_of ns) used h))
 
 pub weighs_used : {X : Type 0} (g : X → Bool) (xs : List X) (ns : List ℕ) (used : ℕ) → used_of ns ≤ used → weighed g xs (take used ns) ≡ weighed g xs ns
+unfolding used_of
 weighs_used g [] ns used h = refl
 weighs_used g (x ∷ xs) [] zero h = refl
 weighs_used g (x ∷ xs) [] (suc used) h = refl

@@ -68,7 +68,7 @@ abbrev pub used_before : ℕ → ℕ → ℕ
 used_before zero zero = 0
 used_before sum used = used + 1
 
-abbrev pub used_of : List ℕ → ℕ
+unfoldable pub used_of : List ℕ → ℕ
 used_of [] = 0
 used_of (sum ∷ sums) = used_before sum (used_of sums)
 
