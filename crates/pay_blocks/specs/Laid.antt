@@ -1,6 +1,6 @@
 -- How blocks lie one behind another.
-use Rattle.std.specs.Prelude.{◌≡◌, ℕ, ◌+◌, ◌-◌, ◌^◌, ◌<◌, ◌≤◌, Bool, false, Option, List, [], ◌∷◌, ◌++◌, length}
-use Rattle.std.specs.List.{flat_map, insert}
+use Rattle.std.specs.Prelude.{◌≡◌, ℕ, ◌+◌, ◌-◌, ◌^◌, ◌<◌, ◌≤◌, Bool, false, Option, Some, List, [], ◌∷◌, ◌++◌, length, slice_get, slice_set, slice_index_or}
+use Rattle.std.specs.List.{flat_map, insert, remove}
 use Rattle.std.specs.Option.{option_to_list}
 use Rattle.pay_blocks.specs.declared.limits.TheConstants.{MOST}
 use Rattle.pay_blocks.specs.Parts.{BlockParts}
@@ -54,3 +54,9 @@ pub record AreKept {X : Type 0} (first : BlockParts X) (later : List (BlockParts
   pub fits : count < 2 ^ 64
   pub unused : spare ≡ []
   pub ready : 1 ≤ room → IsReady first later count spare_capacity blocks
+
+-- blocks, once an item was taken out of one of them: that one has all others, where it had them
+abbrev pub IsTakenFrom : {X : Type 0} → List (BlockParts X) → List (BlockParts X) → ℕ → ℕ → X → Type 0
+IsTakenFrom {X} before after at place item =
+    (old new : BlockParts X) × (old ≡ slice_index_or before at old) × (slice_get old.items (place - old.start) ≡ Some item) × (new.start ≡ old.start)
+    × (new.items ≡ remove old.items (place - old.start)) × (new.capacity ≡ old.capacity) × (after ≡ slice_set before at new)

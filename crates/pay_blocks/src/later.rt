@@ -5,7 +5,7 @@ ghost use Rattle.std.specs.Option.{option_to_list};
 ghost use Rattle.std.specs.List.Sorted.{IsPartitionedBy, IsPartitionPoint};
 ghost use Rattle.pay_blocks.specs.declared.limits.TheConstants.{MOST};
 ghost use Rattle.pay_blocks.specs.Parts.{BlockParts};
-ghost use Rattle.pay_blocks.specs.Laid.{begins, lowered, raised, AreLaid, IsPut};
+ghost use Rattle.pay_blocks.specs.Laid.{begins, lowered, raised, AreLaid, IsPut, IsTakenFrom};
 
 use crate::block::Block;
 use crate::comes_after::ComesAfter;
@@ -103,7 +103,7 @@ pub fn take_out<T: Copy>(blocks: &mut Vec<Block<T>>, at: usize, place: usize) ->
     requires there { at < length blocks.old.items }
     requires begun { (d : BlockParts T) → (slice_index_or blocks.old.items at d).start ≤ place }
     requires within { (d : BlockParts T) → place < (slice_index_or blocks.old.items at d).start + length (slice_index_or blocks.old.items at d).items }
-    ensures { (old new : BlockParts T) × (old ≡ slice_index_or blocks.old.items at old) × (slice_get old.items (place - old.start) ≡ Some result) × (new.start ≡ old.start) × (new.items ≡ remove old.items (place - old.start)) × (new.capacity ≡ old.capacity) × (blocks.new.items ≡ slice_set blocks.old.items at new) }
+    ensures { IsTakenFrom blocks.old.items blocks.new.items at place result }
 {
     let block = &mut blocks[at];
     let offset = place - block.start();
