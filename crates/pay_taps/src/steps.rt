@@ -1,4 +1,4 @@
-ghost use Rattle.std.specs.Prelude.{◌≡◌};
+ghost use Rattle.std.specs.Prelude.{◌≡◌, ◌≤◌};
 ghost use Rattle.pay_taps.specs.Timelines.{counted};
 
 use crate::tap::Touch;
@@ -38,7 +38,8 @@ impl Steps {
 
     /// Counts what was read.
     pub(crate) fn add(&mut self, found: &Option<Touch>)
-        ensures { self.new ≡ counted found.now self.old }
+        ensures value { self.new ≡ counted found.now self.old }
+        ensures rises { self.old ≤ self.new }
     {
         if found.is_some() {
             self.count = self.count.saturating_add(1);

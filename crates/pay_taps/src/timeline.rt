@@ -113,6 +113,7 @@ impl Timeline {
     pub fn at(&self, place: usize, steps: &mut Steps) -> Option<Touch>
         ensures value { result ≡ slice_get self.now.touches place }
         ensures steps { steps.new ≡ counted result steps.old }
+        ensures rises { steps.old ≤ steps.new }
     {
         let found = self.touches.get(place);
         steps.add(&found);
@@ -123,6 +124,7 @@ impl Timeline {
     pub fn before(&self, place: usize, steps: &mut Steps) -> Option<Touch>
         ensures value { result ≡ touch_before self.now.touches place }
         ensures steps { steps.new ≡ counted result steps.old }
+        ensures rises { steps.old ≤ steps.new }
     {
         if place == 0 {
             return None;
@@ -134,6 +136,7 @@ impl Timeline {
     pub fn after(&self, place: usize, steps: &mut Steps) -> Option<Touch>
         ensures value { result ≡ slice_get self.now.touches (suc place) }
         ensures steps { steps.new ≡ counted result steps.old }
+        ensures rises { steps.old ≤ steps.new }
     {
         if place >= self.touches.len() {
             return None;
