@@ -12,8 +12,7 @@ use Rattle.pay_account.specs.declared.fares.TapFault.{TapFault}
 use Rattle.pay_account.specs.declared.fares.TapFault.TheVariants as of_tap
 use Rattle.pay_account.specs.declared.fares.FixFault.{FixFault}
 use Rattle.pay_account.specs.declared.fares.FixFault.TheVariants as of_fix
-use Rattle.pay_account.specs.Words.{Accepted, nothing, tap_result, fix_result, after_tap, after_fix}
-use Rattle.pay_account.specs.Changes.{Change, Tapped, Fixed, after, IsAccepted}
+use Rattle.pay_account.specs.Words.{Accepted, nothing, tap_result, fix_result, after_tap, after_fix, Change, Tapped, Fixed, after, IsAccepted}
 use Rattle.pay_shard.specs.Changes.{is_priced}
 use Rattle.pay_shard.specs.Machine.{Step, step_tap_result, step_fix_result}
 use Rattle.pay_shard.specs.State.{is_new, kept}

@@ -4,8 +4,7 @@ use Rattle.std.specs.FinMap as map
 use Rattle.std.specs.List.{cons_option}
 use Rattle.pay_numbered.specs.Words.{IsIn}
 use Rattle.pay_tables.specs.Words.{FareTables}
-use Rattle.pay_account.specs.Words.{Accepted, nothing}
-use Rattle.pay_account.specs.Changes.{Change, after, after_all, IsAccepted, AreAccepted}
+use Rattle.pay_account.specs.Words.{Accepted, nothing, Change, after, after_all, IsAccepted, AreAccepted}
 use Rattle.pay_account.specs.State.{State, accepted_of}
 use Rattle.pay_shard.proofs.AskedChanges.{account_of}
 

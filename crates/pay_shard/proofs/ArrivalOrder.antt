@@ -8,8 +8,7 @@ use Rattle.std.specs.List.{cons_option}
 use Rattle.std.specs.Ordering.{nat_cmp, eq_by_cmp}
 use Rattle.pay_numbered.specs.Words.{IsIn}
 use Rattle.pay_tables.specs.Words.{FareTables}
-use Rattle.pay_account.specs.Words.{Accepted}
-use Rattle.pay_account.specs.Changes.{Change, after_all, AreAccepted}
+use Rattle.pay_account.specs.Words.{Accepted, Change, after_all, AreAccepted}
 use Rattle.pay_shard.specs.Changes.{is_priced, AreAllPriced, asked_by, AreUnmarked, accepted_asked}
 use Rattle.pay_shard.specs.Machine.{Step, step, marked_step, item_step}
 use Rattle.pay_shard.specs.Runs.{run, replay}

@@ -6,8 +6,7 @@ use Rattle.pay_numbered.specs.Words.{IsIn}
 use Rattle.pay_tables.specs.Words.{FareTables}
 use Rattle.pay_taps.specs.declared.tap.Tap.{Tap}
 use Rattle.pay_fix.specs.declared.fix.Fix.{Fix}
-use Rattle.pay_account.specs.Changes.{Change, Tapped, Fixed}
-use Rattle.pay_account.specs.Words.{tap_result, fix_result}
+use Rattle.pay_account.specs.Words.{Change, Tapped, Fixed, tap_result, fix_result}
 use Rattle.pay_quotes.specs.declared.priced.Priced.{Priced}
 use Rattle.pay_account.specs.declared.fares.TapFault.{TapFault}
 use Rattle.pay_account.specs.declared.fares.FixFault.{FixFault}
