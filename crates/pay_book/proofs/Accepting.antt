@@ -1,5 +1,5 @@
 -- A tap or a correction that is accepted, as a change of the effective taps.
-use Rattle.std.proofs.Common.{◌≡◌, ◌≤◌, ◌+◌, ◌∷◌, ℕ, true, false, Ok, None, List, [], length, filter, refl, sym, ap, ◌∙◌, subst, arith}
+use Rattle.std.proofs.Common.{◌≡◌, ◌≤◌, ◌+◌, ◌*◌, ◌∷◌, ℕ, true, false, Ok, None, List, [], length, filter, refl, sym, ap, ◌∙◌, subst, arith}
 use Rattle.std.specs.FinMap.{get, insert, values, entries, len, len-entries, len-empty, empty}
 use Rattle.std.proofs.lemmas.List.{length-map}
 use Rattle.std.proofs.lemmas.List.Filters.{length-filter_both}
@@ -17,12 +17,12 @@ use Rattle.pay_fix.specs.declared.limits.TheConstants.{MOST_FIXES}
 use Rattle.pay_fix.specs.Words.{Fixes, number as fix_number, judged as judged_fix, EffectiveHaveOwnNumbers, EffectiveAreInOrder, EffectiveAreFew, TapChanges, FixChanges, change_by_tap, change_by_fix}
 use Rattle.pay_tables.specs.Words.{FareTables}
 use Rattle.pay_account.specs.declared.Priced.{Priced}
-use Rattle.pay_account.specs.Journeys.{is_bus, is_rail}
-use Rattle.pay_account.specs.Words.{Accepted, nothing, touches, prices, prices_named, with_tap, with_fix, tap_added, tap_result, fix_added, fix_result}
+use Rattle.pay_account.specs.Words.{is_bus, is_rail, Accepted, nothing, touches, prices, prices_named, with_tap, with_fix, tap_added, tap_result, fix_added, fix_result}
 use Rattle.pay_book.specs.Books.{BookParts}
 use Rattle.pay_book.specs.declared.kept.Kept.{Kept}
-use Rattle.pay_book.specs.Kept.{IsKeptOf, IsPossibleFor, taps_after, ChangesEachKind, ChangesArePossible}
-use Rattle.pay_book.specs.Stored.{IsKept, IsChange, TapIsChange, FixIsChange, ChangeIsPossible, ChangeIsMade}
+use Rattle.pay_book.specs.Disturbed.{disturbed}
+use Rattle.pay_book.specs.Kept.{IsKeptOf, IsPossibleFor, taps_after, disturbed_by_change, ChangesEachKind, ChangesArePossible}
+use Rattle.pay_book.specs.Stored.{IsKept, IsChange, AreKeptTaps, TapIsChange, FixIsChange, ChangeIsPossible, ChangeIsMade, ChangeDisturbs}
 
 -- ---- each kind
 
@@ -148,3 +148,13 @@ pub fix_more : (tables : FareTables) (accepted more : Accepted) (fix : Fix) (add
     → more ≡ with_fix accepted fix → priced ≡ prices_named tables more false fix.what → Ok priced ≡ fix_result tables accepted fix
 fix_more tables accepted more fix addition priced result is grown its =
     ap Ok (its ∙ ap (λ (those : Accepted). prices_named tables those false fix.what) grown) ∙ sym (result ∙ ap (λ (it : Addition). fix_added tables accepted fix (Ok it)) is)
+
+-- ---- what was read
+
+pub read_for : ChangeDisturbs → (tables : FareTables) (change : Change) (kept : Kept) (old after more : Accepted) (steps first before last : ℕ) → IsChange change (touches old) (touches more) → AreKeptTaps kept (touches old)
+    → after ≡ more → first ≡ steps → before ≤ first + 8 + 2 * disturbed_by_change tables kept change → last ≤ before + 16
+    → last ≤ steps + 24 + 2 * disturbed tables (touches old) (touches after)
+read_for law tables change kept old after more steps first before last is are grown begun found made =
+    let its = law tables change (touches old) (touches more) kept is are in
+    let same : disturbed tables (touches old) (touches after) ≡ disturbed tables (touches old) (touches more) = ap (λ (those : Accepted). disturbed tables (touches old) (touches those)) grown in
+    omega (arith, its, same, begun, found, made)

@@ -5,7 +5,7 @@ use Rattle.pay_fix.specs.declared.change.Change.TheVariants.{Nothing, Enters, Le
 use Rattle.pay_taps.specs.declared.tap.Touch.{Touch}
 use Rattle.pay_taps.specs.Words.{place_of, put_in, AreTimed, StandsAtPlace, TakenOutAtPlace, SomeWithOneMore, OwnNumberAmongSome}
 use Rattle.pay_fix.specs.declared.limits.TheConstants.{MOST_TOUCHES}
-use Rattle.pay_account.specs.Journeys.{is_bus, is_rail}
+use Rattle.pay_account.specs.Words.{is_bus, is_rail}
 use Rattle.pay_book.specs.Kept.{taps_after, ChangesEachKind, ChangesArePossible}
 use Rattle.pay_book.proofs.KeptMarks.{one_more}
 

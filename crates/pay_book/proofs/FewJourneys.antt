@@ -5,7 +5,7 @@ use Rattle.std.proofs.lemmas.List.{get_or-append-add, get_or_append_left}
 use Rattle.std.proofs.lemmas.List.Edits.{length-insert, length-between}
 use Rattle.pay_pairs.specs.Words.{FareTables, Touch, legs}
 use Rattle.pay_links.specs.Starts.{taps_of_leg}
-use Rattle.pay_links.specs.Words.{journeys, starts, start_marks, taps_of_journey, MarksAreCut, StartsAreLocal, JourneysHaveEachTap}
+use Rattle.pay_links.specs.Words.{journeys, starts, start_marks, MarksAreCut, StartsAreLocal}
 use Rattle.pay_links.specs.declared.journey.Journey.{Journey}
 use Rattle.pay_links.specs.declared.journey.Journey.TheVariants as journey
 use Rattle.pay_book.specs.Rail.{mark_in, taps_in, IsStretch}
@@ -131,9 +131,3 @@ few_finished marks local tables fewer touch place from to taps more less with_it
     let most = few_fewer marks local tables fewer touch place from to s in
     let most_with = few_more marks local tables fewer touch place from to s in
     (omega arith, omega arith)
-
--- the taps of a stretch are those of its journeys
-pub taps_finished : JourneysHaveEachTap → (tables : FareTables) (fewer : List Touch) (from to : ℕ) (taps : List Touch) (less : List Journey) → to ≤ length fewer →
-    taps ≡ taps_in from to fewer → less ≡ journeys tables (legs tables taps) → length (flat_map taps_of_journey less) ≡ to - from
-taps_finished each tables fewer from to taps less within same less_is =
-    ap (λ (list : List Journey). length (flat_map taps_of_journey list)) less_is ∙ ap length (each tables taps ∙ same) ∙ length-between fewer from to within

@@ -15,7 +15,8 @@ use Rattle.pay_pairs.specs.Words.{legs}
 use Rattle.pay_links.specs.Words.{journeys, starts, taps_of_journey, JourneysHaveEachTap}
 use Rattle.pay_links.specs.declared.journey.Journey.{Journey}
 use Rattle.pay_links.specs.declared.journey.Journey.TheVariants as journey
-use Rattle.pay_book.specs.Boardings.{boarding, boarded, is_paying, marks_of, marked}
+use Rattle.pay_account.specs.Words.{boarding}
+use Rattle.pay_book.specs.Boardings.{boarded, is_paying, marks_of, marked}
 use Rattle.pay_book.specs.Days.{Days, AreKept, AreSums, CanReplace}
 use Rattle.pay_book.specs.Kept.{all_journeys, IsRight, AreAsBefore}
 use Rattle.pay_book.specs.declared.kept.Kept.{Kept}

@@ -12,6 +12,9 @@ pub mod Fewer
 pub mod Stretches
 pub mod Between
 pub mod FewJourneys
+pub mod DisturbedRail
+pub mod DisturbedBuses
+pub mod DisturbedBy
 pub mod Keeping
 pub mod Changing
 pub mod Accepting

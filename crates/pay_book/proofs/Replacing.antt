@@ -9,8 +9,7 @@ use Rattle.pay_tables.specs.declared.limits.TheConstants.{MOST_FARE}
 use Rattle.pay_tables.specs.Words.{FareTables}
 use Rattle.pay_links.specs.declared.journey.Journey.{Journey}
 use Rattle.pay_caps.specs.Words.{CellSums, cell_of, cells_of, fare, fares, sum_at, total, all_added, all_taken, StretchIsTaken, EachFareIsThere, StretchIsAdded}
-use Rattle.pay_account.specs.Journeys.{is_on}
-use Rattle.pay_account.specs.Prices.{journeys_on}
+use Rattle.pay_account.specs.Words.{is_on, journeys_on}
 use Rattle.pay_book.specs.Days.{Days, sums_on, day_of, AreKept, AreSums, AreThere, HaveRoomFor, StayKept}
 
 -- ---- the parts of a day

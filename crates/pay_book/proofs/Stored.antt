@@ -7,8 +7,7 @@ use Rattle.pay_hopper.specs.Words.{instants_of, paying_marks, marks_by_last}
 use Rattle.pay_pairs.specs.Words.{legs}
 use Rattle.pay_links.specs.Words.{journeys, starts, journeys_by_marks, JourneysAreKeptAsMarks}
 use Rattle.pay_links.specs.declared.journey.Journey.{Journey}
-use Rattle.pay_account.specs.Words.{touches, prices}
-use Rattle.pay_account.specs.Journeys.{is_bus, is_rail, rail_journeys, boardings, journeys_of}
+use Rattle.pay_account.specs.Words.{touches, prices, is_bus, is_rail, rail_journeys, boardings, journeys_of}
 use Rattle.pay_book.specs.Boardings.{boarded, BoardedByAll}
 use Rattle.pay_book.specs.Books.{BookParts}
 use Rattle.pay_book.specs.Days.{AreSums}

@@ -1,5 +1,5 @@
 -- Places around a tap at which journeys start with it and without it.
-use Rattle.std.proofs.Common.{◌≡◌, ℕ, zero, suc, ◌+◌, ◌-◌, ◌<◌, ◌≤◌, Bool, true, false, List, [], length, ◌∷◌, take, slice_get, get_or, Some, None, refl, sym, ap, ◌∙◌, subst, if◌then◌else◌, length-take, take-append-drop, arith}
+use Rattle.std.proofs.Common.{◌≡◌, ◌⊎◌, inl, inr, ℕ, zero, suc, ◌+◌, ◌-◌, ◌<◌, ◌≤◌, ◌&&◌, Bool, true, false, List, [], length, ◌∷◌, take, slice_get, get_or, Some, None, refl, sym, ap, ◌∙◌, subst, if◌then◌else◌, length-take, take-append-drop, arith}
 use Rattle.std.specs.List.{insert}
 use mathlib.Core.Logic.{⊎_elim}
 use Rattle.std.proofs.lemmas.Bool.{cases_lt, and_parts}
@@ -9,7 +9,7 @@ use Rattle.pay_taps.specs.Words.{touch_before}
 use Rattle.pay_pairs.specs.Words.{FareTables, Touch}
 use Rattle.pay_links.specs.Words.{starts}
 use Rattle.pay_book.specs.declared.stretch.Around.{Around}
-use Rattle.pay_book.specs.Rail.{second_before, starts_if_there, starts_in, mark_in, IsCut, IsAround, IsPlaced, IsFirstPlace, IsLastPlace, IsStretch, StandsThere, starts_at_it, starts_before_it, starts_behind_it, starts_further}
+use Rattle.pay_book.specs.Rail.{second_before, starts_if_there, starts_in, mark_in, IsCut, IsAround, IsPlaced, IsFirstPlace, IsLastPlace, IsStretch, StandsThere, starts_at_it, starts_before_it, starts_behind_it, starts_further, GoesOnInOne}
 use Rattle.pay_book.specs.Fewer.{fewer_of}
 use Rattle.pay_book.proofs.Marks.{as_many, put_back, before_same, behind_same, it_stands, mark_by_place, marks_before, marks_behind_it}
 
@@ -66,6 +66,39 @@ further tables taps place touch le =
     let here = behind_same taps place (suc place) touch (omega arith) le in
     let next = behind_same taps place (suc (suc place)) touch (omega arith) le in cc
 
+-- ---- where a journey goes on
+
+one_is_false : (a b : Bool) → (a && b) ≡ false → (b ≡ false) ⊎ (a ≡ false)
+one_is_false true b e = inl e
+one_is_false false b e = inr refl
+
+-- at the tap before it
+goes_before : (tables : FareTables) (fewer : List Touch) (touch : Touch) (place : ℕ) (near : Around) → suc place ≤ length fewer → IsAround fewer (suc place) near →
+    starts_before_it tables near touch ≡ false → GoesOnInOne tables fewer place (insert fewer (suc place) touch) place
+goes_before tables fewer touch place near le around not_there =
+    let window = before_it tables fewer place touch le in
+    ⊎_elim
+    (λ without. let a : starts_in tables fewer place ≡ false = cc in inl (mark_by_place tables fewer place ∙ a))
+    (λ with_it. let b : starts_in tables (insert fewer (suc place) touch) place ≡ false = cc in inr (mark_by_place tables (insert fewer (suc place) touch) place ∙ b))
+    (one_is_false (starts_if_there tables near.third near.second near.first (Some touch)) (starts_if_there tables near.third near.second near.first near.here) not_there)
+
+goes_on_ahead : (tables : FareTables) (fewer : List Touch) (touch : Touch) (place : ℕ) (near : Around) → place ≤ length fewer → IsAround fewer place near →
+    starts_before_it tables near touch ≡ false → 0 < place → GoesOnInOne tables fewer (place - 1) (insert fewer place touch) (place - 1)
+goes_on_ahead tables fewer touch zero near le around not_there some = absurd (omega (arith, some))
+goes_on_ahead tables fewer touch (suc place) near le around not_there some =
+    let back : place ≡ suc place - 1 = omega arith in
+    subst (λ (n : ℕ). GoesOnInOne tables fewer n (insert fewer (suc place) touch) n) back (goes_before tables fewer touch place near le around not_there)
+
+-- at the second tap behind it
+goes_on_further : (tables : FareTables) (fewer : List Touch) (touch : Touch) (place : ℕ) (near : Around) → place ≤ length fewer → IsAround fewer place near →
+    starts_further tables near touch ≡ false → GoesOnInOne tables fewer (suc place) (insert fewer place touch) (suc (suc place))
+goes_on_further tables fewer touch place near le around not_there =
+    let window = further tables fewer place touch le in
+    ⊎_elim
+    (λ without. let a : starts_in tables fewer (suc place) ≡ false = cc in inl (mark_by_place tables fewer (suc place) ∙ a))
+    (λ with_it. let b : starts_in tables (insert fewer place touch) (suc (suc place)) ≡ false = cc in inr (mark_by_place tables (insert fewer place touch) (suc (suc place)) ∙ b))
+    (one_is_false (starts_if_there tables (Some touch) near.here near.next near.later) (starts_if_there tables near.first near.here near.next near.later) not_there)
+
 -- ---- the first place
 
 long_more : (taps : List Touch) (place : ℕ) (touch : Touch) → place ≤ length taps → length (insert taps place touch) ≡ suc (length taps)
@@ -78,12 +111,14 @@ first_starts tables (tap ∷ later) = refl
 
 pub first_place_from_marks : (tables : FareTables) (fewer : List Touch) (touch : Touch) (place from : ℕ) → place ≤ length fewer → from ≤ place →
     ((other : ℕ) → from < other → suc other < place → mark_in (starts tables fewer) other ≡ false) →
+    (suc from < place → GoesOnInOne tables fewer (place - 1) (insert fewer place touch) (place - 1)) →
     mark_in (starts tables fewer) from ≡ true → mark_in (starts tables (insert fewer place touch)) from ≡ true → IsFirstPlace tables fewer touch place from
-first_place_from_marks tables fewer touch place from le below none a b =
+first_place_from_marks tables fewer touch place from le below none goes a b =
     let long = long_more fewer place touch le in
     record {
       from_before = below;
       none_before = none;
+      goes_on_before = goes;
       fewer_from = cut_at tables fewer from (omega arith) a;
       more_from = cut_at tables (insert fewer place touch) from (omega arith) b;
     }
@@ -97,12 +132,13 @@ first_at_it tables fewer touch place near le around there =
     let a : starts_in tables fewer place ≡ true = cc in
     let window = at_it tables fewer place touch le in
     let b : starts_in tables (insert fewer place touch) place ≡ true = cc in
-    first_place_from_marks tables fewer touch place place le (omega arith) (λ other lt far. absurd (omega arith)) (mark_by_place tables fewer place ∙ a) (mark_by_place tables (insert fewer place touch) place ∙ b)
+    first_place_from_marks tables fewer touch place place le (omega arith) (λ other lt far. absurd (omega arith)) (λ far. absurd (omega (arith, far))) (mark_by_place tables fewer place ∙ a) (mark_by_place tables (insert fewer place touch) place ∙ b)
 
 first_of_all : (tables : FareTables) (fewer : List Touch) (touch : Touch) (place : ℕ) → place ≤ length fewer →
-    ((other : ℕ) → 0 < other → suc other < place → mark_in (starts tables fewer) other ≡ false) → IsFirstPlace tables fewer touch place 0
-first_of_all tables fewer touch place le none =
-    first_place_from_marks tables fewer touch place 0 le (omega arith) none (first_starts tables fewer) (first_starts tables (insert fewer place touch))
+    ((other : ℕ) → 0 < other → suc other < place → mark_in (starts tables fewer) other ≡ false) →
+    (1 < place → GoesOnInOne tables fewer (place - 1) (insert fewer place touch) (place - 1)) → IsFirstPlace tables fewer touch place 0
+first_of_all tables fewer touch place le none goes =
+    first_place_from_marks tables fewer touch place 0 le (omega arith) none goes (first_starts tables fewer) (first_starts tables (insert fewer place touch))
 
 pub first_before_it : (tables : FareTables) (fewer : List Touch) (touch : Touch) (place : ℕ) (near : Around) → suc place ≤ length fewer → IsAround fewer (suc place) near →
     starts_before_it tables near touch ≡ true → IsFirstPlace tables fewer touch (suc place) place
@@ -113,12 +149,12 @@ first_before_it tables fewer touch place near le around there =
     let a : starts_in tables fewer place ≡ true = cc in
     let window = before_it tables fewer place touch le in
     let b : starts_in tables (insert fewer (suc place) touch) place ≡ true = cc in
-    first_place_from_marks tables fewer touch (suc place) place le (omega arith) (λ other lt far. absurd (omega arith)) (mark_by_place tables fewer place ∙ a)
+    first_place_from_marks tables fewer touch (suc place) place le (omega arith) (λ other lt far. absurd (omega arith)) (λ far. absurd (omega (arith, far))) (mark_by_place tables fewer place ∙ a)
     (mark_by_place tables (insert fewer (suc place) touch) place ∙ b)
 
 pub first_at_zero : (tables : FareTables) (fewer : List Touch) (touch : Touch) (place : ℕ) → place ≡ 0 → place ≤ length fewer → IsFirstPlace tables fewer touch place place
 first_at_zero tables fewer touch place e le =
-    subst (IsFirstPlace tables fewer touch place) (sym e) (first_of_all tables fewer touch place le (λ other lt far. absurd (omega arith)))
+    subst (IsFirstPlace tables fewer touch place) (sym e) (first_of_all tables fewer touch place le (λ other lt far. absurd (omega arith)) (λ far. absurd (omega (arith, far, e))))
 
 pub first_ahead : (tables : FareTables) (fewer : List Touch) (touch : Touch) (place from : ℕ) (near : Around) → place ≤ length fewer → IsAround fewer place near →
     starts_before_it tables near touch ≡ true → suc from ≡ place → IsFirstPlace tables fewer touch place from
@@ -134,28 +170,34 @@ earlier_mark tables fewer touch true place marks placed other lt =
 earlier_mark tables fewer touch false place marks placed other lt = ap (λ (list : List Bool). mark_in list other) (sym placed.marked)
 
 -- by the mark of an earlier tap
-pub first_by_mark : (tables : FareTables) (fewer : List Touch) (touch : Touch) (is_there : Bool) (place from : ℕ) (marks : List Bool) → IsPlaced tables fewer touch is_there place marks →
+pub first_by_mark : (tables : FareTables) (fewer : List Touch) (touch : Touch) (is_there : Bool) (place from : ℕ) (marks : List Bool) (near : Around) →
+    IsAround fewer place near → IsPlaced tables fewer touch is_there place marks → starts_before_it tables near touch ≡ false →
     from ≤ place - 1 - 1 → (mark_in marks 0 ≡ true → mark_in marks from ≡ true) → ((other : ℕ) → from < other → other < place - 1 → mark_in marks other ≡ false) →
     IsFirstPlace tables fewer touch place from
-first_by_mark tables fewer touch is_there place zero marks placed near marked none = first_of_all tables fewer touch place placed.inside
+first_by_mark tables fewer touch is_there place zero marks near around placed not_there close marked none = first_of_all tables fewer touch place placed.inside
     (λ other lt far. earlier_mark tables fewer touch is_there place marks placed other far ∙ none other lt (omega arith))
-first_by_mark tables fewer touch is_there place (suc from) marks placed near marked none =
+    (λ far. goes_on_ahead tables fewer touch place near placed.inside around not_there (omega (arith, far)))
+first_by_mark tables fewer touch is_there place (suc from) marks near around placed not_there close marked none =
     let stored : List Touch = if is_there then insert fewer place touch else fewer in
     let first : mark_in marks 0 ≡ true = ap (λ (list : List Bool). mark_in list 0) placed.marked ∙ first_starts tables stored in
     let a : mark_in (starts tables fewer) (suc from) ≡ true = earlier_mark tables fewer touch is_there place marks placed (suc from) (omega arith) ∙ marked first in
     first_place_from_marks tables fewer touch place (suc from) placed.inside (omega arith)
     (λ other lt far. earlier_mark tables fewer touch is_there place marks placed other far ∙ none other lt (omega arith))
+    (λ far. goes_on_ahead tables fewer touch place near placed.inside around not_there (omega (arith, far)))
     a (marks_before tables fewer place (suc from) touch (omega arith) placed.inside ∙ a)
 
 -- ---- the last place
 
 pub last_place_from_marks : (tables : FareTables) (fewer : List Touch) (touch : Touch) (place to : ℕ) → place ≤ to → to ≤ length fewer →
-    ((other : ℕ) → suc place < other → other < to → mark_in (starts tables fewer) other ≡ false) → mark_in (starts tables fewer) to ≡ true → mark_in (starts tables (insert fewer place touch)) (suc to) ≡ true → IsLastPlace tables fewer touch place to
-last_place_from_marks tables fewer touch place to over within none a b =
+    ((other : ℕ) → suc place < other → other < to → mark_in (starts tables fewer) other ≡ false) →
+    (suc place < to → GoesOnInOne tables fewer (suc place) (insert fewer place touch) (suc (suc place))) →
+    mark_in (starts tables fewer) to ≡ true → mark_in (starts tables (insert fewer place touch)) (suc to) ≡ true → IsLastPlace tables fewer touch place to
+last_place_from_marks tables fewer touch place to over within none goes a b =
     let long = long_more fewer place touch (omega arith) in
     record {
       to_behind = over;
       none_behind = none;
+      goes_on_behind = goes;
       within = within;
       fewer_to = cut_at tables fewer to within a;
       more_to = cut_at tables (insert fewer place touch) (suc to) (omega arith) b;
@@ -170,7 +212,7 @@ last_behind_it tables fewer touch place near le around there =
     let a : starts_in tables fewer place ≡ true = cc in
     let window = behind_it tables fewer place touch le in
     let b : starts_in tables (insert fewer place touch) (suc place) ≡ true = cc in
-    last_place_from_marks tables fewer touch place place (omega arith) le (λ other lt far. absurd (omega arith)) (mark_by_place tables fewer place ∙ a)
+    last_place_from_marks tables fewer touch place place (omega arith) le (λ other lt far. absurd (omega arith)) (λ far. absurd (omega (arith, far))) (mark_by_place tables fewer place ∙ a)
     (mark_by_place tables (insert fewer place touch) (suc place) ∙ b)
 
 -- what is no start is there
@@ -198,7 +240,7 @@ last_further tables fewer touch place to near le around not_behind there on =
     let window = further tables fewer place touch le in
     let b : starts_in tables (insert fewer place touch) (suc (suc place)) ≡ true = cc in
     let within = none_starts_behind tables fewer touch place near around not_behind in
-    let last : IsLastPlace tables fewer touch place (suc place) = last_place_from_marks tables fewer touch place (suc place) (omega arith) (omega arith) (λ other lt far. absurd (omega arith)) (mark_by_place tables fewer (suc place) ∙ a)
+    let last : IsLastPlace tables fewer touch place (suc place) = last_place_from_marks tables fewer touch place (suc place) (omega arith) (omega arith) (λ other lt far. absurd (omega arith)) (λ far. absurd (omega (arith, far))) (mark_by_place tables fewer (suc place) ∙ a)
     (mark_by_place tables (insert fewer place touch) (suc (suc place)) ∙ b) in
     subst (IsLastPlace tables fewer touch place) (sym on) last
 
@@ -222,7 +264,7 @@ last_by_mark tables fewer touch true place first to marks near around placed not
     λ other le. sym (marks_behind_it tables fewer place other touch le placed.inside) ∙ ap (λ (list : List Bool). mark_in list (suc other)) (sym placed.marked) in
     let a : mark_in (starts tables fewer) to ≡ true = same to (omega arith) ∙ ap (mark_in marks) (sym on) ∙ marked in
     last_place_from_marks tables fewer touch place to (omega arith) (omega arith) (λ other lt before. same other (omega arith) ∙ none (suc other) (omega arith) (omega arith))
-    a (marks_behind_it tables fewer place to touch (omega arith) placed.inside ∙ a)
+    (λ far. goes_on_further tables fewer touch place near placed.inside around not_further) a (marks_behind_it tables fewer place to touch (omega arith) placed.inside ∙ a)
 last_by_mark tables fewer touch false place first to marks near around placed not_further at more far within marked none =
     let room = none_starts_further tables fewer touch place near around not_further in
     let many : length marks ≡ length fewer = ap length placed.marked ∙ as_many tables None None fewer in
@@ -230,7 +272,7 @@ last_by_mark tables fewer touch false place first to marks near around placed no
     let same : (other : ℕ) → mark_in (starts tables fewer) other ≡ mark_in marks other = λ other. ap (λ (list : List Bool). mark_in list other) (sym placed.marked) in
     let a : mark_in (starts tables fewer) to ≡ true = same to ∙ ap (mark_in marks) (sym on) ∙ marked in
     last_place_from_marks tables fewer touch place to (omega arith) (omega arith) (λ other lt before. same other ∙ none other (omega arith) (omega arith))
-    a (marks_behind_it tables fewer place to touch (omega arith) placed.inside ∙ a)
+    (λ far. goes_on_further tables fewer touch place near placed.inside around not_further) a (marks_behind_it tables fewer place to touch (omega arith) placed.inside ∙ a)
 
 -- ---- both
 
@@ -256,6 +298,8 @@ from_to tables fewer touch place from to a b = record {
   within = b.within;
   none_before = a.none_before;
   none_behind = b.none_behind;
+  goes_on_before = a.goes_on_before;
+  goes_on_behind = b.goes_on_behind;
   fewer_from = a.fewer_from;
   fewer_to = b.fewer_to;
   more_from = a.more_from;

@@ -7,8 +7,7 @@ use Rattle.std.proofs.lemmas.List.Sums.{fold-append}
 use Rattle.pay_tables.specs.Words.{FareTables}
 use Rattle.pay_links.specs.declared.journey.Journey.{Journey}
 use Rattle.pay_caps.specs.Words.{CellSums, cell_of, fare, sum_at, all_taken}
-use Rattle.pay_account.specs.Journeys.{is_on}
-use Rattle.pay_account.specs.Prices.{journeys_on}
+use Rattle.pay_account.specs.Words.{is_on, journeys_on}
 use Rattle.pay_book.specs.Days.{Days, kept_on, sums_on, day_of, AreKept, AreThere, StayKept}
 
 -- the journey at an index, and those behind it

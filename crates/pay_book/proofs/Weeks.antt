@@ -7,9 +7,8 @@ use Rattle.pay_day.specs.Words.{sunday}
 use Rattle.pay_caps.specs.Words.{CellSums, cells_of, no_fares, fares, day_price, day_price_of}
 use Rattle.pay_week.specs.Laws.{EmptyDayIsFree}
 use Rattle.pay_week.specs.WeekPrices.{week_price}
-use Rattle.pay_account.specs.Journeys.{is_on}
+use Rattle.pay_account.specs.Words.{is_on, journeys_on, days_through, price_of_day, price_of_week, prices_of_journeys}
 use Rattle.pay_account.specs.declared.Priced.{Priced}
-use Rattle.pay_account.specs.Prices.{journeys_on, days_through, price_of_day, price_of_week, prices_of_journeys}
 use Rattle.pay_book.specs.Days.{Days, kept_on, if_kept, kept_of, sums_on, day_of, AreKept, AreSums}
 use Rattle.pay_book.proofs.InStep.{same_day}
 

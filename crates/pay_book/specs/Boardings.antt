@@ -8,10 +8,7 @@ use Rattle.pay_taps.specs.Words.{put_in, place_of, AreTimed}
 use Rattle.pay_hopper.specs.Words.{instants_of, paying_marks, marks_by_last}
 use Rattle.pay_links.specs.declared.journey.Journey.{Journey}
 use Rattle.pay_links.specs.declared.journey.Journey.TheVariants as journey
-
--- a touch beside its mark
-abbrev pub boarding : Touch × Bool → Journey
-boarding marked = journey.Bus marked.0 marked.1
+use Rattle.pay_account.specs.Words.{boarding}
 
 -- the boardings of touches in order, where `last` is the moment of the last one before them that paid
 abbrev pub boarded_after : ℕ → Option Stamp → List Touch → List Journey

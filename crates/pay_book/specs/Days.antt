@@ -10,7 +10,7 @@ use Rattle.pay_tables.specs.Words.{FareTables}
 use Rattle.pay_fix.specs.declared.limits.TheConstants.{MOST_TOUCHES}
 use Rattle.pay_money.specs.declared.limits.TheConstants.{MOST_MONEY}
 use Rattle.pay_caps.specs.Words.{CellSums, cell_of, cells_of, no_fares, sum_at, total, fare, all_taken}
-use Rattle.pay_account.specs.Prices.{journeys_on}
+use Rattle.pay_account.specs.Words.{journeys_on}
 
 -- the days of which sums are kept, each with its own
 abbrev pub Days : Type 0

@@ -1,5 +1,5 @@
 -- What is kept of an account beside what it has accepted, and when that is right.
-use Rattle.std.specs.Prelude.{◌≡◌, ◌+◌, ◌≤◌, ◌<◌, ⊤, Bool, true, false, if◌then◌else◌, List, ◌∷◌, ◌++◌, length, filter, slice_get, Some, None}
+use Rattle.std.specs.Prelude.{◌≡◌, ℕ, ◌+◌, ◌≤◌, ◌<◌, ⊤, Bool, true, false, if◌then◌else◌, List, ◌∷◌, ◌++◌, length, filter, slice_get, Some, None}
 use Rattle.std.specs.List.{remove}
 use Rattle.std.specs.Vec.{vec_capacity, vec_len}
 use Rattle.pay_tables.specs.Words.{FareTables}
@@ -13,9 +13,10 @@ use Rattle.pay_hopper.specs.Words.{marks_by_last}
 use Rattle.pay_pairs.specs.Words.{legs}
 use Rattle.pay_links.specs.Words.{journeys, starts}
 use Rattle.pay_links.specs.declared.journey.Journey.{Journey}
-use Rattle.pay_account.specs.Journeys.{is_bus, is_rail}
+use Rattle.pay_account.specs.Words.{is_bus, is_rail}
 use Rattle.pay_book.specs.Boardings.{boarded}
-use Rattle.pay_book.specs.Fewer.{fewer_of}
+use Rattle.pay_book.specs.Disturbed.{disturbed_by_rail, disturbed_by_bus}
+use Rattle.pay_book.specs.Fewer.{fewer_of, more_of}
 use Rattle.pay_book.specs.Boardings.{IsDisturbed as AreDisturbed}
 use Rattle.pay_book.specs.Days.{AreKept, AreSums}
 use Rattle.pay_book.specs.Rail.{IsDisturbedBy}
@@ -72,6 +73,18 @@ pub record IsPossible (kept : Kept) (change : Change) : Type 0 where
   pub buses : IsPossibleFor is_bus change kept.buses.touches
   pub few : length kept.rail.touches + length kept.buses.touches ≤ MOST_TOUCHES
   pub few_then : length (taps_after is_rail change kept.rail.touches) + length (taps_after is_bus change kept.buses.touches) ≤ MOST_TOUCHES
+
+-- how many of the taps that are kept one disturbs that enters, or leaves where it is there
+abbrev pub disturbed_by : FareTables → Kept → Touch → Bool → ℕ
+disturbed_by tables kept touch is_there =
+    if is_bus touch then disturbed_by_bus tables.rules.hopper (more_of is_there touch kept.buses.touches) (place_of touch kept.buses.touches)
+    else disturbed_by_rail tables (more_of is_there touch kept.rail.touches) (place_of touch kept.rail.touches)
+
+-- and how many a change does
+abbrev pub disturbed_by_change : FareTables → Kept → Change → ℕ
+disturbed_by_change tables kept Nothing = 0
+disturbed_by_change tables kept (Enters touch) = disturbed_by tables kept touch false
+disturbed_by_change tables kept (Leaves touch) = disturbed_by tables kept touch true
 
 -- what a tap by rail disturbs as it enters or leaves, with room for it; sums are kept of the days of the journeys that there are then
 pub record IsPreparedByRail (tables : FareTables) (kept : Kept) (touch : Touch) (is_there : Bool) (found : Disturbed) : Type 0 where

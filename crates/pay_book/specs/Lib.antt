@@ -4,6 +4,7 @@ pub mod Days
 pub mod Boardings
 pub mod Stretches
 pub mod Rail
+pub mod Disturbed
 pub mod Kept
 pub mod Books
 pub mod Stored

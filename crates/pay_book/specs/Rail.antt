@@ -1,5 +1,5 @@
 -- What one rail tap more, or less, changes: the marks of the taps right next to it, and the journeys between two places around it.
-use Rattle.std.specs.Prelude.{◌≡◌, ◌≤◌, ◌<◌, ◌+◌, ◌-◌, ◌&&◌, ℕ, zero, suc, Bool, true, false, if◌then◌else◌, List, [], ◌∷◌, ◌++◌, take, drop, length, get_or, slice_get, Option, Some, None, refl}
+use Rattle.std.specs.Prelude.{◌≡◌, ◌⊎◌, ◌≤◌, ◌<◌, ◌+◌, ◌-◌, ◌&&◌, ℕ, zero, suc, Bool, true, false, if◌then◌else◌, List, [], ◌∷◌, ◌++◌, take, drop, length, get_or, slice_get, Option, Some, None, refl}
 use Rattle.std.specs.List.{insert, remove}
 use Rattle.pay_taps.specs.Words.{touch_before, place_of}
 use Rattle.pay_pairs.specs.Words.{FareTables, Touch, legs}
@@ -80,10 +80,15 @@ pub record IsPlaced (tables : FareTables) (fewer : List Touch) (touch : Touch) (
   pub inside : place ≤ length fewer
   pub marked : marks ≡ starts tables (if is_there then insert fewer place touch else fewer)
 
+-- no journey starts at a place of some taps, or none does at a place of some others
+abbrev pub GoesOnInOne : FareTables → List Touch → ℕ → List Touch → ℕ → Type 0
+GoesOnInOne tables taps place others other = (mark_in (starts tables taps) place ≡ false) ⊎ (mark_in (starts tables others) other ≡ false)
+
 -- a place up to that of a tap, at which the taps stand apart with it and without it, the nearest one but for the two right before it
 pub record IsFirstPlace (tables : FareTables) (fewer : List Touch) (touch : Touch) (place from : ℕ) : Type 0 where
   pub from_before : from ≤ place
   pub none_before : (other : ℕ) → from < other → suc other < place → mark_in (starts tables fewer) other ≡ false
+  pub goes_on_before : suc from < place → GoesOnInOne tables fewer (place - 1) (insert fewer place touch) (place - 1)
   pub fewer_from : IsCut tables fewer from
   pub more_from : IsCut tables (insert fewer place touch) from
 
@@ -91,6 +96,7 @@ pub record IsFirstPlace (tables : FareTables) (fewer : List Touch) (touch : Touc
 pub record IsLastPlace (tables : FareTables) (fewer : List Touch) (touch : Touch) (place to : ℕ) : Type 0 where
   pub to_behind : place ≤ to
   pub none_behind : (other : ℕ) → suc place < other → other < to → mark_in (starts tables fewer) other ≡ false
+  pub goes_on_behind : suc place < to → GoesOnInOne tables fewer (suc place) (insert fewer place touch) (suc (suc place))
   pub within : to ≤ length fewer
   pub fewer_to : IsCut tables fewer to
   pub more_to : IsCut tables (insert fewer place touch) (suc to)
@@ -111,6 +117,8 @@ pub record IsStretch (tables : FareTables) (fewer : List Touch) (touch : Touch) 
   pub within : to ≤ length fewer
   pub none_before : (other : ℕ) → from < other → suc other < place → mark_in (starts tables fewer) other ≡ false
   pub none_behind : (other : ℕ) → suc place < other → other < to → mark_in (starts tables fewer) other ≡ false
+  pub goes_on_before : suc from < place → GoesOnInOne tables fewer (place - 1) (insert fewer place touch) (place - 1)
+  pub goes_on_behind : suc place < to → GoesOnInOne tables fewer (suc place) (insert fewer place touch) (suc (suc place))
   pub fewer_from : IsCut tables fewer from
   pub fewer_to : IsCut tables fewer to
   pub more_from : IsCut tables (insert fewer place touch) from

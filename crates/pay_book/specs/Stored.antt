@@ -11,14 +11,14 @@ use Rattle.pay_fix.specs.declared.change.Change.{Change}
 use Rattle.pay_fix.specs.declared.fix.Fix.{Fix}
 use Rattle.pay_fix.specs.declared.limits.TheConstants.{MOST_FIXES, MOST_TOUCHES}
 use Rattle.pay_fix.specs.Words.{IsChanged, change_by_tap, change_by_fix, number as fix_number, judged as judged_fix}
-use Rattle.pay_account.specs.Words.{Accepted, touches, with_tap, with_fix}
+use Rattle.pay_account.specs.Words.{Accepted, touches, with_tap, with_fix, is_bus, is_rail, rail_journeys, journeys_of}
 use Rattle.pay_hopper.specs.Words.{instants_of, paying_marks, marks_by_last}
 use Rattle.pay_links.specs.Words.{starts, journeys_by_marks}
 use Rattle.pay_links.specs.declared.journey.Journey.{Journey}
-use Rattle.pay_account.specs.Journeys.{is_bus, is_rail, rail_journeys, journeys_of}
 use Rattle.pay_book.specs.Books.{BookParts}
 use Rattle.pay_book.specs.Days.{AreSums}
-use Rattle.pay_book.specs.Kept.{all_journeys, IsPossible, taps_after}
+use Rattle.pay_book.specs.Disturbed.{disturbed}
+use Rattle.pay_book.specs.Kept.{all_journeys, IsPossible, taps_after, disturbed_by_change}
 use Rattle.pay_book.specs.declared.kept.Kept.{Kept}
 
 -- what a book keeps is that of the effective taps of what it has accepted, by these tables
@@ -77,3 +77,8 @@ ChangeIsPossible = (change : Change) (before after : List Touch) (kept : Kept) �
 abbrev pub ChangeIsMade : Type 0
 ChangeIsMade = (change : Change) (before after : List Touch) (kept : Kept) → IsChange change before after → AreKeptTaps kept before
     → (taps_after is_rail change kept.rail.touches ≡ filter is_rail after) × (taps_after is_bus change kept.buses.touches ≡ filter is_bus after)
+
+-- and it disturbs as many of the kept taps as its command does of the effective ones
+abbrev pub ChangeDisturbs : Type 0
+ChangeDisturbs = (tables : FareTables) (change : Change) (before after : List Touch) (kept : Kept) → IsChange change before after → AreKeptTaps kept before
+    → disturbed_by_change tables kept change ≡ disturbed tables before after

@@ -3,7 +3,8 @@ ghost use Rattle.std.specs.Option.{option_map};
 ghost use Rattle.pay_taps.specs.declared.tap.Touch.{Touch};
 ghost use Rattle.pay_taps.specs.Words.{place_of, AreTimed};
 ghost use Rattle.pay_hopper.specs.Words.{pays_by_last, marks_by_last, last_paid_over};
-ghost use Rattle.pay_book.specs.Boardings.{boarding, boarded_after, IsDisturbed, is_paying, marked};
+ghost use Rattle.pay_account.specs.Words.{boarding};
+ghost use Rattle.pay_book.specs.Boardings.{boarded_after, IsDisturbed, is_paying, marked};
 ghost use Rattle.pay_book.specs.Fewer.{fewer_of};
 ghost use Rattle.pay_book.specs.Stretches.{with_later, Meet, HaveGoneOn};
 
@@ -65,6 +66,7 @@ impl Stretch {
 /// The moment of the tap at a place.
 fn moment_at(buses: &Timeline, place: usize, steps: &mut Steps) -> Option<Moment>
     ensures value { result ≡ option_map (λ tap. tap.stamp) (slice_get buses.now.touches place) }
+    ensures rises { steps.old ≤ steps.new }
     ensures steps { steps.new ≤ steps.old + 1 }
 {
     buses.at(place, steps).map(|tap| tap.stamp)
@@ -81,6 +83,7 @@ fn last_paid_before(
     requires marks { pays.now ≡ marks_by_last tables.now.rules.hopper None buses.now.touches }
     requires within { place ≤ length buses.now.touches }
     ensures value { result ≡ last_paid_over tables.now.rules.hopper None (take place buses.now.touches) }
+    ensures rises { steps.old ≤ steps.new }
     ensures steps { steps.new ≤ steps.old + 1 }
 {
     pay_hopper::laws::last_paid_by_marks();
@@ -105,6 +108,7 @@ fn disturbed_at(
         (pays_by_last tables.now.rules.hopper fewer.now.last_paid tap.stamp.utc
         && pays_by_last tables.now.rules.hopper more.now.last_paid tap.stamp.utc)
         ≡ false) }
+    ensures rises { steps.old ≤ steps.new }
     ensures steps { steps.new ≤ steps.old + 1 }
     ensures answer { MatchOption
         result
@@ -131,6 +135,7 @@ fn board_disturbed(
     steps: &mut Steps,
 ) -> Result<(), AllocError>
     requires { first ≤ length buses.now.touches }
+    ensures rises { steps.old ≤ steps.new }
     ensures steps { OnOk result (steps.new + length fewer.old.boardings.items ≤ steps.old + length fewer.new.boardings.items + 1) }
     ensures gone_on { OnOk result (HaveGoneOn (fewer.old, more.old) (fewer.new, more.new)) }
     ensures meet { OnOk result (Meet tables.now.rules.hopper (drop first buses.now.touches) (fewer.old, more.old) (fewer.new, more.new)) }
@@ -176,6 +181,7 @@ pub(crate) fn disturbed(
     requires there { is_there ≡ true → slice_get buses.now.touches (place_of touch.now buses.now.touches) ≡ Some touch.now }
     ensures within { IfOk result (λ found. place_of touch.now buses.now.touches ≤ length pays.now) }
     ensures there { IfOk result (λ found. is_there ≡ true → place_of touch.now buses.now.touches < length pays.now) }
+    ensures rises { steps.old ≤ steps.new }
     ensures steps { IfOk result (λ found. steps.new ≤ steps.old + length found.fewer.items + 2) }
     ensures disturbed { let fewer = fewer_of is_there (place_of touch.now buses.now.touches) buses.now.touches in
         IfOk result (λ found. IsDisturbed tables.now.rules.hopper fewer touch.now found.fewer.items found.more.items) }

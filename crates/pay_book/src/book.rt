@@ -1,9 +1,10 @@
-ghost use Rattle.std.specs.Prelude.{◌≡◌, List, Ok, OnOk, OnErr};
+ghost use Rattle.std.specs.Prelude.{◌≡◌, ◌≢◌, ◌≤◌, ◌+◌, ◌*◌, List, Ok, Err, OnOk, OnErr};
 ghost use Rattle.pay_day.specs.Words.{IsDay};
 ghost use Rattle.pay_numbered.specs.declared.numbered_set.Addition.TheVariants as Addition;
 ghost use Rattle.pay_taps.specs.Words.{judged};
 ghost use Rattle.pay_fix.specs.Words.{judged as judged_fix};
-ghost use Rattle.pay_account.specs.Words.{prices, prices_named, with_tap, with_fix};
+ghost use Rattle.pay_account.specs.Words.{prices, prices_named, with_tap, with_fix, touches, IsTapResult, after_tap, IsFixResult, after_fix};
+ghost use Rattle.pay_book.specs.Disturbed.{disturbed};
 ghost use Rattle.pay_book.specs.Stored.{IsKept};
 
 use crate::kept::Kept;
@@ -80,6 +81,50 @@ impl Book {
         }
     }
 
+    /// Accepts a tap and prices it, or refuses it, as `Fares` says. It reads at most 64 stored taps, and four for each one that it
+    /// disturbs: none is disturbed by a tap that is refused or repeated, or that a standing Void names.
+    pub fn tap(&mut self, tables: &Tables, tap: Tap) -> Result<Priced, TapFault>
+        requires own { tap.account ≡ self.old.account }
+        requires priced_by { IsKept tables.now self.old }
+        ensures same_account { self.new.account ≡ self.old.account }
+        ensures answer { IsTapResult result tables.now self.old.accepted tap }
+        ensures after { self.new.accepted ≡ after_tap result self.old.accepted tap }
+        ensures priced_by { IsKept tables.now self.new }
+        ensures steps { result ≢ Err TapFault.Memory → self.new.steps ≤ 64 + 4 * disturbed tables.now (touches self.old.accepted) (touches self.new.accepted) }
+    {
+        pay_account::laws::refusals();
+        self.steps = Steps::new();
+        match self.account.judge_tap(tables, &tap)? {
+            Addition::Repeat => Ok(self.prices(tables, true, tap.stamp.day())),
+            Addition::Added => {
+                self.add_tap(tables, tap)?;
+                Ok(self.prices(tables, false, tap.stamp.day()))
+            }
+        }
+    }
+
+    /// Accepts a correction and prices the day that it names, or refuses it, as `Fares` says. It reads at most 64 stored taps, and four
+    /// for each one that it disturbs: a Credit disturbs none.
+    pub fn fix(&mut self, tables: &Tables, fix: Fix) -> Result<Priced, FixFault>
+        requires own { fix.account ≡ self.old.account }
+        requires priced_by { IsKept tables.now self.old }
+        ensures same_account { self.new.account ≡ self.old.account }
+        ensures answer { IsFixResult result tables.now self.old.accepted fix }
+        ensures after { self.new.accepted ≡ after_fix result self.old.accepted fix }
+        ensures priced_by { IsKept tables.now self.new }
+        ensures steps { result ≢ Err FixFault.Memory → self.new.steps ≤ 64 + 4 * disturbed tables.now (touches self.old.accepted) (touches self.new.accepted) }
+    {
+        pay_account::laws::refusals_of_fixes();
+        self.steps = Steps::new();
+        match self.account.judge_fix(tables, &fix)? {
+            Addition::Repeat => Ok(self.prices_named(tables, true, &fix.what)),
+            Addition::Added => {
+                self.add_fix(tables, fix)?;
+                Ok(self.prices_named(tables, false, &fix.what))
+            }
+        }
+    }
+
     /// Accepts a tap that is judged to be accepted. An `Err` is out of memory: then it is as before.
     fn add_tap(&mut self, tables: &Tables, tap: Tap) -> Result<(), AllocError>
         requires own { tap.account ≡ self.old.account }
@@ -89,6 +134,8 @@ impl Book {
         ensures accepted { OnOk result (self.new.accepted ≡ with_tap self.old.accepted tap) }
         ensures same { OnErr result (self.new.accepted ≡ self.old.accepted) }
         ensures kept { IsKept tables.now self.new }
+        ensures rises { self.old.steps ≤ self.new.steps }
+        ensures steps { OnOk result (self.new.steps ≤ self.old.steps + 24 + 2 * disturbed tables.now (touches self.old.accepted) (touches self.new.accepted)) }
     {
         laws::changes();
         laws::tap_is_change();
@@ -112,6 +159,8 @@ impl Book {
         ensures accepted { OnOk result (self.new.accepted ≡ with_fix self.old.accepted fix) }
         ensures same { OnErr result (self.new.accepted ≡ self.old.accepted) }
         ensures kept { IsKept tables.now self.new }
+        ensures rises { self.old.steps ≤ self.new.steps }
+        ensures steps { OnOk result (self.new.steps ≤ self.old.steps + 24 + 2 * disturbed tables.now (touches self.old.accepted) (touches self.new.accepted)) }
     {
         laws::changes();
         laws::fix_is_change();
@@ -150,27 +199,11 @@ impl Fares for Book {
     }
 
     fn tap(&mut self, tables: &Tables, tap: Tap) -> Result<Priced, TapFault> {
-        pay_account::laws::refusals();
-        self.steps = Steps::new();
-        match self.account.judge_tap(tables, &tap)? {
-            Addition::Repeat => Ok(self.prices(tables, true, tap.stamp.day())),
-            Addition::Added => {
-                self.add_tap(tables, tap)?;
-                Ok(self.prices(tables, false, tap.stamp.day()))
-            }
-        }
+        Book::tap(self, tables, tap)
     }
 
     fn fix(&mut self, tables: &Tables, fix: Fix) -> Result<Priced, FixFault> {
-        pay_account::laws::refusals_of_fixes();
-        self.steps = Steps::new();
-        match self.account.judge_fix(tables, &fix)? {
-            Addition::Repeat => Ok(self.prices_named(tables, true, &fix.what)),
-            Addition::Added => {
-                self.add_fix(tables, fix)?;
-                Ok(self.prices_named(tables, false, &fix.what))
-            }
-        }
+        Book::fix(self, tables, fix)
     }
 
     fn show(&self, tables: &Tables, day: u32) -> Result<Shown, AllocError> {

@@ -7,7 +7,7 @@ ghost use Rattle.pay_tables.specs.declared.limits.TheConstants.{MOST_FARE};
 ghost use Rattle.pay_caps.specs.Words.{cell_of, cells_of, fare, sum_at, total, all_added, all_taken};
 ghost use Rattle.pay_week.specs.Words.{week_price};
 ghost use Rattle.pay_links.specs.declared.journey.Journey.{Journey};
-ghost use Rattle.pay_account.specs.Prices.{journeys_on, price_of_day, prices_of_journeys};
+ghost use Rattle.pay_account.specs.Words.{journeys_on, price_of_day, prices_of_journeys};
 ghost use Rattle.pay_book.specs.Days.{kept_on, sums_on, day_of, AreKept, AreSums, AreThere, CanReplace, HaveRoomFor, StayKept};
 
 use crate::day_sums::DaySums;

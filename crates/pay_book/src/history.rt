@@ -1,8 +1,7 @@
 //! A book by all that came to its account.
 ghost use Rattle.std.specs.Prelude.{◌≡◌, map, IfOk, OnOk};
 ghost use Rattle.std.specs.List.{AllByRecursion};
-ghost use Rattle.pay_account.specs.Words.{nothing};
-ghost use Rattle.pay_account.specs.Changes.{after, after_all};
+ghost use Rattle.pay_account.specs.Words.{nothing, after, after_all};
 ghost use Rattle.pay_book.specs.History.{account_of, change_of};
 ghost use Rattle.pay_book.specs.Stored.{IsKept, IsStored};
 
@@ -52,6 +51,7 @@ pub fn book_of(
     sent: &[Sent],
 ) -> Result<Book, AllocError>
     requires { AllByRecursion (λ one. account_of one ≡ account) sent.now }
+    ensures account { IfOk result (λ book. book.account ≡ account) }
     ensures accepted { IfOk result (λ book. book.accepted ≡ after_all tables.now nothing (map change_of sent.now)) }
     ensures stored { IfOk result (λ book. IsStored tables.now book) }
 {

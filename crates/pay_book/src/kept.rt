@@ -1,5 +1,5 @@
 //! What is kept of an account beside what it has accepted: its effective taps in order with a mark each, and the sums of its days.
-ghost use Rattle.std.specs.Prelude.{◌≡◌, ◌≤◌, ◌<◌, ◌+◌, [], ◌∷◌, List, length, true, false, if◌then◌else◌, Some, slice_get, OnOk, IfOk};
+ghost use Rattle.std.specs.Prelude.{◌≡◌, ◌≤◌, ◌<◌, ◌+◌, ◌*◌, [], ◌∷◌, List, length, true, false, if◌then◌else◌, Some, slice_get, OnOk, IfOk};
 ghost use Rattle.std.specs.List.{insert, remove};
 ghost use Rattle.std.specs.Vec.{vec_capacity, vec_len};
 ghost use Rattle.pay_fix.specs.declared.limits.TheConstants.{MOST_TOUCHES};
@@ -7,11 +7,12 @@ ghost use Rattle.pay_taps.specs.Words.{place_of, put_in, HaveOwnNumbers};
 ghost use Rattle.pay_tables.specs.Words.{FareTables};
 ghost use Rattle.pay_links.specs.declared.journey.Journey.{Journey};
 ghost use Rattle.pay_book.specs.Boardings.{IsDisturbed as AreDisturbed};
-ghost use Rattle.pay_book.specs.Fewer.{fewer_of};
+ghost use Rattle.pay_book.specs.Disturbed.{disturbed_by_rail, disturbed_by_bus};
+ghost use Rattle.pay_book.specs.Fewer.{fewer_of, more_of};
 ghost use Rattle.pay_book.specs.Days.{AreKept};
 ghost use Rattle.pay_fix.specs.declared.change.Change.TheVariants as Change;
-ghost use Rattle.pay_account.specs.Journeys.{is_bus, is_rail};
-ghost use Rattle.pay_book.specs.Kept.{IsRight, IsKeptOf, HasRoomByRail, HasRoomOnBuses, AreAsBefore, IsPossible, IsPrepared, IsPreparedFor, taps_after};
+ghost use Rattle.pay_account.specs.Words.{is_bus, is_rail};
+ghost use Rattle.pay_book.specs.Kept.{IsRight, IsKeptOf, HasRoomByRail, HasRoomOnBuses, AreAsBefore, IsPossible, IsPrepared, IsPreparedFor, taps_after, disturbed_by, disturbed_by_change};
 ghost use Rattle.pay_book.specs.Rail.{IsDisturbed, IsDisturbedBy};
 
 use crate::boardings::Boardings;
@@ -106,6 +107,8 @@ impl Kept {
         ensures room { OnOk result (HasRoomByRail self.new) }
         ensures opened { IfOk result (λ found. AreKept self.new.days (if is_there then found.fewer.items else found.more.items)) }
         ensures disturbed { IfOk result (λ found. IsDisturbedBy tables.now self.old.rail.touches touch.now is_there found.fewer.items found.more.items) }
+        ensures rises { steps.old ≤ steps.new }
+        ensures steps { OnOk result (steps.new ≤ steps.old + 8 + 2 * disturbed_by_rail tables.now (more_of is_there touch.now self.old.rail.touches) (place_of touch.now self.old.rail.touches)) }
     {
         self.reserve_by_rail()?;
         let found = rail::disturbed_by(
@@ -140,8 +143,12 @@ impl Kept {
         ensures inside { OnOk result (is_there ≡ true → place_of touch.now self.old.buses.touches < length self.new.pays.items) }
         ensures disturbed { let fewer = fewer_of is_there (place_of touch.now self.old.buses.touches) self.old.buses.touches in
             IfOk result (λ found. AreDisturbed tables.now.rules.hopper fewer touch.now found.fewer.items found.more.items) }
+        ensures rises { steps.old ≤ steps.new }
+        ensures steps { OnOk result (steps.new ≤ steps.old + 2 + disturbed_by_bus tables.now.rules.hopper (more_of is_there touch.now self.old.buses.touches) (place_of touch.now self.old.buses.touches)) }
     {
+        pay_taps::laws::places();
         self.reserve_on_buses()?;
+        self.buses.len();
         let found = boardings::disturbed(
             alloc,
             tables,
@@ -177,6 +184,8 @@ impl Kept {
         ensures right { IsRight tables.now self.new }
         ensures rail { self.new.rail.touches ≡ put_in touch self.old.rail.touches }
         ensures buses { self.new.buses.touches ≡ self.old.buses.touches }
+        ensures rises { steps.old ≤ steps.new }
+        ensures steps { steps.new ≤ steps.old + 16 }
     {
         pay_taps::laws::places();
         pay_links::laws::each_tap();
@@ -196,6 +205,8 @@ impl Kept {
         ensures right { IsRight tables.now self.new }
         ensures rail { self.new.rail.touches ≡ remove self.old.rail.touches (place_of touch.now self.old.rail.touches) }
         ensures buses { self.new.buses.touches ≡ self.old.buses.touches }
+        ensures rises { steps.old ≤ steps.new }
+        ensures steps { steps.new ≤ steps.old + 16 }
     {
         pay_links::laws::each_tap();
         let place = self.rail.remove(touch);
@@ -263,6 +274,8 @@ impl Kept {
         ensures same { AreAsBefore self.old self.new }
         ensures right { IsRight tables.now self.new }
         ensures prepared { IfOk result (λ repair. IsPreparedFor tables.now self.new touch.now is_there repair) }
+        ensures rises { steps.old ≤ steps.new }
+        ensures steps { OnOk result (steps.new ≤ steps.old + 8 + 2 * disturbed_by tables.now self.old touch.now is_there) }
     {
         if touch.kind == Kind::Bus {
             let found = self.prepare_bus(alloc, tables, touch, is_there, steps)?;
@@ -280,6 +293,8 @@ impl Kept {
         ensures right { IsRight tables.now self.new }
         ensures rail { self.new.rail.touches ≡ taps_after is_rail (Change.Enters touch.now) self.old.rail.touches }
         ensures buses { self.new.buses.touches ≡ taps_after is_bus (Change.Enters touch.now) self.old.buses.touches }
+        ensures rises { steps.old ≤ steps.new }
+        ensures steps { steps.new ≤ steps.old + 16 }
     {
         pay_taps::laws::places();
         match repair {
@@ -297,6 +312,8 @@ impl Kept {
         ensures right { IsRight tables.now self.new }
         ensures rail { self.new.rail.touches ≡ taps_after is_rail (Change.Leaves touch.now) self.old.rail.touches }
         ensures buses { self.new.buses.touches ≡ taps_after is_bus (Change.Leaves touch.now) self.old.buses.touches }
+        ensures rises { steps.old ≤ steps.new }
+        ensures steps { steps.new ≤ steps.old + 16 }
     {
         match repair {
             Repair::Nothing => {}
@@ -318,6 +335,8 @@ impl Kept {
         ensures same { AreAsBefore self.old self.new }
         ensures right { IsRight tables.now self.new }
         ensures prepared { IfOk result (λ repair. IsPrepared tables.now self.new change.now repair) }
+        ensures rises { steps.old ≤ steps.new }
+        ensures steps { OnOk result (steps.new ≤ steps.old + 8 + 2 * disturbed_by_change tables.now self.old change.now) }
     {
         match change {
             Change::Nothing => Ok(Repair::Nothing),
@@ -340,6 +359,8 @@ impl Kept {
         ensures right { IsRight tables.now self.new }
         ensures rail { self.new.rail.touches ≡ taps_after is_rail change.now self.old.rail.touches }
         ensures buses { self.new.buses.touches ≡ taps_after is_bus change.now self.old.buses.touches }
+        ensures rises { steps.old ≤ steps.new }
+        ensures steps { steps.new ≤ steps.old + 16 }
     {
         match change {
             Change::Nothing => {}

@@ -5,7 +5,7 @@ ghost use Rattle.std.specs.Prelude.{List, [], ◌≡◌};
 ghost use Rattle.pay_tables.specs.Words.{FareTables};
 ghost use Rattle.pay_book.specs.Books.{BookParts};
 ghost use Rattle.pay_book.specs.Kept.{ChangesEachKind, ChangesArePossible};
-ghost use Rattle.pay_book.specs.Stored.{IsKept, IsStored, TapIsChange, FixIsChange, ChangeIsPossible, ChangeIsMade};
+ghost use Rattle.pay_book.specs.Stored.{IsKept, IsStored, TapIsChange, FixIsChange, ChangeIsPossible, ChangeIsMade, ChangeDisturbs};
 
 use pay_fix::Fix;
 use pay_taps::Tap;
@@ -33,6 +33,7 @@ pub(crate) fn changes()
     ensures possible { ChangesArePossible }
     ensures can_be { ChangeIsPossible }
     ensures made { ChangeIsMade }
+    ensures disturbs { ChangeDisturbs }
 {
     pay_taps::laws::places();
     pay_taps::laws::timed();

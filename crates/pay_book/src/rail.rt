@@ -1,11 +1,11 @@
 //! Rail taps that enter or leave: where journeys start then, and which journeys it changes.
-ghost use Rattle.std.specs.Prelude.{◌≡◌, ◌<◌, ◌≤◌, ◌+◌, ◌-◌, ◌++◌, true, length, slice_get, Some, IfOk, OnOk};
-ghost use Rattle.std.specs.List.{flat_map};
+ghost use Rattle.std.specs.Prelude.{◌≡◌, ◌<◌, ◌≤◌, ◌+◌, ◌-◌, ◌*◌, ◌++◌, true, length, slice_get, Some, IfOk, OnOk};
 ghost use Rattle.pay_taps.specs.Words.{place_of};
 ghost use Rattle.pay_pairs.specs.Words.{legs};
-ghost use Rattle.pay_links.specs.Words.{starts, journeys, taps_of_journey};
+ghost use Rattle.pay_links.specs.Words.{starts, journeys};
 ghost use Rattle.pay_book.specs.Rail.{second_before, mark_in, AreMarkedElsewhere, taps_in, at_most_one, IsDisturbedBy};
-ghost use Rattle.pay_book.specs.Fewer.{fewer_of};
+ghost use Rattle.pay_book.specs.Disturbed.{disturbed_by_rail};
+ghost use Rattle.pay_book.specs.Fewer.{fewer_of, more_of};
 
 use crate::stretch::{Stretch, stretch_around, tap_at};
 use pay_links::Journey;
@@ -24,6 +24,7 @@ pub(crate) struct Disturbed {
 #[tactic(auto, using(crate::proofs::Fewer::at_most_one_read))]
 fn second_before(rail: &Timeline, place: usize, steps: &mut Steps) -> Option<Touch>
     ensures value { result ≡ second_before rail.now.touches place }
+    ensures rises { steps.old ≤ steps.new }
     ensures steps { steps.new ≤ steps.old + 1 }
 {
     if place == 0 {
@@ -37,6 +38,7 @@ fn second_before(rail: &Timeline, place: usize, steps: &mut Steps) -> Option<Tou
 fn mark_of(tables: &Tables, rail: &Timeline, place: usize, steps: &mut Steps) -> bool
     requires { place < length rail.now.touches }
     ensures value { result ≡ mark_in (starts tables.now rail.now.touches) place }
+    ensures rises { steps.old ≤ steps.new }
     ensures steps { steps.new ≤ steps.old + 4 }
 {
     let Some(tap) = rail.at(place, steps) else {
@@ -58,6 +60,7 @@ pub(crate) fn mark_again(
 )
     requires { AreMarkedElsewhere tables.now rail.now.touches place marks.old }
     ensures marks { marks.new ≡ starts tables.now rail.now.touches }
+    ensures rises { steps.old ≤ steps.new }
     ensures steps { steps.new ≤ steps.old + 16 }
 {
     let end = place.saturating_add(3).min(marks.len());
@@ -88,6 +91,7 @@ fn taps_of_stretch(
 ) -> Result<Vec<Touch>, AllocError>
     requires { stretch.now.from ≤ stretch.now.to }
     ensures taps { IfOk result (λ taps. taps.items ≡ taps_in stretch.now.from stretch.now.to (fewer_of is_there place rail.now.touches)) }
+    ensures rises { steps.old ≤ steps.new }
     ensures steps { steps.new ≤ steps.old + (stretch.now.to - stretch.now.from) }
 {
     let mut taps = Vec::with_capacity(alloc, (stretch.to - stretch.from).saturating_add(1))?;
@@ -120,11 +124,13 @@ pub(crate) fn disturbed_by(
     requires marked { marks.now ≡ starts tables.now rail.now.touches }
     ensures disturbed { IfOk result (λ d. IsDisturbedBy tables.now rail.now.touches touch.now is_there d.fewer.items d.more.items) }
     ensures few { IfOk result (λ d. (length d.fewer.items ≤ 4) × (length d.more.items ≤ 5)) }
-    ensures steps { IfOk result (λ d. steps.new ≤ steps.old + 6 + length (flat_map taps_of_journey d.fewer.items)) }
+    ensures rises { steps.old ≤ steps.new }
+    ensures steps { OnOk result (steps.new ≤ steps.old + 8 + 2 * disturbed_by_rail tables.now (more_of is_there touch.now rail.now.touches) (place_of touch.now rail.now.touches)) }
 {
     pay_links::laws::starts_are_local();
     pay_links::laws::each_tap();
     pay_links::laws::cut();
+    pay_taps::laws::places();
     let place = rail.place(touch);
     let stretch = stretch_around(tables, rail, marks, touch, place, is_there, steps);
     let mut taps = taps_of_stretch(alloc, rail, place, is_there, &stretch, steps)?;

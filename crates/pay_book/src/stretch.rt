@@ -40,6 +40,7 @@ pub(crate) fn tap_at(
     steps: &mut Steps,
 ) -> Option<Touch>
     ensures value { result ≡ slice_get (fewer_of is_there place rail.now.touches) at }
+    ensures rises { steps.old ≤ steps.new }
     ensures steps { steps.new ≤ steps.old + 1 }
 {
     if is_there && place <= at {
@@ -58,6 +59,7 @@ fn first_before(
     steps: &mut Steps,
 ) -> Option<Touch>
     ensures value { result ≡ touch_before (fewer_of is_there place rail.now.touches) at }
+    ensures rises { steps.old ≤ steps.new }
     ensures steps { steps.new ≤ steps.old + 1 }
 {
     if at == 0 {
@@ -75,6 +77,7 @@ fn second_before(
     steps: &mut Steps,
 ) -> Option<Touch>
     ensures value { result ≡ second_before (fewer_of is_there place rail.now.touches) at }
+    ensures rises { steps.old ≤ steps.new }
     ensures steps { steps.new ≤ steps.old + 1 }
 {
     if at == 0 {
@@ -92,6 +95,7 @@ fn third_before(
     steps: &mut Steps,
 ) -> Option<Touch>
     ensures value { result ≡ third_before (fewer_of is_there place rail.now.touches) at }
+    ensures rises { steps.old ≤ steps.new }
     ensures steps { steps.new ≤ steps.old + 1 }
 {
     if at == 0 {
@@ -110,6 +114,7 @@ fn tap_after(
     steps: &mut Steps,
 ) -> Option<Touch>
     ensures value { result ≡ slice_get (fewer_of is_there place rail.now.touches) (place + by) }
+    ensures rises { steps.old ≤ steps.new }
     ensures steps { steps.new ≤ steps.old + 1 }
 {
     let at = place.saturating_add(by);
@@ -122,6 +127,7 @@ fn tap_after(
 /// The taps next to the place of a tap, without it.
 fn taps_around(rail: &Timeline, place: usize, is_there: bool, steps: &mut Steps) -> Around
     ensures taps { IsAround (fewer_of is_there place rail.now.touches) place result }
+    ensures rises { steps.old ≤ steps.new }
     ensures steps { steps.new ≤ steps.old + 6 }
 {
     Around {
@@ -269,6 +275,7 @@ pub(crate) fn stretch_around(
     requires there { StandsThere is_there place touch.now rail.now.touches }
     requires marked { marks.now ≡ starts tables.now rail.now.touches }
     ensures stretch { IsStretch tables.now (fewer_of is_there place rail.now.touches) touch.now place result.from result.to }
+    ensures rises { steps.old ≤ steps.new }
     ensures steps { steps.new ≤ steps.old + 6 }
 {
     let near = taps_around(rail, place, is_there, steps);

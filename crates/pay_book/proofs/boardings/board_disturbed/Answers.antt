@@ -8,6 +8,7 @@ loop-place-preserved c = record {
   more = one_further c.args.tables.now.rules.hopper c.loop-place.more c.board-in-loop-place.new.self c.args.buses.now.touches c.loop-place.place c.in-Some.tap _ c.in-Some.ensures.answer c.loop-place.invariant.more c.in_ok-board-2.ensures.later;
   gone_on = gone_further (c.args.fewer.now, c.args.more.now) (c.loop-place.fewer, c.loop-place.more) (c.board.new.self, c.board-in-loop-place.new.self) _ _ c.loop-place.invariant.gone_on
       c.in_ok-board.ensures.boarded c.in_ok-board-2.ensures.boarded c.in-Some.ensures.once;
+  rises = omega (arith, c.disturbed_at.ensures.rises, c.loop-place.invariant.rises);
   steps = let one = grown c.loop-place.fewer c.board.new.self _ c.in_ok-board.ensures.boarded in let read = c.disturbed_at.ensures.steps in let before = c.loop-place.invariant.steps in omega arith;
 }
 
@@ -16,5 +17,6 @@ loop-place-init c = record {
   fewer = refl;
   more = refl;
   gone_on = gone_nowhere (c.args.fewer.now, c.args.more.now);
+  rises = omega arith;
   steps = omega arith;
 }

@@ -3,7 +3,8 @@ use Rattle.pay_pairs.specs.Words.{legs}
 use Rattle.pay_links.specs.Words.{journeys}
 use Rattle.pay_book.specs.Fewer.{fewer_of}
 use Rattle.pay_book.proofs.Between.{finished}
-use Rattle.pay_book.proofs.FewJourneys.{few_finished, taps_finished}
+use Rattle.pay_book.proofs.DisturbedRail.{few_around}
+use Rattle.pay_book.proofs.FewJourneys.{few_finished}
 use Rattle.pay_book.proofs.rail.disturbed_by.Goals as goal
 
 pub returns-clause-disturbed : goal.returns-clause-disturbed
@@ -26,10 +27,8 @@ returns-clause-few c =
 
 pub returns-clause-steps : goal.returns-clause-steps
 returns-clause-steps c =
-    let taps = taps_finished c.each_tap.ensures c.args.tables.now (fewer_of c.args.is_there c.place-place.result c.args.rail.now.touches)
-    c.stretch_around-stretch.result.from c.stretch_around-stretch.result.to c.in_ok-taps.taps.items c.in_ok-fewer.fewer.items
-    c.stretch_around-stretch.ensures.stretch.within c.in_ok-taps.ensures.taps
-    (c.in_ok-fewer.ensures ∙ ap (λ l. journeys c.args.tables.now (legs c.args.tables.now l)) c.deref.ensures.value) in
+    let few = few_around c.starts_are_local.ensures.local c.each_tap.ensures c.args.tables.now c.places.ensures.put_in c.args.rail.now.touches c.args.touch.now c.args.is_there c.place-place.result
+    c.stretch_around-stretch.result.from c.stretch_around-stretch.result.to c.requires.there c.place-place.ensures.place c.place-place.ensures.within c.stretch_around-stretch.ensures.stretch in
     let read = c.taps_of_stretch.ensures.steps in
     let near = c.stretch_around-stretch.ensures.steps in
-    omega arith
+    omega (arith, few, read, near)

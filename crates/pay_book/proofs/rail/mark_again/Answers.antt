@@ -10,6 +10,7 @@ loop-at-init c =
       marked = marked_around c.args.tables.now c.args.rail.now.touches c.args.place _ c.min-end.result c.args.marks.now c.requires low
           (reached c.args.place c.saturating_add.result c.min-end.result (length c.args.marks.now) c.saturating_add.ensures c.min-end.ensures few);
       span = omega arith;
+      rises = omega arith;
       steps = omega arith;
     }
 

@@ -6,6 +6,7 @@ use Rattle.pay_book.proofs.rail.taps_of_stretch.Goals as goal
 pub loop-at-init : goal.loop-at-init
 loop-at-init c = record {
   taps = c.in_ok-taps.ensures.items ∙ sym (none_in (fewer_of c.args.is_there c.args.place c.args.rail.now.touches) c.args.stretch.now.from);
+  rises = omega arith;
   steps = omega arith;
 }
 
@@ -13,6 +14,7 @@ pub loop-at-preserved : goal.loop-at-preserved
 loop-at-preserved c = record {
   taps = grown (fewer_of c.args.is_there c.args.place c.args.rail.now.touches) c.args.stretch.now.from c.loop-at.at c.loop-at.taps.items _ c.tap_at.result (omega arith)
       c.in_ok-add_tap.ensures c.loop-at.invariant.taps c.tap_at.ensures.value;
+  rises = omega arith;
   steps = omega arith;
 }
 

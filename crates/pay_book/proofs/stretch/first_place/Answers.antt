@@ -16,4 +16,4 @@ returns-then-starts_before_it c = λ fewer is_there around placed.
 
 pub returns : goal.returns
 returns c = λ fewer is_there around placed.
-    first_by_mark c.args.tables.now fewer c.args.touch.now is_there c.args.place c.last_start.result c.args.marks.now placed c.last_start.ensures.within c.last_start.ensures.marked c.last_start.ensures.none
+    first_by_mark c.args.tables.now fewer c.args.touch.now is_there c.args.place c.last_start.result c.args.marks.now c.args.near.now around placed (search rules) c.last_start.ensures.within c.last_start.ensures.marked c.last_start.ensures.none

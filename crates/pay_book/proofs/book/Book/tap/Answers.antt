@@ -2,7 +2,7 @@ use Rattle.std.proofs.Common.{◌∙◌, ap}
 use Rattle.pay_account.specs.Words.{tap_result}
 use Rattle.pay_book.specs.Books.{BookParts}
 use Rattle.pay_book.proofs.Accepting.{tap_again, tap_more}
-use Rattle.pay_book.proofs.book.BookFares.tap.Goals as goal
+use Rattle.pay_book.proofs.book.Book.tap.Goals as goal
 
 pub returns-in-Repeat-clause-answer : goal.returns-in-Repeat-clause-answer
 returns-in-Repeat-clause-answer c =
