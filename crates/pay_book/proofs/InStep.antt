@@ -1,5 +1,5 @@
 -- Days in ascending order and their sums: what is kept of a day, and of all days after a change of one.
-use Rattle.std.proofs.Common.{◌≡◌, ◌≢◌, ◌↔◌, ◌==◌, IsTrue, IsSome, unwrap_or, ℕ, zero, suc, ◌<◌, ◌≤◌, Bool, true, false, cond, Option, Some, None, List, [], ◌∷◌, length, get_or, slice_get, slice_set, ◌⊎◌, inl, inr, refl, sym, ap, ◌∙◌, subst, arith}
+use Rattle.std.proofs.Common.{◌≡◌, ◌≢◌, ◌↔◌, ◌==◌, IsTrue, IsSome, unwrap_or, ℕ, zero, suc, ◌+◌, ◌<◌, ◌≤◌, Bool, true, false, cond, Option, Some, None, List, [], ◌∷◌, length, get_or, slice_get, slice_set, ◌⊎◌, inl, inr, refl, sym, ap, ◌∙◌, subst, arith}
 use Rattle.std.specs.BTreeMap.{is_at}
 use Rattle.std.specs.Cmp.{nat_cmp_is}
 use Rattle.std.specs.List.{insert, zip, AllByRecursion}
@@ -10,7 +10,7 @@ use Rattle.std.specs.Ordering.{nat_cmp, is_eq}
 use Rattle.std.specs.declared.cmp.Ordering.TheVariants.{Less, Equal, Greater}
 use mathlib.Core.Logic.{⊎_elim}
 use Rattle.std.proofs.lemmas.Bool.{cases_lt, eqb-true, ltb-true, ltb-false, lt-ltb}
-use Rattle.pay_caps.specs.Words.{CellSums, no_fares}
+use Rattle.pay_caps.specs.Words.{CellSums, no_fares, total}
 use Rattle.pay_book.specs.Days.{Days, kept_on, sums_on, StayKept}
 use Rattle.pay_book.specs.InStep.{AreRising, IsPlaceOf, AreInStep}
 
@@ -186,6 +186,27 @@ some_within (d ∷ days) [] place day long there = absurd (omega arith)
 some_within (d ∷ days) (s ∷ sums) zero day long there = refl
 some_within (d ∷ days) (s ∷ sums) (suc place) day long there = some_within days sums place day (omega arith) there
 
+within : (days : List ℕ) (place : ℕ) (day : ℕ) → slice_get days place ≡ Some day → place < length days
+within [] place day there = absurd (cc)
+within (d ∷ days) zero day there = omega arith
+within (d ∷ days) (suc place) day there = omega (arith, within days place day there)
+
+-- a day that is kept stands at its place
+stands_if_kept : (day : ℕ) (days : List ℕ) (sums : List CellSums) (place : ℕ) → AreRising days → IsPlaceOf day days place → IsSome (lookup (is_at (nat_cmp day)) (zip days sums)) → slice_get days place ≡ Some day
+stands_if_kept day [] sums place rising at some = absurd (cc)
+stands_if_kept day (d ∷ days) [] place rising at some = absurd (cc)
+stands_if_kept day (d ∷ days) (s ∷ sums) zero rising at some =
+    ⊎_elim
+    (λ lt.
+    let none : lookup (is_at (nat_cmp day)) (zip (d ∷ days) (s ∷ sums)) ≡ None =
+    ap (λ b. cond b (Some s) (lookup (is_at (nat_cmp day)) (zip days sums))) (not_behind day d lt) ∙ none_behind day days sums (all_further day d days lt rising.0) in
+    let some_of_none = subst IsSome none some in
+    absurd (cc))
+    (λ le. let same : d ≡ day = omega arith in ap Some same)
+    (cases_lt day d)
+stands_if_kept day (d ∷ days) (s ∷ sums) (suc place) rising at some =
+    stands_if_kept day days sums place rising.1 at.1 (subst IsSome (ap (λ b. cond b (Some s) (lookup (is_at (nat_cmp day)) (zip days sums))) (not_before day d at.0)) some)
+
 pub item_there : (day : ℕ) (days : List ℕ) (sums : List CellSums) (place : ℕ) (x : CellSums) → length days ≡ length sums → slice_get days place ≡ Some day → x ≡ get_or sums place x → Some x ≡ slice_get sums place
 item_there day [] sums place x long there is = absurd (cc)
 item_there day (d ∷ days) [] place x long there is = absurd (omega arith)
@@ -195,11 +216,39 @@ item_there day (d ∷ days) (s ∷ sums) (suc place) x long there is = item_ther
 pub some_there : (day : ℕ) (days : List ℕ) (sums : List CellSums) (place : ℕ) (whole : Days) → AreInStep days sums → Stands day days place → zip days sums ≡ whole → IsSome (kept_on whole day)
 some_there day days sums place whole step at is = subst IsSome (sym (kept_there day days sums place whole step at is)) (some_within days sums place day step.as_long at.there)
 
-pub set_kept : (day : ℕ) (days : List ℕ) (sums more : List CellSums) (place : ℕ) (x : CellSums) (whole : Days) → AreInStep days sums → Stands day days place → zip days sums ≡ whole → more ≡ slice_set sums place x
-    → (other : ℕ) → kept_on (zip days more) other ≡ cond (is_at (nat_cmp day) other) (Some x) (kept_on whole other)
-set_kept day days sums more place x whole step at is are other =
-    ap (λ (list : List CellSums). kept_on (zip days list) other) are ∙ set_there other day days sums place x step.as_long at.at at.there
-    ∙ ap (λ (list : Days). cond (is_at (nat_cmp day) other) (Some x) (kept_on list other)) is
+-- a change of the sums of a day that is kept
+module _ (day : ℕ) (days lent : List ℕ) (sums : List CellSums) (place : ℕ) (whole : Days) (step : AreInStep days sums) (is : zip days sums ≡ whole) (same : lent ≡ days) (at : IsPlaceOf day lent place)
+    (some : IsSome (kept_on whole day)) where
+  its_place : IsPlaceOf day days place
+  its_place = subst (λ (list : List ℕ). IsPlaceOf day list place) same at
+
+  it_stands : Stands day days place
+  it_stands = record { at = its_place; there = stands_if_kept day days sums place step.rising its_place (subst (λ (list : Days). IsSome (kept_on list day)) (sym is) some) }
+
+  pub place_within : place < length sums
+  place_within = omega (arith, step.as_long, within days place day it_stands.there)
+
+  pub its_sums : (x : CellSums) → x ≡ get_or sums place x → x ≡ sums_on whole day
+  its_sums x item =
+      ap (λ (o : Option CellSums). unwrap_or o no_fares)
+      (item_there day days sums place x step.as_long it_stands.there item ∙ sym (kept_there day days sums place whole step it_stands is))
+
+  pub changed_kept : (change : CellSums → CellSums) (x y : CellSums) → x ≡ get_or sums place x → y ≡ change x
+      → (other : ℕ) → kept_on (zip days (slice_set sums place y)) other ≡ cond (is_at (nat_cmp day) other) (Some (change (sums_on whole day))) (kept_on whole other)
+  changed_kept change x y item changed other =
+      set_there other day days sums place y step.as_long it_stands.at it_stands.there
+      ∙ ap (λ (list : Days). cond (is_at (nat_cmp day) other) (Some y) (kept_on list other)) is
+      ∙ ap (λ (z : CellSums). cond (is_at (nat_cmp day) other) (Some z) (kept_on whole other)) (changed ∙ ap change (its_sums x item))
+
+  pub sum_within : (pence : ℕ) (x y : CellSums) → x ≡ get_or sums place x → total y ≡ total x + pence
+      → (other : ℕ) → total (sums_on (zip days (slice_set sums place y)) other) ≤ total (sums_on whole other) + pence
+  sum_within pence x y item more other =
+      subst (λ (o : Option CellSums). total (unwrap_or o no_fares) ≤ total (sums_on whole other) + pence) (sym (changed_kept (λ _. y) x y item refl other))
+      (⊎_elim
+      (λ here. subst (λ (d : ℕ). total (unwrap_or (cond (is_at (nat_cmp day) d) (Some y) (kept_on whole d)) no_fares) ≤ total (sums_on whole d) + pence) here
+      (subst (λ b. total (unwrap_or (cond b (Some y) (kept_on whole day)) no_fares) ≤ total (sums_on whole day) + pence) (sym (at_itself day)) (omega (arith, more, ap total (its_sums x item)))))
+      (λ apart. subst (λ b. total (unwrap_or (cond b (Some y) (kept_on whole other)) no_fares) ≤ total (sums_on whole other) + pence) (sym apart) (omega arith))
+      (either day other))
 
 -- a further day
 module _ (day : ℕ) (days more : List ℕ) (sums with_more : List CellSums) (place : ℕ) (whole : Days) (step : AreInStep days sums) (at : StandsNot day days place) (is : zip days sums ≡ whole)

@@ -1,13 +1,17 @@
-ghost use Rattle.std.specs.Prelude.{◌≡◌, ◌≤◌, ◌<◌, ◌+◌, ◌^◌, ◌↔◌, [], ℕ, IsSome, IsTrue, Some, ◌-◌, cond, length, take, drop, slice_get, OnOk};
+ghost use Rattle.std.specs.Prelude.{◌≡◌, ◌≤◌, ◌<◌, ◌+◌, ◌^◌, ◌↔◌, [], ℕ, IsSome, IsTrue, Some, ◌-◌, cond, length, take, drop, option_map, slice_get, OnOk};
 ghost use Rattle.std.specs.BTreeMap.{is_at};
 ghost use Rattle.std.specs.List.{range_with_len};
 ghost use Rattle.std.specs.Ordering.{nat_cmp};
 ghost use Rattle.std.specs.Vec.{vec_capacity, vec_len};
+ghost use Rattle.pay_money.specs.declared.limits.TheConstants.{MOST_MONEY};
+ghost use Rattle.pay_tables.specs.declared.limits.TheConstants.{MOST_ZONES};
+ghost use Rattle.pay_caps.specs.Words.{IsCell, added, taken, sum_at, total};
 ghost use Rattle.pay_book.specs.Days.{kept_on, kept_of, sums_on, StayKept};
 ghost use Rattle.pay_book.specs.InStep.{AreRising, IsPlaceOf};
 
 use crate::put_in::put_in;
-use pay_caps::Cells;
+use pay_caps::{Cell, Cells};
+use pay_money::Pence;
 use std::alloc::{AllocError, Global};
 use std::marker::Model;
 
@@ -86,12 +90,12 @@ impl DaySums {
     }
 
     /// The sums of a day, where they are kept.
-    pub(crate) fn get(&self, day: u32) -> Option<Cells>
-        ensures { result ≡ kept_on self.now day }
+    pub(crate) fn get(&self, day: u32) -> Option<&Cells>
+        ensures { option_map (λ cells. cells.now) result ≡ kept_on self.now day }
     {
         let place = place_in(&self.days, day);
         if stands_at(&self.days, place, day) {
-            Some(self.sums[place])
+            Some(&self.sums[place])
         } else {
             None
         }
@@ -108,15 +112,27 @@ impl DaySums {
         between(&self.sums, from, to)
     }
 
-    /// Keeps other sums of a day, of which some are kept.
-    pub(crate) fn set(&mut self, day: u32, cells: Cells)
-        requires { IsSome (kept_on self.old day) }
-        ensures { (other : ℕ) → kept_on self.new other ≡ cond (is_at (nat_cmp day) other) (Some cells) (kept_on self.old other) }
+    /// Adds a fare to the sums of a day, which are kept.
+    pub(crate) fn add(&mut self, day: u32, cell: Cell, fare: Pence)
+        requires kept { IsSome (kept_on self.old day) }
+        requires is_cell { IsCell MOST_ZONES cell }
+        requires fits { total (sums_on self.old day) + fare ≤ MOST_MONEY }
+        ensures sums { (other : ℕ) → kept_on self.new other ≡ cond (is_at (nat_cmp day) other) (Some (added cell fare (sums_on self.old day))) (kept_on self.old other) }
+        ensures in_range { (other : ℕ) → total (sums_on self.new other) ≤ total (sums_on self.old other) + fare }
     {
         let place = place_in(&self.days, day);
-        if stands_at(&self.days, place, day) {
-            self.sums[place] = cells;
-        }
+        self.sums[place].add(cell, fare);
+    }
+
+    /// Takes a fare from the sums of a day, which are kept.
+    pub(crate) fn take(&mut self, day: u32, cell: Cell, fare: Pence)
+        requires kept { IsSome (kept_on self.old day) }
+        requires is_cell { IsCell MOST_ZONES cell }
+        requires there { fare ≤ sum_at cell (sums_on self.old day) }
+        ensures { (other : ℕ) → kept_on self.new other ≡ cond (is_at (nat_cmp day) other) (Some (taken cell fare (sums_on self.old day))) (kept_on self.old other) }
+    {
+        let place = place_in(&self.days, day);
+        self.sums[place].take(cell, fare);
     }
 
     /// Keeps sums of a day: no fares, where none were kept. An `Err` is out of memory.

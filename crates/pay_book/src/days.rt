@@ -20,16 +20,6 @@ use pay_money::Pence;
 use pay_tables::Tables;
 use std::alloc::AllocError;
 
-/// The sums of a day: where none are kept, no fares.
-pub(crate) fn sums(days: &DaySums, day: u32) -> Cells
-    ensures { result ≡ sums_on days.now day }
-{
-    match days.get(day) {
-        Some(cells) => cells,
-        None => Cells::new(),
-    }
-}
-
 /// Keeps sums of the day of each of these journeys, and changes none. An `Err` is out of memory.
 pub(crate) fn open_all(days: &mut DaySums, journeys: &[Journey]) -> Result<(), AllocError>
     ensures same { (other : ℕ) → sums_on days.new other ≡ sums_on days.old other }
@@ -52,9 +42,7 @@ fn add(days: &mut DaySums, tables: &Tables, journey: &Journey)
 {
     pay_caps::laws::day_prices(tables);
     let day = journey.first_tap().stamp.day();
-    let mut cells = sums(days, day);
-    cells.add(cell_of(tables, journey), fare(tables, journey));
-    days.set(day, cells);
+    days.add(day, cell_of(tables, journey), fare(tables, journey));
 }
 
 /// Takes the fare of a journey from the sums of its day.
@@ -66,9 +54,7 @@ fn take(days: &mut DaySums, tables: &Tables, journey: &Journey)
 {
     pay_caps::laws::day_prices(tables);
     let day = journey.first_tap().stamp.day();
-    let mut cells = sums(days, day);
-    cells.take(cell_of(tables, journey), fare(tables, journey));
-    days.set(day, cells);
+    days.take(day, cell_of(tables, journey), fare(tables, journey));
 }
 
 /// Adds the fares of journeys to the sums of their days.
@@ -127,7 +113,7 @@ fn day_of(tables: &Tables, days: &DaySums, day: u32) -> Pence
     pay_caps::laws::day_prices(tables);
     pay_caps::laws::bounds();
     match days.get(day) {
-        Some(cells) => pay_caps::day_price(tables, &cells).0,
+        Some(cells) => pay_caps::day_price(tables, cells).0,
         None => Pence::ZERO,
     }
 }
