@@ -128,6 +128,14 @@ fn less(sum: u32, fare: Pence) -> u32
     sum - fare.pence() as u32
 }
 
+impl Default for Cells {
+    ghost is_default = { λ cells. cells ≡ no_fares };
+
+    fn default() -> Cells {
+        Cells::new()
+    }
+}
+
 impl Cells {
     /// No fares.
     pub fn new() -> Cells
