@@ -9,6 +9,9 @@ use Rattle.std.specs.Map.{lookup}
 use Rattle.std.specs.Ordering.{nat_cmp, is_eq}
 use Rattle.std.specs.declared.cmp.Ordering.TheVariants.{Less, Equal, Greater}
 use mathlib.Core.Logic.{⊎_elim}
+use Rattle.std.proofs.lemmas.List.{length-set}
+use Rattle.smallvec.specs.SmallVec.{SmallVec, with_items}
+use Rattle.smallvec.proofs.SmallVecLemmas.{items-with_items}
 use Rattle.std.proofs.lemmas.Bool.{cases_lt, eqb-true, ltb-true, ltb-false, lt-ltb}
 use Rattle.pay_caps.specs.Words.{CellSums, no_fares, total}
 use Rattle.pay_book.specs.Days.{Days, kept_on, sums_on, StayKept}
@@ -217,31 +220,34 @@ pub some_there : (day : ℕ) (days : List ℕ) (sums : List CellSums) (place : �
 some_there day days sums place whole step at is = subst IsSome (sym (kept_there day days sums place whole step at is)) (some_within days sums place day step.as_long at.there)
 
 -- a change of the sums of a day that is kept
-module _ (day : ℕ) (days lent : List ℕ) (sums : List CellSums) (place : ℕ) (whole : Days) (step : AreInStep days sums) (is : zip days sums ≡ whole) (same : lent ≡ days) (at : IsPlaceOf day lent place)
-    (some : IsSome (kept_on whole day)) where
+module _ (day : ℕ) (days lent : List ℕ) (sums : SmallVec CellSums) (lent_sums : List CellSums) (place : ℕ) (whole : Days) (step : AreInStep days sums.items) (is : zip days sums.items ≡ whole) (same : lent ≡ days)
+    (same_sums : lent_sums ≡ sums.items) (at : IsPlaceOf day lent place) (some : IsSome (kept_on whole day)) where
   its_place : IsPlaceOf day days place
   its_place = subst (λ (list : List ℕ). IsPlaceOf day list place) same at
 
   it_stands : Stands day days place
-  it_stands = record { at = its_place; there = stands_if_kept day days sums place step.rising its_place (subst (λ (list : Days). IsSome (kept_on list day)) (sym is) some) }
+  it_stands = record { at = its_place; there = stands_if_kept day days sums.items place step.rising its_place (subst (λ (list : Days). IsSome (kept_on list day)) (sym is) some) }
 
-  pub place_within : place < length sums
-  place_within = omega (arith, step.as_long, within days place day it_stands.there)
+  pub place_within : place < length lent_sums
+  place_within = omega (arith, ap length same_sums, step.as_long, within days place day it_stands.there)
 
-  pub its_sums : (x : CellSums) → x ≡ get_or sums place x → x ≡ sums_on whole day
+  pub its_sums : (x : CellSums) → x ≡ get_or lent_sums place x → get_or lent_sums place x ≡ sums_on whole day
   its_sums x item =
-      ap (λ (o : Option CellSums). unwrap_or o no_fares)
-      (item_there day days sums place x step.as_long it_stands.there item ∙ sym (kept_there day days sums place whole step it_stands is))
+      sym item
+      ∙ ap (λ (o : Option CellSums). unwrap_or o no_fares)
+      (item_there day days sums.items place x step.as_long it_stands.there (item ∙ ap (λ (list : List CellSums). get_or list place x) same_sums) ∙ sym (kept_there day days sums.items place whole step it_stands is))
 
-  pub changed_kept : (change : CellSums → CellSums) (x y : CellSums) → x ≡ get_or sums place x → y ≡ change x
-      → (other : ℕ) → kept_on (zip days (slice_set sums place y)) other ≡ cond (is_at (nat_cmp day) other) (Some (change (sums_on whole day))) (kept_on whole other)
+  pub changed_kept : (change : CellSums → CellSums) (x y : CellSums) → x ≡ get_or lent_sums place x → y ≡ change (get_or lent_sums place x)
+      → (other : ℕ) → kept_on (zip days (with_items sums (slice_set lent_sums place y)).items) other ≡ cond (is_at (nat_cmp day) other) (Some (change (sums_on whole day))) (kept_on whole other)
   changed_kept change x y item changed other =
-      set_there other day days sums place y step.as_long it_stands.at it_stands.there
+      ap (λ (list : List CellSums). kept_on (zip days list) other)
+      (items-with_items sums (slice_set lent_sums place y) (length-set lent_sums place y ∙ ap length same_sums) ∙ ap (λ (list : List CellSums). slice_set list place y) same_sums)
+      ∙ set_there other day days sums.items place y step.as_long it_stands.at it_stands.there
       ∙ ap (λ (list : Days). cond (is_at (nat_cmp day) other) (Some y) (kept_on list other)) is
       ∙ ap (λ (z : CellSums). cond (is_at (nat_cmp day) other) (Some z) (kept_on whole other)) (changed ∙ ap change (its_sums x item))
 
-  pub sum_within : (pence : ℕ) (x y : CellSums) → x ≡ get_or sums place x → total y ≡ total x + pence
-      → (other : ℕ) → total (sums_on (zip days (slice_set sums place y)) other) ≤ total (sums_on whole other) + pence
+  pub sum_within : (pence : ℕ) (x y : CellSums) → x ≡ get_or lent_sums place x → total y ≡ total (get_or lent_sums place x) + pence
+      → (other : ℕ) → total (sums_on (zip days (with_items sums (slice_set lent_sums place y)).items) other) ≤ total (sums_on whole other) + pence
   sum_within pence x y item more other =
       subst (λ (o : Option CellSums). total (unwrap_or o no_fares) ≤ total (sums_on whole other) + pence) (sym (changed_kept (λ _. y) x y item refl other))
       (⊎_elim

@@ -1,26 +1,28 @@
 ghost use Rattle.std.specs.Prelude.{◌≡◌, ◌≤◌, ◌<◌, ◌+◌, ◌^◌, ◌↔◌, [], ℕ, IsSome, IsTrue, Some, ◌-◌, cond, length, take, drop, option_map, slice_get, OnOk};
 ghost use Rattle.std.specs.BTreeMap.{is_at};
-ghost use Rattle.std.specs.List.{range_with_len};
+ghost use Rattle.std.specs.List.{insert, range_with_len};
 ghost use Rattle.std.specs.Ordering.{nat_cmp};
-ghost use Rattle.std.specs.Vec.{vec_capacity, vec_len};
+ghost use Rattle.smallvec.specs.SmallVec.{small_vec_len, HasRoomFor};
 ghost use Rattle.pay_money.specs.declared.limits.TheConstants.{MOST_MONEY};
 ghost use Rattle.pay_tables.specs.declared.limits.TheConstants.{MOST_ZONES};
 ghost use Rattle.pay_caps.specs.Words.{IsCell, added, taken, sum_at, total};
 ghost use Rattle.pay_book.specs.Days.{kept_on, kept_of, sums_on, StayKept};
 ghost use Rattle.pay_book.specs.InStep.{AreRising, IsPlaceOf};
 
-use crate::put_in::put_in;
 use pay_caps::{Cell, Cells};
 use pay_money::Pence;
+use smallvec::SmallVec;
 use std::alloc::{AllocError, Global};
+use std::default::MadeWith;
 use std::marker::Model;
 
-/// Days in ascending order, each with the sums of its fares. In a contract it is the list of both.
+/// Days in ascending order, each with the sums of its fares. In a contract it is the list of both. The
+/// first day lies in the value itself: most accounts have one for a long time.
 #[derive(Drop)]
 pub(crate) struct DaySums {
-    days: Vec<u32>,
+    days: SmallVec<u32, 8>,
     // Apart from the days, so that a search reads these alone.
-    sums: Vec<Cells>,
+    sums: SmallVec<Cells, 1>,
 }
 
 impl Model for DaySums {
@@ -66,15 +68,19 @@ fn between(sums: &[Cells], from: usize, to: usize) -> &[Cells]
     &sums[from..to]
 }
 
-/// Makes room for the sums of a further day. Most accounts have one day for a long time, so the first takes no more than its own.
-fn reserve(sums: &mut Vec<Cells>) -> Result<(), AllocError>
-    ensures same { sums.new.items ≡ sums.old.items }
-    ensures room { OnOk result (vec_len sums.new < vec_capacity sums.new) }
+/// Puts one more into a list, which has room for it.
+fn put_at<T: Copy + MadeWith<Global>, const INLINE: usize>(
+    list: &mut SmallVec<T, INLINE>,
+    place: usize,
+    item: T,
+)
+    requires within { place ≤ small_vec_len list.old }
+    requires room { HasRoomFor list.old 1 }
+    ensures { list.new.items ≡ insert list.old.items place item }
 {
-    if sums.is_empty() {
-        sums.reserve_exact(1)
-    } else {
-        sums.reserve(1)
+    match list.insert(place, item) {
+        Ok(()) => {}
+        Err(_) => unreachable!(),
     }
 }
 
@@ -84,8 +90,8 @@ impl DaySums {
         ensures { result ≡ [] }
     {
         DaySums {
-            days: Vec::new(alloc),
-            sums: Vec::new(alloc),
+            days: SmallVec::new(alloc),
+            sums: SmallVec::new(alloc),
         }
     }
 
@@ -146,9 +152,9 @@ impl DaySums {
             return Ok(());
         }
         self.days.reserve(1)?;
-        reserve(&mut self.sums)?;
-        put_in(&mut self.days, place, day);
-        put_in(&mut self.sums, place, Cells::new());
+        self.sums.reserve(1)?;
+        put_at(&mut self.days, place, day);
+        put_at(&mut self.sums, place, Cells::new());
         Ok(())
     }
 }

@@ -9,18 +9,18 @@ use Rattle.pay_book.proofs.day_sums.DaySums.of_days.Goals as goal
 pub between-requires : goal.between-requires
 between-requires c =
     let days = c.self.inside.days.items in
-    let from = subst (λ (list : List ℕ). IsPlaceOf c.args.first list c.place_in-from.result) c.deref.ensures.value c.place_in-from.ensures.place in
-    let to = subst (λ (list : List ℕ). IsPlaceOf (c.args.first + c.args.count) list c.place_in-to.result) c.deref-2.ensures.value c.place_in-to.ensures.place in (
+    let from = subst (λ (list : List ℕ). IsPlaceOf c.args.first list c.place_in-from.result) c.deref.ensures c.place_in-from.ensures.place in
+    let to = subst (λ (list : List ℕ). IsPlaceOf (c.args.first + c.args.count) list c.place_in-to.result) c.deref-2.ensures c.place_in-to.ensures.place in (
       no_sooner c.args.first (c.args.first + c.args.count) days c.place_in-from.result c.place_in-to.result (omega arith) from to,
-      omega (arith, c.place_in-to.ensures.within, ap length c.deref-2.ensures.value, ap length c.deref-3.ensures.value, c.self.invariant.as_long),
+      omega (arith, c.place_in-to.ensures.within, ap length c.deref-2.ensures, ap length c.deref-3.ensures, c.self.invariant.as_long),
     )
 
 pub returns-clause-kept : goal.returns-clause-kept
 returns-clause-kept c =
     let days = c.self.inside.days.items in
-    let from = subst (λ (list : List ℕ). IsPlaceOf c.args.first list c.place_in-from.result) c.deref.ensures.value c.place_in-from.ensures.place in
-    let to = subst (λ (list : List ℕ). IsPlaceOf (c.args.first + c.args.count) list c.place_in-to.result) c.deref-2.ensures.value c.place_in-to.ensures.place in
-    c.between.ensures ∙ ap (λ (list : List CellSums). take (c.place_in-to.result - c.place_in-from.result) (drop c.place_in-from.result list)) c.deref-3.ensures.value
+    let from = subst (λ (list : List ℕ). IsPlaceOf c.args.first list c.place_in-from.result) c.deref.ensures c.place_in-from.ensures.place in
+    let to = subst (λ (list : List ℕ). IsPlaceOf (c.args.first + c.args.count) list c.place_in-to.result) c.deref-2.ensures c.place_in-to.ensures.place in
+    c.between.ensures ∙ ap (λ (list : List CellSums). take (c.place_in-to.result - c.place_in-from.result) (drop c.place_in-from.result list)) c.deref-3.ensures
     ∙ slice_kept c.args.first c.args.count days c.self.inside.sums.items c.place_in-from.result c.place_in-to.result c.self.invariant.as_long c.self.invariant.rising from to
     ∙ ap (λ (those : Days). kept_of those (range_with_len c.args.first c.args.count)) c.self.view_is
 
