@@ -18,7 +18,6 @@ use Rattle.pay_fix.specs.Words.{Fixes, number as fix_number, judged as judged_fi
 use Rattle.pay_tables.specs.Words.{FareTables}
 use Rattle.pay_account.specs.declared.Priced.{Priced}
 use Rattle.pay_account.specs.Words.{is_bus, is_rail, Accepted, nothing, touches, prices, prices_named, with_tap, with_fix, tap_added, tap_result, fix_added, fix_result}
-use Rattle.pay_book.specs.Books.{BookParts}
 use Rattle.pay_book.specs.declared.kept.Kept.{Kept}
 use Rattle.pay_book.specs.Disturbed.{disturbed}
 use Rattle.pay_book.specs.Kept.{IsKeptOf, IsPossibleFor, taps_after, disturbed_by_change, ChangesEachKind, ChangesArePossible}

@@ -1,5 +1,5 @@
 -- What a change makes of the effective taps of one kind.
-use Rattle.std.proofs.Common.{◌≡◌, ◌≤◌, ◌<◌, ◌+◌, suc, Bool, true, false, not, cond, length, arith, Some, List, [], ◌∷◌, filter, slice_get, refl, sym, ap, ◌∙◌, subst}
+use Rattle.std.proofs.Common.{◌≡◌, ◌≤◌, ◌<◌, ◌+◌, suc, Bool, true, false, not, cond, length, arith, Some, List, filter, slice_get, refl, sym, ap, ◌∙◌, subst}
 use Rattle.std.specs.List.{remove}
 use Rattle.pay_fix.specs.declared.change.Change.TheVariants.{Nothing, Enters, Leaves}
 use Rattle.pay_taps.specs.declared.tap.Touch.{Touch}

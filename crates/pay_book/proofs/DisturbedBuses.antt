@@ -1,6 +1,6 @@
 -- A bus tap changes no more boardings than it disturbs by the definition.
-use Rattle.std.proofs.Common.{◌≡◌, ℕ, zero, suc, ◌+◌, ◌<◌, ◌≤◌, ◌&&◌, ◌||◌, not, nat_lt, Bool, true, false, if◌then◌else◌, cond, Option, Some, None, List, [], ◌∷◌, ◌++◌, length, length-append, append_assoc, filter, map, take, drop, slice_get, refl, sym, ap, ◌∙◌, subst, arith}
-use Rattle.std.specs.List.{list_all, zip, insert, remove}
+use Rattle.std.proofs.Common.{◌≡◌, ℕ, zero, suc, ◌+◌, ◌≤◌, ◌&&◌, ◌||◌, Bool, true, false, if◌then◌else◌, Option, Some, None, List, [], ◌∷◌, ◌++◌, length, length-append, append_assoc, take, drop, slice_get, refl, sym, ap, ◌∙◌, subst, arith}
+use Rattle.std.specs.List.{list_all, remove}
 use Rattle.std.proofs.Math.Seq.{take-append_seam, drop-append_seam}
 use Rattle.std.proofs.lemmas.Bool.{and_parts}
 use Rattle.std.proofs.lemmas.List.{length-take, take-append-drop}
@@ -12,8 +12,7 @@ use Rattle.pay_taps.specs.Order.{comes_before}
 use Rattle.pay_taps.specs.Words.{put_in, place_of, AreTimed, PutInAtPlace, PlaceWithoutIt, PutInAgain}
 use Rattle.pay_hopper.specs.Words.{pays_by_last, last_paid_after, last_paid_over}
 use Rattle.pay_links.specs.declared.journey.Journey.{Journey}
-use Rattle.pay_account.specs.Words.{boarding}
-use Rattle.pay_book.specs.Boardings.{boarded_after, boarded, is_paying, any_pays_twice, IsDisturbed}
+use Rattle.pay_book.specs.Boardings.{boarded_after, boarded, any_pays_twice, IsDisturbed}
 use Rattle.pay_book.specs.Disturbed.{is_apart, up_to_apart, around_first, disturbed_by_bus}
 use Rattle.pay_book.specs.Fewer.{fewer_of, more_of}
 use Rattle.pay_book.proofs.Boarded.{boarded_each, boarded_in_stretches}

@@ -1,5 +1,5 @@
 -- What a change disturbs of the taps that are kept is what its command disturbs of the effective taps.
-use Rattle.std.proofs.Common.{◌≡◌, ℕ, zero, suc, ◌+◌, ◌<◌, ◌≤◌, ◌&&◌, ◌||◌, ◌==◌, not, nat_lt, Bool, true, false, if◌then◌else◌, cond, List, [], ◌∷◌, ◌++◌, length, append_assoc, filter, refl, sym, ap, ◌∙◌, subst, arith}
+use Rattle.std.proofs.Common.{◌≡◌, ℕ, suc, ◌||◌, not, nat_lt, Bool, true, false, if◌then◌else◌, cond, List, [], ◌∷◌, ◌++◌, length, append_assoc, filter, refl, sym, ap, ◌∙◌, subst, arith}
 use Rattle.std.specs.List.{AllByRecursion, IsDistinct, list_any}
 use Rattle.std.proofs.lemmas.Bool.Decides.{nat_tests}
 use Rattle.std.proofs.lemmas.List.Folds.{list_any-append}
@@ -7,13 +7,10 @@ use Rattle.pay_tables.specs.Words.{FareTables}
 use Rattle.pay_taps.specs.declared.tap.Touch.{Touch}
 use Rattle.pay_taps.specs.Order.{comes_before, same_number}
 use Rattle.pay_taps.specs.Words.{put_in, place_of, HaveOwnNumbers, AreTimed, StandsAtPlace, SomeWithOneMore, OwnNumberAmongSome}
-use Rattle.pay_fix.specs.declared.change.Change.{Change}
 use Rattle.pay_fix.specs.declared.change.Change.TheVariants.{Nothing, Enters, Leaves}
 use Rattle.pay_account.specs.Words.{is_bus, is_rail}
 use Rattle.pay_book.specs.Disturbed.{place_of_further, disturbed_between, disturbed, disturbed_by_rail, disturbed_by_bus}
-use Rattle.pay_book.specs.Kept.{disturbed_by_change}
-use Rattle.pay_book.specs.Stored.{IsChange, AreKeptTaps, ChangeDisturbs}
-use Rattle.pay_book.specs.declared.kept.Kept.{Kept}
+use Rattle.pay_book.specs.Stored.{ChangeDisturbs}
 use Rattle.pay_book.proofs.KeptMarks.{one_more}
 
 -- ---- the place of the one whose number none of the others has

@@ -1,5 +1,5 @@
 -- The stretch that a rail tap disturbs has few taps beside those that are disturbed by the definition.
-use Rattle.std.proofs.Common.{◌≡◌, ◌⊎◌, inl, inr, ℕ, zero, suc, ◌+◌, ◌-◌, ◌*◌, ◌<◌, ◌≤◌, ◌&&◌, nat_lt, Bool, true, false, if◌then◌else◌, List, [], ◌∷◌, ◌++◌, length, map, flat_map, slice_get, Some, refl, sym, ap, ◌∙◌, arith}
+use Rattle.std.proofs.Common.{◌≡◌, ℕ, zero, suc, ◌+◌, ◌-◌, ◌*◌, ◌<◌, ◌≤◌, ◌&&◌, nat_lt, Bool, true, false, if◌then◌else◌, List, [], ◌∷◌, ◌++◌, length, flat_map, slice_get, Some, refl, sym, ap, ◌∙◌, arith}
 use Rattle.std.specs.List.{insert, remove}
 use mathlib.Core.Logic.{⊎_elim}
 use Rattle.std.proofs.lemmas.Bool.{cases_lt}
@@ -15,7 +15,7 @@ use Rattle.pay_links.specs.declared.journey.Journey.{Journey}
 use Rattle.pay_links.specs.declared.journey.Journey.TheVariants as journey
 use Rattle.pay_book.specs.Disturbed.{taps_of_any, disturbed_by_rail}
 use Rattle.pay_book.specs.Fewer.{fewer_of, more_of}
-use Rattle.pay_book.specs.Rail.{mark_in, IsStretch, GoesOnInOne}
+use Rattle.pay_book.specs.Rail.{mark_in, IsStretch}
 use Rattle.pay_book.proofs.Marks.{put_back, marks_before, marks_behind_it}
 
 -- ---- the journey that goes on from one place to another

@@ -1,5 +1,5 @@
 -- What is kept, once a tap has entered or left.
-use Rattle.std.proofs.Common.{◌≡◌, ℕ, suc, ◌+◌, ◌≤◌, ◌<◌, Bool, true, false, cond, Some, None, slice_get, List, [], ◌∷◌, ◌++◌, length, length-append, append_assoc, take, drop, map, sym, ap, ◌∙◌, subst, arith}
+use Rattle.std.proofs.Common.{◌≡◌, ℕ, ◌+◌, ◌≤◌, ◌<◌, Bool, true, Some, None, slice_get, List, [], ◌∷◌, ◌++◌, length, length-append, append_assoc, take, drop, map, sym, ap, ◌∙◌, subst, arith}
 use Rattle.std.specs.List.{flat_map, insert, remove, zip}
 use Rattle.std.proofs.Math.Seq.{take-append_seam}
 use Rattle.std.proofs.lemmas.List.{length-map, length-drop, length-take-le}

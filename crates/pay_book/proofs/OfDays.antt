@@ -1,14 +1,13 @@
 -- The sums of some days one behind another, as they lie.
 use Rattle.std.proofs.Common.{◌≡◌, ℕ, zero, suc, ◌+◌, ◌-◌, ◌<◌, ◌≤◌, cond, Option, Some, None, List, [], ◌∷◌, ◌++◌, length, take, drop, true, refl, sym, ap, ◌∙◌, subst, arith, length-append}
 use Rattle.std.specs.BTreeMap.{is_at}
-use Rattle.std.specs.List.{zip, flat_map, range_with_len, AllByRecursion}
-use Rattle.std.specs.Map.{lookup}
+use Rattle.std.specs.List.{zip, range_with_len, AllByRecursion}
 use Rattle.std.specs.Ordering.{nat_cmp}
 use mathlib.Core.Logic.{⊎_elim}
 use Rattle.std.proofs.lemmas.Bool.{cases_lt}
 use Rattle.pay_caps.specs.Words.{CellSums}
 use Rattle.pay_book.specs.Days.{Days, kept_on, if_kept, kept_of}
-use Rattle.pay_book.specs.InStep.{AreRising, IsPlaceOf, AreInStep}
+use Rattle.pay_book.specs.InStep.{AreRising, IsPlaceOf}
 use Rattle.pay_book.proofs.InStep.{at_itself, not_before, not_behind, none_behind, all_further}
 
 -- ---- places

@@ -1,13 +1,12 @@
 -- What a book keeps, by the definitions over all that it has accepted.
-use Rattle.std.proofs.Common.{◌≡◌, ◌++◌, ℕ, Bool, List, [], map, filter, None, refl, sym, ap, ◌∙◌, subst}
-use Rattle.std.specs.FinMap as set_map
+use Rattle.std.proofs.Common.{◌≡◌, ◌++◌, ℕ, Bool, List, filter, None, ap, ◌∙◌, subst}
 use Rattle.pay_taps.specs.declared.tap.Touch.{Touch}
 use Rattle.pay_tables.specs.Words.{FareTables}
 use Rattle.pay_hopper.specs.Words.{instants_of, paying_marks, marks_by_last}
 use Rattle.pay_pairs.specs.Words.{legs}
-use Rattle.pay_links.specs.Words.{journeys, starts, journeys_by_marks, JourneysAreKeptAsMarks}
+use Rattle.pay_links.specs.Words.{journeys, journeys_by_marks, JourneysAreKeptAsMarks}
 use Rattle.pay_links.specs.declared.journey.Journey.{Journey}
-use Rattle.pay_account.specs.Words.{touches, prices, is_bus, is_rail, rail_journeys, boardings, journeys_of}
+use Rattle.pay_account.specs.Words.{touches, is_bus, rail_journeys, journeys_of}
 use Rattle.pay_book.specs.Boardings.{boarded, BoardedByAll}
 use Rattle.pay_book.specs.Books.{BookParts}
 use Rattle.pay_book.specs.Days.{AreSums}

@@ -1,5 +1,5 @@
 -- The boardings that a bus tap disturbs: those without it, and those with it in their place.
-use Rattle.std.specs.Prelude.{◌≡◌, ℕ, ◌+◌, ◌≤◌, ◌&&◌, Bool, true, false, List, [], ◌∷◌, ◌++◌, Option, Some, None, map, length, take, drop, slice_get, if◌then◌else◌, refl}
+use Rattle.std.specs.Prelude.{◌≡◌, ℕ, ◌+◌, ◌≤◌, ◌&&◌, Bool, true, false, List, [], ◌∷◌, ◌++◌, Option, Some, None, map, length, take, drop, slice_get, refl}
 use Rattle.std.specs.List.{insert, remove, zip, list_any}
 use Rattle.pay_day.specs.Words.{Stamp}
 use Rattle.pay_taps.specs.declared.tap.Kind.TheVariants.{Bus}

@@ -1,7 +1,7 @@
 -- What is kept of an account beside what it has accepted, and when that is right.
 use Rattle.std.specs.Prelude.{◌≡◌, ℕ, ◌+◌, ◌≤◌, ◌<◌, ⊤, Bool, true, false, if◌then◌else◌, List, ◌∷◌, ◌++◌, length, filter, slice_get, Some, None}
 use Rattle.std.specs.List.{remove}
-use Rattle.std.specs.Vec.{vec_capacity, vec_len}
+use Rattle.smallvec.specs.SmallVec.{HasRoomFor}
 use Rattle.pay_tables.specs.Words.{FareTables}
 use Rattle.pay_taps.specs.declared.tap.Touch.{Touch}
 use Rattle.pay_taps.specs.Words.{place_of, put_in, AreTimed, HaveOwnNumbers}
@@ -39,12 +39,12 @@ pub record IsRight (tables : FareTables) (kept : Kept) : Type 0 where
 -- there is room for a tap more by rail, with its mark
 pub record HasRoomByRail (kept : Kept) : Type 0 where
   pub rail : 1 ≤ kept.rail.room
-  pub starts : vec_len kept.starts < vec_capacity kept.starts
+  pub starts : HasRoomFor kept.starts 1
 
 -- and for one on a bus
 pub record HasRoomOnBuses (kept : Kept) : Type 0 where
   pub buses : 1 ≤ kept.buses.room
-  pub pays : vec_len kept.pays < vec_capacity kept.pays
+  pub pays : HasRoomFor kept.pays 1
 
 -- taps and their marks are as before
 pub record AreAsBefore (before after : Kept) : Type 0 where

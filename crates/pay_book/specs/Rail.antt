@@ -1,6 +1,6 @@
 -- What one rail tap more, or less, changes: the marks of the taps right next to it, and the journeys between two places around it.
 use Rattle.std.specs.Prelude.{◌≡◌, ◌⊎◌, ◌≤◌, ◌<◌, ◌+◌, ◌-◌, ◌&&◌, ℕ, zero, suc, Bool, true, false, if◌then◌else◌, List, [], ◌∷◌, ◌++◌, take, drop, length, get_or, slice_get, Option, Some, None, refl}
-use Rattle.std.specs.List.{insert, remove}
+use Rattle.std.specs.List.{insert}
 use Rattle.pay_taps.specs.Words.{touch_before, place_of}
 use Rattle.pay_pairs.specs.Words.{FareTables, Touch, legs}
 use Rattle.pay_pairs.specs.Words.kind_variants.{Out}

@@ -1,19 +1,18 @@
 ghost use Rattle.std.specs.Prelude.{◌≡◌, ◌≤◌, ◌<◌, ◌+◌, ◌^◌, ◌↔◌, [], ℕ, IsSome, IsTrue, Some, ◌-◌, cond, length, take, drop, option_map, slice_get, OnOk};
 ghost use Rattle.std.specs.BTreeMap.{is_at};
-ghost use Rattle.std.specs.List.{insert, range_with_len};
+ghost use Rattle.std.specs.List.{range_with_len};
 ghost use Rattle.std.specs.Ordering.{nat_cmp};
-ghost use Rattle.smallvec.specs.SmallVec.{small_vec_len, HasRoomFor};
 ghost use Rattle.pay_money.specs.declared.limits.TheConstants.{MOST_MONEY};
 ghost use Rattle.pay_tables.specs.declared.limits.TheConstants.{MOST_ZONES};
 ghost use Rattle.pay_caps.specs.Words.{IsCell, added, taken, sum_at, total};
 ghost use Rattle.pay_book.specs.Days.{kept_on, kept_of, sums_on, StayKept};
 ghost use Rattle.pay_book.specs.InStep.{AreRising, IsPlaceOf};
 
+use crate::put_in::put_in;
 use pay_caps::{Cell, Cells};
 use pay_money::Pence;
 use smallvec::SmallVec;
 use std::alloc::{AllocError, Global};
-use std::default::MadeWith;
 use std::marker::Model;
 
 /// Days in ascending order, each with the sums of its fares. In a contract it is the list of both. The
@@ -66,22 +65,6 @@ fn between(sums: &[Cells], from: usize, to: usize) -> &[Cells]
     ensures { result.now ≡ take (to - from) (drop from sums.now) }
 {
     &sums[from..to]
-}
-
-/// Puts one more into a list, which has room for it.
-fn put_at<T: Copy + MadeWith<Global>, const INLINE: usize>(
-    list: &mut SmallVec<T, INLINE>,
-    place: usize,
-    item: T,
-)
-    requires within { place ≤ small_vec_len list.old }
-    requires room { HasRoomFor list.old 1 }
-    ensures { list.new.items ≡ insert list.old.items place item }
-{
-    match list.insert(place, item) {
-        Ok(()) => {}
-        Err(_) => unreachable!(),
-    }
 }
 
 impl DaySums {
@@ -153,8 +136,8 @@ impl DaySums {
         }
         self.days.reserve(1)?;
         self.sums.reserve(1)?;
-        put_at(&mut self.days, place, day);
-        put_at(&mut self.sums, place, Cells::new());
+        put_in(&mut self.days, place, day);
+        put_in(&mut self.sums, place, Cells::new());
         Ok(())
     }
 }

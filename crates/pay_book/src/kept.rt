@@ -1,7 +1,6 @@
 //! What is kept of an account beside what it has accepted: its effective taps in order with a mark each, and the sums of its days.
 ghost use Rattle.std.specs.Prelude.{◌≡◌, ◌≤◌, ◌<◌, ◌+◌, ◌*◌, [], ◌∷◌, List, length, true, false, if◌then◌else◌, Some, slice_get, OnOk, IfOk};
 ghost use Rattle.std.specs.List.{insert, remove};
-ghost use Rattle.std.specs.Vec.{vec_capacity, vec_len};
 ghost use Rattle.pay_fix.specs.declared.limits.TheConstants.{MOST_TOUCHES};
 ghost use Rattle.pay_taps.specs.Words.{place_of, put_in, HaveOwnNumbers};
 ghost use Rattle.pay_tables.specs.Words.{FareTables};
@@ -24,16 +23,20 @@ use pay_fix::Change;
 use pay_links::Journey;
 use pay_tables::Tables;
 use pay_taps::{Kind, Steps, Timeline, Touch};
+use smallvec::SmallVec;
 use std::alloc::{AllocError, Global};
+
+/// So many marks lie in what is kept itself.
+const FEW: usize = 16;
 
 /// The effective taps of an account by rail, with a mark where a journey starts, and those on buses, with a mark where one pays; and
 /// of each day on which a journey began the sums of its fares.
 #[derive(Drop)]
 pub(crate) struct Kept {
     pub(crate) rail: Timeline,
-    pub(crate) starts: Vec<bool>,
+    pub(crate) starts: SmallVec<bool, FEW>,
     pub(crate) buses: Timeline,
-    pub(crate) pays: Vec<bool>,
+    pub(crate) pays: SmallVec<bool, FEW>,
     pub(crate) days: DaySums,
 }
 
@@ -63,9 +66,9 @@ impl Kept {
         pay_caps::laws::sums();
         Kept {
             rail: Timeline::new(alloc),
-            starts: Vec::new(alloc),
+            starts: SmallVec::new(alloc),
             buses: Timeline::new(alloc),
-            pays: Vec::new(alloc),
+            pays: SmallVec::new(alloc),
             days: DaySums::new(alloc),
         }
     }

@@ -1,7 +1,6 @@
 use Rattle.std.proofs.Common.{◌≡◌, map, drop}
-use Rattle.std.specs.List.{AllByRecursion}
 use Rattle.pay_account.specs.Words.{nothing, after_all}
-use Rattle.pay_book.specs.History.{account_of, change_of}
+use Rattle.pay_book.specs.History.{change_of}
 use Rattle.pay_book.specs.Stored.{IsKept}
 use Rattle.pay_book.proofs.history.book_of.Given as goal
 

@@ -1,4 +1,4 @@
-use Rattle.std.proofs.Common.{◌++◌, None, true, arith, sym, ap, ◌∙◌, subst}
+use Rattle.std.proofs.Common.{◌++◌, None, true, arith, sym, ap, ◌∙◌, subst, length}
 use Rattle.std.specs.List.{insert}
 use Rattle.pay_taps.specs.Words.{place_of, put_in}
 use Rattle.pay_hopper.specs.Words.{marks_by_last}
@@ -51,7 +51,7 @@ returns-clause-right c =
       starts = c.requires.right.starts;
       pays =
           all_boarded base c.deref_mut.result.now c.mark.new.pays _ its _ found.more.items c.deref.result.now given c.deref.ensures.value
-          (c.mark.ensures ∙ ap (λ n. marked c.deref_mut.result.now n c.deref.result.now) c.insert-place.ensures.place) room c.deref_mut.ensures.len
+          (c.mark.ensures ∙ ap (λ n. marked c.deref_mut.result.now n c.deref.result.now) c.insert-place.ensures.place) room (ap length c.deref_mut.ensures.value)
           ∙ c.kept_marks.ensures.with_it hopper buses touch found.fewer.items found.more.items c.requires.disturbed true
           ∙ ap (marks_by_last hopper None) (sym c.insert-place.ensures.after);
       sums =

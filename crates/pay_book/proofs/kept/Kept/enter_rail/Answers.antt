@@ -1,13 +1,18 @@
-use Rattle.std.proofs.Common.{◌++◌, arith, sym, ◌∙◌, subst}
+use Rattle.std.proofs.Common.{◌++◌, arith, sym, ◌∙◌, subst, ap, length, rules}
 use Rattle.pay_taps.specs.Words.{put_in}
 use Rattle.pay_book.specs.Boardings.{boarded}
 use Rattle.pay_book.specs.Days.{CanReplace}
 use Rattle.pay_book.proofs.Keeping.{place_in_marks, entered_marks, one_longer, rail_can_be_replaced, rail_sums_before, rail_sums_after, all_written}
 use Rattle.pay_book.proofs.kept.Kept.enter_rail.Goals as goal
 
-pub put_in-requires-clause-within : goal.put_in-requires-clause-within
-put_in-requires-clause-within c =
-    place_in_marks c.args.tables.now c.args.self.now.rail.touches c.insert-place.result c.args.self.now.starts.items c.insert-place.ensures.within c.requires.right.starts
+pub put_in-requires : goal.put_in-requires
+put_in-requires c = (
+  search rules,
+  (
+    place_in_marks c.args.tables.now c.args.self.now.rail.touches c.insert-place.result c.args.self.now.starts.items c.insert-place.ensures.within c.requires.right.starts,
+    c.requires.room.starts,
+  ),
+)
 
 pub mark_again-requires : goal.mark_again-requires
 mark_again-requires c =
@@ -37,7 +42,7 @@ returns-clause-right c =
     entered_marks c.places.ensures.put_in tables rail c.insert-place.new.self.touches c.args.touch c.insert-place.result c.args.self.now.starts.items c.deref_mut.result.now c.insert-place.ensures.after
     c.insert-place.ensures.place c.insert-place.ensures.within c.requires.right.starts (c.deref_mut.ensures.value ∙ c.put_in.ensures) in
     record {
-      starts = all_written tables c.insert-place.new.self.touches _ c.mark_again.new.marks c.deref_mut.result.now _ c.mark_again.ensures.marks elsewhere.as_many c.deref_mut.ensures.len;
+      starts = all_written tables c.insert-place.new.self.touches _ c.mark_again.new.marks c.deref_mut.result.now _ c.mark_again.ensures.marks elsewhere.as_many (ap length c.deref_mut.ensures.value);
       pays = c.requires.right.pays;
       sums =
           rail_sums_after tables (put_in c.args.touch rail) c.insert-place.new.self.touches buses found.more.items c.deref-2.result.now left right c.replace.new.days c.insert-place.ensures.after c.deref-2.ensures.value

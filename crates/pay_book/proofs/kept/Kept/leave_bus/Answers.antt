@@ -1,4 +1,4 @@
-use Rattle.std.proofs.Common.{◌++◌, None, arith, sym, ap, ◌∙◌, subst}
+use Rattle.std.proofs.Common.{◌++◌, None, arith, sym, ap, ◌∙◌, subst, length}
 use Rattle.std.specs.List.{remove}
 use Rattle.pay_taps.specs.Words.{place_of}
 use Rattle.pay_hopper.specs.Words.{marks_by_last}
@@ -57,7 +57,7 @@ returns-clause-right c =
       starts = c.requires.right.starts;
       pays =
           all_boarded base c.deref_mut.result.now c.mark.new.pays _ its _ found.fewer.items c.deref.result.now given c.deref.ensures.value
-          (c.mark.ensures ∙ ap (λ n. marked c.deref_mut.result.now n c.deref.result.now) c.remove-place.ensures.place) room c.deref_mut.ensures.len
+          (c.mark.ensures ∙ ap (λ n. marked c.deref_mut.result.now n c.deref.result.now) c.remove-place.ensures.place) room (ap length c.deref_mut.ensures.value)
           ∙ c.kept_marks.ensures.without_it hopper buses touch found.fewer.items found.more.items c.len.ensures.timed c.requires.there c.requires.disturbed
           ∙ ap (marks_by_last hopper None) (sym after);
       sums =

@@ -1,4 +1,4 @@
-use Rattle.std.proofs.Common.{◌≡◌, ◌<◌, ◌++◌, ap, arith, sym, ◌∙◌, subst}
+use Rattle.std.proofs.Common.{◌≡◌, ◌++◌, ap, arith, sym, ◌∙◌, subst, length, rules}
 use Rattle.std.specs.List.{remove}
 use Rattle.pay_taps.specs.Words.{place_of}
 use Rattle.pay_book.specs.Boardings.{boarded}
@@ -7,9 +7,10 @@ use Rattle.pay_book.proofs.Keeping.{place_below_marks, left_marks, one_shorter, 
 use Rattle.pay_book.proofs.kept.Kept.leave_rail.Goals as goal
 
 pub remove-requires : goal.remove-requires
-remove-requires c =
-    subst (λ n. c.remove-place.result < n) (sym c.args.self.now.starts.ok.0)
-    (place_below_marks c.args.tables.now c.args.self.now.rail.touches c.args.touch.now c.remove-place.result c.args.self.now.starts.items c.requires.there c.remove-place.ensures.place c.requires.right.starts)
+remove-requires c = (
+  search rules,
+  place_below_marks c.args.tables.now c.args.self.now.rail.touches c.args.touch.now c.remove-place.result c.args.self.now.starts.items c.requires.there c.remove-place.ensures.place c.requires.right.starts,
+)
 
 pub mark_again-requires : goal.mark_again-requires
 mark_again-requires c =
@@ -41,7 +42,7 @@ returns-clause-right c =
     left_marks tables rail c.remove-place.new.self.touches touch c.remove-place.result c.args.self.now.starts.items c.deref_mut.result.now
     c.remove-place.ensures.after c.requires.there c.remove-place.ensures.place c.requires.right.starts (c.deref_mut.ensures.value ∙ c.remove.ensures.items) in
     record {
-      starts = all_written tables c.remove-place.new.self.touches _ c.mark_again.new.marks c.deref_mut.result.now _ c.mark_again.ensures.marks elsewhere.as_many c.deref_mut.ensures.len;
+      starts = all_written tables c.remove-place.new.self.touches _ c.mark_again.new.marks c.deref_mut.result.now _ c.mark_again.ensures.marks elsewhere.as_many (ap length c.deref_mut.ensures.value);
       pays = c.requires.right.pays;
       sums =
           rail_sums_after tables (remove rail (place_of touch rail)) c.remove-place.new.self.touches buses found.fewer.items c.deref-2.result.now left right c.replace.new.days

@@ -1,5 +1,3 @@
-use Rattle.std.proofs.Common.{◌≡◌, ap, subst, arith}
-use Rattle.pay_taps.specs.declared.tap.Touch.{Touch}
 use Rattle.pay_book.proofs.DisturbedBuses.{few_read}
 use Rattle.pay_book.proofs.kept.Kept.prepare_bus.Goals as goal
 
