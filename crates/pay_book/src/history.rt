@@ -53,6 +53,7 @@ pub fn book_of(
     requires { AllByRecursion (λ one. account_of one ≡ account) sent.now }
     ensures account { IfOk result (λ book. book.account ≡ account) }
     ensures accepted { IfOk result (λ book. book.accepted ≡ after_all tables.now nothing (map change_of sent.now)) }
+    ensures priced_by { IfOk result (λ book. IsKept tables.now book) }
     ensures stored { IfOk result (λ book. IsStored tables.now book) }
 {
     laws::stored();
