@@ -309,12 +309,12 @@ fn six_in_whatever_order(rt: HostRuntime) {
 
 /// Draws numbers, the same ones from the same seed.
 #[derive(Drop)]
-struct Dice {
+pub(crate) struct Dice {
     state: u64,
 }
 
 impl Dice {
-    fn new(seed: u64) -> Dice {
+    pub(crate) fn new(seed: u64) -> Dice {
         let mut dice = Dice {
             state: seed.wrapping_mul(0x9e37_79b9_7f4a_7c15) | 1,
         };
@@ -324,7 +324,7 @@ impl Dice {
     }
 
     /// A number below this one.
-    fn below(&mut self, limit: u64) -> u64
+    pub(crate) fn below(&mut self, limit: u64) -> u64
         requires { 0 < limit }
         ensures { result < limit }
     {
@@ -335,7 +335,7 @@ impl Dice {
     }
 
     /// The same.
-    fn few(&mut self, limit: u32) -> u32
+    pub(crate) fn few(&mut self, limit: u32) -> u32
         requires { 0 < limit }
         ensures { result < limit }
     {
@@ -344,7 +344,7 @@ impl Dice {
 }
 
 /// Where touches are made, and boardings, those that make runs more often.
-static PLACES: [(u16, Kind); 16] = [
+pub(crate) static PLACES: [(u16, Kind); 16] = [
     (50, Kind::Bus),
     (50, Kind::Bus),
     (50, Kind::Bus),
@@ -465,7 +465,7 @@ fn change<R: Abort>(rt: &R, history: u32, dice: &mut Dice) -> What {
 }
 
 /// An item of a history, whose account has its number: the same at the same place, of which those below 10 are taps.
-fn item<R: Abort>(rt: &R, history: u32, place: u32) -> Asked {
+pub(crate) fn item<R: Abort>(rt: &R, history: u32, place: u32) -> Asked {
     let mut dice = Dice::new(u64::from(history) * 64 + u64::from(place));
     if place < 10 {
         let (stamp, at, kind) = made(rt, history, place, &mut dice);
@@ -535,7 +535,7 @@ fn expect_shown<R: Abort>(
 }
 
 /// The place of the next item: this one of 16, and now and then another, which may have come before.
-fn next(place: u32, dice: &mut Dice) -> u32
+pub(crate) fn next(place: u32, dice: &mut Dice) -> u32
     ensures { result < 16 }
 {
     if dice.below(6) == 0 {

@@ -46,6 +46,8 @@ mod shares;
 #[cfg(test)]
 mod statements;
 #[cfg(test)]
+mod steps;
+#[cfg(test)]
 mod streams;
 #[cfg(test)]
 mod taps;
