@@ -2,12 +2,14 @@
 //! that runs out midway. By the sample fare file.
 
 ghost use Rattle.std.specs.Prelude.{◌≡◌, ◌<◌, ◌≤◌};
+ghost use Rattle.std.specs.List.{AllByRecursion};
+ghost use Rattle.pay_book.specs.History.{account_of};
 
 use crate::accounts::{empty_account, shown};
 use crate::given::{MONDAY, expect_same, sample, tap_at};
 use crate::shards::{empty_shard, priced, refusal, reply};
 use pay_account::*;
-use pay_book::Book;
+use pay_book::{Book, Sent, book_of};
 use pay_day::Moment;
 use pay_fix::{Credit, Fix, What};
 use pay_money::Pence;
@@ -576,4 +578,35 @@ fn expect_histories<R: Abort + AllocGlobal>(rt: &R, first: u32, last: u32) {
 #[test]
 fn histories_as_from_scratch(rt: HostRuntime) {
     expect_histories(&rt, 1, 10_001);
+}
+
+/// The book of account 7 to which these came, compared with one that has one boarding of the Monday, at 175.
+fn expect_book<R: Abort + AllocGlobal>(rt: &R, tables: &Tables, sent: [Sent; 3])
+    requires { AllByRecursion (λ one. account_of one ≡ 7) sent }
+{
+    let book = book_of(rt.alloc(), tables, 7, &sent).expect(rt, "memory");
+    expect_same(rt, book.number(), 7);
+    expect_day(rt, &book, tables, (1, 175));
+}
+
+// Two boardings an hour and more apart, of which one is taken out before it comes or behind it.
+#[test]
+fn one_book_in_whatever_order(rt: HostRuntime) {
+    let tables = sample(&rt);
+    let one = Sent::Tap(Tap {
+        account: 7,
+        ..tap_at(&rt, 1, 25_200, 50, Kind::Bus)
+    });
+    let other = Sent::Tap(Tap {
+        account: 7,
+        ..tap_at(&rt, 2, 30_200, 50, Kind::Bus)
+    });
+    let void = Sent::Fix(Fix {
+        account: 7,
+        staff: 3,
+        seq: 1,
+        what: What::Void(1, 2),
+    });
+    expect_book(&rt, &tables, [one, other, void]);
+    expect_book(&rt, &tables, [void, other, one]);
 }
