@@ -1,9 +1,12 @@
-//! Prices late taps of one account, from scratch or by what is kept, for `bench/`.
+//! Prices late commands of one account, from scratch or by what is kept, for `bench/`.
 //!
-//! Words: `book` or `account`; how many taps come in order; how many single ones come late after them; the fare file. What is printed
-//! is the sum of the week's prices that were answered, the same for both.
+//! Words: `book` or `account`; the shape, `bus`, `rail`, `void` or `chain`; how many taps come in order; how many commands come late
+//! after them; how many rounds there are, each of a new account; the fare file. What is printed is the sum of the week's prices that
+//! were answered in a round, the same for both. To standard error go three numbers of the late commands: the most stored taps that one
+//! of them read, how many all of them read, and the nanoseconds that all of them took in the fastest round.
 #![tactic(auto)]
 
+mod commands;
 mod late;
 
 use std::process::ExitCode;
