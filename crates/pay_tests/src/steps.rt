@@ -1,7 +1,7 @@
 //! How many stored taps an account that is kept reads for a command: at most 64, and four for each tap that the command
 //! disturbs. Which these are is reckoned from the effective taps before and after it, all of them. By the sample fare file.
 
-ghost use Rattle.std.specs.Prelude.{◌≡◌, ◌<◌};
+ghost use Rattle.std.specs.Prelude.{◌<◌};
 ghost use Rattle.pay_book.specs.Stored.{IsKept};
 
 use crate::accounts::empty_account;
