@@ -3,7 +3,7 @@ use Rattle.std.specs.Prelude.{◌≡◌, ℕ, suc, ◌+◌, ◌-◌, nat_lt, ◌
 use Rattle.std.specs.List.{list_all, list_any, remove}
 use Rattle.pay_tables.specs.Words.{FareTables}
 use Rattle.pay_taps.specs.declared.tap.Touch.{Touch}
-use Rattle.pay_taps.specs.declared.tap.Kind.TheVariants.{Out, Bus}
+use Rattle.pay_taps.specs.declared.tap.Kind.TheVariants.{In, Out, Bus}
 use Rattle.pay_taps.specs.Order.{same_number}
 use Rattle.pay_pairs.specs.Words.{legs}
 use Rattle.pay_links.specs.Words.{journeys, taps_of_journey}
@@ -106,6 +106,35 @@ lone_first : (tables : FareTables) → disturbed_by_rail tables (map out_tap (0 
 unfolding out_tap
 lone_first tables = refl
 
+-- the last of them has one next to it, and those farther before it are not disturbed
+lone_last : (tables : FareTables) → disturbed_by_rail tables (map out_tap (0 ∷ 600 ∷ 1200 ∷ 1800 ∷ [])) 3 ≡ 3
+unfolding out_tap
+lone_last tables = refl
+
+-- one alone
+only_one : (tables : FareTables) → disturbed_by_rail tables (map out_tap (0 ∷ [])) 0 ≡ 1
+unfolding out_tap
+only_one tables = refl
+
+-- at one station a leg may take half an hour
+half_an_hour : FareTables → FareTables
+half_an_hour tables = record tables { rules = record tables.rules { same_limit = 1800 } }
+
+in_tap : ℕ → Touch
+in_tap seconds = record { filled = false; first = 1; second = seconds; stamp = record { utc = 1_704_697_200 + seconds; day = 19_730; second = 25_200 + seconds }; place = 11; kind = In }
+
+-- Behind two legs a tap on the way out, and another one: without the first of these the second leg and the other one, and with it these and it.
+behind_legs : (tables : FareTables) →
+    disturbed_by_rail (half_an_hour tables) (in_tap 0 ∷ out_tap 600 ∷ in_tap 1200 ∷ out_tap 1800 ∷ out_tap 2400 ∷ out_tap 3000 ∷ []) 4 ≡ 7
+unfolding out_tap in_tap half_an_hour
+behind_legs tables = refl
+
+-- A tap on the way out between the taps of a leg, which it ends: without it the leg, and with it that to it and the tap behind it.
+inside_a_leg : (tables : FareTables) →
+    disturbed_by_rail (half_an_hour tables) (in_tap 0 ∷ out_tap 600 ∷ in_tap 7200 ∷ out_tap 7800 ∷ out_tap 8400 ∷ in_tap 14400 ∷ out_tap 15000 ∷ []) 3 ≡ 5
+unfolding out_tap in_tap half_an_hour
+inside_a_leg tables = refl
+
 -- one that enters, the same one as it leaves, and none
 enters : (tables : FareTables) → disturbed tables (map out_tap (0 ∷ 1200 ∷ 1800 ∷ [])) (map out_tap (0 ∷ 600 ∷ 1200 ∷ 1800 ∷ [])) ≡ 5
 unfolding out_tap
@@ -118,3 +147,22 @@ leaves tables = refl
 neither : (tables : FareTables) → disturbed tables (map out_tap (0 ∷ 1200 ∷ 1800 ∷ [])) (map out_tap (0 ∷ 1200 ∷ 1800 ∷ [])) ≡ 0
 unfolding out_tap
 neither tables = refl
+
+-- with an hour as the Hopper time
+an_hour_free : FareTables → FareTables
+an_hour_free tables = record tables { rules = record tables.rules { hopper = 3600 } }
+
+-- among taps of both kinds a bus tap disturbs those on buses alone
+of_both_kinds : (tables : FareTables) →
+    disturbed (an_hour_free tables) (out_tap 0 ∷ bus_tap 600 ∷ out_tap 1200 ∷ []) (out_tap 0 ∷ bus_tap 600 ∷ bus_tap 900 ∷ out_tap 1200 ∷ []) ≡ 1
+unfolding out_tap bus_tap an_hour_free
+of_both_kinds tables = refl
+
+-- of two at one instant the one with the later number enters
+other_reader : ℕ → Touch
+other_reader seconds = record { filled = false; first = 2; second = seconds; stamp = record { utc = 1_704_697_200 + seconds; day = 19_730; second = 25_200 + seconds }; place = 50; kind = Bus }
+
+one_instant : (tables : FareTables) →
+    disturbed (an_hour_free tables) (bus_tap 0 ∷ bus_tap 4000 ∷ []) (bus_tap 0 ∷ other_reader 0 ∷ bus_tap 4000 ∷ []) ≡ 2
+unfolding bus_tap other_reader an_hour_free
+one_instant tables = refl
