@@ -1,0 +1,4 @@
+pub mod Learned
+pub mod Moves
+pub mod Rests
+pub mod Rows
