@@ -589,24 +589,48 @@ fn expect_book<R: Abort + AllocGlobal>(rt: &R, tables: &Tables, sent: [Sent; 3])
     expect_day(rt, &book, tables, (1, 175));
 }
 
-// Two boardings an hour and more apart, of which one is taken out before it comes or behind it.
-#[test]
-fn one_book_in_whatever_order(rt: HostRuntime) {
-    let tables = sample(&rt);
-    let one = Sent::Tap(Tap {
+/// A boarding of account 7.
+fn boarding<R: Abort>(rt: &R, seq: u32, second: u32) -> Sent
+    ensures { account_of result ≡ 7 }
+{
+    Sent::Tap(Tap {
         account: 7,
-        ..tap_at(&rt, 1, 25_200, 50, Kind::Bus)
-    });
-    let other = Sent::Tap(Tap {
-        account: 7,
-        ..tap_at(&rt, 2, 30_200, 50, Kind::Bus)
-    });
-    let void = Sent::Fix(Fix {
+        ..tap_at(rt, seq, second, 50, Kind::Bus)
+    })
+}
+
+/// The Void of its second one.
+fn void_of_second() -> Sent
+    ensures { account_of result ≡ 7 }
+{
+    Sent::Fix(Fix {
         account: 7,
         staff: 3,
         seq: 1,
         what: What::Void(1, 2),
-    });
-    expect_book(&rt, &tables, [one, other, void]);
-    expect_book(&rt, &tables, [void, other, one]);
+    })
+}
+
+// Two boardings an hour and more apart, of which one is taken out, behind it or before it comes.
+#[test]
+fn one_book_in_whatever_order(rt: HostRuntime) {
+    let tables = sample(&rt);
+    expect_book(
+        &rt,
+        &tables,
+        [
+            boarding(&rt, 1, 25_200),
+            boarding(&rt, 2, 30_200),
+            void_of_second(),
+        ],
+    );
+    expect_book(
+        &rt,
+        &tables,
+        [
+            void_of_second(),
+            boarding(&rt, 2, 30_200),
+            boarding(&rt, 1, 25_200),
+        ],
+    );
 }

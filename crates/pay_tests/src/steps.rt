@@ -389,7 +389,8 @@ fn one_before_all_that_there_may_be(rt: HostRuntime) {
     take_all(&rt, &mut book, &tables, &boardings(&rt, 16_383, 3_000));
     let late = tap(&rt, 16_383, SEVEN - 1_000, 50, Kind::Bus);
     expect_read(&rt, &mut book, &tables, late, 16_383, 64 + 4 * 16_383);
-    expect_read(&rt, &mut book, &tables, late, 0, 64);
+    let again = tap(&rt, 16_383, SEVEN - 1_000, 50, Kind::Bus);
+    expect_read(&rt, &mut book, &tables, again, 0, 64);
     let credit = Credit::from_parts(MONDAY, 100).expect(&rt, "a credit");
     expect_read(&rt, &mut book, &tables, fix(1, What::Credit(credit)), 0, 64);
 }
