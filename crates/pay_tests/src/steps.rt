@@ -391,8 +391,21 @@ fn one_before_all_that_there_may_be(rt: HostRuntime) {
     expect_read(&rt, &mut book, &tables, late, 16_383, 64 + 4 * 16_383);
     let again = tap(&rt, 16_383, SEVEN - 1_000, 50, Kind::Bus);
     expect_read(&rt, &mut book, &tables, again, 0, 64);
-    let credit = Credit::from_parts(MONDAY, 100).expect(&rt, "a credit");
-    expect_read(&rt, &mut book, &tables, fix(1, What::Credit(credit)), 0, 64);
+}
+
+/// A Credit of one pound.
+fn pound<R: Abort>(rt: &R) -> Asked {
+    let credit = Credit::from_parts(MONDAY, 100).expect(rt, "a credit");
+    fix(1, What::Credit(credit))
+}
+
+// A Credit disturbs none of them.
+#[test]
+fn one_credit_beside_a_thousand_boardings(rt: HostRuntime) {
+    let tables = sample(&rt);
+    let mut book: Book = empty_account(&rt, &tables);
+    take_all(&rt, &mut book, &tables, &boardings(&rt, 1_000, 3_000));
+    expect_read(&rt, &mut book, &tables, pound(&rt), 0, 64);
 }
 
 // ---- drawn histories
