@@ -6,11 +6,11 @@ use Rattle.crossbeam_queue.specs.Fifo.{Held}
 use Rattle.crossbeam_queue.specs.Passes.{Pass, view}
 use Rattle.pay_mailbox.specs.declared.rule.View.{View}
 use Rattle.pay_mailbox.specs.Of.{of}
-use Rattle.pay_mailbox.specs.Parts.{HasAll, HasFirst}
+use Rattle.pay_mailbox.specs.Parts.{HasAll, HasFirst, HasWaiting}
 use Rattle.pay_mailbox.specs.Rules.{HasGot}
 use Rattle.pay_mailbox.specs.Seen.{seen_mailbox, seen_back, seen_receiver}
 
-no_item : {T : Type 0} (items : List T) → length items ≡ 0 → items ≡ []
+pub no_item : {T : Type 0} (items : List T) → length items ≡ 0 → items ≡ []
 no_item [] e = refl
 no_item (x ∷ xs) e = absurd (omega arith)
 
@@ -37,4 +37,13 @@ module _ {T : Type 0} (sender : T → ℕ) where
     All-map (λ s. IsPrefix (of sender s.number v.got) s.sent) (seen_back (seen_mailbox p.table_id)) v.back
         (All-weaker (λ b. of sender b.number (v.got ++ h.0) ≡ b.sent) (λ b. IsPrefix (of sender b.number v.got) b.sent) (λ b is. (of sender b.number h.0, split b.number ∙ is)) v.back h.1.0),
     λ k far. front_nil (of sender k v.got) (of sender k h.0) (split k ∙ h.1.1 k far),
+  )
+
+  -- once the mailbox held so many
+  pub waiting_then : (p : Pass T (View T)) (n : ℕ) → Held n (HasGot sender (view p)) → HasWaiting sender n (seen_receiver p)
+  waiting_then p n h = let v = view p in (
+    h.0,
+    h.1,
+    All-map (λ s. of sender s.number (v.got ++ h.0) ≡ s.sent) (seen_back (seen_mailbox p.table_id)) v.back h.2.0,
+    h.2.1,
   )

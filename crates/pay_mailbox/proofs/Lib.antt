@@ -1,3 +1,4 @@
+pub mod Counts
 pub mod Learned
 pub mod Moves
 pub mod Rests

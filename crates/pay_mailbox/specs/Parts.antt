@@ -1,5 +1,6 @@
 -- What contracts see of a mailbox, of its senders and of its receiver.
-use Rattle.std.specs.Prelude.{◌≡◌, ℕ, ◌≤◌, ◌+◌, List, [], ◌∷◌, ◌++◌, All, length, refl}
+use Rattle.std.specs.Prelude.{◌≡◌, ℕ, ◌≤◌, ◌+◌, List, [], ◌∷◌, ◌++◌, All, length, map, refl}
+use Rattle.std.specs.List.{range_with_len}
 use Rattle.std.specs.Coded.{Coded, code_by, coded×, coded_ℕ, coded_list}
 use mathlib.Core.List.{IsPrefix}
 use Rattle.atomic_table.specs.Seated.{TableId, table_id_coded}
@@ -60,6 +61,10 @@ module _ {T : Type 0} where
   abbrev pub having_back : ReceiverParts T → SenderParts T → ReceiverParts T
   having_back r s = record { mailbox = r.mailbox; got = r.got; made = r.made; back = r.back ++ s ∷ [] }
 
+  -- all senders that were made are back, in the order of their numbers
+  abbrev pub AreAllBack : ReceiverParts T → Type 0
+  AreAllBack r = map (λ s. s.number) r.back ≡ range_with_len 0 r.made
+
 module _ {T : Type 0} (sender : T → ℕ) where
   -- at one moment the mailbox held as many items as it may, and of this sender what was got before and what it held was what the sender has sent
   abbrev pub WasFull : SenderParts T → Type 0
@@ -72,3 +77,8 @@ module _ {T : Type 0} (sender : T → ℕ) where
   -- of each sender that is back the first was got that it sent, in its order, and nothing else; and nothing was got of senders that are not made
   abbrev pub HasFirst : ReceiverParts T → Type 0
   HasFirst r = All (λ s. IsPrefix (of sender s.number r.got) s.sent) r.back × ((p : ℕ) → r.made ≤ p → of sender p r.got ≡ [])
+
+  -- at one moment the mailbox held so many items, and of each sender that is back what was got and what it held was what the sender has sent; and there was nothing of senders that are not made
+  abbrev pub HasWaiting : ℕ → ReceiverParts T → Type 0
+  HasWaiting n r =
+      (held : List T) × (length held ≡ n) × All (λ s. of sender s.number (r.got ++ held) ≡ s.sent) r.back × ((p : ℕ) → r.made ≤ p → of sender p (r.got ++ held) ≡ [])

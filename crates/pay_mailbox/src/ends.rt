@@ -1,6 +1,6 @@
 //! Both ends of a mailbox that they own together, for threads that are spawned.
-ghost use Rattle.std.specs.Prelude.{◌≡◌, ◌<◌, ◌++◌, ◌∷◌, [], List, IfOk, OnOk, IfErr, OnErr, IfSome, IfNone};
-ghost use Rattle.pay_mailbox.specs.Parts.{receiver_of, sender_of, having_sent, having_got, having_made, having_back, WasFull, HasAll, HasFirst};
+ghost use Rattle.std.specs.Prelude.{◌≡◌, ◌<◌, ◌≤◌, ◌+◌, ◌++◌, ◌∷◌, [], List, vec_len, vec_capacity, IfOk, OnOk, IfErr, OnErr, IfSome, IfNone};
+ghost use Rattle.pay_mailbox.specs.Parts.{receiver_of, sender_of, having_sent, having_got, having_made, having_back, AreAllBack, WasFull, HasAll, HasFirst, HasWaiting};
 
 use crate::mailbox::{Mailbox, Receiver, Sender};
 use crate::senders::Senders;
@@ -84,13 +84,24 @@ impl<T: Drop, S: Senders<T>> Inbox<T, S> {
         self.mailbox.receive(rt, &mut self.receiver)
     }
 
-    /// Receives until the mailbox was empty at one moment, and puts what it got into `rest`. Of each sender that was
-    /// back before, all was got by then. `Err` is want of memory, and nothing is lost.
-    pub fn receive_rest<R: Wait>(&mut self, rt: &R, rest: &mut Vec<T>) -> Result<(), AllocError>
-        ensures got { (items : List T) × (rest.new.items ≡ rest.old.items ++ items) × (self.new ≡ having_got self.old items) }
-        ensures all { OnOk result (HasAll S.sender self.new) }
+    /// How many items the mailbox held at one moment of the call.
+    pub fn waiting<R: Wait>(&mut self, rt: &R) -> usize
+        ensures same { self.new ≡ self.old }
+        ensures few { result ≤ self.old.mailbox.capacity }
+        ensures held { HasWaiting S.sender result self.old }
     {
-        self.mailbox.receive_rest(rt, &mut self.receiver, rest)
+        self.mailbox.waiting(rt, &mut self.receiver)
+    }
+
+    /// Receives all that is left once all senders are back, and puts it into `rest`, which has room for as many items
+    /// as the mailbox holds at most.
+    pub fn receive_rest<R: Wait>(&mut self, rt: &R, rest: &mut Vec<T>)
+        requires back { AreAllBack self.old }
+        requires room { vec_len rest.old + self.old.mailbox.capacity ≤ vec_capacity rest.old }
+        ensures got { (items : List T) × (rest.new.items ≡ rest.old.items ++ items) × (self.new ≡ having_got self.old items) }
+        ensures all { HasAll S.sender self.new }
+    {
+        self.mailbox.receive_rest(rt, &mut self.receiver, rest);
     }
 
     /// Takes a sending end of this mailbox back, with what it sent.

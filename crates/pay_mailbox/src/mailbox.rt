@@ -1,6 +1,6 @@
 //! The mailbox, its receiver and its senders.
-ghost use Rattle.std.specs.Prelude.{◌≡◌, ◌<◌, ◌++◌, [], ◌∷◌, List, IfOk, OnOk, IfErr, OnErr, IfSome, IfNone};
-ghost use Rattle.pay_mailbox.specs.Parts.{sender_of, receiver_of, having_sent, having_got, having_made, having_back, WasFull, HasAll, HasFirst};
+ghost use Rattle.std.specs.Prelude.{◌≡◌, ◌<◌, ◌≤◌, ◌+◌, ◌++◌, [], ◌∷◌, List, vec_len, vec_capacity, IfOk, OnOk, IfErr, OnErr, IfSome, IfNone};
+ghost use Rattle.pay_mailbox.specs.Parts.{sender_of, receiver_of, having_sent, having_got, having_made, having_back, AreAllBack, WasFull, HasAll, HasFirst, HasWaiting};
 
 use crate::rule::{Gets, InOrder, Makes, Returns, Sends, View};
 use crate::senders::Senders;
@@ -119,26 +119,33 @@ impl<T, S: Senders<T>> Mailbox<T, S> {
         self.queue.pop_as::<Gets<S>, R>(rt, &mut receiver.pass)
     }
 
-    /// Receives until the mailbox was empty at one moment, and puts what it got into `rest`. Of each sender that was
-    /// back before, all was got by then. `Err` is want of memory, and nothing is lost.
-    pub fn receive_rest<R: Wait>(
-        &self,
-        rt: &R,
-        receiver: &mut Receiver<T>,
-        rest: &mut Vec<T>,
-    ) -> Result<(), AllocError>
+    /// How many items the mailbox held at one moment of the call.
+    pub fn waiting<R: Wait>(&self, rt: &R, receiver: &mut Receiver<T>) -> usize
         requires { receiver.old.mailbox ≡ self.now }
-        ensures got { (items : List T) × (rest.new.items ≡ rest.old.items ++ items) × (receiver.new ≡ having_got receiver.old items) }
-        ensures all { OnOk result (HasAll S.sender receiver.new) }
+        ensures same { receiver.new ≡ receiver.old }
+        ensures few { result ≤ receiver.old.mailbox.capacity }
+        ensures held { HasWaiting S.sender result receiver.old }
     {
-        for _ in rt.forever() {
-            rest.reserve(1)?;
+        self.queue.len_as::<Gets<S>, R>(rt, &mut receiver.pass)
+    }
+
+    /// Receives all that is left once all senders are back, and puts it into `rest`, which has room for as many items
+    /// as the mailbox holds at most.
+    pub fn receive_rest<R: Wait>(&self, rt: &R, receiver: &mut Receiver<T>, rest: &mut Vec<T>)
+        requires mailbox { receiver.old.mailbox ≡ self.now }
+        requires back { AreAllBack receiver.old }
+        requires room { vec_len rest.old + receiver.old.mailbox.capacity ≤ vec_capacity rest.old }
+        ensures got { (items : List T) × (rest.new.items ≡ rest.old.items ++ items) × (receiver.new ≡ having_got receiver.old items) }
+        ensures all { HasAll S.sender receiver.new }
+    {
+        for _ in 0..self.waiting(rt, receiver) {
             match self.receive(rt, receiver) {
                 Some(item) => rest.push_reserved(item),
-                None => return Ok(()),
+                None => return,
             }
         }
-        unreachable!()
+        // As many were got as were left, and of each sender the first of what it sent: so it is all.
+        self.compare(receiver);
     }
 
     /// Takes a sender back, with what it sent.

@@ -13,6 +13,8 @@ use std::thread::{Promise, Threads};
 
 const COUNT: u64 = 200;
 
+const CAPACITY: usize = 4;
+
 /// An item that owns memory.
 #[derive(Drop)]
 struct Letter {
@@ -251,7 +253,7 @@ fn send_all<R: Wait>(rt: &R, mut end: Outbox<Count, ByShard>, shard: u8) -> Outb
     end
 }
 
-// Receives what two threads send, until they have ended and nothing is left.
+// Receives what two threads send, until so few are left that the mailbox holds them, and then the rest.
 fn gathered<R>(rt: R, alloc: Global) -> Result<(Inbox<Count, ByShard>, Vec<Count>), AllocError>
 where
     R: Threads + Wait + Copy + Send + 'static,
@@ -259,7 +261,7 @@ where
     ensures items { IfOk result (λ r. r.0.got ≡ r.1.items) }
     ensures back { IfOk result (λ r. length r.0.back ≡ 2) }
 {
-    let mut inbox = Inbox::open(alloc, 4)?;
+    let mut inbox = Inbox::open(alloc, CAPACITY)?;
     let first = inbox.outbox()?;
     let second = inbox.outbox()?;
     let same_first = SameSender(Snapshot::of(&first));
@@ -268,14 +270,18 @@ where
     let second = thread::spawn_with(&rt, same_second, move || send_all(&rt, second, 1))?;
     let mut got = Vec::new(alloc);
     for _ in rt.forever() {
-        if got.len() as u64 >= 2 * COUNT {
+        if got.len() as u64 + CAPACITY as u64 >= 2 * COUNT {
             break;
         }
-        inbox.receive_rest(&rt, &mut got)?;
+        got.reserve(1)?;
+        if let Some(count) = inbox.receive(&rt) {
+            got.push_reserved(count);
+        }
     }
     inbox.rejoin(first.join(&rt));
     inbox.rejoin(second.join(&rt));
-    inbox.receive_rest(&rt, &mut got)?;
+    got.reserve(CAPACITY)?;
+    inbox.receive_rest(&rt, &mut got);
     Ok((inbox, got))
 }
 
@@ -283,5 +289,36 @@ where
 fn all_is_gathered(rt: HostRuntime) -> Result<(), Fail> {
     let (_, got) = gathered(rt, rt.alloc())?;
     assert_eq!(rt; got.len() as u64, 2 * COUNT);
+    Ok(())
+}
+
+#[test]
+fn what_waits_is_counted(rt: HostRuntime) -> Result<(), Fail> {
+    let mut inbox = Inbox::open(rt.alloc(), CAPACITY)?;
+    let end = inbox.outbox()?;
+    assert_eq!(rt; inbox.waiting(&rt), 0);
+    let end = send_surely(
+        &rt,
+        end,
+        Count {
+            shard: 0,
+            number: 5,
+        },
+    );
+    let end = send_surely(
+        &rt,
+        end,
+        Count {
+            shard: 0,
+            number: 6,
+        },
+    );
+    assert_eq!(rt; inbox.waiting(&rt), 2);
+    inbox.rejoin(end);
+    let mut rest = Vec::with_capacity(rt.alloc(), CAPACITY)?;
+    inbox.receive_rest(&rt, &mut rest);
+    assert_eq!(rt; inbox.waiting(&rt), 0);
+    assert_eq!(rt; rest.len(), 2);
+    assert_eq!(rt; rest[1].number, 6);
     Ok(())
 }
