@@ -6,6 +6,7 @@ ghost use Rattle.pay_shard.specs.JournalParts.{all_in};
 use crate::block::{BLOCK_ITEMS, Block};
 use crate::item::Item;
 use std::alloc::{AllocError, Global};
+use std::default::MadeWith;
 use std::marker::Model;
 
 /// How many blocks a journal has at most: the number of all items that they take fits a `usize`.
@@ -34,6 +35,12 @@ impl Model for Journal {
     ghost view = { λ j. record { items = all_in j.blocks.items; room = BLOCK_ITEMS * length j.blocks.items - j.len } };
 
     ghost invariant = { λ j. AreBlocks j.len j.blocks.items };
+}
+
+impl MadeWith<Global> for Journal {
+    fn made_with(alloc: Global) -> Journal {
+        Journal::new(alloc)
+    }
 }
 
 /// The block of a number.

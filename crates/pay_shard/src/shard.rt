@@ -127,6 +127,14 @@ impl<F: Fares> Shard<F> {
         &self.journal
     }
 
+    /// All that was asked, in order, without the accounts.
+    pub fn into_journal(self) -> Journal
+        ensures value { result.items ≡ self.journal }
+        ensures history { IsHistory self.tables self.base result.items }
+    {
+        self.journal
+    }
+
     /// An account by its number. `None` is given only where it has accepted nothing.
     pub fn account(&self, number: u32) -> Option<&F>
         ensures own { IfSome result (λ it. F.account it.now ≡ number) }
