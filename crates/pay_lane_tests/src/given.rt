@@ -1,0 +1,77 @@
+//! What tests are given: a fare file of one bus route, commands of account 7, and lanes and workers.
+
+ghost use Rattle.std.specs.Prelude.{ℕ};
+ghost use Rattle.pay_shard.specs.Words.{IsForShards};
+
+use pay_day::Moment;
+use pay_fare_file::read_tables;
+use pay_shard::{Answer, Asked, Command, Reply};
+use pay_tables::Tables;
+use pay_taps::{Kind, Tap};
+use std::fmt::Debug;
+use std::process::Abort;
+use std::sync::Arc;
+
+const ONE_ROUTE: &str = "zones = 1
+minutes = [90]
+single = [{ from = 1, to = 1, peak = 280, off = 270 }]
+route = [{ place = 50, operator = 4 }]
+
+[rules]
+bus = 175
+maximum = 860
+hopper = 3600
+same_free = 120
+same_limit = 1800
+";
+
+/// Monday, 2024-01-08.
+const MONDAY: u32 = 19_730;
+
+/// So what was found is what is wanted.
+pub fn expect_same<R: Abort, T: Copy + PartialEq + Debug>(rt: &R, found: T, wanted: T) {
+    assert_eq!(rt; found, wanted);
+}
+
+/// The tables of the fare file.
+pub fn one_route<R: Abort + AllocGlobal>(rt: &R) -> Arc<Tables> {
+    let tables = read_tables(rt.alloc(), ONE_ROUTE).expect(rt, "the fare file");
+    Arc::new(rt.alloc(), tables).expect(rt, "memory")
+}
+
+/// A bus tap of an account by a reader, so many seconds after 08:00:00 of the Monday, when London's clocks show UTC.
+pub fn bus_tap<R: Abort>(rt: &R, account: u32, reader: u16, second: u32) -> Command
+    ensures { (shards : ℕ) → IsForShards shards result }
+{
+    let second = second.saturating_add(28_800);
+    let utc = u64::from(MONDAY) * 86_400 + u64::from(second);
+    let tap = Tap {
+        account,
+        reader,
+        seq: second,
+        stamp: Moment::from_parts(utc, MONDAY, second).expect(rt, "a moment"),
+        place: 50,
+        kind: Kind::Bus,
+    };
+    Command::of(Asked::Tap(tap)).expect(rt, "a command")
+}
+
+/// What an account owes through the Monday.
+pub fn due<R: Abort>(rt: &R, account: u32) -> Command
+    ensures { (shards : ℕ) → IsForShards shards result }
+{
+    let asked = Asked::Due {
+        account,
+        day: MONDAY,
+    };
+    Command::of(asked).expect(rt, "a command")
+}
+
+/// The pence of an answer: the price of the day, or what is due.
+pub fn pence(answer: &Answer) -> Option<u64> {
+    match &answer.reply {
+        Reply::Priced(priced) => Some(priced.day_price.pence()),
+        Reply::Due(quote) => Some(quote.due().pence()),
+        _ => None,
+    }
+}

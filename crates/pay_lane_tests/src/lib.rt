@@ -1,0 +1,9 @@
+//! The tests of lanes and workers. They show what no clause says: that what is sent is answered, whatever the threads do.
+#![tactic(auto)]
+
+#[cfg(test)]
+mod given;
+#[cfg(test)]
+mod threads;
+#[cfg(test)]
+mod waiting;

@@ -1,0 +1,11 @@
+pub mod Endings
+pub mod Exchanges
+pub mod Going
+pub mod Numbers
+pub mod Openings
+pub mod Owned
+pub mod Rows
+pub mod Same
+pub mod Sent
+pub mod Told
+pub mod Turned

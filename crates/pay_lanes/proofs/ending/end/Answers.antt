@@ -1,0 +1,87 @@
+use Rattle.std.proofs.Common.{◌<◌, rules, sym, ◌∙◌, arith}
+use Rattle.std.proofs.lemmas.Iterator.Adapters.{YieldsList-from_vec}
+use Rattle.std.proofs.lemmas.Iterator.Consumers.{YieldsList-turn, YieldsList-end}
+use Rattle.std.proofs.lemmas.List.{length_push}
+use Rattle.std.proofs.lemmas.List.Sorted.{IsNonDecreasingBy-from_sort_by_key}
+use Rattle.arrayvec.specs.ArrayVec.{array_vec_len}
+use Rattle.pay_lanes.specs.Parts.{LaneParts}
+use Rattle.pay_lanes.proofs.Numbers.{sorted_all, in_order_all, order_of, order_back}
+use Rattle.pay_lanes.proofs.Exchanges.{each_length}
+use Rattle.pay_lanes.proofs.Endings.{none_ended, next_here, one_ended, pushed, journals_end, many_end, known_end, sent_end, answered_end}
+use Rattle.pay_lanes.proofs.ending.end.Goals as goal
+
+pub returns-then-not-are_in_order-clause-missing :
+    goal.returns-then-not-are_in_order-clause-missing
+returns-then-not-are_in_order-clause-missing g c = λ all.
+    let up = IsNonDecreasingBy-from_sort_by_key (λ (l : LaneParts). l.number) _ c.sort_unstable_by_key.ensures.sorted (λ a r q k. search rules) in
+    let order = sorted_all c.args.workers.items c.args.lanes.items c.sort_unstable_by_key.new.self.items c.sort_unstable_by_key.ensures.permutation up all in
+    let yes = c.are_in_order.ensures.1 (order_back c.deref.result.now c.sort_unstable_by_key.new.self.items c.deref-2.result.now c.args.workers.items c.lanes_of.result c.deref.ensures.value c.deref-2.ensures.value c.lanes_of.ensures order) in
+    let no = c.if-not-are_in_order.true in
+    cc
+
+pub loop-worker-init : goal.loop-worker-init
+loop-worker-init g c = (
+  none_ended c.args.workers.items c.args.lanes.items c.sort_unstable_by_key.new.self.items c.requires c.sort_unstable_by_key.ensures.permutation
+      (order_of c.deref.result.now c.sort_unstable_by_key.new.self.items c.deref-2.result.now c.args.workers.items c.lanes_of.result c.deref.ensures.value c.deref-2.ensures.value c.lanes_of.ensures (c.are_in_order.ensures.0 (search rules)))
+      _ _ _ _ c.new_in.ensures c.new_in-2.ensures,
+  search rules,
+  search rules,
+)
+
+pub end_worker-journal-requires : goal.end_worker-journal-requires
+end_worker-journal-requires g c =
+    let turn = (YieldsList-turn (YieldsList-from_vec {s = c.into_iter-worker-iterator.result} c.args.workers.items c.into_iter-worker-iterator.ensures.into_iter_gives.0 (c.into_iter-worker-iterator.ensures.into_iter_gives.1 ∙ c.args.workers.ok.0)) c.loop-worker.yielded c.loop-worker.worker-iterator c.loop-worker.yielded_by c.next.result c.next.new.self c.in-Some.worker c.in-Some.is c.next.ensures.steps) in
+    next_here _ _ _ _ _ _ c.loop-worker.invariant.0 c.in-Some.worker turn.0 turn.1
+
+pub push-requires : goal.push-requires
+push-requires g c =
+    let turn = (YieldsList-turn (YieldsList-from_vec {s = c.into_iter-worker-iterator.result} c.args.workers.items c.into_iter-worker-iterator.ensures.into_iter_gives.0 (c.into_iter-worker-iterator.ensures.into_iter_gives.1 ∙ c.args.workers.ok.0)) c.loop-worker.yielded c.loop-worker.worker-iterator c.loop-worker.yielded_by c.next.result c.next.new.self c.in-Some.worker c.in-Some.is c.next.ensures.steps) in
+    let within : array_vec_len c.loop-worker.ended.journals < 16 = omega (arith, c.loop-worker.invariant.1, turn.0, c.requires.few) in
+    (search rules, within)
+
+pub push-requires-in-loop-worker : goal.push-requires-in-loop-worker
+push-requires-in-loop-worker g c =
+    let turn = (YieldsList-turn (YieldsList-from_vec {s = c.into_iter-worker-iterator.result} c.args.workers.items c.into_iter-worker-iterator.ensures.into_iter_gives.0 (c.into_iter-worker-iterator.ensures.into_iter_gives.1 ∙ c.args.workers.ok.0)) c.loop-worker.yielded c.loop-worker.worker-iterator c.loop-worker.yielded_by c.next.result c.next.new.self c.in-Some.worker c.in-Some.is c.next.ensures.steps) in
+    let within : array_vec_len c.loop-worker.ended.left < 16 = omega (arith, c.loop-worker.invariant.2, turn.0, c.requires.few) in
+    (search rules, within)
+
+pub loop-worker-preserved : goal.loop-worker-preserved
+loop-worker-preserved g c =
+    let turn = (YieldsList-turn (YieldsList-from_vec {s = c.into_iter-worker-iterator.result} c.args.workers.items c.into_iter-worker-iterator.ensures.into_iter_gives.0 (c.into_iter-worker-iterator.ensures.into_iter_gives.1 ∙ c.args.workers.ok.0)) c.loop-worker.yielded c.loop-worker.worker-iterator c.loop-worker.yielded_by c.next.result c.next.new.self c.in-Some.worker c.in-Some.is c.next.ensures.steps) in
+    let more = length_push c.loop-worker.yielded c.in-Some.worker in (
+      one_ended _ _ _ _ _ _ c.loop-worker.invariant.0 c.in-Some.worker turn.0 turn.1 _ c.end_worker-journal.new.lanes.items c.end_worker-journal.result.0.items c.end_worker-journal.result.1.items _ _ more
+          c.end_worker-journal.ensures.journal c.end_worker-journal.ensures.lanes c.end_worker-journal.ensures.sent c.end_worker-journal.ensures.answered c.requires.workers_of c.end_worker-journal.ensures.known
+          (pushed _ c.loop-worker.ended.journals.items c.push.new.self.items c.end_worker-journal.result.0 c.push.ensures.items) (pushed _ c.loop-worker.ended.left.items c.push-in-loop-worker.new.self.items c.end_worker-journal.result.1 c.push-in-loop-worker.ensures.items),
+      omega (arith, c.loop-worker.invariant.1, more, c.push.ensures.len),
+      omega (arith, c.loop-worker.invariant.2, more, c.push-in-loop-worker.ensures.len),
+    )
+
+pub returns-clause-all : goal.returns-clause-all
+returns-clause-all g c =
+    in_order_all c.args.workers.items c.args.lanes.items c.sort_unstable_by_key.new.self.items c.sort_unstable_by_key.ensures.permutation
+    (order_of c.deref.result.now c.sort_unstable_by_key.new.self.items c.deref-2.result.now c.args.workers.items c.lanes_of.result c.deref.ensures.value c.deref-2.ensures.value c.lanes_of.ensures (c.are_in_order.ensures.0 (search rules)))
+
+pub returns-clause-journals : goal.returns-clause-journals
+returns-clause-journals g c =
+    let end = (YieldsList-end (YieldsList-from_vec {s = c.into_iter-worker-iterator.result} c.args.workers.items c.into_iter-worker-iterator.ensures.into_iter_gives.0 (c.into_iter-worker-iterator.ensures.into_iter_gives.1 ∙ c.args.workers.ok.0)) c.loop-worker.yielded c.loop-worker.worker-iterator c.loop-worker.yielded_by c.next.result c.next.new.self c.in-None.is c.next.ensures.steps) in
+    journals_end _ _ _ _ _ _ c.loop-worker.invariant.0 end.1
+
+pub returns-clause-many : goal.returns-clause-many
+returns-clause-many g c =
+    let end = (YieldsList-end (YieldsList-from_vec {s = c.into_iter-worker-iterator.result} c.args.workers.items c.into_iter-worker-iterator.ensures.into_iter_gives.0 (c.into_iter-worker-iterator.ensures.into_iter_gives.1 ∙ c.args.workers.ok.0)) c.loop-worker.yielded c.loop-worker.worker-iterator c.loop-worker.yielded_by c.next.result c.next.new.self c.in-None.is c.next.ensures.steps) in
+    sym (each_length _ c.loop-worker.ended.left.items) ∙ many_end _ _ _ _ _ _ c.loop-worker.invariant.0 end.1
+
+pub returns-clause-known : goal.returns-clause-known
+returns-clause-known g c =
+    let end = (YieldsList-end (YieldsList-from_vec {s = c.into_iter-worker-iterator.result} c.args.workers.items c.into_iter-worker-iterator.ensures.into_iter_gives.0 (c.into_iter-worker-iterator.ensures.into_iter_gives.1 ∙ c.args.workers.ok.0)) c.loop-worker.yielded c.loop-worker.worker-iterator c.loop-worker.yielded_by c.next.result c.next.new.self c.in-None.is c.next.ensures.steps) in
+    known_end _ _ _ _ _ _ c.loop-worker.invariant.0 end.1
+
+pub returns-clause-sent : goal.returns-clause-sent
+returns-clause-sent g c =
+    let end = (YieldsList-end (YieldsList-from_vec {s = c.into_iter-worker-iterator.result} c.args.workers.items c.into_iter-worker-iterator.ensures.into_iter_gives.0 (c.into_iter-worker-iterator.ensures.into_iter_gives.1 ∙ c.args.workers.ok.0)) c.loop-worker.yielded c.loop-worker.worker-iterator c.loop-worker.yielded_by c.next.result c.next.new.self c.in-None.is c.next.ensures.steps) in
+    sent_end _ _ _ _ _ _ c.loop-worker.invariant.0 end.1 c.args.lanes.items c.sort_unstable_by_key.ensures.permutation
+
+pub returns-clause-answered : goal.returns-clause-answered
+returns-clause-answered g c =
+    let end = (YieldsList-end (YieldsList-from_vec {s = c.into_iter-worker-iterator.result} c.args.workers.items c.into_iter-worker-iterator.ensures.into_iter_gives.0 (c.into_iter-worker-iterator.ensures.into_iter_gives.1 ∙ c.args.workers.ok.0)) c.loop-worker.yielded c.loop-worker.worker-iterator c.loop-worker.yielded_by c.next.result c.next.new.self c.in-None.is c.next.ensures.steps) in
+    answered_end _ _ _ _ _ _ c.loop-worker.invariant.0 end.1 c.args.lanes.items c.sort_unstable_by_key.ensures.permutation

@@ -1,0 +1,16 @@
+use Rattle.std.proofs.Common.{◌∙◌, sym, ap}
+use Rattle.pay_lanes.specs.Working.{entries_of}
+use Rattle.pay_lanes.proofs.Openings.{new_told}
+use Rattle.pay_lanes.proofs.worker.Worker.new.Goals as goal
+
+pub invariant_of-result : goal.invariant_of-result
+invariant_of-result g c = (
+  record {
+    popped = c.requires.requests.0 ∙ sym (ap entries_of c.requires.shard);
+    made = c.requires.requests.1;
+    told = new_told c.args.shard c.args.lanes.items c.requires.shard c.requires.lanes;
+    held = tt;
+  },
+  c.requires.left.0,
+  c.requires.left.1,
+)

@@ -1,0 +1,6 @@
+pub mod Parts
+pub mod Working
+pub mod Turns
+pub mod Ends
+pub mod Openings
+pub mod Words

@@ -1,0 +1,141 @@
+//! Takes workers and lanes back once their threads have returned.
+ghost use Rattle.std.specs.Prelude.{◌≡◌, ◌<◌, ◌∷◌, All, length, map as each, IsTrue, ◌↔◌, IfOk, IfErr, OnOk, OnErr, IsPermutation, vec_items};
+ghost use Rattle.std.specs.List.{range_with_len};
+ghost use mathlib.Core.List.{IsPrefix};
+ghost use Rattle.pay_mailbox.specs.Words.{of};
+ghost use Rattle.pay_lanes.specs.Turns.{by_shard};
+ghost use Rattle.pay_lanes.specs.Ends.{lanes_of, numbers, AreAll, AreTogether, arrived, sent_by, IsAnswered, exchanged, all_exchanged, IsNext, HasLeft, IsKnown, AreKnown};
+
+use crate::gate::Gate;
+use crate::lane::Lane;
+use crate::limits::MOST_JOURNALS;
+use crate::senders::{ByLane, ByShard};
+use crate::worker::Worker;
+use arrayvec::ArrayVec;
+use pay_account::Fares;
+use pay_mailbox::Outbox;
+use pay_shard::{Answer, Entry, Journal};
+use std::alloc::Global;
+use std::sync::Wait;
+use thiserror::Error;
+
+/// Why nothing ends.
+#[derive(Clone, Copy, Debug, PartialEq, Eq, Error)]
+pub enum EndFault {
+    /// 33: the numbers of the lanes are not all that were opened, each once.
+    #[error("33 LaneMissing")]
+    LaneMissing,
+}
+
+/// What the shards were asked, and what they were not asked any more. Each list has the shards in the order of their workers.
+#[derive(Drop)]
+pub struct Ended {
+    /// The journal of each shard.
+    pub journals: ArrayVec<Journal, MOST_JOURNALS, Global>,
+    /// The entries that each shard did not pop, those of each lane in its order.
+    pub left: ArrayVec<Vec<Entry>, MOST_JOURNALS, Global>,
+}
+
+/// How many lanes were opened with these workers.
+fn lanes_of<F: Fares, G: Gate>(workers: &[Worker<F, G>]) -> usize
+    ensures { result ≡ lanes_of workers.now }
+{
+    match workers.first() {
+        Some(worker) => worker.lanes.len(),
+        None => 0,
+    }
+}
+
+/// Whether the lanes are so many, and each stands at the place of its number.
+fn are_in_order(lanes: &[Lane], count: usize) -> bool
+    ensures { IsTrue result ↔ (numbers lanes.now ≡ range_with_len 0 count) }
+{
+    for place in 0..lanes.len() {
+        if lanes[place].number() as usize != place {
+            return false;
+        }
+    }
+    lanes.len() == count
+}
+
+/// Takes the first way of a lane, and gives the way to it back.
+fn exchange(lane: &mut Lane, way: Outbox<Answer, ByShard>) -> Outbox<Entry, ByLane>
+    requires some { 0 < length lane.old.shards }
+    requires own { way.mailbox ≡ lane.old.answers.mailbox }
+    ensures lane { lane.new ≡ exchanged lane.old way }
+    ensures first { lane.old.shards ≡ result ∷ lane.new.shards }
+    ensures number { result.number ≡ lane.old.number }
+    ensures taken { IsPrefix (of by_shard way.number lane.old.answers.got) way.sent }
+{
+    lane.answers.rejoin(way);
+    lane.answers.compare();
+    lane.shards.remove(0)
+}
+
+/// Ends a worker: each lane gives its way to it back, and gets the worker's way to it.
+fn end_worker<F: Fares, G: Gate, R: Wait>(
+    rt: &R,
+    worker: Worker<F, G>,
+    lanes: &mut Vec<Lane>,
+) -> (Journal, Vec<Entry>)
+    requires { IsNext worker lanes.old.items }
+    ensures journal { result.0.items ≡ worker.shard.journal }
+    ensures lanes { lanes.new.items ≡ all_exchanged lanes.old.items worker.lanes }
+    ensures sent { All (HasLeft worker result.1.items) lanes.old.items }
+    ensures known { IsKnown worker result.1.items }
+    ensures answered { All (λ l. IsAnswered l worker) lanes.old.items }
+{
+    let Worker {
+        shard,
+        mut requests,
+        lanes: mut ways,
+        mut left,
+        ..
+    } = worker;
+    for place in 0..lanes.len() {
+        let way = ways.remove(0);
+        requests.rejoin(exchange(&mut lanes[place], way));
+    }
+    requests.receive_rest(rt, &mut left);
+    (shard.into_journal(), left)
+}
+
+/// Ends workers and lanes that were opened together, once their threads have returned. It takes no memory. Where lanes are
+/// missing, it gives all back.
+pub fn end<F: Fares, G: Gate, R: Wait>(
+    rt: &R,
+    workers: Vec<Worker<F, G>>,
+    lanes: Vec<Lane>,
+) -> Result<Ended, (EndFault, Vec<Worker<F, G>>, Vec<Lane>)>
+    requires { AreTogether workers.items lanes.items }
+    ensures all { OnOk result (AreAll workers.items lanes.items) }
+    ensures missing { OnErr result (AreAll workers.items lanes.items → ⊥) }
+    ensures given_back { IfErr result (λ back. (back.1 ≡ workers) × IsPermutation lanes.items back.2.items) }
+    ensures journals { IfOk result (λ ended. each (λ j. j.items) ended.journals.items ≡ each (λ w. w.shard.journal) workers.items) }
+    ensures many { IfOk result (λ ended. length ended.left.items ≡ length workers.items) }
+
+    // What each lane sent to a shard stands in its journal or is left there, in order, and each entry once. Of a lane that was
+    // not opened there is nothing.
+    ensures sent { IfOk result (λ ended. All (λ l. arrived l.number workers.items (each vec_items ended.left.items) ≡ sent_by l) lanes.items) }
+    ensures known { IfOk result (λ ended. AreKnown workers.items (each vec_items ended.left.items)) }
+
+    // What each lane took from a shard is the first of what the run of its journal answers at the lane's items.
+    ensures answered { OnOk result (All (λ l. All (IsAnswered l) workers.items) lanes.items) }
+{
+    let mut lanes = lanes;
+    lanes.sort_unstable_by_key(|lane| lane.number);
+    if !are_in_order(&lanes, lanes_of(&workers)) {
+        return Err((EndFault::LaneMissing, workers, lanes));
+    }
+    let alloc = *workers.allocator();
+    let mut ended = Ended {
+        journals: ArrayVec::new_in(alloc),
+        left: ArrayVec::new_in(alloc),
+    };
+    for worker in workers {
+        let (journal, left) = end_worker(rt, worker, &mut lanes);
+        ended.journals.push(journal);
+        ended.left.push(left);
+    }
+    Ok(ended)
+}

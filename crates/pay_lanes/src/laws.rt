@@ -1,0 +1,24 @@
+//! What follows of lanes and workers that go on.
+ghost use Rattle.std.specs.Prelude.{◌≡◌, List, length};
+ghost use Rattle.pay_lanes.specs.Parts.{LaneParts, WorkerParts};
+ghost use Rattle.pay_lanes.specs.Ends.{AreTogether, GoOn};
+ghost use Rattle.pay_lanes.specs.Working.{IsSameLane, IsSameWorker};
+
+/// Workers and lanes that were opened together still are when they have gone on: all workers in order, and any of the lanes in
+/// any order.
+pub fn still_together()
+    ensures { (ws vs : List WorkerParts) (ls ks : List LaneParts) → AreTogether ws ls → GoOn ws vs ls ks → AreTogether vs ks }
+{}
+
+/// A lane is the same end as itself, and what is the same end as a same one is the same.
+pub fn same_lanes()
+    ensures itself { (l : LaneParts) → IsSameLane l l }
+    ensures then { (l m n : LaneParts) → IsSameLane l m → IsSameLane m n → IsSameLane l n }
+    ensures shards { (l m : LaneParts) → IsSameLane l m → length m.shards ≡ length l.shards }
+{}
+
+/// A worker is the same end as itself, and what is the same end as a same one is the same.
+pub fn same_workers()
+    ensures itself { (w : WorkerParts) → IsSameWorker w w }
+    ensures then { (w v u : WorkerParts) → IsSameWorker w v → IsSameWorker v u → IsSameWorker w u }
+{}

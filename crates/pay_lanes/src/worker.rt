@@ -1,0 +1,185 @@
+//! The worker of a shard.
+ghost use Rattle.std.specs.Prelude.{◌≡◌, ℕ, ◌<◌, ◌≤◌, [], None, Some, All, length, IfSome, OnSome, IfNone, vec_capacity};
+ghost use Rattle.pay_mailbox.specs.Words.{HasAll};
+ghost use Rattle.pay_shard.specs.Words.{ShardParts};
+ghost use Rattle.pay_lanes.specs.Parts.{sent_at, WasFullAt};
+ghost use Rattle.pay_lanes.specs.Turns.{by_lane, by_shard, HasDone, HasPoppedNone, IsHeldUp};
+ghost use Rattle.pay_lanes.specs.Working.{HasItem, IsOfferable, AreTold, mailboxes, IsSameWorker};
+ghost use Rattle.pay_lanes.specs.declared.worker.Turn.TheVariants as turns;
+
+use crate::gate::Gate;
+use crate::outgoing::Outgoing;
+use crate::senders::{ByLane, ByShard};
+use crate::sending::send_at;
+use pay_account::Fares;
+use pay_mailbox::{Inbox, Outbox};
+use pay_shard::{Answer, Entry, Shard};
+use std::marker::Model;
+use std::sync::Wait;
+
+/// What a worker did in a turn.
+#[derive(Clone, Copy, Debug, PartialEq, Eq)]
+pub enum Turn {
+    /// It popped nothing, since no entry waited at one moment of the call. An answer that was held is sent.
+    Idle,
+    /// It applied the entry that stands at this place of its journal. The answer is sent, or held.
+    Did(usize),
+    /// Nothing, since the lane of the last answer had no room for it.
+    Held,
+    /// It popped nothing, since there is no memory for an item of the journal. An answer that was held is sent.
+    Starved,
+}
+
+/// An end of the queues, which one thread has at a time: it answers what the lanes send to its shard. In a contract it is
+/// its shard, what it popped, what it sent to each lane, and the answer that is held.
+#[derive(Drop)]
+pub struct Worker<F: Fares, G: Gate> {
+    pub(crate) shard: Shard<F>,
+    pub(crate) requests: Inbox<Entry, ByLane>,
+    // At each place the way to the lane of that number.
+    pub(crate) lanes: Vec<Outbox<Answer, ByShard>>,
+    // The last answer, if its lane had no room for it.
+    held: Option<Outgoing>,
+    gate: G,
+    // Empty, with room for all entries that may be left when the threads have returned.
+    pub(crate) left: Vec<Entry>,
+}
+
+impl<F: Fares, G: Gate> Model for Worker<F, G> {
+    ghost use Rattle.std.specs.Prelude.{◌≡◌, ◌≤◌, [], vec_capacity};
+    ghost use Rattle.pay_lanes.specs.Parts.{WorkerParts, worker_code};
+    ghost use Rattle.pay_lanes.specs.Working.{IsWorking};
+
+    ghost Value = { WorkerParts };
+
+    ghost coded = { worker_code };
+
+    ghost view = { λ w. record { shard = w.shard; requests = w.requests; lanes = w.lanes.items; held = w.held } };
+
+    ghost invariant = { λ w. IsWorking (record { shard = w.shard; requests = w.requests; lanes = w.lanes.items; held = w.held })
+        × (w.left.items ≡ [])
+        × (w.requests.mailbox.capacity ≤ vec_capacity w.left) };
+}
+
+/// Sends an answer to its lane. It comes back only if the lane's queue was full at one moment of the call.
+fn offer<R: Wait>(
+    rt: &R,
+    lanes: &mut Vec<Outbox<Answer, ByShard>>,
+    outgoing: Outgoing,
+) -> Option<Outgoing>
+    requires { IsOfferable lanes.old.items outgoing }
+    ensures sent { IfNone result (lanes.new.items ≡ sent_at outgoing.lane outgoing.answer lanes.old.items) }
+    ensures refused { IfSome result (λ back. (back ≡ outgoing) × (lanes.new.items ≡ lanes.old.items)) }
+    ensures full { OnSome result (WasFullAt by_shard lanes.old.items outgoing.lane) }
+{
+    let Outgoing { lane, answer } = outgoing;
+    match send_at(rt, lanes, lane as usize, answer) {
+        Ok(()) => None,
+        Err(answer) => Some(Outgoing { lane, answer }),
+    }
+}
+
+/// Offers the answer that is held, if there is one.
+fn offer_held<R: Wait>(
+    rt: &R,
+    lanes: &mut Vec<Outbox<Answer, ByShard>>,
+    held: &mut Option<Outgoing>,
+)
+    requires { IfSome held.old (IsOfferable lanes.old.items) }
+    ensures told { (s : ShardParts) → AreTold s held.old lanes.old.items → AreTold s held.new lanes.new.items }
+    ensures mailboxes { mailboxes lanes.new.items ≡ mailboxes lanes.old.items }
+    ensures held { IfSome held.new (λ o. (held.old ≡ Some o) × (lanes.new.items ≡ lanes.old.items) × WasFullAt by_shard lanes.old.items o.lane) }
+{
+    if let Some(outgoing) = held.take() {
+        *held = offer(rt, lanes, outgoing);
+    }
+}
+
+/// Passes the gate with an entry that was popped, and answers it. The answer comes back if its lane had no room for it.
+fn answer<F: Fares, G: Gate, R: Wait>(
+    rt: &R,
+    shard: &mut Shard<F>,
+    gate: &mut G,
+    lanes: &mut Vec<Outbox<Answer, ByShard>>,
+    entry: Entry,
+) -> Option<Outgoing>
+    requires room { 0 < shard.old.room }
+    requires lane { entry.lane < length lanes.old.items }
+    requires told { AreTold shard.old None lanes.old.items }
+    ensures item { HasItem shard.old entry shard.new }
+    ensures told { AreTold shard.new result lanes.new.items }
+    ensures held { IfSome result (IsOfferable lanes.new.items) }
+    ensures mailboxes { mailboxes lanes.new.items ≡ mailboxes lanes.old.items }
+{
+    gate.before_job(rt, shard.number(), &entry);
+    let answer = shard.apply(entry);
+    let lane = entry.lane;
+    offer(rt, lanes, Outgoing { lane, answer })
+}
+
+impl<F: Fares, G: Gate> Worker<F, G> {
+    /// A worker that has popped and sent nothing.
+    pub(crate) fn new(
+        shard: Shard<F>,
+        requests: Inbox<Entry, ByLane>,
+        lanes: Vec<Outbox<Answer, ByShard>>,
+        gate: G,
+        left: Vec<Entry>,
+    ) -> Worker<F, G>
+        requires shard { shard.journal ≡ [] }
+        requires requests { (requests.got ≡ []) × (requests.made ≡ length lanes.items) }
+        requires lanes { All (λ way. (way.number ≡ shard.number) × (way.sent ≡ [])) lanes.items }
+        requires left { (left.items ≡ []) × (requests.mailbox.capacity ≤ vec_capacity left) }
+        ensures { result ≡ record { shard = shard; requests = requests; lanes = lanes.items; held = None } }
+    {
+        Worker {
+            shard,
+            requests,
+            lanes,
+            held: None,
+            gate,
+            left,
+        }
+    }
+
+    /// Its shard.
+    pub fn shard(&self) -> &Shard<F>
+        ensures { result.now ≡ self.now.shard }
+    {
+        &self.shard
+    }
+
+    /// Answers the oldest entry that waits. It offers an answer first that its lane had no room for, and it pops no entry
+    /// before the journal has room for it.
+    pub fn turn<R: Wait>(&mut self, rt: &R) -> Turn
+        ensures same { IsSameWorker self.old self.new }
+        ensures did { (place : ℕ) → result ≡ turns.Did place → HasDone self.old place self.new }
+
+        // That all was popped of lanes that are back binds the body to look; while none is back, it tells a caller nothing.
+        ensures idle { result ≡ turns.Idle → HasPoppedNone self.old self.new × HasAll by_lane self.old.requests }
+        ensures held { result ≡ turns.Held → (self.new ≡ self.old) × IsHeldUp self.old }
+        ensures starved { result ≡ turns.Starved → HasPoppedNone self.old self.new × (self.old.shard.room ≡ 0) }
+    {
+        let Worker {
+            shard,
+            requests,
+            lanes,
+            held,
+            gate,
+            ..
+        } = self;
+        offer_held(rt, lanes, held);
+        if held.is_some() {
+            return Turn::Held;
+        }
+        if shard.reserve(1).is_err() {
+            return Turn::Starved;
+        }
+        let Some(entry) = requests.receive(rt) else {
+            return Turn::Idle;
+        };
+        let place = shard.journal().len();
+        *held = answer(rt, shard, gate, lanes, entry);
+        Turn::Did(place)
+    }
+}
