@@ -2,6 +2,7 @@
 ghost use Rattle.std.specs.Prelude.{◌≡◌, ◌<◌, ◌≤◌, ◌↔◌, ◌⊎◌, ◌^◌, [], All, length, Ok, Err, IfOk, OnOk, OnErr, IfSome, IfNone};
 ghost use Rattle.pay_mailbox.specs.Words.{HasAll};
 ghost use Rattle.pay_shard.specs.Words.{IsForShards};
+ghost use Rattle.pay_lanes.specs.Openings.{IsNewSender};
 ghost use Rattle.pay_lanes.specs.Parts.{shard_of, unanswered, having_asked, having_taken, WasFullAt};
 ghost use Rattle.pay_lanes.specs.Working.{IsSameLane};
 ghost use Rattle.pay_lanes.specs.Turns.{by_lane, by_shard};
@@ -78,7 +79,7 @@ impl Lane {
         shards: Vec<Outbox<Entry, ByLane>>,
         answers: Inbox<Answer, ByShard>,
     ) -> Lane
-        requires shards { All (λ s. (s.number ≡ number) × (s.sent ≡ [])) shards.items }
+        requires shards { All (IsNewSender number) shards.items }
         requires answers { answers.got ≡ [] }
         ensures { result ≡ record { number = number; shards = shards.items; answers = answers; tickets = 0 } }
     {

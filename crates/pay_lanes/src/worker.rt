@@ -2,6 +2,7 @@
 ghost use Rattle.std.specs.Prelude.{◌≡◌, ℕ, ◌<◌, ◌≤◌, [], None, Some, All, length, IfSome, OnSome, IfNone, vec_capacity};
 ghost use Rattle.pay_mailbox.specs.Words.{HasAll};
 ghost use Rattle.pay_shard.specs.Words.{ShardParts};
+ghost use Rattle.pay_lanes.specs.Openings.{IsNewSender};
 ghost use Rattle.pay_lanes.specs.Parts.{sent_at, WasFullAt};
 ghost use Rattle.pay_lanes.specs.Turns.{by_lane, by_shard, HasDone, HasPoppedNone, IsHeldUp};
 ghost use Rattle.pay_lanes.specs.Working.{HasItem, IsOfferable, AreTold, mailboxes, IsSameWorker};
@@ -128,7 +129,7 @@ impl<F: Fares, G: Gate> Worker<F, G> {
     ) -> Worker<F, G>
         requires shard { shard.journal ≡ [] }
         requires requests { (requests.got ≡ []) × (requests.made ≡ length lanes.items) }
-        requires lanes { All (λ way. (way.number ≡ shard.number) × (way.sent ≡ [])) lanes.items }
+        requires lanes { All (IsNewSender shard.number) lanes.items }
         requires left { (left.items ≡ []) × (requests.mailbox.capacity ≤ vec_capacity left) }
         ensures { result ≡ record { shard = shard; requests = requests; lanes = lanes.items; held = None } }
     {
