@@ -7,6 +7,7 @@ use crate::senders::Senders;
 use std::alloc::{AllocError, Global};
 use std::marker::Model;
 use std::sync::{Arc, Wait};
+use std::time::Duration;
 
 /// The receiving end of a mailbox. In a contract it is the receiver.
 #[derive(Drop)]
@@ -82,6 +83,14 @@ impl<T: Drop, S: Senders<T>> Inbox<T, S> {
         ensures all { IfNone result (HasAll S.sender self.old) }
     {
         self.mailbox.receive(rt, &mut self.receiver)
+    }
+
+    /// Waits until an item is sent, and not at all if one was sent since it last waited. It waits no longer than `longest`, and
+    /// may end sooner.
+    pub fn wait<R: Wait>(&mut self, rt: &R, longest: Duration)
+        ensures { self.new ≡ self.old }
+    {
+        self.mailbox.wait(rt, longest);
     }
 
     /// How many items the mailbox held at one moment of the call.

@@ -8,6 +8,8 @@ use crossbeam_queue::{Pass, RuledArrayQueue};
 use std::alloc::{AllocError, Global};
 use std::marker::Model;
 use std::sync::Wait;
+use std::thread::Parker;
+use std::time::Duration;
 
 type Queue<T, S> = RuledArrayQueue<T, View<T>, InOrder<S>>;
 
@@ -16,6 +18,8 @@ type Queue<T, S> = RuledArrayQueue<T, View<T>, InOrder<S>>;
 #[derive(Drop)]
 pub struct Mailbox<T, S: Senders<T>> {
     queue: Queue<T, S>,
+    // Wakes the receiver.
+    bell: Parker,
 }
 
 impl<T, S: Senders<T>> Model for Mailbox<T, S> {
@@ -82,7 +86,8 @@ impl<T, S: Senders<T>> Mailbox<T, S> {
         ensures receiver { IfOk result (λ made. made.1 ≡ receiver_of made.0) }
     {
         let (queue, pass) = Queue::<T, S>::ruled(alloc, capacity)?;
-        Ok((Mailbox { queue }, Receiver { pass }))
+        let bell = Parker::new();
+        Ok((Mailbox { queue, bell }, Receiver { pass }))
     }
 
     /// The next sender: the first has the number 0, the second 1, and so on.
@@ -103,8 +108,13 @@ impl<T, S: Senders<T>> Mailbox<T, S> {
         ensures refused { IfErr result (λ back. (back ≡ item) × (sender.new ≡ sender.old)) }
         ensures full { OnErr result (WasFull S.sender sender.old) }
     {
-        self.queue
-            .push_as::<Sends<S>, R>(rt, &mut sender.pass, item)
+        let sent = self
+            .queue
+            .push_as::<Sends<S>, R>(rt, &mut sender.pass, item);
+        if sent.is_ok() {
+            self.bell.unpark();
+        }
+        sent
     }
 
     /// The oldest item, or `None` if the mailbox was empty at one moment of the call. Of each sender that was back
@@ -117,6 +127,12 @@ impl<T, S: Senders<T>> Mailbox<T, S> {
         ensures all { IfNone result (HasAll S.sender receiver.old) }
     {
         self.queue.pop_as::<Gets<S>, R>(rt, &mut receiver.pass)
+    }
+
+    /// Waits until an item is sent, and not at all if one was sent since the receiver last waited. It waits no longer than
+    /// `longest`, and may end sooner. Only the receiver's thread may wait.
+    pub fn wait<R: Wait>(&self, rt: &R, longest: Duration) {
+        self.bell.park_timeout(rt, longest);
     }
 
     /// How many items the mailbox held at one moment of the call.
