@@ -9,9 +9,10 @@ use Rattle.pay_shard.specs.declared.item.Entry.{Entry}
 use Rattle.pay_shard.specs.declared.item.Item.{Item}
 use Rattle.pay_shard.specs.declared.reply.Answer.{Answer}
 use Rattle.pay_lanes.specs.Parts.{LaneParts, WorkerParts}
-use Rattle.pay_lanes.specs.Working.{mailboxes, entries_of, answers_for}
+use Rattle.pay_lanes.specs.Working.{mailboxes, entries_of, answers_for, IsOfShards}
 use Rattle.pay_lanes.specs.Turns.{by_lane, by_shard}
-use Rattle.pay_lanes.specs.Ends.{lanes_of, numbers, AreTogether, IsLaneOf, IsWorkerOf, arrived, sent_by, IsAnswered, exchanged, all_exchanged, IsNext, HasLeft, IsKnown, AreKnown}
+use Rattle.pay_lanes.specs.Ends.{lanes_of, numbers, AreTogether, IsLaneOf, IsWorkerOf, arrived, sent_by, IsAnswered, exchanged, all_exchanged, IsNext, HasLeft, IsKnown, AreKnown, IsRight, AreJournalsFrom}
+use Rattle.pay_lanes.proofs.Asked.{journals_asked}
 use Rattle.pay_lanes.proofs.Exchanges.{as_many, numbered_at, each_length, each_and, whole}
 
 -- ---- lanes in order, and the workers that are still to end
@@ -176,10 +177,11 @@ pub record HaveEnded (ws : List WorkerParts) (ls : List LaneParts) (n : ℕ) (no
   pub many : length lefts ≡ n
   pub lanes : AllZip (IsAfter (take n ws) lefts) ls now
   pub known : (lane : ℕ) → lanes_of ws ≤ lane → All IsEmpty (arrived lane (take n ws) lefts)
+  pub right : All IsRight (take n ws)
 
 pub none_ended : (ws : List WorkerParts) (ls sorted : List LaneParts) → AreTogether ws ls → IsPermutation ls sorted → numbers sorted ≡ range_with_len 0 (lanes_of ws) → {X Y : Type 0} (f : X → List Item) (g : Y → List Entry) (xs : List X) (ys : List Y) → xs ≡ [] → ys ≡ []
     → HaveEnded ws sorted 0 sorted (map f xs) (map g ys)
-none_ended ws ls sorted together moved order f g xs ys none empty = subst (λ l. HaveEnded ws sorted 0 sorted (map f l) (map g ys)) (sym none) (subst (λ l. HaveEnded ws sorted 0 sorted [] (map g l)) (sym empty) (record { rest = linked ws ls sorted together moved order; journals_now = refl; many = refl; lanes = unchanged sorted; known = λ lane unopened. All-nil IsEmpty }))
+none_ended ws ls sorted together moved order f g xs ys none empty = subst (λ l. HaveEnded ws sorted 0 sorted (map f l) (map g ys)) (sym none) (subst (λ l. HaveEnded ws sorted 0 sorted [] (map g l)) (sym empty) (record { rest = linked ws ls sorted together moved order; journals_now = refl; many = refl; lanes = unchanged sorted; known = λ lane unopened. All-nil IsEmpty; right = All-nil IsRight }))
 
 drop_here : {X : Type 0} (n : ℕ) (xs : List X) (x : X) → n < length xs → x ≡ get_or xs n x → drop n xs ≡ x ∷ drop (suc n) xs
 drop_here n [] x h is = let no : ⊥ = omega arith in absurd no
@@ -208,8 +210,8 @@ module _ (ws : List WorkerParts) (ls : List LaneParts) (n : ℕ) (now : List Lan
     next_here = next_of w (drop (suc n) ws) now rest_here
 
     pub one_ended : (m : ℕ) (after : List LaneParts) (journal : List Item) (left : List Entry) (all : List (List Item)) (others : List (List Entry)) → m ≡ n + 1 → journal ≡ w.shard.journal → after ≡ all_exchanged now w.lanes → All (HasLeft w left) now → All (λ (m : LaneParts). IsAnswered m w) now
-        → All (IsWorkerOf (lanes_of ws)) ws → IsKnown w left → all ≡ journals ++ journal ∷ [] → others ≡ lefts ++ left ∷ [] → HaveEnded ws ls m after all others
-    one_ended m after journal left all others next its made has answered opened known more longer = subst (λ k. HaveEnded ws ls k after all others) (sym (next ∙ add-one n)) (subst (λ o. HaveEnded ws ls (suc n) after all o) (sym longer) (record {
+        → All (IsWorkerOf (lanes_of ws)) ws → IsKnown w left → IsRight w → all ≡ journals ++ journal ∷ [] → others ≡ lefts ++ left ∷ [] → HaveEnded ws ls m after all others
+    one_ended m after journal left all others next its made has answered opened known right more longer = subst (λ k. HaveEnded ws ls k after all others) (sym (next ∙ add-one n)) (subst (λ o. HaveEnded ws ls (suc n) after all o) (sym longer) (record {
       rest = subst (AreLinked (drop (suc n) ws)) (sym made) (still_linked w (drop (suc n) ws) now rest_here);
       journals_now =
           more
@@ -225,6 +227,7 @@ module _ (ws : List WorkerParts) (ls : List LaneParts) (n : ℕ) (now : List Lan
           (sym (ap (λ d. arrived lane d (lefts ++ left ∷ [])) (take_here n ws w lt is) ∙ arrived_more lane (take n ws) lefts w left (h.many ∙ sym (taken_many n ws lt))))
           (All-push IsEmpty (arrived lane (take n ws) lefts) (of by_lane lane (entries_of w.shard.journal ++ left)) (h.known lane unopened)
           (known lane (subst (λ (v : WorkerParts). length v.lanes ≤ lane) (sym is) (subst (λ k. k ≤ lane) (sym (opened n w lt).0) unopened))));
+      right = subst (All IsRight) (sym (take_here n ws w lt is)) (All-push IsRight (take n ws) w h.right right);
     }))
       where
         one_longer : (xs : List (List Entry)) (x : List Entry) (k : ℕ) → length xs ≡ k → length (xs ++ x ∷ []) ≡ suc k
@@ -244,6 +247,9 @@ module _ (ws : List WorkerParts) (ls : List LaneParts) (n : ℕ) (now : List Lan
 
     pub known_end : AreKnown ws lefts
     known_end = λ lane unopened. subst (λ d. All IsEmpty (arrived lane d lefts)) every (h.known lane unopened)
+
+    pub right_end : All IsRight ws
+    right_end = subst (All IsRight) every h.right
 
     lanes_end : AllZip (IsAfter ws lefts) ls now
     lanes_end = subst (λ d. AllZip (IsAfter d lefts) ls now) every h.lanes
@@ -282,3 +288,11 @@ module _ (ws : List WorkerParts) (ls : List LaneParts) (n : ℕ) (now : List Lan
 
     pub answered_end : (before : List LaneParts) → IsPermutation before ls → All (λ (l : LaneParts). All (IsAnswered l) ws) before
     answered_end before moved = All-permutation AreAnswered ls before (IsPermutation-sym before ls moved) (all_told ls now lanes_end)
+
+    pub asked_end : (before : List LaneParts) → AreTogether ws before → IsPermutation before ls → numbers ls ≡ range_with_len 0 (lanes_of ws) → AreJournalsFrom (length ws) 0 (map (λ (w : WorkerParts). w.shard.journal) ws)
+    asked_end before together moved order =
+        journals_asked ws ls lefts order many_end (All-weaker (IsLaneOf ws) (λ (l : LaneParts). (length l.shards ≡ length ws) × IsOfShards l) (λ (l : LaneParts) is. (as_many_shards l is.0, is.2)) ls (All-permutation (IsLaneOf ws) before ls moved together.lanes_of_them))
+        (all_arrived ls now lanes_end rest_end) known_end
+      where
+        as_many_shards : (l : LaneParts) → mailboxes l.shards ≡ requests_at ws → length l.shards ≡ length ws
+        as_many_shards l e = sym (each_length (λ (s : SenderParts Entry). s.mailbox) l.shards) ∙ (ap length e ∙ each_length (λ (w : WorkerParts). w.requests.mailbox) ws)

@@ -1,5 +1,5 @@
 -- Workers and lanes that go on.
-use Rattle.std.proofs.Common.{◌≡◌, ℕ, ◌≤◌, List, [], ◌∷◌, All, Any, length, Some, slice_get, refl, sym, ap, ◌∙◌, subst}
+use Rattle.std.proofs.Common.{◌≡◌, ℕ, suc, ◌≤◌, List, [], ◌∷◌, All, Any, length, Some, slice_get, refl, sym, ap, ◌∙◌, subst, arith}
 use Rattle.std.specs.List.{AllZip}
 use Rattle.std.proofs.lemmas.List.Elements.{All-nil, All-cons, All-head, All-tail, All-weaker, length_all_zip}
 use Rattle.pay_mailbox.specs.Words.{SenderParts}
@@ -14,7 +14,7 @@ use Rattle.pay_lanes.proofs.Endings.{requests_at}
 as_many_ways : (w v : WorkerParts) → IsSameWorker w v → length v.lanes ≡ length w.lanes
 as_many_ways w v same = sym (each_length (λ (s : SenderParts Answer). s.mailbox) v.lanes) ∙ (ap length same.lanes ∙ each_length (λ (s : SenderParts Answer). s.mailbox) w.lanes)
 
-same_count : (ws vs : List WorkerParts) → AllZip IsSameWorker ws vs → lanes_of vs ≡ lanes_of ws
+pub same_count : (ws vs : List WorkerParts) → AllZip IsSameWorker ws vs → lanes_of vs ≡ lanes_of ws
 same_count [] [] same = refl
 same_count [] (v ∷ vs) same = absurd same
 same_count (w ∷ ws) [] same = absurd same
@@ -47,7 +47,7 @@ module _ (l m : LaneParts) (goes : IsSameLane l m) where
       (same_ways ws vs same.1 (All-tail (IsWayTo l) w ws all))
 
   same_lane : (ws vs : List WorkerParts) → AllZip IsSameWorker ws vs → IsLaneOf ws l → IsLaneOf vs m
-  same_lane ws vs same is = (goes.shards ∙ (is.0 ∙ sym (same_requests ws vs same)), same_ways ws vs same is.1)
+  same_lane ws vs same is = (goes.shards ∙ (is.0 ∙ sym (same_requests ws vs same)), same_ways ws vs same is.1, goes.of_shards is.2)
 
 pub together_still : (ws vs : List WorkerParts) (ls ks : List LaneParts) → AreTogether ws ls → GoOn ws vs ls ks → AreTogether vs ks
 together_still ws vs ls ks together on = record {
@@ -58,3 +58,19 @@ together_still ws vs ls ks together on = record {
   where
     one : (m : LaneParts) → Any (λ before. IsSameLane before m) ls → IsLaneOf vs m
     one m some = same_lane some.1 m some.4 ws vs on.workers (subst (IsLaneOf ws) some.3 (together.lanes_of_them some.0 some.1 some.2))
+
+abbrev GoesOn : List LaneParts → LaneParts → Type 0
+GoesOn ls after = Any (λ before. IsSameLane before after) ls
+
+one_of_more : (l : LaneParts) (ls : List LaneParts) (m : LaneParts) → GoesOn ls m → GoesOn (l ∷ ls) m
+one_of_more l ls m some = (suc some.0, some.1, omega (arith, some.2), some.3, some.4)
+
+each_goes_on : (ls ks : List LaneParts) → AllZip IsSameLane ls ks → All (GoesOn ls) ks
+each_goes_on [] [] same = All-nil (GoesOn [])
+each_goes_on [] (k ∷ ks) same = absurd same
+each_goes_on (l ∷ ls) [] same = All-nil (GoesOn (l ∷ ls))
+each_goes_on (l ∷ ls) (k ∷ ks) same =
+    All-cons (GoesOn (l ∷ ls)) k ks (0, l, omega arith, refl, same.0) (All-weaker (GoesOn ls) (GoesOn (l ∷ ls)) (λ m some. one_of_more l ls m some) ks (each_goes_on ls ks same.1))
+
+pub all_together_still : (ws vs : List WorkerParts) (ls ks : List LaneParts) → AreTogether ws ls → AllZip IsSameWorker ws vs → AllZip IsSameLane ls ks → AreTogether vs ks
+all_together_still ws vs ls ks together workers lanes = together_still ws vs ls ks together (record { workers = workers; lanes = each_goes_on ls ks lanes })

@@ -1,3 +1,5 @@
+pub mod Asked
+pub mod Crossing
 pub mod Endings
 pub mod Exchanges
 pub mod Going

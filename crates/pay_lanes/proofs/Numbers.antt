@@ -6,7 +6,7 @@ use Rattle.std.specs.List.Sorted.{IsNonDecreasingBy}
 use Rattle.std.proofs.lemmas.List.Sorted.{IsPermutation-map, IsPermutation-sym, IsPermutation-trans, sum_by-IsPermutation}
 use Rattle.pay_lanes.specs.Parts.{LaneParts, WorkerParts}
 use Rattle.pay_lanes.proofs.Exchanges.{numbered_at, same_item}
-use Rattle.pay_lanes.specs.Ends.{lanes_of, numbers, AreAll}
+use Rattle.pay_lanes.specs.Ends.{lanes_of, numbers}
 
 abbrev total : (ℕ → ℕ) → List ℕ → ℕ
 total f [] = 0
@@ -41,18 +41,18 @@ ordered (l ∷ ls) a (suc n) up same =
     (λ f. let e : f l.number + total f (numbers ls) ≡ f a + total f (range_with_len (a + 1) n) = same f in let g : f l.number ≡ f a = ap f first in omega arith) in
     cc
 
--- all lanes, once they are sorted, stand in order
-pub sorted_all : (ws : List WorkerParts) (ls sorted : List LaneParts) → IsPermutation ls sorted → IsNonDecreasingBy (λ (l : LaneParts). l.number) sorted → AreAll ws ls → numbers sorted ≡ range_with_len 0 (lanes_of ws)
-sorted_all ws ls sorted moved up all = ordered sorted 0 (lanes_of ws) up same
+-- so many lanes, once they are sorted, stand in order
+pub sorted_all : (n : ℕ) (ls sorted : List LaneParts) → IsPermutation ls sorted → IsNonDecreasingBy (λ (l : LaneParts). l.number) sorted → IsPermutation (range_with_len 0 n) (numbers ls) → numbers sorted ≡ range_with_len 0 n
+sorted_all n ls sorted moved up all = ordered sorted 0 n up same
   where
-    all_there : IsPermutation (range_with_len 0 (lanes_of ws)) (numbers sorted)
+    all_there : IsPermutation (range_with_len 0 n) (numbers sorted)
     all_there = IsPermutation-trans _ _ _ all (IsPermutation-map (λ (l : LaneParts). l.number) ls sorted moved)
 
-    same : (f : ℕ → ℕ) → total f (numbers sorted) ≡ total f (range_with_len 0 (lanes_of ws))
-    same f = total_is f (numbers sorted) ∙ (sum_by-IsPermutation f _ _ all_there ∙ sym (total_is f (range_with_len 0 (lanes_of ws))))
+    same : (f : ℕ → ℕ) → total f (numbers sorted) ≡ total f (range_with_len 0 n)
+    same f = total_is f (numbers sorted) ∙ (sum_by-IsPermutation f _ _ all_there ∙ sym (total_is f (range_with_len 0 n)))
 
-pub in_order_all : (ws : List WorkerParts) (ls sorted : List LaneParts) → IsPermutation ls sorted → numbers sorted ≡ range_with_len 0 (lanes_of ws) → AreAll ws ls
-in_order_all ws ls sorted moved same =
+pub in_order_all : (n : ℕ) (ls sorted : List LaneParts) → IsPermutation ls sorted → numbers sorted ≡ range_with_len 0 n → IsPermutation (range_with_len 0 n) (numbers ls)
+in_order_all n ls sorted moved same =
     subst (λ ns. IsPermutation ns (numbers ls)) same (IsPermutation-map (λ (l : LaneParts). l.number) sorted ls (IsPermutation-sym ls sorted moved))
 
 -- lanes of which each stands at the place of its number
@@ -68,13 +68,6 @@ range_length [] a (suc n) e = cc
 range_length (l ∷ ls) a zero e = cc
 range_length (l ∷ ls) a (suc n) e = ap suc (range_length ls (a + 1) n (cc))
 
--- the order, as what was compared says it
-pub order_of : (now sorted : List LaneParts) (those ws : List WorkerParts) (n : ℕ) → now ≡ sorted → those ≡ ws → n ≡ lanes_of those → numbers now ≡ range_with_len 0 n → numbers sorted ≡ range_with_len 0 (lanes_of ws)
-order_of now sorted those ws n same alike count e = ap numbers (sym same) ∙ (e ∙ ap (λ k. range_with_len 0 k) (count ∙ ap lanes_of alike))
-
-pub order_back : (now sorted : List LaneParts) (those ws : List WorkerParts) (n : ℕ) → now ≡ sorted → those ≡ ws → n ≡ lanes_of those → numbers sorted ≡ range_with_len 0 (lanes_of ws) → numbers now ≡ range_with_len 0 n
-order_back now sorted those ws n same alike count e = ap numbers same ∙ (e ∙ ap (λ k. range_with_len 0 k) (sym (count ∙ ap lanes_of alike)))
-
 -- ---- what the loop over lanes says of them
 
 pub not_there : (ls : List LaneParts) (n k : ℕ) (l : LaneParts) → k < length ls → l ≡ get_or ls k l → l.number ≢ k → numbers ls ≡ range_with_len 0 n → ⊥
@@ -86,3 +79,10 @@ all_in_place ls n place le each same =
 
 pub here_too : (ls : List LaneParts) (k : ℕ) (l : LaneParts) → k < length ls → l ≡ get_or ls k l → l.number ≡ k → (d : LaneParts) → (get_or ls k d).number ≡ k
 here_too ls k l lt is own d = ap (λ (x : LaneParts). x.number) (same_item ls k d l lt ∙ sym is) ∙ own
+
+-- how many lanes workers have, as it was counted
+pub count : (those ws : List WorkerParts) (n : ℕ) → those ≡ ws → n ≡ lanes_of those → n ≡ lanes_of ws
+count those ws n alike is = is ∙ ap lanes_of alike
+
+pub order_at : (ls : List LaneParts) (those ws : List WorkerParts) (n : ℕ) → those ≡ ws → n ≡ lanes_of those → numbers ls ≡ range_with_len 0 n → numbers ls ≡ range_with_len 0 (lanes_of ws)
+order_at ls those ws n alike is e = e ∙ ap (λ k. range_with_len 0 k) (count those ws n alike is)

@@ -16,6 +16,7 @@ use Rattle.pay_shard.specs.declared.reply.Answer.{Answer}
 use Rattle.pay_shard.specs.declared.limits.TheConstants.{MOST_SHARDS}
 use Rattle.pay_lanes.specs.Parts.{LaneParts, WorkerParts}
 use Rattle.pay_lanes.specs.Working.{mailboxes, at_lane, AreTold}
+use Rattle.pay_lanes.proofs.Asked.{new_of_shards}
 use Rattle.pay_lanes.specs.Ends.{lanes_of, numbers, IsWayTo, IsLaneOf, IsWorkerOf, AreTogether}
 use Rattle.pay_lanes.specs.Openings.{IsNewWorker, IsNewLane, IsNewReceiver, IsNewSender, AreNewSenders, IsReady, shard_numbers, requests_of, ways_of, having_made_more, senders_after, lanes_from}
 use Rattle.pay_lanes.specs.declared.limits.TheConstants.{MOST_LANES, MOST_REQUESTS, MOST_ANSWERS}
@@ -150,9 +151,9 @@ pub record LanesLeft (all made : List LaneParts) (number : ℕ) (lists : List (L
 
 module _ (all made : List LaneParts) (number : ℕ) where
   pub lanes_first : (s : List (SenderParts Entry)) (lists : List (List (SenderParts Entry))) (r : ReceiverParts Answer) (rs : List (ReceiverParts Answer)) → LanesLeft all made number (s ∷ lists) (r ∷ rs)
-      → LanesLeft all (made ++ record { number = number; shards = s; answers = r; tickets = 0 } ∷ []) (number + 1) lists rs
+      → LanesLeft all (made ++ record { number = number; shards = s; answers = r; tickets = 0; next = 0 } ∷ []) (number + 1) lists rs
   lanes_first s lists r rs h = record {
-    lanes = append_assoc made (record { number = number; shards = s; answers = r; tickets = 0 } ∷ []) (lanes_from (number + 1) lists rs) ∙ h.lanes;
+    lanes = append_assoc made (record { number = number; shards = s; answers = r; tickets = 0; next = 0 } ∷ []) (lanes_from (number + 1) lists rs) ∙ h.lanes;
     same = omega (arith, h.same);
     few = omega (arith, h.few);
     own = h.own.1;
@@ -161,11 +162,11 @@ module _ (all made : List LaneParts) (number : ℕ) where
 
   pub lanes_step : (lists later : List (List (SenderParts Entry))) (rs after : List (ReceiverParts Answer)) (s : List (SenderParts Entry)) (r : ReceiverParts Answer)
       → lists ≡ s ∷ later → rs ≡ r ∷ after → LanesLeft all made number lists rs
-      → LanesLeft all (made ++ record { number = number; shards = s; answers = r; tickets = 0 } ∷ []) (number + 1) later after
+      → LanesLeft all (made ++ record { number = number; shards = s; answers = r; tickets = 0; next = 0 } ∷ []) (number + 1) later after
   lanes_step lists later rs after s r ls is h = lanes_first s later r after (subst (λ l. LanesLeft all made number l (r ∷ after)) ls (subst (LanesLeft all made number lists) is h))
 
   pub lanes_then : (lists later : List (List (SenderParts Entry))) (rs after : List (ReceiverParts Answer)) (s : List (SenderParts Entry)) (r : ReceiverParts Answer) (l : LaneParts) (now : List LaneParts)
-      → lists ≡ s ∷ later → rs ≡ r ∷ after → l ≡ record { number = number; shards = s; answers = r; tickets = 0 } → now ≡ made ++ l ∷ [] → LanesLeft all made number lists rs
+      → lists ≡ s ∷ later → rs ≡ r ∷ after → l ≡ record { number = number; shards = s; answers = r; tickets = 0; next = 0 } → now ≡ made ++ l ∷ [] → LanesLeft all made number lists rs
       → LanesLeft all now (number + 1) later after
   lanes_then lists later rs after s r l now ls is its more h =
       subst (λ m. LanesLeft all m (number + 1) later after) (sym (more ∙ ap (λ x. made ++ x ∷ []) its)) (lanes_step lists later rs after s r ls is h)
@@ -358,7 +359,7 @@ ready_for count (s ∷ lists) (r ∷ rs) same long ready = (
 
 -- the lane at a place
 abbrev lane_at : ℕ → List (SenderParts Entry) → ReceiverParts Answer → LaneParts
-lane_at number s r = record { number = number; shards = s; answers = r; tickets = 0 }
+lane_at number s r = record { number = number; shards = s; answers = r; tickets = 0; next = 0 }
 
 same_place : (number : ℕ) → number ≡ number + 0
 same_place number = omega arith
@@ -410,8 +411,10 @@ module _ (shards lanes : ℕ) (rs : List (ReceiverParts Entry)) (qs : List (Rece
         shards = all_at (λ l. length l ≡ length rs) to_shards k s at (lists_long rs 0 lanes) ∙ so_many;
         sent = all_at (All (λ (x : SenderParts Entry). x.sent ≡ [])) to_shards k s at (lists_each (All (λ (x : SenderParts Entry). x.sent ≡ [])) rs 0 lanes (λ n. none_sent n));
         taken = ready.got;
+        made = ready.made;
         few = ready.few;
         tickets = refl;
+        next = refl;
       })
     where
       none_sent : (n : ℕ) → All (λ (x : SenderParts Entry). x.sent ≡ []) (senders_after n rs)
@@ -438,18 +441,11 @@ module _ (shards lanes : ℕ) (rs : List (ReceiverParts Entry)) (qs : List (Rece
     some_same : {X : Type 0} (x y : X) (o p : Option X) → o ≡ Some x → p ≡ Some y → o ≡ p → x ≡ y
     some_same x y o p a b e = cc
 
-    pub are_together : length rs ≡ shards → length qs ≡ lanes → shards ≤ MOST_SHARDS → AreTogether ws opened_lanes
-    are_together so_many as_many few = record {
+    pub are_together : length rs ≡ shards → length qs ≡ lanes → shards ≤ MOST_SHARDS → All (IsNewLane shards) opened_lanes → AreTogether ws opened_lanes
+    are_together so_many as_many few new = record {
       few = subst (λ n. n ≤ MOST_SHARDS) (sym long) few;
       workers_of = all_workers_of ws (workers_are_new as_many);
-      lanes_of_them =
-          lanes_all (IsLaneOf ws) 0 to_shards (having_made_more shards qs)
-          (λ k s r at there. (
-            all_at (λ l. mailboxes l ≡ boxes rs) to_shards k s at (lists_boxes rs 0 lanes) ∙ (sym (more_boxes lanes rs) ∙ (ap boxes (sym over.requests) ∙ way_boxes ws)),
-            all_still (λ (w : WorkerParts). mailboxes w.lanes ≡ boxes qs) (IsWayTo (lane_at (0 + k) s r))
-                (λ (w : WorkerParts) same mailbox found. some_same mailbox r.mailbox (slice_get (boxes qs) (0 + k)) (slice_get (boxes qs) k) (ap (λ l. slice_get l (0 + k)) (sym same) ∙ found) (box_at k r there) (ap (slice_get (boxes qs)) (from_zero k)))
-                ws (each_way (λ l. mailboxes l ≡ boxes qs) (lists_boxes qs 0 shards)),
-          ));
+      lanes_of_them = λ n d lt. let linked = all_linked n d lt in (linked.0, linked.1, new_of_shards shards (get_or opened_lanes n d) (new n d lt));
     }
       where
         length_map : (us : List WorkerParts) → length (requests_of us) ≡ length us
@@ -466,6 +462,16 @@ module _ (shards lanes : ℕ) (rs : List (ReceiverParts Entry)) (qs : List (Rece
         box_at k r there =
             ap (λ l. slice_get l k) (sym (more_boxes shards qs))
             ∙ (slice_get-map (λ (x : ReceiverParts Answer). x.mailbox) (having_made_more shards qs) k ∙ ap (option_map (λ (x : ReceiverParts Answer). x.mailbox)) there)
+
+        all_linked : All (λ (l : LaneParts). (mailboxes l.shards ≡ map (λ (w : WorkerParts). w.requests.mailbox) ws) × All (IsWayTo l) ws) opened_lanes
+        all_linked =
+            lanes_all (λ (l : LaneParts). (mailboxes l.shards ≡ map (λ (w : WorkerParts). w.requests.mailbox) ws) × All (IsWayTo l) ws) 0 to_shards (having_made_more shards qs)
+            (λ k s r at there. (
+              all_at (λ l. mailboxes l ≡ boxes rs) to_shards k s at (lists_boxes rs 0 lanes) ∙ (sym (more_boxes lanes rs) ∙ (ap boxes (sym over.requests) ∙ way_boxes ws)),
+              all_still (λ (w : WorkerParts). mailboxes w.lanes ≡ boxes qs) (IsWayTo (lane_at (0 + k) s r))
+                  (λ (w : WorkerParts) same mailbox found. some_same mailbox r.mailbox (slice_get (boxes qs) (0 + k)) (slice_get (boxes qs) k) (ap (λ l. slice_get l (0 + k)) (sym same) ∙ found) (box_at k r there) (ap (slice_get (boxes qs)) (from_zero k)))
+                  ws (each_way (λ l. mailboxes l ≡ boxes qs) (lists_boxes qs 0 shards)),
+            ))
 
 module _ {T : Type 0} where
   -- receivers that were lent to make senders

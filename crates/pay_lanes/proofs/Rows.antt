@@ -63,6 +63,7 @@ module _ (m n o : MailboxParts) where
     shards = sender_of m 1 (entry 1 0 ∷ []) ∷ sender_of n 1 (entry 1 1 ∷ entry 1 2 ∷ []) ∷ [];
     answers = having_got (receiver_of o) (answer 0 0 ∷ []);
     tickets = 3;
+    next = 3;
   }
 
   pub two_unanswered : unanswered lane ≡ 2
@@ -73,6 +74,7 @@ module _ (m n o : MailboxParts) where
     shards = sender_of m 1 (entry 1 0 ∷ []) ∷ sender_of n 1 (entry 1 1 ∷ entry 1 2 ∷ entry 1 3 ∷ []) ∷ [];
     answers = having_got (receiver_of o) (answer 0 0 ∷ []);
     tickets = 4;
+    next = 4;
   }
   asks = refl
 

@@ -1,13 +1,15 @@
 -- What workers and lanes are when their threads have returned, and what stands then in the journals and in what was left.
-use Rattle.std.specs.Prelude.{◌≡◌, ℕ, ◌≤◌, List, [], ◌∷◌, ◌++◌, All, Any, drop, take, length, map, zip, Some, slice_get, IsPermutation}
+use Rattle.std.specs.Prelude.{◌≡◌, ℕ, ◌+◌, ◌≤◌, ⊤, List, [], ◌∷◌, ◌++◌, All, Any, drop, take, length, map, zip, Some, slice_get, IsPermutation}
 use Rattle.std.specs.List.{range_with_len, AllZip}
 use mathlib.Core.List.{IsPrefix}
 use Rattle.pay_mailbox.specs.Words.{MailboxParts, SenderParts, having_back, of}
+use Rattle.pay_shard.specs.Words.{IsAskedOf, IsHistory}
 use Rattle.pay_shard.specs.declared.limits.TheConstants.{MOST_SHARDS}
 use Rattle.pay_shard.specs.declared.item.Entry.{Entry}
+use Rattle.pay_shard.specs.declared.item.Item.{Item}
 use Rattle.pay_shard.specs.declared.reply.Answer.{Answer}
 use Rattle.pay_lanes.specs.Parts.{LaneParts, WorkerParts}
-use Rattle.pay_lanes.specs.Working.{entries_of, answers_for, mailboxes, IsSameLane, IsSameWorker}
+use Rattle.pay_lanes.specs.Working.{entries_of, answers_for, mailboxes, IsSameLane, IsSameWorker, IsOfShards}
 use Rattle.pay_lanes.specs.Turns.{by_lane, by_shard}
 
 -- how many lanes were opened with workers
@@ -27,9 +29,9 @@ AreAll workers lanes = IsPermutation (range_with_len 0 (lanes_of workers)) (numb
 abbrev pub IsWayTo : LaneParts → WorkerParts → Type 0
 IsWayTo l w = (mailbox : MailboxParts) → slice_get (mailboxes w.lanes) l.number ≡ Some mailbox → mailbox ≡ l.answers.mailbox
 
--- the lane sends to these workers, each at the place of its number, and they to it
+-- the lane sends to these workers, each at the place of its number, what is asked of it, and they to the lane
 abbrev pub IsLaneOf : List WorkerParts → LaneParts → Type 0
-IsLaneOf workers l = (mailboxes l.shards ≡ map (λ (w : WorkerParts). w.requests.mailbox) workers) × All (IsWayTo l) workers
+IsLaneOf workers l = (mailboxes l.shards ≡ map (λ (w : WorkerParts). w.requests.mailbox) workers) × All (IsWayTo l) workers × IsOfShards l
 
 -- a worker with so many lanes, of which none has been taken back
 abbrev pub IsWorkerOf : ℕ → WorkerParts → Type 0
@@ -54,6 +56,15 @@ arrived lane workers left = map (λ (p : WorkerParts × List Entry). of by_lane 
 abbrev pub AreKnown : List WorkerParts → List (List Entry) → Type 0
 AreKnown workers left = (lane : ℕ) → lanes_of workers ≤ lane → All (λ (entries : List Entry). entries ≡ []) (arrived lane workers left)
 
+-- the entries in the journals of the shards from one on, of so many in all, are asked of each of them
+abbrev pub AreJournalsFrom : ℕ → ℕ → List (List Item) → Type 0
+AreJournalsFrom of shard [] = ⊤
+AreJournalsFrom of shard (items ∷ journals) = All (λ (i : Item). IsAskedOf of shard i.entry.command) items × AreJournalsFrom of (shard + 1) journals
+
+-- a journal is marked rightly, from what its shard began with
+abbrev pub IsRight : WorkerParts → Type 0
+IsRight w = IsHistory w.shard.tables w.shard.base w.shard.journal
+
 -- what a lane sent to each shard
 abbrev pub sent_by : LaneParts → List (List Entry)
 sent_by l = map (λ (s : SenderParts Entry). s.sent) l.shards
@@ -64,7 +75,7 @@ IsAnswered l w = IsPrefix (of by_shard w.shard.number l.answers.got) (answers_fo
 
 -- a lane, once it has given its first way and has got a way to it back
 abbrev pub exchanged : LaneParts → SenderParts Answer → LaneParts
-exchanged l way = record { number = l.number; shards = drop 1 l.shards; answers = having_back l.answers way; tickets = l.tickets }
+exchanged l way = record { number = l.number; shards = drop 1 l.shards; answers = having_back l.answers way; tickets = l.tickets; next = l.next }
 
 -- the same of each of the first lanes, as many as there are ways
 abbrev pub all_exchanged : List LaneParts → List (SenderParts Answer) → List LaneParts

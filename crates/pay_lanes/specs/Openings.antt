@@ -34,8 +34,10 @@ pub record IsNewLane (shard_count : ℕ) (l : LaneParts) : Type 0 where
   pub shards : length l.shards ≡ shard_count
   pub sent : All (λ (s : SenderParts Entry). s.sent ≡ []) l.shards
   pub taken : l.answers.got ≡ []
+  pub made : l.answers.made ≡ shard_count
   pub few : l.answers.mailbox.capacity ≡ MOST_ANSWERS
   pub tickets : l.tickets ≡ 0
+  pub next : l.next ≡ 0
 
 module _ {T : Type 0} where
   -- the receiver of a new mailbox of this capacity
@@ -63,7 +65,7 @@ AreNewSenders number (senders ∷ lists) = All (IsNewSender number) senders × A
 abbrev pub lanes_from : ℕ → List (List (SenderParts Entry)) → List (ReceiverParts Answer) → List LaneParts
 lanes_from number [] receivers = []
 lanes_from number (senders ∷ lists) [] = []
-lanes_from number (senders ∷ lists) (r ∷ receivers) = record { number = number; shards = senders; answers = r; tickets = 0 } ∷ lanes_from (number + 1) lists receivers
+lanes_from number (senders ∷ lists) (r ∷ receivers) = record { number = number; shards = senders; answers = r; tickets = 0; next = 0 } ∷ lanes_from (number + 1) lists receivers
 
 -- a receiver of this capacity that has made so many senders, and got nothing
 pub record IsReady {T : Type 0} (capacity count : ℕ) (r : ReceiverParts T) : Type 0 where

@@ -1,5 +1,5 @@
 -- What contracts see of a lane and of a worker.
-use Rattle.std.specs.Prelude.{◌≡◌, ℕ, zero, suc, ◌+◌, ◌-◌, ◌%◌, List, [], ◌∷◌, length, Option, Some, slice_get, refl}
+use Rattle.std.specs.Prelude.{◌≡◌, ℕ, zero, suc, ◌+◌, ◌-◌, ◌%◌, ◌^◌, max, min, List, [], ◌∷◌, length, Option, Some, slice_get, refl}
 use Rattle.std.specs.Coded.{Coded, code_by, coded×, coded_ℕ, coded_list, coded_option}
 use Rattle.pay_mailbox.specs.Words.{SenderParts, ReceiverParts, sender_code, receiver_code, having_sent, having_got, WasFull}
 use Rattle.pay_shard.specs.Words.{ShardParts, shard_code}
@@ -12,17 +12,18 @@ use Rattle.pay_shard.specs.declared.reply.Answer.{Answer}
 use Rattle.pay_lanes.specs.contracts.outgoing.Outgoing as outgoing
 use Rattle.pay_lanes.specs.declared.outgoing.Outgoing.{Outgoing}
 
--- a lane: its number, what it sent to each shard, what it took, and how many tickets it has given
+-- a lane: its number, what it sent to each shard, what it took, how many tickets it has given, and the number of the next
 pub record LaneParts : Type 0 where
   pub number : ℕ
   pub shards : List (SenderParts Entry)
   pub answers : ReceiverParts Answer
   pub tickets : ℕ
+  pub next : ℕ
 
 abbrev pub lane_code : Coded LaneParts
 lane_code =
-    code_by (ℕ × (List (SenderParts Entry) × (ReceiverParts Answer × ℕ))) (coded× coded_ℕ (coded× (coded_list (sender_code entries.the_row.coded)) (coded× (receiver_code answers.the_row.coded) coded_ℕ)))
-    (λ l. (l.number, (l.shards, (l.answers, l.tickets)))) (λ p. record { number = p.0; shards = p.1.0; answers = p.1.1.0; tickets = p.1.1.1 }) (λ _. refl)
+    code_by (ℕ × (List (SenderParts Entry) × (ReceiverParts Answer × (ℕ × ℕ)))) (coded× coded_ℕ (coded× (coded_list (sender_code entries.the_row.coded)) (coded× (receiver_code answers.the_row.coded) (coded× coded_ℕ coded_ℕ))))
+    (λ l. (l.number, (l.shards, (l.answers, (l.tickets, l.next))))) (λ p. record { number = p.0; shards = p.1.0; answers = p.1.1.0; tickets = p.1.1.1.0; next = p.1.1.1.1 }) (λ _. refl)
 
 -- a worker: its shard, what it popped, what it sent to each lane, and the last answer, if its lane had no room for it
 pub record WorkerParts : Type 0 where
@@ -65,7 +66,7 @@ module _ {T : Type 0} where
 
 -- what a lane sends to ask this
 abbrev pub next_entry : LaneParts → Asked → Entry
-next_entry l asked = record { lane = l.number; ticket = l.tickets; command = asked }
+next_entry l asked = record { lane = l.number; ticket = l.next; command = asked }
 
 -- a lane, once it has asked this
 abbrev pub having_asked : LaneParts → Asked → LaneParts
@@ -74,8 +75,13 @@ having_asked l asked = record {
   shards = sent_at (shard_of (length l.shards) asked) (next_entry l asked) l.shards;
   answers = l.answers;
   tickets = l.tickets + 1;
+  next = l.next + 1;
 }
+
+-- the next ticket once an answer was taken: it is above the answer's, so that a ticket is given before it is answered
+abbrev pub next_above : ℕ → Answer → ℕ
+next_above next answer = max next (min (answer.ticket + 1) (2 ^ 64 - 1))
 
 -- a lane, once it has taken one more answer
 abbrev pub having_taken : LaneParts → Answer → LaneParts
-having_taken l answer = record { number = l.number; shards = l.shards; answers = having_got l.answers (answer ∷ []); tickets = l.tickets }
+having_taken l answer = record { number = l.number; shards = l.shards; answers = having_got l.answers (answer ∷ []); tickets = l.tickets; next = next_above l.next answer }

@@ -1,11 +1,12 @@
 -- What a lane and a worker keep.
-use Rattle.std.specs.Prelude.{◌≡◌, ℕ, ◌<◌, eqb, Bool, if◌then◌else◌, List, [], ◌∷◌, ◌++◌, All, length, map, Option, Some, None, IfSome, slice_get}
+use Rattle.std.specs.Prelude.{◌≡◌, ℕ, ◌+◌, ◌<◌, eqb, Bool, if◌then◌else◌, List, [], ◌∷◌, ◌++◌, All, length, map, Option, Some, None, IfSome, slice_get, ⊤}
 use Rattle.pay_mailbox.specs.Words.{MailboxParts, SenderParts}
-use Rattle.pay_shard.specs.Words.{ShardParts, answers_given, item_of, with_item}
+use Rattle.pay_shard.specs.Words.{ShardParts, answers_given, item_of, with_item, IsAskedOf}
 use Rattle.pay_shard.specs.declared.item.Entry.{Entry}
 use Rattle.pay_shard.specs.declared.item.Item.{Item}
 use Rattle.pay_shard.specs.declared.reply.Answer.{Answer}
 use Rattle.pay_lanes.specs.Parts.{LaneParts, WorkerParts, IsSenderAt}
+use Rattle.pay_lanes.specs.declared.limits.TheConstants.{MOST_TICKETS}
 use Rattle.pay_lanes.specs.declared.outgoing.Outgoing.{Outgoing}
 
 -- the entries of a journal
@@ -58,11 +59,27 @@ pub record IsWorking (w : WorkerParts) : Type 0 where
 abbrev pub IsOwn : ℕ → ℕ → SenderParts Entry → Type 0
 IsOwn number next s = (s.number ≡ number) × All (λ (entry : Entry). entry.ticket < next) s.sent
 
--- a lane that goes on is the same end of the same queues
+-- each answer is to a ticket below that of the next, or none is given any more
+abbrev pub AreGiven : ℕ → List Answer → Type 0
+AreGiven next answers = (next < MOST_TICKETS) → All (λ (a : Answer). a.ticket < next) answers
+
+-- what was sent to the shards from one on, of so many in all, is asked of each of them
+abbrev pub AreAskedFrom : ℕ → ℕ → List (SenderParts Entry) → Type 0
+AreAskedFrom of shard [] = ⊤
+AreAskedFrom of shard (s ∷ senders) = All (λ (entry : Entry). IsAskedOf of shard entry.command) s.sent × AreAskedFrom of (shard + 1) senders
+
+-- A lane of its shards: what it sent to each is asked of that shard, and what it took is of shards that there are.
+pub record IsOfShards (l : LaneParts) : Type 0 where
+  pub asked : AreAskedFrom (length l.shards) 0 l.shards
+  pub made : l.answers.made ≡ length l.shards
+  pub taken : All (λ (a : Answer). a.shard < length l.shards) l.answers.got
+
+-- a lane that goes on is the same end of the same queues, and of its shards if it was
 pub record IsSameLane (before after : LaneParts) : Type 0 where
   pub number : after.number ≡ before.number
   pub shards : mailboxes after.shards ≡ mailboxes before.shards
   pub answers : after.answers.mailbox ≡ before.answers.mailbox
+  pub of_shards : IsOfShards before → IsOfShards after
 
 -- a worker that goes on is the same end of the same queues, over a shard of the same number, fare file and beginning
 pub record IsSameWorker (before after : WorkerParts) : Type 0 where

@@ -4,7 +4,7 @@ ghost use Rattle.std.specs.List.{range_with_len};
 ghost use mathlib.Core.List.{IsPrefix};
 ghost use Rattle.pay_mailbox.specs.Words.{of};
 ghost use Rattle.pay_lanes.specs.Turns.{by_shard};
-ghost use Rattle.pay_lanes.specs.Ends.{lanes_of, numbers, AreAll, AreTogether, arrived, sent_by, IsAnswered, exchanged, all_exchanged, IsNext, HasLeft, IsKnown, AreKnown};
+ghost use Rattle.pay_lanes.specs.Ends.{lanes_of, numbers, AreAll, AreTogether, arrived, sent_by, IsAnswered, exchanged, all_exchanged, IsNext, HasLeft, IsKnown, AreKnown, AreJournalsFrom, IsRight};
 
 use crate::gate::Gate;
 use crate::lane::Lane;
@@ -58,6 +58,16 @@ fn are_in_order(lanes: &[Lane], count: usize) -> bool
     lanes.len() == count
 }
 
+/// Puts lanes in order of their numbers. Whether they are so many, of the numbers from 0 on, each once.
+pub fn put_in_order(lanes: &mut Vec<Lane>, count: usize) -> bool
+    ensures moved { IsPermutation lanes.old.items lanes.new.items }
+    ensures all { IsTrue result ↔ IsPermutation (range_with_len 0 count) (numbers lanes.old.items) }
+    ensures in_order { IsTrue result → numbers lanes.new.items ≡ range_with_len 0 count }
+{
+    lanes.sort_unstable_by_key(|lane| lane.number);
+    are_in_order(lanes, count)
+}
+
 /// Takes the first way of a lane, and gives the way to it back.
 fn exchange(lane: &mut Lane, way: Outbox<Answer, ByShard>) -> Outbox<Entry, ByLane>
     requires some { 0 < length lane.old.shards }
@@ -80,6 +90,7 @@ fn end_worker<F: Fares, G: Gate, R: Wait>(
 ) -> (Journal, Vec<Entry>)
     requires { IsNext worker lanes.old.items }
     ensures journal { result.0.items ≡ worker.shard.journal }
+    ensures right { IsRight worker }
     ensures lanes { lanes.new.items ≡ all_exchanged lanes.old.items worker.lanes }
     ensures sent { All (HasLeft worker result.1.items) lanes.old.items }
     ensures known { IsKnown worker result.1.items }
@@ -112,6 +123,10 @@ pub fn end<F: Fares, G: Gate, R: Wait>(
     ensures missing { OnErr result (AreAll workers.items lanes.items → ⊥) }
     ensures given_back { IfErr result (λ back. (back.1 ≡ workers) × IsPermutation lanes.items back.2.items) }
     ensures journals { IfOk result (λ ended. each (λ j. j.items) ended.journals.items ≡ each (λ w. w.shard.journal) workers.items) }
+
+    // What stands in the journal of a shard was asked of that shard, and memory was refused only where it may have been.
+    ensures asked { OnOk result (AreJournalsFrom (length workers.items) 0 (each (λ w. w.shard.journal) workers.items)) }
+    ensures right { OnOk result (All IsRight workers.items) }
     ensures many { IfOk result (λ ended. length ended.left.items ≡ length workers.items) }
 
     // What each lane sent to a shard stands in its journal or is left there, in order, and each entry once. Of a lane that was
@@ -123,8 +138,8 @@ pub fn end<F: Fares, G: Gate, R: Wait>(
     ensures answered { OnOk result (All (λ l. All (IsAnswered l) workers.items) lanes.items) }
 {
     let mut lanes = lanes;
-    lanes.sort_unstable_by_key(|lane| lane.number);
-    if !are_in_order(&lanes, lanes_of(&workers)) {
+    let count = lanes_of(&workers);
+    if !put_in_order(&mut lanes, count) {
         return Err((EndFault::LaneMissing, workers, lanes));
     }
     let alloc = *workers.allocator();

@@ -4,7 +4,7 @@ ghost use Rattle.pay_mailbox.specs.Words.{HasAll};
 ghost use Rattle.pay_shard.specs.Words.{IsForShards};
 ghost use Rattle.pay_lanes.specs.Openings.{IsNewSender};
 ghost use Rattle.pay_lanes.specs.Parts.{shard_of, unanswered, having_asked, having_taken, WasFullAt};
-ghost use Rattle.pay_lanes.specs.Working.{IsSameLane};
+ghost use Rattle.pay_lanes.specs.Working.{IsOwn, IsSameLane};
 ghost use Rattle.pay_lanes.specs.Turns.{by_lane, by_shard};
 ghost use Rattle.pay_lanes.specs.declared.lane.SendFault.TheVariants.{Window, Busy};
 ghost use Rattle.pay_lanes.specs.declared.limits.TheConstants.{WINDOW, MOST_TICKETS};
@@ -16,6 +16,7 @@ use pay_mailbox::{Inbox, Outbox};
 use pay_shard::{Answer, Asked, Command, Entry, Ticket};
 use std::marker::Model;
 use std::sync::Wait;
+use std::time::Duration;
 use thiserror::Error;
 
 /// Why a lane sends no command. Nothing was sent.
@@ -30,7 +31,8 @@ pub enum SendFault {
 }
 
 /// An end of the queues, which one thread has at a time: it sends commands to the shards, and takes their answers. In a
-/// contract it is its number, what it sent to each shard, what it took, and how many tickets it has given.
+/// contract it is its number, what it sent to each shard, what it took, how many tickets it has given, and the number of the
+/// next.
 #[derive(Drop)]
 pub struct Lane {
     pub(crate) number: u8,
@@ -38,6 +40,8 @@ pub struct Lane {
     pub(crate) shards: Vec<Outbox<Entry, ByLane>>,
     pub(crate) answers: Inbox<Answer, ByShard>,
     tickets: u64,
+    // The number of the next ticket, which is that of the tickets given as long as each answer is to one of these.
+    next: u64,
     // How many answers it took.
     taken: u64,
 }
@@ -45,17 +49,18 @@ pub struct Lane {
 impl Model for Lane {
     ghost use Rattle.std.specs.Prelude.{◌≡◌, ◌≤◌, ◌-◌, ◌^◌, All, length, min};
     ghost use Rattle.pay_lanes.specs.Parts.{LaneParts, lane_code};
-    ghost use Rattle.pay_lanes.specs.Working.{IsOwn};
+    ghost use Rattle.pay_lanes.specs.Working.{IsOwn, AreGiven};
     ghost use Rattle.pay_lanes.specs.declared.limits.TheConstants.{MOST_TICKETS};
 
     ghost Value = { LaneParts };
 
     ghost coded = { lane_code };
 
-    ghost view = { λ l. record { number = l.number; shards = l.shards.items; answers = l.answers; tickets = l.tickets } };
+    ghost view = { λ l. record { number = l.number; shards = l.shards.items; answers = l.answers; tickets = l.tickets; next = l.next } };
 
-    ghost invariant = { λ l. All (IsOwn l.number l.tickets) l.shards.items
-        × (l.tickets ≤ MOST_TICKETS)
+    ghost invariant = { λ l. All (IsOwn l.number l.next) l.shards.items
+        × AreGiven l.next l.answers.got
+        × (l.tickets ≤ l.next)
         × (l.taken ≡ min (length l.answers.got) (2 ^ 64 - 1)) };
 }
 
@@ -81,20 +86,22 @@ impl Lane {
     ) -> Lane
         requires shards { All (IsNewSender number) shards.items }
         requires answers { answers.got ≡ [] }
-        ensures { result ≡ record { number = number; shards = shards.items; answers = answers; tickets = 0 } }
+        ensures { result ≡ record { number = number; shards = shards.items; answers = answers; tickets = 0; next = 0 } }
     {
         Lane {
             number,
             shards,
             answers,
             tickets: 0,
+            next: 0,
             taken: 0,
         }
     }
 
-    /// Its number.
+    /// Its number. What it sent it sent under that, and under tickets below that of the next.
     pub fn number(&self) -> u8
-        ensures { result ≡ self.now.number }
+        ensures value { result ≡ self.now.number }
+        ensures own { All (IsOwn self.now.number self.now.next) self.now.shards }
     {
         self.number
     }
@@ -114,25 +121,27 @@ impl Lane {
     }
 
     /// Sends a command to the shard that answers it, and gives the ticket for it: the first has the number 0, the second 1,
-    /// and so on. Quotes have to be asked of one of as many shards as there are.
+    /// and so on, and each is above those of all answers that were taken. Quotes have to be asked of one of as many shards as there are.
     pub fn send<R: Wait>(&mut self, rt: &R, command: Command) -> Result<Ticket, SendFault>
         requires some { 0 < length self.old.shards }
         requires shards { IsForShards (length self.old.shards) command }
         ensures sent { OnOk result (self.new ≡ having_asked self.old command) }
-        ensures ticket { IfOk result (λ ticket. ticket ≡ self.old.tickets) }
+        ensures ticket { IfOk result (λ ticket. ticket ≡ self.old.next) }
+        ensures new { OnOk result (All (λ a. a.ticket < self.old.next) self.old.answers.got) }
+        ensures place { OnOk result (shard_of (length self.old.shards) command < length self.old.shards) }
         ensures later { IfOk result (λ ticket. All (λ s. All (λ entry. entry.ticket < ticket) s.sent) self.old.shards) }
         ensures same { IsSameLane self.old self.new }
         ensures refused { OnErr result (self.new ≡ self.old) }
         ensures window { (result ≡ Err Window) ↔ (WINDOW ≤ unanswered self.old) }
-        ensures busy { result ≡ Err Busy → (MOST_TICKETS ≤ self.old.tickets) ⊎ WasFullAt by_lane self.old.shards (shard_of (length self.old.shards) command) }
+        ensures busy { result ≡ Err Busy → (MOST_TICKETS ≤ self.old.next) ⊎ WasFullAt by_lane self.old.shards (shard_of (length self.old.shards) command) }
     {
         if self.unanswered() >= WINDOW {
             return Err(SendFault::Window);
         }
-        if self.tickets >= MOST_TICKETS {
+        if self.next >= MOST_TICKETS {
             return Err(SendFault::Busy);
         }
-        let ticket = self.tickets;
+        let ticket = self.next;
         let shard = shard_of(self.shards.len(), &command.asked());
         let entry = Entry {
             lane: self.number,
@@ -142,10 +151,19 @@ impl Lane {
         match send_at(rt, &mut self.shards, shard, entry) {
             Ok(()) => {
                 self.tickets += 1;
+                self.next += 1;
                 Ok(Ticket::of(ticket))
             }
             Err(_) => Err(SendFault::Busy),
         }
+    }
+
+    /// Waits until an answer is sent, and not at all if one was sent since it last waited. It waits no longer than `longest`, and
+    /// may end sooner.
+    pub fn wait<R: Wait>(&mut self, rt: &R, longest: Duration)
+        ensures { self.new ≡ self.old }
+    {
+        self.answers.wait(rt, longest);
     }
 
     /// The oldest answer that it did not take yet, or `None` if there was none at one moment of the call.
@@ -159,6 +177,7 @@ impl Lane {
     {
         let answer = self.answers.receive(rt)?;
         self.taken = self.taken.saturating_add(1);
+        self.next = self.next.max(answer.ticket.saturating_add(1));
         Some(answer)
     }
 }

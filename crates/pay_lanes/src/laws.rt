@@ -1,5 +1,6 @@
 //! What follows of lanes and workers that go on.
 ghost use Rattle.std.specs.Prelude.{◌≡◌, List, length};
+ghost use Rattle.std.specs.List.{AllZip};
 ghost use Rattle.pay_lanes.specs.Parts.{LaneParts, WorkerParts};
 ghost use Rattle.pay_lanes.specs.Ends.{AreTogether, GoOn};
 ghost use Rattle.pay_lanes.specs.Working.{IsSameLane, IsSameWorker};
@@ -7,7 +8,8 @@ ghost use Rattle.pay_lanes.specs.Working.{IsSameLane, IsSameWorker};
 /// Workers and lanes that were opened together still are when they have gone on: all workers in order, and any of the lanes in
 /// any order.
 pub fn still_together()
-    ensures { (ws vs : List WorkerParts) (ls ks : List LaneParts) → AreTogether ws ls → GoOn ws vs ls ks → AreTogether vs ks }
+    ensures any_order { (ws vs : List WorkerParts) (ls ks : List LaneParts) → AreTogether ws ls → GoOn ws vs ls ks → AreTogether vs ks }
+    ensures in_order { (ws vs : List WorkerParts) (ls ks : List LaneParts) → AreTogether ws ls → AllZip IsSameWorker ws vs → AllZip IsSameLane ls ks → AreTogether vs ks }
 {}
 
 /// A lane is the same end as itself, and what is the same end as a same one is the same.

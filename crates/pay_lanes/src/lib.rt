@@ -15,7 +15,7 @@ mod senders;
 mod sending;
 mod worker;
 
-pub use ending::{EndFault, Ended, end};
+pub use ending::{EndFault, Ended, end, put_in_order};
 pub use gate::{Gate, OpenGate};
 pub use lane::{Lane, SendFault};
 pub use opening::{OpenFault, Opened, open};

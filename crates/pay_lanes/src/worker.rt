@@ -17,6 +17,7 @@ use pay_mailbox::{Inbox, Outbox};
 use pay_shard::{Answer, Entry, Shard};
 use std::marker::Model;
 use std::sync::Wait;
+use std::time::Duration;
 
 /// What a worker did in a turn.
 #[derive(Clone, Copy, Debug, PartialEq, Eq)]
@@ -148,6 +149,14 @@ impl<F: Fares, G: Gate> Worker<F, G> {
         ensures { result.now ≡ self.now.shard }
     {
         &self.shard
+    }
+
+    /// Waits until an entry is sent, and not at all if one was sent since it last waited. It waits no longer than `longest`, and
+    /// may end sooner.
+    pub fn wait<R: Wait>(&mut self, rt: &R, longest: Duration)
+        ensures { self.new ≡ self.old }
+    {
+        self.requests.wait(rt, longest);
     }
 
     /// Answers the oldest entry that waits. It offers an answer first that its lane had no room for, and it pops no entry

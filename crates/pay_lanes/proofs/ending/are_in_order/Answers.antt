@@ -9,13 +9,13 @@ loop-place-init c = λ k lt d. let no : ⊥ = omega arith in absurd no
 pub returns-then-number-place : goal.returns-then-number-place
 returns-then-number-place c = (
   λ no. cc,
-  λ e. absurd (not_there c.args.lanes.now c.args.count c.loop-place.place c.index-lanes-place.result c.loop-place-test.true c.index-lanes-place.is (λ same. c.if-number-place.true (c.number.ensures ∙ same)) e),
+  λ e. absurd (not_there c.args.lanes.now c.args.count c.loop-place.place c.index-lanes-place.result c.loop-place-test.true c.index-lanes-place.is (λ same. c.if-number-place.true (c.number.ensures.value ∙ same)) e),
 )
 
 pub loop-place-preserved : goal.loop-place-preserved
 loop-place-preserved c =
     below_more _ _ c.loop-place.invariant
-    (here_too c.args.lanes.now c.loop-place.place c.index-lanes-place.result c.loop-place-test.true c.index-lanes-place.is (sym c.number.ensures ∙ c.if-number-place.false))
+    (here_too c.args.lanes.now c.loop-place.place c.index-lanes-place.result c.loop-place-test.true c.index-lanes-place.is (sym c.number.ensures.value ∙ c.if-number-place.false))
 
 pub returns : goal.returns
 returns c = (

@@ -1,28 +1,27 @@
-use Rattle.std.proofs.Common.{◌<◌, rules, sym, ◌∙◌, arith}
+use Rattle.std.proofs.Common.{◌<◌, rules, sym, ◌∙◌, subst, IsPermutation, arith}
 use Rattle.std.proofs.lemmas.Iterator.Adapters.{YieldsList-from_vec}
 use Rattle.std.proofs.lemmas.Iterator.Consumers.{YieldsList-turn, YieldsList-end}
 use Rattle.std.proofs.lemmas.List.{length_push}
-use Rattle.std.proofs.lemmas.List.Sorted.{IsNonDecreasingBy-from_sort_by_key}
+use Rattle.std.specs.List.{range_with_len}
 use Rattle.arrayvec.specs.ArrayVec.{array_vec_len}
 use Rattle.pay_lanes.specs.Parts.{LaneParts}
-use Rattle.pay_lanes.proofs.Numbers.{sorted_all, in_order_all, order_of, order_back}
+use Rattle.pay_lanes.specs.Ends.{lanes_of, numbers}
+use Rattle.pay_lanes.proofs.Numbers.{in_order_all, count, order_at}
 use Rattle.pay_lanes.proofs.Exchanges.{each_length}
-use Rattle.pay_lanes.proofs.Endings.{none_ended, next_here, one_ended, pushed, journals_end, many_end, known_end, sent_end, answered_end}
+use Rattle.pay_lanes.proofs.Endings.{none_ended, next_here, one_ended, pushed, journals_end, many_end, known_end, asked_end, right_end, sent_end, answered_end}
 use Rattle.pay_lanes.proofs.ending.end.Goals as goal
 
-pub returns-then-not-are_in_order-clause-missing :
-    goal.returns-then-not-are_in_order-clause-missing
-returns-then-not-are_in_order-clause-missing g c = λ all.
-    let up = IsNonDecreasingBy-from_sort_by_key (λ (l : LaneParts). l.number) _ c.sort_unstable_by_key.ensures.sorted (λ a r q k. search rules) in
-    let order = sorted_all c.args.workers.items c.args.lanes.items c.sort_unstable_by_key.new.self.items c.sort_unstable_by_key.ensures.permutation up all in
-    let yes = c.are_in_order.ensures.1 (order_back c.deref.result.now c.sort_unstable_by_key.new.self.items c.deref-2.result.now c.args.workers.items c.lanes_of.result c.deref.ensures.value c.deref-2.ensures.value c.lanes_of.ensures order) in
-    let no = c.if-not-are_in_order.true in
+pub returns-then-not-put_in_order-clause-missing :
+    goal.returns-then-not-put_in_order-clause-missing
+returns-then-not-put_in_order-clause-missing g c = λ all.
+    let yes = c.put_in_order.ensures.all.1 (subst (λ n. IsPermutation (range_with_len 0 n) (numbers c.args.lanes.items)) (sym (count c.deref.result.now c.args.workers.items c.lanes_of-count.result c.deref.ensures.value c.lanes_of-count.ensures)) all) in
+    let no = c.if-not-put_in_order.true in
     cc
 
 pub loop-worker-init : goal.loop-worker-init
 loop-worker-init g c = (
-  none_ended c.args.workers.items c.args.lanes.items c.sort_unstable_by_key.new.self.items c.requires c.sort_unstable_by_key.ensures.permutation
-      (order_of c.deref.result.now c.sort_unstable_by_key.new.self.items c.deref-2.result.now c.args.workers.items c.lanes_of.result c.deref.ensures.value c.deref-2.ensures.value c.lanes_of.ensures (c.are_in_order.ensures.0 (search rules)))
+  none_ended c.args.workers.items c.args.lanes.items c.put_in_order.new.lanes.items c.requires c.put_in_order.ensures.moved
+      (order_at c.put_in_order.new.lanes.items c.deref.result.now c.args.workers.items c.lanes_of-count.result c.deref.ensures.value c.lanes_of-count.ensures (c.put_in_order.ensures.in_order (search rules)))
       _ _ _ _ c.new_in.ensures c.new_in-2.ensures,
   search rules,
   search rules,
@@ -50,7 +49,7 @@ loop-worker-preserved g c =
     let turn = (YieldsList-turn (YieldsList-from_vec {s = c.into_iter-worker-iterator.result} c.args.workers.items c.into_iter-worker-iterator.ensures.into_iter_gives.0 (c.into_iter-worker-iterator.ensures.into_iter_gives.1 ∙ c.args.workers.ok.0)) c.loop-worker.yielded c.loop-worker.worker-iterator c.loop-worker.yielded_by c.next.result c.next.new.self c.in-Some.worker c.in-Some.is c.next.ensures.steps) in
     let more = length_push c.loop-worker.yielded c.in-Some.worker in (
       one_ended _ _ _ _ _ _ c.loop-worker.invariant.0 c.in-Some.worker turn.0 turn.1 _ c.end_worker-journal.new.lanes.items c.end_worker-journal.result.0.items c.end_worker-journal.result.1.items _ _ more
-          c.end_worker-journal.ensures.journal c.end_worker-journal.ensures.lanes c.end_worker-journal.ensures.sent c.end_worker-journal.ensures.answered c.requires.workers_of c.end_worker-journal.ensures.known
+          c.end_worker-journal.ensures.journal c.end_worker-journal.ensures.lanes c.end_worker-journal.ensures.sent c.end_worker-journal.ensures.answered c.requires.workers_of c.end_worker-journal.ensures.known c.end_worker-journal.ensures.right
           (pushed _ c.loop-worker.ended.journals.items c.push.new.self.items c.end_worker-journal.result.0 c.push.ensures.items) (pushed _ c.loop-worker.ended.left.items c.push-in-loop-worker.new.self.items c.end_worker-journal.result.1 c.push-in-loop-worker.ensures.items),
       omega (arith, c.loop-worker.invariant.1, more, c.push.ensures.len),
       omega (arith, c.loop-worker.invariant.2, more, c.push-in-loop-worker.ensures.len),
@@ -58,13 +57,24 @@ loop-worker-preserved g c =
 
 pub returns-clause-all : goal.returns-clause-all
 returns-clause-all g c =
-    in_order_all c.args.workers.items c.args.lanes.items c.sort_unstable_by_key.new.self.items c.sort_unstable_by_key.ensures.permutation
-    (order_of c.deref.result.now c.sort_unstable_by_key.new.self.items c.deref-2.result.now c.args.workers.items c.lanes_of.result c.deref.ensures.value c.deref-2.ensures.value c.lanes_of.ensures (c.are_in_order.ensures.0 (search rules)))
+    in_order_all (lanes_of c.args.workers.items) c.args.lanes.items c.put_in_order.new.lanes.items c.put_in_order.ensures.moved
+    (order_at c.put_in_order.new.lanes.items c.deref.result.now c.args.workers.items c.lanes_of-count.result c.deref.ensures.value c.lanes_of-count.ensures (c.put_in_order.ensures.in_order (search rules)))
 
 pub returns-clause-journals : goal.returns-clause-journals
 returns-clause-journals g c =
     let end = (YieldsList-end (YieldsList-from_vec {s = c.into_iter-worker-iterator.result} c.args.workers.items c.into_iter-worker-iterator.ensures.into_iter_gives.0 (c.into_iter-worker-iterator.ensures.into_iter_gives.1 ∙ c.args.workers.ok.0)) c.loop-worker.yielded c.loop-worker.worker-iterator c.loop-worker.yielded_by c.next.result c.next.new.self c.in-None.is c.next.ensures.steps) in
     journals_end _ _ _ _ _ _ c.loop-worker.invariant.0 end.1
+
+pub returns-clause-asked : goal.returns-clause-asked
+returns-clause-asked g c =
+    let end = (YieldsList-end (YieldsList-from_vec {s = c.into_iter-worker-iterator.result} c.args.workers.items c.into_iter-worker-iterator.ensures.into_iter_gives.0 (c.into_iter-worker-iterator.ensures.into_iter_gives.1 ∙ c.args.workers.ok.0)) c.loop-worker.yielded c.loop-worker.worker-iterator c.loop-worker.yielded_by c.next.result c.next.new.self c.in-None.is c.next.ensures.steps) in
+    asked_end _ _ _ _ _ _ c.loop-worker.invariant.0 end.1 c.args.lanes.items c.requires c.put_in_order.ensures.moved
+    (order_at c.put_in_order.new.lanes.items c.deref.result.now c.args.workers.items c.lanes_of-count.result c.deref.ensures.value c.lanes_of-count.ensures (c.put_in_order.ensures.in_order (search rules)))
+
+pub returns-clause-right : goal.returns-clause-right
+returns-clause-right g c =
+    let end = (YieldsList-end (YieldsList-from_vec {s = c.into_iter-worker-iterator.result} c.args.workers.items c.into_iter-worker-iterator.ensures.into_iter_gives.0 (c.into_iter-worker-iterator.ensures.into_iter_gives.1 ∙ c.args.workers.ok.0)) c.loop-worker.yielded c.loop-worker.worker-iterator c.loop-worker.yielded_by c.next.result c.next.new.self c.in-None.is c.next.ensures.steps) in
+    right_end _ _ _ _ _ _ c.loop-worker.invariant.0 end.1
 
 pub returns-clause-many : goal.returns-clause-many
 returns-clause-many g c =
@@ -79,9 +89,9 @@ returns-clause-known g c =
 pub returns-clause-sent : goal.returns-clause-sent
 returns-clause-sent g c =
     let end = (YieldsList-end (YieldsList-from_vec {s = c.into_iter-worker-iterator.result} c.args.workers.items c.into_iter-worker-iterator.ensures.into_iter_gives.0 (c.into_iter-worker-iterator.ensures.into_iter_gives.1 ∙ c.args.workers.ok.0)) c.loop-worker.yielded c.loop-worker.worker-iterator c.loop-worker.yielded_by c.next.result c.next.new.self c.in-None.is c.next.ensures.steps) in
-    sent_end _ _ _ _ _ _ c.loop-worker.invariant.0 end.1 c.args.lanes.items c.sort_unstable_by_key.ensures.permutation
+    sent_end _ _ _ _ _ _ c.loop-worker.invariant.0 end.1 c.args.lanes.items c.put_in_order.ensures.moved
 
 pub returns-clause-answered : goal.returns-clause-answered
 returns-clause-answered g c =
     let end = (YieldsList-end (YieldsList-from_vec {s = c.into_iter-worker-iterator.result} c.args.workers.items c.into_iter-worker-iterator.ensures.into_iter_gives.0 (c.into_iter-worker-iterator.ensures.into_iter_gives.1 ∙ c.args.workers.ok.0)) c.loop-worker.yielded c.loop-worker.worker-iterator c.loop-worker.yielded_by c.next.result c.next.new.self c.in-None.is c.next.ensures.steps) in
-    answered_end _ _ _ _ _ _ c.loop-worker.invariant.0 end.1 c.args.lanes.items c.sort_unstable_by_key.ensures.permutation
+    answered_end _ _ _ _ _ _ c.loop-worker.invariant.0 end.1 c.args.lanes.items c.put_in_order.ensures.moved
