@@ -1,9 +1,9 @@
 -- Two lanes and a worker that have gone on.
-use Rattle.std.proofs.Common.{◌≡◌, ℕ, ◌<◌, List, [], ◌∷◌, ◌++◌, length, All, Any, get_or, Option, Some, option_to_list, Result, Ok, is_ok, if◌then◌else◌, sym, ap, ◌∙◌, subst, append_assoc, arith}
+use Rattle.std.proofs.Common.{◌≡◌, ℕ, zero, suc, ◌+◌, ◌<◌, List, [], ◌∷◌, ◌++◌, length, take, drop, All, Any, get_or, slice_index_or, slice_set, Option, Some, option_to_list, Result, Ok, is_ok, if◌then◌else◌, sym, ap, ◌∙◌, subst, append_assoc, arith}
 use Rattle.std.specs.List.{AllZip}
 use Rattle.std.proofs.Math.Seq.{get_or-append_seam}
 use Rattle.std.proofs.lemmas.List.{length-append, get_or_append_left, get_or_default}
-use Rattle.std.proofs.lemmas.List.Elements.{All-append, All-cons, All-head, All-tail}
+use Rattle.std.proofs.lemmas.List.Elements.{All-append, All-cons, All-head, All-tail, All-same, All-take, All-drop}
 use Rattle.pay_lanes.specs.Words.{LaneParts, WorkerParts, IsSameLane, IsSameWorker, GoOn}
 
 -- what was popped stood last
@@ -31,13 +31,37 @@ module _ {X : Type 0} (P : X → Type 0) where
       let long = length-append xs ys in
       (k, e, omega arith, get_or_append_left xs ys e k within ∙ get_or_default xs k e d within, holds)
 
+-- one of the lanes has gone on as this one
+abbrev pub GoesOn : List LaneParts → LaneParts → Type 0
+GoesOn ls after = Any (λ before. IsSameLane before after) ls
+
 module _ (lane_itself : (l : LaneParts) → IsSameLane l l) (worker_itself : (w : WorkerParts) → IsSameWorker w w) where
   workers_go_on : (ws : List WorkerParts) (w v : WorkerParts) → IsSameWorker w v → AllZip IsSameWorker (ws ++ w ∷ []) (ws ++ v ∷ [])
   workers_go_on [] w v same = (same, tt)
   workers_go_on (x ∷ ws) w v same = (worker_itself x, workers_go_on ws w v same)
 
-  abbrev GoesOn : List LaneParts → LaneParts → Type 0
-  GoesOn ls after = Any (λ before. IsSameLane before after) ls
+  -- workers, each as it was
+  pub workers_stay : (ws : List WorkerParts) → AllZip IsSameWorker ws ws
+  workers_stay [] = tt
+  workers_stay (w ∷ ws) = (worker_itself w, workers_stay ws)
+
+  -- one of them has gone on
+  pub one_goes_on : (ws : List WorkerParts) (place : ℕ) (w v : WorkerParts) → place < length ws → w ≡ slice_index_or ws place w → IsSameWorker w v → AllZip IsSameWorker ws (slice_set ws place v)
+  one_goes_on [] place w v within is same = absurd (omega arith)
+  one_goes_on (x ∷ ws) zero w v within is same = (subst (λ y. IsSameWorker y v) is same, workers_stay ws)
+  one_goes_on (x ∷ ws) (suc place) w v within is same = (worker_itself x, one_goes_on ws place w v (omega arith) is same)
+
+  -- lanes, each as it was
+  pub lanes_stay : (ls : List LaneParts) → All (GoesOn ls) ls
+  lanes_stay ls k d within =
+      let e : LaneParts = get_or ls k d in
+      (k, e, within, get_or_default ls k e d within, lane_itself e)
+
+  -- all but the one at a place, each as it was
+  pub without_one : (ls : List LaneParts) (place : ℕ) (ks : List LaneParts) → ks ≡ take place ls ++ drop (place + 1) ls → All (GoesOn ls) ks
+  without_one ls place ks is =
+      All-same (GoesOn ls) ks (take place ls ++ drop (place + 1) ls) is
+      (All-append (GoesOn ls) (take place ls) (drop (place + 1) ls) (All-take (GoesOn ls) place ls (lanes_stay ls)) (All-drop (GoesOn ls) (place + 1) ls (lanes_stay ls)))
 
   -- the last two, of which each has gone on, in the other order
   lanes_go_on : (ls : List LaneParts) (l m k n : LaneParts) → IsSameLane l k → IsSameLane m n → All (GoesOn ((ls ++ l ∷ []) ++ m ∷ [])) ((ls ++ n ∷ []) ++ k ∷ [])
@@ -49,15 +73,20 @@ module _ (lane_itself : (l : LaneParts) → IsSameLane l l) (worker_itself : (w 
       (All-cons P n [] (one_holds (λ before. IsSameLane before n) (ls ++ l ∷ []) m [] second) (none P)))
       (All-cons P k [] (subst (λ xs. GoesOn xs k) (sym parts) (one_holds (λ before. IsSameLane before k) ls l (m ∷ []) first)) (none P))
 
+  -- the same, of lanes that were taken out and put back
+  pub last_go_on : (ls firsts all_ls ks : List LaneParts) (l m k n : LaneParts) → all_ls ≡ firsts ++ m ∷ [] → firsts ≡ ls ++ l ∷ [] → ks ≡ (ls ++ n ∷ []) ++ k ∷ []
+      → IsSameLane l k → IsSameLane m n → All (GoesOn all_ls) ks
+  last_go_on ls firsts all_ls ks l m k n c d e first second =
+      let here : all_ls ≡ (ls ++ l ∷ []) ++ m ∷ [] = c ∙ ap (λ x. x ++ m ∷ []) d in
+      subst (λ x. All (GoesOn x) ks) (sym here) (subst (λ x. All (GoesOn ((ls ++ l ∷ []) ++ m ∷ [])) x) (sym e) (lanes_go_on ls l m k n first second))
+
   -- all of them
   pub gone_on : (ws all_ws vs : List WorkerParts) (w v : WorkerParts) (ls firsts all_ls ks : List LaneParts) (l m k n : LaneParts)
       → all_ws ≡ ws ++ w ∷ [] → vs ≡ ws ++ v ∷ [] → all_ls ≡ firsts ++ m ∷ [] → firsts ≡ ls ++ l ∷ [] → ks ≡ (ls ++ n ∷ []) ++ k ∷ []
       → IsSameWorker w v → IsSameLane l k → IsSameLane m n → GoOn all_ws vs all_ls ks
   gone_on ws all_ws vs w v ls firsts all_ls ks l m k n a b c d e worker first second = record {
     workers = subst (λ x. AllZip IsSameWorker x vs) (sym a) (subst (λ x. AllZip IsSameWorker (ws ++ w ∷ []) x) (sym b) (workers_go_on ws w v worker));
-    lanes =
-        let here : all_ls ≡ (ls ++ l ∷ []) ++ m ∷ [] = c ∙ ap (λ x. x ++ m ∷ []) d in
-        subst (λ x. All (GoesOn x) ks) (sym here) (subst (λ x. All (GoesOn ((ls ++ l ∷ []) ++ m ∷ [])) x) (sym e) (lanes_go_on ls l m k n first second));
+    lanes = last_go_on ls firsts all_ls ks l m k n c d e first second;
   }
 
 -- what was pushed stands last

@@ -1,10 +1,13 @@
-//! What tests are given: a fare file of one bus route, commands of account 7, and lanes and workers.
+//! What tests are given: a fare file of one bus route, commands, and lanes and workers.
 
 ghost use Rattle.std.specs.Prelude.{ℕ};
+ghost use Rattle.pay_lanes.specs.Words.{AreTogether};
 ghost use Rattle.pay_shard.specs.Words.{IsForShards};
 
+use pay_book::Book;
 use pay_day::Moment;
 use pay_fare_file::read_tables;
+use pay_lanes::{OpenGate, Opened, open};
 use pay_shard::{Answer, Asked, Command, Reply};
 use pay_tables::Tables;
 use pay_taps::{Kind, Tap};
@@ -37,6 +40,25 @@ pub fn expect_same<R: Abort, T: Copy + PartialEq + Debug>(rt: &R, found: T, want
 pub fn one_route<R: Abort + AllocGlobal>(rt: &R) -> Arc<Tables> {
     let tables = read_tables(rt.alloc(), ONE_ROUTE).expect(rt, "the fare file");
     Arc::new(rt.alloc(), tables).expect(rt, "memory")
+}
+
+/// So many gates.
+pub fn gates<R: Abort + AllocGlobal>(rt: &R, count: u8) -> Vec<OpenGate> {
+    let mut gates = Vec::new(rt.alloc());
+    for _ in 0..count {
+        gates.push(OpenGate).expect(rt, "memory");
+    }
+    gates
+}
+
+/// So many shards and lanes.
+pub fn opened<R: Abort + AllocGlobal>(rt: &R, shards: u8, lanes: u8) -> Opened<Book, OpenGate>
+    ensures { AreTogether result.workers.items result.lanes.items }
+{
+    let gates = gates(rt, shards);
+    open(rt.alloc(), one_route(rt), shards, lanes, gates)
+        .ok()
+        .expect(rt, "memory")
 }
 
 /// A bus tap of an account by a reader, so many seconds after 08:00:00 of the Monday, when London's clocks show UTC.

@@ -2,7 +2,11 @@
 #![tactic(auto)]
 
 #[cfg(test)]
+mod ending;
+#[cfg(test)]
 mod given;
+#[cfg(test)]
+mod memory;
 #[cfg(test)]
 mod threads;
 #[cfg(test)]

@@ -1,25 +1,10 @@
 //! What waits, and what is refused while it does.
 
-use crate::given::{due, expect_same, one_route, pence};
+use crate::given::{due, expect_same, gates, one_route, opened, pence};
 use pay_book::Book;
 use pay_lanes::{Lane, OpenFault, OpenGate, Opened, SendFault, Turn, open};
 use std::process::Abort;
 use std::sync::Wait;
-
-fn gates<R: Abort + AllocGlobal>(rt: &R, count: u8) -> Vec<OpenGate> {
-    let mut gates = Vec::new(rt.alloc());
-    for _ in 0..count {
-        gates.push(OpenGate).expect(rt, "memory");
-    }
-    gates
-}
-
-fn opened<R: Abort + AllocGlobal>(rt: &R, shards: u8, lanes: u8) -> Opened<Book, OpenGate> {
-    let gates = gates(rt, shards);
-    open(rt.alloc(), one_route(rt), shards, lanes, gates)
-        .ok()
-        .expect(rt, "memory")
-}
 
 fn refused<R: Abort + AllocGlobal>(
     rt: &R,

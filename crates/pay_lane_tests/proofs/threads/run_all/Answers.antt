@@ -5,7 +5,7 @@ use Rattle.pay_lane_tests.proofs.threads.run_all.Goals as goal
 
 pub end-requires : goal.end-requires
 end-requires g c =
-    c.still_together.ensures c.args.opened.workers.items c.push.new.self.items c.args.opened.lanes.items c.push-3.new.self.items c.requires.together
+    c.still_together.ensures.any_order c.args.opened.workers.items c.push.new.self.items c.args.opened.lanes.items c.push-3.new.self.items c.requires.together
     (gone_on c.same_lanes.ensures.itself c.same_workers.ensures.itself
     c.pop.new.self.items c.args.opened.workers.items c.push.new.self.items c.expect-worker.result c.run_worker-worker.result
     c.pop-3.new.self.items c.pop-2.new.self.items c.args.opened.lanes.items c.push-3.new.self.items

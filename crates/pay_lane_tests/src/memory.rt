@@ -1,0 +1,70 @@
+//! A turn without memory.
+
+use crate::given::{bus_tap, expect_same, opened, pence};
+use pay_book::Book;
+use pay_lanes::{Lane, OpenGate, Opened, Turn, Worker};
+use pay_shard::Reply;
+use std::process::Abort;
+use std::sync::Wait;
+
+// Sends the tap that gets a ticket: each is made two hours after the one before.
+fn send_tap<R: Abort + Wait>(rt: &R, lane: &mut Lane, ticket: u32) {
+    let command = bus_tap(rt, 7, 1, ticket.saturating_mul(7_200));
+    assert!(rt; lane.shards() > 0);
+    let sent = lane.send(rt, command).map(|ticket| ticket.number());
+    expect_same(rt, sent, Ok(u64::from(ticket)));
+}
+
+// Takes turns until an entry is answered, which then stands at this place of the journal: the first turn, or the second, where
+// memory for the first is refused. How many turns were without memory.
+fn turns_without_memory<R: Abort + Wait>(
+    rt: &R,
+    worker: &mut Worker<Book, OpenGate>,
+    place: usize,
+) -> u64 {
+    let turn = worker.turn(rt);
+    if turn != Turn::Starved {
+        expect_same(rt, turn, Turn::Did(place));
+        return 0;
+    }
+    expect_same(rt, worker.shard().journal().len(), place);
+    expect_same(rt, worker.turn(rt), Turn::Did(place));
+    1
+}
+
+// Takes the answer to a ticket. Each tap that is accepted pays 175 pence, since it is more than an hour after the one before.
+// How many taps are accepted then: all that were, and this one, if memory for it is not refused.
+fn accepted_then<R: Abort + Wait>(rt: &R, lane: &mut Lane, ticket: u64, accepted: u64) -> u64 {
+    let answer = lane.take(rt).expect(rt, "an answer");
+    expect_same(rt, (answer.ticket, answer.place), (ticket, ticket as usize));
+    if matches!(&answer.reply, Reply::Memory) {
+        return accepted;
+    }
+    let accepted = accepted.saturating_add(1);
+    expect_same(rt, pence(&answer), Some(accepted.saturating_mul(175)));
+    accepted
+}
+
+// `rt try --test --fail-alloc N` runs it with each allocation behind those of what is opened failing in turn: at most one fails,
+// so at most one turn or one tap is without memory.
+#[test]
+fn a_turn_without_memory(rt: HostRuntime) {
+    let Opened {
+        mut workers,
+        mut lanes,
+    } = opened(&rt, 1, 1);
+    let worker = workers.first_mut().expect(&rt, "a worker");
+    let lane = lanes.first_mut().expect(&rt, "a lane");
+    let (mut starved, mut accepted) = (0u64, 0u64);
+    for ticket in 0..3 {
+        send_tap(&rt, lane, ticket);
+    }
+    for place in 0..3 {
+        starved = starved.saturating_add(turns_without_memory(&rt, worker, place));
+    }
+    for ticket in 0..3 {
+        accepted = accepted_then(&rt, lane, ticket, accepted);
+    }
+    expect_same(&rt, lane.take(&rt).is_none(), true);
+    assert!(rt; accepted >= starved.saturating_add(2));
+}
