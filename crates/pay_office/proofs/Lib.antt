@@ -1,0 +1,4 @@
+mod Commands
+mod Joined
+mod Refused
+mod Waited

@@ -1,0 +1,4 @@
+pub mod LaneDesks
+pub mod Offices
+pub mod Waits
+pub mod Words

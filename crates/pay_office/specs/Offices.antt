@@ -1,0 +1,35 @@
+-- An office: its workers as they were when their threads began, and what stands when they have ended.
+use Rattle.std.specs.Prelude.{◌≡◌, List, All, length, map}
+use Rattle.std.specs.List.{AllZip}
+use Rattle.pay_shard.specs.declared.item.Entry.{Entry}
+use Rattle.pay_shard.specs.declared.item.Item.{Item}
+use Rattle.pay_lanes.specs.Words.{LaneParts, WorkerParts, IsSameWorker, arrived, sent_by, AreKnown, IsAnswered, AreJournalsFrom, IsRight}
+use Rattle.pay_lanes.specs.declared.opening.OpenFault.{OpenFault}
+use Rattle.pay_lanes.specs.declared.opening.OpenFault.TheVariants as opening
+use Rattle.pay_office.specs.declared.office.StartFault.{StartFault}
+use Rattle.pay_office.specs.declared.office.StartFault.TheVariants.{Count, Memory}
+
+-- why no office begins whose queues were not opened
+abbrev pub start_fault : OpenFault → StartFault
+start_fault opening.Count = Count
+start_fault opening.Memory = Memory
+
+-- With the workers as they are at the end: these journals are theirs, and these entries were left.
+pub record IsEndOf (workers : List WorkerParts) (lanes : List LaneParts) (journals : List (List Item)) (left : List (List Entry)) : Type 0 where
+  pub journals_are : journals ≡ map (λ (w : WorkerParts). w.shard.journal) workers
+  pub many : length left ≡ length workers
+  -- what each lane sent to a shard stands in its journal or is left there, in order, and each entry once
+  pub sent : All (λ l. arrived l.number workers left ≡ sent_by l) lanes
+  -- of a lane that was not opened there is nothing
+  pub known : AreKnown workers left
+  -- what each lane took from a shard is the first of what the run of its journal answers at the lane's items
+  pub answered : All (λ l. All (IsAnswered l) workers) lanes
+  -- what stands in a journal was asked of its shard, and is marked rightly
+  pub asked : AreJournalsFrom (length workers) 0 journals
+  pub right : All IsRight workers
+
+-- An office of these workers has ended with these lanes: each worker is the same end still, over a shard that began as it did.
+pub record HasEnded (office : List WorkerParts) (lanes : List LaneParts) (journals : List (List Item)) (left : List (List Entry)) : Type 0 where
+  pub workers : List WorkerParts
+  pub same : AllZip IsSameWorker office workers
+  pub ends : IsEndOf workers lanes journals left

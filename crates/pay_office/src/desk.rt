@@ -1,0 +1,110 @@
+//! A desk over a lane.
+ghost use Rattle.std.specs.Prelude.{◌≡◌, ◌≤◌, [], length};
+ghost use Rattle.pay_shard.specs.declared.limits.TheConstants.{MOST_SHARDS};
+ghost use Rattle.pay_lanes.specs.Words.{IsSameLane};
+ghost use Rattle.pay_office.specs.LaneDesks.{refusal_of};
+
+use crate::waiting::{AllWaiting, Waiting, take_all, take_out, take_until};
+use arrayvec::ArrayVec;
+use pay_lanes::{Lane, SendFault};
+use pay_shard::{Answer, Command, Desk, DeskFault, Reply, Ticket};
+use std::alloc::Global;
+use std::marker::Model;
+use std::snapshot::Snapshot;
+use std::sync::Wait;
+
+/// A desk over a lane: it sends each command to the shard that answers it, and keeps what comes for its own `get`. At most 16
+/// commands wait. In a contract it is the lane as it was when the desk began, the lane as it is, and the tickets that wait.
+#[derive(Drop)]
+pub struct LaneDesk<R: Wait + Copy> {
+    rt: R,
+    lane: Lane,
+    began: Snapshot<Lane>,
+    waiting: AllWaiting,
+}
+
+impl<R: Wait + Copy> Model for LaneDesk<R> {
+    ghost use Rattle.pay_office.specs.LaneDesks.{LaneDeskParts, lane_desk_code, IsAtLane};
+    ghost use Rattle.pay_office.specs.Waits.{tickets_of};
+
+    ghost Value = { LaneDeskParts };
+
+    ghost coded = { lane_desk_code };
+
+    ghost view = { λ d. record { began = d.began.value; lane = d.lane; waiting = tickets_of d.waiting.items } };
+
+    ghost invariant = { λ d. IsAtLane d.began.value d.lane d.waiting.items };
+}
+
+impl<R: Wait + Copy> LaneDesk<R> {
+    /// A desk over a lane.
+    pub fn new(rt: R, alloc: Global, lane: Lane) -> LaneDesk<R>
+        requires shards { (1 ≤ length lane.shards) × (length lane.shards ≤ MOST_SHARDS) }
+        ensures { result ≡ record { began = lane; lane = lane; waiting = [] } }
+    {
+        pay_lanes::laws::same_lanes();
+        let _ = lane.number();
+        LaneDesk {
+            rt,
+            began: Snapshot::of(&lane),
+            lane,
+            waiting: ArrayVec::new_in(alloc),
+        }
+    }
+
+    /// Its lane. What was not got is dropped.
+    pub fn into_lane(self) -> Lane
+        ensures lane { result ≡ self.lane }
+        ensures same { IsSameLane self.began result }
+    {
+        self.lane
+    }
+}
+
+/// Why a desk refuses what its lane does not send.
+fn refusal(fault: SendFault) -> DeskFault
+    ensures { result ≡ refusal_of fault }
+{
+    match fault {
+        SendFault::Window => DeskFault::Window,
+        SendFault::Busy => DeskFault::Busy,
+    }
+}
+
+impl<R: Wait + Copy> Desk for LaneDesk<R> {
+    ghost use Rattle.pay_lanes.specs.Words.{LaneParts};
+    ghost use Rattle.pay_office.specs.LaneDesks.{desk_parts};
+
+    ghost Origin = { LaneParts };
+
+    ghost parts = { desk_parts };
+
+    fn shards(&self) -> u8 {
+        self.lane.shards() as u8
+    }
+
+    fn put(&mut self, command: Command) -> Result<Ticket, DeskFault> {
+        take_all(&self.rt, &mut self.lane, &mut self.waiting);
+        if self.waiting.is_full() {
+            return Err(DeskFault::Window);
+        }
+        let ticket = match self.lane.send(&self.rt, command) {
+            Ok(ticket) => ticket,
+            Err(fault) => return Err(refusal(fault)),
+        };
+        self.waiting.push(Waiting {
+            ticket: ticket.number(),
+            command,
+            answer: None,
+        });
+        Ok(ticket)
+    }
+
+    fn get(&mut self, ticket: Ticket) -> Result<Reply, DeskFault> {
+        take_until(&self.rt, &mut self.lane, &mut self.waiting, ticket.number());
+        let Some(Answer { reply, .. }) = take_out(&mut self.waiting, ticket.number()) else {
+            return Err(DeskFault::Late);
+        };
+        Ok(reply)
+    }
+}
