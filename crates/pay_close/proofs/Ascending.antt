@@ -1,17 +1,15 @@
 -- What a finite map's entries give is in ascending order of their numbers.
 use Rattle.std.proofs.Common.{◌≡◌, ℕ, Bool, true, false, cond, ◌&&◌, List, [], ◌∷◌, map, filter, is_lt, T, refl, ap, ◌∙◌}
 use Rattle.std.specs.Ordering.{nat_cmp}
-use Rattle.std.specs.FinMap.{FinMap, entries, entries_sorted}
 use Rattle.std.specs.FinMap.Entries.{below_all, is_sorted}
 use Rattle.std.specs.List.{AllByRecursion}
-use Rattle.pay_close.specs.Batches.{in_order_by}
-use Rattle.pay_close.proofs.Sorting.{Rises, ranked, rising_stays}
+use Rattle.pay_close.proofs.Sorting.{Rises, ranked}
 
-so : (a : Bool) → T a → a ≡ true
+pub so : (a : Bool) → T a → a ≡ true
 so true h = refl
 so false h = absurd h
 
-parts : (a b : Bool) → T (a && b) → T a × T b
+pub parts : (a b : Bool) → T (a && b) → T a × T b
 parts true b h = (tt, h)
 parts false b h = absurd h
 
@@ -32,7 +30,8 @@ module _ {X Y : Type 0} (account : Y → ℕ) (p : ℕ × X → Bool) (f : ℕ �
         | false ↦ rest
       ]
 
-  rises : (es : List (ℕ × X)) → T (is_sorted nat_cmp es) → Rises before (map f (filter p es))
+  -- what some entries in order give, each with the number of its entry, is in order
+  pub rises : (es : List (ℕ × X)) → T (is_sorted nat_cmp es) → Rises before (map f (filter p es))
   rises [] h = tt
   rises (e ∷ es) h =
       let both = parts (below_all nat_cmp e.0 es) (is_sorted nat_cmp es) h in
@@ -41,7 +40,3 @@ module _ {X Y : Type 0} (account : Y → ℕ) (p : ℕ × X → Bool) (f : ℕ �
         | true ↦ (all_behind (f e) e.0 es (same e) both.0, rest)
         | false ↦ rest
       ]
-
-  -- what some entries of a map give, each with the number of its entry, is in order already
-  pub entries_stay : (m : FinMap nat_cmp X) → in_order_by account (map f (filter p (entries m))) ≡ map f (filter p (entries m))
-  entries_stay m = rising_stays account (map f (filter p (entries m))) (rises (entries m) (entries_sorted m))

@@ -9,5 +9,8 @@ pub mod Rows
 mod Sorting
 mod Ascending
 mod Gathering
+mod OneAccount
+mod OneByOne
+mod AnyShards
 mod OneShard
 mod ClosedBy

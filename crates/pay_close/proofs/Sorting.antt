@@ -6,7 +6,7 @@ use Rattle.std.specs.List.Sorted.{ties, IsSortedBy, IsSortedByKey, IsStableByKey
 use Rattle.std.specs.Ordering.{nat_cmp}
 use Rattle.std.proofs.lemmas.List.Elements.{recursion_from_All}
 use Rattle.std.proofs.lemmas.List.Sorted.{sorted_far, ranks_by}
-use Rattle.pay_close.specs.Batches.{put_in_by, in_order_by}
+use Rattle.pay_close.specs.Batches.{in_order_by}
 
 pub both_false : (a b : Bool) → (not a && not b) ≡ true → (a ≡ false) × (b ≡ false)
 both_false false false e = (refl, refl)
@@ -141,9 +141,13 @@ module _ {X : Type 0} (lt : X → X → Bool) where
           ] refl
         ] refl
 
-    -- what a stable sort leaves is what the insertion sort gives
+    -- a list in order that has the same of each tie is what the insertion sort gives
+    pub same_ordered : (xs ys : List X) → Rises ys → ((z : X) → filter (ties lt z) ys ≡ filter (ties lt z) xs) → ys ≡ ordered_by xs
+    same_ordered xs ys up keeps = one_order ys (ordered_by xs) up (ordered_rises xs) (λ z. keeps z ∙ sym (ordered_keeps z xs))
+
+    -- and so is what a stable sort leaves
     pub stable_sort : (xs ys : List X) → IsSortedBy lt ys → ((z : X) → filter (ties lt z) ys ≡ filter (ties lt z) xs) → ys ≡ ordered_by xs
-    stable_sort xs ys up keeps = one_order ys (ordered_by xs) (rises_from_sorted ys up) (ordered_rises xs) (λ z. keeps z ∙ sym (ordered_keeps z xs))
+    stable_sort xs ys up keeps = same_ordered xs ys (rises_from_sorted ys up) keeps
 
 -- by account
 pub ranked : {X : Type 0} (account : X → ℕ) → IsStrictWeakOrder (λ a b. is_lt (nat_cmp (account a) (account b)))
@@ -152,10 +156,6 @@ ranked account = ranks_by nat_cmp_total account
 pub sorted_by : {X : Type 0} (account : X → ℕ) (xs ys : List X) → IsSortedByKey account nat_cmp ys → IsStableByKey account nat_cmp xs ys → ys ≡ in_order_by account xs
 sorted_by account xs ys up keeps = stable_sort (λ a b. is_lt (nat_cmp (account a) (account b))) (ranked account) xs ys up keeps
 
--- what stands in ascending order of account stays as it is
-pub rising_stays : {X : Type 0} (account : X → ℕ) (xs : List X) → Rises (λ a b. is_lt (nat_cmp (account a) (account b))) xs → in_order_by account xs ≡ xs
-rising_stays account [] up = refl
-rising_stays account (x ∷ []) up = refl
-rising_stays account (x ∷ y ∷ ys) up =
-    ap (put_in_by account x) (rising_stays account (y ∷ ys) up.1)
-    ∙ ap (λ b. cond b (y ∷ put_in_by account x ys) (x ∷ y ∷ ys)) up.0.0
+-- what stands in ascending order of account, and has the same of each account
+pub rising_by : {X : Type 0} (account : X → ℕ) (xs ys : List X) → Rises (λ a b. is_lt (nat_cmp (account a) (account b))) ys → IsStableByKey account nat_cmp xs ys → ys ≡ in_order_by account xs
+rising_by account xs ys up keeps = same_ordered (λ a b. is_lt (nat_cmp (account a) (account b))) (ranked account) xs ys up keeps

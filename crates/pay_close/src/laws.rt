@@ -8,7 +8,7 @@ ghost use Rattle.pay_postings.specs.declared.fault.PostFault.TheVariants as faul
 ghost use Rattle.pay_postings.specs.Words.{total, net, shares_posted, AreKept};
 ghost use Rattle.pay_shard.specs.Words.{replay};
 ghost use Rattle.pay_close.specs.Close.{new_books, close, IsLate, Event, history, postings_after, answered, AreQuotes};
-ghost use Rattle.pay_close.specs.Laws.{NetIsDueByLast, SharesAreByLast, ClosedNetIsDue, ClosedSharesAreDue, OneShardGathersAll, OneShardClosesAsMachine};
+ghost use Rattle.pay_close.specs.Laws.{NetIsDueByLast, SharesAreByLast, ClosedNetIsDue, ClosedSharesAreDue, ShardsGatherAll, ShardsCloseAsMachine, ShardsCloseAsMerge, OneShardGathersAll, OneShardClosesAsMachine};
 
 use pay_tables::Tables;
 
@@ -56,9 +56,24 @@ pub fn kept()
     pay_postings::laws::kept();
 }
 
+/// A close over any number of shards is the close of one machine. Where one state of all accounts has of each account what its
+/// shard has, and each shard answered by the quotes of its own accounts, what is gathered of these answers is the batch of the one
+/// machine over that state, and so what is posted at the close is what a close of that machine says.
+pub fn any_shards()
+    ensures gathered { ShardsGatherAll }
+    ensures closed { ShardsCloseAsMachine }
+
+    // In whatever order among the shards one machine was asked all that stands in their journals.
+    ensures merged { ShardsCloseAsMerge }
+{
+    pay_shard::laws::merge();
+}
+
 /// What is gathered of one shard that has all accounts is its batch, as it stands; so what is posted at a close over it is what a
 /// close of the machine says.
 pub fn one_shard()
     ensures gathered { OneShardGathersAll }
     ensures closed { OneShardClosesAsMachine }
-{}
+{
+    any_shards();
+}

@@ -1,11 +1,8 @@
-use Rattle.std.proofs.Common.{ap}
-use Rattle.pay_shard.specs.Words.{BatchParts}
-use Rattle.pay_postings.specs.Words.{posted}
-use Rattle.pay_close.proofs.OneShard.{one_gathered, one_whole}
+use Rattle.pay_close.proofs.OneShard.{gathers_one, closes_one}
 use Rattle.pay_close.proofs.laws.one_shard.Goals as goal
 
 pub returns-clause-gathered : goal.returns-clause-gathered
-returns-clause-gathered c = λ tables state day one answer is given. (one_whole tables state day one answer is given, one_gathered tables state day one answer is given)
+returns-clause-gathered c = gathers_one c.any_shards.ensures.gathered
 
 pub returns-clause-closed : goal.returns-clause-closed
-returns-clause-closed c = λ tables books day one answer is given. ap (λ (b : BatchParts). posted books.ledger b.quotes b.sets) (one_gathered tables books.state day one answer is given)
+returns-clause-closed c = closes_one c.any_shards.ensures.closed
