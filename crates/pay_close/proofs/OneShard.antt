@@ -1,5 +1,5 @@
 -- One shard that has all accounts.
-use Rattle.std.proofs.Common.{◌≡◌, ℕ, ◌≤◌, [], ◌∷◌, Option, Some, refl, sym, subst, arith}
+use Rattle.std.proofs.Common.{◌≡◌, ℕ, ◌≤◌, [], ◌∷◌, Some, refl, sym, subst, arith}
 use Rattle.pay_tables.specs.Words.{FareTables}
 use Rattle.pay_shard.specs.Words.{State}
 use Rattle.pay_shard.specs.declared.reply.Answer.{Answer}
