@@ -5,12 +5,11 @@ use Rattle.pay_shard.specs.Words.{DeskParts}
 use Rattle.pay_shard.specs.declared.desk.DeskFault.{DeskFault}
 use Rattle.pay_shard.specs.declared.desk.DeskFault.TheVariants.{Busy, Window}
 use Rattle.pay_shard.specs.declared.limits.TheConstants.{MOST_SHARDS}
-use Rattle.pay_shard.specs.declared.reply.Answer.{Answer}
 use Rattle.pay_lanes.specs.Words.{LaneParts, lane_code, unanswered, by_lane, IsSameLane, WasFullAt}
 use Rattle.pay_lanes.specs.declared.lane.SendFault.{SendFault}
 use Rattle.pay_lanes.specs.declared.lane.SendFault.TheVariants as sending
 use Rattle.pay_lanes.specs.declared.limits.TheConstants.{WINDOW, MOST_TICKETS}
-use Rattle.pay_office.specs.Waits.{commands_sent, answer_to, having_taken_all, AreWaiting}
+use Rattle.pay_office.specs.Waits.{commands_sent, answer_to, AreWaiting}
 use Rattle.pay_office.specs.declared.waiting.Waiting.{Waiting}
 use Rattle.pay_office.specs.declared.limits.TheConstants.{MOST_WAITING}
 
@@ -25,9 +24,9 @@ lane_desk_code =
     code_by (LaneParts × (LaneParts × List ℕ)) (coded× lane_code (coded× lane_code (coded_list coded_ℕ)))
     (λ d. (d.began, (d.lane, d.waiting))) (λ p. record { began = p.0; lane = p.1.0; waiting = p.1.1 }) (λ _. refl)
 
--- Once some answers came, the lane has given all its tickets, or the queue of a shard was full at one moment.
-abbrev pub MayBeBusy : LaneParts → Type 0
-MayBeBusy l = ((came : List Answer) × (MOST_TICKETS ≤ (having_taken_all l came).next)) ⊎ ((shard : ℕ) × WasFullAt by_lane l.shards shard)
+-- Why a command was refused as busy: the lane has no ticket left now, or the queue of a shard was full at one moment.
+abbrev pub WasBusy : LaneDeskParts → LaneDeskParts → Type 0
+WasBusy before after = (MOST_TICKETS ≤ after.lane.next) ⊎ ((shard : ℕ) × WasFullAt by_lane before.lane.shards shard)
 
 -- as many commands of the lane are unanswered, or of the desk not got, as may be
 abbrev pub IsAtWindow : LaneDeskParts → Type 0
@@ -38,9 +37,9 @@ abbrev pub refusal_of : SendFault → DeskFault
 refusal_of sending.Window = Window
 refusal_of sending.Busy = Busy
 
--- how a desk over a lane may refuse a command
+-- how a desk over a lane may refuse a command; what it is to be busy is known only once it was
 abbrev pub MayRefuse : LaneDeskParts → DeskFault → Type 0
-MayRefuse d fault = ((fault ≡ Busy) × MayBeBusy d.lane) ⊎ ((fault ≡ Window) × IsAtWindow d)
+MayRefuse d fault = (fault ≡ Busy) ⊎ ((fault ≡ Window) × IsAtWindow d)
 
 -- Such a desk began with a lane, of which it is known that it is the same end still. It took what the lane sent, and its answers are those
 -- that the lane took, the first to each ticket.

@@ -1,8 +1,11 @@
 //! A desk over a lane.
-ghost use Rattle.std.specs.Prelude.{◌≡◌, ◌≤◌, [], length};
+ghost use Rattle.std.specs.Prelude.{◌≡◌, ◌≤◌, [], ◌∷◌, ◌++◌, length, Err, IfOk, IfErr, OnErr};
 ghost use Rattle.pay_shard.specs.declared.limits.TheConstants.{MOST_SHARDS};
 ghost use Rattle.pay_lanes.specs.Words.{IsSameLane};
-ghost use Rattle.pay_office.specs.LaneDesks.{refusal_of};
+ghost use Rattle.pay_shard.specs.Words.{IsForShards, IsAfterAll, IsNoneOf, AreKept, with_waiting};
+ghost use Rattle.pay_shard.specs.declared.desk.DeskFault.TheVariants.{Busy};
+ghost use Rattle.pay_office.specs.Waits.{commands_sent};
+ghost use Rattle.pay_office.specs.LaneDesks.{desk_parts, refusal_of, MayRefuse, WasBusy};
 
 use crate::waiting::{AllWaiting, Waiting, take_all, take_out, take_until};
 use arrayvec::ArrayVec;
@@ -73,7 +76,6 @@ fn refusal(fault: SendFault) -> DeskFault
 
 impl<R: Wait + Copy> Desk for LaneDesk<R> {
     ghost use Rattle.pay_lanes.specs.Words.{LaneParts};
-    ghost use Rattle.pay_office.specs.LaneDesks.{desk_parts};
 
     ghost Origin = { LaneParts };
 
@@ -83,7 +85,19 @@ impl<R: Wait + Copy> Desk for LaneDesk<R> {
         self.lane.shards() as u8
     }
 
-    fn put(&mut self, command: Command) -> Result<Ticket, DeskFault> {
+    // The trait's clauses, and of a refusal its cause.
+    fn put(&mut self, command: Command) -> Result<Ticket, DeskFault>
+        requires { IsForShards (desk_parts self.old).standing.shards command }
+        ensures added { IfOk result (λ ticket. commands_sent self.new.lane ≡ commands_sent self.old.lane ++ (ticket, command) ∷ []) }
+        ensures later { IfOk result (λ ticket. IsAfterAll ticket (commands_sent self.old.lane)) }
+        ensures fresh { IfOk result (λ ticket. IsNoneOf ticket self.old.waiting) }
+        ensures waits { IfOk result (λ ticket. (desk_parts self.new).standing ≡ with_waiting (self.old.waiting ++ ticket ∷ []) (desk_parts self.old).standing) }
+        ensures not_added { OnErr result (commands_sent self.new.lane ≡ commands_sent self.old.lane) }
+        ensures none_waits { OnErr result ((desk_parts self.new).standing ≡ (desk_parts self.old).standing) }
+        ensures refused { IfErr result (MayRefuse self.old) }
+        ensures busy { result ≡ Err Busy → WasBusy self.old self.new }
+        ensures transcript { AreKept (desk_parts self.old).transcript (desk_parts self.new).transcript }
+    {
         take_all(&self.rt, &mut self.lane, &mut self.waiting);
         if self.waiting.is_full() {
             return Err(DeskFault::Window);

@@ -1,13 +1,13 @@
-use Rattle.std.proofs.Common.{◌≤◌, ◌++◌, [], ◌∷◌, refl, sym, ap, ◌∙◌, subst, None, Err}
+use Rattle.std.proofs.Common.{◌≤◌, ◌++◌, [], ◌∷◌, refl, sym, ap, ◌∙◌, subst, None, Err, rules}
 use Rattle.pay_shard.specs.Words.{AreKept, IsAfterAll, IsNoneOf}
 use Rattle.pay_shard.specs.declared.limits.TheConstants.{MOST_SHARDS}
 use Rattle.pay_lanes.specs.Parts.{LaneParts}
 use Rattle.pay_lanes.proofs.Same.{lane_then, lane_shards}
 use Rattle.pay_office.specs.Waits.{all_sent, commands_sent, answer_to, tickets_of}
-use Rattle.pay_office.specs.LaneDesks.{LaneDeskParts, MayRefuse}
+use Rattle.pay_office.specs.LaneDesks.{LaneDeskParts, MayRefuse, WasBusy}
 use Rattle.pay_office.proofs.Commands.{commands_put, after_all}
 use Rattle.pay_office.proofs.Waited.{stays, commands_stay, answers_stay, waiting_put, none_of}
-use Rattle.pay_office.proofs.Refused.{may_refuse}
+use Rattle.pay_office.proofs.Refused.{may_refuse, was_busy}
 use Rattle.pay_office.proofs.desk.LaneDeskDesk.put.Goals as goal
 
 pub returns-then-is_full-clause-not_added : goal.returns-then-is_full-clause-not_added
@@ -30,7 +30,13 @@ pub returns-in-Err-clause-refused : goal.returns-in-Err-clause-refused
 returns-in-Err-clause-refused g c =
     let d : LaneDeskParts = record { began = c.self.inside.began.value; lane = c.self.inside.lane; waiting = tickets_of c.self.inside.waiting.items } in
     subst (λ (e : LaneDeskParts). MayRefuse e c.refusal.result) c.self.view_is
-    (subst (MayRefuse d) (sym c.refusal.ensures) (may_refuse d c.take_all.new.lane c.take_all.ensures.lane _ c.in-Err.fault (Err c.in-Err.fault) c.in-Err.ensures.busy c.in-Err.ensures.window.0 refl))
+    (subst (MayRefuse d) (sym c.refusal.ensures) (may_refuse d c.take_all.new.lane c.take_all.ensures.lane c.in-Err.fault (λ e. c.in-Err.ensures.window.0 (ap Err e))))
+
+pub returns-in-Err-clause-busy : goal.returns-in-Err-clause-busy
+returns-in-Err-clause-busy g c = λ e.
+    let d : LaneDeskParts = record { began = c.self.inside.began.value; lane = c.self.inside.lane; waiting = tickets_of c.self.inside.waiting.items } in
+    subst (λ (x : LaneDeskParts). WasBusy x (record { began = c.self.inside.began.value; lane = c.send.new.self; waiting = tickets_of c.take_all.new.waiting.items })) c.self.view_is
+    (was_busy d c.take_all.new.lane c.take_all.ensures.lane _ c.in-Err.fault (record { began = c.self.inside.began.value; lane = c.send.new.self; waiting = tickets_of c.take_all.new.waiting.items }) c.in-Err.ensures.refused (λ is. c.in-Err.ensures.busy (ap Err is)) (search rules))
 
 pub returns-in-Err-clause-transcript : goal.returns-in-Err-clause-transcript
 returns-in-Err-clause-transcript g c =
