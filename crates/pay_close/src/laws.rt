@@ -63,7 +63,7 @@ pub fn any_shards()
     ensures gathered { ShardsGatherAll }
     ensures closed { ShardsCloseAsMachine }
 
-    // In whatever order among the shards one machine was asked all that stands in their journals.
+    // So it is of a machine that was asked, in any merge, all that stood in the shards' journals when each answered.
     ensures merged { ShardsCloseAsMerge }
 {
     pay_shard::laws::merge();
