@@ -1,1 +1,2 @@
 pub mod Together
+pub mod Used

@@ -15,9 +15,12 @@ use std::sync::{Arc, Wait};
 use std::test::*;
 use std::thread;
 use std::thread::{Promise, PromisedHandle, Threads};
+use std::time::Duration;
 
 // How many taps each lane sends.
 const TAPS: u32 = 200;
+// How long a thread that finds nothing rests at most, in milliseconds.
+const REST: u64 = 1;
 
 /// A gate that yields now and then.
 #[derive(Drop)]
@@ -45,13 +48,13 @@ impl Promise<(Lane, Vec<Answer>)> for SameLane {
     ghost kept_by = { λ before after. IsSameLane before.0.value after.0 };
 }
 
-// Takes an answer, if there is one.
+// Takes an answer, if there is one, or else waits until one may have come.
 fn take_one<R: Wait + Abort>(rt: &R, lane: &mut Lane, taken: &mut Vec<Answer>)
     ensures { IsSameLane lane.old lane.new }
 {
     match lane.take(rt) {
         Some(answer) => taken.push(answer).expect(rt, "memory"),
-        None => thread::yield_now(),
+        None => lane.wait(rt, Duration::from_millis(REST)),
     }
 }
 
@@ -115,7 +118,7 @@ fn run_worker<F: Fares, G: Gate, R: Wait>(rt: &R, mut worker: Worker<F, G>) -> W
             if worker.shard().journal().len() >= 2 * TAPS as usize {
                 break;
             }
-            thread::yield_now();
+            worker.wait(rt, Duration::from_millis(REST));
         }
     }
     worker

@@ -1,0 +1,276 @@
+//! Offices: that their shards work at once, that what waits is answered, and how they begin and end.
+ghost use Rattle.std.specs.Prelude.{ℕ, List, length};
+ghost use Rattle.pay_lanes.specs.Words.{WorkerParts, AreTogether, IsSameLane};
+ghost use Rattle.pay_shard.specs.Words.{IsForShards};
+
+use crate::gates::{Counting, Counts, gates};
+use crate::given::{bus_tap, due, expect_same, one_route, pence};
+use pay_book::Book;
+use pay_lanes::{Lane, SendFault, laws};
+use pay_office::{Ended, Office, ShutFault, StartFault, shut, start};
+use pay_shard::{Answer, Command};
+use std::marker::Model;
+use std::process::Abort;
+use std::sync::Wait;
+use std::thread::Threads;
+use std::time::Duration;
+
+// How often a gate looks at most.
+const LOOKS: u64 = 1_000_000;
+// How often an answer is looked for, a millisecond after another, before a test gives up.
+const LONG: u32 = 30_000;
+
+/// An office, and lanes that were opened with it.
+#[derive(Drop)]
+pub struct Begun {
+    /// The office.
+    pub office: Office<Book, Counting>,
+    /// The lanes.
+    pub lanes: Vec<Lane>,
+}
+
+impl Model for Begun {
+    ghost use Rattle.std.specs.Prelude.{⊤};
+    ghost use Rattle.pay_lanes.specs.Words.{AreTogether};
+
+    ghost Value = { ⊤ };
+
+    ghost view = { λ _. tt };
+
+    ghost invariant = { λ b. AreTogether b.office b.lanes.items };
+}
+
+/// An office of a shard for each gate.
+pub fn begin<R>(rt: R, lanes: u8, gates: Vec<Counting>) -> Begun
+where
+    R: Threads + Wait + Abort + AllocGlobal + Copy + Send + 'static,
+{
+    let shards = u8::try_from(gates.len()).ok().expect(&rt, "a count");
+    let (office, lanes) = start(rt, rt.alloc(), one_route(&rt), shards, lanes, gates)
+        .ok()
+        .expect(&rt, "an office");
+    Begun { office, lanes }
+}
+
+// Sends a command from the lane at a place: its ticket.
+fn send_at<R: Abort + Wait>(
+    rt: &R,
+    lanes: &mut Vec<Lane>,
+    place: usize,
+    command: Command,
+) -> Result<u64, SendFault>
+    requires { (shards : ℕ) → IsForShards shards command }
+    ensures { (office : List WorkerParts) → AreTogether office lanes.old.items → AreTogether office lanes.new.items }
+{
+    laws::still_together();
+    laws::same_lanes();
+    laws::same_workers();
+    assert!(rt; place < lanes.len());
+    let lane = &mut lanes[place];
+    assert!(rt; lane.shards() > 0);
+    lane.send(rt, command).map(|ticket| ticket.number())
+}
+
+// The next answer of a lane, if it comes while it is looked for so often.
+fn next_answer<R: Wait>(rt: &R, lane: &mut Lane, looks: u32) -> Option<Answer>
+    ensures { IsSameLane lane.old lane.new }
+{
+    laws::same_lanes();
+    for _ in 0..looks {
+        if let Some(answer) = lane.take(rt) {
+            return Some(answer);
+        }
+        lane.wait(rt, Duration::from_millis(1));
+    }
+    None
+}
+
+// The same of the lane at a place.
+fn answer_at<R: Abort + Wait>(
+    rt: &R,
+    lanes: &mut Vec<Lane>,
+    place: usize,
+    looks: u32,
+) -> Option<Answer>
+    ensures { (office : List WorkerParts) → AreTogether office lanes.old.items → AreTogether office lanes.new.items }
+{
+    laws::still_together();
+    laws::same_lanes();
+    laws::same_workers();
+    assert!(rt; place < lanes.len());
+    next_answer(rt, &mut lanes[place], looks)
+}
+
+impl Begun {
+    // Sends a command from the lane at a place: its ticket.
+    fn send<R: Abort + Wait>(
+        &mut self,
+        rt: &R,
+        place: usize,
+        command: Command,
+    ) -> Result<u64, SendFault>
+        requires { (shards : ℕ) → IsForShards shards command }
+    {
+        send_at(rt, &mut self.lanes, place, command)
+    }
+
+    // Takes the next answer of the lane at a place, by the ticket, and its pence, if it comes while it is looked for so often.
+    fn take<R: Abort + Wait>(
+        &mut self,
+        rt: &R,
+        place: usize,
+        looks: u32,
+    ) -> Option<(u64, Option<u64>)> {
+        answer_at(rt, &mut self.lanes, place, looks).map(|answer| (answer.ticket, pence(&answer)))
+    }
+
+    // Shuts the office.
+    fn shut<R: Abort + Threads + Wait + AllocGlobal>(self, rt: &R) -> Ended {
+        let Begun { office, lanes } = self;
+        shut(rt, rt.alloc(), office, lanes)
+            .ok()
+            .expect(rt, "all lanes")
+    }
+}
+
+// So a shard was asked one command, by this lane.
+fn expect_job<R: Abort>(rt: &R, ended: &Ended, shard: usize, lane: u8, command: Command) {
+    let journal = ended.journals.get(shard).expect(rt, "a journal");
+    let entry = journal.get(0).expect(rt, "an item").entry;
+    expect_same(
+        rt,
+        (journal.len(), entry.lane, entry.command),
+        (1, lane, command),
+    );
+}
+
+#[test]
+fn shards_work_at_once(rt: HostRuntime) {
+    let counts = Counts::new(&rt);
+    let mut begun = begin(rt, 2, gates(&rt, &counts, &[1, 0], Some(LOOKS)));
+    let (first, second) = (bus_tap(&rt, 8, 1, 0), bus_tap(&rt, 7, 2, 0));
+    expect_same(&rt, begun.send(&rt, 0, first), Ok(0));
+    expect_same(&rt, begun.send(&rt, 1, second), Ok(0));
+    expect_same(&rt, begun.take(&rt, 1, LONG), Some((0, Some(175))));
+    counts.open();
+    expect_same(&rt, begun.take(&rt, 0, LONG), Some((0, Some(175))));
+    expect_same(&rt, counts.ran_out(), 0);
+    let ended = begun.shut(&rt);
+    expect_job(&rt, &ended, 0, 0, first);
+    expect_job(&rt, &ended, 1, 1, second);
+}
+
+// The tap that a lane sends to the shard of its number.
+fn tap_of<R: Abort>(rt: &R, lane: u8) -> Command
+    ensures { (shards : ℕ) → IsForShards shards result }
+{
+    bus_tap(rt, u32::from(lane) + 16, 1, 0)
+}
+
+#[test]
+fn sixteen_shards_work_at_once(rt: HostRuntime) {
+    let counts = Counts::meeting(&rt);
+    let mut begun = begin(rt, 16, gates(&rt, &counts, &[16; 16], Some(LOOKS)));
+    for lane in 0..16u8 {
+        let command = tap_of(&rt, lane);
+        expect_same(&rt, begun.send(&rt, usize::from(lane), command), Ok(0));
+    }
+    for lane in 0..16 {
+        expect_same(&rt, begun.take(&rt, lane, LONG), Some((0, Some(175))));
+    }
+    expect_same(&rt, counts.ran_out(), 0);
+    let ended = begun.shut(&rt);
+    for lane in 0..16u8 {
+        expect_job(&rt, &ended, usize::from(lane), lane, tap_of(&rt, lane));
+    }
+}
+
+// Asks from a lane what account 7 owes, for the tickets from one to below another.
+fn ask_dues<R: Abort + Wait>(rt: &R, begun: &mut Begun, lane: usize, from: u64, to: u64) {
+    for ticket in from..to {
+        let command = due(rt, 7);
+        expect_same(rt, begun.send(rt, lane, command), Ok(ticket));
+    }
+}
+
+// So the lane is answered under so many tickets, in order and once each, that nothing is due.
+fn expect_dues<R: Abort + Wait>(rt: &R, begun: &mut Begun, lane: usize, count: u64) {
+    for ticket in 0..count {
+        expect_same(rt, begun.take(rt, lane, LONG), Some((ticket, Some(0))));
+    }
+    expect_same(rt, begun.take(rt, lane, 1), None);
+}
+
+// One entry is popped and held by the gate, and 64 wait.
+#[test]
+fn what_waits_is_answered(rt: HostRuntime) {
+    let counts = Counts::new(&rt);
+    let mut begun = begin(rt, 5, gates(&rt, &counts, &[1], None));
+    let command = due(&rt, 7);
+    ask_dues(&rt, &mut begun, 0, 0, 1);
+    counts.await_entry(&rt);
+    ask_dues(&rt, &mut begun, 0, 1, 16);
+    for lane in 1..4 {
+        ask_dues(&rt, &mut begun, lane, 0, 16);
+    }
+    expect_same(&rt, begun.send(&rt, 0, command), Err(SendFault::Window));
+    ask_dues(&rt, &mut begun, 4, 0, 1);
+    expect_same(&rt, begun.send(&rt, 4, command), Err(SendFault::Busy));
+    counts.open();
+    for lane in 0..4 {
+        expect_dues(&rt, &mut begun, lane, 16);
+    }
+    expect_dues(&rt, &mut begun, 4, 1);
+    let ended = begun.shut(&rt);
+    let journal = ended.journals.first().expect(&rt, "a journal");
+    expect_same(&rt, journal.len(), 65);
+}
+
+// Why no office of so many shards, lanes and gates begins.
+fn refused<R>(rt: R, shards: u8, lanes: u8, opens_at: &[u64]) -> Option<StartFault>
+where
+    R: Threads + Wait + Abort + AllocGlobal + Copy + Send + 'static,
+{
+    let gates = gates(&rt, &Counts::new(&rt), opens_at, None);
+    start::<Book, Counting, R>(rt, rt.alloc(), one_route(&rt), shards, lanes, gates).err()
+}
+
+#[test]
+fn an_office_is_refused(rt: HostRuntime) {
+    let count = Some(StartFault::Count);
+    expect_same(&rt, refused(rt, 0, 1, &[]), count);
+    expect_same(&rt, refused(rt, 17, 1, &[0; 17]), count);
+    expect_same(&rt, refused(rt, 1, 0, &[0]), count);
+    expect_same(&rt, refused(rt, 1, 17, &[0]), count);
+    expect_same(&rt, refused(rt, 2, 2, &[0]), count);
+    expect_same(&rt, refused(rt, 2, 2, &[0; 3]), count);
+}
+
+// Tries to shut an office without the last of its two lanes, and has all back.
+fn missing_a_lane<R: Abort + Threads + Wait + AllocGlobal>(rt: &R, begun: Begun) -> Begun {
+    let Begun { office, mut lanes } = begun;
+    let last = lanes.pop().expect(rt, "a lane");
+    let Err(back) = shut(rt, rt.alloc(), office, lanes) else {
+        panic!(rt; "no fault")
+    };
+    let (fault, office, mut lanes) = back;
+    expect_same(rt, (fault, lanes.len()), (ShutFault::LaneMissing, 1));
+    lanes.push(last).expect(rt, "memory");
+    Begun { office, lanes }
+}
+
+#[test]
+fn a_lane_is_missing(rt: HostRuntime) {
+    let counts = Counts::new(&rt);
+    let begun = begin(rt, 2, gates(&rt, &counts, &[0], None));
+    let mut begun = missing_a_lane(&rt, begun);
+    for lane in 0..2u8 {
+        let command = bus_tap(&rt, u32::from(lane) + 7, 1, 0);
+        let lane = usize::from(lane);
+        expect_same(&rt, begun.send(&rt, lane, command), Ok(0));
+        expect_same(&rt, begun.take(&rt, lane, LONG), Some((0, Some(175))));
+    }
+    let ended = begun.shut(&rt);
+    let journal = ended.journals.first().expect(&rt, "a journal");
+    expect_same(&rt, journal.len(), 2);
+}
