@@ -1,13 +1,16 @@
 -- The words of which a job was made, in their order.
-use Rattle.std.proofs.Common.{◌≡◌, ◌∙◌, ℕ, Bool, codes, true, false, true≢false, ◌==◌, ◌&&◌, eqb-true, refl, sym, subst, ap, List, [], ◌∷◌, None, inl, inr, drop, slice_index, ◌≢◌}
+use Rattle.std.proofs.Common.{◌≡◌, ◌∙◌, ℕ, Bool, codes, true, false, ◌==◌, eqb-true, refl, subst, ap, List, [], ◌∷◌, None, inl, inr, drop, slice_index, ◌≢◌}
 use Rattle.clap.specs.Walk.{Text}
 use Rattle.std.specs.Prelude.{⊤}
-use Rattle.pay_words.specs.Asked.{Asked, Word, asked, given, word_kind, option_asked, program_asked, run_asked, run, run_readers, check_asked, check, check_readers, statement_asked, statement, statement_readers, number_of, is_account, is_day}
+use Rattle.pay_words.specs.Asked.{AreServeWords, Asked, Word, asked, given, serve, serve_asked, with_ports, word_kind, words_ask, option_asked, program_asked, run_asked, run, run_readers, check_asked, check, check_readers, statement_asked, statement, statement_readers, number_of, is_account, is_day}
+use Rattle.pay_words.specs.Serve.{AreInRange, ArePartsOf, Part, ServeTexts, has_ports, numbers_of, served, words_of_parts}
 use Rattle.clap.specs.ValueTests.{is_unsigned_in}
 use Rattle.pay_words.specs.Asked.{Given, Reader, taken, all_given, given_by, with_value, values, help, refused, without_dashes}
 use Rattle.pay_words.specs.Asked as words
 use Rattle.std.proofs.lemmas.Bool.Decides.{eqb_tells}
 use Rattle.pay_words.proofs.Programs.{by_program}
+use Rattle.pay_words.proofs.ServeTaken.{not_both, parts_taken}
+use Rattle.pay_words.proofs.WordsOfServe.{AreServeWordsOf, serve_words_are}
 use Rattle.pay_words.proofs.WordKinds.{Reads, reads}
 use Rattle.pay_words.proofs.WordsAfterRun.{run_long, run_rules, run_short}
 
@@ -94,6 +97,7 @@ AreWordsOf (run a b) ws = without_dashes ws ≡ codes "run" ∷ a ∷ b ∷ []
 AreWordsOf (check a) ws = without_dashes ws ≡ codes "check" ∷ a ∷ []
 AreWordsOf (statement a b account day) ws = (n : Text) × (d : Text) × (is_account n ≡ true) × (number_of n ≡ account) × (is_day d ≡ true) × (number_of d ≡ day)
     × (without_dashes ws ≡ codes "statement" ∷ a ∷ b ∷ n ∷ d ∷ [])
+AreWordsOf (serve s) ws = AreServeWords s (without_dashes ws)
 AreWordsOf _ ws = ⊤
 
 after_run : (rest : List Text) → AreWordsOf (run_asked (given run_readers rest)) (codes "run" ∷ rest)
@@ -132,6 +136,19 @@ after_statement rest = go (given statement_readers rest) refl
     go help e = tt
     go refused e = tt
 
+after_serve : (rest : List Text) → AreWordsOf (serve_asked (served [] None rest)) (codes "serve" ∷ rest)
+after_serve rest = go (serve_asked (served [] None rest)) (serve_words_are rest)
+  where
+    go : (x : Asked) → AreServeWordsOf x (without_dashes rest) → AreWordsOf x (codes "serve" ∷ rest)
+    go (run a b) h = absurd h
+    go (check a) h = absurd h
+    go (statement a b account day) h = absurd h
+    go (serve s) h = h
+    go words.help_asked h = tt
+    go words.help_named h = tt
+    go words.version_asked h = tt
+    go words.usage h = tt
+
 after_option : (k : Word) (ws : List Text) → AreWordsOf (option_asked k) ws
 after_option words.value ws = tt
 after_option words.dashes ws = tt
@@ -139,12 +156,30 @@ after_option words.call_for_help ws = tt
 after_option words.call_for_version ws = tt
 after_option words.option ws = tt
 
+-- lanes without ports are no job
+with_ports_too : (x : Asked) (ws : List Text) → AreWordsOf x ws → AreWordsOf (with_ports x) ws
+with_ports_too (run a b) ws h = h
+with_ports_too (check a) ws h = h
+with_ports_too (statement a b account day) ws h = h
+with_ports_too (serve s) ws h = go (has_ports s) refl
+  where
+    go : (fits : Bool) → has_ports s ≡ fits → AreWordsOf (with_ports (serve s)) ws
+    go true is = rw is h
+    go false is = rw is tt
+with_ports_too words.help_asked ws h = tt
+with_ports_too words.help_named ws h = tt
+with_ports_too words.version_asked ws h = tt
+with_ports_too words.usage ws h = tt
+
+said_in_order : (ws : List Text) → AreWordsOf (words_ask ws) (drop 1 ws)
+said_in_order [] = tt
+said_in_order (name ∷ []) = tt
+said_in_order (name ∷ word ∷ rest) = by_program (λ (w : Text). AreWordsOf (program_asked w rest) (w ∷ rest)) word (after_run rest) (after_check rest) (after_statement rest) (after_serve rest) tt
+    (λ no_run no_check no_statement no_serve no_help. rw (no_run, no_check, no_statement, no_serve, no_help) (after_option (word_kind word) (word ∷ rest)))
+
 -- but for the first, and for a `--`, the words are those of the job
 pub in_order : (ws : List Text) → AreWordsOf (asked ws) (drop 1 ws)
-in_order [] = tt
-in_order (name ∷ []) = tt
-in_order (name ∷ word ∷ rest) = by_program (λ (w : Text). AreWordsOf (program_asked w rest) (w ∷ rest)) word (after_run rest) (after_check rest) (after_statement rest) tt
-    (λ no_run no_check no_statement no_help. rw (no_run, no_check, no_statement, no_help) (after_option (word_kind word) (word ∷ rest)))
+in_order ws = with_ports_too (words_ask ws) (drop 1 ws) (said_in_order ws)
 
 -- words with no hyphen before them are values
 no_hyphen : (w : Text) → slice_index w 0 ≢ 45 → word_kind w ≡ words.value
@@ -161,10 +196,6 @@ asks_run ws name fares zone is f z = ap asked is ∙ (rw (no_hyphen fares f, no_
 pub asks_check : (ws : List Text) (name fares : Text) → ws ≡ name ∷ codes "check" ∷ fares ∷ [] → slice_index fares 0 ≢ 45 → asked ws ≡ check fares
 asks_check ws name fares is f = ap asked is ∙ (rw (no_hyphen fares f) refl)
 
-not_both : (a b : Bool) → ((a && false) && b) ≡ true → ⊥
-not_both true b e = true≢false (sym e)
-not_both false b e = true≢false (sym e)
-
 -- a number that is taken has no hyphen before it
 number_is_value : (least most : ℕ) (w : Text) → is_unsigned_in least most w ≡ true → word_kind w ≡ words.value
 number_is_value least most [] fits = refl
@@ -179,3 +210,7 @@ pub asks_statement : (ws : List Text) (name fares zone account day : Text) → w
     → asked ws ≡ statement fares zone (number_of account) (number_of day)
 asks_statement ws name fares zone account day is f z a d =
     ap asked is ∙ (rw (no_hyphen fares f, no_hyphen zone z, number_is_value 1 4_294_967_295 account a, number_is_value 4 50_000 day d, a, d) refl)
+
+pub asks_serve : (ws : List Text) (name : Text) (t : ServeTexts) (parts : List Part) → ws ≡ name ∷ codes "serve" ∷ words_of_parts parts → ArePartsOf t parts
+    → slice_index t.fares 0 ≢ 45 → slice_index t.zone 0 ≢ 45 → AreInRange t → has_ports (numbers_of t) ≡ true → asked ws ≡ serve (numbers_of t)
+asks_serve ws name t parts is are f z fits ports = ap asked is ∙ (ap with_ports (parts_taken t f z fits parts are) ∙ (rw ports refl))

@@ -2,10 +2,16 @@ mod JobWords
 mod Numbers
 mod Programs
 mod Results
+mod ServeParts
+mod ServeRows
+mod ServeRules
+mod ServeTaken
 mod WordKinds
 mod WordLevels
 mod WordsAfterCheck
 mod WordsAfterRun
+mod WordsAfterServe
 mod WordsAfterStatement
 mod WordsAsked
 mod WordsOfProgram
+mod WordsOfServe

@@ -1,5 +1,5 @@
 -- What a number among the words is read as.
-use Rattle.std.proofs.Common.{◌≡◌, ℕ, ◌≤◌, ◌<◌, ◌^◌, false, true, ap, Option, Some, None, Result, Ok, Err, arith}
+use Rattle.std.proofs.Common.{◌≡◌, ℕ, ◌<◌, ◌^◌, false, true, ap, Option, Some, None, Result, Ok, Err, arith}
 use Rattle.std.specs.Str.Parse.{ParsesUnsigned, without_leading_plus, digits_value}
 use Rattle.clap.specs.Walk.{Text}
 use Rattle.clap.specs.Matches.{ReadsOne}
@@ -8,14 +8,14 @@ use Rattle.clap.specs.declared.builder.value_parser.ValueParser.TheVariants as v
 use Rattle.clap.proofs.ValueTestLemmas.{accepts-Accepts}
 use Rattle.pay_words.specs.Asked.{number_of}
 
--- a word of a range that 32 bits hold is read as its number
-pub read_number : {E : Type 0} (gives : Text → Result ℕ E → Type 0) → ((t : Text) (r : Result ℕ E) → gives t r → ParsesUnsigned 32 10 t r)
-    → (least most : ℕ) (word : Text) (found : Option ℕ) → is_unsigned_in least most word ≡ true → most ≤ 4_294_967_295 → ReadsOne gives word found → found ≡ Some (number_of word)
-read_number {E} gives parses least most word found fits within read = go found read
+-- a word of a range that these bits hold is read as its number
+pub read_number : {E : Type 0} (bits : ℕ) (gives : Text → Result ℕ E → Type 0) → ((t : Text) (r : Result ℕ E) → gives t r → ParsesUnsigned bits 10 t r)
+    → (least most : ℕ) (word : Text) (found : Option ℕ) → is_unsigned_in least most word ≡ true → most < 2 ^ bits → ReadsOne gives word found → found ≡ Some (number_of word)
+read_number {E} bits gives parses least most word found fits within read = go found read
   where
     go : (found : Option ℕ) → ReadsOne gives word found → found ≡ Some (number_of word)
     go (Some n) h = ap Some (parses word (Ok n) h).1
     go None h =
         let in_range = accepts-Accepts false (vp.Unsigned least most) word fits in
-        let small : digits_value 10 (without_leading_plus word) < 2 ^ 32 = omega (arith, in_range.3) in
+        let small : digits_value 10 (without_leading_plus word) < 2 ^ bits = omega (arith, in_range.3, within) in
         absurd (parses word (Err h.0) h.1 (in_range.0, small))

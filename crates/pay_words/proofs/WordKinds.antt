@@ -1,20 +1,20 @@
--- What `clap` makes of a word, where help is the only option, or help and the version.
+-- What `clap` makes of a word that names no option but help, and the version where there is one.
 use Rattle.std.proofs.Common.{◌≡◌, ◌∙◌, ◌+◌, ◌||◌, ℕ, Bool, codes, true, false, not, suc, refl, sym, ap, subst, arith, List, [], ◌∷◌, Option, Some, None, true≢false, eqb-true, eq-eqb, inl, inr}
 use Rattle.std.proofs.lemmas.Bool.Decides.{eqb_tells}
 use Rattle.std.specs.Prelude.{slice_get, ◌==◌, if◌then◌else◌}
 use Rattle.std.specs.List.{after_first, before_first, list_all, prefix_len}
 use Rattle.std.specs.Str.{bytes_eq, chars}
 use Rattle.std.proofs.lemmas.Slice.Eq.{bytes_eq-Decides}
-use Rattle.clap.specs.Lexer.{has_byte, long_of}
-use Rattle.clap.specs.Walk.{Held, Row, Rule, Text, idle, value, arg_by_long, arg_by_short, long_or_other, bundle_met}
+use Rattle.clap.specs.Lexer.{has_byte, long_of, name_and_value}
+use Rattle.clap.specs.Walk.{Held, Row, Rule, Text, Waiting, arg_by_long, arg_by_short, long_or_other, bundle_met, plain_word}
 use Rattle.clap.specs.Simple.{help_rule, version_rule}
 use Rattle.clap.specs.Kinds.{Kinds, or_else}
 use Rattle.clap.specs.Faults.{flag_word_fault, long_fault, flags_fault, settle_fault}
 use Rattle.clap.specs.declared.builder.value_parser.ValueParser.TheVariants as vp
 use Rattle.clap.specs.declared.error.kind.ErrorKind.{ErrorKind}
 use Rattle.clap.specs.declared.error.kind.ErrorKind.TheVariants.{DisplayHelp, DisplayVersion}
-use Rattle.pay_words.specs.Asked.{Word, kind_after_hyphen, kind_by_letter, word_kind}
-use Rattle.pay_words.specs.Asked as words
+use Rattle.pay_words.specs.OneWord.{Word, kind_after_hyphen, kind_by_letter, word_kind}
+use Rattle.pay_words.specs.OneWord as words
 
 -- an option that takes no value, as the build fills it in
 abbrev filled_in : Rule → Rule
@@ -34,10 +34,18 @@ abbrev pub version_found : Bool → Bool → Option Rule
 version_found false met = None
 version_found true met = if met then Some version_filled else None
 
--- the options of these rules are help, and the version where the command has one
+-- the option that a long name names, where help is one, and the version where the command has one
+abbrev long_option : Bool → Text → Option Rule
+long_option versioned name =
+    if bytes_eq (codes "help") name || false then Some help_filled else version_found versioned (bytes_eq (codes "version") name || false)
+
+-- the options of these rules are no others
 abbrev pub LongOptions : List Rule → Bool → Type 0
-LongOptions c versioned = (name : Text) → arg_by_long c name
-    ≡ (if bytes_eq (codes "help") name || false then Some help_filled else version_found versioned (bytes_eq (codes "version") name || false))
+LongOptions c versioned = (name : Text) → arg_by_long c name ≡ long_option versioned name
+
+-- they are no others, but for those that have such a name
+abbrev pub LongOptionsBut : (Text → Bool) → List Rule → Bool → Type 0
+LongOptionsBut names c versioned = (name : Text) → names name ≡ false → arg_by_long c name ≡ long_option versioned name
 
 abbrev pub ShortOptions : List Rule → Bool → Type 0
 ShortOptions c versioned = (x : ℕ) → arg_by_short c x
@@ -92,33 +100,43 @@ same_other_way a b e = elim (eqb_tells b a) [
 named : (xs known : List ℕ) → before_first (λ x. x == 61) xs ≡ known → has_byte 61 xs ≡ false → bytes_eq xs known ≡ true
 named xs known is none = (bytes_eq-Decides xs known).1 (sym (whole_name xs none) ∙ is)
 
-module _ (c : List Rule) (versioned : Bool) (long : LongOptions c versioned) (short : ShortOptions c versioned)
+abbrev pub held_at : List Row → Option (Text × List Text) → Held
+held_at rows pending = record { rows = rows; pending = pending; skip = 0 }
+
+-- what the walk makes of a word of each kind
+abbrev pub ReadsWord : List Rule → Bool → Kinds → Held → Word → Text → Type 0
+ReadsWord c versioned bad h words.value w = (bytes_eq w (45 ∷ 45 ∷ []) ≡ false)
+    × (flag_word_fault c false (long_of w) w h ≡ [])
+    × ((waiting : Waiting) → long_or_other c waiting w (long_of w) h ≡ plain_word c waiting w h)
+ReadsWord c versioned bad h words.dashes w = bytes_eq w (45 ∷ 45 ∷ []) ≡ true
+ReadsWord c versioned bad h words.call_for_help w = (bytes_eq w (45 ∷ 45 ∷ []) ≡ false)
+    × (flag_word_fault c false (long_of w) w h ≡ or_else bad (DisplayHelp ∷ []))
+ReadsWord c versioned bad h words.call_for_version w = (bytes_eq w (45 ∷ 45 ∷ []) ≡ false)
+    × VersionCalled versioned bad (flag_word_fault c false (long_of w) w h)
+ReadsWord c versioned bad h words.option w = (bytes_eq w (45 ∷ 45 ∷ []) ≡ false)
+    × Refuses (flag_word_fault c false (long_of w) w h)
+
+-- the word is no option of such a name
+abbrev pub NamesNone : (Text → Bool) → Text → Type 0
+NamesNone names w = (long : Text × Option Text) → long_of w ≡ Some long → names long.0 ≡ false
+
+module _ (names : Text → Bool) (c : List Rule) (versioned : Bool) (long : LongOptionsBut names c versioned) (short : ShortOptions c versioned)
     (bad : Kinds) (rows : List Row) (pending : Option (Text × List Text)) where
   abbrev held : Held
-  held = record { rows = rows; pending = pending; skip = 0 }
+  held = held_at rows pending
 
-  -- what the walk makes of a word of each kind
-  abbrev pub Reads : Word → Text → Type 0
-  Reads words.value w = (bytes_eq w (45 ∷ 45 ∷ []) ≡ false)
-      × (flag_word_fault c false (long_of w) w held ≡ [])
-      × (long_or_other c idle w (long_of w) held ≡ (held, value))
-  Reads words.dashes w = bytes_eq w (45 ∷ 45 ∷ []) ≡ true
-  Reads words.call_for_help w = (bytes_eq w (45 ∷ 45 ∷ []) ≡ false)
-      × (flag_word_fault c false (long_of w) w held ≡ or_else bad (DisplayHelp ∷ []))
-  Reads words.call_for_version w = (bytes_eq w (45 ∷ 45 ∷ []) ≡ false)
-      × VersionCalled versioned bad (flag_word_fault c false (long_of w) w held)
-  Reads words.option w = (bytes_eq w (45 ∷ 45 ∷ []) ≡ false)
-      × Refuses (flag_word_fault c false (long_of w) w held)
+  abbrev ReadsAs : Word → Text → Type 0
+  ReadsAs k w = ReadsWord c versioned bad held k w
 
   -- the first letter after the hyphen
   letter : (settles : settle_fault c false held ≡ bad) (x : ℕ) (xs : List ℕ) (o : Option ℕ) → slice_get (chars (x ∷ xs)) 0 ≡ o → (x == 45) ≡ false
-      → Reads (kind_by_letter o) (45 ∷ x ∷ xs)
+      → ReadsAs (kind_by_letter o) (45 ∷ x ∷ xs)
   unfolding flags_fault bundle_met
-  letter settles x xs None first other = (rw other refl, rw (other, other, first) refl, rw (other, other, first) refl)
+  letter settles x xs None first other = (rw other refl, rw (other, other, first) refl, λ waiting. rw (other, other, first) refl)
   letter settles x xs (Some l) first other = go (l == 104) refl (l == 86) refl versioned refl
     where
       go : (t : Bool) → (l == 104) ≡ t → (u : Bool) → (l == 86) ≡ u → (v : Bool) → versioned ≡ v
-          → Reads (if t then words.call_for_help else (if u then words.call_for_version else words.option)) (45 ∷ x ∷ xs)
+          → ReadsAs (if t then words.call_for_help else (if u then words.call_for_version else words.option)) (45 ∷ x ∷ xs)
       go true t u e v is =
           let found : arg_by_short c l ≡ Some help_filled = short l ∙ (rw (eqb-true l 104 t) refl) in
           (rw other refl, rw (other, other, first, found, settles) (one_kind bad DisplayHelp _))
@@ -137,68 +155,81 @@ module _ (c : List Rule) (versioned : Bool) (long : LongOptions c versioned) (sh
 
   -- a long option that is neither `--help` nor `--version`
   other_long : (xs : List ℕ) → bytes_eq xs (codes "help") ≡ false → bytes_eq xs (codes "version") ≡ false → (name : Text) → before_first (λ x. x == 61) xs ≡ name
-      → Refuses (long_fault c false (arg_by_long c name) (if has_byte 61 xs then Some (after_first (λ x. x == 61) xs) else None) held)
-  other_long xs no_help no_version name is = go (bytes_eq (codes "help") name) refl (bytes_eq (codes "version") name) refl (has_byte 61 xs) refl versioned refl
+      → names name ≡ false → Refuses (long_fault c false (arg_by_long c name) (if has_byte 61 xs then Some (after_first (λ x. x == 61) xs) else None) held)
+  other_long xs no_help no_version name is unnamed = go (bytes_eq (codes "help") name) refl (bytes_eq (codes "version") name) refl (has_byte 61 xs) refl versioned refl
     where
       go : (t : Bool) → bytes_eq (codes "help") name ≡ t → (u : Bool) → bytes_eq (codes "version") name ≡ u → (h : Bool) → has_byte 61 xs ≡ h
           → (v : Bool) → versioned ≡ v
           → Refuses (long_fault c false (arg_by_long c name) (if has_byte 61 xs then Some (after_first (λ x. x == 61) xs) else None) held)
       go true t u e true h v b =
-          let found : arg_by_long c name ≡ Some help_filled = long name ∙ (rw t refl) in
+          let found : arg_by_long c name ≡ Some help_filled = long name unnamed ∙ (rw t refl) in
           rw (found, h) refl
       go true t u e false h v b =
           let same : codes "help" ≡ name = same_bytes (codes "help") name t in
           let so : bytes_eq xs (codes "help") ≡ true = named xs (codes "help") (is ∙ sym same) h in
           absurd (true≢false (sym so ∙ no_help))
       go false t u e h k false b =
-          let none : arg_by_long c name ≡ None = long name ∙ (rw (t, b) refl) in
+          let none : arg_by_long c name ≡ None = long name unnamed ∙ (rw (t, b) refl) in
           rw none refl
       go false t false e h k true b =
-          let none : arg_by_long c name ≡ None = long name ∙ (rw (t, e, b) refl) in
+          let none : arg_by_long c name ≡ None = long name unnamed ∙ (rw (t, e, b) refl) in
           rw none refl
       go false t true e true h true b =
-          let found : arg_by_long c name ≡ Some version_filled = long name ∙ (rw (t, e, b) refl) in
+          let found : arg_by_long c name ≡ Some version_filled = long name unnamed ∙ (rw (t, e, b) refl) in
           rw (found, h) refl
       go false t true e false h true b =
           let same : codes "version" ≡ name = same_bytes (codes "version") name e in
           let so : bytes_eq xs (codes "version") ≡ true = named xs (codes "version") (is ∙ sym same) h in
           absurd (true≢false (sym so ∙ no_version))
 
-  long_version : (settles : settle_fault c false held ≡ bad) (v : Bool) → versioned ≡ v → Reads words.call_for_version (codes "--version")
-  long_version settles true is =
-      let found : arg_by_long c (codes "version") ≡ Some version_filled = long (codes "version") ∙ (rw is refl) in
+  long_version : (settles : settle_fault c false held ≡ bad) → names (codes "version") ≡ false → (v : Bool) → versioned ≡ v → ReadsAs words.call_for_version (codes "--version")
+  long_version settles unnamed true is =
+      let found : arg_by_long c (codes "version") ≡ Some version_filled = long (codes "version") unnamed ∙ (rw is refl) in
       (refl, rw is (rw (found, settles) refl))
-  long_version settles false is =
-      let none : arg_by_long c (codes "version") ≡ None = long (codes "version") ∙ (rw is refl) in
+  long_version settles unnamed false is =
+      let none : arg_by_long c (codes "version") ≡ None = long (codes "version") unnamed ∙ (rw is refl) in
       (refl, rw is (rw none refl))
 
-  long_word : (settles : settle_fault c false held ≡ bad) (xs : List ℕ) → Reads (kind_after_hyphen (45 ∷ xs)) (45 ∷ 45 ∷ xs)
+  long_word : (settles : settle_fault c false held ≡ bad) (xs : List ℕ) → NamesNone names (45 ∷ 45 ∷ xs) → ReadsAs (kind_after_hyphen (45 ∷ xs)) (45 ∷ 45 ∷ xs)
   unfolding chars
-  long_word settles [] = refl
-  long_word settles (y ∷ ys) = go (bytes_eq (y ∷ ys) (codes "help")) refl (bytes_eq (y ∷ ys) (codes "version")) refl
+  long_word settles [] none = refl
+  long_word settles (y ∷ ys) none = go (bytes_eq (y ∷ ys) (codes "help")) refl (bytes_eq (y ∷ ys) (codes "version")) refl
     where
       go : (t : Bool) → bytes_eq (y ∷ ys) (codes "help") ≡ t → (u : Bool) → bytes_eq (y ∷ ys) (codes "version") ≡ u
-          → Reads (kind_after_hyphen (45 ∷ y ∷ ys)) (45 ∷ 45 ∷ y ∷ ys)
+          → ReadsAs (kind_after_hyphen (45 ∷ y ∷ ys)) (45 ∷ 45 ∷ y ∷ ys)
       go true t u e =
-          let found : arg_by_long c (codes "help") ≡ Some help_filled = long (codes "help") in
-          subst (λ v. Reads (kind_after_hyphen (45 ∷ v)) (45 ∷ 45 ∷ v)) (sym (same_bytes (y ∷ ys) (codes "help") t)) (refl, rw (found, settles) refl)
+          subst (λ v. NamesNone names (45 ∷ 45 ∷ v) → ReadsAs (kind_after_hyphen (45 ∷ v)) (45 ∷ 45 ∷ v)) (sym (same_bytes (y ∷ ys) (codes "help") t))
+          (λ unnamed.
+          let found : arg_by_long c (codes "help") ≡ Some help_filled = long (codes "help") (unnamed (codes "help", None) refl) in
+          (refl, rw (found, settles) refl)) none
       go false t true e =
-          subst (λ v. Reads (kind_after_hyphen (45 ∷ v)) (45 ∷ 45 ∷ v)) (sym (same_bytes (y ∷ ys) (codes "version") e)) (long_version settles versioned refl)
-      go false t false e = rw (t, e) (refl, other_long (y ∷ ys) t e _ refl)
+          subst (λ v. NamesNone names (45 ∷ 45 ∷ v) → ReadsAs (kind_after_hyphen (45 ∷ v)) (45 ∷ 45 ∷ v)) (sym (same_bytes (y ∷ ys) (codes "version") e))
+          (λ unnamed. long_version settles (unnamed (codes "version", None) refl) versioned refl) none
+      go false t false e = rw (t, e) (refl, other_long (y ∷ ys) t e _ refl (none (name_and_value (y ∷ ys)) refl))
 
-  hyphen : (settles : settle_fault c false held ≡ bad) (rest : List ℕ) → Reads (kind_after_hyphen rest) (45 ∷ rest)
+  hyphen : (settles : settle_fault c false held ≡ bad) (rest : List ℕ) → NamesNone names (45 ∷ rest) → ReadsAs (kind_after_hyphen rest) (45 ∷ rest)
   unfolding chars flags_fault bundle_met
-  hyphen settles [] = (refl, refl, refl)
-  hyphen settles (x ∷ xs) = go (x == 45) refl
+  hyphen settles [] none = (refl, refl, λ waiting. refl)
+  hyphen settles (x ∷ xs) none = go (x == 45) refl
     where
-      go : (t : Bool) → (x == 45) ≡ t → Reads (kind_after_hyphen (x ∷ xs)) (45 ∷ x ∷ xs)
-      go true t = subst (λ v. Reads (kind_after_hyphen (v ∷ xs)) (45 ∷ v ∷ xs)) (sym (eqb-true x 45 t)) (long_word settles xs)
+      go : (t : Bool) → (x == 45) ≡ t → ReadsAs (kind_after_hyphen (x ∷ xs)) (45 ∷ x ∷ xs)
+      go true t =
+          subst (λ v. NamesNone names (45 ∷ v ∷ xs) → ReadsAs (kind_after_hyphen (v ∷ xs)) (45 ∷ v ∷ xs)) (sym (eqb-true x 45 t)) (long_word settles xs) none
       go false t = simp t (letter settles x xs _ refl t)
 
-  pub reads : (settles : settle_fault c false held ≡ bad) (w : Text) → Reads (word_kind w) w
-  reads settles [] = (refl, refl, refl)
-  reads settles (b ∷ rest) = go (b == 45) refl
+  pub reads_but : (settles : settle_fault c false held ≡ bad) (w : Text) → NamesNone names w → ReadsAs (word_kind w) w
+  reads_but settles [] none = (refl, refl, λ waiting. refl)
+  reads_but settles (b ∷ rest) none = go (b == 45) refl
     where
-      go : (t : Bool) → (b == 45) ≡ t → Reads (word_kind (b ∷ rest)) (b ∷ rest)
-      go true t = subst (λ v. Reads (word_kind (v ∷ rest)) (v ∷ rest)) (sym (eqb-true b 45 t)) (hyphen settles rest)
-      go false t = rw t (rw t refl, rw (t, t) refl, rw (t, t) refl)
+      go : (t : Bool) → (b == 45) ≡ t → ReadsAs (word_kind (b ∷ rest)) (b ∷ rest)
+      go true t = subst (λ v. NamesNone names (v ∷ rest) → ReadsAs (word_kind (v ∷ rest)) (v ∷ rest)) (sym (eqb-true b 45 t)) (hyphen settles rest) none
+      go false t = rw t (rw t refl, rw (t, t) refl, λ waiting. rw (t, t) refl)
+
+-- and where there are no other options
+module _ (c : List Rule) (versioned : Bool) (long : LongOptions c versioned) (short : ShortOptions c versioned)
+    (bad : Kinds) (rows : List Row) (pending : Option (Text × List Text)) where
+  abbrev pub Reads : Word → Text → Type 0
+  Reads k w = ReadsWord c versioned bad (held_at rows pending) k w
+
+  pub reads : (settles : settle_fault c false (held_at rows pending) ≡ bad) (w : Text) → Reads (word_kind w) w
+  reads settles w = reads_but (λ name. false) c versioned (λ name unnamed. long name) short bad rows pending settles w (λ option is. refl)

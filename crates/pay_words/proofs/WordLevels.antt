@@ -79,7 +79,7 @@ module _ (c : List Rule) (versioned : Bool) (long : LongOptions c versioned) (sh
       refuses_first (word_fault shape names false idle word here.held) (step_fault shape position met.0 met.1) first
 
   met_value : ReadsAs words.value → word_met c names false idle position word here.held ≡ (here.held, value)
-  met_value r = rw (unmet, r.0) r.2
+  met_value r = rw (unmet, r.0) (r.2 idle)
 
   pub turn_value : ReadsAs words.value → turn_fault shape names here word ≡ step_fault shape position here.held value
   turn_value r =

@@ -6,8 +6,9 @@ use Rattle.clap.specs.Simple.{App, Shape, built, built_leaf, entered, help_shape
 use Rattle.clap.specs.Kinds.{Kinds, or_else}
 use Rattle.clap.specs.Faults.{check_fault, defaults_fault, entered_fault, fault_of, flags_fault, settle_fault, turn_fault, walk_fault}
 use Rattle.clap.specs.declared.error.kind.ErrorKind.TheVariants.{DisplayHelp, DisplayVersion, InvalidSubcommand, UnknownArgument}
-use Rattle.pay_words.specs.Asked.{Asked, Word, asked, check_asked, check_readers, given, word_kind, option_asked, program_asked, run_asked, run_readers, statement_asked, statement_readers}
+use Rattle.pay_words.specs.Asked.{Asked, Word, words_ask, serve_asked, check_asked, check_readers, given, word_kind, option_asked, program_asked, run_asked, run_readers, statement_asked, statement_readers}
 use Rattle.pay_words.specs.Asked as words
+use Rattle.pay_words.specs.Serve.{served}
 use Rattle.pay_words.specs.CommandLine.{farebox_app}
 use Rattle.pay_words.proofs.Programs.{by_program}
 use Rattle.pay_words.proofs.WordKinds.{LongOptions, Reads, Refuses, ShortOptions, help_filled, reads, version_filled}
@@ -15,6 +16,8 @@ use Rattle.pay_words.proofs.WordLevels.{Level, place, refuses_first, turn_dashes
 use Rattle.pay_words.proofs.WordsOfProgram.{Comes}
 use Rattle.pay_words.proofs.WordsAfterCheck.{check_ends, check_shape}
 use Rattle.pay_words.proofs.WordsAfterRun.{run_ends, run_shape}
+use Rattle.pay_words.proofs.ServeRules.{serve_shape}
+use Rattle.pay_words.proofs.WordsAfterServe.{serve_ends}
 use Rattle.pay_words.proofs.WordsAfterStatement.{statement_ends, statement_shape}
 
 abbrev top_shape : Shape
@@ -24,13 +27,13 @@ abbrev help_built : Shape
 help_built = built_leaf (record help_shape { disable_help_subcommand = true })
 
 abbrev farebox_built : App
-farebox_built = record { top = top_shape; subs = run_shape ∷ check_shape ∷ statement_shape ∷ help_built ∷ [] }
+farebox_built = record { top = top_shape; subs = run_shape ∷ check_shape ∷ statement_shape ∷ serve_shape ∷ help_built ∷ [] }
 
 built_farebox : built farebox_app ≡ farebox_built
 built_farebox = refl
 
 abbrev names : Names
-names = (codes "run", []) ∷ (codes "check", []) ∷ (codes "statement", []) ∷ (codes "help", []) ∷ []
+names = (codes "run", []) ∷ (codes "check", []) ∷ (codes "statement", []) ∷ (codes "serve", []) ∷ (codes "help", []) ∷ []
 
 top_long : LongOptions top_shape.rules true
 top_long name = refl
@@ -62,7 +65,7 @@ fault_is name words = refl
 subcommand_is : (name : Text) (words : List Text) → subcommand_of farebox_app (name ∷ words) ≡ entered farebox_built (end_of start words).stopped
 subcommand_is name words = refl
 
--- ---- `run`, `check` and `statement`
+-- ---- the words of each program
 
 -- the walk has met the name of a program, and these words after it
 abbrev met : Text → List Text → Walk
@@ -113,6 +116,14 @@ statement_entered : (rest : List Text) → entered farebox_built (end_of start (
 unfolding walked
 statement_entered rest = ap (λ (w : Walk). entered farebox_built w.stopped) (met_words (codes "statement") [] rest)
 
+met_serve : (rest : List Text) → whole start (codes "serve" ∷ rest) ≡ below serve_shape rest
+unfolding walked walk_fault defaults_fault
+met_serve rest = ap₂ end_kinds (no_kinds (codes "serve") [] rest) (met_words (codes "serve") [] rest) ∙ or_nothing (below serve_shape rest)
+
+serve_entered : (rest : List Text) → entered farebox_built (end_of start (codes "serve" ∷ rest)).stopped ≡ Some (codes "serve", rows_below serve_shape rest)
+unfolding walked
+serve_entered rest = ap (λ (w : Walk). entered farebox_built w.stopped) (met_words (codes "serve") [] rest)
+
 lifted : (x : Asked) (ks all : Kinds) (sub entry : Option (Text × List Row)) → all ≡ ks → entry ≡ sub → Comes x ks sub → Comes x all entry
 lifted x ks all sub entry same is h =
     subst (λ (k : Kinds). Comes x k entry) (sym same) (subst (λ (e : Option (Text × List Row)). Comes x ks e) (sym is) h)
@@ -129,6 +140,10 @@ statement_comes : (name : Text) (rest : List Text)
     → Comes (statement_asked (given statement_readers rest)) (fault_of farebox_app (name ∷ codes "statement" ∷ rest)) (subcommand_of farebox_app (name ∷ codes "statement" ∷ rest))
 statement_comes name rest = lifted (statement_asked (given statement_readers rest)) (below statement_shape rest) _ (Some (codes "statement", rows_below statement_shape rest)) _
     (fault_is name (codes "statement" ∷ rest) ∙ met_statement rest) (subcommand_is name (codes "statement" ∷ rest) ∙ statement_entered rest) (statement_ends rest)
+
+serve_comes : (name : Text) (rest : List Text) → Comes (serve_asked (served [] None rest)) (fault_of farebox_app (name ∷ codes "serve" ∷ rest)) (subcommand_of farebox_app (name ∷ codes "serve" ∷ rest))
+serve_comes name rest = lifted (serve_asked (served [] None rest)) (below serve_shape rest) _ (Some (codes "serve", rows_below serve_shape rest)) _
+    (fault_is name (codes "serve" ∷ rest) ∙ met_serve rest) (subcommand_is name (codes "serve" ∷ rest) ∙ serve_entered rest) (serve_ends rest)
 
 -- ---- any other word
 
@@ -172,13 +187,13 @@ module _ (name word : Text) (rest : List Text) (unmet : subcommand_met names idl
       let next = walked_dashes top_shape.rules true top_long top_short [] top_shape names [] None 1 word unmet r in
       subst Refuses (sym (step_kinds ∙ ap₂ first_kinds passes next)) (nothing_named rest)
 
-pub comes : (ws : List Text) → Comes (asked ws) (fault_of farebox_app ws) (subcommand_of farebox_app ws)
+pub comes : (ws : List Text) → Comes (words_ask ws) (fault_of farebox_app ws) (subcommand_of farebox_app ws)
 unfolding walk_fault flags_fault walked defaults_fault
 comes [] = refl
 comes (name ∷ []) = refl
 comes (name ∷ word ∷ rest) = by_program (λ (w : Text). Comes (program_asked w rest) (fault_of farebox_app (name ∷ w ∷ rest)) (subcommand_of farebox_app (name ∷ w ∷ rest)))
-    word (run_comes name rest) (check_comes name rest) (statement_comes name rest) refl (λ no_run no_check no_statement no_help.
-    let unmet : subcommand_met names idle word ≡ None = rw (no_run, no_check, no_statement, no_help) refl in
-    let asks : program_asked word rest ≡ option_asked (word_kind word) = rw (no_run, no_check, no_statement, no_help) refl in
+    word (run_comes name rest) (check_comes name rest) (statement_comes name rest) (serve_comes name rest) refl (λ no_run no_check no_statement no_serve no_help.
+    let unmet : subcommand_met names idle word ≡ None = rw (no_run, no_check, no_statement, no_serve, no_help) refl in
+    let asks : program_asked word rest ≡ option_asked (word_kind word) = rw (no_run, no_check, no_statement, no_serve, no_help) refl in
     subst (λ (x : Asked). Comes x (fault_of farebox_app (name ∷ word ∷ rest)) (subcommand_of farebox_app (name ∷ word ∷ rest))) (sym asks)
     (option_comes name word rest unmet (word_kind word) (reads top_shape.rules true top_long top_short [] [] None refl word)))

@@ -9,13 +9,14 @@ use Rattle.clap.specs.declared.builder.range.ValueRange.{ValueRange}
 use Rattle.clap.specs.declared.builder.value_parser.ValueParser.TheVariants as vp
 use Rattle.clap.specs.declared.error.kind.ErrorKind.TheVariants.{DisplayHelp, DisplayVersion, InvalidSubcommand}
 use Rattle.clap.specs.declared.parser.matches.ValueSource.TheVariants.{CommandLine}
-use Rattle.pay_words.specs.Asked.{Asked, Word, is_account, is_day, number_of, word_kind, run, check, statement, help_asked, help_named, version_asked, usage}
+use Rattle.pay_words.specs.Asked.{Asked, Word, is_account, is_day, number_of, word_kind, run, check, statement, serve, help_asked, help_named, version_asked, usage}
 use Rattle.pay_words.specs.Asked as words
-use Rattle.pay_words.specs.CommandLine.{required_word}
+use Rattle.pay_words.specs.Serve.{AreInRange, Serve, ServeTexts, numbers_of}
+use Rattle.pay_words.specs.CommandLine.{HaveServeTexts, required_word}
 use Rattle.pay_words.proofs.WordKinds.{LongOptions, Reads, Refuses, ShortOptions, reads}
 use Rattle.pay_words.proofs.WordLevels.{Level, level_next, level_refuses, level_shows, place, refuses_first, rows_from, rows_next, turn_dashes, turn_refuses, turn_shows, turn_value, walked_dashes, walked_value}
 
-abbrev one_value : ValueRange
+abbrev pub one_value : ValueRange
 one_value = record { start_inclusive = 1; end_inclusive = 1 }
 
 -- a word that has to be there, in its place
@@ -60,11 +61,16 @@ abbrev pub ComesWithNumbers : Text → Text → ℕ → ℕ → Option (Text × 
 ComesWithNumbers a b account day sub = (n : Text) × (d : Text) × (sub ≡ Some (codes "statement", statement_rows a b n d))
     × (is_account n ≡ true) × (number_of n ≡ account) × (is_day d ≡ true) × (number_of d ≡ day)
 
+-- the matches are of words that `serve` needs, of these numbers
+abbrev pub ComesWithOptions : Serve → Option (Text × List Row) → Type 0
+ComesWithOptions s sub = (t : ServeTexts) × (rows : List Row) × (sub ≡ Some (codes "serve", rows)) × HaveServeTexts rows t × AreInRange t × (numbers_of t ≡ s)
+
 -- what a parse comes to, by what the words ask for
 abbrev pub Comes : Asked → Kinds → Option (Text × List Row) → Type 0
 Comes (run a b) ks sub = (ks ≡ []) × (sub ≡ Some (codes "run", run_rows a b))
 Comes (check a) ks sub = (ks ≡ []) × (sub ≡ Some (codes "check", fares_row a))
 Comes (statement a b account day) ks sub = (ks ≡ []) × ComesWithNumbers a b account day sub
+Comes (serve s) ks sub = (ks ≡ []) × ComesWithOptions s sub
 Comes help_asked ks sub = ks ≡ DisplayHelp ∷ []
 Comes help_named ks sub = ks ≡ DisplayHelp ∷ InvalidSubcommand ∷ []
 Comes version_asked ks sub = ks ≡ DisplayVersion ∷ []

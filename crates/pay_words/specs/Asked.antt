@@ -1,71 +1,19 @@
 -- What the words of the process ask for.
-use Rattle.std.specs.Prelude.{◌≡◌, ◌≢◌, ◌≤◌, ◌==◌, ℕ, List, [], ◌∷◌, codes, slice_index, refl, Result, MatchResult, IsOkAnd}
-use Rattle.std.specs.Prelude.{◌⊎◌, ⊤, Bool, true, Option, Some, None, slice_get, if◌then◌else◌}
+use Rattle.std.specs.Prelude.{◌≡◌, ◌≢◌, ◌≤◌, ℕ, List, [], ◌∷◌, ◌++◌, codes, slice_index, refl, Result, MatchResult, IsOkAnd}
+use Rattle.std.specs.Prelude.{◌⊎◌, ⊤, true, None, if◌then◌else◌}
 use Rattle.std.specs.Str.{bytes_eq, chars}
-use Rattle.std.specs.Str.Parse.{digits_value, without_leading_plus}
 use Rattle.std.specs.String.{string_bytes}
 use Rattle.pay_words.specs.declared.words.Job.{Job}
-use Rattle.pay_words.specs.declared.words.Job.TheVariants.{Run, Check, Statement}
+use Rattle.pay_words.specs.declared.words.Job.TheVariants.{Run, Check, Statement, Serve as ServeJob}
+use Rattle.pay_words.specs.declared.words.ServeWords.{ServeWords}
 use Rattle.pay_words.specs.declared.words.WordsFault.{WordsFault}
 use Rattle.pay_words.specs.declared.words.WordsFault.TheVariants.{Help, Version, Usage, Memory}
-use Rattle.pay_words.specs.declared.limits.TheConstants.{MOST_ACCOUNT, FIRST_DAY, LAST_DAY}
-use Rattle.clap.specs.ValueTests.{is_unsigned_in}
-
-abbrev pub Text : Type 0
-Text = List ℕ
-
--- ---- one word
-
--- what a word is
-pub data Word : Type 0 where
-  value : Word
-  -- `--`, after which each word is a value
-  dashes : Word
-  -- `--help`, and `-h` with or without more letters
-  call_for_help : Word
-  -- `--version`, and `-V` with or without more letters
-  call_for_version : Word
-  -- any other option
-  option : Word
-
--- by the first letter after the hyphen, where there is one, whatever stands behind it: `-h` (104)
--- calls for help, and `-V` (86) for the version
-abbrev pub kind_by_letter : Option ℕ → Word
-kind_by_letter None = value
-kind_by_letter (Some c) = if c == 104 then call_for_help
-    else (if c == 86 then call_for_version else option)
-
-abbrev pub kind_after_hyphen : Text → Word
-kind_after_hyphen rest = if bytes_eq rest (codes "-") then dashes
-    else (if bytes_eq rest (codes "-help") then call_for_help
-    else (if bytes_eq rest (codes "-version") then call_for_version
-    else kind_by_letter (slice_get (chars rest) 0)))
-
--- a word that begins with a hyphen (45) and goes on is no value
-abbrev pub word_kind : Text → Word
-word_kind [] = value
-word_kind (b ∷ rest) = if b == 45 then kind_after_hyphen rest else value
-
--- ---- what a value may be
-
--- what a value has to be, at its place among the values of a program
-abbrev pub Reader : Type 0
-Reader = Text → Bool
-
-abbrev pub any_text : Reader
-any_text word = true
-
--- a number in its range, as `clap` reads it: decimal digits, of which the first may be zeros, and
--- perhaps a plus before them
-abbrev pub is_account : Reader
-is_account word = is_unsigned_in 1 MOST_ACCOUNT word
-
-abbrev pub is_day : Reader
-is_day word = is_unsigned_in FIRST_DAY LAST_DAY word
-
--- the number that such a word is
-abbrev pub number_of : Text → ℕ
-number_of word = digits_value 10 (without_leading_plus word)
+use Rattle.pay_words.specs.declared.limits.TheConstants.{MOST_ACCOUNT, FIRST_DAY, LAST_DAY, MOST_PORT, MOST_LANES, MOST_SHARDS, MOST_SESSIONS}
+pub use Rattle.pay_words.specs.OneWord.{Text, Word, value, dashes, call_for_help, call_for_version, option, word_kind}
+pub use Rattle.pay_words.specs.OneWord.{Reader, any_text, is_account, is_day, number_of}
+use Rattle.pay_words.specs.Serve.{AreInRange, ArePartsOf, Part, Said, Serve, ServeTexts, all_of, help_wanted, not_taken}
+use Rattle.pay_words.specs.Serve.{plain, apart, joined, has_ports, last_port, numbers_of, plain_words, served, values_of, words_of_parts}
+use Rattle.pay_words.specs.Serve.{port_option, lanes_option, shards_option, sessions_option, close_option}
 
 -- ---- the words of a program that takes values alone, and help
 
@@ -114,6 +62,8 @@ pub data Asked : Type 0 where
   check : Text → Asked
   -- `statement` with its fare file, zone, account and day
   statement : Text → Text → ℕ → ℕ → Asked
+  -- `serve` with its fare file, zone and the values of its options
+  serve : Serve → Asked
   -- help, by `-h` or `--help`
   help_asked : Asked
   -- the word `help`: help, or usage where a word after it names no program
@@ -141,6 +91,26 @@ statement_asked (values (fares ∷ zone ∷ account ∷ day ∷ [])) = statement
 statement_asked help = help_asked
 statement_asked _ = usage
 
+-- two values, and then one value for each option
+abbrev pub serve_of : List Text → List Text → List Text → List Text → List Text → List Text → Asked
+serve_of (fares ∷ zone ∷ []) (p ∷ []) (l ∷ []) (n ∷ []) (k ∷ []) (d ∷ []) = serve (numbers_of (record {
+  fares = fares;
+  zone = zone;
+  port = p;
+  lanes = l;
+  shards = n;
+  sessions = k;
+  close = d;
+}))
+serve_of _ _ _ _ _ _ = usage
+
+-- `serve FARES ZONE` and its options
+abbrev pub serve_asked : Said → Asked
+serve_asked (all_of parts) = serve_of (plain_words parts) (values_of port_option parts) (values_of lanes_option parts)
+    (values_of shards_option parts) (values_of sessions_option parts) (values_of close_option parts)
+serve_asked help_wanted = help_asked
+serve_asked not_taken = usage
+
 -- what the values of each program have to be
 abbrev pub run_readers : List Reader
 run_readers = any_text ∷ any_text ∷ []
@@ -160,13 +130,22 @@ abbrev pub program_asked : Text → List Text → Asked
 program_asked program rest = if bytes_eq (codes "run") program then run_asked (given run_readers rest)
     else (if bytes_eq (codes "check") program then check_asked (given check_readers rest)
     else (if bytes_eq (codes "statement") program then statement_asked (given statement_readers rest)
+    else (if bytes_eq (codes "serve") program then serve_asked (served [] None rest)
     else (if bytes_eq (codes "help") program then help_named
-    else option_asked (word_kind program))))
+    else option_asked (word_kind program)))))
 
 -- the first word is the program's own name, and the second names what it is to do
+abbrev pub words_ask : List Text → Asked
+words_ask (name ∷ program ∷ rest) = program_asked program rest
+words_ask _ = usage
+
+-- lanes that have no port are not served
+abbrev pub with_ports : Asked → Asked
+with_ports (serve s) = if has_ports s then serve s else usage
+with_ports what = what
+
 abbrev pub asked : List Text → Asked
-asked (name ∷ program ∷ rest) = program_asked program rest
-asked _ = usage
+asked words = with_ports (words_ask words)
 
 -- ---- the result
 
@@ -174,10 +153,27 @@ asked _ = usage
 abbrev pub version_line : Text
 version_line = codes "farebox 0.1.0\n"
 
+abbrev pub served_job : ServeWords → Serve
+served_job w = record {
+  fares = w.fares.now;
+  zone = w.zone.now;
+  port = w.port;
+  lanes = w.lanes;
+  shards = w.shards;
+  sessions = w.sessions;
+  close = w.close;
+}
+
 abbrev pub job_asked : Job → Asked
 job_asked (Run w) = run w.fares.now w.zone.now
 job_asked (Check fares) = check fares.now
 job_asked (Statement w) = statement w.fares.now w.zone.now w.account w.day
+job_asked (ServeJob w) = serve (served_job w)
+
+-- the words of `serve` say what it is asked for, in some order
+abbrev pub AreServeWords : Serve → List Text → Type 0
+AreServeWords s words = (t : ServeTexts) × (parts : List Part) × (words ≡ codes "serve" ∷ words_of_parts parts)
+    × ArePartsOf t parts × AreInRange t × (numbers_of t ≡ s)
 
 -- the words that the job was made of; a number may be spelled in several ways
 abbrev pub AreJobWords : Job → List Text → Type 0
@@ -186,12 +182,16 @@ AreJobWords (Check fares) words = words ≡ codes "check" ∷ fares.now ∷ []
 AreJobWords (Statement w) words = (account : Text) × (day : Text)
     × (is_account account ≡ true) × (number_of account ≡ w.account) × (is_day day ≡ true) × (number_of day ≡ w.day)
     × (words ≡ codes "statement" ∷ w.fares.now ∷ w.zone.now ∷ account ∷ day ∷ [])
+AreJobWords (ServeJob w) words = AreServeWords (served_job w) words
 
 -- the numbers of a job are in their ranges
 abbrev pub IsJobInRange : Job → Type 0
 IsJobInRange (Run w) = ⊤
 IsJobInRange (Check fares) = ⊤
 IsJobInRange (Statement w) = (1 ≤ w.account) × (w.account ≤ MOST_ACCOUNT) × (FIRST_DAY ≤ w.day) × (w.day ≤ LAST_DAY)
+IsJobInRange (ServeJob w) = (1 ≤ w.port) × (1 ≤ w.lanes) × (w.lanes ≤ MOST_LANES) × (last_port w.port w.lanes ≤ MOST_PORT)
+    × (1 ≤ w.shards) × (w.shards ≤ MOST_SHARDS) × (1 ≤ w.sessions) × (w.sessions ≤ MOST_SESSIONS)
+    × (FIRST_DAY ≤ w.close) × (w.close ≤ LAST_DAY)
 
 -- what the fault says of the words; memory may be refused at any words
 abbrev pub IsFaultOf : Asked → WordsFault → Type 0
@@ -216,6 +216,10 @@ HasNoHyphen word = slice_index word 0 ≢ 45
 abbrev pub IsJob : Asked → Result Job WordsFault → Type 0
 IsJob what result = IsOkAnd result (λ job. job_asked job ≡ what)
 
+-- it is the job that is asked for, or `Usage` where none is
+abbrev pub IsAnswer : Asked → Result Job WordsFault → Type 0
+IsAnswer what result = MatchResult result (λ job. job_asked job ≡ what) (λ fault. (what ≡ usage) × (fault ≡ Usage))
+
 -- it is, or memory was refused
 abbrev pub IsJobOrMemory : Asked → Result Job WordsFault → Type 0
 IsJobOrMemory what result = MatchResult result (λ job. job_asked job ≡ what) (λ fault. fault ≡ Memory)
@@ -237,6 +241,13 @@ abbrev pub StatementIsTaken : List Text → Result Job WordsFault → Type 0
 StatementIsTaken words result = (name fares zone account day : Text) → words ≡ name ∷ codes "statement" ∷ fares ∷ zone ∷ account ∷ day ∷ []
     → HasNoHyphen fares → HasNoHyphen zone → is_account account ≡ true → is_day day ≡ true
     → IsJobOrMemory (statement fares zone (number_of account) (number_of day)) result
+
+-- two words with no hyphen before them, and five options with numbers in their ranges, in whatever
+-- order, are those of `serve`
+abbrev pub ServeIsTaken : List Text → Result Job WordsFault → Type 0
+ServeIsTaken words result = (name : Text) (t : ServeTexts) (parts : List Part) → words ≡ name ∷ codes "serve" ∷ words_of_parts parts
+    → ArePartsOf t parts → HasNoHyphen t.fares → HasNoHyphen t.zone → AreInRange t → has_ports (numbers_of t) ≡ true
+    → IsJobOrMemory (serve (numbers_of t)) result
 
 -- ---- worked rows
 
@@ -329,6 +340,71 @@ refused_before_help_row = refl
 statement_help_row : row (codes "statement" ∷ codes "a" ∷ codes "b" ∷ codes "7" ∷ codes "-h" ∷ []) ≡ help_asked
 unfolding chars
 statement_help_row = refl
+
+abbrev example : Serve
+example = record { fares = codes "a"; zone = codes "b"; port = 9_000; lanes = 2; shards = 4; sessions = 1; close = 19_730 }
+
+abbrev options_row : List Text → List Text
+options_row rest = codes "--lanes" ∷ codes "2" ∷ codes "--shards=4" ∷ codes "--sessions" ∷ codes "1" ∷ codes "--close=19730" ∷ rest
+
+serve_row : row (codes "serve" ∷ codes "a" ∷ codes "b" ∷ codes "--port" ∷ codes "9000" ∷ options_row []) ≡ serve example
+unfolding chars
+serve_row = refl
+
+-- such words as parts
+usual_order_row : (t : ServeTexts) → words_of_parts (plain t.fares ∷ plain t.zone ∷ apart port_option t.port ∷ joined lanes_option t.lanes ∷ [])
+    ≡ t.fares ∷ t.zone ∷ codes "--port" ∷ t.port ∷ (codes "--lanes=" ++ t.lanes) ∷ []
+usual_order_row t = refl
+
+-- options before, between and behind the values
+mixed_row : row (codes "serve" ∷ codes "--port=9000" ∷ codes "a" ∷ options_row (codes "b" ∷ [])) ≡ serve example
+unfolding chars
+mixed_row = refl
+
+serve_dashes_row : row (codes "serve" ∷ options_row (codes "--port" ∷ codes "9000" ∷ codes "--" ∷ codes "a" ∷ codes "b" ∷ [])) ≡ serve example
+unfolding chars
+serve_dashes_row = refl
+
+-- an option is given once
+twice_row : row (codes "serve" ∷ codes "a" ∷ codes "b" ∷ codes "--port" ∷ codes "9000" ∷ options_row (codes "--port=9000" ∷ [])) ≡ usage
+unfolding chars
+twice_row = refl
+
+-- and has its value, which begins with no hyphen
+no_value_row : row (codes "serve" ∷ codes "a" ∷ codes "b" ∷ codes "--port" ∷ options_row []) ≡ usage
+unfolding chars
+no_value_row = refl
+
+no_port_row : row (codes "serve" ∷ codes "a" ∷ codes "b" ∷ options_row []) ≡ usage
+unfolding chars
+no_port_row = refl
+
+one_value_row : row (codes "serve" ∷ codes "a" ∷ codes "--port" ∷ codes "9000" ∷ options_row []) ≡ usage
+unfolding chars
+one_value_row = refl
+
+-- two lanes have the ports 65,534 and 65,535
+last_port_row : row (codes "serve" ∷ codes "a" ∷ codes "b" ∷ codes "--port" ∷ codes "65534" ∷ options_row [])
+    ≡ serve (record example { port = 65_534 })
+unfolding chars
+last_port_row = refl
+
+-- and none has 65,536
+beyond_ports_row : row (codes "serve" ∷ codes "a" ∷ codes "b" ∷ codes "--port" ∷ codes "65535" ∷ options_row []) ≡ usage
+unfolding chars
+beyond_ports_row = refl
+
+port_0_row : row (codes "serve" ∷ codes "a" ∷ codes "b" ∷ codes "--port" ∷ codes "0" ∷ options_row []) ≡ usage
+unfolding chars
+port_0_row = refl
+
+lanes_16_row : row (codes "serve" ∷ codes "--lanes" ∷ codes "16" ∷ codes "-h" ∷ []) ≡ usage
+unfolding chars
+lanes_16_row = refl
+
+serve_help_row : row (codes "serve" ∷ codes "--lanes" ∷ codes "15" ∷ codes "-h" ∷ []) ≡ help_asked
+unfolding chars
+serve_help_row = refl
 
 check_help_row : row (codes "check" ∷ codes "-h" ∷ []) ≡ help_asked
 unfolding chars

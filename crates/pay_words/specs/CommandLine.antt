@@ -10,10 +10,12 @@ use Rattle.clap.specs.declared.error.kind.ErrorKind.{ErrorKind}
 use Rattle.clap.specs.declared.error.kind.ErrorKind.TheVariants.{DisplayHelp, DisplayVersion}
 use Rattle.clap.specs.declared.error.kind.ErrorKind.TheVariants.{OutOfMemory}
 use Rattle.clap.specs.declared.parser.matches.ArgMatches.{ArgMatches}
+use Rattle.clap.specs.declared.parser.matches.Found.{Found}
 use Rattle.pay_words.specs.declared.words.WordsFault.{WordsFault}
 use Rattle.pay_words.specs.declared.words.WordsFault.TheVariants.{Help, Version, Usage, Memory}
-use Rattle.pay_words.specs.declared.limits.TheConstants.{MOST_ACCOUNT, FIRST_DAY, LAST_DAY}
+use Rattle.pay_words.specs.declared.limits.TheConstants.{MOST_ACCOUNT, FIRST_DAY, LAST_DAY, MOST_PORT, MOST_LANES, MOST_SHARDS, MOST_SESSIONS}
 use Rattle.pay_words.specs.Asked.{version_line, is_account, is_day, number_of}
+use Rattle.pay_words.specs.Serve.{AreInRange, Serve, ServeTexts, numbers_of}
 
 -- a word that has to be there
 abbrev pub required_word : Text → Rule
@@ -38,12 +40,28 @@ statement_app = with_rule (with_rule (with_rule (with_rule (new_app (codes "stat
     (required_word (codes "FARES"))) (required_word (codes "ZONE")))
     (required_number (codes "ACCOUNT") 1 MOST_ACCOUNT)) (required_number (codes "DAY") FIRST_DAY LAST_DAY)
 
+-- an option with a number in its range, which has to be there and is called by its name in the words
+abbrev pub required_option : Text → ℕ → ℕ → Rule
+required_option name least most = record (required_number name least most) { long = Some name; value_names = 1 }
+
+-- the options of `serve`
+abbrev pub with_serve_options : App → App
+with_serve_options app = with_rule (with_rule (with_rule (with_rule (with_rule app
+    (required_option (codes "port") 1 MOST_PORT)) (required_option (codes "lanes") 1 MOST_LANES))
+    (required_option (codes "shards") 1 MOST_SHARDS)) (required_option (codes "sessions") 1 MOST_SESSIONS))
+    (required_option (codes "close") FIRST_DAY LAST_DAY)
+
+-- `serve FARES ZONE --port P --lanes L --shards N --sessions K --close DAY`
+abbrev pub serve_app : App
+serve_app = with_serve_options (with_rule (with_rule (new_app (codes "serve")) (required_word (codes "FARES")))
+    (required_word (codes "ZONE")))
+
 -- the program, which has a version, and wants one of its programs named
 abbrev pub farebox_app : App
-farebox_app = with_subcommand (with_subcommand (with_subcommand
+farebox_app = with_subcommand (with_subcommand (with_subcommand (with_subcommand
     (on_top (λ top. record top { has_version = true; subcommand_required = true })
     (new_app (codes "farebox")))
-    run_app.top) check_app.top) statement_app.top
+    run_app.top) check_app.top) statement_app.top) serve_app.top
 
 -- the subcommand that the matches have, with its values
 abbrev pub values_in : Text × List Row → Text × Option Text × Option Text
@@ -69,6 +87,25 @@ abbrev pub GivesStatement : ArgMatches → Text → Text → ℕ → ℕ → Typ
 GivesStatement m fares zone account day = (n : Text) × (d : Text)
     × (option_map values_with_numbers (subcommand_rows_of m) ≡ Some (codes "statement", Some fares, Some zone, Some n, Some d))
     × (is_account n ≡ true) × (number_of n ≡ account) × (is_day d ≡ true) × (number_of d ≡ day)
+
+-- these rows have the words that `serve` needs
+abbrev pub HaveServeTexts : List Row → ServeTexts → Type 0
+HaveServeTexts rows t = (first_of (codes "FARES") rows ≡ Some t.fares) × (first_of (codes "ZONE") rows ≡ Some t.zone)
+    × (one_of (codes "port") rows ≡ Some t.port) × (one_of (codes "lanes") rows ≡ Some t.lanes)
+    × (one_of (codes "shards") rows ≡ Some t.shards) × (one_of (codes "sessions") rows ≡ Some t.sessions)
+    × (one_of (codes "close") rows ≡ Some t.close)
+
+-- the matches are those of `serve` with these values, and words in their ranges for the numbers
+abbrev pub GivesServe : ArgMatches → Serve → Type 0
+GivesServe m s = (t : ServeTexts) × (rows : List Row) × (subcommand_rows_of m ≡ Some (codes "serve", rows))
+    × HaveServeTexts rows t × AreInRange t × (numbers_of t ≡ s)
+
+-- the matches have the words that `serve` needs
+abbrev pub HasServeTexts : Found → ServeTexts → Type 0
+HasServeTexts f t = (first_value f (codes "FARES") ≡ Some t.fares) × (first_value f (codes "ZONE") ≡ Some t.zone)
+    × (one_text f (codes "port") ≡ Some t.port) × (one_text f (codes "lanes") ≡ Some t.lanes)
+    × (one_text f (codes "shards") ≡ Some t.shards) × (one_text f (codes "sessions") ≡ Some t.sessions)
+    × (one_text f (codes "close") ≡ Some t.close)
 
 -- the matches have these values of FARES and ZONE
 abbrev pub HasFaresAndZone : ArgMatches → Text → Text → Type 0

@@ -15,6 +15,10 @@ or its first fault";
 pub const STATEMENT: &str = "\
 Read taps and corrections from standard input, and print the statement of an account's week as CSV";
 
+/// What `serve` does.
+pub const SERVE: &str =
+    "Read taps and corrections from the connections of several lanes, and then close a day";
+
 /// What the word FARES is.
 pub const FARES: &str = "The fare file, a TOML document";
 
@@ -29,13 +33,37 @@ pub const ACCOUNT: &str = "The account, a number from 1 to 4294967295";
 pub const DAY: &str = "\
 A service day of the week, counted from 1970-01-01: a number from 4 to 50000";
 
+/// What the option `--port` is.
+pub const PORT: &str = "\
+The port of the first lane, from 1 to 65535. Each further lane has the next
+port, and none is above 65535";
+
+/// What the option `--lanes` is.
+pub const LANES: &str = "How many lanes there are, from 1 to 15";
+
+/// What the option `--shards` is.
+pub const SHARDS: &str = "How many shards the accounts are spread over, from 1 to 16";
+
+/// What the option `--sessions` is.
+pub const SESSIONS: &str = "How many connections each lane serves, from 1 to 1000";
+
+/// What the option `--close` is.
+pub const CLOSE: &str = "\
+The service day that is closed at the end, counted from 1970-01-01: a number
+from 4 to 50000";
+
 /// What stands below the program's own help.
 pub const BELOW_PROGRAM: &str = "\
-Words of run (FARES ZONE), of check (FARES) and of statement (FARES ZONE ACCOUNT DAY):
+Words of run (FARES ZONE), of check (FARES), of statement (FARES ZONE ACCOUNT DAY) and of serve
+(FARES ZONE --port P --lanes L --shards N --sessions K --close DAY, its options in any order):
   FARES    the fare file, a TOML document
   ZONE     the time zone, a POSIX rule text (a name such as Europe/London is none)
   ACCOUNT  the account, a number from 1 to 4294967295
-  DAY      a service day of the week, counted from 1970-01-01
+  DAY      a service day, counted from 1970-01-01: of the week, or the one that is closed
+  P        the port of the first lane; each further lane has the next port
+  L        how many lanes there are, from 1 to 15
+  N        how many shards the accounts are spread over, from 1 to 16
+  K        how many connections each lane serves, from 1 to 1000
 
 Example: account 7 boards a bus in London on Monday 8 January 2024 at 07:00. The reply names the
 day, counted from 1970-01-01, its price and that of its week, in pence.
@@ -93,3 +121,22 @@ Statuses:
   2  the words were refused
 
 The lines, the fare file, the statement and the faults are described in docs/FORMATS.md.";
+
+/// What stands below the help of `serve`.
+pub const BELOW_SERVE: &str = "\
+Lane l, from 0 to L - 1, listens on port P + l of 127.0.0.1 and serves K connections, one after
+another, in a thread of its own. On a connection lines come in, and the reply to each goes out; a
+CLOSE is refused by 34. The accounts are spread over N shards, each in a thread of its own. When
+all connections of all lanes have ended, DAY is closed, the lines of that close are printed, and
+the program ends.
+
+Example: two lanes, on ports 9000 and 9001, serve a connection each, and day 19730 is closed.
+  $ farebox serve examples/bus.toml GMT0BST,M3.5.0/1,M10.5.0 --port 9000 --lanes 2 --shards 4 \\
+      --sessions 1 --close 19730
+
+Statuses:
+  0  all right
+  1  a fault, which one line on standard error names
+  2  the words were refused
+
+The lines and replies, the fare file and the faults are described in docs/FORMATS.md.";

@@ -8,3 +8,15 @@ pub const FIRST_DAY: u64 = 4;
 
 /// The last service day that may be asked for.
 pub const LAST_DAY: u64 = 50_000;
+
+/// The greatest port that a lane may listen on. The least is 1.
+pub const MOST_PORT: u64 = 65_535;
+
+/// The greatest number of lanes. The least is 1.
+pub const MOST_LANES: u64 = 15;
+
+/// The greatest number of shards. The least is 1.
+pub const MOST_SHARDS: u64 = 16;
+
+/// The greatest number of connections that a lane serves. The least is 1.
+pub const MOST_SESSIONS: u64 = 1_000;

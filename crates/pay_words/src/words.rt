@@ -1,24 +1,29 @@
 //! The words that the program is started with, and the job that they ask for.
-ghost use Rattle.std.specs.Prelude.{◌≡◌, ℕ, ◌≤◌, true, false, codes, drop};
-ghost use Rattle.std.specs.Prelude.{IfOk, IfErr};
+ghost use Rattle.std.specs.Prelude.{◌≡◌, ℕ, ◌<◌, ◌≤◌, true, false, codes, drop};
+ghost use Rattle.std.specs.Prelude.{IfOk, IfErr, IsSomeAnd};
 ghost use Rattle.clap.specs.Walk.{texts};
 ghost use Rattle.clap.specs.Words.{app_of, first_value, found_of, kind_of, one_text};
 ghost use Rattle.clap.specs.declared.builder.command.Command.TheViews.{out-Command as fields_of};
-ghost use Rattle.pay_words.specs.CommandLine.{GivesCheck, GivesRun, GivesStatement};
+ghost use Rattle.pay_words.specs.CommandLine.{GivesCheck, GivesRun, GivesServe, GivesStatement, HasServeTexts};
 ghost use Rattle.pay_words.specs.CommandLine.{HasFaresAndZone, HasNumbers, IsFaultOfKind, IsHelpOrMemory, IsVersionOrMemory};
-ghost use Rattle.pay_words.specs.CommandLine.{check_app, farebox_app, run_app, statement_app};
-ghost use Rattle.pay_words.specs.CommandLine.{required_number, required_word};
+ghost use Rattle.pay_words.specs.CommandLine.{check_app, farebox_app, run_app, serve_app, statement_app};
+ghost use Rattle.pay_words.specs.CommandLine.{required_number, required_option, required_word, with_serve_options};
 ghost use Rattle.clap.specs.Words.{shape_of, with_rule, with_subcommand};
 ghost use Rattle.clap.specs.ValueTests.{is_unsigned_in};
 ghost use Rattle.clap.specs.Walk.{rule_of};
 ghost use Rattle.pay_words.specs.Asked.{IsFaultOf, Text, asked, job_asked, AreJobWords, IsJob, IsJobInRange};
-ghost use Rattle.pay_words.specs.Asked.{RunIsTaken, CheckIsTaken, StatementIsTaken};
+ghost use Rattle.pay_words.specs.Asked.{RunIsTaken, CheckIsTaken, StatementIsTaken, ServeIsTaken};
+ghost use Rattle.pay_words.specs.Asked.{IsAnswer, served_job, with_ports};
+ghost use Rattle.pay_words.specs.OneWord.{is_port};
+ghost use Rattle.pay_words.specs.Serve.{AreInRange, Serve, ServeTexts, has_ports, numbers_of};
 ghost use Rattle.pay_words.specs.Asked.{check as check_asked, run as run_asked, without_dashes};
-ghost use Rattle.pay_words.specs.Asked.{statement as statement_asked, number_of};
+ghost use Rattle.pay_words.specs.Asked.{serve as serve_asked, statement as statement_asked, number_of};
 ghost use Rattle.pay_words.specs.declared.words.WordsFault.TheVariants.{Memory};
 
 use crate::help;
-use crate::limits::{FIRST_DAY, LAST_DAY, MOST_ACCOUNT};
+use crate::limits::{
+    FIRST_DAY, LAST_DAY, MOST_ACCOUNT, MOST_LANES, MOST_PORT, MOST_SESSIONS, MOST_SHARDS,
+};
 use clap::builder::ValueParser;
 use clap::error::ErrorKind;
 use clap::{Arg, ArgMatches, Command, Error};
@@ -38,6 +43,9 @@ pub enum Job<'a> {
     /// `statement FARES ZONE ACCOUNT DAY`: the statement of an account's week, by the lines of standard
     /// input.
     Statement(StatementWords<'a>),
+    /// `serve FARES ZONE --port P --lanes L --shards N --sessions K --close DAY`: sessions of several
+    /// lanes at once, and the close of a day when all of them have ended.
+    Serve(ServeWords<'a>),
 }
 
 /// The values of `run FARES ZONE`.
@@ -60,6 +68,25 @@ pub struct StatementWords<'a> {
     pub account: u32,
     /// A service day of the week that is asked for, counted from 1970-01-01: 4 to 50,000.
     pub day: u32,
+}
+
+/// The values of `serve FARES ZONE --port P --lanes L --shards N --sessions K --close DAY`.
+#[derive(Clone, Copy, Debug, PartialEq, Eq)]
+pub struct ServeWords<'a> {
+    /// The path of the fare file.
+    pub fares: &'a str,
+    /// The text of the time zone, a POSIX rule.
+    pub zone: &'a str,
+    /// The port that the first lane listens on; each further lane has the next, up to 65,535.
+    pub port: u16,
+    /// How many lanes there are: 1 to 15.
+    pub lanes: u8,
+    /// How many shards the accounts are spread over: 1 to 16.
+    pub shards: u8,
+    /// How many connections each lane serves, one after another: 1 to 1,000.
+    pub sessions: u32,
+    /// The service day that is closed at the end, counted from 1970-01-01: 4 to 50,000.
+    pub close: u32,
 }
 
 /// Why the words give no job.
@@ -89,16 +116,19 @@ impl From<AllocError> for WordsFault {
 
 /// Reads the words of the process, of which the first is the program's own name.
 ///
-/// A word that begins with a hyphen and goes on is an option: help, or in the place of a program
-/// the version, and no other. `--` says that each word after it is a value. An account and a day are
-/// decimal digits, which may have a plus and zeros before them; one outside its range is refused as `Usage`.
+/// A word that begins with a hyphen and goes on is an option: help, in the place of a program the
+/// version, one of the five of `serve`, and no other. The value of an option of `serve` is the next word,
+/// or stands behind an equals sign in the same; each is given once, before, between or behind FARES and ZONE.
+/// `--` says that each word after it is a value. Numbers are decimal digits, which may have a plus and zeros
+/// before them; one outside its range is refused as `Usage`, and so are lanes with a port above 65,535.
 pub fn read_words<'a>(alloc: Global, words: &'a [&'a str]) -> Result<Job<'a>, WordsFault>
     ensures job { IfOk result (λ job. asked (texts words.entry.now) ≡ job_asked job) }
     ensures refused { IfErr result (IsFaultOf (asked (texts words.entry.now))) }
 
     ensures in_range { IfOk result IsJobInRange }
 
-    // But for the program's own name and a `--`, the words are the job's, in order.
+    // But for the program's own name and a `--`, the words are the job's: in order, but that the options of `serve`
+    // may stand anywhere.
     ensures words { IfOk result (λ job.
         AreJobWords job (without_dashes (drop 1 (texts words.entry.now)))) }
 
@@ -110,6 +140,10 @@ pub fn read_words<'a>(alloc: Global, words: &'a [&'a str]) -> Result<Job<'a>, Wo
 
     // Two words with no hyphen before them and two numbers in their ranges are the values of `statement`.
     ensures statement { StatementIsTaken (texts words.entry.now) result }
+
+    // Two words with no hyphen before them and five options with numbers in their ranges, in any order, are the values
+    // of `serve`, where each lane has a port.
+    ensures serve { ServeIsTaken (texts words.entry.now) result }
 {
     let command = farebox_command(alloc)?;
     match command.try_get_matches_from(words) {
@@ -124,12 +158,13 @@ fn farebox_command<'a>(alloc: Global) -> Result<Command<'a>, AllocError>
     let run = run_command(alloc)?;
     let check = check_command(alloc)?;
     let statement = statement_command(alloc)?;
+    let serve = serve_command(alloc)?;
     let farebox = Command::new(alloc, "farebox")
         .version(VERSION)
         .about(help::PROGRAM)
         .after_help(help::BELOW_PROGRAM)
         .subcommand_required(true);
-    with_programs(farebox, run, check)?.subcommand(statement)
+    with_programs(with_programs(farebox, run, check)?, statement, serve)
 }
 
 /// A command with two programs more.
@@ -190,6 +225,30 @@ fn statement_command<'a>(alloc: Global) -> Result<Command<'a>, AllocError>
         .arg(number_word(alloc, "DAY", help::DAY, FIRST_DAY, LAST_DAY))
 }
 
+fn serve_command<'a>(alloc: Global) -> Result<Command<'a>, AllocError>
+    ensures app { IfOk result (λ command. app_of command ≡ serve_app) }
+    ensures local { IfOk result (λ command. (fields_of command).has_globals ≡ false) }
+{
+    let command = Command::new(alloc, "serve")
+        .about(help::SERVE)
+        .after_help(help::BELOW_SERVE);
+    with_options(alloc, with_fares_and_zone(alloc, command)?)
+}
+
+/// A command with the options of `serve`, after the words that it has.
+fn with_options<'a>(alloc: Global, command: Command<'a>) -> Result<Command<'a>, AllocError>
+    requires { (fields_of command).has_globals ≡ false }
+    ensures app { IfOk result (λ r. app_of r ≡ with_serve_options (app_of command.entry)) }
+    ensures local { IfOk result (λ r. (fields_of r).has_globals ≡ false) }
+{
+    command
+        .arg(number_option(alloc, "port", "P", help::PORT, 1, MOST_PORT))?
+        .arg(number_option(alloc, "lanes", "L", help::LANES, 1, MOST_LANES))?
+        .arg(number_option(alloc, "shards", "N", help::SHARDS, 1, MOST_SHARDS))?
+        .arg(number_option(alloc, "sessions", "K", help::SESSIONS, 1, MOST_SESSIONS))?
+        .arg(number_option(alloc, "close", "DAY", help::CLOSE, FIRST_DAY, LAST_DAY))
+}
+
 /// A word that has to be there.
 fn text_word<'a>(alloc: Global, name: &'a str, help: &'a str) -> Arg<'a>
     ensures rule { rule_of result ≡ required_word name.entry.now }
@@ -206,16 +265,35 @@ fn number_word<'a>(alloc: Global, name: &'a str, help: &'a str, least: u64, most
     text_word(alloc, name, help).value_parser(ValueParser::unsigned(least, most))
 }
 
+/// An option with a number in its range, which has to be there; help calls the number `value`.
+fn number_option<'a>(
+    alloc: Global,
+    name: &'a str,
+    value: &'a str,
+    help: &'a str,
+    least: u64,
+    most: u64,
+) -> Arg<'a>
+    ensures rule { rule_of result ≡ required_option name.entry.now least most }
+    ensures local { result.global ≡ false }
+{
+    number_word(alloc, name, help, least, most)
+        .long(name)
+        .value_name(value)
+}
+
 fn job_of<'a>(matches: &ArgMatches<'a>) -> Result<Job<'a>, WordsFault>
     ensures run { (fares zone : Text) → GivesRun matches.now fares zone → IsJob (run_asked fares zone) result }
     ensures check { (fares : Text) → GivesCheck matches.now fares → IsJob (check_asked fares) result }
     ensures statement { (fares zone : Text) (account day : ℕ)
         → GivesStatement matches.now fares zone account day → IsJob (statement_asked fares zone account day) result }
+    ensures serve { (s : Serve) → GivesServe matches.now s → IsAnswer (with_ports (serve_asked s)) result }
 {
     match matches.subcommand() {
         Some(("run", run)) => run_job(run),
         Some(("check", check)) => check_job(check),
         Some(("statement", statement)) => statement_job(statement),
+        Some(("serve", serve)) => serve_job(serve),
         _ => Err(WordsFault::Usage),
     }
 }
@@ -271,6 +349,66 @@ fn statement_of<'a>(
         })),
         _ => Err(WordsFault::Usage),
     }
+}
+
+fn serve_job<'a>(serve: &ArgMatches<'a>) -> Result<Job<'a>, WordsFault>
+    ensures { (t : ServeTexts) → HasServeTexts (found_of serve.now) t → AreInRange t
+        → IsAnswer (with_ports (serve_asked (numbers_of t))) result }
+{
+    match serve_words(serve) {
+        Some(words) => job_with_ports(words),
+        None => Err(WordsFault::Usage),
+    }
+}
+
+/// The job of `serve`, where there is a port for each lane.
+fn job_with_ports(words: ServeWords<'_>) -> Result<Job<'_>, WordsFault>
+    ensures { IsAnswer (with_ports (serve_asked (served_job words.entry))) result }
+{
+    if has_ports(&words) {
+        Ok(Job::Serve(words))
+    } else {
+        Err(WordsFault::Usage)
+    }
+}
+
+/// Whether the port of the last lane is one.
+fn has_ports(words: &ServeWords<'_>) -> bool
+    ensures { result ≡ has_ports (served_job words.now) }
+{
+    (u64::from(words.port) + u64::from(words.lanes)).saturating_sub(1) <= MOST_PORT
+}
+
+fn serve_words<'a>(serve: &ArgMatches<'a>) -> Option<ServeWords<'a>>
+    ensures { (t : ServeTexts) → HasServeTexts (found_of serve.now) t → AreInRange t
+        → IsSomeAnd result (λ words. served_job words ≡ numbers_of t) }
+{
+    Some(ServeWords {
+        fares: serve.get_str("FARES")?,
+        zone: serve.get_str("ZONE")?,
+        port: port_of(serve)?,
+        lanes: count_of(serve, "lanes")?,
+        shards: count_of(serve, "shards")?,
+        sessions: number_of(serve, "sessions")?,
+        close: number_of(serve, "close")?,
+    })
+}
+
+/// The port, of the numbers that the matches have.
+fn port_of(serve: &ArgMatches<'_>) -> Option<u16>
+    ensures { (word : Text) → one_text (found_of serve.now) (codes "port") ≡ Some word
+        → is_port word ≡ true → result ≡ Some (number_of word) }
+{
+    serve.get_one("port")
+}
+
+/// The number of this name, of those that the matches have, where it is below 256.
+fn count_of(serve: &ArgMatches<'_>, name: &str) -> Option<u8>
+    ensures { (word : Text) (least most : ℕ) → one_text (found_of serve.now) name.now ≡ Some word
+        → is_unsigned_in least most word ≡ true → most < 256
+        → result ≡ Some (number_of word) }
+{
+    serve.get_one(name)
 }
 
 /// The number of this name, of those that the matches have.

@@ -1,5 +1,5 @@
 use Rattle.clap.specs.Words.{found_of}
-use Rattle.pay_words.proofs.Results.{check_value, run_values, statement_values}
+use Rattle.pay_words.proofs.Results.{check_value, run_values, serve_texts, statement_values}
 use Rattle.pay_words.proofs.words.job_of.Goals as goal
 
 pub returns-in-Some-run-default-clause-run : goal.returns-in-Some-run-default-clause-run
@@ -15,3 +15,8 @@ returns-in-Some-statement-default-clause-statement c = λ fares zone account day
     let found = found_of c.in-Some-statement-default.statement.now in
     let values = statement_values c.args.matches.now found fares zone account day c.in-Some-statement-default.ensures.rows gives in
     rw (← gives.4, ← gives.6) (c.statement_job.ensures fares zone gives.0 gives.1 (values.0, values.1) (values.2, values.3, gives.3, gives.5))
+
+pub returns-in-Some-serve-default-clause-serve : goal.returns-in-Some-serve-default-clause-serve
+returns-in-Some-serve-default-clause-serve c = λ s gives.
+    let found = found_of c.in-Some-serve-default.serve.now in
+    rw (← gives.5) (c.serve_job.ensures gives.0 (serve_texts c.args.matches.now found s c.in-Some-serve-default.ensures.rows gives) gives.4)

@@ -1,9 +1,9 @@
 use Rattle.std.proofs.Common.{◌≡◌, Err, ap, subst, List, []}
 use Rattle.clap.specs.Words.{App, HasMatchesOf, HasKind, Text, app_of, fault_of, is_simple_and_free, kind_of}
 use Rattle.clap.specs.Walk.{texts}
-use Rattle.pay_words.specs.Asked.{asked}
+use Rattle.pay_words.specs.Asked.{asked, words_ask}
 use Rattle.pay_words.specs.CommandLine.{farebox_app}
-use Rattle.pay_words.proofs.Results.{job_read, matched, refused_as, result_check, result_in_range, result_job, result_no_fault, result_run, result_statement, result_words}
+use Rattle.pay_words.proofs.Results.{job_read, matched, refused_as, result_check, result_in_range, result_job, result_refused, result_run, result_serve, result_statement, result_words}
 use Rattle.pay_words.proofs.words.read_words.Goals as goal
 
 pub returns-in-Ok-clause-job : goal.returns-in-Ok-clause-job
@@ -12,7 +12,7 @@ returns-in-Ok-clause-job c =
     let app_is : app_of c.in_ok-command.command ≡ farebox_app = c.in_ok-command.ensures in
     let none : fault_of farebox_app ws ≡ [] = subst (λ (a : App). fault_of a ws ≡ []) app_is (c.in-Ok.ensures.kinds (ap is_simple_and_free app_is)) in
     let gives = matched ws c.in-Ok.matches none (subst (λ (a : App). HasMatchesOf a ws c.in-Ok.matches) app_is c.in-Ok.ensures.matches) in
-    result_job c.job_of.result (asked ws) (job_read c.in-Ok.matches (asked ws) c.job_of.result gives c.job_of.ensures.run c.job_of.ensures.check c.job_of.ensures.statement)
+    result_job c.job_of.result (asked ws) (job_read c.in-Ok.matches (words_ask ws) c.job_of.result gives c.job_of.ensures.run c.job_of.ensures.check c.job_of.ensures.statement c.job_of.ensures.serve)
 
 pub returns-in-Ok-clause-refused : goal.returns-in-Ok-clause-refused
 returns-in-Ok-clause-refused c =
@@ -20,7 +20,7 @@ returns-in-Ok-clause-refused c =
     let app_is : app_of c.in_ok-command.command ≡ farebox_app = c.in_ok-command.ensures in
     let none : fault_of farebox_app ws ≡ [] = subst (λ (a : App). fault_of a ws ≡ []) app_is (c.in-Ok.ensures.kinds (ap is_simple_and_free app_is)) in
     let gives = matched ws c.in-Ok.matches none (subst (λ (a : App). HasMatchesOf a ws c.in-Ok.matches) app_is c.in-Ok.ensures.matches) in
-    result_no_fault c.job_of.result (asked ws) _ (job_read c.in-Ok.matches (asked ws) c.job_of.result gives c.job_of.ensures.run c.job_of.ensures.check c.job_of.ensures.statement)
+    result_refused c.job_of.result (asked ws) (job_read c.in-Ok.matches (words_ask ws) c.job_of.result gives c.job_of.ensures.run c.job_of.ensures.check c.job_of.ensures.statement c.job_of.ensures.serve)
 
 pub returns-in-Ok-clause-in_range : goal.returns-in-Ok-clause-in_range
 returns-in-Ok-clause-in_range c = result_in_range c.job_of.result (texts c.args.words.now) (returns-in-Ok-clause-job c)
@@ -52,3 +52,9 @@ returns-in-Err-clause-check c = result_check (Err c.fault_of.result) (texts c.ar
 
 pub returns-in-Err-clause-statement : goal.returns-in-Err-clause-statement
 returns-in-Err-clause-statement c = result_statement (Err c.fault_of.result) (texts c.args.words.now) tt (returns-in-Err-clause-refused c)
+
+pub returns-in-Ok-clause-serve : goal.returns-in-Ok-clause-serve
+returns-in-Ok-clause-serve c = result_serve c.job_of.result (texts c.args.words.now) (returns-in-Ok-clause-job c) (returns-in-Ok-clause-refused c)
+
+pub returns-in-Err-clause-serve : goal.returns-in-Err-clause-serve
+returns-in-Err-clause-serve c = result_serve (Err c.fault_of.result) (texts c.args.words.now) tt (returns-in-Err-clause-refused c)
