@@ -1,7 +1,10 @@
 """The words of the program: help, the version, words that are taken and words that are refused."""
 
-from running import CHECK, FARES, LONDON, MISSING, ROOT, RUN, STATE, USAGE, answers, boardings, read, run, test, written
+from running import CHECK, FARES, LONDON, MISSING, ROOT, RUN, STATE, USAGE, answers, boardings, fault, read, run, test, written
 from themes.statements import A_BOARDING, rows_of_statement
+
+OPTIONS = ["--port", "9000", "--lanes", "2", "--shards", "4", "--sessions", "1", "--close", "19730"]
+SERVE = ["serve", FARES, LONDON, *OPTIONS]
 
 # The exact texts of help and of the version.
 STATUSES = b"""
@@ -30,17 +33,23 @@ Commands:
   check      Read a fare file, and print how many places, bands, interchanges and holidays it has,
              or its first fault
   statement  Read taps and corrections from standard input, and print the statement of an account's week as CSV
+  serve      Read taps and corrections from the connections of several lanes, and then close a day
   help       Print this message or the help of the given subcommand(s)
 
 Options:
   -h, --help     Print help
   -V, --version  Print version
 
-Words of run (FARES ZONE), of check (FARES) and of statement (FARES ZONE ACCOUNT DAY):
+Words of run (FARES ZONE), of check (FARES), of statement (FARES ZONE ACCOUNT DAY) and of serve
+(FARES ZONE --port P --lanes L --shards N --sessions K --close DAY, its options in any order):
   FARES    the fare file, a TOML document
   ZONE     the time zone, a POSIX rule text (a name such as Europe/London is none)
   ACCOUNT  the account, a number from 1 to 4294967295
-  DAY      a service day of the week, counted from 1970-01-01
+  DAY      a service day, counted from 1970-01-01: of the week, or the one that is closed
+  P        the port of the first lane; each further lane has the next port
+  L        how many lanes there are, from 1 to 15
+  N        how many shards the accounts are spread over, from 1 to 16
+  K        how many connections each lane serves, from 1 to 1000
 """ + RUN_EXAMPLE + STATUSES + RUN_FORMATS
 RUN_HELP = b"""\
 Read taps, corrections and closes from standard input, and reply to each
@@ -97,6 +106,36 @@ printed; at the end of input the journeys of its week are, a row for each.
 """ + STATUSES + b"""
 The lines, the fare file, the statement and the faults are described in docs/FORMATS.md.
 """
+SERVE_HELP = b"""\
+Read taps and corrections from the connections of several lanes, and then close a day
+
+Usage: farebox serve --port <P> --lanes <L> --shards <N> --sessions <K> --close <DAY> <FARES> <ZONE>
+
+Arguments:
+  <FARES>  The fare file, a TOML document
+  <ZONE>   The time zone, a POSIX rule text such as GMT0BST,M3.5.0/1,M10.5.0
+           (a name such as Europe/London is none)
+
+Options:
+      --port <P>      The port of the first lane, from 1 to 65535. Each further lane has the next
+                      port, and none is above 65535
+      --lanes <L>     How many lanes there are, from 1 to 15
+      --shards <N>    How many shards the accounts are spread over, from 1 to 16
+      --sessions <K>  How many connections each lane serves, from 1 to 1000
+      --close <DAY>   The service day that is closed at the end, counted from 1970-01-01: a number
+                      from 4 to 50000
+  -h, --help          Print help
+
+Lane l, from 0 to L - 1, listens on port P + l of 127.0.0.1 and serves K connections, one after
+another, in a thread of its own. On a connection lines come in, and the reply to each goes out; a
+CLOSE is refused by 34. The accounts are spread over N shards, each in a thread of its own. When
+all connections of all lanes have ended, DAY is closed, the lines of that close are printed, and
+the program ends.
+
+Example: two lanes, on ports 9000 and 9001, serve a connection each, and day 19730 is closed.
+  $ farebox serve examples/bus.toml GMT0BST,M3.5.0/1,M10.5.0 --port 9000 --lanes 2 --shards 4 \\
+      --sessions 1 --close 19730
+""" + STATUSES + RUN_FORMATS
 VERSION = b"farebox 0.1.0\n"
 
 
@@ -111,6 +150,10 @@ def help_texts(_):
         (STATEMENT_HELP, (
             ["statement", "--help"], ["statement", "-h"], ["help", "statement"], ["statement", MISSING, "no zone", "--help"],
             ["statement", "-h", "no", "words", "of", "it"], [*STATE, "-h"],
+        )),
+        (SERVE_HELP, (
+            ["serve", "--help"], ["serve", "-h"], ["help", "serve"], ["serve", MISSING, "--help"], [*SERVE, "-h"],
+            ["serve", "--lanes", "15", "--help", "--lanes", "16"], ["serve", "--port=1", "-h"],
         )),
     )
     for text, each in asked:
@@ -218,3 +261,65 @@ def words_of_statements(folder):
         ["statement", "-", *STATE[2:]], ["statement", "--", "-fares", *STATE[2:]],
     ):
         yield f"the words {given}", run(given, lines, cwd=folder), rows_of_statement(A_BOARDING)
+
+
+# Options of `serve` that are none, lack their value or stand twice, and words that are too few or too many.
+REFUSED_BY_SERVE = (
+    ["serve"], SERVE[:2], SERVE[:3], ["serve", *OPTIONS], ["serve", FARES, *OPTIONS], [*SERVE, "more"], [*SERVE, "--", "more"], ["--", *SERVE],
+    ["SERVE", *SERVE[1:]], ["run", FARES, LONDON, *OPTIONS], [*STATE, *OPTIONS], ["check", FARES, "--port", "9000"],
+    *([*SERVE[:3], *OPTIONS[:at], *OPTIONS[at + 2:]] for at in range(0, len(OPTIONS), 2)),
+    *([*SERVE[:3], *OPTIONS[:at], *OPTIONS[at + 1:]] for at in range(len(OPTIONS))),
+    *([*SERVE, *OPTIONS[at:at + 2]] for at in range(0, len(OPTIONS), 2)), [*SERVE, "--port=9000"], [*SERVE, "--lanes"],
+    [*SERVE[:3], "--", *OPTIONS], [*SERVE, "--fly"], [*SERVE, "--fly", "1"], [*SERVE, "-p", "9000"], [*SERVE, "--version"], [*SERVE, "-V"],
+    ["serve", FARES, "-UTC0", *OPTIONS], [*SERVE[:3], "--Port", *OPTIONS[1:]], [*SERVE[:3], "-port", *OPTIONS[1:]], [*SERVE[:3], "--port:9000", *OPTIONS[2:]],
+    [*SERVE, b"\xff"], [*SERVE[:3], "--port", b"9000\xff", *OPTIONS[2:]],
+    # A number that is refused, and an option without one, come before a call for help behind them.
+    ["serve", "--port", "0", "--help"], ["serve", "--port", "--help"], ["serve", "--lanes", "1", "--lanes", "1", "--help"],
+)
+# Numbers of each option outside its range, and in it. Ports are given with one lane.
+NUMBERS = (
+    ("port", ("0", "65536", "74536", "4294967297"), ("1", "65535", "+9000", "009000")), ("lanes", ("0", "16", "257"), ("1", "15", "+01")),
+    ("shards", ("0", "17", "257"), ("1", "16")), ("sessions", ("0", "1001", "4294967297"), ("1", "1000")),
+    ("close", ("0", "3", "50001", "4294987026"), ("4", "50000")),
+)
+# A port, a number of lanes, and whether each of these has a port.
+PORTS = (("65535", "1", True), ("65535", "2", False), ("65534", "2", True), ("65521", "15", True), ("65522", "15", False), ("65535", "15", False))
+NO_FARES = fault("cannot read fares")
+
+
+def with_numbers(between=" ", **numbers):
+    """The words of `serve` without a fare file, and other numbers for some of its options."""
+    given = {name[2:]: number for name, number in zip(OPTIONS[::2], OPTIONS[1::2])} | numbers
+    options = ([f"--{name}", number] if between == " " else [f"--{name}={number}"] for name, number in given.items())
+    return ["serve", MISSING, LONDON, *(word for option in options for word in option)]
+
+
+@test
+def words_of_serve(_):
+    """Options of lanes: what is none, their ranges, and the ports of lanes."""
+    for given in REFUSED_BY_SERVE:
+        yield f"the words {given}", run(given), USAGE
+    for name, refused, taken in NUMBERS:
+        for between in (" ", "="):
+            for number in (*NO_NUMBERS, *refused):
+                yield f"--{name}{between}{number!r}", run(with_numbers(between, **{"lanes": "1", name: number})), USAGE
+            for number in taken:
+                yield f"--{name}{between}{number!r}", run(with_numbers(between, **{"lanes": "1", name: number})), NO_FARES
+    for port, lanes, is_taken in PORTS:
+        yield f"{lanes} lanes from port {port} on", run(with_numbers(port=port, lanes=lanes)), NO_FARES if is_taken else USAGE
+
+
+@test
+def order_of_options(_):
+    """Options of lanes before, between and behind the words, each with its value behind it or behind an equals sign."""
+    pairs = [OPTIONS[at:at + 2] for at in range(0, len(OPTIONS), 2)]
+    joined = [f"{name}={number}" for name, number in pairs]
+    backwards = [word for pair in reversed(pairs) for word in pair]
+    for given in (
+        ["serve", MISSING, LONDON, *OPTIONS], ["serve", *OPTIONS, MISSING, LONDON], ["serve", *OPTIONS[:4], MISSING, *OPTIONS[4:], LONDON],
+        ["serve", MISSING, *OPTIONS, LONDON], ["serve", MISSING, LONDON, *backwards], ["serve", *joined, MISSING, LONDON],
+        ["serve", MISSING, *joined[:3], LONDON, *joined[3:]], ["serve", *joined[:2], *OPTIONS[4:], MISSING, LONDON],
+        ["serve", *OPTIONS, "--", MISSING, LONDON], ["serve", MISSING, *OPTIONS, "--", LONDON], ["serve", MISSING, LONDON, *OPTIONS, "--"],
+        ["serve", *OPTIONS, "--", "--port", LONDON], ["serve", "-", LONDON, *OPTIONS],
+    ):
+        yield f"the words {given}", run(given), NO_FARES
