@@ -1,0 +1,3 @@
+pub mod Closes
+pub mod Lanes
+pub mod Words

@@ -1,0 +1,34 @@
+//! Whether the lanes begin.
+
+use crate::fault::ServeFault;
+use std::sync::{OnceLock, Wait};
+
+/// Whether the lanes begin to serve, once it is known: they do where each has a thread, and else none does, for the first fault.
+#[derive(Drop)]
+pub struct Begins(OnceLock<Option<ServeFault>>);
+
+impl Begins {
+    /// It is not known yet.
+    pub fn new() -> Begins {
+        Begins(OnceLock::new())
+    }
+
+    /// A lane has no thread.
+    pub fn refuse(&self, fault: ServeFault) {
+        let _ = self.0.try_set(Some(fault));
+    }
+
+    /// All lanes have been tried. Why one has no thread, if it is so.
+    pub fn tell(&self) -> Option<ServeFault> {
+        let _ = self.0.try_set(None);
+        match self.0.get() {
+            Some(told) => *told,
+            None => None,
+        }
+    }
+
+    /// Waits until it is known.
+    pub fn wait<R: Wait>(&self, rt: &R) -> bool {
+        self.0.wait(rt).is_none()
+    }
+}

@@ -1,0 +1,127 @@
+//! The close of a day over one lane, once all others have ended.
+ghost use Rattle.std.specs.Prelude.{◌≡◌, ◌≤◌, ◌<◌, length, IfErr, vec_capacity};
+ghost use Rattle.sqlite.specs.Held.{state};
+ghost use Rattle.pay_day.specs.declared.limits.TheConstants.{FIRST_DAY, LAST_DAY};
+ghost use Rattle.pay_shard.specs.Words.{AreKept};
+ghost use Rattle.pay_lanes.specs.Words.{IsSameLane};
+ghost use Rattle.pay_serve.specs.Closes.{IsClosedOver, IsClosedThrough, IsTold, IsDayClosed};
+ghost use Rattle.pay_serve.specs.Lanes.{HasShards, AreAllWith};
+ghost use Rattle.pay_serve.specs.declared.fault.ServeFault.TheVariants.{Memory};
+
+use crate::fault::ServeFault;
+use pay_account::Fares;
+use pay_close::LedgerTill;
+use pay_ledger::Ledger;
+use pay_office::{Gate, Lane, LaneDesk, Office, ShutFault, shut};
+use pay_session::Till;
+use pay_shard::Desk;
+use pay_wire::{Closed, Reply, WriteFault, send};
+use sqlite::Alter;
+use std::alloc::Global;
+use std::io::Write;
+use std::sync::Wait;
+use std::thread::Threads;
+
+/// Closes a service day, counted from 1970-01-01, into a ledger over a desk, and writes what came of it. Whether it was closed; if
+/// not, its refusal is written.
+pub fn close_over<D: Desk, S: Alter, W: Write>(
+    alloc: Global,
+    desk: &mut D,
+    ledger: &mut Ledger<S>,
+    day: u32,
+    writer: &mut W,
+) -> Result<bool, WriteFault>
+    requires { (FIRST_DAY ≤ day) × (day ≤ LAST_DAY) }
+    ensures closed { IsClosedOver D.parts day (desk.old, state S.Store ledger.old, W.contents writer.old)
+        (desk.new, state S.Store ledger.new, W.contents writer.new) result }
+    ensures transcript { AreKept (D.parts desk.old).transcript (D.parts desk.new).transcript }
+    ensures same_desk { (D.parts desk.new).standing ≡ (D.parts desk.old).standing }
+{
+    let mut till = LedgerTill::new(alloc, ledger);
+    match till.close(desk, day) {
+        Ok(postings) => {
+            send(writer, &Reply::Closed(Closed { day, postings }))?;
+            Ok(true)
+        }
+        Err(why) => {
+            send(writer, &Reply::No(why))?;
+            Ok(false)
+        }
+    }
+}
+
+/// The same over a desk that begins with a lane. The lane is given back.
+fn close_through<R: Wait + Copy, S: Alter, W: Write>(
+    rt: R,
+    alloc: Global,
+    lane: Lane,
+    ledger: &mut Ledger<S>,
+    day: u32,
+    writer: &mut W,
+) -> (Result<bool, WriteFault>, Lane)
+    requires day { (FIRST_DAY ≤ day) × (day ≤ LAST_DAY) }
+    requires shards { HasShards lane }
+    ensures closed { IsClosedThrough day (lane, state S.Store ledger.old, W.contents writer.old)
+        (result.1, state S.Store ledger.new, W.contents writer.new) result.0 }
+    ensures same { IsSameLane lane result.1 }
+{
+    let mut desk = LaneDesk::new(rt, alloc, lane);
+    let closed = close_over(alloc, &mut desk, ledger, day, writer);
+    (closed, desk.into_lane())
+}
+
+/// Ends the threads of an office, all of whose lanes are back.
+pub(crate) fn end<F: Fares, G: Gate, R: Threads + Wait>(
+    rt: &R,
+    alloc: Global,
+    office: Office<F, G>,
+    lanes: Vec<Lane>,
+    last: Lane,
+) -> Result<(), ServeFault>
+    requires room { length lanes.items < vec_capacity lanes }
+    requires all { AreAllWith office lanes.items last }
+    ensures { IfErr result (λ fault. fault ≡ Memory) }
+{
+    let mut lanes = lanes;
+    lanes.push_reserved(last);
+    match shut(rt, alloc, office, lanes) {
+        Ok(_) => Ok(()),
+        Err((ShutFault::LaneMissing, ..)) => unreachable!(),
+        Err((ShutFault::Memory, ..)) => Err(ServeFault::Memory),
+    }
+}
+
+/// What is told of a close, and of the end of the office behind it.
+fn told(closed: Result<bool, WriteFault>, ended: Result<(), ServeFault>) -> Result<bool, ServeFault>
+    requires { IfErr ended (λ fault. fault ≡ Memory) }
+    ensures { IsTold closed result }
+{
+    ended?;
+    Ok(closed?)
+}
+
+/// Closes a service day, counted from 1970-01-01, into a ledger over the last lane of an office, whose other lanes are back; writes
+/// what came of it; and ends the threads of the office. Whether the day was closed; if not, its refusal is written.
+pub fn close_day<F: Fares, G: Gate, R: Threads + Wait + Copy, S: Alter, W: Write>(
+    rt: R,
+    alloc: Global,
+    office: Office<F, G>,
+    lanes: Vec<Lane>,
+    last: Lane,
+    ledger: &mut Ledger<S>,
+    day: u32,
+    writer: &mut W,
+) -> Result<bool, ServeFault>
+    requires day { (FIRST_DAY ≤ day) × (day ≤ LAST_DAY) }
+    requires shards { HasShards last }
+    requires room { length lanes.items < vec_capacity lanes }
+    requires all { AreAllWith office lanes.items last }
+    ensures { IsDayClosed day (last, state S.Store ledger.old, W.contents writer.old) (state S.Store ledger.new, W.contents writer.new) result }
+{
+    pay_lanes::laws::still_together();
+    pay_lanes::laws::same_lanes();
+    pay_lanes::laws::same_workers();
+    let (closed, last) = close_through(rt, alloc, last, ledger, day, writer);
+    let ended = end(&rt, alloc, office, lanes, last);
+    told(closed, ended)
+}

@@ -1,0 +1,96 @@
+//! The connections of a lane, one after another.
+ghost use Rattle.std.specs.Prelude.{◌≡◌};
+ghost use Rattle.pay_lanes.specs.Words.{IsSameLane};
+ghost use Rattle.pay_serve.specs.Lanes.{HasShards};
+
+use crate::limits::{LAST_BYTES, LAST_READS, LAST_WAIT};
+use jiff::tz::TimeZone;
+use pay_office::{Lane, LaneDesk};
+use pay_session::{NoTill, session};
+use pay_shard::Desk;
+use std::alloc::Global;
+use std::io::{BufReader, BufWriter, Read};
+use std::net::{Shutdown, TcpListener, TcpStream};
+use std::sync::Wait;
+use std::time::Duration;
+
+/// Answers the lines of a connection over a desk, until it ends or fails. There it closes no day.
+fn answer_lines<D: Desk>(alloc: Global, stream: &TcpStream, zone: &TimeZone<'_>, desk: &mut D)
+    ensures { (D.parts desk.new).standing ≡ (D.parts desk.old).standing }
+{
+    let Ok(mut reader) = BufReader::new(alloc, stream) else {
+        return;
+    };
+    let Ok(mut writer) = BufWriter::new(alloc, stream) else {
+        return;
+    };
+    let _ = session(&mut reader, &mut writer, zone, desk, &mut NoTill);
+}
+
+/// Takes what a peer still sends, as far as it comes soon: bytes that nobody has taken when a stream is dropped make the system
+/// break the connection, and the peer may lose replies by it.
+fn take_rest(mut stream: &TcpStream) {
+    let longest = Duration::from_millis(LAST_WAIT);
+    if stream.set_read_timeout(Some(longest)).is_err() {
+        return;
+    }
+    let mut taken = [0u8; LAST_BYTES];
+    for _ in 0..LAST_READS {
+        match stream.read(&mut taken) {
+            Ok(0) | Err(_) => return,
+            Ok(_) => {}
+        }
+    }
+}
+
+/// Serves the next connection of a listener over a desk. One that is not to be had counts as served.
+fn serve_connection<D: Desk>(
+    alloc: Global,
+    listener: &TcpListener,
+    zone: &TimeZone<'_>,
+    desk: &mut D,
+)
+    ensures { (D.parts desk.new).standing ≡ (D.parts desk.old).standing }
+{
+    let Ok((stream, _)) = listener.accept() else {
+        return;
+    };
+    // A reply is not held back for the next one.
+    let _ = stream.set_nodelay(true);
+    answer_lines(alloc, &stream, zone, desk);
+    if stream.shutdown(Shutdown::Write).is_ok() {
+        take_rest(&stream);
+    }
+}
+
+/// Serves so many connections of a listener, one after another, over a desk.
+pub fn serve_connections<D: Desk>(
+    alloc: Global,
+    listener: &TcpListener,
+    sessions: u32,
+    zone: &TimeZone<'_>,
+    desk: &mut D,
+)
+    ensures { (D.parts desk.new).standing ≡ (D.parts desk.old).standing }
+{
+    for _ in 0..sessions {
+        serve_connection(alloc, listener, zone, desk);
+    }
+}
+
+/// Serves so many connections of a listener, one after another, over a lane.
+pub fn serve_lane<R: Wait + Copy>(
+    rt: R,
+    alloc: Global,
+    listener: &TcpListener,
+    sessions: u32,
+    zone: &TimeZone<'_>,
+    lane: Lane,
+) -> Lane
+    requires { HasShards lane }
+    ensures { IsSameLane lane result }
+{
+    let mut desk = LaneDesk::new(rt, alloc, lane);
+    serve_connections(alloc, listener, sessions, zone, &mut desk);
+    desk.into_lane()
+}

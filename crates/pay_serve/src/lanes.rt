@@ -1,0 +1,153 @@
+//! The lanes, each in a thread of its own.
+ghost use Rattle.std.specs.Prelude.{◌≡◌, ◌≤◌, [], All, length, vec_capacity};
+ghost use Rattle.std.specs.List.{AllZip};
+ghost use Rattle.pay_lanes.specs.Words.{IsSameLane};
+ghost use Rattle.pay_serve.specs.Lanes.{HasShards};
+
+use crate::begins::Begins;
+use crate::connection::serve_lane;
+use crate::fault::ServeFault;
+use jiff::tz::TimeZone;
+use pay_office::Lane;
+use std::alloc::Global;
+use std::marker::Model;
+use std::net::TcpListener;
+use std::snapshot::Snapshot;
+use std::sync::{Arc, Wait};
+use std::thread;
+use std::thread::{Promise, PromisedHandle, Threads};
+
+/// That a lane goes on as the same end of the same queues.
+#[derive(Drop)]
+pub struct SameLane(Snapshot<Lane>);
+
+impl Promise<Lane> for SameLane {
+    ghost kept_by = { λ before after. IsSameLane before.0.value after };
+}
+
+/// What all lanes serve by.
+#[derive(Clone, Copy)]
+pub struct Service<R> {
+    pub rt: R,
+    pub alloc: Global,
+    pub sessions: u32,
+    pub zone: TimeZone<'static>,
+}
+
+/// A lane for which a thread was asked: it is there, or still here. In a contract it is the lane as it was before.
+#[derive(Drop)]
+pub struct Tried {
+    began: Snapshot<Lane>,
+    lane: Result<PromisedHandle<Lane, SameLane>, Lane>,
+}
+
+impl Model for Tried {
+    ghost use Rattle.std.specs.Prelude.{◌≡◌, IfOk, IfErr};
+    ghost use Rattle.pay_lanes.specs.Words.{LaneParts, lane_code, IsSameLane};
+
+    ghost Value = { LaneParts };
+
+    ghost coded = { lane_code };
+
+    ghost view = { λ t. t.began.value };
+
+    ghost invariant = { λ t. IfOk t.lane (λ there. there.promise.0.value ≡ t.began.value)
+        × IfErr t.lane (λ here. IsSameLane t.began.value here) };
+}
+
+/// Waits until it is known whether the lanes begin, and serves the connections of a listener over a lane if so.
+fn serve_if_all_begin<R: Wait + Copy>(
+    service: &Service<R>,
+    begins: &Begins,
+    listener: &TcpListener,
+    lane: Lane,
+) -> Lane
+    requires { HasShards lane }
+    ensures { IsSameLane lane result }
+{
+    pay_lanes::laws::same_lanes();
+    if !begins.wait(&service.rt) {
+        return lane;
+    }
+    let (rt, alloc) = (service.rt, service.alloc);
+    serve_lane(rt, alloc, listener, service.sessions, &service.zone, lane)
+}
+
+/// Asks for a thread for a lane, which waits until it is known whether the lanes begin.
+fn begin<R>(service: Service<R>, begins: &Arc<Begins>, listener: TcpListener, lane: Lane) -> Tried
+where
+    R: Threads + Wait + Copy + Send + 'static,
+    requires { HasShards lane }
+    ensures { result ≡ lane }
+{
+    pay_lanes::laws::same_lanes();
+    let began = Snapshot::of(&lane);
+    let Ok(told) = Arc::try_clone(begins) else {
+        begins.refuse(ServeFault::Memory);
+        return Tried {
+            began,
+            lane: Err(lane),
+        };
+    };
+    let same = SameLane(Snapshot::of(&lane));
+    let serves = move || serve_if_all_begin(&service, &told, &listener, lane);
+    match thread::spawn_with(&service.rt, same, serves) {
+        Ok(there) => Tried {
+            began,
+            lane: Ok(there),
+        },
+        Err(refused) => {
+            begins.refuse(ServeFault::NoThread);
+            let serves = refused.value;
+            Tried {
+                began,
+                lane: Err(serves()),
+            }
+        }
+    }
+}
+
+/// Asks for a thread for each lane, with the listener beside it, and puts the lanes into a list that has room for them.
+pub fn begin_all<R>(
+    service: Service<R>,
+    begins: &Arc<Begins>,
+    listeners: Vec<TcpListener>,
+    lanes: Vec<Lane>,
+    tried: &mut Vec<Tried>,
+)
+where
+    R: Threads + Wait + Copy + Send + 'static,
+    requires count { length listeners.items ≡ length lanes.items }
+    requires shards { All HasShards lanes.items }
+    requires room { length lanes.items ≤ vec_capacity tried.old }
+    requires empty { tried.old.items ≡ [] }
+    ensures { tried.new.items ≡ lanes.items }
+{
+    for (listener, lane) in listeners.into_iter().zip(lanes) {
+        tried.push_reserved(begin(service, begins, listener, lane));
+    }
+}
+
+impl Tried {
+    /// The lane, once its thread has ended.
+    fn end<R: Threads>(self, rt: &R) -> Lane
+        ensures { IsSameLane self result }
+    {
+        match self.lane {
+            Ok(there) => there.join(rt),
+            Err(here) => here,
+        }
+    }
+}
+
+/// Waits until the threads of all lanes have ended, and puts the lanes into a list that has room for them.
+pub fn end_all<R: Threads>(rt: &R, tried: Vec<Tried>, lanes: &mut Vec<Lane>)
+    requires room { length tried.items ≤ vec_capacity lanes.old }
+    requires empty { lanes.old.items ≡ [] }
+    ensures lanes { AllZip IsSameLane tried.items lanes.new.items }
+    ensures room { vec_capacity lanes.new ≡ vec_capacity lanes.old }
+{
+    for one in tried {
+        lanes.push_reserved(one.end(rt));
+    }
+}

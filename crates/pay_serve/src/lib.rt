@@ -1,0 +1,20 @@
+//! Serves sessions at sockets: [`listen`] takes a port for each lane, and [`serve`] answers the connections of each lane in a thread of
+//! its own, over an office of several shards, until all have ended. [`close_day`] then closes a day, and shuts the office.
+#![tactic(auto)]
+
+mod begins;
+mod closing;
+mod connection;
+mod fault;
+mod lanes;
+pub mod limits;
+mod listening;
+mod plan;
+mod service;
+
+pub use closing::{close_day, close_over};
+pub use connection::{serve_connections, serve_lane};
+pub use fault::ServeFault;
+pub use listening::listen;
+pub use plan::Plan;
+pub use service::serve;

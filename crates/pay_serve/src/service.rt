@@ -1,0 +1,97 @@
+//! The whole service.
+ghost use Rattle.std.specs.Prelude.{◌≡◌, ◌≤◌, All, length, IfOk};
+ghost use Rattle.sqlite.specs.Held.{state};
+ghost use Rattle.pay_day.specs.declared.limits.TheConstants.{FIRST_DAY, LAST_DAY};
+ghost use Rattle.pay_serve.specs.Closes.{IsServed};
+ghost use Rattle.pay_serve.specs.Lanes.{HasShards, AreAllWith};
+
+use crate::begins::Begins;
+use crate::closing::{close_day, end};
+use crate::fault::ServeFault;
+use crate::lanes::{Service, begin_all, end_all};
+use crate::plan::Plan;
+use jiff::tz::TimeZone;
+use pay_book::Book;
+use pay_ledger::Ledger;
+use pay_office::{Lane, Office, OpenGate, start};
+use pay_tables::Tables;
+use sqlite::Alter;
+use std::alloc::{AllocError, Global};
+use std::io::Write;
+use std::net::TcpListener;
+use std::sync::{Arc, Wait};
+use std::thread::Threads;
+
+/// So many open gates.
+fn open_gates(alloc: Global, count: u8) -> Result<Vec<OpenGate>, AllocError>
+    ensures { IfOk result (λ gates. length gates.items ≡ count) }
+{
+    let mut gates = Vec::new(alloc);
+    for _ in 0..count {
+        gates.push(OpenGate)?;
+    }
+    Ok(gates)
+}
+
+/// Begins the shards of a plan, and opens its lanes and one more to them.
+fn open_office<R>(
+    rt: R,
+    alloc: Global,
+    tables: Arc<Tables>,
+    plan: &Plan,
+) -> Result<(Office<Book, OpenGate>, Vec<Lane>, Lane), ServeFault>
+where
+    R: Threads + Wait + Copy + Send + 'static,
+    ensures count { IfOk result (λ opened. length opened.1.items ≡ plan.now.lanes) }
+    ensures shards { IfOk result (λ opened. All HasShards opened.1.items × HasShards opened.2) }
+    ensures all { IfOk result (λ opened. AreAllWith opened.0 opened.1.items opened.2) }
+{
+    let gates = open_gates(alloc, plan.shards)?;
+    let lanes = plan.lanes.saturating_add(1);
+    let (office, mut lanes) = start(rt, alloc, tables, plan.shards, lanes, gates)?;
+    let Some(last) = lanes.pop() else {
+        unreachable!()
+    };
+    Ok((office, lanes, last))
+}
+
+/// Serves the connections of a plan's lanes, each lane's at the listener beside it and in a thread of its own, one after another,
+/// until all have ended. Then it closes the plan's day into a ledger over one further lane, and writes what came of it. Whether the
+/// day was closed; if not, its refusal is written. Where a lane gets no thread, no connection is served, and the day is not closed.
+pub fn serve<R, S: Alter, W: Write>(
+    rt: R,
+    alloc: Global,
+    listeners: Vec<TcpListener>,
+    tables: Arc<Tables>,
+    zone: TimeZone<'static>,
+    plan: &Plan,
+    ledger: &mut Ledger<S>,
+    writer: &mut W,
+) -> Result<bool, ServeFault>
+where
+    R: Threads + Wait + Copy + Send + 'static,
+    requires day { (FIRST_DAY ≤ plan.now.close) × (plan.now.close ≤ LAST_DAY) }
+    requires listeners { length listeners.items ≡ plan.now.lanes }
+    ensures { IsServed plan.now.close (state S.Store ledger.old, W.contents writer.old) (state S.Store ledger.new, W.contents writer.new) result }
+{
+    pay_lanes::laws::still_together();
+    pay_lanes::laws::same_workers();
+    let begins = Arc::new(alloc, Begins::new()).map_err(AllocError::from)?;
+    let mut tried = Vec::with_capacity(alloc, plan.lanes as usize)?;
+    let mut back = Vec::with_capacity(alloc, plan.lanes as usize + 1)?;
+    let (office, lanes, last) = open_office(rt, alloc, tables, plan)?;
+    let service = Service {
+        rt,
+        alloc,
+        sessions: plan.sessions,
+        zone,
+    };
+    begin_all(service, &begins, listeners, lanes, &mut tried);
+    let refused = begins.tell();
+    end_all(&rt, tried, &mut back);
+    if let Some(fault) = refused {
+        end(&rt, alloc, office, back, last)?;
+        return Err(fault);
+    }
+    close_day(rt, alloc, office, back, last, ledger, plan.close, writer)
+}
