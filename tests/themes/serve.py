@@ -1,0 +1,396 @@
+"""Sessions at sockets: lanes and shards at once, peers that are hostile or go, ports and threads that are not to be had."""
+
+import contextlib
+import os
+import random
+import socket
+import struct
+import subprocess
+import threading
+import time
+
+import loads
+import rules
+from running import (
+    FARES, LONDON, MONDAY, SAMPLE, SEVEN, TIME_TO_REPLY, End, answers, boardings, end_of, fault, heard, in_lines, run, started, test,
+)
+
+HOST = "127.0.0.1"
+# Ports below those that the system gives to clients.
+PORTS = range(20_000, 32_000)
+# How many lines a client sends before it waits for replies.
+AHEAD = 64
+
+
+def is_free(port):
+    with socket.socket() as it:
+        it.setsockopt(socket.SOL_SOCKET, socket.SO_REUSEADDR, 1)
+        try:
+            it.bind((HOST, port))
+        except OSError:
+            return False
+        return True
+
+
+def free_ports(count):
+    """The first of so many free ports in a row."""
+    draw = random.SystemRandom()
+    while True:
+        first = draw.choice(PORTS)
+        if all(map(is_free, range(first, first + count))):
+            return first
+
+
+def words_of(port, lanes=1, shards=1, sessions=1, close=MONDAY, fares=FARES):
+    numbers = {"port": port, "lanes": lanes, "shards": shards, "sessions": sessions, "close": close}
+    return ["serve", fares, LONDON, *(word for name, number in numbers.items() for word in (f"--{name}", str(number)))]
+
+
+def listening(port, lanes):
+    """What is said once all ports are taken."""
+    return f"farebox: listening on {HOST}:{port}{f' to {port + lanes - 1}' if lanes > 1 else ''}\n".encode()
+
+
+@contextlib.contextmanager
+def serving(lanes, *plan, **more):
+    """A service that listens, its first port, and what it said."""
+    port = free_ports(lanes)
+    with started(words_of(port, lanes, *plan, **more), stdin=subprocess.DEVNULL) as ran:
+        said = heard(ran.stderr, len(listening(port, lanes)))
+        yield ran, port, said
+
+
+def ended(ran, said):
+    """What a service comes to, with what it said at first."""
+    came = end_of(ran)
+    return came._replace(errors=said + (came.errors or b""))
+
+
+def closed(port, lanes, output):
+    """What a service comes to that closes its day."""
+    return End(0, output, listening(port, lanes))
+
+
+def connected(port):
+    it = socket.create_connection((HOST, port), timeout=TIME_TO_REPLY)
+    it.setsockopt(socket.IPPROTO_TCP, socket.TCP_NODELAY, 1)
+    return it
+
+
+def rest_of(peer):
+    """What a peer hears until the other side ends."""
+    taken = b""
+    while True:
+        more = peer.recv(1 << 16)
+        if not more:
+            return taken
+        taken += more
+
+
+def talk(port, lines):
+    """What is replied to these lines on a connection of their own."""
+    with connected(port) as peer:
+        peer.sendall(lines)
+        return rest_of(peer)
+
+
+def come_and_go(port, count):
+    """So many connections on which nothing is sent. Now and then one waits for its end, so that the system has room for the next."""
+    for number in range(1, count + 1):
+        with connected(port) as peer:
+            if number % 64 == 0 or number == count:
+                peer.shutdown(socket.SHUT_WR)
+                rest_of(peer)
+
+
+def count_replies(lines):
+    """How many replies there are in whole lines; one that shows a day has further lines."""
+    return lines.count(b"\n") - lines.count(b"\nJNY ") - lines.startswith(b"JNY ")
+
+
+def talk_ahead(port, lines):
+    """The replies to these lines and to QUIT, with no more than so many lines unanswered."""
+    lines, sent, replied, taken, cut = [*lines, b"QUIT\n"], 0, 0, [], b""
+    with connected(port) as peer:
+        while replied < len(lines):
+            if sent < len(lines) and sent - replied <= AHEAD // 2:
+                more = lines[sent:replied + AHEAD]
+                peer.sendall(b"".join(more))
+                sent += len(more)
+            more = peer.recv(1 << 16)
+            if not more:
+                break
+            taken.append(more)
+            whole, newline, cut = (cut + more).rpartition(b"\n")
+            replied += count_replies(whole + newline)
+        return b"".join(taken) + rest_of(peer)
+
+
+def side_by_side(calls):
+    """What comes of calls, each in a thread of its own, in their order."""
+    came = [None] * len(calls)
+
+    def into(at, call):
+        came[at] = call()
+
+    threads = [threading.Thread(target=into, args=it) for it in enumerate(calls)]
+    for it in threads:
+        it.start()
+    for it in threads:
+        it.join()
+    return came
+
+
+A_BOARDING = "OK 19730 175 175\n"
+
+
+def boarding(account, seq=1):
+    return f"TAP 1 {seq} {account} {SEVEN} 50 BUS\n"
+
+
+def paid(account, pence=175):
+    return f"PAY {account} {MONDAY} {MONDAY} 1 {pence} {pence} 4={pence}\n"
+
+
+@test
+def two_lanes(_):
+    """Two lanes over two shards, each with one session, and the close at the end, which no session may ask for."""
+    with serving(2, 2, 1) as (ran, port, said):
+        first = talk(port, (boarding(7) + f"CLOSE {MONDAY}\nQUIT\n").encode())
+        second = talk(port + 1, (boarding(8) + "QUIT\n").encode())
+        yield "the first lane", answers(first), answers(f"{A_BOARDING}NO 34 NotHere\nBYE\n".encode())
+        yield "the second lane", answers(second), answers(f"{A_BOARDING}BYE\n".encode())
+        yield "two lanes and their close", ended(ran, said), closed(port, 2, f"{paid(7)}{paid(8)}DONE {MONDAY} 2\n".encode())
+
+
+@test
+def ends_of_sessions(_):
+    """A session ends by QUIT, by the end of input and by a cut line, and the lane serves the next; what stands behind QUIT is dropped."""
+    with serving(1, 1, 4) as (ran, port, said):
+        behind = talk(port, b"QUIT\n" + boarding(7).encode() * 20_000)
+        yield "QUIT, and much behind it", answers(behind), answers(b"BYE\n")
+        for name, lines, replies in (
+            ("no line", b"", b""),
+            ("a line, and the end of input", boarding(7).encode(), A_BOARDING.encode()),
+            ("a cut line, and the end of input", boarding(7).encode()[:-1], b"NO 50 BadLine\n"),
+        ):
+            with connected(port) as peer:
+                peer.sendall(lines)
+                peer.shutdown(socket.SHUT_WR)
+                yield name, answers(rest_of(peer)), answers(replies)
+        yield "four sessions and their close", ended(ran, said), closed(port, 1, f"{paid(7)}DONE {MONDAY} 1\n".encode())
+
+
+ACCOUNTS, LANES, SHARDS, LINES = 300, 4, 4, 12_000
+WEEK_DAYS = range(MONDAY, MONDAY + 7)
+
+
+def drawn_commands(draw):
+    """Taps and corrections of accounts in any order, some of them twice, with lines that ask for a day or for what is due among them."""
+    commands = loads.corrected_week(draw, ACCOUNTS)
+    commands += draw.sample(commands, len(commands) // 10)
+    lines = [rules.line(it) for it in commands]
+    while len(lines) < LINES:
+        account, day = draw.randint(1, ACCOUNTS), draw.choice(WEEK_DAYS)
+        lines.append(draw.choice((f"SHOW {account} {day}\n", f"DUE {account} {day}\n")))
+    draw.shuffle(lines)
+    return commands, [it.encode() for it in lines]
+
+
+def questions():
+    """Each account is asked for each day of the week, and for what is due of it in the end."""
+    for account in range(1, ACCOUNTS + 1):
+        for day in WEEK_DAYS:
+            yield f"SHOW {account} {day}\n".encode()
+        yield f"DUE {account} {WEEK_DAYS[-1]}\n".encode()
+
+
+def replies_by_rules(commands):
+    """The replies to the questions by the rules of bench/rules.py, for accounts that have accepted these taps and corrections."""
+    accounts = {account: rules.Account({}, {}) for account in range(1, ACCOUNTS + 1)}
+    for it in commands:
+        account = accounts[it.account]
+        (account.taps if isinstance(it, rules.Tap) else account.fixes)[it.number] = it
+    for account in accounts:
+        for day in WEEK_DAYS:
+            yield from rules.shown(rules.SAMPLE, accounts, account, day)
+        yield rules.reply(rules.SAMPLE, accounts, rules.Due(account, WEEK_DAYS[-1]))
+
+
+def accepted(lines, text):
+    """Of lines beside their replies those that were accepted, and how many replies there are beside that to QUIT."""
+    replies = [it for it in text.splitlines() if not it.startswith(b"JNY ")]
+    return [line for line, reply in zip(lines, replies) if line[:3] in (b"TAP", b"FIX") and not reply.startswith(b"NO ")], len(replies) - 1
+
+
+@test
+def crowd(_):
+    """12,000 lines of 300 accounts, dealt over four lanes and shards, come to what they come to in one session in any order."""
+    commands, lines = drawn_commands(random.Random(23))
+    dealt = [lines[lane::LANES] for lane in range(LANES)]
+    asked = list(questions())
+    with serving(LANES, SHARDS, 2, fares=SAMPLE) as (ran, port, said):
+        replies = side_by_side([lambda lane=lane: talk_ahead(port + lane, dealt[lane]) for lane in range(LANES)])
+        told = talk_ahead(port, asked)
+        for lane in range(1, LANES):
+            come_and_go(port + lane, 1)
+        came = ended(ran, said)
+    kept = []
+    for lane, text in enumerate(replies):
+        taken, count = accepted(dealt[lane], text)
+        kept += taken
+        yield f"replies on lane {lane}", answers(b"%d" % count), answers(b"%d" % len(dealt[lane]))
+    yield "each tap and correction is accepted", answers(b"%d" % len(kept)), answers(b"%d" % len(commands))
+    yield "what is told by the rules", answers(told), answers("".join(replies_by_rules(commands)).encode() + b"BYE\n")
+    one_order = run(["run", SAMPLE, LONDON], b"".join(kept + asked) + b"QUIT\n")
+    yield "what is told after one session", answers(b"\n".join(one_order.output.splitlines()[len(kept):]) + b"\n"), answers(told)
+    yield "how it ends", came._replace(output=came.output.splitlines()[-1]), closed(port, LANES, b"DONE %d %d" % (MONDAY, came.output.count(b"PAY ")))
+
+
+def held_bytes(ran):
+    """The memory that a process holds."""
+    with open(f"/proc/{ran.pid}/status", encoding="ascii", errors="replace") as status:
+        return 1024 * next(int(it.split()[1]) for it in status if it.startswith("VmRSS:"))
+
+
+def break_off(peer):
+    """Breaks a connection, so that what is on its way is lost."""
+    peer.setsockopt(socket.SOL_SOCKET, socket.SO_LINGER, struct.pack("ii", 1, 0))
+    peer.close()
+
+
+def garbage(port):
+    """Bytes that are no lines."""
+    with connected(port) as peer:
+        peer.sendall(random.Random(5).randbytes(1 << 20).replace(b"QUIT", b"quit") + b"\n")
+        peer.shutdown(socket.SHUT_WR)
+        return rest_of(peer)
+
+
+def endless_line(port, count):
+    """So many bytes without a newline, and then a newline."""
+    with connected(port) as peer:
+        for _ in range(count >> 20):
+            peer.sendall(bytes(1 << 20))
+        peer.sendall(b"\nQUIT\n")
+        return rest_of(peer)
+
+
+def reset(port):
+    """Goes in the midst of a line."""
+    peer = connected(port)
+    peer.sendall(boarding(9).encode()[:-3])
+    break_off(peer)
+
+
+def never_read(port):
+    """Asks as long as the other side takes questions, reads none of the replies, and goes. How many it asked."""
+    asked = f"SHOW 7 {MONDAY}\n".encode() * 1_000
+    with socket.socket() as peer:
+        peer.setsockopt(socket.SOL_SOCKET, socket.SO_RCVBUF, 4_096)
+        peer.connect((HOST, port))
+        peer.settimeout(1)
+        sent = 0
+        with contextlib.suppress(socket.timeout):
+            while sent < 100_000_000:
+                sent += peer.send(asked)
+        break_off(peer)
+        return sent
+
+
+# How many sessions each lane serves, and of these on the good lane and by peers that break off in each of the two rounds.
+MANY, GOOD, BROKEN = 1_000, 200, 100
+# How many bytes more the service may hold after the second round than after the first.
+FLAT = 4 << 20
+
+
+def hostile_round(port, number, size):
+    """What comes of a round of hostile peers, each on its lane: of so many bytes without a newline, and of good sessions beside them."""
+    good, hostile, deaf, hasty = range(port, port + 4)
+    first = GOOD * number
+    unended, _, taken, _ = side_by_side([
+        lambda: endless_line(hostile, size),
+        lambda: never_read(deaf),
+        lambda: [talk(good, (boarding(7, first + seq) + "QUIT\n").encode()) for seq in range(GOOD)],
+        lambda: come_and_go(hasty, MANY // 2),
+    ])
+    for _ in range(BROKEN):
+        reset(hostile)
+    return unended, b"".join(sorted(set(taken))), len(taken), garbage(hostile)
+
+
+@test
+def hostile_peers(_):
+    """Peers that send garbage or no newline, break off, never read, come and go, or fall silent hold up their own lane alone."""
+    with serving(5, 2, MANY) as (ran, port, said):
+        silent, replied = port + 4, A_BOARDING.encode() + b"BYE\n"
+        half = connected(silent)
+        half.sendall(boarding(9).encode()[:-3])
+        held = []
+        for number, size in enumerate((10 << 20, 50 << 20)):
+            unended, good, count, bad = hostile_round(port, number, size)
+            yield f"{size >> 20} MB without a newline", answers(unended), answers(b"NO 51 LongLine\nBYE\n")
+            yield f"{count} sessions of the lane beside it", answers(good), answers(replied)
+            yield "bytes that are no lines", answers(b" ".join(sorted(set(bad.splitlines())))), answers(b"NO 50 BadLine NO 51 LongLine")
+            held.append(held_bytes(ran))
+        grown = held[1] - held[0]
+        yield f"memory, {grown:,} bytes more after the second round", answers(b"%r" % (grown < FLAT)), answers(b"True")
+        half.sendall(boarding(9).encode()[-3:])
+        yield "the half line, once its end is there", answers(heard(half, len(A_BOARDING))), answers(A_BOARDING.encode())
+        half.close()
+        left = (MANY - 2 * GOOD, MANY - 2 * (BROKEN + 2), MANY - 2, 0, MANY - 1)
+        side_by_side([lambda at=at, count=count: come_and_go(port + at, count) for at, count in enumerate(left) if count])
+        output = f"PAY 7 {MONDAY} {MONDAY} {2 * GOOD} 175 175 4=175\n{paid(9)}DONE {MONDAY} 2\n"
+        yield "nothing is lost", ended(ran, said), closed(port, 5, output.encode())
+
+
+@test
+def ports_that_are_taken(_):
+    """A port that is not to be had, the first or a later one, is told before anything else is said."""
+    first = free_ports(3)
+    for lanes in (1, 3):
+        with socket.socket() as it:
+            it.bind((HOST, first + lanes - 1))
+            it.listen()
+            yield f"the last of {lanes} ports is taken", run(words_of(first, lanes)), fault("cannot listen")
+
+
+# A pthread_create of which the call FAIL_AT is refused, and a malloc and a realloc that are refused from the call FAIL_AT on, counted
+# together. It declares what it calls: the toolchain's compiler comes without the C library's headers.
+PRELOADED = r"""
+typedef unsigned long size_t;
+extern void *dlsym(void *, const char *);
+extern char *getenv(const char *);
+extern long atol(const char *);
+
+#define RTLD_NEXT ((void *)-1l)
+#define EAGAIN 11
+
+int pthread_create(void *thread, const void *how, void *(*start)(void *), void *given) {
+  static long calls;
+  int (*next)(void *, const void *, void *(*)(void *), void *) = (int (*)(void *, const void *, void *(*)(void *), void *))dlsym(RTLD_NEXT, "pthread_create");
+  return ++calls == atol(getenv("FAIL_AT")) ? EAGAIN : next(thread, how, start, given);
+}
+"""
+
+
+def preloaded(folder):
+    """The library of that, compiled."""
+    library = os.path.join(folder, "preloaded.so")
+    # `rt doc` names a file beside the folder toolchain/bin.
+    guide = subprocess.run(["rt", "doc"], capture_output=True, text=True, check=True).stdout.strip()
+    toolchain = f"{os.path.dirname(guide)}/toolchain/bin"
+    links = ["-shared", "-fPIC", "-nostdinc", "-nostdlib", f"-fuse-ld={toolchain}/ld.lld"]
+    subprocess.run([f"{toolchain}/clang", "-O1", *links, "-o", library, "-x", "c", "-"], input=PRELOADED.encode(), check=True)
+    return library
+
+
+@test
+def threads_that_are_refused(folder):
+    """A thread that the system refuses, of a shard or of a lane, is told, and nothing is served or closed."""
+    library, lanes, shards = preloaded(folder), 3, 2
+    for number in range(1, shards + lanes + 1):
+        port = free_ports(lanes)
+        came = run(words_of(port, lanes, shards), env={"LD_PRELOAD": library, "FAIL_AT": str(number)})
+        wanted = fault("35 NoThread")
+        yield f"thread {number} of {shards + lanes}", came, wanted._replace(errors=listening(port, lanes) + wanted.errors)
