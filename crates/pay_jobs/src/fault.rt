@@ -7,6 +7,7 @@ ghost use Rattle.pay_ledger.specs.Words.{open_fault_number, open_fault_name};
 use crate::week::WeekFault;
 use pay_fare_file::FareFileFault;
 use pay_ledger::OpenFault;
+use pay_serve::ServeFault;
 use pay_session::SessionFault;
 use std::alloc::AllocError;
 use thiserror::Error;
@@ -23,6 +24,9 @@ pub enum Fault {
     /// The zone is no POSIX rule.
     #[error("farebox: bad zone")]
     BadZone,
+    /// A port cannot be listened on.
+    #[error("farebox: cannot listen")]
+    CannotListen,
     /// Standard input failed.
     #[error("farebox: input fault")]
     Input,
@@ -97,6 +101,24 @@ impl From<WeekFault> for Fault {
         match fault {
             WeekFault::Session(broken) => Fault::from(broken),
             WeekFault::Memory => Fault::from(AllocError),
+        }
+    }
+}
+
+impl From<ServeFault> for Fault {
+    fn from(fault: ServeFault) -> Fault {
+        match fault {
+            ServeFault::CannotListen => Fault::CannotListen,
+            ServeFault::Count => Fault::Refused {
+                number: 32,
+                name: "Count",
+            },
+            ServeFault::NoThread => Fault::Refused {
+                number: 35,
+                name: "NoThread",
+            },
+            ServeFault::Memory => Fault::from(AllocError),
+            ServeFault::Output => Fault::Output,
         }
     }
 }

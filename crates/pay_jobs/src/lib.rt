@@ -10,12 +10,15 @@ pub mod laws;
 mod lines;
 mod output;
 mod run;
+mod service;
 mod statement;
 mod week;
 
 pub use check::check_text;
 pub use fault::Fault;
 pub use lines::run_lines;
+pub use pay_serve::Plan;
 pub use run::run_texts;
+pub use service::serve_texts;
 pub use statement::statement_texts;
 pub use week::{WeekFault, week_by_lines};

@@ -44,7 +44,7 @@ pub fn run_texts<R: BufRead, W: Write>(
 }
 
 /// A ledger in memory without postings.
-fn new_ledger(alloc: Global) -> Result<Ledger<MemStore>, Fault>
+pub(crate) fn new_ledger(alloc: Global) -> Result<Ledger<MemStore>, Fault>
     ensures ok { IfOk result (λ ledger. IsLedger (state over_memory ledger).now nothing) }
     ensures err { IfErr result IsWantOfLedger }
 {

@@ -1,0 +1,59 @@
+//! The job `serve`, by the texts of its fare file and its zone: all that the program does below the reading of files.
+
+use crate::fault::Fault;
+use crate::run::{new_ledger, read_fares, read_zone};
+use pay_serve::{Plan, listen, serve};
+use std::alloc::Global;
+use std::io::{Eprint, Write};
+use std::net::{Net, TcpListener, TcpStream};
+use std::sync::Wait;
+use std::thread::Threads;
+
+/// Says on standard error where it listens.
+fn tell_ports<R: Eprint>(rt: &R, plan: &Plan) {
+    let first = plan.port;
+    let last = first.saturating_add(u16::from(plan.lanes.saturating_sub(1)));
+    let _ = if first == last {
+        eprintln!(rt; "farebox: listening on 127.0.0.1:{first}")
+    } else {
+        eprintln!(rt; "farebox: listening on 127.0.0.1:{first} to {last}")
+    };
+}
+
+/// Serves the connections of a plan by the fares of a fare file and the clock of a zone, which are given as texts, and closes the
+/// plan's day when all have ended, into a ledger in memory, which ends with the service. Whether the day was closed; if not, its
+/// refusal is written. The fare file is read before the zone, and both before a port is taken.
+pub fn serve_texts<R, W: Write>(
+    rt: R,
+    alloc: Global,
+    fares: &str,
+    zone: &str,
+    plan: &Plan,
+    writer: &mut W,
+) -> Result<bool, Fault>
+where
+    R: Net<Listener = TcpListener, Stream = TcpStream>
+        + Threads
+        + Wait
+        + Eprint
+        + Copy
+        + Send
+        + 'static,
+{
+    let tables = read_fares(alloc, fares)?;
+    let zone = read_zone(zone)?;
+    let mut ledger = new_ledger(alloc)?;
+    let listeners = listen(&rt, alloc, plan)?;
+    tell_ports(&rt, plan);
+    let closed = serve(
+        rt,
+        alloc,
+        listeners,
+        tables,
+        zone,
+        plan,
+        &mut ledger,
+        writer,
+    )?;
+    Ok(closed)
+}
