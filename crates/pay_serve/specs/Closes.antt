@@ -2,7 +2,7 @@
 use Rattle.std.specs.Prelude.{◌≡◌, ◌⊎◌, ℕ, Bool, List, [], Option, Result, Ok, Err, IsErr, is_ok}
 use Rattle.std.specs.Io.KnownBytes.{Appends}
 use Rattle.sqlite.specs.State.{State}
-use Rattle.pay_quotes.specs.declared.posting.Posting.{Posting}
+use Rattle.pay_account.specs.Words.{Posting}
 use Rattle.pay_shard.specs.Words.{DeskParts}
 use Rattle.pay_lanes.specs.Words.{LaneParts}
 use Rattle.pay_office.specs.Words.{LaneDeskParts, desk_parts}
@@ -51,7 +51,7 @@ pub record IsDayClosed (day : ℕ) (before : LaneParts × State × Option (List 
   pub through : IsClosedThrough day before (lane, after.0, after.1) closed
   pub told : IsTold closed result
 
--- All connections were served and the day was closed over a new lane, or not; or it was not come to, and then nothing was posted or
--- written. Before and after are the ledger and what the writer holds.
-abbrev pub IsServed : ℕ → State × Option (List ℕ) → State × Option (List ℕ) → Result Bool ServeFault → Type 0
-IsServed day before after result = ((lane : LaneParts) × IsDayClosed day (lane, before.0, before.1) after result) ⊎ (IsErr result × (after ≡ before))
+-- All connections were served, and the day was closed over a new lane, or not; or it was not come to, and all is untouched. Before and
+-- after are the ledger and what the writer holds.
+abbrev pub IsServed : ℕ → State × Option (List ℕ) → State × Option (List ℕ) → Result Bool ServeFault → Type 0 → Type 0
+IsServed day before after result Untouched = ((lane : LaneParts) × IsDayClosed day (lane, before.0, before.1) after result) ⊎ (IsErr result × Untouched)

@@ -1,5 +1,5 @@
 -- The lanes of a service.
-use Rattle.std.specs.Prelude.{◌≡◌, ◌≤◌, ℕ, List, ◌∷◌, [], ◌++◌, length}
+use Rattle.std.specs.Prelude.{◌≤◌, List, ◌∷◌, [], ◌++◌, length}
 use Rattle.pay_shard.specs.declared.limits.TheConstants.{MOST_SHARDS}
 use Rattle.pay_lanes.specs.Words.{LaneParts, WorkerParts, AreTogether, AreAll}
 use Rattle.pay_office.specs.declared.office.StartFault.{StartFault}

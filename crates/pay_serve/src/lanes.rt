@@ -25,13 +25,13 @@ impl Promise<Lane> for SameLane {
     ghost kept_by = { λ before after. IsSameLane before.0.value after };
 }
 
-/// What all lanes serve by.
-#[derive(Clone, Copy)]
-pub struct Service<R> {
-    pub rt: R,
+/// What the threads of all lanes share.
+#[derive(Drop)]
+pub struct Service {
     pub alloc: Global,
     pub sessions: u32,
     pub zone: TimeZone<'static>,
+    pub begins: Begins,
 }
 
 /// A lane for which a thread was asked: it is there, or still here. In a contract it is the lane as it was before.
@@ -55,26 +55,29 @@ impl Model for Tried {
         × IfErr t.lane (λ here. IsSameLane t.began.value here) };
 }
 
-/// Waits until it is known whether the lanes begin, and serves the connections of a listener over a lane if so.
-fn serve_if_all_begin<R: Wait + Copy>(
-    service: &Service<R>,
-    begins: &Begins,
-    listener: &TcpListener,
-    lane: Lane,
-) -> Lane
+/// What the thread of a lane is given beside the lane.
+#[derive(Drop)]
+struct Place {
+    service: Arc<Service>,
+    listener: TcpListener,
+}
+
+/// Waits until it is known whether the lanes begin, and serves the connections of a place over a lane if so.
+fn serve_place<R: Wait + Copy>(rt: R, place: Place, lane: Lane) -> Lane
     requires { HasShards lane }
     ensures { IsSameLane lane result }
 {
     pay_lanes::laws::same_lanes();
-    if !begins.wait(&service.rt) {
+    let Place { service, listener } = place;
+    if !service.begins.wait(&rt) {
         return lane;
     }
-    let (rt, alloc) = (service.rt, service.alloc);
-    serve_lane(rt, alloc, listener, service.sessions, &service.zone, lane)
+    let (alloc, sessions, zone) = (service.alloc, service.sessions, service.zone);
+    serve_lane(rt, alloc, &listener, sessions, &zone, lane)
 }
 
 /// Asks for a thread for a lane, which waits until it is known whether the lanes begin.
-fn begin<R>(service: Service<R>, begins: &Arc<Begins>, listener: TcpListener, lane: Lane) -> Tried
+fn begin<R>(rt: R, service: &Arc<Service>, listener: TcpListener, lane: Lane) -> Tried
 where
     R: Threads + Wait + Copy + Send + 'static,
     requires { HasShards lane }
@@ -82,22 +85,25 @@ where
 {
     pay_lanes::laws::same_lanes();
     let began = Snapshot::of(&lane);
-    let Ok(told) = Arc::try_clone(begins) else {
-        begins.refuse(ServeFault::Memory);
+    let Ok(shared) = Arc::try_clone(service) else {
+        service.begins.refuse(ServeFault::Memory);
         return Tried {
             began,
             lane: Err(lane),
         };
     };
+    let place = Place {
+        service: shared,
+        listener,
+    };
     let same = SameLane(Snapshot::of(&lane));
-    let serves = move || serve_if_all_begin(&service, &told, &listener, lane);
-    match thread::spawn_with(&service.rt, same, serves) {
+    match thread::spawn_with(&rt, same, move || serve_place(rt, place, lane)) {
         Ok(there) => Tried {
             began,
             lane: Ok(there),
         },
         Err(refused) => {
-            begins.refuse(ServeFault::NoThread);
+            service.begins.refuse(ServeFault::NoThread);
             let serves = refused.value;
             Tried {
                 began,
@@ -109,8 +115,8 @@ where
 
 /// Asks for a thread for each lane, with the listener beside it, and puts the lanes into a list that has room for them.
 pub fn begin_all<R>(
-    service: Service<R>,
-    begins: &Arc<Begins>,
+    rt: R,
+    service: &Arc<Service>,
     listeners: Vec<TcpListener>,
     lanes: Vec<Lane>,
     tried: &mut Vec<Tried>,
@@ -124,7 +130,7 @@ where
     ensures { tried.new.items ≡ lanes.items }
 {
     for (listener, lane) in listeners.into_iter().zip(lanes) {
-        tried.push_reserved(begin(service, begins, listener, lane));
+        tried.push_reserved(begin(rt, service, listener, lane));
     }
 }
 
@@ -133,7 +139,8 @@ impl Tried {
     fn end<R: Threads>(self, rt: &R) -> Lane
         ensures { IsSameLane self result }
     {
-        match self.lane {
+        let Tried { lane, .. } = self;
+        match lane {
             Ok(there) => there.join(rt),
             Err(here) => here,
         }

@@ -72,22 +72,24 @@ where
     R: Threads + Wait + Copy + Send + 'static,
     requires day { (FIRST_DAY ≤ plan.now.close) × (plan.now.close ≤ LAST_DAY) }
     requires listeners { length listeners.items ≡ plan.now.lanes }
-    ensures { IsServed plan.now.close (state S.Store ledger.old, W.contents writer.old) (state S.Store ledger.new, W.contents writer.new) result }
+    ensures { IsServed plan.now.close (state S.Store ledger.old, W.contents writer.old) (state S.Store ledger.new, W.contents writer.new)
+        result ((ledger.new ≡ ledger.old) × (writer.new ≡ writer.old)) }
 {
     pay_lanes::laws::still_together();
+    pay_lanes::laws::same_lanes();
     pay_lanes::laws::same_workers();
-    let begins = Arc::new(alloc, Begins::new()).map_err(AllocError::from)?;
-    let mut tried = Vec::with_capacity(alloc, plan.lanes as usize)?;
-    let mut back = Vec::with_capacity(alloc, plan.lanes as usize + 1)?;
-    let (office, lanes, last) = open_office(rt, alloc, tables, plan)?;
     let service = Service {
-        rt,
         alloc,
         sessions: plan.sessions,
         zone,
+        begins: Begins::new(),
     };
-    begin_all(service, &begins, listeners, lanes, &mut tried);
-    let refused = begins.tell();
+    let service = Arc::new(alloc, service).map_err(AllocError::from)?;
+    let mut tried = Vec::with_capacity(alloc, plan.lanes as usize)?;
+    let mut back = Vec::with_capacity(alloc, plan.lanes as usize + 1)?;
+    let (office, lanes, last) = open_office(rt, alloc, tables, plan)?;
+    begin_all(rt, &service, listeners, lanes, &mut tried);
+    let refused = service.begins.tell();
     end_all(&rt, tried, &mut back);
     if let Some(fault) = refused {
         end(&rt, alloc, office, back, last)?;

@@ -1,0 +1,108 @@
+-- An office that has begun, its lanes, and the one lane more.
+use Rattle.std.proofs.Common.{◌≡◌, inl, inr, Bool, false, true, ℕ, zero, suc, ◌+◌, ◌<◌, ◌≤◌, List, [], ◌∷◌, ◌++◌, All, length, min, Option, Some, None, option_to_list, refl, sym, ap, ◌∙◌, subst, append_assoc, arith}
+use Rattle.std.specs.Prelude.{IsPermutation, IsSome}
+use Rattle.std.specs.List.{range_with_len}
+use Rattle.std.proofs.Math.Nat.{lt_of_not-le}
+use Rattle.std.proofs.lemmas.List.{length-append}
+use Rattle.std.proofs.lemmas.List.Elements.{All-cons, All-head, All-tail, All-weaker}
+use Rattle.std.proofs.lemmas.List.FromFn.{length-range_with_len}
+use Rattle.std.proofs.lemmas.List.Sorted.{IsPermutation-refl}
+use Rattle.pay_tables.specs.Words.{FareTables}
+use Rattle.pay_shard.specs.declared.limits.TheConstants.{MOST_SHARDS}
+use Rattle.pay_lanes.specs.declared.limits.TheConstants.{MOST_LANES}
+use Rattle.pay_lanes.specs.Words.{LaneParts, WorkerParts, AreTogether, AreAll, lanes_of, numbers, shard_numbers, IsOutOfCount, IsNewLane, IsNewWorker}
+use Rattle.pay_lanes.proofs.Exchanges.{each_length}
+use Rattle.pay_serve.specs.Lanes.{HasShards, AreAllWith}
+
+-- ---- counts that are not out of their ranges
+
+least : (n : ℕ) → (n ≡ 0 → ⊥) → 1 ≤ n
+least zero never = absurd (never refl)
+least (suc n) never = omega arith
+
+most : (n m : ℕ) → (m < n → ⊥) → n ≤ m
+most n m never = let less : n < suc m = lt_of_not-le never in omega (arith, less)
+
+pub record AreInCount (shards lanes : ℕ) : Type 0 where
+  pub some : 1 ≤ shards
+  pub few : shards ≤ MOST_SHARDS
+  pub some_lanes : 1 ≤ lanes
+  pub few_lanes : lanes ≤ MOST_LANES
+
+pub in_count : (shards lanes gates : ℕ) → (IsOutOfCount shards lanes gates → ⊥) → AreInCount shards lanes
+in_count shards lanes gates never = record {
+  some = least shards (λ e. never (inl e));
+  few = most shards MOST_SHARDS (λ e. never (inr (inl e)));
+  some_lanes = least lanes (λ e. never (inr (inr (inl e))));
+  few_lanes = most lanes MOST_LANES (λ e. never (inr (inr (inr (inl e)))));
+}
+
+-- ---- the last of a list
+
+pub popped : {X : Type 0} (all rest : List X) (o : Option X) (x : X) → all ≡ rest ++ option_to_list o → o ≡ Some x → all ≡ rest ++ x ∷ []
+popped all rest o x is some = is ∙ ap (λ p. rest ++ option_to_list p) some
+
+module _ {X : Type 0} (P : X → Type 0) where
+  none : All P []
+  none k d within = absurd (omega arith)
+
+  -- what holds of a list holds of those before its last one, and of that
+  pub of_last : (xs : List X) (x : X) → All P (xs ++ x ∷ []) → All P xs × P x
+  of_last [] x all = (none, All-head P x [] all)
+  of_last (y ∷ xs) x all =
+      let rest : All P xs × P x = of_last xs x (All-tail P y (xs ++ x ∷ []) all) in
+      (All-cons P y xs (All-head P y (xs ++ x ∷ []) all) rest.0, rest.1)
+
+-- ---- what has begun
+
+count_of : (n : ℕ) (ls : List LaneParts) → numbers ls ≡ range_with_len 0 n → length ls ≡ n
+count_of n ls are = sym (each_length (λ (l : LaneParts). l.number) ls) ∙ (ap length are ∙ length-range_with_len 0 n)
+
+-- there is a last one
+pub some_lane : (n : ℕ) (ls : List LaneParts) (o : Option LaneParts) → 1 ≤ n → numbers ls ≡ range_with_len 0 n → (0 < length ls → IsSome o) → o ≡ None → ⊥
+some_lane n ls o some are there is =
+    let many = count_of n ls are in
+    let found : ◌≡◌ {A = Bool} false true = subst IsSome is (there (omega (arith, some, many))) in
+    absurd (cc)
+
+pub one_more : (n lanes : ℕ) → n ≡ min (lanes + 1) 255 → n ≤ MOST_LANES → n ≡ lanes + 1
+one_more n lanes is few = omega (arith, is, few)
+
+-- how many there are beside the last
+pub others : (n lanes : ℕ) (ls rest : List LaneParts) (l : LaneParts) → n ≡ lanes + 1 → numbers ls ≡ range_with_len 0 n → ls ≡ rest ++ l ∷ [] → length rest ≡ lanes
+others n lanes ls rest l more are parts =
+    let many = count_of n ls are in
+    let long = ap length parts ∙ length-append rest (l ∷ []) in
+    omega (arith, more, many, long)
+
+new_has : (shards : ℕ) → 1 ≤ shards → shards ≤ MOST_SHARDS → (l : LaneParts) → IsNewLane shards l → HasShards l
+new_has shards some few l is = (subst (λ n. 1 ≤ n) (sym is.shards) some, subst (λ n. n ≤ MOST_SHARDS) (sym is.shards) few)
+
+pub all_have : (shards : ℕ) (ls rest : List LaneParts) (l : LaneParts) → 1 ≤ shards → shards ≤ MOST_SHARDS → All (IsNewLane shards) ls → ls ≡ rest ++ l ∷ [] → All HasShards rest × HasShards l
+all_have shards ls rest l some few all parts =
+    of_last HasShards rest l (subst (All HasShards) parts (All-weaker (IsNewLane shards) HasShards (λ m is. new_has shards some few m is) ls all))
+
+lanes_are : (tables : FareTables) (shards lanes : ℕ) (office : List WorkerParts) → 1 ≤ shards → shard_numbers office ≡ range_with_len 0 shards → All (IsNewWorker tables lanes) office → lanes_of office ≡ lanes
+lanes_are tables shards lanes [] some are all =
+    let none : 0 ≡ shards = ap length are ∙ length-range_with_len 0 shards in absurd (omega (arith, some, none))
+lanes_are tables shards lanes (w ∷ office) some are all = (All-head (IsNewWorker tables lanes) w office all).lanes
+
+pub all_with : (tables : FareTables) (shards lanes : ℕ) (office : List WorkerParts) (ls rest : List LaneParts) (l : LaneParts)
+    → 1 ≤ shards → shard_numbers office ≡ range_with_len 0 shards → All (IsNewWorker tables lanes) office → numbers ls ≡ range_with_len 0 lanes → AreTogether office ls → ls ≡ rest ++ l ∷ [] → AreAllWith office rest l
+all_with tables shards lanes office ls rest l some workers new are together parts =
+    let count : lanes_of office ≡ lanes = lanes_are tables shards lanes office some workers new in
+    let all : AreAll office ls = subst (λ ns. IsPermutation (range_with_len 0 (lanes_of office)) ns) (ap (range_with_len 0) count ∙ sym are) (IsPermutation-refl (range_with_len 0 (lanes_of office))) in
+    (subst (AreTogether office) parts together, subst (AreAll office) parts all)
+
+-- ---- lanes that are tried one after another
+
+module _ {A B : Type 0} (P : B → Type 0) where
+  pub next_tried : (now new all : List B) (fs more : List A) (bs rest : List B) (a : A) (b made : B) → fs ≡ a ∷ more → bs ≡ b ∷ rest → made ≡ b → new ≡ now ++ made ∷ []
+      → now ++ bs ≡ all → length fs ≡ length bs → All P bs → (new ++ rest ≡ all) × (length more ≡ length rest) × All P rest
+  next_tried now new all fs more bs rest a b made first second same added parts alike holds =
+      let one : length fs ≡ suc (length more) = ap length first in
+      let other : length bs ≡ suc (length rest) = ap length second in (
+        ap (λ xs. xs ++ rest) added ∙ (append_assoc now (made ∷ []) rest ∙ (ap (λ x. now ++ x ∷ rest) same ∙ (ap (λ xs. now ++ xs) (sym second) ∙ parts))),
+        omega (arith, one, other, alike),
+        All-tail P b rest (subst (All P) second holds),
+      )

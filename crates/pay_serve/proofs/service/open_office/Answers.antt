@@ -1,0 +1,35 @@
+use Rattle.std.proofs.Common.{◌<◌, sym, subst}
+use Rattle.std.specs.Arc.{arc_value}
+use Rattle.pay_serve.proofs.Begun.{in_count, popped, some_lane, one_more, others, all_have, all_with}
+use Rattle.pay_serve.proofs.service.open_office.Goals as goal
+
+-- there are lanes
+pub unreachable-requires : goal.unreachable-requires
+unreachable-requires g c =
+    let begun = c.in_ok-office.ensures in
+    let counts = in_count c.args.plan.now.shards c.saturating_add-lanes.result _ (λ out. let e = begun.count.1 out in absurd cc) in
+    some_lane c.saturating_add-lanes.result c.in_ok-office.lanes.items c.pop.result counts.some_lanes begun.lanes
+    (λ some. c.pop.ensures.variant.1 (subst (λ n. 0 < n) (sym c.in_ok-office.lanes.ok.0) some)) c.in_default.is
+
+pub returns-clause-count : goal.returns-clause-count
+returns-clause-count g c =
+    let begun = c.in_ok-office.ensures in
+    let counts = in_count c.args.plan.now.shards c.saturating_add-lanes.result _ (λ out. let e = begun.count.1 out in absurd cc) in
+    others c.saturating_add-lanes.result c.args.plan.now.lanes c.in_ok-office.lanes.items c.pop.new.self.items c.in-Some.last
+    (one_more c.saturating_add-lanes.result c.args.plan.now.lanes c.saturating_add-lanes.ensures counts.few_lanes) begun.lanes
+    (popped c.in_ok-office.lanes.items c.pop.new.self.items c.pop.result c.in-Some.last c.pop.ensures.items c.in-Some.is)
+
+pub returns-clause-shards : goal.returns-clause-shards
+returns-clause-shards g c =
+    let begun = c.in_ok-office.ensures in
+    let counts = in_count c.args.plan.now.shards c.saturating_add-lanes.result _ (λ out. let e = begun.count.1 out in absurd cc) in
+    all_have c.args.plan.now.shards c.in_ok-office.lanes.items c.pop.new.self.items c.in-Some.last counts.some counts.few begun.new_lanes
+    (popped c.in_ok-office.lanes.items c.pop.new.self.items c.pop.result c.in-Some.last c.pop.ensures.items c.in-Some.is)
+
+pub returns-clause-all : goal.returns-clause-all
+returns-clause-all g c =
+    let begun = c.in_ok-office.ensures in
+    let counts = in_count c.args.plan.now.shards c.saturating_add-lanes.result _ (λ out. let e = begun.count.1 out in absurd cc) in
+    all_with (arc_value c.args.tables) c.args.plan.now.shards c.saturating_add-lanes.result c.in_ok-office.office c.in_ok-office.lanes.items c.pop.new.self.items c.in-Some.last
+    counts.some begun.workers begun.new_workers begun.lanes begun.together
+    (popped c.in_ok-office.lanes.items c.pop.new.self.items c.pop.result c.in-Some.last c.pop.ensures.items c.in-Some.is)

@@ -1,0 +1,26 @@
+use Rattle.std.proofs.Common.{length, ap, subst, arith}
+use Rattle.std.specs.List.{AllZip}
+use Rattle.std.proofs.lemmas.List.Elements.{length_all_zip}
+use Rattle.pay_lanes.specs.Words.{IsSameLane}
+use Rattle.pay_serve.proofs.Going.{all_back}
+use Rattle.pay_serve.proofs.service.serve.Goals as goal
+
+-- all lanes are back, and there is room for the last
+pub end-requires-clause-all : goal.end-requires-clause-all
+end-requires-clause-all g c =
+    all_back c.still_together.ensures.in_order c.same_workers.ensures.itself c.in_ok-office.office c.in_ok-office.lanes.items c.end_all.new.lanes.items c.in_ok-office.last c.in_ok-office.last
+    (subst (λ ls. AllZip IsSameLane ls c.end_all.new.lanes.items) c.begin_all.ensures c.end_all.ensures.lanes) (c.same_lanes.ensures.itself c.in_ok-office.last) c.in_ok-office.ensures.all
+
+pub close_day-requires-clause-room : goal.close_day-requires-clause-room
+close_day-requires-clause-room g c =
+    let many = length_all_zip IsSameLane _ _ c.end_all.ensures.lanes in
+    let tried = ap length c.begin_all.ensures in
+    let count = c.in_ok-office.ensures.count in
+    let room = c.in_ok-back.ensures.exact in
+    let same = c.end_all.ensures.room in
+    omega (arith, many, tried, count, room, same)
+
+pub close_day-requires-clause-all : goal.close_day-requires-clause-all
+close_day-requires-clause-all g c =
+    all_back c.still_together.ensures.in_order c.same_workers.ensures.itself c.in_ok-office.office c.in_ok-office.lanes.items c.end_all.new.lanes.items c.in_ok-office.last c.in_ok-office.last
+    (subst (λ ls. AllZip IsSameLane ls c.end_all.new.lanes.items) c.begin_all.ensures c.end_all.ensures.lanes) (c.same_lanes.ensures.itself c.in_ok-office.last) c.in_ok-office.ensures.all
