@@ -12,4 +12,5 @@ pub mod ArrivalOrder
 mod Counting
 pub mod Openings
 pub mod Runs
+pub mod Served
 mod Statements

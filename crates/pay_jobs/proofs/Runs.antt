@@ -9,7 +9,7 @@ use Rattle.pay_jobs.specs.LineRuns.{ComesTo, Ends, FailsSo}
 use Rattle.pay_jobs.specs.Faults.{stream_fault}
 use Rattle.pay_jobs.specs.Run.{IsRefused, IsUnmade, RunFails, SessionFails}
 use Rattle.pay_jobs.specs.declared.fault.Fault.{Fault}
-use Rattle.pay_jobs.specs.declared.fault.Fault.TheVariants.{Usage, CannotReadFares, BadZone, Input, Output, Refused}
+use Rattle.pay_jobs.specs.declared.fault.Fault.TheVariants.{Usage, CannotReadFares, BadZone, CannotListen, Input, Output, Refused}
 use Rattle.pay_session.specs.declared.stop.SessionFault.{SessionFault}
 use Rattle.pay_session.specs.declared.stop.SessionFault.TheVariants.{Read, Write}
 
@@ -30,6 +30,8 @@ RunFails_refused Usage fares zone remaining held (inl told) = absurd told
 RunFails_refused Usage fares zone remaining held (inr (why, says, told)) = absurd told
 RunFails_refused CannotReadFares fares zone remaining held (inl told) = absurd told
 RunFails_refused CannotReadFares fares zone remaining held (inr (why, says, told)) = absurd told
+RunFails_refused CannotListen fares zone remaining held (inl told) = absurd told
+RunFails_refused CannotListen fares zone remaining held (inr (why, says, told)) = absurd told
 
 pub RunFails_unmade : (fault : Fault) (fares zone : List ℕ) (remaining held : Option (List ℕ)) → IsUnmade fault fares zone → RunFails fault fares zone remaining remaining held held
 RunFails_unmade (Refused number name) fares zone remaining held h = (inr h, (refl, refl))
@@ -43,6 +45,8 @@ RunFails_unmade Usage fares zone remaining held (m, begins, inl told) = absurd t
 RunFails_unmade Usage fares zone remaining held (m, begins, inr told) = absurd told
 RunFails_unmade CannotReadFares fares zone remaining held (m, begins, inl told) = absurd told
 RunFails_unmade CannotReadFares fares zone remaining held (m, begins, inr told) = absurd told
+RunFails_unmade CannotListen fares zone remaining held (m, begins, inl told) = absurd told
+RunFails_unmade CannotListen fares zone remaining held (m, begins, inr told) = absurd told
 
 -- what becomes of a ledger that ends with its session is not told
 comes_alone : (m : Machine) (requests : List Request) (Holds : Option LedgerParts → Type 0) (came : Outcome) → ComesTo m requests Holds came → ComesTo m requests (λ _. ⊤) came

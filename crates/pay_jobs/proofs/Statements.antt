@@ -8,7 +8,7 @@ use Rattle.pay_jobs.specs.Faults.{IsWantOfMemory, IsWeekFault}
 use Rattle.pay_jobs.specs.Run.{Begins}
 use Rattle.pay_jobs.specs.Statement.{WeekBreaks, PageFails, IsPage, StatementEnds, StatementFails}
 use Rattle.pay_jobs.specs.declared.fault.Fault.{Fault}
-use Rattle.pay_jobs.specs.declared.fault.Fault.TheVariants.{Usage, CannotReadFares, BadZone, Input, Output, Refused}
+use Rattle.pay_jobs.specs.declared.fault.Fault.TheVariants.{Usage, CannotReadFares, BadZone, CannotListen, Input, Output, Refused}
 use Rattle.pay_jobs.specs.Machine.{Machine}
 use Rattle.pay_jobs.specs.Week.{TellsWeek}
 use Rattle.pay_session.specs.declared.stop.SessionFault.TheVariants.{Read, Write}
@@ -22,6 +22,7 @@ not_told (Session (Write answered)) fault fares zone remaining left is breaks = 
 not_told Memory (Refused number name) fares zone remaining left is breaks = inr (is, breaks)
 not_told Memory Usage fares zone remaining left is breaks = absurd is
 not_told Memory CannotReadFares fares zone remaining left is breaks = absurd is
+not_told Memory CannotListen fares zone remaining left is breaks = absurd is
 not_told Memory BadZone fares zone remaining left is breaks = absurd is
 not_told Memory Input fares zone remaining left is breaks = absurd is
 not_told Memory Output fares zone remaining left is breaks = absurd is
@@ -38,6 +39,7 @@ no_page (Refused number name) fares zone account day remaining left held fails =
 no_page Output fares zone account day remaining left held fails = inl (fails, refl)
 no_page Usage fares zone account day remaining left held fails = absurd fails
 no_page CannotReadFares fares zone account day remaining left held fails = absurd fails
+no_page CannotListen fares zone account day remaining left held fails = absurd fails
 no_page BadZone fares zone account day remaining left held fails = (fails, refl)
 no_page Input fares zone account day remaining left held fails = (fails, refl)
 

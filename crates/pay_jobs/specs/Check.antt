@@ -9,7 +9,7 @@ use Rattle.pay_tables.specs.declared.counts.Counts.{Counts}
 use Rattle.pay_wire.specs.Words.{AppendsFront}
 use Rattle.pay_jobs.specs.Run.{IsRefused}
 use Rattle.pay_jobs.specs.declared.fault.Fault.{Fault}
-use Rattle.pay_jobs.specs.declared.fault.Fault.TheVariants.{Usage, CannotReadFares, BadZone, Input, Output, Refused}
+use Rattle.pay_jobs.specs.declared.fault.Fault.TheVariants.{Usage, CannotReadFares, BadZone, CannotListen, Input, Output, Refused}
 
 -- how many of each thing a fare file has
 abbrev pub counts_words : Counts → List (List ℕ)
@@ -38,6 +38,7 @@ CheckFails (Refused number name) fares held written = IsRefused (Refused number 
 CheckFails Output fares held written = StopsCounting fares held written
 CheckFails Usage fares held written = ⊥
 CheckFails CannotReadFares fares held written = ⊥
+CheckFails CannotListen fares held written = ⊥
 CheckFails BadZone fares held written = ⊥
 CheckFails Input fares held written = ⊥
 

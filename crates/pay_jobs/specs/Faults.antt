@@ -1,9 +1,11 @@
 -- How a program ends where it fails: its status, and the refusal that a fault is.
 use Rattle.std.specs.Prelude.{◌≡◌, ◌⊎◌, ℕ, List, codes}
 use Rattle.pay_jobs.specs.declared.fault.Fault.{Fault}
-use Rattle.pay_jobs.specs.declared.fault.Fault.TheVariants.{Usage, Input, Output, Refused}
+use Rattle.pay_jobs.specs.declared.fault.Fault.TheVariants.{Usage, CannotListen, Input, Output, Refused}
 use Rattle.pay_session.specs.declared.stop.SessionFault.{SessionFault}
 use Rattle.pay_session.specs.declared.stop.SessionFault.TheVariants.{Read, Write}
+use Rattle.pay_serve.specs.declared.fault.ServeFault.{ServeFault}
+use Rattle.pay_serve.specs.declared.fault.ServeFault.TheVariants as serving
 use Rattle.pay_jobs.specs.declared.week.WeekFault.{WeekFault}
 use Rattle.pay_jobs.specs.declared.week.WeekFault.TheVariants.{Session, Memory}
 
@@ -34,3 +36,11 @@ IsWantOfLedger fault = IsRefusal fault 43 (codes "Store") ⊎ IsWantOfMemory fau
 abbrev pub IsWeekFault : WeekFault → Fault → Type 0
 IsWeekFault (Session of) fault = fault ≡ stream_fault of
 IsWeekFault Memory fault = IsWantOfMemory fault
+
+-- what ended a service
+abbrev pub IsServeFault : ServeFault → Fault → Type 0
+IsServeFault serving.CannotListen fault = fault ≡ CannotListen
+IsServeFault serving.Count fault = IsRefusal fault 32 (codes "Count")
+IsServeFault serving.NoThread fault = IsRefusal fault 35 (codes "NoThread")
+IsServeFault serving.Memory fault = IsWantOfMemory fault
+IsServeFault serving.Output fault = fault ≡ Output

@@ -6,6 +6,7 @@ pub mod LineRuns
 pub mod Week
 pub mod Faults
 pub mod Run
+pub mod Service
 pub mod Check
 pub mod Statement
 pub mod Words

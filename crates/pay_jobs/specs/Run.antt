@@ -13,7 +13,7 @@ use Rattle.pay_ledger.specs.Words.{nothing}
 use Rattle.pay_jobs.specs.Machine.{Machine}
 use Rattle.pay_jobs.specs.LineRuns.{Ends, FailsSo}
 use Rattle.pay_jobs.specs.declared.fault.Fault.{Fault}
-use Rattle.pay_jobs.specs.declared.fault.Fault.TheVariants.{Usage, CannotReadFares, BadZone, Input, Output, Refused}
+use Rattle.pay_jobs.specs.declared.fault.Fault.TheVariants.{Usage, CannotReadFares, BadZone, CannotListen, Input, Output, Refused}
 use Rattle.pay_session.specs.declared.sessions.Done.{Done}
 use Rattle.pay_session.specs.declared.stop.SessionFault.{SessionFault}
 use Rattle.pay_session.specs.declared.stop.SessionFault.TheVariants.{Read, Write}
@@ -61,6 +61,7 @@ RunFails Input fares zone remaining left held written = (answered : ℕ) × Sess
 RunFails Output fares zone remaining left held written = (answered : ℕ) × SessionFails (Write answered) fares zone remaining left held written
 RunFails Usage fares zone remaining left held written = ⊥
 RunFails CannotReadFares fares zone remaining left held written = ⊥
+RunFails CannotListen fares zone remaining left held written = ⊥
 
 -- ---- from before to after: what the reader has left, and what the writer holds, each where it is known
 

@@ -9,7 +9,7 @@ use Rattle.pay_jobs.specs.Run.{Begins, IsRefused, IsBadZone}
 use Rattle.pay_jobs.specs.Machine.{Machine}
 use Rattle.pay_jobs.specs.Week.{TellsWeek, WeekFails as FailsSo}
 use Rattle.pay_jobs.specs.declared.fault.Fault.{Fault}
-use Rattle.pay_jobs.specs.declared.fault.Fault.TheVariants.{Usage, CannotReadFares, BadZone, Input, Output, Refused}
+use Rattle.pay_jobs.specs.declared.fault.Fault.TheVariants.{Usage, CannotReadFares, BadZone, CannotListen, Input, Output, Refused}
 use Rattle.pay_session.specs.declared.stop.SessionFault.TheVariants.{Read, Write}
 use Rattle.pay_jobs.specs.declared.week.WeekFault.{WeekFault}
 use Rattle.pay_jobs.specs.declared.week.WeekFault.TheVariants.{Session, Memory}
@@ -37,6 +37,7 @@ PageFails Input fares zone remaining left = (answered : ℕ) × WeekBreaks (Sess
 PageFails Output fares zone remaining left = (answered : ℕ) × WeekBreaks (Session (Write answered)) fares zone remaining left
 PageFails Usage fares zone remaining left = ⊥
 PageFails CannotReadFares fares zone remaining left = ⊥
+PageFails CannotListen fares zone remaining left = ⊥
 
 -- The job ended by itself: the statement was written, and nothing else.
 abbrev pub StatementEnds : List ℕ → List ℕ → ℕ → ℕ → Option (List ℕ) → Option (List ℕ) → Option (List ℕ) → Option (List ℕ) → Type 0

@@ -1,6 +1,6 @@
 //! Why the program fails, and the status that it ends with.
 ghost use Rattle.std.specs.Prelude.{◌≡◌};
-ghost use Rattle.pay_jobs.specs.Faults.{IsRefusal, IsWantOfMemory, IsWeekFault, status_of, stream_fault};
+ghost use Rattle.pay_jobs.specs.Faults.{IsRefusal, IsWantOfMemory, IsWeekFault, IsServeFault, status_of, stream_fault};
 ghost use Rattle.pay_fare_file.specs.Words.{fault_number, fault_name};
 ghost use Rattle.pay_ledger.specs.Words.{open_fault_number, open_fault_name};
 
@@ -106,6 +106,8 @@ impl From<WeekFault> for Fault {
 }
 
 impl From<ServeFault> for Fault {
+    ghost from_gives = { λ of fault. IsServeFault of fault };
+
     fn from(fault: ServeFault) -> Fault {
         match fault {
             ServeFault::CannotListen => Fault::CannotListen,

@@ -1,4 +1,7 @@
 //! The job `serve`, by the texts of its fare file and its zone: all that the program does below the reading of files.
+ghost use Rattle.std.specs.Prelude.{IfOk, IfErr};
+ghost use Rattle.pay_day.specs.Words.{IsDay};
+ghost use Rattle.pay_jobs.specs.Service.{ServiceEnds, ServiceFails};
 
 use crate::fault::Fault;
 use crate::run::{new_ledger, read_fares, read_zone};
@@ -39,6 +42,9 @@ where
         + Copy
         + Send
         + 'static,
+    requires { IsDay plan.now.close }
+    ensures ends { IfOk result (ServiceEnds fares.now zone.now plan.now.close (W.contents writer.old) (W.contents writer.new)) }
+    ensures fails { IfErr result (λ fault. ServiceFails fault fares.now zone.now (W.contents writer.old) (W.contents writer.new)) }
 {
     let tables = read_fares(alloc, fares)?;
     let zone = read_zone(zone)?;
