@@ -6,8 +6,8 @@ mod program;
 use std::process::ExitCode;
 
 fn main(rt: HostRuntime) -> ExitCode {
-    match program::execute(&rt) {
-        Ok(()) => ExitCode::SUCCESS,
+    match program::execute(rt) {
+        Ok(status) => status,
         Err(fault) => {
             let _ = eprintln!(rt; "{fault}");
             ExitCode::from(fault.status())

@@ -4,11 +4,15 @@ ghost use Rattle.std.specs.IoError.{error_kind};
 ghost use Rattle.pay_jobs.specs.Words.{IsDay, IsWantOfMemory};
 ghost use Rattle.farebox.specs.NoJob.{IsTextOrFault};
 
-use pay_jobs::{Fault, check_text, run_texts, statement_texts};
-use pay_words::{Job, RunWords, StatementWords, WordsFault, read_words};
+use pay_jobs::{Fault, Plan, check_text, run_texts, serve_texts, statement_texts};
+use pay_words::{Job, RunWords, ServeWords, StatementWords, WordsFault, read_words};
 use std::alloc::AllocError;
-use std::io::{BufReader, ErrorKind};
+use std::io::{BufReader, Eprint, ErrorKind};
+use std::net::{Net, TcpListener, TcpStream};
+use std::process::ExitCode;
 use std::rt::{Env, Files};
+use std::sync::Wait;
+use std::thread::Threads;
 use std::{env, fs, io};
 
 /// Out of memory, or else the fault that is at hand.
@@ -34,9 +38,23 @@ fn text_or_fault(words: WordsFault) -> Result<String, Fault>
     }
 }
 
-/// Does what the words of the process ask for.
-pub fn execute<R: Env + Files + Input + Print + AllocGlobal>(rt: &R) -> Result<(), Fault> {
-    let given = match env::args(rt) {
+/// Does what the words of the process ask for. The status that the program then ends with.
+pub fn execute<R>(rt: R) -> Result<ExitCode, Fault>
+where
+    R: Net<Listener = TcpListener, Stream = TcpStream>
+        + Threads
+        + Wait
+        + Env
+        + Files
+        + Input
+        + Print
+        + Eprint
+        + AllocGlobal
+        + Copy
+        + Send
+        + 'static,
+{
+    let given = match env::args(&rt) {
         Ok(given) => given,
         Err(error) => return Err(memory_or(&error, Fault::Usage)),
     };
@@ -46,14 +64,16 @@ pub fn execute<R: Env + Files + Input + Print + AllocGlobal>(rt: &R) -> Result<(
         words.push(text.as_str()).map_err(AllocError::from)?;
     }
     match read_words(rt.alloc(), words.as_slice()) {
-        Ok(Job::Run(words)) => run_session(rt, &words),
-        Ok(Job::Check { fares }) => check_fares(rt, fares),
-        Ok(Job::Statement(words)) => write_statement(rt, &words),
+        Ok(Job::Run(words)) => run_session(&rt, &words)?,
+        Ok(Job::Check { fares }) => check_fares(&rt, fares)?,
+        Ok(Job::Statement(words)) => write_statement(&rt, &words)?,
+        Ok(Job::Serve(words)) => return serve_sessions(rt, &words),
         Err(none) => {
             let text = text_or_fault(none)?;
-            rt.print(text.as_str()).map_err(|_| Fault::Output)
+            rt.print(text.as_str()).map_err(|_| Fault::Output)?;
         }
     }
+    Ok(ExitCode::SUCCESS)
 }
 
 /// The text of the fare file at this path.
@@ -103,6 +123,37 @@ fn write_statement<R: Files + Input + Print + AllocGlobal>(
     } else {
         let mut reader = BufReader::new(alloc, input).map_err(|_| AllocError)?;
         statement_texts(alloc, fares, zone, account, day, &mut reader, &mut writer)
+    }
+}
+
+/// The sessions of all lanes, and then the lines of the close, to standard output. The status says whether the day was closed.
+fn serve_sessions<R>(rt: R, words: &ServeWords<'_>) -> Result<ExitCode, Fault>
+where
+    R: Net<Listener = TcpListener, Stream = TcpStream>
+        + Threads
+        + Wait
+        + Files
+        + Print
+        + Eprint
+        + AllocGlobal
+        + Copy
+        + Send
+        + 'static,
+    requires { IsDay words.now.close }
+{
+    let fares = fares_text(&rt, words.fares)?;
+    let plan = Plan {
+        port: words.port,
+        lanes: words.lanes,
+        shards: words.shards,
+        sessions: words.sessions,
+        close: words.close,
+    };
+    let (alloc, mut writer) = (rt.alloc(), io::writer(&rt));
+    if serve_texts(rt, alloc, fares.as_str(), words.zone, &plan, &mut writer)? {
+        Ok(ExitCode::SUCCESS)
+    } else {
+        Ok(ExitCode::FAILURE)
     }
 }
 
