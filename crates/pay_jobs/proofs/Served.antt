@@ -2,12 +2,13 @@
 use Rattle.std.proofs.Common.{◌≡◌, inl, inr, ℕ, Bool, true, false, List, Option, Result, Ok, Err, is_ok, refl, sym, ◌∙◌, subst}
 use Rattle.std.specs.Io.KnownBytes.{Appends}
 use Rattle.sqlite.specs.State.{State}
+use Rattle.pay_tables.specs.Words.{FareTables}
 use Rattle.pay_account.specs.Words.{Posting}
 use Rattle.pay_wire.specs.Words.{spelling_of_reply}
 use Rattle.pay_wire.specs.declared.output.WriteFault.{WriteFault}
 use Rattle.pay_wire.specs.declared.refusal.Refusal.{Refusal}
 use Rattle.pay_session.specs.Words.{said_of_close}
-use Rattle.pay_serve.specs.Words.{IsWritten, IsTold, IsDayClosed, IsServed}
+use Rattle.pay_serve.specs.Words.{IsWritten, IsTold, IsServed}
 use Rattle.pay_serve.specs.declared.fault.ServeFault.{ServeFault}
 use Rattle.pay_jobs.specs.Service.{AreRead, ServiceEnds}
 
@@ -16,8 +17,8 @@ ended : (fares zone : List ℕ) (day : ℕ) (held written : Option (List ℕ)) (
 ended fares zone day held written closed answer (Ok c) read lines told = record { read = read; answer = answer; told = told ∙ lines.0; lines = lines.1 }
 ended fares zone day held written closed answer (Err why) read lines told = absurd told
 
-pub served : (fares zone : List ℕ) (day : ℕ) (s t : State) (held written : Option (List ℕ)) (closed : Bool) (Untouched : Type 0)
-    → AreRead fares zone → IsServed day (s, held) (t, written) (Ok closed) Untouched → ServiceEnds fares zone day held written closed
-served fares zone day s t held written closed Untouched read (inl (lane, day_closed)) =
-    ended fares zone day held written closed day_closed.through.closed.answer day_closed.closed read day_closed.through.closed.written day_closed.told
-served fares zone day s t held written closed Untouched read (inr (failed, same)) = absurd (cc)
+pub served : (tables : FareTables) (fares zone : List ℕ) (day : ℕ) (s t : State) (held written : Option (List ℕ)) (closed : Bool) (Untouched : Type 0)
+    → AreRead fares zone → IsServed tables day (s, held) (t, written) (Ok closed) Untouched → ServiceEnds fares zone day held written closed
+served tables fares zone day s t held written closed Untouched read (inl by) =
+    ended fares zone day held written closed by.closed.through.closed.answer by.closed.closed read by.closed.through.closed.written by.closed.told
+served tables fares zone day s t held written closed Untouched read (inr (failed, same)) = absurd (cc)

@@ -1,6 +1,7 @@
 -- An office that has begun, its lanes, and the one lane more.
 use Rattle.std.proofs.Common.{◌≡◌, inl, inr, Bool, false, true, ℕ, zero, suc, ◌+◌, ◌<◌, ◌≤◌, List, [], ◌∷◌, ◌++◌, All, length, min, Option, Some, None, option_to_list, refl, sym, ap, ◌∙◌, subst, append_assoc, arith}
 use Rattle.std.specs.Prelude.{IsPermutation, IsSome}
+use Rattle.std.specs.FinMap.{empty}
 use Rattle.std.specs.List.{range_with_len}
 use Rattle.std.proofs.Math.Nat.{lt_of_not-le}
 use Rattle.std.proofs.lemmas.List.{length-append}
@@ -13,6 +14,7 @@ use Rattle.pay_lanes.specs.declared.limits.TheConstants.{MOST_LANES}
 use Rattle.pay_lanes.specs.Words.{LaneParts, WorkerParts, AreTogether, AreAll, lanes_of, numbers, shard_numbers, IsOutOfCount, IsNewLane, IsNewWorker}
 use Rattle.pay_lanes.proofs.Exchanges.{each_length}
 use Rattle.pay_serve.specs.Lanes.{HasShards, AreAllWith}
+use Rattle.pay_serve.specs.Machines.{IsNewOffice}
 
 -- ---- counts that are not out of their ranges
 
@@ -93,6 +95,16 @@ all_with tables shards lanes office ls rest l some workers new are together part
     let count : lanes_of office ≡ lanes = lanes_are tables shards lanes office some workers new in
     let all : AreAll office ls = subst (λ ns. IsPermutation (range_with_len 0 (lanes_of office)) ns) (ap (range_with_len 0) count ∙ sym are) (IsPermutation-refl (range_with_len 0 (lanes_of office))) in
     (subst (AreTogether office) parts together, subst (AreAll office) parts all)
+
+-- the office of which the lanes were opened
+pub new_office : (tables : FareTables) (shards lanes : ℕ) (office : List WorkerParts) → 1 ≤ shards → shard_numbers office ≡ range_with_len 0 shards → All (IsNewWorker tables lanes) office → IsNewOffice tables office
+new_office tables shards lanes office some are new =
+    let many : length office ≡ shards = sym (each_length (λ (w : WorkerParts). w.shard.number) office) ∙ (ap length are ∙ length-range_with_len 0 shards) in record {
+      some = omega (arith, some, many);
+      numbers = are ∙ ap (range_with_len 0) (sym many);
+      tables = All-weaker (IsNewWorker tables lanes) (λ (w : WorkerParts). w.shard.tables ≡ tables) (λ w is. is.tables) office new;
+      bases = All-weaker (IsNewWorker tables lanes) (λ (w : WorkerParts). w.shard.base ≡ empty) (λ w is. is.base) office new;
+    }
 
 -- ---- lanes that are tried one after another
 

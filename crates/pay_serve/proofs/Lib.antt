@@ -1,2 +1,3 @@
 pub mod Begun
 pub mod Going
+pub mod OneClose

@@ -1,16 +1,19 @@
 -- The close of a day, and what is written of it.
-use Rattle.std.specs.Prelude.{◌≡◌, ◌⊎◌, ℕ, Bool, List, [], Option, Result, Ok, Err, IsErr, is_ok}
+use Rattle.std.specs.Prelude.{◌≡◌, ◌⊎◌, ℕ, Bool, List, [], ◌∷◌, ◌++◌, length, Option, Result, Ok, Err, IsErr, OnOk, is_ok}
 use Rattle.std.specs.Io.KnownBytes.{Appends}
 use Rattle.sqlite.specs.State.{State}
 use Rattle.pay_account.specs.Words.{Posting}
 use Rattle.pay_shard.specs.Words.{DeskParts}
-use Rattle.pay_lanes.specs.Words.{LaneParts}
+use Rattle.pay_tables.specs.Words.{FareTables}
+use Rattle.pay_lanes.specs.Words.{LaneParts, WorkerParts}
 use Rattle.pay_office.specs.Words.{LaneDeskParts, desk_parts}
 use Rattle.pay_wire.specs.Words.{AppendsFront, spelling_of_reply}
 use Rattle.pay_wire.specs.declared.output.WriteFault.{WriteFault}
 use Rattle.pay_wire.specs.declared.refusal.Refusal.{Refusal}
 use Rattle.pay_session.specs.Words.{said_of_close, IsClosedAt}
 use Rattle.pay_close.specs.Words.{Closes}
+use Rattle.pay_serve.specs.Lanes.{AreAllWith}
+use Rattle.pay_serve.specs.Machines.{IsOverAsOne, IsNewOffice}
 use Rattle.pay_serve.specs.declared.fault.ServeFault.{ServeFault}
 use Rattle.pay_serve.specs.declared.fault.ServeFault.TheVariants.{Memory, Output}
 
@@ -43,15 +46,26 @@ IsTold (Ok closed) (Err fault) = fault ≡ Memory
 IsTold (Err why) (Ok told) = ⊥
 IsTold (Err why) (Err fault) = (fault ≡ Memory) ⊎ (fault ≡ Output)
 
--- The day was closed over this lane, or not, and the lines of that were written: before are the lane, the ledger, and what the writer
--- holds; after, the ledger and what the writer holds.
-pub record IsDayClosed (day : ℕ) (before : LaneParts × State × Option (List ℕ)) (after : State × Option (List ℕ)) (result : Result Bool ServeFault) : Type 0 where
+-- The day was closed over this lane, the last of an office, or not, and the lines of that were written. Where nothing failed, the office
+-- has ended, with the other lanes and this one. Before are the lane, the ledger, and what the writer holds; after, the ledger and what the
+-- writer holds.
+pub record IsDayClosed (office : List WorkerParts) (others : List LaneParts) (day : ℕ) (before : LaneParts × State × Option (List ℕ)) (after : State × Option (List ℕ)) (result : Result Bool ServeFault) : Type 0 where
   pub lane : LaneParts
   pub closed : Result Bool WriteFault
   pub through : IsClosedThrough day before (lane, after.0, after.1) closed
   pub told : IsTold closed result
+  pub one : OnOk result (IsOverAsOne office (others ++ lane ∷ []) day (length before.0.shards) through.closed.closed.put)
 
--- All connections were served, and the day was closed over a new lane, or not; or it was not come to, and all is untouched. Before and
--- after are the ledger and what the writer holds.
-abbrev pub IsServed : ℕ → State × Option (List ℕ) → State × Option (List ℕ) → Result Bool ServeFault → Type 0 → Type 0
-IsServed day before after result Untouched = ((lane : LaneParts) × IsDayClosed day (lane, before.0, before.1) after result) ⊎ (IsErr result × Untouched)
+-- All connections were served over a new office, and the day was closed over its last lane, or not. Before and after are the ledger and
+-- what the writer holds.
+pub record IsServedBy (fares : FareTables) (day : ℕ) (before after : State × Option (List ℕ)) (result : Result Bool ServeFault) : Type 0 where
+  pub office : List WorkerParts
+  pub new : IsNewOffice fares office
+  pub others : List LaneParts
+  pub last : LaneParts
+  pub all : AreAllWith office others last
+  pub closed : IsDayClosed office others day (last, before.0, before.1) after result
+
+-- All connections were served, and the day was closed, or not; or it was not come to, and all is untouched.
+abbrev pub IsServed : FareTables → ℕ → State × Option (List ℕ) → State × Option (List ℕ) → Result Bool ServeFault → Type 0 → Type 0
+IsServed fares day before after result Untouched = IsServedBy fares day before after result ⊎ (IsErr result × Untouched)

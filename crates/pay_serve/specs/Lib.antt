@@ -1,3 +1,4 @@
 pub mod Closes
 pub mod Lanes
+pub mod Machines
 pub mod Words

@@ -1,3 +1,4 @@
--- Words for the crates above: what lanes have to be, and what a close does.
-pub use Rattle.pay_serve.specs.Closes.{IsWritten, IsClosedOver, new_desk, IsClosedThrough, IsTold, IsDayClosed, IsServed}
+-- Words for the crates above: what lanes have to be, what a close does, and that it is the close of one machine.
+pub use Rattle.pay_serve.specs.Closes.{IsWritten, IsClosedOver, new_desk, IsClosedThrough, IsTold, IsDayClosed, IsServedBy, IsServed}
 pub use Rattle.pay_serve.specs.Lanes.{HasShards, AreAllWith}
+pub use Rattle.pay_serve.specs.Machines.{AreFronts, IsOneClose, IsNewOffice, IsOver, IsOverAsOne}

@@ -1,11 +1,12 @@
 //! The close of a day over one lane, once all others have ended.
-ghost use Rattle.std.specs.Prelude.{◌≡◌, ◌≤◌, ◌<◌, length, IfErr, vec_capacity};
+ghost use Rattle.std.specs.Prelude.{◌≡◌, ◌≤◌, ◌<◌, [], ◌∷◌, ◌++◌, length, IfErr, IsOk, OnOk, vec_capacity};
 ghost use Rattle.sqlite.specs.Held.{state};
 ghost use Rattle.pay_day.specs.declared.limits.TheConstants.{FIRST_DAY, LAST_DAY};
 ghost use Rattle.pay_shard.specs.Words.{AreKept};
 ghost use Rattle.pay_lanes.specs.Words.{IsSameLane};
 ghost use Rattle.pay_serve.specs.Closes.{IsClosedOver, IsClosedThrough, IsTold, IsDayClosed};
 ghost use Rattle.pay_serve.specs.Lanes.{HasShards, AreAllWith};
+ghost use Rattle.pay_serve.specs.Machines.{IsOver};
 ghost use Rattle.pay_serve.specs.declared.fault.ServeFault.TheVariants.{Memory};
 
 use crate::fault::ServeFault;
@@ -80,7 +81,8 @@ pub(crate) fn end<F: Fares, G: Gate, R: Threads + Wait>(
 ) -> Result<(), ServeFault>
     requires room { length lanes.items < vec_capacity lanes }
     requires all { AreAllWith office lanes.items last }
-    ensures { IfErr result (λ fault. fault ≡ Memory) }
+    ensures fault { IfErr result (λ fault. fault ≡ Memory) }
+    ensures ended { OnOk result (IsOver office (lanes.items ++ last ∷ [])) }
 {
     let mut lanes = lanes;
     lanes.push_reserved(last);
@@ -94,14 +96,16 @@ pub(crate) fn end<F: Fares, G: Gate, R: Threads + Wait>(
 /// What is told of a close, and of the end of the office behind it.
 fn told(closed: Result<bool, WriteFault>, ended: Result<(), ServeFault>) -> Result<bool, ServeFault>
     requires { IfErr ended (λ fault. fault ≡ Memory) }
-    ensures { IsTold closed result }
+    ensures told { IsTold closed result }
+    ensures ended { OnOk result (IsOk ended) }
 {
     ended?;
     Ok(closed?)
 }
 
 /// Closes a service day, counted from 1970-01-01, into a ledger over the last lane of an office, whose other lanes are back; writes
-/// what came of it; and ends the threads of the office. Whether the day was closed; if not, its refusal is written.
+/// what came of it; and ends the threads of the office. Whether the day was closed; if not, its refusal is written. Over a new office
+/// whose shards all gave their quotes it is the close of one machine that was asked what stands in their journals.
 pub fn close_day<F: Fares, G: Gate, R: Threads + Wait + Copy, S: Alter, W: Write>(
     rt: R,
     alloc: Global,
@@ -116,11 +120,12 @@ pub fn close_day<F: Fares, G: Gate, R: Threads + Wait + Copy, S: Alter, W: Write
     requires shards { HasShards last }
     requires room { length lanes.items < vec_capacity lanes }
     requires all { AreAllWith office lanes.items last }
-    ensures { IsDayClosed day (last, state S.Store ledger.old, W.contents writer.old) (state S.Store ledger.new, W.contents writer.new) result }
+    ensures { IsDayClosed office lanes.items day (last, state S.Store ledger.old, W.contents writer.old) (state S.Store ledger.new, W.contents writer.new) result }
 {
     pay_lanes::laws::still_together();
     pay_lanes::laws::same_lanes();
     pay_lanes::laws::same_workers();
+    pay_close::laws::any_shards();
     let (closed, last) = close_through(rt, alloc, last, ledger, day, writer);
     let ended = end(&rt, alloc, office, lanes, last);
     told(closed, ended)

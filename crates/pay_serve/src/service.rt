@@ -1,9 +1,11 @@
 //! The whole service.
 ghost use Rattle.std.specs.Prelude.{◌≡◌, ◌≤◌, All, length, IfOk};
+ghost use Rattle.std.specs.Arc.{arc_value};
 ghost use Rattle.sqlite.specs.Held.{state};
 ghost use Rattle.pay_day.specs.declared.limits.TheConstants.{FIRST_DAY, LAST_DAY};
 ghost use Rattle.pay_serve.specs.Closes.{IsServed};
 ghost use Rattle.pay_serve.specs.Lanes.{HasShards, AreAllWith};
+ghost use Rattle.pay_serve.specs.Machines.{IsNewOffice};
 
 use crate::begins::Begins;
 use crate::closing::{close_day, end};
@@ -45,6 +47,7 @@ where
     ensures count { IfOk result (λ opened. length opened.1.items ≡ plan.now.lanes) }
     ensures shards { IfOk result (λ opened. All HasShards opened.1.items × HasShards opened.2) }
     ensures all { IfOk result (λ opened. AreAllWith opened.0 opened.1.items opened.2) }
+    ensures new { IfOk result (λ opened. IsNewOffice (arc_value tables) opened.0) }
 {
     let gates = open_gates(alloc, plan.shards)?;
     let lanes = plan.lanes.saturating_add(1);
@@ -56,8 +59,9 @@ where
 }
 
 /// Serves the connections of a plan's lanes, each lane's at the listener beside it and in a thread of its own, one after another,
-/// until all have ended. Then it closes the plan's day into a ledger over one further lane, and writes what came of it. Whether the
-/// day was closed; if not, its refusal is written. Where a lane gets no thread, no connection is served, and the day is not closed.
+/// until all have ended. Then it closes the plan's day into a ledger over one further lane, and writes what came of it: what one machine
+/// says that was asked what all lanes asked. Whether the day was closed; if not, its refusal is written. Where a lane gets no thread,
+/// no connection is served, and the day is not closed.
 pub fn serve<R, S: Alter, W: Write>(
     rt: R,
     alloc: Global,
@@ -72,7 +76,7 @@ where
     R: Threads + Wait + Copy + Send + 'static,
     requires day { (FIRST_DAY ≤ plan.now.close) × (plan.now.close ≤ LAST_DAY) }
     requires listeners { length listeners.items ≡ plan.now.lanes }
-    ensures { IsServed plan.now.close (state S.Store ledger.old, W.contents writer.old) (state S.Store ledger.new, W.contents writer.new)
+    ensures { IsServed (arc_value tables) plan.now.close (state S.Store ledger.old, W.contents writer.old) (state S.Store ledger.new, W.contents writer.new)
         result ((ledger.new ≡ ledger.old) × (writer.new ≡ writer.old)) }
 {
     pay_lanes::laws::still_together();

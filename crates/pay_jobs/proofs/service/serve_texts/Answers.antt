@@ -55,7 +55,7 @@ returns-in_err-closed-clause-fails g c =
 
 pub returns-clause-ends : goal.returns-clause-ends
 returns-clause-ends g c =
-    served c.args.fares.now c.args.zone.now c.args.plan.now.close _ _ _ _ c.in_ok-closed.closed _ (
+    served (arc_value c.in_ok-tables.tables) c.args.fares.now c.args.zone.now c.args.plan.now.close _ _ _ _ c.in_ok-closed.closed _ (
       new_machine c.in_ok-zone.zone (arc_value c.in_ok-tables.tables) (Some nothing),
       record { says = c.in_ok-tables.ensures.ok; rule = c.in_ok-zone.ensures.ok; new = refl; posted = refl },
     )

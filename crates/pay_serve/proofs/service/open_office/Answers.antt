@@ -1,6 +1,6 @@
 use Rattle.std.proofs.Common.{◌<◌, sym, subst}
 use Rattle.std.specs.Arc.{arc_value}
-use Rattle.pay_serve.proofs.Begun.{in_count, popped, some_lane, one_more, others, all_have, all_with}
+use Rattle.pay_serve.proofs.Begun.{in_count, popped, some_lane, one_more, others, all_have, all_with, new_office}
 use Rattle.pay_serve.proofs.service.open_office.Goals as goal
 
 -- there are lanes
@@ -33,3 +33,9 @@ returns-clause-all g c =
     all_with (arc_value c.args.tables) c.args.plan.now.shards c.saturating_add-lanes.result c.in_ok-office.office c.in_ok-office.lanes.items c.pop.new.self.items c.in-Some.last
     counts.some begun.workers begun.new_workers begun.lanes begun.together
     (popped c.in_ok-office.lanes.items c.pop.new.self.items c.pop.result c.in-Some.last c.pop.ensures.items c.in-Some.is)
+
+pub returns-clause-new : goal.returns-clause-new
+returns-clause-new g c =
+    let begun = c.in_ok-office.ensures in
+    let counts = in_count c.args.plan.now.shards c.saturating_add-lanes.result _ (λ out. let e = begun.count.1 out in absurd cc) in
+    new_office (arc_value c.args.tables) c.args.plan.now.shards c.saturating_add-lanes.result c.in_ok-office.office counts.some begun.workers begun.new_workers

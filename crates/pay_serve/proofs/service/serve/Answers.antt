@@ -1,4 +1,4 @@
-use Rattle.std.proofs.Common.{length, ap, subst, arith}
+use Rattle.std.proofs.Common.{inl, length, ap, subst, arith}
 use Rattle.std.specs.List.{AllZip}
 use Rattle.std.proofs.lemmas.List.Elements.{length_all_zip}
 use Rattle.pay_lanes.specs.Words.{IsSameLane}
@@ -24,3 +24,14 @@ pub close_day-requires-clause-all : goal.close_day-requires-clause-all
 close_day-requires-clause-all g c =
     all_back c.still_together.ensures.in_order c.same_workers.ensures.itself c.in_ok-office.office c.in_ok-office.lanes.items c.end_all.new.lanes.items c.in_ok-office.last c.in_ok-office.last
     (subst (λ ls. AllZip IsSameLane ls c.end_all.new.lanes.items) c.begin_all.ensures c.end_all.ensures.lanes) (c.same_lanes.ensures.itself c.in_ok-office.last) c.in_ok-office.ensures.all
+
+pub returns : goal.returns
+returns g c = inl (record {
+  office = c.in_ok-office.office;
+  new = c.in_ok-office.ensures.new;
+  others = c.end_all.new.lanes.items;
+  last = c.in_ok-office.last;
+  all = all_back c.still_together.ensures.in_order c.same_workers.ensures.itself c.in_ok-office.office c.in_ok-office.lanes.items c.end_all.new.lanes.items c.in_ok-office.last c.in_ok-office.last
+      (subst (λ ls. AllZip IsSameLane ls c.end_all.new.lanes.items) c.begin_all.ensures c.end_all.ensures.lanes) (c.same_lanes.ensures.itself c.in_ok-office.last) c.in_ok-office.ensures.all;
+  closed = c.close_day.ensures;
+})
