@@ -176,9 +176,7 @@ impl<R: Threads + Wait + Abort + AllocGlobal + Copy> Desked<R> {
         let Desked { office, desk } = self;
         let mut lanes = Vec::new(rt.alloc());
         lanes.push(desk.into_lane()).expect(&rt, "memory");
-        shut(&rt, rt.alloc(), office, lanes)
-            .ok()
-            .expect(&rt, "all lanes")
+        shut(&rt, office, lanes).ok().expect(&rt, "all lanes")
     }
 }
 

@@ -127,9 +127,7 @@ impl Begun {
     // Shuts the office.
     fn shut<R: Abort + Threads + Wait + AllocGlobal>(self, rt: &R) -> Ended {
         let Begun { office, lanes } = self;
-        shut(rt, rt.alloc(), office, lanes)
-            .ok()
-            .expect(rt, "all lanes")
+        shut(rt, office, lanes).ok().expect(rt, "all lanes")
     }
 }
 
@@ -250,7 +248,7 @@ fn an_office_is_refused(rt: HostRuntime) {
 fn missing_a_lane<R: Abort + Threads + Wait + AllocGlobal>(rt: &R, begun: Begun) -> Begun {
     let Begun { office, mut lanes } = begun;
     let last = lanes.pop().expect(rt, "a lane");
-    let Err(back) = shut(rt, rt.alloc(), office, lanes) else {
+    let Err(back) = shut(rt, office, lanes) else {
         panic!(rt; "no fault")
     };
     let (fault, office, mut lanes) = back;

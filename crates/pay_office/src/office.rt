@@ -73,9 +73,6 @@ pub enum ShutFault {
     /// 33: the numbers of the lanes are not all that were begun, each once.
     #[error("33 LaneMissing")]
     LaneMissing,
-    /// 90: no memory.
-    #[error("90 Memory")]
-    Memory,
 }
 
 /// The workers of all shards, each in a thread of its own. In a contract it is the workers as they were when their threads
@@ -86,10 +83,12 @@ pub struct Office<F: Fares, G: Gate> {
     // How many lanes were opened with them.
     lanes: usize,
     stop: Stop,
+    // Room for the workers once they are back, so that an office can be shut without memory.
+    room: Vec<Worker<F, G>>,
 }
 
 impl<F: Fares, G: Gate> Model for Office<F, G> {
-    ghost use Rattle.std.specs.Prelude.{◌≡◌, List, map as each};
+    ghost use Rattle.std.specs.Prelude.{◌≡◌, ◌≤◌, List, [], length, map as each, vec_capacity};
     ghost use Rattle.std.specs.Coded.{coded_list};
     ghost use Rattle.pay_lanes.specs.Words.{WorkerParts, worker_code, lanes_of};
 
@@ -99,7 +98,8 @@ impl<F: Fares, G: Gate> Model for Office<F, G> {
 
     ghost view = { λ o. each (λ w. w.promise.0.value) o.workers.items };
 
-    ghost invariant = { λ o. o.lanes ≡ lanes_of (each (λ w. w.promise.0.value) o.workers.items) };
+    ghost invariant = { λ o. (o.lanes ≡ lanes_of (each (λ w. w.promise.0.value) o.workers.items))
+        × (o.room.items ≡ []) × (length o.workers.items ≤ vec_capacity o.room) };
 }
 
 /// Tells the workers to stop, and waits until their threads have ended. What they were is lost.
@@ -163,11 +163,13 @@ where
         lanes: opened,
     } = open(alloc, tables, shards, lanes, gates)?;
     let stop = Stop::new(alloc)?;
+    let room = Vec::with_capacity(alloc, workers.len())?;
     let workers = begin_all(rt, alloc, &stop, workers)?;
     let office = Office {
         workers,
         lanes: lanes as usize,
         stop,
+        room,
     };
     Ok((office, opened))
 }
@@ -188,16 +190,15 @@ fn join_all<F: Fares, G: Gate, R: Threads>(
 }
 
 /// Stops the workers of an office between their turns, once the threads of its lanes have returned, and gives what the shards were
-/// asked and what was left. Where lanes are missing, or there is no memory for the workers, it gives all back, and the workers go on.
+/// asked and what was left. Where lanes are missing it gives all back, and the workers go on. It takes no memory.
 pub fn shut<F: Fares, G: Gate, R: Threads + Wait>(
     rt: &R,
-    alloc: Global,
     office: Office<F, G>,
     lanes: Vec<Lane>,
 ) -> Result<Ended, (ShutFault, Office<F, G>, Vec<Lane>)>
     requires { AreTogether office lanes.items }
     ensures all { OnOk result (AreAll office lanes.items) }
-    ensures missing { IfErr result (λ back. (back.0 ≡ LaneMissing) ↔ (AreAll office lanes.items → ⊥)) }
+    ensures missing { IfErr result (λ back. (back.0 ≡ LaneMissing) × (AreAll office lanes.items → ⊥)) }
     ensures given_back { IfErr result (λ back. (back.1 ≡ office) × IsPermutation lanes.items back.2.items) }
     ensures ended { IfOk result (λ ended. HasEnded office lanes.items (each (λ j. j.items) ended.journals.items) (each vec_items ended.left.items)) }
 {
@@ -205,10 +206,8 @@ pub fn shut<F: Fares, G: Gate, R: Threads + Wait>(
     if !put_in_order(&mut lanes, office.lanes) {
         return Err((ShutFault::LaneMissing, office, lanes));
     }
-    let Ok(mut workers) = Vec::with_capacity(alloc, office.workers.len()) else {
-        return Err((ShutFault::Memory, office, lanes));
-    };
     office.stop.tell();
+    let mut workers = office.room;
     join_all(rt, office.workers, &mut workers);
     match end(rt, workers, lanes) {
         Ok(ended) => Ok(ended),

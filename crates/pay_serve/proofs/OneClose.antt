@@ -1,6 +1,6 @@
 -- A close over the last lane of an office is the close of one machine.
 use Rattle.std.proofs.Common.{◌≡◌, inl, inr, ℕ, zero, suc, ◌+◌, ◌<◌, ◌≤◌, ◌==◌, eqb, Bool, true, false, cond, if◌then◌else◌, List, [], ◌∷◌, ◌++◌, All, map, length, get_or, Option, Some, None, refl, sym, ap, ◌∙◌, subst, arith, eq-eqb}
-use Rattle.std.specs.Prelude.{◌⊎◌, IfSome, ⊤, Result, Ok, Err, OnOk, IsOk}
+use Rattle.std.specs.Prelude.{◌⊎◌, IfSome, ⊤}
 use Rattle.std.specs.FinMap.{empty}
 use Rattle.std.specs.List.{AllZip, find, range_with_len}
 use Rattle.std.proofs.lemmas.List.Elements.{All-head, All-tail, AllZip-get_or, length_all_zip}
@@ -241,9 +241,6 @@ some_worker : (ws : List WorkerParts) → 1 ≤ length ws → WorkerParts
 some_worker [] some = absurd (omega (arith, some))
 some_worker (w ∷ ws) some = w
 
-pub is_over : (office : List WorkerParts) (all ls : List LaneParts) (l : LaneParts) (journals : List (List Item)) (left : List (List Entry)) → all ≡ ls ++ l ∷ [] → HasEnded office all journals left → IsOver office (ls ++ l ∷ [])
-is_over office all ls l journals left is ended = (journals, left, subst (λ ms. HasEnded office ms journals left) is ended)
-
 pub over_as_one : ShardsCloseAsMerge → (office : List WorkerParts) (ls : List LaneParts) (l : LaneParts) (day shards : ℕ) (put : List Taken) → AreAllWith office ls l → shards ≡ length l.shards
     → AreQuotes day shards 0 put → AreAnswered (λ ticket. answer_to ticket l.answers.got) put → IsOver office (ls ++ l ∷ []) → IsOverAsOne office (ls ++ l ∷ []) day shards put
 over_as_one law office ls l day shards put all count quotes its over = record {
@@ -259,9 +256,3 @@ over_as_one law office ls l day shards put all count quotes its over = record {
       (subst (AreJournalsFrom (length ended.workers) 0) ended.ends.journals_are ended.ends.asked)
       mine.2 (ways ∙ long) (count ∙ (ways ∙ long)) law put (omega (arith, some, count, ways)) quotes its whole;
 }
-
--- what is so where an office has ended is so where that is told
-pub where_told : {A B E F : Type 0} (told : Result A E) (ended : Result B F) (P Q : Type 0) → OnOk told (IsOk ended) → OnOk ended P → (P → Q) → OnOk told Q
-where_told (Ok a) (Ok b) P Q is holds so = so holds
-where_told (Ok a) (Err f) P Q is holds so = absurd (cc)
-where_told (Err e) ended P Q is holds so = tt

@@ -1,5 +1,5 @@
 -- The close of a day, and what is written of it.
-use Rattle.std.specs.Prelude.{◌≡◌, ◌⊎◌, ℕ, Bool, List, [], ◌∷◌, ◌++◌, length, Option, Result, Ok, Err, IsErr, OnOk, is_ok}
+use Rattle.std.specs.Prelude.{◌≡◌, ◌⊎◌, ℕ, Bool, List, [], ◌∷◌, ◌++◌, length, Option, Result, Ok, Err, IsErr, is_ok}
 use Rattle.std.specs.Io.KnownBytes.{Appends}
 use Rattle.sqlite.specs.State.{State}
 use Rattle.pay_account.specs.Words.{Posting}
@@ -15,7 +15,7 @@ use Rattle.pay_close.specs.Words.{Closes}
 use Rattle.pay_serve.specs.Lanes.{AreAllWith}
 use Rattle.pay_serve.specs.Machines.{IsOverAsOne, IsNewOffice}
 use Rattle.pay_serve.specs.declared.fault.ServeFault.{ServeFault}
-use Rattle.pay_serve.specs.declared.fault.ServeFault.TheVariants.{Memory, Output}
+use Rattle.pay_serve.specs.declared.fault.ServeFault.TheVariants.{Output}
 
 -- The lines of a close were written: whether it was closed is told where all of them were.
 abbrev pub IsWritten : ℕ → Result (List Posting) Refusal → Option (List ℕ) → Option (List ℕ) → Result Bool WriteFault → Type 0
@@ -39,22 +39,21 @@ pub record IsClosedThrough (day : ℕ) (before after : LaneParts × State × Opt
   pub lane : after.0 ≡ desk.lane
   pub closed : IsClosedOver desk_parts day (new_desk before.0, before.1, before.2) (desk, after.1, after.2) result
 
--- what is told of a close whose lines were written, or not, once the office has ended, for which memory may be refused
+-- what is told of a close whose lines were written, or not
 abbrev pub IsTold : Result Bool WriteFault → Result Bool ServeFault → Type 0
 IsTold (Ok closed) (Ok told) = told ≡ closed
-IsTold (Ok closed) (Err fault) = fault ≡ Memory
-IsTold (Err why) (Ok told) = ⊥
-IsTold (Err why) (Err fault) = (fault ≡ Memory) ⊎ (fault ≡ Output)
+IsTold (Err why) (Err fault) = fault ≡ Output
+IsTold _ _ = ⊥
 
--- The day was closed over this lane, the last of an office, or not, and the lines of that were written. Where nothing failed, the office
--- has ended, with the other lanes and this one. Before are the lane, the ledger, and what the writer holds; after, the ledger and what the
+-- The day was closed over this lane, the last of an office, or not, and the lines of that were written; and the office has ended, with the
+-- other lanes and this one. Before are the lane, the ledger, and what the writer holds; after, the ledger and what the
 -- writer holds.
 pub record IsDayClosed (office : List WorkerParts) (others : List LaneParts) (day : ℕ) (before : LaneParts × State × Option (List ℕ)) (after : State × Option (List ℕ)) (result : Result Bool ServeFault) : Type 0 where
   pub lane : LaneParts
   pub closed : Result Bool WriteFault
   pub through : IsClosedThrough day before (lane, after.0, after.1) closed
   pub told : IsTold closed result
-  pub one : OnOk result (IsOverAsOne office (others ++ lane ∷ []) day (length before.0.shards) through.closed.closed.put)
+  pub one : IsOverAsOne office (others ++ lane ∷ []) day (length before.0.shards) through.closed.closed.put
 
 -- All connections were served over a new office, and the day was closed over its last lane, or not. Before and after are the ledger and
 -- what the writer holds.

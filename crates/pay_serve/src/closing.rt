@@ -1,5 +1,5 @@
 //! The close of a day over one lane, once all others have ended.
-ghost use Rattle.std.specs.Prelude.{◌≡◌, ◌≤◌, ◌<◌, [], ◌∷◌, ◌++◌, length, IfErr, IsOk, OnOk, vec_capacity};
+ghost use Rattle.std.specs.Prelude.{◌≡◌, ◌≤◌, ◌<◌, [], ◌∷◌, ◌++◌, length, vec_capacity};
 ghost use Rattle.sqlite.specs.Held.{state};
 ghost use Rattle.pay_day.specs.declared.limits.TheConstants.{FIRST_DAY, LAST_DAY};
 ghost use Rattle.pay_shard.specs.Words.{AreKept};
@@ -7,13 +7,12 @@ ghost use Rattle.pay_lanes.specs.Words.{IsSameLane};
 ghost use Rattle.pay_serve.specs.Closes.{IsClosedOver, IsClosedThrough, IsTold, IsDayClosed};
 ghost use Rattle.pay_serve.specs.Lanes.{HasShards, AreAllWith};
 ghost use Rattle.pay_serve.specs.Machines.{IsOver};
-ghost use Rattle.pay_serve.specs.declared.fault.ServeFault.TheVariants.{Memory};
 
 use crate::fault::ServeFault;
 use pay_account::Fares;
 use pay_close::LedgerTill;
 use pay_ledger::Ledger;
-use pay_office::{Gate, Lane, LaneDesk, Office, ShutFault, shut};
+use pay_office::{Gate, Lane, LaneDesk, Office, shut};
 use pay_session::Till;
 use pay_shard::Desk;
 use pay_wire::{Closed, Reply, WriteFault, send};
@@ -74,32 +73,26 @@ fn close_through<R: Wait + Copy, S: Alter, W: Write>(
 /// Ends the threads of an office, all of whose lanes are back.
 pub(crate) fn end<F: Fares, G: Gate, R: Threads + Wait>(
     rt: &R,
-    alloc: Global,
     office: Office<F, G>,
     lanes: Vec<Lane>,
     last: Lane,
-) -> Result<(), ServeFault>
+)
     requires room { length lanes.items < vec_capacity lanes }
     requires all { AreAllWith office lanes.items last }
-    ensures fault { IfErr result (λ fault. fault ≡ Memory) }
-    ensures ended { OnOk result (IsOver office (lanes.items ++ last ∷ [])) }
+    ensures { IsOver office (lanes.items ++ last ∷ []) }
 {
     let mut lanes = lanes;
     lanes.push_reserved(last);
-    match shut(rt, alloc, office, lanes) {
-        Ok(_) => Ok(()),
-        Err((ShutFault::LaneMissing, ..)) => unreachable!(),
-        Err((ShutFault::Memory, ..)) => Err(ServeFault::Memory),
+    match shut(rt, office, lanes) {
+        Ok(_) => {}
+        Err(_) => unreachable!(),
     }
 }
 
-/// What is told of a close, and of the end of the office behind it.
-fn told(closed: Result<bool, WriteFault>, ended: Result<(), ServeFault>) -> Result<bool, ServeFault>
-    requires { IfErr ended (λ fault. fault ≡ Memory) }
-    ensures told { IsTold closed result }
-    ensures ended { OnOk result (IsOk ended) }
+/// What is told of a close.
+fn told(closed: Result<bool, WriteFault>) -> Result<bool, ServeFault>
+    ensures { IsTold closed result }
 {
-    ended?;
     Ok(closed?)
 }
 
@@ -127,6 +120,6 @@ pub fn close_day<F: Fares, G: Gate, R: Threads + Wait + Copy, S: Alter, W: Write
     pay_lanes::laws::same_workers();
     pay_close::laws::any_shards();
     let (closed, last) = close_through(rt, alloc, last, ledger, day, writer);
-    let ended = end(&rt, alloc, office, lanes, last);
-    told(closed, ended)
+    end(&rt, office, lanes, last);
+    told(closed)
 }

@@ -96,7 +96,7 @@ where
     let refused = service.begins.tell();
     end_all(&rt, tried, &mut back);
     if let Some(fault) = refused {
-        end(&rt, alloc, office, back, last)?;
+        end(&rt, office, back, last);
         return Err(fault);
     }
     close_day(rt, alloc, office, back, last, ledger, plan.close, writer)

@@ -1,16 +1,15 @@
-use Rattle.std.proofs.Common.{[], ◌∷◌, ◌++◌, length, sym, subst}
+use Rattle.std.proofs.Common.{length, sym, subst}
 use Rattle.pay_office.specs.Words.{answer_to}
 use Rattle.pay_session.specs.Events.{AreAnswered}
 use Rattle.pay_lanes.specs.Words.{LaneParts}
 use Rattle.pay_serve.specs.Lanes.{AreAllWith}
-use Rattle.pay_serve.specs.Machines.{IsOver, IsOverAsOne}
 use Rattle.pay_serve.proofs.Going.{all_back, lanes_same}
-use Rattle.pay_serve.proofs.OneClose.{over_as_one, where_told}
+use Rattle.pay_serve.proofs.OneClose.{over_as_one}
 use Rattle.pay_serve.proofs.closing.close_day.Goals as goal
 
 -- the last lane has gone on
-pub end-ended-requires-clause-all : goal.end-ended-requires-clause-all
-end-ended-requires-clause-all g c =
+pub end-requires-clause-all : goal.end-requires-clause-all
+end-requires-clause-all g c =
     all_back c.still_together.ensures.in_order c.same_workers.ensures.itself c.args.office c.args.lanes.items c.args.lanes.items c.args.last c.close_through-closed.result.1
     (lanes_same c.same_lanes.ensures.itself c.args.lanes.items) c.close_through-closed.ensures.same c.requires.all
 
@@ -29,7 +28,6 @@ returns g c =
       lane = l;
       closed = c.close_through-closed.result.0;
       through = through;
-      told = c.told.ensures.told;
-      one = where_told c.told.result c.end-ended.result (IsOver c.args.office (ls ++ l ∷ [])) (IsOverAsOne c.args.office (ls ++ l ∷ []) c.args.day shards put) c.told.ensures.ended c.end-ended.ensures.ended
-          (over_as_one c.any_shards.ensures.merged c.args.office ls l c.args.day shards put all (sym (c.same_lanes.ensures.shards c.args.last l c.close_through-closed.ensures.same)) through.closed.closed.close.quotes its);
+      told = c.told.ensures;
+      one = over_as_one c.any_shards.ensures.merged c.args.office ls l c.args.day shards put all (sym (c.same_lanes.ensures.shards c.args.last l c.close_through-closed.ensures.same)) through.closed.closed.close.quotes its c.end.ensures;
     }
