@@ -8,9 +8,10 @@ use Rattle.pay_numbered.specs.Words.{IsIn}
 use Rattle.pay_shard.specs.Words.{IsNoneOf, without, command_under, IsReplyTo, AreKept}
 use Rattle.pay_shard.specs.declared.asked.Asked.{Asked}
 use Rattle.pay_shard.specs.declared.reply.Answer.{Answer}
+use Rattle.pay_shard.specs.declared.reply.Reply.{Reply}
 use Rattle.pay_lanes.specs.Parts.{LaneParts, shard_of, next_above, having_asked, having_taken}
 use Rattle.pay_lanes.specs.Words.{IsOwn}
-use Rattle.pay_office.specs.Waits.{all_sent, commands_below, commands_sent, AreBelow, answer_to, having_taken_all, HasTaken, tickets_of, IsWaiting, AreDistinct, AreWaiting, first_of, having_answer, waiting_without, IsToldOf}
+use Rattle.pay_office.specs.Waits.{all_sent, commands_below, commands_sent, AreBelow, answer_to, having_taken_all, HasTaken, tickets_of, IsWaiting, AreDistinct, AreWaiting, first_of, having_answer, waiting_without, IsToldOf, IsUntoldOf}
 use Rattle.pay_office.specs.declared.waiting.Waiting.{Waiting}
 use Rattle.pay_office.proofs.Commands.{find_none, find_kept, find_passes, other, other_too, all_below, sent_below, below_later, commands_put, commands_later, after_all, under_kept, under_last}
 
@@ -336,6 +337,52 @@ module _ (ticket : ℕ) where
         of_command = ap (λ t. command_under t (commands_sent l)) (sym its) ∙ (here.command ∙ ap Some (sym told.3));
         told = refl;
       }
+
+  some_waits : (ws : List Waiting) → IsIn (tickets_of ws) ticket → (w : Waiting) × (find is_its ws ≡ Some w)
+  some_waits [] waits = absurd waits
+  some_waits (w ∷ ws) waits = by (w.ticket == ticket) refl (some_waits ws)
+    where
+      by : (b : Bool) → (w.ticket == ticket) ≡ b → (IsIn (tickets_of ws) ticket → (x : Waiting) × (find is_its ws ≡ Some x)) → (x : Waiting) × (cond b (Some w) (find is_its ws) ≡ Some x)
+      by true is rest = (w, refl)
+      by false off rest = elim waits [ inl same ↦ (let here = eq-eqb w.ticket ticket same in absurd (cc)) | inr later ↦ rest later ]
+
+  -- what is told is told of the first under the ticket
+  its_own : (ws : List Waiting) (r : Waiting) (a : Answer) → find is_its ws ≡ Some r → IsToldOf ticket ws a → (r.answer ≡ Some a) × (a.command ≡ r.command)
+  its_own ws r a is told =
+      let same : told.0 ≡ r = some_is told.0 r (sym told.1 ∙ is) in
+      subst (λ (w : Waiting). (w.answer ≡ Some a) × (a.command ≡ w.command)) same (told.2, told.3)
+    where
+      some_is : (x y : Waiting) → ◌≡◌ {A = Option Waiting} (Some x) (Some y) → x ≡ y
+      some_is x y e = cc
+
+  -- no answer came to it
+  pub no_answer : (ws : List Waiting) (r : Waiting) → find is_its ws ≡ Some r → r.answer ≡ None → IsUntoldOf ticket ws
+  no_answer ws r is none a told = let its = (its_own ws r a is told).0 in absurd (cc)
+
+  -- its answer is to another command
+  pub other_answer : (ws : List Waiting) (r : Waiting) (b : Answer) → find is_its ws ≡ Some r → r.answer ≡ Some b → (b.command ≡ r.command → ⊥) → IsUntoldOf ticket ws
+  other_answer ws r b is some apart a told =
+      let its = its_own ws r a is told in
+      apart (ap (λ (x : Answer). x.command) (same a b (sym its.0 ∙ some)) ∙ its.1)
+    where
+      same : (x y : Answer) → ◌≡◌ {A = Option Answer} (Some x) (Some y) → y ≡ x
+      same x y e = cc
+
+  -- a reply that stands is that of the answer of what waits, which is to its command
+  pub none_told : (l : LaneParts) (ws : List Waiting) → AllByRecursion (IsWaiting l) ws → IsIn (tickets_of ws) ticket → IsUntoldOf ticket ws → (reply : Reply) → IsReplyTo ticket (commands_sent l) (λ t. answer_to t l.answers.got) reply → ⊥
+  none_told l ws all waits untold reply is =
+      let there = some_waits ws waits in
+      let here : IsWaiting l there.0 = found_of (IsWaiting l) ws there.0 all there.1 in
+      let its : there.0.ticket ≡ ticket = eqb-true there.0.ticket ticket (find_passes is_its ws there.0 there.1) in
+      untold is.answer (
+        there.0,
+        there.1,
+        here.answer ∙ (ap (λ t. answer_to t l.answers.got) its ∙ is.stands),
+        same is.answer.command there.0.command (sym is.of_command ∙ (ap (λ t. command_under t (commands_sent l)) (sym its) ∙ here.command)),
+      )
+    where
+      same : (x y : Asked) → ◌≡◌ {A = Option Asked} (Some x) (Some y) → x ≡ y
+      same x y e = cc
 
 -- ---- an answer at its place
 

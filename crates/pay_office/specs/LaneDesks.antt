@@ -1,10 +1,11 @@
 -- A desk over a lane.
 use Rattle.std.specs.Prelude.{◌≡◌, ℕ, ◌≤◌, ◌⊎◌, List, length, refl, ⊤}
 use Rattle.std.specs.Coded.{Coded, code_by, coded×, coded_ℕ, coded_list}
-use Rattle.pay_shard.specs.Words.{DeskParts}
+use Rattle.pay_shard.specs.Words.{DeskParts, IsReplyTo}
 use Rattle.pay_shard.specs.declared.desk.DeskFault.{DeskFault}
 use Rattle.pay_shard.specs.declared.desk.DeskFault.TheVariants.{Busy, Window}
 use Rattle.pay_shard.specs.declared.limits.TheConstants.{MOST_SHARDS}
+use Rattle.pay_shard.specs.declared.reply.Reply.{Reply}
 use Rattle.pay_lanes.specs.Words.{LaneParts, lane_code, unanswered, by_lane, IsSameLane, WasFullAt}
 use Rattle.pay_lanes.specs.declared.lane.SendFault.{SendFault}
 use Rattle.pay_lanes.specs.declared.lane.SendFault.TheVariants as sending
@@ -51,6 +52,10 @@ desk_parts d = record {
   MayRefuse = MayRefuse d;
   MayBeLate = ⊤;
 }
+
+-- No answer that the lane took is a reply to a ticket: there is none to it, or the first is to another command.
+abbrev pub HasNoReply : ℕ → LaneDeskParts → Type 0
+HasNoReply ticket d = (reply : Reply) → IsReplyTo ticket (desk_parts d).taken (desk_parts d).transcript reply → ⊥
 
 -- what a desk over a lane keeps
 pub record IsAtLane (began lane : LaneParts) (waiting : List Waiting) : Type 0 where

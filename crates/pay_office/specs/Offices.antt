@@ -7,12 +7,19 @@ use Rattle.pay_lanes.specs.Words.{LaneParts, WorkerParts, IsSameWorker, arrived,
 use Rattle.pay_lanes.specs.declared.opening.OpenFault.{OpenFault}
 use Rattle.pay_lanes.specs.declared.opening.OpenFault.TheVariants as opening
 use Rattle.pay_office.specs.declared.office.StartFault.{StartFault}
-use Rattle.pay_office.specs.declared.office.StartFault.TheVariants.{Count, Memory}
+use Rattle.pay_office.specs.declared.office.StartFault.TheVariants.{Count, NoThread, Memory}
+use Rattle.pay_office.specs.declared.work.BeginFault.{BeginFault}
+use Rattle.pay_office.specs.declared.work.BeginFault.TheVariants as beginning
 
 -- why no office begins whose queues were not opened
 abbrev pub start_fault : OpenFault → StartFault
 start_fault opening.Count = Count
 start_fault opening.Memory = Memory
+
+-- why no office begins where the thread of a worker does not
+abbrev pub begun_fault : BeginFault → StartFault
+begun_fault beginning.NoThread = NoThread
+begun_fault beginning.Memory = Memory
 
 -- With the workers as they are at the end: these journals are theirs, and these entries were left.
 pub record IsEndOf (workers : List WorkerParts) (lanes : List LaneParts) (journals : List (List Item)) (left : List (List Entry)) : Type 0 where

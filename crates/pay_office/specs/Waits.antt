@@ -95,6 +95,10 @@ abbrev pub IsToldOf : ℕ → List Waiting → Answer → Type 0
 IsToldOf ticket waiting answer =
     (w : Waiting) × (find (λ (x : Waiting). x.ticket == ticket) waiting ≡ Some w) × (w.answer ≡ Some answer) × (answer.command ≡ w.command)
 
+-- the first that waits under a ticket has no answer that is to its command
+abbrev pub IsUntoldOf : ℕ → List Waiting → Type 0
+IsUntoldOf ticket waiting = (answer : Answer) → IsToldOf ticket waiting answer → ⊥
+
 -- two entries, of which that of the second shard was sent first
 two_sent : (first second : Asked) → commands_below 2 (record { lane = 3; ticket = 1; command = second } ∷ record { lane = 3; ticket = 0; command = first } ∷ []) ≡ (0, first) ∷ (1, second) ∷ []
 two_sent first second = refl

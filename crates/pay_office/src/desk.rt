@@ -2,10 +2,11 @@
 ghost use Rattle.std.specs.Prelude.{◌≡◌, ◌≤◌, [], ◌∷◌, ◌++◌, length, Err, IfOk, IfErr, OnErr};
 ghost use Rattle.pay_shard.specs.declared.limits.TheConstants.{MOST_SHARDS};
 ghost use Rattle.pay_lanes.specs.Words.{IsSameLane};
-ghost use Rattle.pay_shard.specs.Words.{IsForShards, IsAfterAll, IsNoneOf, AreKept, with_waiting};
-ghost use Rattle.pay_shard.specs.declared.desk.DeskFault.TheVariants.{Busy};
+ghost use Rattle.pay_numbered.specs.Words.{IsIn};
+ghost use Rattle.pay_shard.specs.Words.{IsForShards, IsAfterAll, IsNoneOf, IsReplyTo, AreKept, with_waiting, without};
+ghost use Rattle.pay_shard.specs.declared.desk.DeskFault.TheVariants.{Busy, Late};
 ghost use Rattle.pay_office.specs.Waits.{commands_sent};
-ghost use Rattle.pay_office.specs.LaneDesks.{desk_parts, refusal_of, MayRefuse, WasBusy};
+ghost use Rattle.pay_office.specs.LaneDesks.{desk_parts, refusal_of, MayRefuse, WasBusy, HasNoReply};
 
 use crate::waiting::{AllWaiting, Waiting, take_all, take_out, take_until};
 use arrayvec::ArrayVec;
@@ -114,7 +115,16 @@ impl<R: Wait + Copy> Desk for LaneDesk<R> {
         Ok(ticket)
     }
 
-    fn get(&mut self, ticket: Ticket) -> Result<Reply, DeskFault> {
+    // The trait's clauses, and that it is late only where no reply is there.
+    fn get(&mut self, ticket: Ticket) -> Result<Reply, DeskFault>
+        requires { IsIn (desk_parts self.old).standing.waiting ticket }
+        ensures reply { IfOk result (λ reply. IsReplyTo ticket (desk_parts self.new).taken (desk_parts self.new).transcript reply) }
+        ensures late { IfErr result (λ fault. (fault ≡ Late) × (desk_parts self.old).MayBeLate) }
+        ensures none { OnErr result (HasNoReply ticket self.new) }
+        ensures got { (desk_parts self.new).standing ≡ with_waiting (without ticket self.old.waiting) (desk_parts self.old).standing }
+        ensures none_added { commands_sent self.new.lane ≡ commands_sent self.old.lane }
+        ensures transcript { AreKept (desk_parts self.old).transcript (desk_parts self.new).transcript }
+    {
         take_until(&self.rt, &mut self.lane, &mut self.waiting, ticket.number());
         let Some(Answer { reply, .. }) = take_out(&mut self.waiting, ticket.number()) else {
             return Err(DeskFault::Late);

@@ -55,9 +55,9 @@ impl From<OpenFault> for StartFault {
 }
 
 impl From<BeginFault> for StartFault {
-    ghost use Rattle.pay_office.specs.declared.office.StartFault.TheVariants.{Count};
+    ghost use Rattle.pay_office.specs.Offices.{begun_fault};
 
-    ghost from_gives = { λ _ fault. fault ≢ Count };
+    ghost from_gives = { λ from fault. fault ≡ begun_fault from };
 
     fn from(fault: BeginFault) -> StartFault {
         match fault {

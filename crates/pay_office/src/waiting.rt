@@ -3,7 +3,7 @@ ghost use Rattle.std.specs.Prelude.{◌≡◌, ◌==◌, Some, IfSome, IfNone};
 ghost use Rattle.std.specs.List.{find, position};
 ghost use Rattle.pay_numbered.specs.Words.{IsIn};
 ghost use Rattle.pay_lanes.specs.Words.{LaneParts, IsSameLane};
-ghost use Rattle.pay_office.specs.Waits.{tickets_of, AreWaiting, having_answer, waiting_without, HasTaken, IsToldOf};
+ghost use Rattle.pay_office.specs.Waits.{tickets_of, AreWaiting, having_answer, waiting_without, HasTaken, IsToldOf, IsUntoldOf};
 
 use crate::limits::{DESK_REST, LOOKS, MOST_WAITING, RESTS};
 use crate::same_command::is_same_command;
@@ -136,9 +136,11 @@ pub(crate) fn take_until<R: Wait>(rt: &R, lane: &mut Lane, waiting: &mut AllWait
 }
 
 /// Takes the command that waits under a ticket out, and gives its answer, if one came that is to this command.
+#[tactic(auto, using(crate::proofs::Waited::removed_at))]
 pub(crate) fn take_out(waiting: &mut AllWaiting, ticket: u64) -> Option<Answer>
     requires { IsIn (tickets_of waiting.old.items) ticket }
     ensures told { IfSome result (IsToldOf ticket waiting.old.items) }
+    ensures none { IfNone result (IsUntoldOf ticket waiting.old.items) }
     ensures rest { waiting.new.items ≡ waiting_without ticket waiting.old.items }
 {
     let Some(place) = place_of(waiting, ticket) else {

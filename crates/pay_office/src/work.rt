@@ -64,6 +64,10 @@ pub(crate) enum BeginFault {
 }
 
 impl From<AllocError> for BeginFault {
+    ghost use Rattle.pay_office.specs.declared.work.BeginFault.TheVariants.{Memory};
+
+    ghost from_gives = { λ _ fault. fault ≡ Memory };
+
     fn from(_: AllocError) -> BeginFault {
         BeginFault::Memory
     }

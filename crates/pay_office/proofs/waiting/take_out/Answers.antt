@@ -1,6 +1,7 @@
 use Rattle.std.proofs.Common.{ap, sym, ◌∙◌, rules}
 use Rattle.std.specs.List.{position}
-use Rattle.pay_office.proofs.Waited.{is_its, some_stands, removed_at, found_at}
+use Rattle.pay_office.proofs.Waited.{is_its, some_stands, found_at, no_answer, other_answer}
+use Rattle.pay_office.proofs.waiting.take_out.Goals.{in_default-answer-via-in-Some-answer+else-is_same_command, in_default-answer-via-in_default-answer}
 use Rattle.pay_office.proofs.waiting.take_out.Goals as goal
 
 pub unreachable-requires : goal.unreachable-requires
@@ -15,10 +16,10 @@ returns-in-Some-answer-clause-told c = (
   search rules,
 )
 
-pub returns-in-Some-answer-clause-rest : goal.returns-in-Some-answer-clause-rest
-returns-in-Some-answer-clause-rest c =
-    c.remove-command.ensures.items ∙ removed_at c.args.ticket c.args.waiting.now.items c.in-Some.place (ap (position (is_its c.args.ticket)) (sym c.deref.ensures.0) ∙ sym c.place_of.ensures ∙ c.in-Some.is)
-
-pub returns-in_default-answer-clause-rest : goal.returns-in_default-answer-clause-rest
-returns-in_default-answer-clause-rest c =
-    c.remove-command.ensures.items ∙ removed_at c.args.ticket c.args.waiting.now.items c.in-Some.place (ap (position (is_its c.args.ticket)) (sym c.deref.ensures.0) ∙ sym c.place_of.ensures ∙ c.in-Some.is)
+pub returns-in_default-answer-clause-none : goal.returns-in_default-answer-clause-none
+returns-in_default-answer-clause-none c =
+    let here = found_at c.args.ticket c.args.waiting.now.items c.in-Some.place c.remove-command.result (ap (position (is_its c.args.ticket)) (sym c.deref.ensures.0) ∙ sym c.place_of.ensures ∙ c.in-Some.is) c.remove-command.ensures.value in
+    elim c.in_default-answer.branch [
+      | in_default-answer-via-in-Some-answer+else-is_same_command w ↦ other_answer c.args.ticket c.args.waiting.now.items c.remove-command.result w.in-Some-answer.answer here (search rules) (λ same. search rules)
+      | in_default-answer-via-in_default-answer w ↦ no_answer c.args.ticket c.args.waiting.now.items c.remove-command.result here (search rules)
+    ]

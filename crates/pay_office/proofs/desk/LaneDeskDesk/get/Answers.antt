@@ -1,11 +1,12 @@
 use Rattle.std.proofs.Common.{◌≡◌, ℕ, ◌≤◌, List, length, sym, ap, ◌∙◌, subst, rules}
+use Rattle.pay_numbered.specs.Words.{IsIn}
 use Rattle.pay_shard.specs.Words.{Standing, AreKept, without}
 use Rattle.pay_shard.specs.declared.limits.TheConstants.{MOST_SHARDS}
 use Rattle.pay_lanes.specs.Parts.{LaneParts}
 use Rattle.pay_lanes.proofs.Same.{lane_then, lane_shards}
-use Rattle.pay_office.specs.Waits.{commands_sent, answer_to, tickets_of}
+use Rattle.pay_office.specs.Waits.{commands_sent, answer_to, tickets_of, IsUntoldOf}
 use Rattle.pay_office.specs.LaneDesks.{LaneDeskParts}
-use Rattle.pay_office.proofs.Waited.{stays, commands_stay, answers_stay, waiting_left, tickets_left, reply_told}
+use Rattle.pay_office.proofs.Waited.{stays, commands_stay, answers_stay, waiting_left, tickets_left, reply_told, none_told}
 use Rattle.pay_office.proofs.desk.LaneDeskDesk.get.Goals as goal
 
 pub invariant_of-self : goal.invariant_of-self
@@ -69,4 +70,10 @@ returns-clause-got g c =
 
 pub returns-clause-reply : goal.returns-clause-reply
 returns-clause-reply g c =
-    reply_told c.args.ticket c.take_until.new.lane c.take_until.new.waiting.items c.in-Some.field-0 c.take_until.ensures.waiting.each (search rules)
+    search (rules, reply_told c.args.ticket c.take_until.new.lane c.take_until.new.waiting.items c.in-Some.field-0 c.take_until.ensures.waiting.each (search rules))
+
+pub returns-in_default-clause-none : goal.returns-in_default-clause-none
+returns-in_default-clause-none g c =
+    none_told c.args.ticket c.take_until.new.lane c.take_until.new.waiting.items c.take_until.ensures.waiting.each
+    (subst (λ ts. IsIn ts c.args.ticket) (sym (c.take_until.ensures.tickets ∙ ap (λ (d : LaneDeskParts). d.waiting) c.self.view_is)) c.requires)
+    (subst (λ t. IsUntoldOf t c.take_until.new.waiting.items) c.number-2.ensures c.in_default.ensures.none)
