@@ -69,9 +69,9 @@ def run_file(words, path, start=0, leaves=False):
 
 
 @contextlib.contextmanager
-def started(words=RUN, stdin=subprocess.PIPE):
+def started(words=RUN, stdin=subprocess.PIPE, stdout=subprocess.PIPE, **how):
     """A run that is spoken to while it goes on."""
-    with subprocess.Popen([PROGRAM, *words], stdin=stdin, stdout=subprocess.PIPE, stderr=subprocess.PIPE, bufsize=0) as ran:
+    with subprocess.Popen([PROGRAM, *words], stdin=stdin, stdout=stdout, stderr=subprocess.PIPE, bufsize=0, **how) as ran:
         try:
             yield ran
         finally:
@@ -95,7 +95,8 @@ def end_of(ran, output=b""):
         status = ran.wait(TIME_TO_REPLY)
     except subprocess.TimeoutExpired:
         return End("no end", output)
-    return End(status, output + (b"" if ran.stdout.closed else ran.stdout.read()), ran.stderr.read())
+    rest = ran.stdout.read() if ran.stdout and not ran.stdout.closed else b""
+    return End(status, output + rest, ran.stderr.read())
 
 
 def trickle(pieces, pause, words=RUN):

@@ -1,19 +1,23 @@
-"""Sessions at sockets: lanes and shards at once, peers that are hostile or go, ports and threads that are not to be had."""
+"""Sessions at sockets: lanes and shards at once, peers that are hostile or go, and ports, threads, memory or an output that are not to be had."""
 
 import contextlib
+import functools
 import os
 import random
+import re
+import select
 import socket
 import struct
 import subprocess
+import tempfile
 import threading
-import time
 
 import loads
 import rules
 from running import (
-    FARES, LONDON, MONDAY, SAMPLE, SEVEN, TIME_TO_REPLY, End, answers, boardings, end_of, fault, heard, in_lines, run, started, test,
+    FARES, LONDON, MISSING, MONDAY, SAMPLE, SEVEN, TIME_TO_REPLY, End, answers, closing, end_of, fault, heard, run, started, test,
 )
+from themes.streams import opened_pipe
 
 HOST = "127.0.0.1"
 # Ports below those that the system gives to clients.
@@ -41,9 +45,9 @@ def free_ports(count):
             return first
 
 
-def words_of(port, lanes=1, shards=1, sessions=1, close=MONDAY, fares=FARES):
+def words_of(port, lanes=1, shards=1, sessions=1, close=MONDAY, fares=FARES, zone=LONDON):
     numbers = {"port": port, "lanes": lanes, "shards": shards, "sessions": sessions, "close": close}
-    return ["serve", fares, LONDON, *(word for name, number in numbers.items() for word in (f"--{name}", str(number)))]
+    return ["serve", fares, zone, *(word for name, number in numbers.items() for word in (f"--{name}", str(number)))]
 
 
 def listening(port, lanes):
@@ -52,10 +56,10 @@ def listening(port, lanes):
 
 
 @contextlib.contextmanager
-def serving(lanes, *plan, **more):
+def serving(lanes, shards, sessions, fares=FARES, stdin=subprocess.DEVNULL, **how):
     """A service that listens, its first port, and what it said."""
     port = free_ports(lanes)
-    with started(words_of(port, lanes, *plan, **more), stdin=subprocess.DEVNULL) as ran:
+    with started(words_of(port, lanes, shards, sessions, fares=fares), stdin=stdin, **how) as ran:
         said = heard(ran.stderr, len(listening(port, lanes)))
         yield ran, port, said
 
@@ -69,6 +73,12 @@ def ended(ran, said):
 def closed(port, lanes, output):
     """What a service comes to that closes its day."""
     return End(0, output, listening(port, lanes))
+
+
+def failed(port, lanes, line, output=b""):
+    """What a service comes to that fails once it listens."""
+    wanted = fault(line, output)
+    return wanted._replace(errors=listening(port, lanes) + wanted.errors)
 
 
 def connected(port):
@@ -346,30 +356,75 @@ def hostile_peers(_):
 
 @test
 def ports_that_are_taken(_):
-    """A port that is not to be had, the first or a later one, is told before anything else is said."""
+    """A port that is not to be had, the first or a later one, is told before anything else is said, and after a fault of the texts."""
     first = free_ports(3)
-    for lanes in (1, 3):
+    for lanes, taken in ((1, 1), (3, 1), (3, 2), (3, 3)):
         with socket.socket() as it:
-            it.bind((HOST, first + lanes - 1))
+            it.setsockopt(socket.SOL_SOCKET, socket.SO_REUSEADDR, 1)
+            it.bind((HOST, first + taken - 1))
             it.listen()
-            yield f"the last of {lanes} ports is taken", run(words_of(first, lanes)), fault("cannot listen")
+            yield f"port {taken} of {lanes} is taken", run(words_of(first, lanes)), fault("cannot listen")
+    with serving(2, 1, 1) as (ran, port, said):
+        for name, words, wanted in (
+            ("a port of another service", words_of(port + 1), "cannot listen"),
+            ("a port that is taken, and a bad zone", words_of(port, zone="no zone"), "bad zone"),
+            ("a port that is taken, and no fare file", words_of(port, fares=MISSING, zone="no zone"), "cannot read fares"),
+        ):
+            yield name, run(words), fault(wanted)
+        for lane in (port, port + 1):
+            yield "a session beside services that do not begin", answers(talk(lane, b"QUIT\n")), answers(b"BYE\n")
+        yield "a service beside those that do not begin", ended(ran, said), closed(port, 2, f"DONE {MONDAY} 0\n".encode())
 
 
-# A pthread_create of which the call FAIL_AT is refused, and a malloc and a realloc that are refused from the call FAIL_AT on, counted
-# together. It declares what it calls: the toolchain's compiler comes without the C library's headers.
+# A pthread_create whose call number THREAD is refused, once standard input has ended; and a malloc and a realloc whose calls from
+# number FIRST through LAST are refused, counted together, and told by a byte on the descriptor TELL. It declares what it calls: the
+# toolchain's compiler comes without the C library's headers.
 PRELOADED = r"""
 typedef unsigned long size_t;
 extern void *dlsym(void *, const char *);
 extern char *getenv(const char *);
 extern long atol(const char *);
+extern long read(int, void *, size_t);
+extern long write(int, const void *, size_t);
+extern void abort(void);
+extern int *__errno_location(void);
 
 #define RTLD_NEXT ((void *)-1l)
 #define EAGAIN 11
+#define ENOMEM 12
+
+static long number(const char *name) {
+  const char *it = getenv(name);
+  return it ? atol(it) : 0;
+}
 
 int pthread_create(void *thread, const void *how, void *(*start)(void *), void *given) {
   static long calls;
-  int (*next)(void *, const void *, void *(*)(void *), void *) = (int (*)(void *, const void *, void *(*)(void *), void *))dlsym(RTLD_NEXT, "pthread_create");
-  return ++calls == atol(getenv("FAIL_AT")) ? EAGAIN : next(thread, how, start, given);
+  typedef int create(void *, const void *, void *(*)(void *), void *);
+  create *next = (create *)dlsym(RTLD_NEXT, "pthread_create");
+  char byte;
+  if (++calls != number("THREAD")) return next(thread, how, start, given);
+  while (read(0, &byte, 1) > 0) {}
+  return EAGAIN;
+}
+
+static int is_refused(void) {
+  static long calls;
+  long call = __atomic_add_fetch(&calls, 1, __ATOMIC_SEQ_CST);
+  if (call < number("FIRST") || call > number("LAST")) return 0;
+  if (write(number("TELL"), "x", 1) != 1) abort();
+  *__errno_location() = ENOMEM;
+  return 1;
+}
+
+void *malloc(size_t size) {
+  void *(*next)(size_t) = (void *(*)(size_t))dlsym(RTLD_NEXT, "malloc");
+  return is_refused() ? 0 : next(size);
+}
+
+void *realloc(void *old, size_t size) {
+  void *(*next)(void *, size_t) = (void *(*)(void *, size_t))dlsym(RTLD_NEXT, "realloc");
+  return is_refused() ? 0 : next(old, size);
 }
 """
 
@@ -385,12 +440,136 @@ def preloaded(folder):
     return library
 
 
+def heard_of(call):
+    """What a peer hears, or nothing where its connection is refused or broken, or goes silent."""
+    with contextlib.suppress(OSError):
+        return call()
+    return b""
+
+
 @test
 def threads_that_are_refused(folder):
-    """A thread that the system refuses, of a shard or of a lane, is told, and nothing is served or closed."""
+    """A thread that the system refuses, of a shard or of a lane, is told, and nothing is served or closed, though peers wait at all ports."""
     library, lanes, shards = preloaded(folder), 3, 2
     for number in range(1, shards + lanes + 1):
-        port = free_ports(lanes)
-        came = run(words_of(port, lanes, shards), env={"LD_PRELOAD": library, "FAIL_AT": str(number)})
-        wanted = fault("35 NoThread")
-        yield f"thread {number} of {shards + lanes}", came, wanted._replace(errors=listening(port, lanes) + wanted.errors)
+        how = {"stdin": subprocess.PIPE, "env": {"LD_PRELOAD": library, "THREAD": str(number)}}
+        with serving(lanes, shards, 1, **how) as (ran, port, said), contextlib.ExitStack() as peers:
+            waiting = [peers.enter_context(connected(port + lane)) for lane in range(lanes)]
+            for peer in waiting:
+                peer.sendall(boarding(7).encode())
+            # Until this input ends the thread is not refused yet, and a lane that began before the others has time to reply.
+            select.select(waiting, [], [], 0.1)
+            ran.stdin.close()
+            came = ended(ran, said)
+            replies = b"".join(heard_of(lambda peer=peer: rest_of(peer)) for peer in waiting)
+            yield f"thread {number} of {shards + lanes}", came._replace(output=replies + came.output), failed(port, lanes, "35 NoThread")
+
+
+# A boarding of one account, and of another a touch in by rail, whose touch out is filled in.
+SHORT = (
+    rules.Tap(SEVEN, 1, 1, 7, rules.ROUTE, "BUS"), rules.Tap(SEVEN, 1, 2, 8, 10, "IN"), rules.Fix(3, 1, 8, "FILL", (SEVEN + 1_800, 12, "OUT")),
+    rules.Due(8, MONDAY),
+)
+
+
+def short_session(accounts):
+    """The lines of a short session, each with how it is answered by the rules over these accounts."""
+    for command in SHORT:
+        yield rules.line(command), functools.partial(rules.reply, rules.BUS, accounts, command)
+    yield f"SHOW 8 {MONDAY}\n", lambda: "".join(rules.shown(rules.BUS, accounts, 8, MONDAY))
+    yield "QUIT\n", lambda: "BYE\n"
+
+
+def short_service(library, first, last):
+    """A short service of a lane and a shard whose allocations from the first through the last are refused: its port, what its one peer
+    heard and it came to, and whether it came to the first of them."""
+    lines = "".join(line for line, _ in short_session({})).encode()
+    with tempfile.TemporaryFile() as told:
+        around = {"LD_PRELOAD": library, "FIRST": str(first), "LAST": str(last), "TELL": str(told.fileno())}
+        with serving(1, 1, 1, env=around, pass_fds=[told.fileno()]) as (ran, port, said):
+            replies = heard_of(lambda: talk(port, lines))
+            came = ended(ran, said)
+        return port, replies, came, os.fstat(told.fileno()).st_size > 0
+
+
+NO_MEMORY = "NO 90 Memory\n"
+# By what a close for which memory is refused may be answered.
+NOT_CLOSED = (NO_MEMORY, "NO 43 Store\n", "NO 44 DeskFault\n")
+
+
+def by_rules(replies):
+    """What these replies have to be and what is then closed, where some lines are refused for memory, and all others answered as if those
+    had not been sent."""
+    accounts, wanted = {}, ""
+    for _, reply in short_session(accounts):
+        wanted += NO_MEMORY if replies.startswith((wanted + NO_MEMORY).encode()) else reply()
+    return wanted, rules.closed(rules.BUS, accounts, {}, MONDAY)
+
+
+def ends_without_memory(port, replies):
+    """All that a short service may come to whose peer heard these replies, with them before its output."""
+    # A connection for which there is no memory hears nothing.
+    wanted, close = by_rules(replies) if replies else ("", f"DONE {MONDAY} 0\n")
+    ends = [closed(port, 1, (wanted + close).encode())]
+    ends += [ends[0]._replace(status=1, output=(wanted + refused).encode()) for refused in NOT_CLOSED]
+    if not replies:
+        # A thread for which there is no memory is none.
+        ends += [fault("90 Memory"), fault("43 Store"), failed(port, 1, "90 Memory"), failed(port, 1, "35 NoThread")]
+    return ends
+
+
+def count_refusals(end):
+    return len(re.findall(rb"^(?:NO|farebox:) \d", end.output + end.errors, re.MULTILINE))
+
+
+def first_listening(library):
+    """The first allocation that may be refused and the service listens all the same."""
+    low, high = 1, 1 << 16
+    while low < high:
+        middle = (low + high) // 2
+        port, _, came, _ = short_service(library, middle, middle)
+        low, high = (low, middle) if came.errors.startswith(listening(port, 1)) else (middle + 1, high)
+    return low
+
+
+# How many allocations are passed over behind one whose like `run` makes too, as tests/allocations has it refused: before the service
+# listens, and in its close.
+PASSED = 10
+# For how many allocations memory is refused where it is for a while. Were it for good, a shard without room in its journal would answer
+# nothing, and each reply be late.
+A_WHILE = 64
+
+
+@test
+def memory_that_is_refused(folder):
+    """Where memory is refused once or for a while, a line, the connection, the close or all is refused, and the rest is right."""
+    library = preloaded(folder)
+    first = first_listening(library)
+    yield "allocations before it listens", answers(b"%r" % (1 < first < 1 << 16)), answers(b"True")
+    for number, count, most in ((1, 1, 1), (first, A_WHILE, A_WHILE)):
+        was_refused = True
+        while was_refused:
+            port, replies, came, was_refused = short_service(library, number, number + count - 1)
+            came = came._replace(output=replies + came.output)
+            right = closed(port, 1, "".join(by_rules(b"")).encode())
+            is_refusal = was_refused and came in ends_without_memory(port, replies) and count_refusals(came) <= most
+            yield f"{count} refused from allocation {number} on", came, came if is_refusal else right
+            number += PASSED if number + PASSED < first or came.output.endswith(NO_MEMORY.encode()) else 1
+
+
+UNWRITABLE = {
+    "without room": (functools.partial(open, "/dev/full", "wb"), {}),
+    "that nobody reads": (opened_pipe, {}),
+    "closed": (contextlib.nullcontext, closing(1)),
+}
+
+
+@test
+def outputs_that_fail(_):
+    """Where the lines of the close cannot be written, that is told, and the sessions had all their replies."""
+    for name, (opened, how) in UNWRITABLE.items():
+        with opened() as output, serving(2, 2, 1, stdout=output, **how) as (ran, port, said):
+            for lane in range(2):
+                replies = talk(port + lane, (boarding(7 + lane) + "QUIT\n").encode())
+                yield f"lane {lane} of a service with an output {name}", answers(replies), answers(A_BOARDING.encode() + b"BYE\n")
+            yield f"a service with an output {name}", ended(ran, said), failed(port, 2, "output fault")
