@@ -272,7 +272,7 @@ def break_off(peer):
 def garbage(port):
     """Bytes that are no lines."""
     with connected(port) as peer:
-        peer.sendall(random.Random(5).randbytes(1 << 20).replace(b"QUIT", b"quit") + b"\n")
+        peer.sendall(random.Random(5).getrandbits(8 << 20).to_bytes(1 << 20, "big").replace(b"QUIT", b"quit") + b"\n")
         peer.shutdown(socket.SHUT_WR)
         return rest_of(peer)
 
