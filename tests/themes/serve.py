@@ -195,6 +195,20 @@ ACCOUNTS, LANES, SHARDS, LINES = 300, 4, 4, 12_000
 WEEK_DAYS = range(MONDAY, MONDAY + 7)
 
 
+@test
+def replies_that_leave(_):
+    """The reply to a line comes though only half of the next has come, and the replies to lines that come together come in their order."""
+    with serving(1, 1, 1) as (ran, port, said):
+        more = boarding(8)
+        with connected(port) as peer:
+            peer.sendall((boarding(7) + more[:5]).encode())
+            yield "a line and half of the next", answers(heard(peer, len(A_BOARDING))), answers(A_BOARDING.encode())
+            peer.sendall((more[5:] + 1_000 * "none\n" + "QUIT\n").encode())
+            wanted = A_BOARDING + 1_000 * "NO 50 BadLine\n" + "BYE\n"
+            yield "the rest and many lines", answers(rest_of(peer)), answers(wanted.encode())
+        yield "how it ends", ended(ran, said), closed(port, 1, (paid(7) + paid(8) + f"DONE {MONDAY} 2\n").encode())
+
+
 def drawn_commands(draw):
     """Taps and corrections of accounts in any order, some of them twice, with lines that ask for a day or for what is due among them."""
     commands = loads.corrected_week(draw, ACCOUNTS)

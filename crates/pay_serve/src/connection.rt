@@ -4,12 +4,13 @@ ghost use Rattle.pay_lanes.specs.Words.{IsSameLane};
 ghost use Rattle.pay_serve.specs.Lanes.{HasShards};
 
 use crate::limits::{LAST_BYTES, LAST_READS, LAST_WAIT};
+use crate::sides::{ReadSide, Unsent, WriteSide};
 use jiff::tz::TimeZone;
 use pay_office::{Lane, LaneDesk};
 use pay_session::{NoTill, session};
 use pay_shard::Desk;
 use std::alloc::Global;
-use std::io::{BufReader, BufWriter, Read};
+use std::io::{BufReader, Read};
 use std::net::{Shutdown, TcpListener, TcpStream};
 use std::sync::Wait;
 use std::time::Duration;
@@ -18,13 +19,19 @@ use std::time::Duration;
 fn answer_lines<D: Desk>(alloc: Global, stream: &TcpStream, zone: &TimeZone<'_>, desk: &mut D)
     ensures { (D.parts desk.new).standing ≡ (D.parts desk.old).standing }
 {
-    let Ok(mut reader) = BufReader::new(alloc, stream) else {
+    let Ok(unsent) = Unsent::new(alloc, stream) else {
         return;
     };
-    let Ok(mut writer) = BufWriter::new(alloc, stream) else {
+    let read_side = ReadSide {
+        stream,
+        unsent: &unsent,
+    };
+    let Ok(mut reader) = BufReader::new(alloc, read_side) else {
         return;
     };
+    let mut writer = WriteSide { unsent: &unsent };
     let _ = session(&mut reader, &mut writer, zone, desk, &mut NoTill);
+    let _ = unsent.send();
 }
 
 /// Takes what a peer still sends, as far as it comes soon: bytes that nobody has taken when a stream is dropped make the system

@@ -11,6 +11,7 @@ pub mod limits;
 mod listening;
 mod plan;
 mod service;
+mod sides;
 
 pub use closing::{close_day, close_over};
 pub use connection::{serve_connections, serve_lane};
