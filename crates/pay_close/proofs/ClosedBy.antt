@@ -138,7 +138,7 @@ module _ (Refuses : DeskFault → Type 0) (Late : Type 0) (of : ℕ) where
 
   short_of : (fault : DeskFault) (put : List Taken) → IsStopped Refuses Late of fault put → IsShort Refuses Late put
   short_of fault put (inl f) = inl (fault, f.refuses)
-  short_of fault put (inr f) = inr (ap (list_any (λ (t : Taken). not (brings_quotes t.answer))) f.parts ∙ one_lacks f.front f.first f.later f.without)
+  short_of fault put (inr f) = let g = f.first in inr (ap (list_any (λ (t : Taken). not (brings_quotes t.answer))) g.parts ∙ one_lacks g.front g.first g.later g.without)
 
   refused_otherwise : (why : PostFault) → refusal_of_posting why ≡ refusal.DeskFault → ⊥
   refused_otherwise post.BadArchive e = cc

@@ -9,6 +9,7 @@ pub mod Rows
 mod Sorting
 mod Ascending
 mod Gathering
+mod AllAsked
 mod OneAccount
 mod OneByOne
 mod AnyShards

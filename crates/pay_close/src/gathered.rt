@@ -1,16 +1,15 @@
 //! What the shards of a desk give for the close of a day.
-ghost use Rattle.std.specs.Prelude.{◌≡◌, ◌≤◌, ◌<◌, [], OnOk, Err};
+ghost use Rattle.std.specs.Prelude.{◌≡◌, ◌≤◌, [], OnOk};
 ghost use Rattle.pay_day.specs.declared.limits.TheConstants.{FIRST_DAY, LAST_DAY};
-ghost use Rattle.pay_shard.specs.declared.asked.Asked.TheVariants.{Quotes};
-ghost use Rattle.pay_shard.specs.declared.limits.TheConstants.{MOST_SHARDS};
 ghost use Rattle.pay_shard.specs.Words.{AreKept};
 ghost use Rattle.pay_session.specs.Words.{AreQuotes};
-ghost use Rattle.pay_close.specs.Batches.{in_order_by, in_order, both, brought, gathered};
-ghost use Rattle.pay_close.specs.Gathers.{told_of_reply, IsAskedAt, IsToldAt};
+ghost use Rattle.pay_close.specs.Batches.{in_order_by, in_order, both, gathered};
+ghost use Rattle.pay_close.specs.Gathers.{IsAskedAt, IsToldAt};
 
+use crate::asking::ask_all;
 use crate::fault::NotClosed;
 use pay_account::{Quote, Sets};
-use pay_shard::{Asked, Batch, Command, Desk, DeskFault, Reply};
+use pay_shard::{Batch, Desk};
 use std::alloc::{AllocError, Global};
 use std::marker::Model;
 
@@ -48,7 +47,7 @@ fn sort_sets(sets: &mut Vec<Sets>) -> Result<(), AllocError>
 
 impl Gathered {
     /// Of no account.
-    fn new(alloc: Global) -> Gathered
+    pub(crate) fn new(alloc: Global) -> Gathered
         ensures { result ≡ record { quotes = []; sets = [] } }
     {
         Gathered {
@@ -58,7 +57,7 @@ impl Gathered {
     }
 
     /// A shard's batch behind what there is. After an `Err` what there is is of no further use.
-    fn add(&mut self, batch: Batch) -> Result<(), AllocError>
+    pub(crate) fn add(&mut self, batch: Batch) -> Result<(), AllocError>
         ensures { OnOk result (self.new ≡ both self.old batch) }
     {
         let (mut quotes, mut sets) = batch.into_parts();
@@ -91,69 +90,9 @@ impl Gathered {
     }
 }
 
-/// The command that asks a shard for its quotes of a day.
-fn quotes_command(day: u32, shard: u8, of: u8) -> Command
-    requires day { (FIRST_DAY ≤ day) × (day ≤ LAST_DAY) }
-    requires shard { (shard < of) × (of ≤ MOST_SHARDS) }
-    ensures { result ≡ Quotes day shard of }
-{
-    match Command::of(Asked::Quotes { day, shard, of }) {
-        Some(command) => command,
-        None => unreachable!(),
-    }
-}
-
-/// The batch of a reply. A desk that gives another reply than quotes ran out of memory for them.
-fn batch_of_reply(reply: Reply) -> Result<Batch, NotClosed>
-    ensures { result ≡ told_of_reply reply }
-{
-    match reply {
-        Reply::Quotes(batch) => Ok(batch),
-        _ => Err(NotClosed::Desk(DeskFault::Memory)),
-    }
-}
-
-/// Asks a shard for its quotes of a day.
-fn ask<D: Desk>(desk: &mut D, day: u32, shard: u8, of: u8) -> Result<Batch, NotClosed>
-    requires day { (FIRST_DAY ≤ day) × (day ≤ LAST_DAY) }
-    requires shard { (shard < of) × (of ≤ MOST_SHARDS) }
-    requires of_desk { of ≡ (D.parts desk.old).standing.shards }
-    ensures asked { IsAskedAt D.parts desk.old desk.new (AreQuotes day of shard) (IsToldAt D.parts desk.old 1 brought result) }
-    ensures transcript { AreKept (D.parts desk.old).transcript (D.parts desk.new).transcript }
-    ensures same_desk { (D.parts desk.new).standing ≡ (D.parts desk.old).standing }
-{
-    pay_shard::laws::put_then_get::<D>();
-    let ticket = match desk.put(quotes_command(day, shard, of)) {
-        Ok(ticket) => ticket,
-        Err(fault) => return Err(NotClosed::Desk(fault)),
-    };
-    match desk.get(ticket) {
-        Ok(reply) => batch_of_reply(reply),
-        Err(fault) => Err(NotClosed::Desk(fault)),
-    }
-}
-
-/// Asks the shards of a desk, one after another, and puts what they bring one behind another.
-fn ask_all<D: Desk>(alloc: Global, desk: &mut D, day: u32) -> Result<Gathered, NotClosed>
-    requires { (FIRST_DAY ≤ day) × (day ≤ LAST_DAY) }
-    ensures asked { IsAskedAt D.parts desk.old desk.new (AreQuotes day (D.parts desk.old).standing.shards 0)
-        (IsToldAt D.parts desk.old (D.parts desk.old).standing.shards brought result) }
-    ensures some { 1 ≤ (D.parts desk.old).standing.shards }
-    ensures transcript { AreKept (D.parts desk.old).transcript (D.parts desk.new).transcript }
-    ensures same_desk { (D.parts desk.new).standing ≡ (D.parts desk.old).standing }
-{
-    let of = desk.shards();
-    let mut all = Gathered::new(alloc);
-    for shard in 0..of {
-        let batch = ask(desk, day, shard, of)?;
-        all.add(batch)?;
-    }
-    Ok(all)
-}
-
 /// Asks each shard of a desk for its quotes of a service day, counted from 1970-01-01: what they bring, together in ascending
-/// order of account. Each answer is got before the next shard is asked, and nothing is asked once one brought no quotes.
-/// `Desk` is the first fault of the desk, and `Ledger` is out of memory for what was brought.
+/// order of account. All shards are asked before the first answer is got; once the desk refuses a command no more is asked, and the
+/// answers to all that were put are got. `Desk` is the first fault of the desk, and `Ledger` is out of memory for what was brought.
 pub fn gather<D: Desk>(alloc: Global, desk: &mut D, day: u32) -> Result<Gathered, NotClosed>
     requires { (FIRST_DAY ≤ day) × (day ≤ LAST_DAY) }
     ensures asked { IsAskedAt D.parts desk.old desk.new (AreQuotes day (D.parts desk.old).standing.shards 0)

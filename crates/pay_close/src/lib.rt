@@ -2,10 +2,12 @@
 //! [`LedgerTill`] does so for a session. `laws` says what commands and closes come to.
 #![tactic(auto)]
 
+mod asking;
 mod fault;
 mod gathered;
 pub mod laws;
 mod ledger_till;
+pub mod limits;
 
 pub use fault::NotClosed;
 pub use gathered::{Gathered, gather};
