@@ -1,5 +1,5 @@
 -- Answers and refusals, one after another.
-use Rattle.std.proofs.Common.{Bool, true, false, if◌then◌else◌, List, [], ◌∷◌, ◌++◌, Option, Some, None, Result, Ok, Err}
+use Rattle.std.proofs.Common.{◌≡◌, Bool, true, false, if◌then◌else◌, List, [], ◌∷◌, ◌++◌, Option, Some, None, Result, Ok, Err, subst}
 use Rattle.std.specs.Prelude.{⊤}
 use Rattle.pay_account.specs.Words.{Posting, QuoteParts, SetsParts}
 use Rattle.pay_postings.specs.Archive.{archived_sets}
@@ -17,6 +17,14 @@ Comes P F (Err why) = F why
 pub comes_then : {A B : Type 0} (P : A → Type 0) (Q : B → Type 0) (F : PostFault → Type 0) (r : Result A PostFault) (f : A → Result B PostFault) → Comes P F r → ((a : A) → P a → Comes Q F (f a)) → Comes Q F (r >>= f)
 comes_then P Q F (Ok a) f here next = next a here
 comes_then P Q F (Err why) f here next = here
+
+pub comes_weaker : {A : Type 0} (P Q : A → Type 0) (F : PostFault → Type 0) (r : Result A PostFault) → ((a : A) → P a → Q a) → Comes P F r → Comes Q F r
+comes_weaker P Q F (Ok a) weaker comes = weaker a comes
+comes_weaker P Q F (Err why) weaker comes = comes
+
+pub of_answer : {A : Type 0} (P : A → Type 0) (F : PostFault → Type 0) (r : Result A PostFault) (a : A) → r ≡ Ok a → Comes P F r → P a
+of_answer P F (Ok b) a e comes = let same : b ≡ a = cc in subst P same comes
+of_answer P F (Err why) a e comes = absurd (cc)
 
 -- what is true of the postings of an answer, or of the ledger that comes with it
 abbrev pub Then : {A B : Type 0} → (B → Type 0) → A × B → Type 0

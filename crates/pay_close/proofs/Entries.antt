@@ -1,8 +1,8 @@
 -- The entries of a map, and what is true of each of a list.
-use Rattle.std.proofs.Common.{◌≡◌, inl, inr, Bool, true, false, cond, ◌&&◌, T, List, [], ◌∷◌, ◌++◌, map, filter, find, Option, Some, None, Ordering, Less, Equal, Greater, is_eq, refl, sym, ap, ◌∙◌, subst}
+use Rattle.std.proofs.Common.{◌≡◌, inl, inr, ◌⊎◌, Bool, true, false, cond, ◌&&◌, T, List, [], ◌∷◌, ◌++◌, map, filter, find, Option, Some, None, Ordering, Less, Equal, Greater, is_eq, refl, sym, ap, ◌∙◌, subst}
 use Rattle.std.specs.Prelude.{⊤}
 use Rattle.std.specs.Cmp.{IsTotalOrder}
-use Rattle.std.specs.FinMap.{FinMap, get, entries, is_sorted, entries_sorted, get-entries}
+use Rattle.std.specs.FinMap.{FinMap, get, entries, values, is_sorted, entries_sorted, get-entries}
 use Rattle.std.specs.FinMap.{find as found}
 use Rattle.std.specs.FinMap.Entries.{below_all}
 use Rattle.std.specs.List.{AllByRecursion}
@@ -50,11 +50,32 @@ module _ {K X : Type 0} {R : K → K → Ordering} (o : IsTotalOrder R) where
   pub entry_is_there : (m : FinMap R X) (e : K × X) → IsIn (entries m) e → get m e.0 ≡ Some e.1
   entry_is_there m e is = get-entries m e.0 ∙ each_found (entries m) e (entries_sorted m) is
 
+module _ {K X : Type 0} (R : K → K → Ordering) where
+  found_value : (k : K) (x : X) (es : List (K × X)) → found R k es ≡ Some x → IsIn (map (λ (e : K × X). e.1) es) x
+  found_value k x [] e = absurd (cc)
+  found_value k x (f ∷ es) e = by (eq_by_cmp R k f.0) (found_value k x es) e
+    where
+      by : (b : Bool) → (found R k es ≡ Some x → IsIn (map (λ (e : K × X). e.1) es) x) → cond b (Some f.1) (found R k es) ≡ Some x → (f.1 ≡ x) ⊎ IsIn (map (λ (e : K × X). e.1) es) x
+      by true later e = let one : f.1 ≡ x = cc in inl one
+      by false later e = inr (later e)
+
+  -- what a map has at a key is one of its values
+  pub value_is_there : (m : FinMap R X) (k : K) (x : X) → get m k ≡ Some x → IsIn (values m) x
+  value_is_there m k x e = found_value k x (entries m) (sym (get-entries m k) ∙ e)
+
 -- ---- each of a list
 
 pub all_of : {X : Type 0} (P : X → Type 0) (list : List X) → ((x : X) → IsIn list x → P x) → AllByRecursion P list
 all_of P [] each = tt
 all_of P (x ∷ list) each = (each x (inl refl), all_of P list (λ y is. each y (inr is)))
+
+pub one_of_all : {X : Type 0} (P : X → Type 0) (list : List X) (x : X) → AllByRecursion P list → IsIn list x → P x
+one_of_all P [] x all is = absurd is
+one_of_all P (y ∷ list) x all is = elim is [ inl here ↦ subst P here all.0 | inr later ↦ one_of_all P list x all.1 later ]
+
+pub is_mapped : {X Y : Type 0} (f : X → Y) (list : List X) (x : X) → IsIn list x → IsIn (map f list) (f x)
+is_mapped f [] x is = absurd is
+is_mapped f (y ∷ list) x is = elim is [ inl here ↦ inl (ap f here) | inr later ↦ inr (is_mapped f list x later) ]
 
 pub all_mapped : {X Y : Type 0} (P : Y → Type 0) (f : X → Y) (list : List X) → AllByRecursion (λ x. P (f x)) list → AllByRecursion P (map f list)
 all_mapped P f [] all = tt

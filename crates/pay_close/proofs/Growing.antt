@@ -41,7 +41,7 @@ equal Greater e = absurd (cc)
 exact_numbers : CmpEqualImpliesEq number_cmp
 exact_numbers = exact_pairs nat_cmp nat_cmp exact_unsigned exact_unsigned
 
-same_number : (q k : ℕ × ℕ) → eq_by_cmp number_cmp q k ≡ true → q ≡ k
+pub same_number : (q k : ℕ × ℕ) → eq_by_cmp number_cmp q k ≡ true → q ≡ k
 same_number q k e = exact_numbers q k (equal (number_cmp q k) e)
 
 pub one_account : (p q : ℕ) → eq_by_cmp nat_cmp p q ≡ true → p ≡ q
@@ -67,7 +67,7 @@ module _ {X : Type 0} (number : X → ℕ × ℕ) (account : X → ℕ) where
       get-insert number_total set (number x) x n
       ∙ not_lost (eq_by_cmp number_cmp n (number x)) (get set n) x y (λ is. ap (get set) (same_number n (number x) is) ∙ none) e
 
-  one_longer : (set : ByNumber X) (x : X) → get set (number x) ≡ None → len (insert set (number x) x) ≡ len set + 1
+  pub one_longer : (set : ByNumber X) (x : X) → get set (number x) ≡ None → len (insert set (number x) x) ≡ len set + 1
   one_longer set x none = len-insert number_total set (number x) x ∙ ap (λ (o : Option X). cond (is_some o) (len set) (len set + 1)) none
 
   either_of : (q : ℕ) (b : Bool) (there : Option X) (x y : X) (n : ℕ × ℕ) → (b ≡ true → n ≡ number x) → account x ≡ q → (there ≡ Some y → (number y ≡ n) × (account y ≡ q)) → cond b (Some x) there ≡ Some y
@@ -85,7 +85,7 @@ module _ {X : Type 0} (number : X → ℕ × ℕ) (account : X → ℕ) where
   of_none q n x e = absurd (none-some x (sym (get-empty number_cmp n) ∙ e))
 
   -- what is added is new
-  new_if_added : (same : X → X → Bool) (most : ℕ) (x : X) (there : Option X) (count : ℕ) → judgement same most x there count ≡ Ok Added → there ≡ None
+  pub new_if_added : (same : X → X → Bool) (most : ℕ) (x : X) (there : Option X) (count : ℕ) → judgement same most x there count ≡ Ok Added → there ≡ None
   new_if_added same most x None count e = refl
   new_if_added same most x (Some there) count e = by (same there x) e
     where
@@ -136,7 +136,7 @@ one_fix_more accepted fix none = record {
 }
 
 -- prices that are no repeat are of a further tap
-added_tap : (tables : FareTables) (accepted : Accepted) (tap : Tap) (is : Bool) (r : Result Addition AdditionFault) (priced : Priced) → (if is then tap_added tables accepted tap r else Err of_tap.UnknownPlace) ≡ Ok priced
+pub added_tap : (tables : FareTables) (accepted : Accepted) (tap : Tap) (is : Bool) (r : Result Addition AdditionFault) (priced : Priced) → (if is then tap_added tables accepted tap r else Err of_tap.UnknownPlace) ≡ Ok priced
     → priced.again ≡ false → r ≡ Ok Added
 added_tap tables accepted tap false r priced e new = absurd (cc)
 added_tap tables accepted tap true (Ok Added) priced e new = refl
@@ -160,7 +160,7 @@ is_repeat : (tables : FareTables) (accepted : Accepted) (named : Option ℕ) →
 is_repeat tables accepted None = refl
 is_repeat tables accepted (Some day) = refl
 
-added_fix : (tables : FareTables) (accepted : Accepted) (fix : Fix) (is : Bool) (r : Result Addition AdditionFault) (priced : Priced) → (if is then fix_added tables accepted fix r else Err of_fix.UnknownPlace) ≡ Ok priced
+pub added_fix : (tables : FareTables) (accepted : Accepted) (fix : Fix) (is : Bool) (r : Result Addition AdditionFault) (priced : Priced) → (if is then fix_added tables accepted fix r else Err of_fix.UnknownPlace) ≡ Ok priced
     → priced.again ≡ false → r ≡ Ok Added
 added_fix tables accepted fix false r priced e new = absurd (cc)
 added_fix tables accepted fix true (Ok Added) priced e new = refl
@@ -190,7 +190,7 @@ chosen : (b : Bool) (x : Accepted) (there : Option Accepted) → unwrap_or (cond
 chosen true x there = refl
 chosen false x there = refl
 
-held : (state : State) (account : ℕ) (x : Accepted) (q : ℕ) → accepted_of (insert state account x) q ≡ cond (eq_by_cmp nat_cmp q account) x (accepted_of state q)
+pub held : (state : State) (account : ℕ) (x : Accepted) (q : ℕ) → accepted_of (insert state account x) q ≡ cond (eq_by_cmp nat_cmp q account) x (accepted_of state q)
 held state account x q = ap (λ (o : Option Accepted). unwrap_or o nothing) (get-insert nat_cmp_total state account x q) ∙ chosen (eq_by_cmp nat_cmp q account) x (get state q)
 
 kept_grown : (new : Bool) (state : State) (account : ℕ) (x : Accepted) → Grown account (accepted_of state account) x → HaveGrown state (kept new state account x)

@@ -21,7 +21,7 @@ use Rattle.pay_close.proofs.Agreeing.{Agree, still_agree, close_agrees}
 use Rattle.pay_close.proofs.Settling.{IsShared, IsAsDue, AsLast, IsSettled, close_settled}
 use Rattle.pay_close.proofs.Closing.{IsLastPosted, closed_last}
 
-opened : (account : ℕ) → accepted_of empty account ≡ nothing
+pub opened : (account : ℕ) → accepted_of empty account ≡ nothing
 opened account = ap (λ (o : Option Accepted). unwrap_or o nothing) (get-empty nat_cmp account)
 
 new_agree : (tables : FareTables) → Agree tables empty (record { postings = []; taps = []; fixes = [] })

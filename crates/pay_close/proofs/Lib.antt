@@ -5,6 +5,9 @@ pub mod Agreeing
 pub mod Settling
 pub mod Closing
 pub mod Histories
+pub mod Archivable
+pub mod Archiving
+pub mod Restoring
 pub mod Rows
 mod Sorting
 mod Ascending

@@ -1,15 +1,19 @@
--- Worked rows: closes of small books, and which refusals say that a close comes too late.
-use Rattle.std.proofs.Common.{◌≡◌, ℕ, true, cond, ◌&&◌, List, [], ◌∷◌, filter, Ok, refl, sym, ap, ◌∙◌, arith}
+-- Worked rows: closes of small books, which refusals say that a close comes too late, and what is restored.
+use Rattle.std.proofs.Common.{◌≡◌, ℕ, true, cond, ◌&&◌, List, [], ◌∷◌, filter, Some, Ok, refl, sym, ap, ◌∙◌, arith}
 use Rattle.std.specs.Cmp.{nat_cmp_total}
 use Rattle.std.specs.FinMap.{empty, entries, insert, put, entries-insert, len-empty, len-entries}
 use Rattle.std.specs.Ordering.{nat_cmp}
 use Rattle.pay_tables.specs.Words.{FareTables}
+use Rattle.pay_taps.specs.declared.tap.Kind.TheVariants.{Bus}
+use Rattle.pay_taps.specs.declared.tap.Tap.{Tap}
 use Rattle.pay_account.specs.Words.{Accepted, quote, sets}
 use Rattle.pay_postings.specs.Ledger.{posted}
 use Rattle.pay_postings.specs.declared.fault.PostFault.TheVariants.{StaleQuote}
 use Rattle.pay_shard.specs.BatchParts.{batch_of}
 use Rattle.pay_shard.specs.Selection.{is_of, is_quoted}
+use Rattle.pay_shard.specs.declared.asked.Asked.TheVariants as asked
 use Rattle.pay_close.specs.Close.{new_books, batch_of_all, close, IsLate}
+use Rattle.pay_close.specs.Restores.{IsCommand, AreRestoredFrom}
 use Rattle.pay_close.proofs.Closing.{nothing_there}
 
 abbrev chosen : ℕ → List (ℕ × Accepted) → List (ℕ × Accepted)
@@ -35,3 +39,28 @@ after_tuesday = (omega arith, refl)
 
 another_week : ¬ IsLate 19_730 (StaleQuote 7 2 19_737)
 another_week late = omega (arith, late.1)
+
+-- a tap on a bus, whose numbers are in their ranges
+bus_tap : Tap
+bus_tap = record { account = 7; reader = 1; seq = 4; place = 50; kind = Bus; stamp = record { utc = 1_704_697_200; day = 19_730; second = 25_200 } }
+
+tap_in_range : IsCommand (asked.Tap bus_tap)
+unfolding bus_tap
+tap_in_range = (
+  (omega arith, omega arith),
+  record {
+    of_reader = (omega arith, omega arith);
+    at_seq = omega arith;
+    at_stamp = record { utc = (omega arith, omega arith); day = (omega arith, omega arith); second = omega arith };
+    at_place = (omega arith, omega arith);
+  },
+)
+
+-- accounts count from 1
+no_account : ¬ IsCommand (asked.Tap (record bus_tap { account = 0 }))
+unfolding bus_tap
+no_account is = omega (arith, is.0.0)
+
+-- where nothing was archived, no account is restored
+none_restored : (tables : FareTables) → AreRestoredFrom tables new_books.ledger []
+none_restored tables = ap Some no_entries

@@ -9,6 +9,7 @@ ghost use Rattle.pay_postings.specs.Words.{total, net, shares_posted, AreKept};
 ghost use Rattle.pay_shard.specs.Words.{replay};
 ghost use Rattle.pay_close.specs.Close.{new_books, close, IsLate, Event, history, postings_after, answered, AreQuotes};
 ghost use Rattle.pay_close.specs.Laws.{NetIsDueByLast, SharesAreByLast, ClosedNetIsDue, ClosedSharesAreDue, ShardsGatherAll, ShardsCloseAsMachine, ShardsCloseAsMerge, OneShardGathersAll, OneShardClosesAsMachine};
+ghost use Rattle.pay_close.specs.Restores.{ArchiveIsRestored, ClosedIsRestored};
 
 use pay_tables::Tables;
 
@@ -54,6 +55,18 @@ pub fn kept()
     ensures { (tables : FareTables) (events : List Event) → AreQuotes tables new_books events → AreKept (postings_after tables events) }
 {
     pay_postings::laws::kept();
+}
+
+/// What closes archived is restored, as long as the commands have their numbers in their ranges: the rows of the archive that any
+/// history leaves are not refused, and each account has just its own of it again.
+pub fn archives()
+    ensures restored { ArchiveIsRestored }
+
+    // Once a day is closed, that is all that it has accepted, of each account that the close selects.
+    ensures as_they_are { ClosedIsRestored }
+{
+    pay_restore::laws::archived_is_restored();
+    pay_restore::laws::restored_as_it_was();
 }
 
 /// A close over any number of shards is the close of one machine. Where one state of all accounts has of each account what its
