@@ -1,7 +1,9 @@
 -- What is restored of the archive that closes wrote.
-use Rattle.std.specs.Prelude.{◌≡◌, ℕ, true, false, List, [], ◌∷◌, Some, Ok, ⊤}
+use Rattle.std.specs.Prelude.{◌≡◌, ◌≤◌, ℕ, true, false, List, [], ◌∷◌, Some, Ok, ⊤}
 use Rattle.std.specs.FinMap.{from_entries}
 use Rattle.pay_tables.specs.Words.{FareTables}
+use Rattle.pay_fix.specs.declared.fix.What.{What}
+use Rattle.pay_fix.specs.declared.fix.What.TheVariants as what
 use Rattle.pay_account.specs.Words.{Accepted, Posting, sets, accepted_of}
 use Rattle.pay_postings.specs.Words.{LedgerParts, IsTapInRange, IsFixInRange}
 use Rattle.pay_restore.specs.Archives.{IsAccount}
@@ -12,8 +14,7 @@ use Rattle.pay_shard.specs.declared.asked.Asked.TheVariants as asked
 use Rattle.pay_shard.specs.declared.item.Entry.{Entry}
 use Rattle.pay_close.specs.Close.{close, Event, Answered, Closed, history, accepted_after}
 
--- The numbers of a tap, or of a correction, are in their ranges: as their types have them, and readers, staff and places from 1 as lines
--- have them. What only asks is never archived.
+-- The numbers of a tap, or of a correction, are in their ranges. What only asks is never archived.
 abbrev pub IsCommand : Asked → Type 0
 IsCommand (asked.Tap tap) = IsAccount tap.account × IsTapInRange tap
 IsCommand (asked.Fix fix) = IsAccount fix.account × IsFixInRange fix
@@ -24,6 +25,17 @@ abbrev pub AreCommands : List Event → Type 0
 AreCommands [] = ⊤
 AreCommands (Answered item ∷ later) = IsCommand item.entry.command × AreCommands later
 AreCommands (Closed day ∷ later) = AreCommands later
+
+-- the place of a Fill counts from 1
+abbrev pub IsWhatPlaced : What → Type 0
+IsWhatPlaced (what.Fill stamp place kind) = 1 ≤ place
+IsWhatPlaced _ = ⊤
+
+-- and so does that of a tap
+abbrev pub IsPlaced : Asked → Type 0
+IsPlaced (asked.Tap tap) = 1 ≤ tap.place
+IsPlaced (asked.Fix fix) = IsWhatPlaced fix.what
+IsPlaced _ = ⊤
 
 -- the rows of a ledger's archive are not refused, and these are the accounts by them
 abbrev pub AreRestoredFrom : FareTables → LedgerParts → List (ℕ × Accepted) → Type 0

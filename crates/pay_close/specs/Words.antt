@@ -6,4 +6,4 @@ pub use Rattle.pay_close.specs.Gathers.{fault_of_answer, IsStopped, IsTold, IsAs
 pub use Rattle.pay_close.specs.Faults.{refusal_of_posting, refusal_of_close, is_outside}
 pub use Rattle.pay_close.specs.Closes.{posted_of, ClosesBy, IsWhy, IsWhySaid, Closes, IsClosedSo, IsClosedSoAt}
 pub use Rattle.pay_close.specs.Laws.{NetIsDueByLast, SharesAreByLast, ClosedNetIsDue, ClosedSharesAreDue, Brings, AreOfShards, ShardsGatherAll, ShardsCloseAsMachine, ShardsCloseAsMerge, OneShardGathersAll, OneShardClosesAsMachine}
-pub use Rattle.pay_close.specs.Restores.{IsCommand, AreCommands, AreRestoredFrom, ArchiveIsRestored, ClosedIsRestored}
+pub use Rattle.pay_close.specs.Restores.{IsCommand, AreCommands, IsPlaced, AreRestoredFrom, ArchiveIsRestored, ClosedIsRestored}

@@ -9,8 +9,9 @@ ghost use Rattle.pay_postings.specs.Words.{total, net, shares_posted, AreKept};
 ghost use Rattle.pay_shard.specs.Words.{replay};
 ghost use Rattle.pay_close.specs.Close.{new_books, close, IsLate, Event, history, postings_after, answered, AreQuotes};
 ghost use Rattle.pay_close.specs.Laws.{NetIsDueByLast, SharesAreByLast, ClosedNetIsDue, ClosedSharesAreDue, ShardsGatherAll, ShardsCloseAsMachine, ShardsCloseAsMerge, OneShardGathersAll, OneShardClosesAsMachine};
-ghost use Rattle.pay_close.specs.Restores.{ArchiveIsRestored, ClosedIsRestored};
+ghost use Rattle.pay_close.specs.Restores.{IsPlaced, IsCommand, ArchiveIsRestored, ClosedIsRestored};
 
+use pay_shard::Command;
 use pay_tables::Tables;
 
 /// A close never finds that something else is due than was posted for the same version and day, nor that the archive has
@@ -57,17 +58,23 @@ pub fn kept()
     pay_postings::laws::kept();
 }
 
-/// What closes archived is restored, as long as the commands have their numbers in their ranges: the rows of the archive that any
-/// history leaves are not refused, and each account has just its own of it again.
+/// What closes archived is restored, whatever was answered and closed, as long as each command has its numbers in their ranges: the
+/// rows of the archive are not refused, and each account has just its own of it again.
 pub fn archives()
     ensures restored { ArchiveIsRestored }
 
-    // Once a day is closed, that is all that it has accepted, of each account that the close selects.
+    // Once a day is closed, each account that the close selects is restored with all that it has accepted.
     ensures as_they_are { ClosedIsRestored }
 {
     pay_restore::laws::archived_is_restored();
     pay_restore::laws::restored_as_it_was();
 }
+
+/// Each command has its numbers in these ranges by its type, if the place of a tap or of a Fill counts from 1, as it does where a line
+/// spells it.
+pub fn commands(command: Command)
+    ensures { IsPlaced command → IsCommand command }
+{}
 
 /// A close over any number of shards is the close of one machine. Where one state of all accounts has of each account what its
 /// shard has, and each shard answered by the quotes of its own accounts, what is gathered of these answers is the batch of the one
