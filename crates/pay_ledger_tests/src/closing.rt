@@ -5,14 +5,14 @@ ghost use Rattle.pay_shard.specs.Words.{IsForShards};
 
 use crate::given::{MONDAY, expect_same, sample_in_london};
 use crate::ledger::{empty_ledger, expect_rows};
-use crate::runs::expect_run;
+use crate::lines::{expect_lines, expect_run};
 use pay_book::Book;
 use pay_close::{LedgerTill, NotClosed, close};
 use pay_lanes::{Gate, Lane, laws};
 use pay_ledger::Ledger;
 use pay_office::{Ended, LaneDesk, Office, shut, start};
 use pay_quotes::{Posting, Postings, Quote};
-use pay_session::{Done, NoTill, Till, session};
+use pay_session::NoTill;
 use pay_shard::{Asked, Batch, Command, Desk, DeskFault, Entry, Reply, Shard};
 use sqlite::MemStore;
 use std::marker::Model;
@@ -185,30 +185,6 @@ where
         .ok()
         .expect(&rt, "an office");
     closer_over(rt, office, lanes)
-}
-
-// Answers lines by a desk and a till, and compares the replies.
-fn expect_lines<R: Abort + AllocGlobal, D: Desk, T: Till>(
-    rt: &R,
-    desk: &mut D,
-    till: &mut T,
-    lines: &str,
-    answered: u128,
-    replies: &str,
-)
-    ensures { (D.parts desk.new).standing ≡ (D.parts desk.old).standing }
-{
-    let mut reader = lines.as_bytes();
-    let mut writer = Vec::new(rt.alloc());
-    let (_, zone) = sample_in_london(rt);
-    let done = session(&mut reader, &mut writer, &zone, desk, till);
-    let wanted = Done {
-        answered,
-        quit: false,
-        lacked_memory: false,
-    };
-    expect_same(rt, done, Ok(wanted));
-    expect_same(rt, writer.as_slice(), replies.as_bytes());
 }
 
 impl<R: Threads + Wait + Abort + AllocGlobal + Copy> Closer<R> {

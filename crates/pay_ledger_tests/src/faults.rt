@@ -1,12 +1,10 @@
-//! What the faults of a ledger, of a close and of a run print.
+//! What the faults of a ledger and of a close print.
 
 use crate::given::expect_same;
 use pay_close::NotClosed;
-use pay_jobs::WeekFault;
 use pay_ledger::{LedgerFault, OpenFault};
 use pay_postings::PostFault;
 use pay_records::ReadFault;
-use pay_session::SessionFault;
 use pay_shard::DeskFault;
 use std::alloc::AllocGlobal;
 use std::fmt::Display;
@@ -52,7 +50,7 @@ fn prints_why_a_ledger_refuses(rt: HostRuntime) {
 }
 
 #[test]
-fn prints_why_a_day_is_not_closed_or_a_week_not_told(rt: HostRuntime) {
+fn prints_why_a_day_is_not_closed(rt: HostRuntime) {
     expect_printed(
         &rt,
         &[
@@ -62,16 +60,6 @@ fn prints_why_a_day_is_not_closed_or_a_week_not_told(rt: HostRuntime) {
                 NotClosed::Ledger(LedgerFault::Refused(PostFault::Memory)),
                 "90 Memory",
             ),
-        ],
-    );
-    expect_printed(
-        &rt,
-        &[
-            (
-                WeekFault::Session(SessionFault::Read { answered: 2 }),
-                "input fault",
-            ),
-            (WeekFault::Memory, "90 Memory"),
         ],
     );
 }

@@ -5,7 +5,7 @@ ghost use Rattle.std.specs.Prelude.{◌≡◌, ◌≤◌, false};
 
 use crate::accounts::{expect_price, expect_voided};
 use crate::given::{MONDAY, expect_list, expect_same, sample, tap_at};
-use crate::runs::expect_run;
+use crate::lines::expect_run;
 use pay_account::{Account, Fares, Posting, Quote, Sets};
 use pay_ledger::{Ledger, LedgerFault, OpenFault};
 use pay_money::Pence;

@@ -7,7 +7,7 @@ use crate::given::{expect_same, sample, tap_at};
 use crate::ledger::{
     JOURNEY, empty_ledger, expect_posted, expect_restored, expect_rows, opened, owed,
 };
-use crate::runs::expect_run;
+use crate::lines::expect_run;
 use pay_account::{Account, Fares};
 use pay_ledger::{Ledger, LedgerFault, OpenFault};
 use pay_postings::PostFault;

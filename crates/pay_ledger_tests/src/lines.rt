@@ -1,0 +1,52 @@
+//! Lines that are answered over a desk and a ledger. What they answer is shown by `tests/program`.
+
+ghost use Rattle.std.specs.Prelude.{◌≡◌};
+
+use crate::given::{expect_same, sample_in_london};
+use pay_book::Book;
+use pay_close::LedgerTill;
+use pay_ledger::Ledger;
+use pay_session::{Done, Till, session};
+use pay_shard::{Desk, LocalDesk};
+use sqlite::Alter;
+use std::process::Abort;
+
+/// Answers lines by a desk and a till, and compares the replies.
+pub fn expect_lines<R: Abort + AllocGlobal, D: Desk, T: Till>(
+    rt: &R,
+    desk: &mut D,
+    till: &mut T,
+    lines: &str,
+    answered: u128,
+    replies: &str,
+)
+    ensures { (D.parts desk.new).standing ≡ (D.parts desk.old).standing }
+{
+    let mut reader = lines.as_bytes();
+    let mut writer = Vec::new(rt.alloc());
+    let (_, zone) = sample_in_london(rt);
+    let done = session(&mut reader, &mut writer, &zone, desk, till);
+    let wanted = Done {
+        answered,
+        quit: false,
+        lacked_memory: false,
+    };
+    expect_same(rt, done, Ok(wanted));
+    expect_same(rt, writer.as_slice(), replies.as_bytes());
+}
+
+/// Answers lines over one shard without accounts and a ledger, and compares the replies.
+pub fn expect_run<R: Abort + AllocGlobal, S: Alter>(
+    rt: &R,
+    ledger: &mut Ledger<S>,
+    lines: &str,
+    answered: u128,
+    replies: &str,
+) {
+    let (tables, _) = sample_in_london(rt);
+    let mut desk: LocalDesk<Book> = LocalDesk::new(rt.alloc(), tables, Vec::new(rt.alloc()))
+        .ok()
+        .expect(rt, "a desk");
+    let mut till = LedgerTill::new(rt.alloc(), ledger);
+    expect_lines(rt, &mut desk, &mut till, lines, answered, replies);
+}
