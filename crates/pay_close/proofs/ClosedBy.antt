@@ -1,5 +1,5 @@
 -- What a close comes to, by what was gathered and what the ledger did.
-use Rattle.std.proofs.Common.{◌≡◌, ℕ, Bool, true, false, not, ◌||◌, List, [], ◌∷◌, ◌++◌, Option, Result, Ok, Err, IsTrue, IfErr, refl, sym, ap, ◌∙◌, subst, inl, inr, arith}
+use Rattle.std.proofs.Common.{◌≡◌, ℕ, Bool, true, false, not, ◌||◌, List, [], ◌∷◌, ◌++◌, Option, Result, Ok, Err, IsTrue, IfErr, refl, sym, ap, ◌∙◌, subst, inl, inr, ◌⊎◌, arith}
 use Rattle.std.specs.List.{list_any}
 use Rattle.sqlite.specs.State.{State, HasCleanDisk, Survives}
 use Rattle.pay_account.specs.Words.{Posting, QuoteParts, SetsParts}
@@ -18,7 +18,7 @@ use Rattle.pay_session.specs.Served.{brings_quotes}
 use Rattle.pay_wire.specs.declared.refusal.Refusal.{Refusal}
 use Rattle.pay_wire.specs.declared.refusal.Refusal.TheVariants as refusal
 use Rattle.pay_close.specs.Batches.{gathered, IsWhole}
-use Rattle.pay_close.specs.Faults.{refusal_of_posting, refusal_of_close, is_outside}
+use Rattle.pay_close.specs.Faults.{refusal_of_posting, refusal_of_close, is_outside, is_from_outside}
 use Rattle.pay_close.specs.Gathers.{IsStopped, IsTold, IsAsked}
 use Rattle.pay_close.proofs.Gathering.{weaker}
 use Rattle.pay_close.specs.Closes.{ClosesBy, IsWhy, IsWhySaid, Closes, as_said, IsClosedSo}
@@ -63,10 +63,11 @@ module _ (Refuses : DeskFault → Type 0) (Late : Type 0) (of : ℕ) where
   not_of_desk : (fault : LedgerFault) (other : DeskFault) → ◌≡◌ {A = Result (List Posting) NotClosed} (Err (Ledger fault)) (Err (Desk other)) → ⊥
   not_of_desk fault other e = cc
 
-  stays_closed : (s : State) (put : List Taken) (fault : NotClosed) → ((ledger : LedgerParts) → IsWhy of put ledger fault) → ClosesBy (IsWhy of put) s s of put (Err fault)
-  stays_closed s put fault why = record {
+  stays_closed : (s : State) (put : List Taken) (fault : NotClosed) → ((ledger : LedgerParts) → IsWhy of put ledger fault) → IsTrue (is_from_outside fault) → ClosesBy is_from_outside (IsWhy of put) s s of put (Err fault)
+  stays_closed s put fault why outside = record {
     closed = λ clean. tt;
     refused = λ clean ledger is. why ledger;
+    of_open = λ clean. inl outside;
     kept = λ clean live. record { was_open = live; now = refl; committed = refl };
     survives = survives_itself s (IsWhole of put) (gathered put).quotes (gathered put).sets;
   }
@@ -74,16 +75,30 @@ module _ (Refuses : DeskFault → Type 0) (Late : Type 0) (of : ℕ) where
   not_gathered : (s : State) (put : List Taken) (fault : NotClosed) → IsTold Refuses Late of gathered put (Err fault) → ClosedSo s s put (Err fault)
   not_gathered s put (Desk fault) f = record {
     stopped = λ other e. subst (λ (d : DeskFault). IsStopped Refuses Late of d put) (same_fault fault other e) f;
-    closes = stays_closed s put (Desk fault) (λ ledger. tt);
+    closes = stays_closed s put (Desk fault) (λ ledger. tt) refl;
   }
   not_gathered s put (Ledger fault) f = record {
     stopped = λ other e. absurd (not_of_desk fault other e);
-    closes = stays_closed s put (Ledger fault) (λ ledger. inl (ap is_of_store f.0));
+    closes = stays_closed s put (Ledger fault) (λ ledger. inl (ap is_of_store f.0)) (ap (λ (l : LedgerFault). is_from_outside (Ledger l)) f.0);
   }
 
   -- the ledger is as before
   pub closed_early : (old new : State) → new ≡ old → (fault : NotClosed) (put : List Taken) → IsTold Refuses Late of gathered put (Err fault) → ClosedSo old new put (Err fault)
   closed_early old new same fault put f = subst (λ (s : State). ClosedSo old s put (Err fault)) (sym same) (not_gathered old put fault f)
+
+  -- ---- why the ledger did not post
+
+  of_store : (why : PostFault) → IsTrue (is_of_store (ledger_fault.Refused why)) → IsTrue (is_outside (refusal_of_posting why))
+  of_store post.BadArchive e = absurd (cc)
+  of_store (post.StaleQuote account version through) e = absurd (cc)
+  of_store post.QuoteDiffers e = absurd (cc)
+  of_store post.ArchiveConflict e = absurd (cc)
+  of_store post.Memory e = refl
+
+  outside_or_open : (fault : LedgerFault) (Live : Type 0) → IsTrue (is_of_store fault) ⊎ Live → IsTrue (is_from_outside (Ledger fault)) ⊎ Live
+  outside_or_open fault Live (inr live) = inr live
+  outside_or_open ledger_fault.Store Live (inl store) = inl refl
+  outside_or_open (ledger_fault.Refused why) Live (inl store) = inl (of_store why store)
 
   -- ---- all came
 
@@ -101,6 +116,7 @@ module _ (Refuses : DeskFault → Type 0) (Late : Type 0) (of : ℕ) where
       closes = record {
         closed = λ clean. (whole, subst (λ (s : List SetsParts). Posts old new (gathered put).quotes s given) same_sets (subst (λ (q : List QuoteParts). Posts old new q sets given) same_quotes (posts clean)));
         refused = λ clean. tt;
+        of_open = λ clean. tt;
         kept = λ clean live. tt;
         survives = survives_so;
       };
@@ -111,13 +127,14 @@ module _ (Refuses : DeskFault → Type 0) (Late : Type 0) (of : ℕ) where
     why_refused ledger fault (inr f) = inr (f.0, f.1, whole, (λ i. posted ledger (sym same_quotes i) (sym same_sets i)) ∙ f.2)
 
     -- or the ledger did not post them
-    pub closed_not : (fault : LedgerFault) → (HasCleanDisk new → (ledger : LedgerParts) → IsLedger old.now ledger → IsRefused fault (posted ledger quotes sets)) → (HasCleanDisk new → IsTrue new.is_open → IsAsBefore old new)
-        → ClosedSo old new put (Err (Ledger fault))
-    closed_not fault refused kept = record {
+    pub closed_not : (fault : LedgerFault) → (HasCleanDisk new → (ledger : LedgerParts) → IsLedger old.now ledger → IsRefused fault (posted ledger quotes sets)) → (HasCleanDisk new → IsTrue (is_of_store fault) ⊎ IsTrue old.is_open)
+        → (HasCleanDisk new → IsTrue new.is_open → IsAsBefore old new) → ClosedSo old new put (Err (Ledger fault))
+    closed_not fault refused of_open kept = record {
       stopped = λ other e. absurd (not_of_desk fault other e);
       closes = record {
         closed = λ clean. tt;
         refused = λ clean ledger is. why_refused ledger fault (refused clean ledger is);
+        of_open = λ clean. outside_or_open fault (IsTrue old.is_open) (of_open clean);
         kept = kept;
         survives = survives_so;
       };
@@ -169,13 +186,6 @@ module _ (Refuses : DeskFault → Type 0) (Late : Type 0) (of : ℕ) where
   said_of_close (Err (Ledger ledger_fault.Store)) = refl
   said_of_close (Err (Ledger (ledger_fault.Refused why))) = posting_of_close why
 
-  of_store : (why : PostFault) → IsTrue (is_of_store (ledger_fault.Refused why)) → IsTrue (is_outside (refusal_of_posting why))
-  of_store post.BadArchive e = absurd (cc)
-  of_store (post.StaleQuote account version through) e = absurd (cc)
-  of_store post.QuoteDiffers e = absurd (cc)
-  of_store post.ArchiveConflict e = absurd (cc)
-  of_store post.Memory e = refl
-
   refused_is : (why other : PostFault) → ◌≡◌ {A = LedgerFault} (ledger_fault.Refused why) (ledger_fault.Refused other) → why ≡ other
   refused_is why other e = cc
 
@@ -185,9 +195,9 @@ module _ (Refuses : DeskFault → Type 0) (Late : Type 0) (of : ℕ) where
   why_said put ledger (Ledger (ledger_fault.Refused why)) (inl store) = inl (of_store why store)
   why_said put ledger (Ledger (ledger_fault.Refused why)) (inr f) = inr (f.0, ap refusal_of_posting (refused_is why f.0 f.1), f.2, f.3)
 
-  said_closes : (old new : State) (put : List Taken) (result : Result (List Posting) NotClosed) → ClosesBy (IsWhy of put) old new of put result → Closes old new of put (as_said result)
-  said_closes old new put (Ok given) f = record { closed = f.closed; refused = λ clean. tt; kept = f.kept; survives = f.survives }
-  said_closes old new put (Err fault) f = record { closed = λ clean. tt; refused = λ clean ledger is. why_said put ledger fault (f.refused clean ledger is); kept = f.kept; survives = f.survives }
+  said_closes : (old new : State) (put : List Taken) (result : Result (List Posting) NotClosed) → ClosesBy is_from_outside (IsWhy of put) old new of put result → Closes old new of put (as_said result)
+  said_closes old new put (Ok given) f = record { closed = f.closed; refused = λ clean. tt; of_open = λ clean. tt; kept = f.kept; survives = f.survives }
+  said_closes old new put (Err fault) f = record { closed = λ clean. tt; refused = λ clean ledger is. why_said put ledger fault (f.refused clean ledger is); of_open = f.of_open; kept = f.kept; survives = f.survives }
 
   pub till_closed : (old new : State) (day : ℕ) (before after : List (ℕ × Asked)) (transcript : ℕ → Option Answer) (result : Result (List Posting) NotClosed) (said : Result (List Posting) Refusal) → said ≡ as_said result
       → IsAsked Refuses Late (AreQuotes day of 0) before after transcript (λ put. ClosedSo old new put result)
@@ -235,9 +245,10 @@ module _ (Refuses : DeskFault → Type 0) (Late : Type 0) (of : ℕ) where
 
       -- the ledger did not post them
       pub close_refused : (its : LedgerFault) (fault : NotClosed) (result : Result (List Posting) NotClosed) → result ≡ Err fault → fault ≡ Ledger its
-          → (HasCleanDisk new → (ledger : LedgerParts) → IsLedger old.now ledger → IsRefused its (posted ledger quotes sets)) → (HasCleanDisk new → IsTrue new.is_open → IsAsBefore old new) → AskedSo result
-      close_refused its fault result is e refused kept =
+          → (HasCleanDisk new → (ledger : LedgerParts) → IsLedger old.now ledger → IsRefused its (posted ledger quotes sets)) → (HasCleanDisk new → IsTrue (is_of_store its) ⊎ IsTrue old.is_open)
+          → (HasCleanDisk new → IsTrue new.is_open → IsAsBefore old new) → AskedSo result
+      close_refused its fault result is e refused of_open kept =
           subst AskedSo (sym is)
           (subst (λ (w : NotClosed). AskedSo (Err w)) (sym e)
           (weaker Refuses Late (AreQuotes day of 0) before after transcript _ _
-          (λ put told. closed_not old new put quotes sets told.0 (same_quotes ∙ ap (λ (b : BatchParts). b.quotes) told.1) (same_sets ∙ ap (λ (b : BatchParts). b.sets) told.1) survives its refused kept) all))
+          (λ put told. closed_not old new put quotes sets told.0 (same_quotes ∙ ap (λ (b : BatchParts). b.quotes) told.1) (same_sets ∙ ap (λ (b : BatchParts). b.sets) told.1) survives its refused of_open kept) all))

@@ -39,6 +39,10 @@ is_outside refusal.Store = true
 is_outside refusal.Memory = true
 is_outside _ = false
 
+-- the same of why a day is not closed
+abbrev pub is_from_outside : NotClosed → Bool
+is_from_outside fault = is_outside (refusal_of_close fault)
+
 -- ---- worked rows
 
 late_desk : refusal_of_close (Desk desk.Late) ≡ refusal.DeskFault

@@ -1,5 +1,5 @@
 -- A ledger in a database that is empty, and why there is none.
-use Rattle.std.proofs.Common.{inl, inr}
+use Rattle.std.proofs.Common.{◌≡◌, ◌⊎◌, inl, inr, ap}
 use Rattle.std.specs.Prelude.{IsTrue}
 use Rattle.sqlite.specs.State.{State}
 use Rattle.sqlite.specs.Steps.{IsEmpty}
@@ -12,6 +12,11 @@ use Rattle.pay_jobs.specs.declared.fault.Fault.{Fault}
 
 pub is_blank : (s : State) → IsEmpty s → IsBlank no_schema s.now
 is_blank s empty = record { schema_is = empty.2; empty = tt }
+
+-- where no database is opened, it is for its store or for memory
+pub by_store : (why : OpenFault) → (why ≡ Store) ⊎ (why ≡ Memory) → IsTrue (opens_by_store why)
+by_store why (inl is) = ap opens_by_store is
+by_store why (inr is) = ap opens_by_store is
 
 pub is_want_of_ledger : (why : OpenFault) (fault : Fault) → IsTrue (opens_by_store why) → IsRefusal fault (open_fault_number why) (open_fault_name why) → IsWantOfLedger fault
 is_want_of_ledger Store fault by_store told = inl told

@@ -1,15 +1,11 @@
 -- What was written of a close at the end of a service.
-use Rattle.std.proofs.Common.{◌≡◌, inl, inr, ℕ, Bool, true, false, List, Option, Result, Ok, Err, is_ok, refl, sym, ◌∙◌, subst}
-use Rattle.std.specs.Io.KnownBytes.{Appends}
+use Rattle.std.proofs.Common.{inl, inr, ℕ, Bool, List, Option, Result, Ok, Err, ◌∙◌}
 use Rattle.sqlite.specs.State.{State}
 use Rattle.pay_tables.specs.Words.{FareTables}
 use Rattle.pay_account.specs.Words.{Posting}
-use Rattle.pay_wire.specs.Words.{spelling_of_reply}
 use Rattle.pay_wire.specs.declared.output.WriteFault.{WriteFault}
 use Rattle.pay_wire.specs.declared.refusal.Refusal.{Refusal}
-use Rattle.pay_session.specs.Words.{said_of_close}
 use Rattle.pay_serve.specs.Words.{IsWritten, IsTold, IsServed}
-use Rattle.pay_serve.specs.declared.fault.ServeFault.{ServeFault}
 use Rattle.pay_jobs.specs.Service.{AreRead, ServiceEnds}
 
 ended : (fares zone : List ℕ) (day : ℕ) (held written : Option (List ℕ)) (closed : Bool) (answer : Result (List Posting) Refusal) (r : Result Bool WriteFault)

@@ -6,7 +6,7 @@ use Rattle.std.specs.List.{list_any}
 use Rattle.std.specs.Io.KnownBytes.{Appends}
 use Rattle.std.proofs.lemmas.List.{length-map}
 use Rattle.jiff.specs.declared.tz.timezone.TimeZone.{TimeZone}
-use Rattle.sqlite.specs.State.{State as DatabaseState}
+use Rattle.sqlite.specs.State.{State as DatabaseState, HasCleanDisk}
 use Rattle.pay_day.specs.Words.{monday}
 use Rattle.pay_account.specs.Words.{Accepted, week_lines, Posting}
 use Rattle.pay_quotes.specs.declared.shown.Line.{Line}
@@ -27,14 +27,14 @@ use Rattle.pay_session.specs.declared.till.NoTill.{NoTill}
 use Rattle.pay_ledger.specs.Words.{IsLedger}
 use Rattle.pay_close.specs.Words.{OneShardGathersAll}
 use Rattle.pay_close.specs.Closes.{Closes as LedgerCloses}
-use Rattle.pay_jobs.specs.Ledgers.{IsSound, HasLedger}
+use Rattle.pay_jobs.specs.Ledgers.{HasLedger}
 use Rattle.pay_jobs.specs.Machine.{Machine, Failure, new_machine, stays, step_close, step}
 use Rattle.pay_jobs.specs.Outcomes.{Outcome, outcome, reply_then, text_of}
 use Rattle.pay_jobs.specs.LineRuns.{ComesTo, Ends, StopsReading, StopsWriting, FailsSo}
 use Rattle.pay_jobs.specs.Week.{TellsWeek}
 use Rattle.pay_jobs.proofs.AllRequests.{RunsTo, replies_of, all_run}
 use Rattle.pay_jobs.proofs.Asked.{accounts_alike}
-use Rattle.pay_jobs.proofs.LedgerCloses.{ledger_closes, was_sound}
+use Rattle.pay_jobs.proofs.LedgerCloses.{ledger_closes, was_clean}
 use Rattle.pay_jobs.proofs.OneRequest.{machine_at}
 use Rattle.pay_jobs.proofs.Tills.{ClosesAs, IsPlain}
 
@@ -262,13 +262,13 @@ told_as (Err fault) t u x y week p q e = tt
 -- a desk over one shard, and a till into a ledger
 pub ledger_plain : {T : Type 0} (stands : T → DatabaseState) (before : Standing (FareTables × State)) → OneShardGathersAll
     → IsPlain {T = T} (MaySometimeRefuse desk_parts before) (MaySometimeBeLate desk_parts before) (λ before day of put result after. LedgerCloses (stands before) (stands after) of put result)
-    (λ till. IsSound (stands till)) (λ till ledger. HasLedger (stands till).now ledger)
+    (λ till. HasCleanDisk (stands till)) (λ till ledger. HasLedger (stands till) ledger)
 unfolding MaySometimeRefuse MaySometimeBeLate
 ledger_plain stands before gathers = record {
   memory = λ fault h. h.2;
   never = λ h. h.3;
-  was_sound = λ before after day put result closes sound. was_sound (stands before) (stands after) put result closes sound;
-  closes = λ before after m day put result closes quotes answers sound has. ledger_closes gathers m day (stands before) (stands after) put answers result closes sound has;
+  was_sound = λ before after day put result closes clean. was_clean (stands before) (stands after) put result closes clean;
+  closes = λ before after m day put result closes quotes answers clean has. ledger_closes gathers m day (stands before) (stands after) put answers result closes clean has;
 }
 
 -- the closes of a till that lends a ledger
@@ -286,20 +286,20 @@ module _ {T H : Type 0} (state_of : H → DatabaseState) (lent : T → H) (gathe
       → begun.tables ≡ tables → begun.base ≡ finite.empty → begun.journal ≡ [] → AreInPlace 0 shard.journal
       → ◌≡◌ {A = FareTables × State} (shard.tables, shard.base) (begun.tables, begun.base)
       → IfOk result (λ done. IfSome known (λ input. SessionEnds zone 1 Refuses Late (ClosesInto state_of lent) (from_journal begun.journal shard before after) input left held new done.answered done.quit done.lacked_memory))
-      → IsSound (state_of now) → (ledger : LedgerParts) → IsLedger (state_of old).now ledger
-      → IfOk result (λ done. IfSome known (λ input. Ends (new_machine zone tables (Some ledger)) input left held new (HasLedger (state_of now).now) done.answered done.quit done.lacked_memory))
-  ledger_lines_end result known left held new tables begun shard before after old now was is same nothing none placed origin h sound ledger has =
-      subst (λ (l : H). IfOk result (λ done. IfSome known (λ input. Ends (new_machine zone tables (Some ledger)) input left held new (HasLedger (state_of l).now) done.answered done.quit done.lacked_memory))) (sym is)
-      (lines_end Refuses Late (ClosesInto state_of lent) (λ till. IsSound (state_of (lent till))) (λ till. HasLedger (state_of (lent till)).now) (ledger_plain (λ till. state_of (lent till)) stands gathers) zone result known left held new tables begun shard before after (Some ledger)
-      same nothing none placed origin (subst (λ (l : H). IsSound (state_of l)) is sound) (subst (λ (l : H). IsLedger (state_of l).now ledger) was has) h)
+      → HasCleanDisk (state_of now) → (ledger : LedgerParts) → IsLedger (state_of old).now ledger
+      → IfOk result (λ done. IfSome known (λ input. Ends (new_machine zone tables (Some ledger)) input left held new (HasLedger (state_of now)) done.answered done.quit done.lacked_memory))
+  ledger_lines_end result known left held new tables begun shard before after old now was is same nothing none placed origin h clean ledger has =
+      subst (λ (l : H). IfOk result (λ done. IfSome known (λ input. Ends (new_machine zone tables (Some ledger)) input left held new (HasLedger (state_of l)) done.answered done.quit done.lacked_memory))) (sym is)
+      (lines_end Refuses Late (ClosesInto state_of lent) (λ till. HasCleanDisk (state_of (lent till))) (λ till. HasLedger (state_of (lent till))) (ledger_plain (λ till. state_of (lent till)) stands gathers) zone result known left held new tables begun shard before after (Some ledger)
+      same nothing none placed origin (subst (λ (l : H). HasCleanDisk (state_of l)) is clean) (λ live. subst (λ (l : H). IsLedger (state_of l).now ledger) was has) h)
 
   pub ledger_lines_fail : (result : Result Done SessionFault) (known left held new : Option (List ℕ)) (tables : FareTables) (begun shard : ShardParts) (before after : T) (old now : H) → old ≡ lent before → now ≡ lent after
       → begun.tables ≡ tables → begun.base ≡ finite.empty → begun.journal ≡ [] → AreInPlace 0 shard.journal
       → ◌≡◌ {A = FareTables × State} (shard.tables, shard.base) (begun.tables, begun.base)
       → IfErr result (λ fault. IfSome known (λ input. SessionFailsSo zone 1 Refuses Late (ClosesInto state_of lent) fault (from_journal begun.journal shard before after) input left held new))
-      → IsSound (state_of now) → (ledger : LedgerParts) → IsLedger (state_of old).now ledger
-      → IfErr result (λ fault. IfSome known (λ input. FailsSo fault (new_machine zone tables (Some ledger)) input left held new (HasLedger (state_of now).now)))
-  ledger_lines_fail result known left held new tables begun shard before after old now was is same nothing none placed origin h sound ledger has =
-      subst (λ (l : H). IfErr result (λ fault. IfSome known (λ input. FailsSo fault (new_machine zone tables (Some ledger)) input left held new (HasLedger (state_of l).now)))) (sym is)
-      (lines_fail Refuses Late (ClosesInto state_of lent) (λ till. IsSound (state_of (lent till))) (λ till. HasLedger (state_of (lent till)).now) (ledger_plain (λ till. state_of (lent till)) stands gathers) zone result known left held new tables begun shard before after (Some ledger)
-      same nothing none placed origin (subst (λ (l : H). IsSound (state_of l)) is sound) (subst (λ (l : H). IsLedger (state_of l).now ledger) was has) h)
+      → HasCleanDisk (state_of now) → (ledger : LedgerParts) → IsLedger (state_of old).now ledger
+      → IfErr result (λ fault. IfSome known (λ input. FailsSo fault (new_machine zone tables (Some ledger)) input left held new (HasLedger (state_of now))))
+  ledger_lines_fail result known left held new tables begun shard before after old now was is same nothing none placed origin h clean ledger has =
+      subst (λ (l : H). IfErr result (λ fault. IfSome known (λ input. FailsSo fault (new_machine zone tables (Some ledger)) input left held new (HasLedger (state_of l))))) (sym is)
+      (lines_fail Refuses Late (ClosesInto state_of lent) (λ till. HasCleanDisk (state_of (lent till))) (λ till. HasLedger (state_of (lent till))) (ledger_plain (λ till. state_of (lent till)) stands gathers) zone result known left held new tables begun shard before after (Some ledger)
+      same nothing none placed origin (subst (λ (l : H). HasCleanDisk (state_of l)) is clean) (λ live. subst (λ (l : H). IsLedger (state_of l).now ledger) was has) h)

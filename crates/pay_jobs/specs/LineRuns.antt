@@ -3,7 +3,7 @@ use Rattle.std.specs.Prelude.{◌≡◌, ℕ, Bool, false, List, [], ◌∷◌, 
 use Rattle.std.specs.List.{list_any}
 use Rattle.std.specs.Io.KnownBytes.{Appends}
 use Rattle.jiff.specs.declared.tz.timezone.TimeZone.{TimeZone}
-use Rattle.sqlite.specs.State.{State}
+use Rattle.sqlite.specs.State.{State, HasCleanDisk}
 use Rattle.pay_tables.specs.Words.{FareTables}
 use Rattle.pay_postings.specs.Words.{LedgerParts}
 use Rattle.pay_ledger.specs.Words.{IsLedger}
@@ -14,7 +14,7 @@ use Rattle.pay_session.specs.declared.request.Request.{Request}
 use Rattle.pay_session.specs.declared.sessions.Done.{Done}
 use Rattle.pay_session.specs.declared.stop.SessionFault.{SessionFault}
 use Rattle.pay_session.specs.declared.stop.SessionFault.TheVariants.{Read, Write}
-use Rattle.pay_jobs.specs.Ledgers.{IsSound, HasLedger}
+use Rattle.pay_jobs.specs.Ledgers.{HasLedger}
 use Rattle.pay_jobs.specs.Machine.{Machine, Failure, new_machine}
 use Rattle.pay_jobs.specs.Outcomes.{Outcome, outcome, any_failure, text_of}
 
@@ -72,15 +72,15 @@ FailsSo (Write answered) m input remaining held taken Holds = StopsWriting m inp
 
 -- A run from before to after, which begins with no accounts: the ledger, what the reader has left, and what the writer holds, the last
 -- two where they are known. With `state` for what a ledger's database is. Nothing is said where it was no ledger before, or where its disk
--- has failed or its connection is shut after.
+-- has not returned what was written.
 module _ {L : Type 0} (state : L → State) (zone : TimeZone) (tables : FareTables) where
   -- if it ended by itself
   abbrev pub LinesEnd : (before after : L × Option (List ℕ) × Option (List ℕ)) → Result Done SessionFault → Type 0
-  LinesEnd before after result = IsSound (state after.0) → (ledger : LedgerParts) → IsLedger (state before.0).now ledger
+  LinesEnd before after result = HasCleanDisk (state after.0) → (ledger : LedgerParts) → IsLedger (state before.0).now ledger
       → IfOk result (λ done. IfSome before.1 (λ input.
-      Ends (new_machine zone tables (Some ledger)) input after.1 before.2 after.2 (HasLedger (state after.0).now) done.answered done.quit done.lacked_memory))
+      Ends (new_machine zone tables (Some ledger)) input after.1 before.2 after.2 (HasLedger (state after.0)) done.answered done.quit done.lacked_memory))
 
   -- and if it did not
   abbrev pub LinesFail : (before after : L × Option (List ℕ) × Option (List ℕ)) → Result Done SessionFault → Type 0
-  LinesFail before after result = IsSound (state after.0) → (ledger : LedgerParts) → IsLedger (state before.0).now ledger
-      → IfErr result (λ fault. IfSome before.1 (λ input. FailsSo fault (new_machine zone tables (Some ledger)) input after.1 before.2 after.2 (HasLedger (state after.0).now)))
+  LinesFail before after result = HasCleanDisk (state after.0) → (ledger : LedgerParts) → IsLedger (state before.0).now ledger
+      → IfErr result (λ fault. IfSome before.1 (λ input. FailsSo fault (new_machine zone tables (Some ledger)) input after.1 before.2 after.2 (HasLedger (state after.0))))

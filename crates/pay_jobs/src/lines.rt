@@ -31,8 +31,9 @@ pub(crate) fn new_desk(alloc: Global, tables: Arc<Tables>) -> LocalDesk<Book>
 /// Answers the lines of a reader, beginning with no accounts, and closes days into a ledger. This is the whole run: for a reader
 /// that tells its bytes and a writer that tells what it holds, what is written is, for the lines of the input in order, the
 /// replies of the machine to what they ask for, and the ledger is then the machine's. Both are one function of the input, the
-/// zone, the fare file and the ledger before it, where no reply is 43, 44 or 90. Where the disk of the ledger fails or its
-/// connection shuts, nothing is said of the run.
+/// zone, the fare file and the ledger before it, where no reply is 43, 44 or 90. Where a write of the ledger's disk fails, its
+/// connection may shut: the replies are still the machine's, by what failed for each line, and nothing is said of the ledger. Where
+/// the disk does not return what was written, nothing is said of the run.
 pub fn run_lines<R: BufRead, W: Write, S: Alter>(
     alloc: Global,
     reader: &mut R,

@@ -4,8 +4,8 @@ ghost use Rattle.std.specs.Arc.{arc_value};
 ghost use Rattle.jiff.specs.Placed.{IsPosixZone};
 ghost use Rattle.jiff.specs.Words.{read_whole};
 ghost use Rattle.jiff.specs.ZoneView.{plain_zone};
-ghost use Rattle.sqlite.specs.Held.{state};
-ghost use Rattle.sqlite.specs.Steps.{over_memory};
+ghost use Rattle.sqlite.specs.Files.{file_state};
+ghost use Rattle.sqlite.specs.Steps.{IsEmpty};
 ghost use Rattle.pay_fare_file.specs.Words.{fare_text};
 ghost use Rattle.pay_ledger.specs.Words.{IsLedger, nothing};
 ghost use Rattle.pay_jobs.specs.Faults.{IsWantOfLedger};
@@ -14,11 +14,12 @@ ghost use Rattle.pay_jobs.specs.Run.{IsRefused, JobEnds, JobFails};
 use crate::fault::Fault;
 use crate::lines::run_lines;
 use jiff::tz::TimeZone;
+use pay_disk::{ScratchFile, new_database};
 use pay_fare_file::read_tables;
-use pay_ledger::Ledger;
+use pay_ledger::{Ledger, OpenFault};
 use pay_session::Done;
 use pay_tables::Tables;
-use sqlite::{Connection, MemStore};
+use sqlite::{Connection, Error, FileStore};
 use std::alloc::{AllocError, Global};
 use std::io::{BufRead, Write};
 use std::sync::Arc;
@@ -43,12 +44,31 @@ pub fn run_texts<R: BufRead, W: Write>(
     Ok(done)
 }
 
-/// A ledger in memory without postings.
-pub(crate) fn new_ledger(alloc: Global) -> Result<Ledger<MemStore>, Fault>
-    ensures ok { IfOk result (λ ledger. IsLedger (state over_memory ledger).now nothing) }
+/// Why there is no database for a ledger.
+fn no_database(error: Error) -> Fault
+    ensures { IsWantOfLedger result }
+{
+    let why = OpenFault::from(error);
+    Fault::from(why)
+}
+
+/// A database in memory without tables.
+fn new_connection(alloc: Global) -> Result<Connection<FileStore<ScratchFile>>, Fault>
+    ensures empty { IfOk result (λ c. IsEmpty (file_state c)) }
     ensures err { IfErr result IsWantOfLedger }
 {
-    let conn = Connection::open_in_memory(alloc)?;
+    match new_database(alloc) {
+        Ok(conn) => Ok(conn),
+        Err(error) => Err(no_database(error)),
+    }
+}
+
+/// A ledger in memory without postings. Its database has trees of pages, as one in a file has.
+pub(crate) fn new_ledger(alloc: Global) -> Result<Ledger<FileStore<ScratchFile>>, Fault>
+    ensures ok { IfOk result (λ ledger. IsLedger (file_state ledger).now nothing) }
+    ensures err { IfErr result IsWantOfLedger }
+{
+    let conn = new_connection(alloc)?;
     match Ledger::open(alloc, conn) {
         Ok(ledger) => Ok(ledger),
         Err((fault, _)) => Err(Fault::from(fault)),

@@ -4,3 +4,4 @@ mod Reading
 mod Gathered
 mod Batched
 mod Looking
+mod Asked

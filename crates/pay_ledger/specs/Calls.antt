@@ -80,6 +80,10 @@ module _ {S : Type 0} (store : Ghosts S) (old new : Held S) where
     abbrev pub FailsByStoreAloneOfRows : Type 0
     FailsByStoreAloneOfRows = RefusesOfRows answer (λ _ fault. IsTrue (is_of_store fault))
 
+    -- what a database does not give, it refuses of an open connection alone
+    abbrev pub RefusesOpenAlone : Type 0
+    RefusesOpenAlone = Refuses store old new answer (λ old _ fault. IsTrue (is_of_store fault) ⊎ IsTrue old.is_open)
+
     -- of a ledger it refuses what the definition does, beside what a database gives
     abbrev pub RefusesAsDefined : {B : Type 0} → (LedgerParts → Result B PostFault) → Type 0
     RefusesAsDefined defined = RefusesOfLedger answer (λ ledger fault. IsRefused fault (defined ledger))

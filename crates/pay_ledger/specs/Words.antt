@@ -5,4 +5,4 @@ pub use Rattle.pay_ledger.specs.Keeps.{AreRowsOf, Keeps, IsLedger, row_of_postin
 pub use Rattle.pay_ledger.specs.Opening.{nothing, IsWhy, IsOpened, MayLeaveOpened, KeepsLedger, BlankBecomesLedger, IsLedgerOrBlank}
 pub use Rattle.pay_ledger.specs.Steps.{Stays, GoesOn, RowsGrow, Grows, Tells, ReadsInto, IsRefused, BecomesPosted, Posts, IsAsBefore, MayLeave}
 pub use Rattle.pay_ledger.specs.Calls.{ChangesNothing, ChangesNothingIfRefused, GoesOnIfDone, StaysIfRefused, ReadsIntoIfDone, GrowsInside}
-pub use Rattle.pay_ledger.specs.Calls.{FindsInLedger, AnswersOfLedger, RefusesOfLedger, AnswersOfRows, RefusesOfRows, FailsByStoreAlone, FailsByStoreAloneOfRows, RefusesAsDefined, IsRefusedAsBad, RestoresRows, RestoresLedger}
+pub use Rattle.pay_ledger.specs.Calls.{FindsInLedger, AnswersOfLedger, RefusesOfLedger, AnswersOfRows, RefusesOfRows, FailsByStoreAlone, FailsByStoreAloneOfRows, RefusesOpenAlone, RefusesAsDefined, IsRefusedAsBad, RestoresRows, RestoresLedger}

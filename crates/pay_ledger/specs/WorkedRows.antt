@@ -10,7 +10,7 @@ use Rattle.pay_taps.specs.declared.tap.Tap.{Tap}
 use Rattle.pay_fix.specs.declared.fix.Fix.{Fix}
 use Rattle.pay_fix.specs.declared.fix.What.TheVariants.{Credit}
 use Rattle.pay_quotes.specs.declared.posting.Posting.{Posting}
-use Rattle.pay_postings.specs.declared.fault.PostFault.TheVariants.{QuoteDiffers, Memory}
+use Rattle.pay_postings.specs.declared.fault.PostFault.TheVariants.{Memory}
 use Rattle.pay_postings.specs.Words.{LedgerParts}
 use Rattle.pay_records.specs.Words.{LedgerRows, no_rows, ledger_schema}
 use Rattle.pay_records.specs.declared.fault.ReadFault.TheVariants as read

@@ -9,7 +9,7 @@ ghost use Rattle.pay_ledger.specs.Faults.{opens_by_store};
 ghost use Rattle.pay_records.specs.Words.{OnCleanDisk, LeavesAsBeforeOr, LeavesAsBefore, Answers, no_schema, IsBlank};
 ghost use Rattle.pay_ledger.specs.Opening.{IsWhy, IsOpened, MayLeaveOpened};
 ghost use Rattle.pay_ledger.specs.Steps.{Posts, MayLeave};
-ghost use Rattle.pay_ledger.specs.Calls.{ChangesNothing, ChangesNothingIfRefused, AnswersOfLedger, FailsByStoreAlone, RefusesAsDefined, RestoresRows, RestoresLedger};
+ghost use Rattle.pay_ledger.specs.Calls.{ChangesNothing, ChangesNothingIfRefused, AnswersOfLedger, FailsByStoreAlone, RefusesAsDefined, RefusesOpenAlone, RestoresRows, RestoresLedger};
 
 use crate::fault::{LedgerFault, OpenFault};
 use crate::lookup::{archive_of, of_week, posted_of};
@@ -66,6 +66,7 @@ impl<S: Alter> Ledger<S> {
     pub fn post(&mut self, quotes: &[Quote], sets: &[Sets]) -> Result<Vec<Posting>, LedgerFault>
         ensures posts { Answers S.Store self.old self.new result (λ old new given. Posts old new quotes.now sets.now given.items) }
         ensures refused { RefusesAsDefined S.Store self.old self.new result (λ ledger. posted ledger quotes.now sets.now) }
+        ensures of_open { RefusesOpenAlone S.Store self.old self.new result }
         ensures kept { ChangesNothingIfRefused S.Store self.old self.new result }
         ensures survives { LeavesAsBeforeOr S.Store self.old self.new (λ old. MayLeave old quotes.now sets.now) }
     {

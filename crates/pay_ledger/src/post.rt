@@ -5,10 +5,10 @@ ghost use Rattle.pay_postings.specs.Words.{posted, lists, with_batch};
 ghost use Rattle.pay_ledger.specs.Faults.{is_of_store};
 ghost use Rattle.pay_records.specs.Words.{LeavesAsBeforeOr, Answers, AnswersInside};
 ghost use Rattle.pay_ledger.specs.Steps.{BecomesPosted, Posts, MayLeave};
-ghost use Rattle.pay_ledger.specs.Calls.{ChangesNothingIfRefused, GoesOnIfDone, StaysIfRefused, GrowsInside, FindsInLedger, RefusesAsDefined};
+ghost use Rattle.pay_ledger.specs.Calls.{ChangesNothingIfRefused, GoesOnIfDone, StaysIfRefused, GrowsInside, FindsInLedger, RefusesAsDefined, RefusesOpenAlone};
 
 use crate::fault::LedgerFault;
-use crate::read::{read_quoted, read_sets};
+use crate::read::{ask, read_quoted, read_sets};
 use crate::write::{write_fixes, write_postings, write_taps};
 use pay_postings::{Accounts, Batch};
 use pay_quotes::{Posting, Quote, Sets};
@@ -70,8 +70,8 @@ fn write_batch<S: Alter>(
     Ok(())
 }
 
-/// Posts quotes and archives sets in a transaction, which is not committed yet.
-fn post_in<S: Alter>(
+/// Adds what posting quotes and archiving sets comes to, in a transaction that is not committed yet.
+fn add_batch<S: Alter>(
     alloc: Global,
     tx: &mut Transaction<'_, S>,
     quotes: &[Quote],
@@ -90,6 +90,24 @@ fn post_in<S: Alter>(
     Ok(batch.given)
 }
 
+/// Posts quotes and archives sets in a transaction, which is not committed yet. A database that does not answer is not read.
+fn post_in<S: Alter>(
+    alloc: Global,
+    tx: &mut Transaction<'_, S>,
+    quotes: &[Quote],
+    sets: &[Sets],
+) -> Result<Vec<Posting>, LedgerFault>
+    ensures same_reference { tx.new.conn.ghost_name ≡ tx.old.conn.ghost_name }
+    ensures posts { AnswersInside S.Store tx.old.conn.now tx.new.conn.now result (λ old new given. BecomesPosted old.now new.now (quotes.now, sets.now) given.items) }
+    ensures refused { RefusesAsDefined S.Store tx.old.conn.now tx.new.conn.now result (λ ledger. posted ledger quotes.now sets.now) }
+    ensures of_open { RefusesOpenAlone S.Store tx.old.conn.now tx.new.conn.now result }
+    ensures ok { GoesOnIfDone S.Store tx.old.conn.now tx.new.conn.now result }
+    ensures err { StaysIfRefused S.Store tx.old.conn.now tx.new.conn.now result }
+{
+    ask(tx)?;
+    add_batch(alloc, tx, quotes, sets)
+}
+
 /// Posts quotes, and archives sets, in one transaction.
 pub(crate) fn post<S: Alter>(
     alloc: Global,
@@ -101,6 +119,7 @@ pub(crate) fn post<S: Alter>(
     ensures autocommit { conn.new.in_transaction ≡ false }
     ensures posts { Answers S.Store conn.old conn.new result (λ old new given. Posts old new quotes.now sets.now given.items) }
     ensures refused { RefusesAsDefined S.Store conn.old conn.new result (λ ledger. posted ledger quotes.now sets.now) }
+    ensures of_open { RefusesOpenAlone S.Store conn.old conn.new result }
     ensures kept { ChangesNothingIfRefused S.Store conn.old conn.new result }
     ensures survives { LeavesAsBeforeOr S.Store conn.old conn.new (λ old. MayLeave old quotes.now sets.now) }
 {

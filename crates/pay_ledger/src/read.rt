@@ -1,9 +1,12 @@
-ghost use Rattle.std.specs.Prelude.{◌≡◌, map, OnOk};
+ghost use Rattle.std.specs.Prelude.{◌≡◌, map, IsTrue, IfErr, OnOk};
 ghost use Rattle.pay_postings.specs.Words.{parts, taps_of, fixes_of, archived_of, IsThere};
 ghost use Rattle.pay_postings.specs.SetRows.{tap_row, fix_row};
 ghost use Rattle.pay_postings.specs.AccountRows.{of_account};
 ghost use Rattle.std.specs.List.{AllByRecursion};
+ghost use Rattle.sqlite.specs.State.{IsUnchanged};
 ghost use Rattle.pay_quotes.specs.Words.{QuoteParts, SetsParts};
+ghost use Rattle.pay_records.specs.Words.{Does};
+ghost use Rattle.pay_ledger.specs.Faults.{is_of_store};
 ghost use Rattle.pay_ledger.specs.Calls.{GoesOnIfDone, StaysIfRefused, ReadsIntoIfDone, FindsInLedger, FailsByStoreAlone};
 
 use crate::fault::LedgerFault;
@@ -13,6 +16,18 @@ use pay_records::{fixes_of, postings_of, shares_of, taps_of};
 use pay_rows::{FixRow, TapRow};
 use sqlite::{Alter, Transaction};
 use std::alloc::Global;
+
+/// Whether the database answers at all: a statement is prepared, and not run. One that does so is open.
+pub(crate) fn ask<S: Alter>(tx: &mut Transaction<'_, S>) -> Result<(), LedgerFault>
+    ensures same_reference { tx.new.conn.ghost_name ≡ tx.old.conn.ghost_name }
+    ensures same { Does S.Store tx.old.conn.now tx.new.conn.now result IsUnchanged }
+    ensures of_store { IfErr result (λ fault. IsTrue (is_of_store fault)) }
+    ensures ok { GoesOnIfDone S.Store tx.old.conn.now tx.new.conn.now result }
+    ensures err { StaysIfRefused S.Store tx.old.conn.now tx.new.conn.now result }
+{
+    tx.prepare("SELECT name, version FROM meta")?;
+    Ok(())
+}
 
 /// The rows of an account's archived taps.
 fn read_taps<S: Alter>(

@@ -1,7 +1,7 @@
 use Rattle.std.proofs.Common.{None, Some, refl}
 use Rattle.std.proofs.lemmas.Result.{err_from_is_err_and}
 use Rattle.std.specs.Arc.{arc_value}
-use Rattle.sqlite.proofs.Callers.{memory_is_clean}
+use Rattle.pay_disk.proofs.Clean.{always_clean}
 use Rattle.pay_ledger.specs.Words.{nothing}
 use Rattle.pay_jobs.specs.Machine.{new_machine}
 use Rattle.pay_jobs.proofs.Runs.{RunFails_refused, RunFails_session, RunFails_unmade, ends_alone, fails_alone}
@@ -33,12 +33,12 @@ returns-in_err-done-clause-fails g c =
     rw (p.1, p.2) (RunFails_session _ _ _ _ _ _ _ record {
       machine = new_machine c.in_ok-zone.zone (arc_value c.in_ok-tables.tables) (Some nothing);
       begins = record { says = c.in_ok-tables.ensures.ok; rule = c.in_ok-zone.ensures.ok; new = refl; posted = refl };
-      fails = fails_alone _ _ _ _ _ _ _ (c.in_err-done.ensures.fails (memory_is_clean c.in_ok-ledger.ledger, refl) nothing c.in_ok-ledger.ensures.ok);
+      fails = fails_alone _ _ _ _ _ _ _ (c.in_err-done.ensures.fails (always_clean (λ _. refl) c.run_lines.new.ledger) nothing c.in_ok-ledger.ensures.ok);
     })
 
 pub returns-clause-ends : goal.returns-clause-ends
 returns-clause-ends g c = record {
   machine = new_machine c.in_ok-zone.zone (arc_value c.in_ok-tables.tables) (Some nothing);
   begins = record { says = c.in_ok-tables.ensures.ok; rule = c.in_ok-zone.ensures.ok; new = refl; posted = refl };
-  ends = ends_alone _ _ _ _ _ _ _ _ _ (c.in_ok-done.ensures.ends (memory_is_clean c.in_ok-ledger.ledger, refl) nothing c.in_ok-ledger.ensures.ok);
+  ends = ends_alone _ _ _ _ _ _ _ _ _ (c.in_ok-done.ensures.ends (always_clean (λ _. refl) c.run_lines.new.ledger) nothing c.in_ok-ledger.ensures.ok);
 }

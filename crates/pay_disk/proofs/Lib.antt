@@ -1,0 +1,2 @@
+pub mod Clean
+pub mod NewFiles

@@ -1,0 +1,9 @@
+//! A database in memory that lives as long as its program: trees of pages, as in a file.
+#![tactic(auto)]
+
+mod database;
+pub mod limits;
+mod scratch_file;
+
+pub use database::new_database;
+pub use scratch_file::ScratchFile;
