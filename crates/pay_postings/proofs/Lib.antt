@@ -6,6 +6,7 @@ pub mod SetsBack
 pub mod SharesBack
 pub mod PostingsBack
 pub mod Maps
+pub mod NeverBad
 pub mod Postings
 pub mod Archiving
 pub mod Sets

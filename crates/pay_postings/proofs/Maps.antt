@@ -10,7 +10,7 @@ use Rattle.std.specs.declared.cmp.Ordering.{Ordering}
 use Rattle.std.specs.declared.cmp.Ordering.TheVariants.{Less, Equal, Greater}
 use Rattle.pay_postings.specs.Ledger.{LedgerParts}
 use Rattle.pay_postings.specs.Archived.{ArchivedParts, AccountsParts, parts, accounts_of}
-use Rattle.pay_postings.specs.Batches.{archived_of, Agrees, IsThere}
+use Rattle.pay_postings.specs.Batches.{archived_of, Agrees, IsThere, AreThere}
 use Rattle.pay_postings.specs.declared.archived.Archived.{Archived}
 
 equal : (o : Ordering) → is_eq o ≡ true → o ≡ Equal
@@ -117,3 +117,7 @@ was_there accounts account archived e = ap is_some e
 
 pub not_both : (accounts : AccountsParts) (account : ℕ) → get accounts account ≡ None → IsThere accounts account → ⊥
 not_both accounts account none there = let missing : contains_key accounts account ≡ false = ap is_some none in absurd (cc)
+
+-- where one that was there is put back as it is now, the same ones are there
+pub same_put : (old new : AccountsParts) (account : ℕ) (was now : ArchivedParts) → get old account ≡ Some was → new ≡ put_back old account now → AreThere old new
+same_put old new account was now there is q = ap (λ m. contains_key m q) is ∙ same_there old account now (was_there old account was there) q

@@ -46,6 +46,10 @@ IsThere accounts account = finite.contains_key accounts account ≡ true
 abbrev pub Covers : AccountsParts → List QuoteParts → List SetsParts → Type 0
 Covers accounts quotes sets = AllByRecursion (λ (q : QuoteParts). IsThere accounts q.account) quotes × AllByRecursion (λ (s : SetsParts). IsThere accounts s.account) sets
 
+-- the same accounts are there as before
+abbrev pub AreThere : AccountsParts → AccountsParts → Type 0
+AreThere old new = (account : ℕ) → finite.contains_key new account ≡ finite.contains_key old account
+
 -- the lists of a batch
 pub record BatchLists : Type 0 where
   pub given : List Posting
@@ -84,7 +88,7 @@ posted_behind ledger batch quotes sets = do
 -- accounts agree with the ledger and its batch as it is now, and the same ones are there
 pub record IsKept (ledger : LedgerParts) (old new : AccountsParts) (batch : BatchLists) : Type 0 where
   pub agrees : Agrees new (with_batch ledger batch)
-  pub same : (account : ℕ) → finite.contains_key new account ≡ finite.contains_key old account
+  pub same : AreThere old new
 
 -- quotes were posted: what comes behind them comes behind the batch as it is now; or one of them is refused
 abbrev pub AreQuotesPosted : {U : Type 0} → Result U PostFault → AccountsParts → AccountsParts → BatchLists → BatchLists → List QuoteParts → Type 0

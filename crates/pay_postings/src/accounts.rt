@@ -1,8 +1,9 @@
-ghost use Rattle.std.specs.Prelude.{◌≡◌, [], ◌∷◌, Some, None, IfSome, IfNone, OnOk, OnErr};
+ghost use Rattle.std.specs.Prelude.{◌≡◌, [], ◌∷◌, Some, None, Err, IfSome, IfNone, OnOk, OnErr};
 ghost use Rattle.std.specs.FinMap as map;
+ghost use Rattle.pay_postings.specs.declared.fault.PostFault.TheVariants.{BadArchive};
 ghost use Rattle.pay_postings.specs.Ledger.{LedgerParts};
 ghost use Rattle.pay_postings.specs.Archived.{parts};
-ghost use Rattle.pay_postings.specs.Batches.{Agrees, Covers, lists, IsBatchFor, AreQuotesPosted, AreSetsPosted};
+ghost use Rattle.pay_postings.specs.Batches.{Agrees, Covers, AreThere, lists, IsBatchFor, AreQuotesPosted, AreSetsPosted};
 
 use crate::archived::{Archived, post};
 use crate::batch::Batch;
@@ -67,7 +68,9 @@ impl Accounts {
 
     /// Posts a quote behind a batch.
     fn post_quote(&mut self, batch: &mut Batch, quote: &Quote) -> Result<(), PostFault>
-        ensures { AreQuotesPosted result self.old self.new (lists batch.old) (lists batch.new) (quote.now ∷ []) }
+        ensures posted { AreQuotesPosted result self.old self.new (lists batch.old) (lists batch.new) (quote.now ∷ []) }
+        ensures same { OnOk result (AreThere self.old self.new) }
+        ensures never_bad { Covers self.old (quote.now ∷ []) [] → result ≡ Err BadArchive → ⊥ }
     {
         let Some(mut archived) = self.take(quote.account()) else {
             return Err(PostFault::BadArchive);
@@ -80,7 +83,9 @@ impl Accounts {
 
     /// Posts quotes behind a batch, one after another.
     fn post_quotes(&mut self, batch: &mut Batch, quotes: &[Quote]) -> Result<(), PostFault>
-        ensures { AreQuotesPosted result self.old self.new (lists batch.old) (lists batch.new) quotes.now }
+        ensures posted { AreQuotesPosted result self.old self.new (lists batch.old) (lists batch.new) quotes.now }
+        ensures same { OnOk result (AreThere self.old self.new) }
+        ensures never_bad { Covers self.old quotes.now [] → result ≡ Err BadArchive → ⊥ }
     {
         for quote in quotes {
             self.post_quote(batch, quote)?;
@@ -90,7 +95,9 @@ impl Accounts {
 
     /// Archives a set behind a batch.
     fn archive_set(&mut self, alloc: Global, batch: &mut Batch, set: &Sets) -> Result<(), PostFault>
-        ensures { AreSetsPosted result self.old self.new (lists batch.old) (lists batch.new) (set.now ∷ []) }
+        ensures posted { AreSetsPosted result self.old self.new (lists batch.old) (lists batch.new) (set.now ∷ []) }
+        ensures same { OnOk result (AreThere self.old self.new) }
+        ensures never_bad { Covers self.old [] (set.now ∷ []) → result ≡ Err BadArchive → ⊥ }
     {
         let Some(mut archived) = self.take(set.account()) else {
             return Err(PostFault::BadArchive);
@@ -111,7 +118,9 @@ impl Accounts {
         batch: &mut Batch,
         sets: &[Sets],
     ) -> Result<(), PostFault>
-        ensures { AreSetsPosted result self.old self.new (lists batch.old) (lists batch.new) sets.now }
+        ensures posted { AreSetsPosted result self.old self.new (lists batch.old) (lists batch.new) sets.now }
+        ensures same { OnOk result (AreThere self.old self.new) }
+        ensures never_bad { Covers self.old [] sets.now → result ≡ Err BadArchive → ⊥ }
     {
         for set in sets {
             self.archive_set(alloc, batch, set)?;
@@ -120,15 +129,16 @@ impl Accounts {
     }
 
     /// Posts quotes one after another, and then archives sets one after another, by what is there of their accounts:
-    /// what is to be written to the ledger for it. Where an account is not there, nothing is said of the answer. The
-    /// accounts are used up.
+    /// what is to be written to the ledger for it. `BadArchive` comes only where an account is not there, and nothing else
+    /// is said of the answer then. The accounts are used up.
     pub fn post(
         &mut self,
         alloc: Global,
         quotes: &[Quote],
         sets: &[Sets],
     ) -> Result<Batch, PostFault>
-        ensures { (ledger : LedgerParts) → Agrees self.old ledger → Covers self.old quotes.now sets.now → IsBatchFor result ledger quotes.now sets.now }
+        ensures batch { (ledger : LedgerParts) → Agrees self.old ledger → Covers self.old quotes.now sets.now → IsBatchFor result ledger quotes.now sets.now }
+        ensures never_bad { Covers self.old quotes.now sets.now → result ≡ Err BadArchive → ⊥ }
     {
         let mut batch = Batch::new(alloc);
         self.post_quotes(&mut batch, quotes)?;

@@ -1,12 +1,14 @@
 use Rattle.std.proofs.Common.{◌≡◌, List, [], ◌++◌, drop}
 use Rattle.pay_quotes.specs.Words.{SetsParts}
 use Rattle.pay_postings.specs.Ledger.{LedgerParts}
-use Rattle.pay_postings.specs.Batches.{Agrees, Covers, with_batch, lists, posted_behind, IsKept}
+use Rattle.pay_postings.specs.Batches.{Agrees, AreThere, Covers, with_batch, lists, posted_behind, IsKept}
 use Rattle.pay_postings.proofs.accounts.Accounts.archive_sets.Given as goal
 
--- what is left comes behind the batch so far
+-- the same accounts are there, and what is left comes behind the batch so far
 abbrev pub invariant-loop-set : goal.invariant-loop-set
-invariant-loop-set l =
-    (ledger : LedgerParts) → Agrees l.initial.self (with_batch ledger (lists l.initial.batch)) → Covers l.initial.self [] l.sets
-    → IsKept ledger l.initial.self l.self (lists l.batch)
-    × ((later : List SetsParts) → posted_behind ledger (lists l.batch) [] (drop l.set-index l.sets ++ later) ≡ posted_behind ledger (lists l.initial.batch) [] (l.sets ++ later))
+invariant-loop-set l = record {
+  same : AreThere l.initial.self l.self;
+  posted : (ledger : LedgerParts) → Agrees l.initial.self (with_batch ledger (lists l.initial.batch)) → Covers l.initial.self [] l.sets
+      → IsKept ledger l.initial.self l.self (lists l.batch)
+      × ((later : List SetsParts) → posted_behind ledger (lists l.batch) [] (drop l.set-index l.sets ++ later) ≡ posted_behind ledger (lists l.initial.batch) [] (l.sets ++ later));
+}

@@ -1,12 +1,14 @@
 use Rattle.std.proofs.Common.{◌≡◌, List, [], ◌++◌, drop}
 use Rattle.pay_quotes.specs.Words.{QuoteParts, SetsParts}
 use Rattle.pay_postings.specs.Ledger.{LedgerParts}
-use Rattle.pay_postings.specs.Batches.{Agrees, Covers, with_batch, lists, posted_behind, IsKept}
+use Rattle.pay_postings.specs.Batches.{Agrees, AreThere, Covers, with_batch, lists, posted_behind, IsKept}
 use Rattle.pay_postings.proofs.accounts.Accounts.post_quotes.Given as goal
 
--- what is left comes behind the batch so far
+-- the same accounts are there, and what is left comes behind the batch so far
 abbrev pub invariant-loop-quote : goal.invariant-loop-quote
-invariant-loop-quote l =
-    (ledger : LedgerParts) → Agrees l.initial.self (with_batch ledger (lists l.initial.batch)) → Covers l.initial.self l.quotes []
-    → IsKept ledger l.initial.self l.self (lists l.batch)
-    × ((later : List QuoteParts) (sets : List SetsParts) → posted_behind ledger (lists l.batch) (drop l.quote-index l.quotes ++ later) sets ≡ posted_behind ledger (lists l.initial.batch) (l.quotes ++ later) sets)
+invariant-loop-quote l = record {
+  same : AreThere l.initial.self l.self;
+  posted : (ledger : LedgerParts) → Agrees l.initial.self (with_batch ledger (lists l.initial.batch)) → Covers l.initial.self l.quotes []
+      → IsKept ledger l.initial.self l.self (lists l.batch)
+      × ((later : List QuoteParts) (sets : List SetsParts) → posted_behind ledger (lists l.batch) (drop l.quote-index l.quotes ++ later) sets ≡ posted_behind ledger (lists l.initial.batch) (l.quotes ++ later) sets);
+}
