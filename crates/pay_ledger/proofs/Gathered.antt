@@ -11,7 +11,9 @@ use Rattle.std.proofs.lemmas.Bool.Decides.{nat_tests}
 use Rattle.sqlite_keyed.proofs.ListLemmas.{all-append, all_weaker}
 use Rattle.sqlite.specs.State.{State, HasCleanDisk}
 use Rattle.pay_postings.specs.Words.{LedgerParts, ArchivedParts, AccountsParts, archived_of, Agrees, IsThere}
-use Rattle.pay_ledger.specs.Steps.{GoesOn, Tells, ReadsInto}
+use Rattle.pay_records.specs.Words.{LedgerRows}
+use Rattle.pay_ledger.specs.BadRows.{IsReadable, WereRead}
+use Rattle.pay_ledger.specs.Steps.{GoesOn, Tells, TellsRows, ReadsInto}
 use Rattle.pay_ledger.proofs.Along.{was_clean}
 
 equal : (o : Ordering) → is_eq o ≡ true → o ≡ Equal
@@ -46,11 +48,22 @@ module _ (before after : AccountsParts) (account : ℕ) (p : ArchivedParts) (is 
       go true = refl
       go false = h
 
-  pub read_one : (old new : State) → (HasCleanDisk new → Tells old new (λ ledger. p ≡ archived_of account ledger)) → ReadsInto old new before after
-  read_one old new told = record { agrees = λ clean ledger k. let it = told clean ledger k in (agrees_more ledger it.0, it.1); stay = still_there }
+  read_more : (rows : LedgerRows) → IsReadable rows account → WereRead rows before → WereRead rows after
+  read_more rows own read q h = go (eq_by_cmp nat_cmp q account) refl
+    where
+      go : (b : Bool) → eq_by_cmp nat_cmp q account ≡ b → IsReadable rows q
+      go true e = subst (IsReadable rows) (sym (nat_cmp-IsAntisymmetric q account (equal (nat_cmp q account) e))) own
+      go false e = read q (sym (ap is_some (got q ∙ ap (λ b. cond b (Some p) (get before q)) e)) ∙ h)
+
+  pub read_one : (old new : State) → (HasCleanDisk new → Tells old new (λ ledger. p ≡ archived_of account ledger)) → (HasCleanDisk new → TellsRows old new (λ rows. IsReadable rows account)) → ReadsInto old new before after
+  read_one old new told said = record {
+    agrees = λ clean ledger k. let it = told clean ledger k in (agrees_more ledger it.0, it.1);
+    rows = λ clean rows k. let it = said clean rows k in (read_more rows it.0, it.1);
+    stay = still_there;
+  }
 
 pub reads_none : (s : State) (accounts : AccountsParts) → ReadsInto s s accounts accounts
-reads_none s accounts = record { agrees = λ clean ledger k. ((λ agrees. agrees), k); stay = λ account h. h }
+reads_none s accounts = record { agrees = λ clean ledger k. ((λ agrees. agrees), k); rows = λ clean rows k. ((λ read. read), k); stay = λ account h. h }
 
 pub reads_then : (a b c : State) (one two three : AccountsParts) → ReadsInto a b one two → ReadsInto b c two three → GoesOn b c → ReadsInto a c one three
 reads_then a b c one two three first second on = record {
@@ -58,6 +71,10 @@ reads_then a b c one two three first second on = record {
       let begun = first.agrees (was_clean b c on.stays.survives clean) ledger k in
       let gone = second.agrees clean ledger begun.1 in
       ((λ agrees. gone.0 (begun.0 agrees)), gone.1);
+  rows = λ clean rows k.
+      let begun = first.rows (was_clean b c on.stays.survives clean) rows k in
+      let gone = second.rows clean rows begun.1 in
+      ((λ read. gone.0 (begun.0 read)), gone.1);
   stay = λ account h. second.stay account (first.stay account h);
 }
 

@@ -1,6 +1,7 @@
 mod Along
 mod Written
 mod Reading
+mod Readable
 mod Gathered
 mod Batched
 mod Looking

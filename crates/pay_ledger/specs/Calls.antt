@@ -1,5 +1,5 @@
 -- What a call says of the ledger behind a connection, from what the connection holds before it to what it holds after it.
-use Rattle.std.specs.Prelude.{◌≡◌, ◌⊎◌, ℤ, List, Option, Some, None, Result, MatchResult, OnOk, OnErr, IsTrue}
+use Rattle.std.specs.Prelude.{◌≡◌, ◌⊎◌, ℕ, ℤ, List, Option, Some, None, Result, MatchResult, OnOk, OnErr, IsTrue}
 use Rattle.sqlite.specs.Store.{Ghosts}
 use Rattle.sqlite.specs.Held.{Held, state}
 use Rattle.pay_rows.specs.declared.row.TapRow.{TapRow}
@@ -12,8 +12,9 @@ use Rattle.pay_records.specs.Words.{LedgerRows, HoldsRows, OnCleanDisk, Answers,
 use Rattle.pay_ledger.specs.declared.fault.LedgerFault.{LedgerFault}
 use Rattle.pay_ledger.specs.declared.fault.LedgerFault.TheVariants.{Refused}
 use Rattle.pay_ledger.specs.Faults.{is_of_store}
+use Rattle.pay_ledger.specs.BadRows.{ReadsAs, AreReadable, IsBadAmong, IsJudgedByRows}
 use Rattle.pay_ledger.specs.Keeps.{IsLedger}
-use Rattle.pay_ledger.specs.Steps.{Stays, GoesOn, Grows, Tells, ReadsInto, IsRefused, IsAsBefore}
+use Rattle.pay_ledger.specs.Steps.{Stays, GoesOn, Grows, Tells, TellsRows, ReadsInto, IsRefused, IsAsBefore}
 
 -- a fault is one that the database gives, or the archive is bad and has no accounts
 abbrev pub IsRefusedAsBad : {A : Type 0} → Option A → LedgerFault → Type 0
@@ -67,6 +68,14 @@ module _ {S : Type 0} (store : Ghosts S) (old new : Held S) where
     abbrev pub AnswersOfRows : (LedgerRows → A → Type 0) → Type 0
     AnswersOfRows IsSo = Answers store old new answer (λ old _ it. (rows : LedgerRows) → HoldsRows old.now rows → IsSo rows it)
 
+    -- of a ledger's rows this is answered, and they stay
+    abbrev pub FindsInHeldRows : (LedgerRows → A → Type 0) → Type 0
+    FindsInHeldRows IsSo = Answers store old new answer (λ old new it. TellsRows old new (λ rows. IsSo rows it))
+
+    -- it answers only where the rows of each of these accounts say its postings
+    abbrev pub AnswersOfReadable : List ℕ → Type 0
+    AnswersOfReadable accounts = AnswersOfRows (λ rows _. AreReadable rows accounts)
+
     -- and this refused
     abbrev pub RefusesOfRows : (LedgerRows → E → Type 0) → Type 0
     RefusesOfRows IsSo = Refuses store old new answer (λ old _ fault. (rows : LedgerRows) → HoldsRows old.now rows → IsSo rows fault)
@@ -79,6 +88,18 @@ module _ {S : Type 0} (store : Ghosts S) (old new : Held S) where
     -- and so it does of a ledger's rows
     abbrev pub FailsByStoreAloneOfRows : Type 0
     FailsByStoreAloneOfRows = RefusesOfRows answer (λ _ fault. IsTrue (is_of_store fault))
+
+    -- of a ledger's rows it refuses what the database gives, or by 45 an account whose rows say nothing
+    abbrev pub RefusesBadRows : ℕ → Type 0
+    RefusesBadRows account = RefusesOfRows answer (λ rows fault. IsTrue (is_of_store fault) ⊎ ((fault ≡ Refused BadArchive) × ReadsAs rows account None))
+
+    -- and of several accounts one whose rows say nothing
+    abbrev pub RefusesBadRowsOf : List ℕ → Type 0
+    RefusesBadRowsOf accounts = RefusesOfRows answer (λ rows fault. IsTrue (is_of_store fault) ⊎ IsBadAmong rows accounts fault)
+
+    -- bad rows of these accounts come before all that is refused by what was posted
+    abbrev pub RefusesBadRowsFirst : List ℕ → Type 0
+    RefusesBadRowsFirst accounts = RefusesOfRows answer (λ rows fault. IsJudgedByRows rows accounts fault)
 
     -- what a database does not give, it refuses of an open connection alone
     abbrev pub RefusesOpenAlone : Type 0

@@ -1,4 +1,6 @@
 pub mod Faults
+pub mod BadRows
+pub mod OneReading
 pub mod Keeps
 pub mod Opening
 pub mod Steps

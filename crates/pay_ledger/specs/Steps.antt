@@ -11,6 +11,7 @@ use Rattle.pay_records.specs.Words.{LedgerRows, HoldsRows}
 use Rattle.pay_ledger.specs.declared.fault.LedgerFault.{LedgerFault}
 use Rattle.pay_ledger.specs.declared.fault.LedgerFault.TheVariants.{Refused}
 use Rattle.pay_ledger.specs.Faults.{is_of_store}
+use Rattle.pay_ledger.specs.BadRows.{WereRead}
 use Rattle.pay_ledger.specs.Keeps.{Keeps, IsLedger}
 
 -- nothing is committed by it, and a crash leaves what it would have left before
@@ -35,9 +36,18 @@ Grows old new change = (ledger : LedgerParts) → Keeps old.now ledger → Keeps
 abbrev pub Tells : State → State → (LedgerParts → Type 0) → Type 0
 Tells old new Told = (ledger : LedgerParts) → IsLedger old.now ledger → Told ledger × IsLedger new.now ledger
 
--- accounts are read into those that are there, and agree with the ledger if those do
+-- the rows of a ledger stay
+abbrev pub KeepsRows : State → State → Type 0
+KeepsRows old new = (rows : LedgerRows) → HoldsRows old.now rows → HoldsRows new.now rows
+
+-- it is told of the rows of a ledger, which stay
+abbrev pub TellsRows : State → State → (LedgerRows → Type 0) → Type 0
+TellsRows old new Told = (rows : LedgerRows) → HoldsRows old.now rows → Told rows × HoldsRows new.now rows
+
+-- accounts are read into those that are there, and agree with the ledger if those do, and their rows were read
 pub record ReadsInto (old new : State) (before after : AccountsParts) : Type 0 where
   pub agrees : HasCleanDisk new → Tells old new (λ ledger. Agrees before ledger → Agrees after ledger)
+  pub rows : HasCleanDisk new → TellsRows old new (λ rows. WereRead rows before → WereRead rows after)
   pub stay : (account : ℕ) → IsThere before account → IsThere after account
 
 -- a fault is one that the database gives, or the refusal that is answered

@@ -1,7 +1,8 @@
--- Worked rows: a ledger of one posting, one tap and one credit, as the rows of its tables and as a database.
-use Rattle.std.specs.Prelude.{◌≡◌, ◌==◌, if◌then◌else◌, ℕ, ℤ, pos, List, [], ◌∷◌, map, replicate, codes, true, false, refl}
-use Rattle.std.proofs.Common.{arith}
+-- Worked rows: a ledger of one posting, one tap and one credit, as the rows of its tables and as a database; and rows that are bad.
+use Rattle.std.specs.Prelude.{◌≡◌, ◌==◌, ◌&&◌, ◌||◌, not, Bool, if◌then◌else◌, ℕ, ℤ, pos, List, [], ◌∷◌, map, replicate, codes, true, false, Some, None, refl}
+use Rattle.std.proofs.Common.{arith, inl, inr}
 use Rattle.std.proofs.lemmas.Int.{ints}
+use Rattle.std.proofs.lemmas.List.Sorted.{IsPermutation-refl}
 use Rattle.sqlite.specs.declared.types.Value.TheVariants.{Null, Int, Text}
 use Rattle.sqlite.specs.Order.{Row}
 use Rattle.sqlite.specs.Effect.{Database}
@@ -10,7 +11,10 @@ use Rattle.pay_taps.specs.declared.tap.Tap.{Tap}
 use Rattle.pay_fix.specs.declared.fix.Fix.{Fix}
 use Rattle.pay_fix.specs.declared.fix.What.TheVariants.{Credit}
 use Rattle.pay_quotes.specs.declared.posting.Posting.{Posting}
-use Rattle.pay_postings.specs.declared.fault.PostFault.TheVariants.{Memory}
+use Rattle.pay_quotes.specs.Words.{QuoteParts}
+use Rattle.pay_postings.specs.declared.fault.PostFault.TheVariants.{BadArchive, StaleQuote, Memory}
+use Rattle.std.specs.Ordering.{int_eq}
+use Rattle.pay_postings.specs.PostingRows.{is_share_of, amount_or_none}
 use Rattle.pay_postings.specs.Words.{LedgerParts}
 use Rattle.pay_records.specs.Words.{LedgerRows, no_rows, ledger_schema}
 use Rattle.pay_records.specs.declared.fault.ReadFault.TheVariants as read
@@ -18,6 +22,8 @@ use Rattle.pay_ledger.specs.declared.fault.LedgerFault.TheVariants.{Refused}
 use Rattle.pay_ledger.specs.Faults.{ledger_fault_of_read, is_of_store, open_fault_number, open_fault_of_read}
 use Rattle.pay_ledger.specs.Keeps.{row_of_posting, row_of_tap, row_of_fix, AreRowsOf, Keeps, with_shares, with_postings, with_taps, with_fixes}
 use Rattle.pay_ledger.specs.Opening.{nothing}
+use Rattle.pay_ledger.specs.BadRows.{ReadsAs, IsReadable, IsBad, asked, IsJudgedByRows}
+use Rattle.pay_ledger.specs.OneReading.{HaveOneAmount, share_is_bad, bad_is_not_readable, reads_one}
 
 -- 8.60 is due of account 7 for a week through its Tuesday, of which 5.00 fall to operator 1 and 3.60 to operator 3
 abbrev charge : Posting
@@ -108,3 +114,83 @@ memory_of_store = refl
 
 bad_column_at_opening : open_fault_number (open_fault_of_read read.BadArchive) ≡ 40
 bad_column_at_opening = refl
+
+-- ---- bad rows
+
+-- the rows above say the posting, also where those of its shares come the other way about
+they_say : ReadsAs rows 7 (Some (charge ∷ []))
+they_say = (rows.shares, IsPermutation-refl rows.shares, refl)
+
+and_in_either_order : ReadsAs rows 7 (Some (charge ∷ []))
+and_in_either_order = (
+  record { posting = pos 3; operator = pos 3; amount = pos 360 } ∷ record { posting = pos 3; operator = pos 1; amount = pos 500 } ∷ [],
+  record { moves = (0, 1) ∷ []; below = (omega arith, omega arith, tt); is = refl },
+  refl,
+)
+
+-- an account without rows has no postings
+no_postings : ReadsAs rows 8 (Some [])
+no_postings = ([], IsPermutation-refl [], refl)
+
+-- without its second share, of the 8.60 that are due only 5.00 fall to an operator
+abbrev one_share_short : LedgerRows
+one_share_short = record rows { shares = record { posting = pos 3; operator = pos 1; amount = pos 500 } ∷ [] }
+
+short_says_nothing : ReadsAs one_share_short 7 None
+short_says_nothing = (one_share_short.shares, IsPermutation-refl one_share_short.shares, refl)
+
+-- all of a posting of account 7 falls to operator 17, whom there is not; the posting of account 8 is good
+abbrev to_operator_17 : LedgerRows
+to_operator_17 = record {
+  postings = (pos 1, pos 7, record { week = pos 19_730; through = pos 19_730; version = pos 2; due = pos 860; amount = pos 860 })
+      ∷ (pos 2, pos 8, record { week = pos 19_730; through = pos 19_730; version = pos 1; due = pos 175; amount = pos 175 }) ∷ [];
+  shares = record { posting = pos 1; operator = pos 17; amount = pos 860 } ∷ record { posting = pos 2; operator = pos 4; amount = pos 175 } ∷ [];
+  taps = [];
+  fixes = [];
+}
+
+says_nothing : ReadsAs to_operator_17 7 None
+says_nothing = (record { posting = pos 1; operator = pos 17; amount = pos 860 } ∷ [], IsPermutation-refl (record { posting = pos 1; operator = pos 17; amount = pos 860 } ∷ []), refl)
+
+bad_in_whatever_order : IsBad to_operator_17 7
+bad_in_whatever_order = share_is_bad to_operator_17 7 refl
+
+good_beside_it : IsReadable to_operator_17 8
+good_beside_it = (
+  record {
+    quote = record { account = 8; week = 19_730; through = 19_730; version = 1; due = 175; shares = 0 ∷ 0 ∷ 0 ∷ 175 ∷ replicate 12 0 };
+    amount = pos 175;
+    share_amounts = pos 0 ∷ pos 0 ∷ pos 0 ∷ pos 175 ∷ replicate 12 (pos 0);
+  } ∷ [],
+  (record { posting = pos 2; operator = pos 4; amount = pos 175 } ∷ [], IsPermutation-refl (record { posting = pos 2; operator = pos 4; amount = pos 175 } ∷ []), refl),
+)
+
+-- a quote of account 7 by an earlier version, beside a set of account 8
+abbrev earlier : QuoteParts
+earlier = record { account = 7; week = 19_730; through = 19_730; version = 1; due = 860; shares = 860 ∷ replicate 15 0 }
+
+both_are_asked : asked (earlier ∷ []) (record { account = 8; taps = []; fixes = [] } ∷ []) ≡ 7 ∷ 8 ∷ []
+both_are_asked = refl
+
+-- it is answered by 45, and not by 42, though the posting that falls to operator 17 is of a later version
+bad_archive : IsJudgedByRows to_operator_17 (7 ∷ 8 ∷ []) (Refused BadArchive)
+bad_archive = inr (inl (refl, 7, refl, says_nothing))
+
+not_stale : IsJudgedByRows to_operator_17 (7 ∷ 8 ∷ []) (Refused (StaleQuote 7 2 19_730)) → ⊥
+not_stale (inl of_store) = cc
+not_stale (inr (inl bad)) = let is = bad.0 in cc
+not_stale (inr (inr stale)) = bad_is_not_readable to_operator_17 7 bad_in_whatever_order (stale.1 7 refl)
+
+-- the rows of account 8 say its posting in each order, and 45 is no answer of it
+one_amount : HaveOneAmount (record { posting = pos 2; operator = pos 4; amount = pos 175 } ∷ [])
+one_amount id operator = go (is_share_of id operator (record { posting = pos 2; operator = pos 4; amount = pos 175 }))
+  where
+    go : (is : Bool) → ((not is || int_eq (pos 175) (amount_or_none (if is then Some (record { posting = pos 2; operator = pos 4; amount = pos 175 }) else None))) && true) ≡ true
+    go true = refl
+    go false = refl
+
+some_is_not_none : {X : Type 0} (x : X) → Some x ≡ None → ⊥
+some_is_not_none x e = cc
+
+not_of_account_8 : ReadsAs to_operator_17 8 None → ⊥
+not_of_account_8 none = some_is_not_none _ (reads_one to_operator_17 8 None one_amount none)

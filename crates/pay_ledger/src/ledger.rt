@@ -1,7 +1,8 @@
-ghost use Rattle.std.specs.Prelude.{◌≡◌, false, map as each, IsTrue, IfOk, IfErr};
+ghost use Rattle.std.specs.Prelude.{◌≡◌, false, List, Some, map as each, IsTrue, IfOk, IfErr};
 ghost use Rattle.std.specs.List.{IsDistinct};
 ghost use Rattle.std.specs.List.Sorted.{IsStrictlySortedBy};
 ghost use Rattle.std.specs.Ordering.{nat_cmp, eq_by_cmp};
+ghost use Rattle.pay_quotes.specs.declared.posting.Posting.{Posting};
 ghost use Rattle.pay_postings.specs.Words.{posted, postings_of, net};
 ghost use Rattle.pay_postings.specs.declared.fault.PostFault.TheVariants.{BadArchive};
 ghost use Rattle.pay_restore.specs.Words.{ArePriced, restored};
@@ -9,7 +10,8 @@ ghost use Rattle.pay_ledger.specs.Faults.{opens_by_store};
 ghost use Rattle.pay_records.specs.Words.{OnCleanDisk, LeavesAsBeforeOr, LeavesAsBefore, Answers, no_schema, IsBlank};
 ghost use Rattle.pay_ledger.specs.Opening.{IsWhy, IsOpened, MayLeaveOpened};
 ghost use Rattle.pay_ledger.specs.Steps.{Posts, MayLeave};
-ghost use Rattle.pay_ledger.specs.Calls.{ChangesNothing, ChangesNothingIfRefused, AnswersOfLedger, FailsByStoreAlone, RefusesAsDefined, RefusesOpenAlone, RestoresRows, RestoresLedger};
+ghost use Rattle.pay_ledger.specs.BadRows.{ReadsAs, asked};
+ghost use Rattle.pay_ledger.specs.Calls.{ChangesNothing, ChangesNothingIfRefused, AnswersOfLedger, AnswersOfRows, AnswersOfReadable, FailsByStoreAlone, RefusesAsDefined, RefusesOpenAlone, RefusesBadRows, RefusesBadRowsFirst, RestoresRows, RestoresLedger};
 
 use crate::fault::{LedgerFault, OpenFault};
 use crate::lookup::{archive_of, of_week, posted_of};
@@ -66,6 +68,9 @@ impl<S: Alter> Ledger<S> {
     pub fn post(&mut self, quotes: &[Quote], sets: &[Sets]) -> Result<Vec<Posting>, LedgerFault>
         ensures posts { Answers S.Store self.old self.new result (λ old new given. Posts old new quotes.now sets.now given.items) }
         ensures refused { RefusesAsDefined S.Store self.old self.new result (λ ledger. posted ledger quotes.now sets.now) }
+        // Over whatever rows: 45 comes before 42, 46 and 47, and nothing is posted beside bad rows of an account.
+        ensures read { AnswersOfReadable S.Store self.old self.new result (asked quotes.now sets.now) }
+        ensures bad_first { RefusesBadRowsFirst S.Store self.old self.new result (asked quotes.now sets.now) }
         ensures of_open { RefusesOpenAlone S.Store self.old self.new result }
         ensures kept { ChangesNothingIfRefused S.Store self.old self.new result }
         ensures survives { LeavesAsBeforeOr S.Store self.old self.new (λ old. MayLeave old quotes.now sets.now) }
@@ -77,6 +82,8 @@ impl<S: Alter> Ledger<S> {
     pub fn postings(&mut self, account: u32, week: u32) -> Result<Postings, LedgerFault>
         ensures told { AnswersOfLedger S.Store self.old self.new result (λ ledger list. list ≡ postings_of account week ledger.postings) }
         ensures never_bad { FailsByStoreAlone S.Store self.old self.new result }
+        ensures read { AnswersOfRows S.Store self.old self.new result (λ rows list. (all : List Posting) × ReadsAs rows account (Some all) × (list ≡ postings_of account week all)) }
+        ensures bad { RefusesBadRows S.Store self.old self.new result account }
         ensures kept { ChangesNothing S.Store self.old self.new }
         ensures survives { LeavesAsBefore S.Store self.old self.new }
     {
@@ -88,6 +95,8 @@ impl<S: Alter> Ledger<S> {
     pub fn net(&mut self, account: u32, week: u32) -> Result<i64, LedgerFault>
         ensures told { AnswersOfLedger S.Store self.old self.new result (λ ledger amount. amount ≡ net account week ledger.postings) }
         ensures never_bad { FailsByStoreAlone S.Store self.old self.new result }
+        ensures read { AnswersOfRows S.Store self.old self.new result (λ rows amount. (all : List Posting) × ReadsAs rows account (Some all) × (amount ≡ net account week all)) }
+        ensures bad { RefusesBadRows S.Store self.old self.new result account }
         ensures kept { ChangesNothing S.Store self.old self.new }
         ensures survives { LeavesAsBefore S.Store self.old self.new }
     {

@@ -1,8 +1,9 @@
-ghost use Rattle.std.specs.Prelude.{◌≡◌, ◌++◌, ◌∷◌, [], false, IfOk, OnOk};
+ghost use Rattle.std.specs.Prelude.{◌≡◌, ◌++◌, ◌∷◌, [], Some, false, IfOk, OnOk};
 ghost use Rattle.pay_postings.specs.Words.{postings_of};
 ghost use Rattle.pay_postings.specs.AccountRows.{of_account};
 ghost use Rattle.pay_records.specs.Words.{LeavesAsBefore};
-ghost use Rattle.pay_ledger.specs.Calls.{ChangesNothing, GoesOnIfDone, StaysIfRefused, AnswersOfLedger, AnswersOfRows, FailsByStoreAlone, FailsByStoreAloneOfRows};
+ghost use Rattle.pay_ledger.specs.BadRows.{ReadsAs};
+ghost use Rattle.pay_ledger.specs.Calls.{ChangesNothing, GoesOnIfDone, StaysIfRefused, AnswersOfLedger, AnswersOfRows, FailsByStoreAlone, FailsByStoreAloneOfRows, RefusesBadRows};
 
 use crate::fault::LedgerFault;
 use crate::read::read_posted;
@@ -23,6 +24,8 @@ pub(crate) fn posted_of<S: Alter>(
     ensures autocommit { conn.new.in_transaction ≡ false }
     ensures told { AnswersOfLedger S.Store conn.old conn.new result (λ ledger found. found ≡ of_account account ledger.postings) }
     ensures never_bad { FailsByStoreAlone S.Store conn.old conn.new result }
+    ensures rows { AnswersOfRows S.Store conn.old conn.new result (λ rows found. ReadsAs rows account (Some found)) }
+    ensures bad { RefusesBadRows S.Store conn.old conn.new result account }
     ensures kept { ChangesNothing S.Store conn.old conn.new }
     ensures survives { LeavesAsBefore S.Store conn.old conn.new }
 {

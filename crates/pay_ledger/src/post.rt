@@ -4,8 +4,9 @@ ghost use Rattle.pay_quotes.specs.Words.{IsQuote};
 ghost use Rattle.pay_postings.specs.Words.{posted, lists, with_batch};
 ghost use Rattle.pay_ledger.specs.Faults.{is_of_store};
 ghost use Rattle.pay_records.specs.Words.{LeavesAsBeforeOr, Answers, AnswersInside};
+ghost use Rattle.pay_ledger.specs.BadRows.{asked};
 ghost use Rattle.pay_ledger.specs.Steps.{BecomesPosted, Posts, MayLeave};
-ghost use Rattle.pay_ledger.specs.Calls.{ChangesNothingIfRefused, GoesOnIfDone, StaysIfRefused, GrowsInside, FindsInLedger, RefusesAsDefined, RefusesOpenAlone};
+ghost use Rattle.pay_ledger.specs.Calls.{ChangesNothingIfRefused, GoesOnIfDone, StaysIfRefused, GrowsInside, FindsInLedger, AnswersOfReadable, RefusesAsDefined, RefusesOpenAlone, RefusesBadRowsFirst};
 
 use crate::fault::LedgerFault;
 use crate::read::{ask, read_quoted, read_sets};
@@ -43,6 +44,8 @@ fn batch_for<S: Alter>(
     ensures same_reference { tx.new.conn.ghost_name ≡ tx.old.conn.ghost_name }
     ensures told { FindsInLedger S.Store tx.old.conn.now tx.new.conn.now result (λ ledger batch. posted ledger quotes.now sets.now ≡ Ok (batch.given.items, with_batch ledger (lists batch))) }
     ensures refused { RefusesAsDefined S.Store tx.old.conn.now tx.new.conn.now result (λ ledger. posted ledger quotes.now sets.now) }
+    ensures read { AnswersOfReadable S.Store tx.old.conn.now tx.new.conn.now result (asked quotes.now sets.now) }
+    ensures bad_first { RefusesBadRowsFirst S.Store tx.old.conn.now tx.new.conn.now result (asked quotes.now sets.now) }
     ensures ok { GoesOnIfDone S.Store tx.old.conn.now tx.new.conn.now result }
     ensures err { StaysIfRefused S.Store tx.old.conn.now tx.new.conn.now result }
 {
@@ -80,6 +83,8 @@ fn add_batch<S: Alter>(
     ensures same_reference { tx.new.conn.ghost_name ≡ tx.old.conn.ghost_name }
     ensures posts { AnswersInside S.Store tx.old.conn.now tx.new.conn.now result (λ old new given. BecomesPosted old.now new.now (quotes.now, sets.now) given.items) }
     ensures refused { RefusesAsDefined S.Store tx.old.conn.now tx.new.conn.now result (λ ledger. posted ledger quotes.now sets.now) }
+    ensures read { AnswersOfReadable S.Store tx.old.conn.now tx.new.conn.now result (asked quotes.now sets.now) }
+    ensures bad_first { RefusesBadRowsFirst S.Store tx.old.conn.now tx.new.conn.now result (asked quotes.now sets.now) }
     ensures ok { GoesOnIfDone S.Store tx.old.conn.now tx.new.conn.now result }
     ensures err { StaysIfRefused S.Store tx.old.conn.now tx.new.conn.now result }
 {
@@ -100,6 +105,8 @@ fn post_in<S: Alter>(
     ensures same_reference { tx.new.conn.ghost_name ≡ tx.old.conn.ghost_name }
     ensures posts { AnswersInside S.Store tx.old.conn.now tx.new.conn.now result (λ old new given. BecomesPosted old.now new.now (quotes.now, sets.now) given.items) }
     ensures refused { RefusesAsDefined S.Store tx.old.conn.now tx.new.conn.now result (λ ledger. posted ledger quotes.now sets.now) }
+    ensures read { AnswersOfReadable S.Store tx.old.conn.now tx.new.conn.now result (asked quotes.now sets.now) }
+    ensures bad_first { RefusesBadRowsFirst S.Store tx.old.conn.now tx.new.conn.now result (asked quotes.now sets.now) }
     ensures of_open { RefusesOpenAlone S.Store tx.old.conn.now tx.new.conn.now result }
     ensures ok { GoesOnIfDone S.Store tx.old.conn.now tx.new.conn.now result }
     ensures err { StaysIfRefused S.Store tx.old.conn.now tx.new.conn.now result }
@@ -119,6 +126,8 @@ pub(crate) fn post<S: Alter>(
     ensures autocommit { conn.new.in_transaction ≡ false }
     ensures posts { Answers S.Store conn.old conn.new result (λ old new given. Posts old new quotes.now sets.now given.items) }
     ensures refused { RefusesAsDefined S.Store conn.old conn.new result (λ ledger. posted ledger quotes.now sets.now) }
+    ensures read { AnswersOfReadable S.Store conn.old conn.new result (asked quotes.now sets.now) }
+    ensures bad_first { RefusesBadRowsFirst S.Store conn.old conn.new result (asked quotes.now sets.now) }
     ensures of_open { RefusesOpenAlone S.Store conn.old conn.new result }
     ensures kept { ChangesNothingIfRefused S.Store conn.old conn.new result }
     ensures survives { LeavesAsBeforeOr S.Store conn.old conn.new (λ old. MayLeave old quotes.now sets.now) }

@@ -1,4 +1,4 @@
-ghost use Rattle.std.specs.Prelude.{◌≡◌, map, IsTrue, IfErr, OnOk};
+ghost use Rattle.std.specs.Prelude.{◌≡◌, Some, map, IsTrue, IfErr, OnOk};
 ghost use Rattle.pay_postings.specs.Words.{parts, taps_of, fixes_of, archived_of, IsThere};
 ghost use Rattle.pay_postings.specs.SetRows.{tap_row, fix_row};
 ghost use Rattle.pay_postings.specs.AccountRows.{of_account};
@@ -7,7 +7,9 @@ ghost use Rattle.sqlite.specs.State.{IsUnchanged};
 ghost use Rattle.pay_quotes.specs.Words.{QuoteParts, SetsParts};
 ghost use Rattle.pay_records.specs.Words.{Does};
 ghost use Rattle.pay_ledger.specs.Faults.{is_of_store};
-ghost use Rattle.pay_ledger.specs.Calls.{GoesOnIfDone, StaysIfRefused, ReadsIntoIfDone, FindsInLedger, FailsByStoreAlone};
+ghost use Rattle.pay_ledger.specs.BadRows.{ReadsAs, quoted, in_sets};
+ghost use Rattle.pay_ledger.specs.Steps.{KeepsRows};
+ghost use Rattle.pay_ledger.specs.Calls.{GoesOnIfDone, StaysIfRefused, ReadsIntoIfDone, FindsInLedger, FindsInHeldRows, FailsByStoreAlone, FailsByStoreAloneOfRows, RefusesBadRows, RefusesBadRowsOf};
 
 use crate::fault::LedgerFault;
 use pay_postings::{Accounts, Archived, Posted, postings_from_rows};
@@ -38,6 +40,8 @@ fn read_taps<S: Alter>(
     ensures same_reference { tx.new.conn.ghost_name ≡ tx.old.conn.ghost_name }
     ensures told { FindsInLedger S.Store tx.old.conn.now tx.new.conn.now result (λ ledger found. found.items ≡ map tap_row (taps_of account ledger.taps)) }
     ensures never_bad { FailsByStoreAlone S.Store tx.old.conn.now tx.new.conn.now result }
+    ensures rows { Does S.Store tx.old.conn.now tx.new.conn.now result KeepsRows }
+    ensures never_bad_rows { FailsByStoreAloneOfRows S.Store tx.old.conn.now tx.new.conn.now result }
     ensures ok { GoesOnIfDone S.Store tx.old.conn.now tx.new.conn.now result }
     ensures err { StaysIfRefused S.Store tx.old.conn.now tx.new.conn.now result }
 {
@@ -53,6 +57,8 @@ fn read_fixes<S: Alter>(
     ensures same_reference { tx.new.conn.ghost_name ≡ tx.old.conn.ghost_name }
     ensures told { FindsInLedger S.Store tx.old.conn.now tx.new.conn.now result (λ ledger found. found.items ≡ map fix_row (fixes_of account ledger.fixes)) }
     ensures never_bad { FailsByStoreAlone S.Store tx.old.conn.now tx.new.conn.now result }
+    ensures rows { Does S.Store tx.old.conn.now tx.new.conn.now result KeepsRows }
+    ensures never_bad_rows { FailsByStoreAloneOfRows S.Store tx.old.conn.now tx.new.conn.now result }
     ensures ok { GoesOnIfDone S.Store tx.old.conn.now tx.new.conn.now result }
     ensures err { StaysIfRefused S.Store tx.old.conn.now tx.new.conn.now result }
 {
@@ -68,6 +74,8 @@ pub(crate) fn read_posted<S: Alter>(
     ensures same_reference { tx.new.conn.ghost_name ≡ tx.old.conn.ghost_name }
     ensures told { FindsInLedger S.Store tx.old.conn.now tx.new.conn.now result (λ ledger found. found ≡ of_account account ledger.postings) }
     ensures never_bad { FailsByStoreAlone S.Store tx.old.conn.now tx.new.conn.now result }
+    ensures rows { FindsInHeldRows S.Store tx.old.conn.now tx.new.conn.now result (λ rows found. ReadsAs rows account (Some found)) }
+    ensures bad { RefusesBadRows S.Store tx.old.conn.now tx.new.conn.now result account }
     ensures ok { GoesOnIfDone S.Store tx.old.conn.now tx.new.conn.now result }
     ensures err { StaysIfRefused S.Store tx.old.conn.now tx.new.conn.now result }
 {
@@ -86,6 +94,8 @@ pub(crate) fn read_account<S: Alter>(
     ensures same_reference { tx.new.conn.ghost_name ≡ tx.old.conn.ghost_name }
     ensures told { FindsInLedger S.Store tx.old.conn.now tx.new.conn.now result (λ ledger found. parts found ≡ archived_of account ledger) }
     ensures never_bad { FailsByStoreAlone S.Store tx.old.conn.now tx.new.conn.now result }
+    ensures rows { FindsInHeldRows S.Store tx.old.conn.now tx.new.conn.now result (λ rows found. ReadsAs rows account (Some found.posted)) }
+    ensures bad { RefusesBadRows S.Store tx.old.conn.now tx.new.conn.now result account }
     ensures ok { GoesOnIfDone S.Store tx.old.conn.now tx.new.conn.now result }
     ensures err { StaysIfRefused S.Store tx.old.conn.now tx.new.conn.now result }
 {
@@ -110,6 +120,7 @@ fn read_into<S: Alter>(
     ensures told { ReadsIntoIfDone S.Store tx.old.conn.now tx.new.conn.now result accounts.old accounts.new }
     ensures there { OnOk result (IsThere accounts.new account) }
     ensures never_bad { FailsByStoreAlone S.Store tx.old.conn.now tx.new.conn.now result }
+    ensures bad { RefusesBadRows S.Store tx.old.conn.now tx.new.conn.now result account }
     ensures ok { GoesOnIfDone S.Store tx.old.conn.now tx.new.conn.now result }
     ensures err { StaysIfRefused S.Store tx.old.conn.now tx.new.conn.now result }
 {
@@ -132,6 +143,7 @@ pub(crate) fn read_quoted<S: Alter>(
     ensures told { ReadsIntoIfDone S.Store tx.old.conn.now tx.new.conn.now result accounts.old accounts.new }
     ensures there { OnOk result (AllByRecursion (λ (q : QuoteParts). IsThere accounts.new q.account) quotes.now) }
     ensures never_bad { FailsByStoreAlone S.Store tx.old.conn.now tx.new.conn.now result }
+    ensures bad { RefusesBadRowsOf S.Store tx.old.conn.now tx.new.conn.now result (quoted quotes.now) }
     ensures ok { GoesOnIfDone S.Store tx.old.conn.now tx.new.conn.now result }
     ensures err { StaysIfRefused S.Store tx.old.conn.now tx.new.conn.now result }
 {
@@ -152,6 +164,7 @@ pub(crate) fn read_sets<S: Alter>(
     ensures told { ReadsIntoIfDone S.Store tx.old.conn.now tx.new.conn.now result accounts.old accounts.new }
     ensures there { OnOk result (AllByRecursion (λ (s : SetsParts). IsThere accounts.new s.account) sets.now) }
     ensures never_bad { FailsByStoreAlone S.Store tx.old.conn.now tx.new.conn.now result }
+    ensures bad { RefusesBadRowsOf S.Store tx.old.conn.now tx.new.conn.now result (in_sets sets.now) }
     ensures ok { GoesOnIfDone S.Store tx.old.conn.now tx.new.conn.now result }
     ensures err { StaysIfRefused S.Store tx.old.conn.now tx.new.conn.now result }
 {

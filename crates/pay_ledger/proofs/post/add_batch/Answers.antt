@@ -19,3 +19,9 @@ returns-clause-posts g c clean inside =
     let clean_between = was_clean b d c.in_ok-write_batch.ensures.ok.stays.survives clean in
     posted_ledger c.kept.ensures.all a b d c.args.quotes.now c.args.sets.now _ (λ ledger. with_batch ledger (lists c.in_ok-batch.batch)) c.are_quotes.ensures (c.in_ok-batch.ensures.told clean_between)
     (c.in_ok-write_batch.ensures.writes clean (c.in_ok-batch.ensures.ok.inside clean_between inside))
+
+pub returns-clause-read : goal.returns-clause-read
+returns-clause-read g c clean =
+    let b = state g.S.Store c.batch_for.new.tx.conn.now in
+    let d = state g.S.Store c.write_batch.new.tx.conn.now in
+    c.in_ok-batch.ensures.read (was_clean b d c.in_ok-write_batch.ensures.ok.stays.survives clean)
