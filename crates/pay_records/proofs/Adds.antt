@@ -20,7 +20,8 @@ use Rattle.sqlite.specs.Listing.{understood}
 use Rattle.sqlite.specs.Effect.{Database, value_rows}
 use Rattle.sqlite.specs.State.{State, Executes, mode_of}
 use Rattle.sqlite.proofs.Callers.{IsPlain, command_of, statement_of, runs_as, one_step}
-use Rattle.sqlite_rules.specs.Action.{works, Writes as MakesStep}
+use Rattle.sqlite_rules.specs.Action.{Writes as MakesStep}
+use Rattle.sqlite_rules.proofs.ActionLemmas.{no_works}
 use Rattle.pay_records.proofs.Creates.{went, same_value}
 
 -- one row more in a table, and the rows of the others as they were
@@ -49,7 +50,7 @@ uncounted_counts task db next counter top uncounted h = same_value (rw uncounted
 chosen : (table : Table) (top : ℤ) → table.is_counted ≡ false → rowids_for table top ≡ Chosen
 chosen table top uncounted = rw uncounted
 
-module _ (schema : Schema) (table : Table) (uncounted : table.is_counted ≡ false) (quiet : (row : Row) → works schema Enforced 0 table.tree [] (row ∷ []) ≡ [])
+module _ (schema : Schema) (table : Table) (uncounted : table.is_counted ≡ false)
     (params : Row) (unstamped : stamped table params ≡ params) (terms : List Term) (width : ℕ) (source : Row) (one : value_rows params width (length terms / width) terms ≡ source ∷ []) where
   inserted : (limit : Option ℕ) (db : Trees) (w : Written) → Inserts (task_of limit schema table params) (Values terms width) db (Ok w) → Applies schema Enforced db (one_row db table source) w.trees
   inserted limit db w h =
@@ -62,11 +63,11 @@ module _ (schema : Schema) (table : Table) (uncounted : table.is_counted ≡ fal
       let rows : given.0 ≡ source ∷ [] = given.1.1 ∙ ap (λ p. value_rows p width (length terms / width) terms) unstamped ∙ one in
       let made : MakesStep schema Enforced db (one_row db table source) (Ok step.0) =
       subst₂ (λ (k : Rowids) (r : List Row). MakesStep schema Enforced db (edit_of db table [] k 0 r) (Ok step.0)) (chosen table (count_of counted.0) uncounted) rows step.1 in
-      let applied = one_step schema Enforced db step.0 (one_row db table source) (quiet (with_rowid Chosen (db table.tree) (cast_row table source))) made in
+      let applied = one_step schema Enforced db step.0 (one_row db table source) (no_works schema Enforced 0 table.tree (with_rowid Chosen (db table.tree) (cast_row table source) ∷ [])) made in
       subst (Applies schema Enforced db (one_row db table source)) (sym trees) applied
 
 module _ (text : List ℕ) (schema : Schema) (at width : ℕ) (terms : List Term) (table : Table) (command : command_of (understood schema text) ≡ Insert at (Values terms width)) (plain : IsPlain (understood schema text))
-    (place : slice_get schema.tables at ≡ Some table) (uncounted : table.is_counted ≡ false) (quiet : (row : Row) → works schema Enforced 0 table.tree [] (row ∷ []) ≡ []) where
+    (place : slice_get schema.tables at ≡ Some table) (uncounted : table.is_counted ≡ false) where
   pub adds : (params : Row) → stamped table params ≡ params → (source : Row) → value_rows params width (length terms / width) terms ≡ source ∷ [] → (old new : State) (count : ℕ) → old.now.schema ≡ schema
       → Executes text params old new (Ok count) → AddsRow schema old.now new.now table (with_rowid Chosen (old.now.trees table.tree) (cast_row table source))
   adds params unstamped source one old new count has h =
@@ -76,5 +77,5 @@ module _ (text : List ℕ) (schema : Schema) (at width : ℕ) (terms : List Term
       let at_schema = subst (λ s. Does old.step_limit (mode_of old) params (record old.now { schema = s }) said None (Insert at (Values terms width)) (Ok (w.tally, new.now))) has w.changed in
       let done = went (rw place at at_schema) in
       let now = concluded (task_of old.step_limit schema table params) (mode_of old) done.0 w.tally new.now done.2 in
-      let it = inserted schema table uncounted quiet params unstamped terms width source one old.step_limit db done.0 done.1 in
+      let it = inserted schema table uncounted params unstamped terms width source one old.step_limit db done.0 done.1 in
       subst (λ d. AddsRow schema old.now d table (with_rowid Chosen (db table.tree) (cast_row table source))) (sym now) (record { schema_is = refl; fresh = it.fresh; rows = it.rows; others = it.tables })

@@ -1,5 +1,5 @@
 -- What each SELECT of the ledger shows.
-use Rattle.std.proofs.Common.{◌≡◌, ℕ, ℤ, pos, Bool, true, false, cond, ◌&&◌, ◌<ℤ◌, Ok, List, [], ◌∷◌, ◌++◌, map, filter, flat_map, drop, Some, refl, sym, ap, ap₂, subst, ◌∙◌, arith, Less, Equal, IsPermutation}
+use Rattle.std.proofs.Common.{◌≡◌, ℕ, ℤ, pos, Bool, true, false, cond, ◌&&◌, ◌<ℤ◌, Ok, List, [], ◌∷◌, ◌++◌, map, filter, flat_map, drop, Option, Some, None, unwrap_or, ◌^◌, refl, sym, ap, ap₂, subst, ◌∙◌, arith, Less, Equal, IsPermutation}
 use Rattle.std.specs.List.{AllByRecursion, list_all}
 use Rattle.std.specs.Ordering.{int_eq, is_eq, ordering_then}
 use Rattle.pay_records.proofs.Rises.{below}
@@ -16,6 +16,8 @@ use Rattle.sqlite_sql.specs.Term.{holds, eval_all}
 use Rattle.sqlite.specs.declared.types.Value.{Value}
 use Rattle.sqlite.specs.declared.types.Value.TheVariants.{Null, Int}
 use Rattle.sqlite.specs.Order.{Row, value_cmp, column}
+use Rattle.std.specs.Prelude.{nat_le}
+use Rattle.sqlite.specs.Schema.{Schema}
 use Rattle.sqlite.specs.Tree.{Trees}
 use Rattle.sqlite.specs.Term.{Term, Env}
 use Rattle.sqlite.specs.Query.{Query, IsAnswer, output, output_cmp, inner, end, matches}
@@ -80,14 +82,22 @@ and_false : (b : Bool) → b && false ≡ false
 and_false true = refl
 and_false false = refl
 
--- what a query of the ledger shows, and that it changes nothing
-pub shown_by_query : (text : List ℕ) (q : Query) (names : List (List ℕ)) → IsQuery text q names → (params : Row) (old new : State) (rows : List Row) → old.now.schema ≡ ledger_schema
+-- a query with no tables of its own reads those of the database
+no_table : (b : Bool) → ◌≡◌ {A = Option (List Row)} (cond b None None) None
+no_table true = refl
+no_table false = refl
+
+pub overlay_is : (db : Trees) (t : ℕ) → overlay db [] t ≡ db t
+overlay_is db t = ap (λ o. unwrap_or o (db t)) (no_table (nat_le (2 ^ 31) t))
+
+-- what a text that is a query shows, and that it changes nothing
+pub shown_by_query : (schema : Schema) (text : List ℕ) (q : Query) (names : List (List ℕ)) → IsQuery schema text q names → (params : Row) (old new : State) (rows : List Row) → old.now.schema ≡ schema
     → Shown text params old new rows → IsAnswer q (overlay old.now.trees []) params rows × IsUnchanged old new
 unfolding Shown
-shown_by_query text q names it params old new rows has h =
-    let known : understood ledger_schema text ≡ Ok h.0 = sym (ap (λ s. understood s text) has) ∙ h.1.is in
+shown_by_query schema text q names it params old new rows has h =
+    let known : understood schema text ≡ Ok h.0 = sym (ap (λ s. understood s text) has) ∙ h.1.is in
     let none = (subst IsPlain known it.plain).0 in
-    (answers text ledger_schema q names it.command it.plain it.unlisted params old new rows has h, (subst (ShowsRows old new text h.0 (timed params h.0.formats h.1.now) rows) none h.2).3)
+    (answers text schema q names it.command it.plain it.unlisted params old new rows has h, (subst (ShowsRows old new text h.0 (timed params h.0.formats h.1.now) rows) none h.2).3)
 
 -- Rows of these whole numbers were shown, in some order, and nothing changed.
 pub record Shows {X : Type 0} (shown : X → List ℤ) (found : List X) (old new : State) (rows : List Row) : Type 0 where
@@ -138,27 +148,28 @@ picked account shares (p ∷ ps) =
     here false = ap (λ l. l ++ flat_map (λ (p : ℤ × PostingRow). filter (λ (s : ShareRow). int_eq s.posting p.0) shares) (map (λ (p : ℤ × ℤ × PostingRow). (p.0, p.2)) (filter (λ (p : ℤ × ℤ × PostingRow). int_eq p.1 account) ps)))
         (none shares)
 
-pub shares_shown : (account : ℤ) (old new : State) (rows : List Row) → Shown select_shares (Int account ∷ []) old new rows → (l : LedgerRows) → HoldsRows old.now l
+pub shares_shown_in : (schema : Schema) (first second : ℕ) (names : List (List ℕ)) → IsQuery schema select_shares (shares_query first second) names → (account : ℤ) (old new : State) (rows : List Row) → old.now.schema ≡ schema
+    → Shown select_shares (Int account ∷ []) old new rows → (l : LedgerRows) → old.now.trees first ≡ map posting_row l.postings → AreNumbers (old.now.trees second) (map share_numbers l.shares)
     → Shows share_numbers (shares_of account l) old new rows
 unfolding passes share_env
-shares_shown account old new rows h l held =
+shares_shown_in schema first second names query account old new rows has h l postings shares =
     let params = Int account ∷ [] in
     let db = overlay old.now.trees [] in
-    let it = shown_by_query select_shares shares_query _ select_shares_is params old new rows held.schema_is h in
-    let q = shares_query in
+    let q = shares_query first second in
+    let it = shown_by_query schema select_shares q names query params old new rows has h in
     let found = simply q.from q.filter q.project [] db params rows it.0 in
-    let known = numbered share_numbers (pos 0) (db shares_tree) l.shares held.shares.rising (held.shares.are ∙ map-map (map Int) share_numbers l.shares) in
+    let known = numbered share_numbers (pos 0) (old.now.trees second) l.shares shares.rising (shares.are ∙ map-map (map Int) share_numbers l.shares) in
     let row : ℤ × ShareRow → Row = λ (s : ℤ × ShareRow). Int s.0 ∷ map Int (share_numbers s.1) in
-    let of : Row → List Env = λ r. matches db q.filter (inner shares_tree end) (params ∷ r ∷ []) in
+    let of : Row → List Env = λ r. matches db q.filter (inner second end) (params ∷ r ∷ []) in
     let show : Env → Row = λ env. (output q env).1 in
     let one : (p : ℤ × ℤ × PostingRow) → map show (of (posting_row p)) ≡ map (λ s. map Int (share_numbers s)) (filter (passes account p) l.shares) = λ p.
-    ap (map show) (passing shares_tree q.filter (params ∷ posting_row p ∷ []) db row (λ s. passes account p s.1) (λ s. ap₂ ◌&&◌ (same_number s.1.posting p.0) (and_true _ ∙ same_number p.1 account)) known.0 known.1)
+    ap (map show) (passing second q.filter (params ∷ posting_row p ∷ []) db row (λ s. passes account p s.1) (λ s. ap₂ ◌&&◌ (same_number s.1.posting p.0) (and_true _ ∙ same_number p.1 account)) known.0 (overlay_is old.now.trees second ∙ known.1))
     ∙ map-map show (share_env params p) (filter (λ s. passes account p s.1) known.0)
     ∙ sym (map-map (λ x. map Int (share_numbers x)) (λ (s : ℤ × ShareRow). s.1) (filter (λ s. passes account p s.1) known.0))
     ∙ ap (map (λ x. map Int (share_numbers x))) (sym (filter-map (passes account p) (λ (s : ℤ × ShareRow). s.1) known.0) ∙ ap (filter (passes account p)) known.2) in
     let seen : map (λ (o : Output). o.1) (map (output q) (matches db q.filter q.from (params ∷ []))) ≡ map (λ s. map Int (share_numbers s)) (shares_of account l) =
     map-map (λ (o : Output). o.1) (output q) _
-    ∙ ap (λ r. map show (flat_map of r)) held.postings
+    ∙ ap (λ r. map show (flat_map of r)) (overlay_is old.now.trees first ∙ postings)
     ∙ map-flat_map show of (map posting_row l.postings)
     ∙ flat_map-map (λ r. map show (of r)) posting_row l.postings
     ∙ flat_map_same_on (λ p. map show (of (posting_row p))) (λ p. map (λ s. map Int (share_numbers s)) (filter (passes account p) l.shares)) one l.postings
@@ -168,6 +179,10 @@ shares_shown account old new rows h l held =
       same = subst (λ l. IsPermutation l rows) seen (subst (λ r. IsPermutation (map (λ (o : Output). o.1) (map (output q) (matches db q.filter q.from (params ∷ [])))) r) (sym found.shown) (IsPermutation-map (λ (o : Output). o.1) _ _ found.same));
       unchanged = it.1;
     }
+
+pub shares_shown : (account : ℤ) (old new : State) (rows : List Row) → Shown select_shares (Int account ∷ []) old new rows → (l : LedgerRows) → HoldsRows old.now l
+    → Shows share_numbers (shares_of account l) old new rows
+shares_shown account old new rows h l held = shares_shown_in ledger_schema postings_tree shares_tree _ select_shares_is account old new rows held.schema_is h l held.postings held.shares
 
 -- ---- in the order in which rows were written
 
@@ -230,56 +245,85 @@ tap_shown t = drop 1 (tap_numbers t)
 abbrev pub fix_shown : ℤ × FixRow → List ℤ
 fix_shown f = drop 1 (fix_numbers f)
 
+-- the rows of a table as a query reads them
+over : (db : Trees) (tree : ℕ) (numbers : List (List ℤ)) → AreNumbers (db tree) numbers → AreNumbers (overlay db [] tree) numbers
+over db tree numbers are = subst (λ r. AreNumbers r numbers) (sym (overlay_is db tree)) are
+
+pub taps_shown_in : (schema : Schema) (tree : ℕ) (names : List (List ℕ)) → IsQuery schema select_taps (taps_query tree) names → (account : ℤ) (old new : State) (rows : List Row) → old.now.schema ≡ schema
+    → Shown select_taps (Int account ∷ []) old new rows → (all : List (ℤ × TapRow)) → AreNumbers (old.now.trees tree) (map tap_numbers all)
+    → ShowsInOrder tap_shown (filter (λ (t : ℤ × TapRow). int_eq t.0 account) all) old new rows
+taps_shown_in schema tree names query account old new rows has h all are =
+    let it = shown_by_query schema select_taps (taps_query tree) names query (Int account ∷ []) old new rows has h in
+    record {
+      are = shows_in_order tap_numbers tap_shown (λ (t : ℤ × TapRow). int_eq t.0 account) tree (is_given 1 ∷ []) (taps_query tree).project (Int account ∷ [])
+          (λ id t. and_true _ ∙ same_number t.0 account) (λ id t. refl) (overlay old.now.trees []) all (over old.now.trees tree (map tap_numbers all) are) rows it.0;
+      unchanged = it.1;
+    }
+
 pub taps_shown : (account : ℤ) (old new : State) (rows : List Row) → Shown select_taps (Int account ∷ []) old new rows → (l : LedgerRows) → HoldsRows old.now l
     → ShowsInOrder tap_shown (filter (λ (t : ℤ × TapRow). int_eq t.0 account) l.taps) old new rows
-taps_shown account old new rows h l held =
-    let it = shown_by_query select_taps taps_query _ select_taps_is (Int account ∷ []) old new rows held.schema_is h in
+taps_shown account old new rows h l held = taps_shown_in ledger_schema taps_tree _ select_taps_is account old new rows held.schema_is h l.taps held.taps
+
+pub fixes_shown_in : (schema : Schema) (tree : ℕ) (names : List (List ℕ)) → IsQuery schema select_fixes (fixes_query tree) names → (account : ℤ) (old new : State) (rows : List Row) → old.now.schema ≡ schema
+    → Shown select_fixes (Int account ∷ []) old new rows → (all : List (ℤ × FixRow)) → AreNumbers (old.now.trees tree) (map fix_numbers all)
+    → ShowsInOrder fix_shown (filter (λ (f : ℤ × FixRow). int_eq f.0 account) all) old new rows
+fixes_shown_in schema tree names query account old new rows has h all are =
+    let it = shown_by_query schema select_fixes (fixes_query tree) names query (Int account ∷ []) old new rows has h in
     record {
-      are = shows_in_order tap_numbers tap_shown (λ (t : ℤ × TapRow). int_eq t.0 account) taps_tree (is_given 1 ∷ []) taps_query.project (Int account ∷ [])
-          (λ id t. and_true _ ∙ same_number t.0 account) (λ id t. refl) (overlay old.now.trees []) l.taps held.taps rows it.0;
+      are = shows_in_order fix_numbers fix_shown (λ (f : ℤ × FixRow). int_eq f.0 account) tree (is_given 1 ∷ []) (fixes_query tree).project (Int account ∷ [])
+          (λ id f. and_true _ ∙ same_number f.0 account) (λ id f. refl) (overlay old.now.trees []) all (over old.now.trees tree (map fix_numbers all) are) rows it.0;
       unchanged = it.1;
     }
 
 pub fixes_shown : (account : ℤ) (old new : State) (rows : List Row) → Shown select_fixes (Int account ∷ []) old new rows → (l : LedgerRows) → HoldsRows old.now l
     → ShowsInOrder fix_shown (filter (λ (f : ℤ × FixRow). int_eq f.0 account) l.fixes) old new rows
-fixes_shown account old new rows h l held =
-    let it = shown_by_query select_fixes fixes_query _ select_fixes_is (Int account ∷ []) old new rows held.schema_is h in
+fixes_shown account old new rows h l held = fixes_shown_in ledger_schema fixes_tree _ select_fixes_is account old new rows held.schema_is h l.fixes held.fixes
+
+-- of a whole table
+pub all_taps_shown_in : (schema : Schema) (tree : ℕ) (names : List (List ℕ)) → IsQuery schema select_all_taps (all_taps_query tree) names → (old new : State) (rows : List Row) → old.now.schema ≡ schema
+    → Shown select_all_taps [] old new rows → (all : List (ℤ × TapRow)) → AreNumbers (old.now.trees tree) (map tap_numbers all) → ShowsInOrder tap_numbers all old new rows
+all_taps_shown_in schema tree names query old new rows has h all are =
+    let it = shown_by_query schema select_all_taps (all_taps_query tree) names query [] old new rows has h in
     record {
-      are = shows_in_order fix_numbers fix_shown (λ (f : ℤ × FixRow). int_eq f.0 account) fixes_tree (is_given 1 ∷ []) fixes_query.project (Int account ∷ [])
-          (λ id f. and_true _ ∙ same_number f.0 account) (λ id f. refl) (overlay old.now.trees []) l.fixes held.fixes rows it.0;
+      are = shows_in_order tap_numbers tap_numbers (λ _. true) tree [] (all_taps_query tree).project [] (λ id t. refl) (λ id t. refl) (overlay old.now.trees []) all
+          (over old.now.trees tree (map tap_numbers all) are) rows it.0
+          ∙ ap (map (λ t. map Int (tap_numbers t))) (every all);
       unchanged = it.1;
     }
 
--- of a whole table
 pub all_taps_shown : (old new : State) (rows : List Row) → Shown select_all_taps [] old new rows → (l : LedgerRows) → HoldsRows old.now l → ShowsInOrder tap_numbers l.taps old new rows
-all_taps_shown old new rows h l held =
-    let it = shown_by_query select_all_taps all_taps_query _ select_all_taps_is [] old new rows held.schema_is h in
+all_taps_shown old new rows h l held = all_taps_shown_in ledger_schema taps_tree _ select_all_taps_is old new rows held.schema_is h l.taps held.taps
+
+pub all_fixes_shown_in : (schema : Schema) (tree : ℕ) (names : List (List ℕ)) → IsQuery schema select_all_fixes (all_fixes_query tree) names → (old new : State) (rows : List Row) → old.now.schema ≡ schema
+    → Shown select_all_fixes [] old new rows → (all : List (ℤ × FixRow)) → AreNumbers (old.now.trees tree) (map fix_numbers all) → ShowsInOrder fix_numbers all old new rows
+all_fixes_shown_in schema tree names query old new rows has h all are =
+    let it = shown_by_query schema select_all_fixes (all_fixes_query tree) names query [] old new rows has h in
     record {
-      are = shows_in_order tap_numbers tap_numbers (λ _. true) taps_tree [] all_taps_query.project [] (λ id t. refl) (λ id t. refl) (overlay old.now.trees []) l.taps held.taps rows it.0
-          ∙ ap (map (λ t. map Int (tap_numbers t))) (every l.taps);
+      are = shows_in_order fix_numbers fix_numbers (λ _. true) tree [] (all_fixes_query tree).project [] (λ id f. refl) (λ id f. refl) (overlay old.now.trees []) all
+          (over old.now.trees tree (map fix_numbers all) are) rows it.0
+          ∙ ap (map (λ f. map Int (fix_numbers f))) (every all);
       unchanged = it.1;
     }
 
 pub all_fixes_shown : (old new : State) (rows : List Row) → Shown select_all_fixes [] old new rows → (l : LedgerRows) → HoldsRows old.now l → ShowsInOrder fix_numbers l.fixes old new rows
-all_fixes_shown old new rows h l held =
-    let it = shown_by_query select_all_fixes all_fixes_query _ select_all_fixes_is [] old new rows held.schema_is h in
-    record {
-      are = shows_in_order fix_numbers fix_numbers (λ _. true) fixes_tree [] all_fixes_query.project [] (λ id t. refl) (λ id t. refl) (overlay old.now.trees []) l.fixes held.fixes rows it.0
-          ∙ ap (map (λ f. map Int (fix_numbers f))) (every l.fixes);
-      unchanged = it.1;
-    }
+all_fixes_shown old new rows h l held = all_fixes_shown_in ledger_schema fixes_tree _ select_all_fixes_is old new rows held.schema_is h l.fixes held.fixes
 
 -- ---- postings
 
 abbrev pub posting_shown : ℤ × ℤ × PostingRow → List ℤ
 posting_shown p = p.0 ∷ p.2.week ∷ p.2.through ∷ p.2.version ∷ p.2.due ∷ p.2.amount ∷ []
 
-pub postings_shown : (account : ℤ) (old new : State) (rows : List Row) → Shown select_postings (Int account ∷ []) old new rows → (l : LedgerRows) → HoldsRows old.now l
-    → ShowsInOrder posting_shown (filter (λ (p : ℤ × ℤ × PostingRow). int_eq p.1 account) l.postings) old new rows
-postings_shown account old new rows h l held =
-    let it = shown_by_query select_postings postings_query _ select_postings_is (Int account ∷ []) old new rows held.schema_is h in
+pub postings_shown_in : (schema : Schema) (tree : ℕ) (names : List (List ℕ)) → IsQuery schema select_postings (postings_query tree) names → (account : ℤ) (old new : State) (rows : List Row) → old.now.schema ≡ schema
+    → Shown select_postings (Int account ∷ []) old new rows → (all : List (ℤ × ℤ × PostingRow)) → old.now.trees tree ≡ map posting_row all → RiseFrom (pos 0) (old.now.trees tree)
+    → ShowsInOrder posting_shown (filter (λ (p : ℤ × ℤ × PostingRow). int_eq p.1 account) all) old new rows
+postings_shown_in schema tree names query account old new rows has h all are rise =
+    let it = shown_by_query schema select_postings (postings_query tree) names query (Int account ∷ []) old new rows has h in
     record {
-      are = in_order posting_row (λ (p : ℤ × ℤ × PostingRow). p.0) (λ p. refl) postings_tree postings_query.filter postings_query.project (Int account ∷ []) (overlay old.now.trees [])
-          (λ (p : ℤ × ℤ × PostingRow). int_eq p.1 account) (λ p. and_true _ ∙ same_number p.1 account) l.postings held.postings (subst (RiseFrom (pos 0)) held.postings held.postings_rise) rows it.0;
+      are = in_order posting_row (λ (p : ℤ × ℤ × PostingRow). p.0) (λ p. refl) tree (postings_query tree).filter (postings_query tree).project (Int account ∷ []) (overlay old.now.trees [])
+          (λ (p : ℤ × ℤ × PostingRow). int_eq p.1 account) (λ p. and_true _ ∙ same_number p.1 account) all (overlay_is old.now.trees tree ∙ are) (subst (RiseFrom (pos 0)) are rise) rows it.0;
       unchanged = it.1;
     }
+
+pub postings_shown : (account : ℤ) (old new : State) (rows : List Row) → Shown select_postings (Int account ∷ []) old new rows → (l : LedgerRows) → HoldsRows old.now l
+    → ShowsInOrder posting_shown (filter (λ (p : ℤ × ℤ × PostingRow). int_eq p.1 account) l.postings) old new rows
+postings_shown account old new rows h l held = postings_shown_in ledger_schema postings_tree _ select_postings_is account old new rows held.schema_is h l.postings held.postings held.postings_rise

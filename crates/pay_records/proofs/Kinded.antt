@@ -1,5 +1,5 @@
 -- Of what kind a database is.
-use Rattle.std.proofs.Common.{◌≡◌, ◌⊎◌, inl, inr, ℕ, ℤ, pos, List, [], ◌∷◌, map, drop, Ok, Err, Result, IfOk, IfErr, refl, sym, ap, ap₂, subst, ◌∙◌, IsPermutation}
+use Rattle.std.proofs.Common.{◌≡◌, ◌⊎◌, inl, inr, ℕ, ℤ, List, [], ◌∷◌, map, drop, Ok, Err, Result, IfOk, IfErr, refl, sym, ap, ap₂, subst, ◌∙◌, IsPermutation}
 use Rattle.std.proofs.lemmas.List.Sorted.{IsPermutation-map}
 use Rattle.sqlite_resolve.specs.declared.compiled.Compiled.{Compiled}
 use Rattle.sqlite_resolve.specs.declared.error.CompileError.{CompileError}
@@ -31,8 +31,8 @@ use Rattle.pay_records.specs.Rows.{LedgerRows, HoldsRows}
 use Rattle.pay_records.specs.Tables.{no_schema, ledger_schema, meta_tree}
 use Rattle.pay_records.proofs.Kept.{kept_unchanged, kept_not_run}
 use Rattle.pay_records.proofs.Selects.{simply}
-use Rattle.pay_records.proofs.SelectTexts.{select_meta, meta_query, select_meta_is}
-use Rattle.pay_records.proofs.Answered.{shown_by_query}
+use Rattle.pay_records.proofs.SelectTexts.{IsQuery, select_meta, meta_query, select_meta_is}
+use Rattle.pay_records.proofs.Answered.{overlay_is, shown_by_query}
 
 outlined : (u : Result Compiled CompileError) (s : Outline) → Outlines u s → presence_of u ≡ There
 outlined (Ok c) s h = refl
@@ -97,19 +97,20 @@ one_row [] columns is = absurd (cc)
 one_row (r ∷ []) columns is = (r, refl, cc)
 one_row (r ∷ s ∷ rows) columns is = absurd (cc)
 
-columns_behind : (name : List ℕ) (version : ℤ) (r : Row) → drop 1 r ≡ Text name ∷ Int version ∷ [] → map (λ (o : Output). o.1) (output meta_query ([] ∷ r ∷ []) ∷ []) ≡ (Text name ∷ Int version ∷ []) ∷ []
-columns_behind name version [] is = absurd (cc)
-columns_behind name version (x ∷ r) is = ap (λ r. map (λ (o : Output). o.1) (output meta_query ([] ∷ (x ∷ r) ∷ []) ∷ [])) is
+columns_behind : (tree : ℕ) (name : List ℕ) (version : ℤ) (r : Row) → drop 1 r ≡ Text name ∷ Int version ∷ [] → map (λ (o : Output). o.1) (output (meta_query tree) ([] ∷ r ∷ []) ∷ []) ≡ (Text name ∷ Int version ∷ []) ∷ []
+columns_behind tree name version [] is = absurd (cc)
+columns_behind tree name version (x ∷ r) is = ap (λ r. map (λ (o : Output). o.1) (output (meta_query tree) ([] ∷ (x ∷ r) ∷ []) ∷ [])) is
 
-meta_shown : (old new : State) (rows : List Row) → Shown select_meta [] old new rows → old.now.schema ≡ ledger_schema → (name : List ℕ) (version : ℤ) → map (drop 1) (old.now.trees meta_tree) ≡ (Text name ∷ Int version ∷ []) ∷ []
-    → (rows ≡ (Text name ∷ Int version ∷ []) ∷ []) × IsUnchanged old new
-meta_shown old new rows h has name version is =
-    let it = shown_by_query select_meta meta_query _ select_meta_is [] old new rows has h in
+meta_shown_in : (schema : Schema) (tree : ℕ) (names : List (List ℕ)) → IsQuery schema select_meta (meta_query tree) names → (old new : State) (rows : List Row) → Shown select_meta [] old new rows → old.now.schema ≡ schema
+    → (name : List ℕ) (version : ℤ) → map (drop 1) (old.now.trees tree) ≡ (Text name ∷ Int version ∷ []) ∷ [] → (rows ≡ (Text name ∷ Int version ∷ []) ∷ []) × IsUnchanged old new
+meta_shown_in schema tree names query old new rows h has name version is =
+    let q = meta_query tree in
+    let it = shown_by_query schema select_meta q names query [] old new rows has h in
     let db = overlay old.now.trees [] in
-    let found = simply meta_query.from [] meta_query.project [] db [] rows it.0 in
-    let one = one_row (db meta_tree) (Text name ∷ Int version ∷ []) is in
-    let seen : map (λ (o : Output). o.1) (map (output meta_query) (matches db [] (inner meta_tree end) ([] ∷ []))) ≡ (Text name ∷ Int version ∷ []) ∷ [] =
-    ap (λ r. map (λ (o : Output). o.1) (map (output meta_query) (Rattle.std.proofs.Common.flat_map (λ r. ([] ∷ r ∷ []) ∷ []) r))) one.1 ∙ columns_behind name version one.0 one.2 in
+    let found = simply q.from [] q.project [] db [] rows it.0 in
+    let one = one_row (db tree) (Text name ∷ Int version ∷ []) (ap (map (drop 1)) (overlay_is old.now.trees tree) ∙ is) in
+    let seen : map (λ (o : Output). o.1) (map (output q) (matches db [] (inner tree end) ([] ∷ []))) ≡ (Text name ∷ Int version ∷ []) ∷ [] =
+    ap (λ r. map (λ (o : Output). o.1) (map (output q) (Rattle.std.proofs.Common.flat_map (λ r. ([] ∷ r ∷ []) ∷ []) r))) one.1 ∙ columns_behind tree name version one.0 one.2 in
     let same = IsPermutation-map (λ (o : Output). o.1) _ _ found.same in
     (found.shown ∙ one_permutation (Text name ∷ Int version ∷ []) _ (subst (λ l. IsPermutation l (map (λ (o : Output). o.1) found.ordered)) seen same), it.1)
 
@@ -118,7 +119,7 @@ module _ (old between new : State) where
   kind_where_all first rows h there k told =
       let same : between.now ≡ old.now = first.0.now_is in
       subst (λ p. IsKindBy old new p k) there (λ has name version is.
-      let it = meta_shown between new rows h (ap (λ d. d.schema) same ∙ has) name version (ap (λ d. map (drop 1) (d.trees meta_tree)) same ∙ is) in
+      let it = meta_shown_in ledger_schema meta_tree _ select_meta_is between new rows h (ap (λ d. d.schema) same ∙ has) name version (ap (λ d. map (drop 1) (d.trees meta_tree)) same ∙ is) in
       (told ∙ ap kind_by it.0, unchanged_then old between new first it.1))
 
 module _ (old new : State) where

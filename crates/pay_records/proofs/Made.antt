@@ -3,27 +3,27 @@ use Rattle.std.proofs.Common.{◌≡◌, ℕ, pos, map, drop, arith, ap₂, List
 use Rattle.std.specs.List.{AllByRecursion}
 use Rattle.sqlite_tied.specs.Compute.{everything}
 use Rattle.sqlite.specs.Compile.{table_defined_by}
-use Rattle.sqlite.specs.Command.TheVariants.{CreateTable, Insert}
-use Rattle.sqlite.specs.Source.TheVariants.{Values}
-use Rattle.sqlite.specs.Term.{Term, lit}
+use Rattle.sqlite_schema.specs.Names.{same_name}
 use Rattle.sqlite.specs.Order.{Row}
 use Rattle.sqlite.specs.Cast.{cast_row}
 use Rattle.sqlite.specs.Rowids.TheVariants.{Chosen}
 use Rattle.sqlite.specs.Edit.{with_rowid}
-use Rattle.sqlite.specs.declared.types.Value.TheVariants.{Null, Int, Text}
-use Rattle.pay_records.proofs.Adds.{adds}
+use Rattle.sqlite.specs.declared.types.Value.TheVariants.{Null, Text}
+use Rattle.pay_records.specs.Places.{Places, HasLedgerTables, alike, trees_of, ledger_places}
+use Rattle.pay_records.proofs.Added.{row_added, stays}
+use Rattle.pay_records.proofs.Inserting.{meta_read}
+use Rattle.pay_records.proofs.Placed.{HoldsIn, held_from, has_tables}
+use Rattle.pay_records.proofs.Texts.{insert_meta, meta_terms}
 use Rattle.pay_records.proofs.Numbers.{cast_null, cast_int}
-use Rattle.pay_records.proofs.Texts.{quiet}
 use Rattle.sqlite.specs.Change.{created, next_tree, KeepsRows}
 use Rattle.sqlite.specs.Schema.{Schema}
 use Rattle.sqlite.specs.Table.{Table}
 use Rattle.sqlite.specs.Tree.{Trees, put_row}
 use Rattle.sqlite.specs.Does.{sequence_text, lacks_sequence}
 use Rattle.sqlite.specs.Effect.{Database}
-use Rattle.sqlite.specs.Listing.{understood}
-use Rattle.sqlite.specs.State.{State, ExecutesInside, KeepsCommit}
+use Rattle.sqlite.specs.State.{State, Executes, ExecutesInside, KeepsCommit}
 use Rattle.sqlite.specs.declared.error.Error.{Error}
-use Rattle.sqlite.proofs.Callers.{IsPlain, command_of, statement_of}
+use Rattle.pay_records.proofs.Creating.{IsDefinition, IsCreated, created_is}
 use Rattle.pay_records.specs.Tables.{no_schema, meta, postings, sequence_table, shares, taps, fixes, with_meta, with_postings, with_shares, with_taps, ledger_schema}
 use Rattle.pay_records.specs.Steps.{IsBlank, GoesOn, Makes, MakesLedger}
 use Rattle.pay_records.specs.Rows.{HoldsRows, AreNumbers, RiseFrom, meta_columns, no_rows}
@@ -45,31 +45,48 @@ create_taps = codes "CREATE TABLE taps (account INTEGER NOT NULL, reader INTEGER
 abbrev pub create_fixes : List ℕ
 create_fixes = codes "CREATE TABLE fixes (account INTEGER NOT NULL, staff INTEGER NOT NULL, seq INTEGER NOT NULL, what INTEGER NOT NULL, a INTEGER NOT NULL, b INTEGER NOT NULL, c INTEGER NOT NULL, d INTEGER NOT NULL, e INTEGER NOT NULL, PRIMARY KEY (account, staff, seq)) STRICT"
 
-abbrev IsCreated : Schema → List ℕ → Table → Type 0
-IsCreated schema text table = (command_of (understood schema text) ≡ CreateTable) × (statement_of text (understood schema text) ≡ text) × (table_defined_by text ≡ Ok table) × IsPlain (understood schema text)
+meta_defined : IsDefinition create_meta meta
+unfolding everything
+meta_defined = record { parsed = _; read = refl; definition = _; statement = refl; formats = refl; named = refl; anew = refl; own = refl; unresolved = refl; defined = refl; uncomputed = refl; unstamped = refl; whole = refl }
+
+postings_defined : IsDefinition create_postings postings
+unfolding everything
+postings_defined = record { parsed = _; read = refl; definition = _; statement = refl; formats = refl; named = refl; anew = refl; own = refl; unresolved = refl; defined = refl; uncomputed = refl; unstamped = refl; whole = refl }
+
+shares_defined : IsDefinition create_shares shares
+unfolding everything
+shares_defined = record { parsed = _; read = refl; definition = _; statement = refl; formats = refl; named = refl; anew = refl; own = refl; unresolved = refl; defined = refl; uncomputed = refl; unstamped = refl; whole = refl }
+
+taps_defined : IsDefinition create_taps taps
+unfolding everything
+taps_defined = record { parsed = _; read = refl; definition = _; statement = refl; formats = refl; named = refl; anew = refl; own = refl; unresolved = refl; defined = refl; uncomputed = refl; unstamped = refl; whole = refl }
+
+fixes_defined : IsDefinition create_fixes fixes
+unfolding everything
+fixes_defined = record { parsed = _; read = refl; definition = _; statement = refl; formats = refl; named = refl; anew = refl; own = refl; unresolved = refl; defined = refl; uncomputed = refl; unstamped = refl; whole = refl }
 
 meta_is : IsCreated no_schema create_meta meta × (lacks_sequence (created no_schema meta) ≡ false)
-unfolding understood everything
-meta_is = ((refl, refl, refl, (refl, refl)), refl)
+unfolding same_name
+meta_is = (created_is no_schema create_meta meta meta_defined (record { no_table = refl; no_index = refl; no_view = refl }), refl)
 
 postings_is : IsCreated with_meta create_postings postings × (lacks_sequence (created with_meta postings) ≡ true)
-unfolding understood everything
-postings_is = ((refl, refl, refl, (refl, refl)), refl)
+unfolding same_name
+postings_is = (created_is with_meta create_postings postings postings_defined (record { no_table = refl; no_index = refl; no_view = refl }), refl)
 
 shares_is : IsCreated with_postings create_shares shares × (lacks_sequence (created with_postings shares) ≡ false)
-unfolding understood everything
-shares_is = ((refl, refl, refl, (refl, refl)), refl)
+unfolding same_name
+shares_is = (created_is with_postings create_shares shares shares_defined (record { no_table = refl; no_index = refl; no_view = refl }), refl)
 
 taps_is : IsCreated with_shares create_taps taps × (lacks_sequence (created with_shares taps) ≡ false)
-unfolding understood everything
-taps_is = ((refl, refl, refl, (refl, refl)), refl)
+unfolding same_name
+taps_is = (created_is with_shares create_taps taps taps_defined (record { no_table = refl; no_index = refl; no_view = refl }), refl)
 
 fixes_is : IsCreated with_taps create_fixes fixes × (lacks_sequence (created with_taps fixes) ≡ false)
-unfolding understood everything
-fixes_is = ((refl, refl, refl, (refl, refl)), refl)
+unfolding same_name
+fixes_is = (created_is with_taps create_fixes fixes fixes_defined (record { no_table = refl; no_index = refl; no_view = refl }), refl)
 
 counters_are : table_defined_by sequence_text ≡ Ok sequence_table
-unfolding understood everything
+unfolding everything
 counters_are = refl
 
 -- with one more that has none, all tables have no rows
@@ -119,22 +136,12 @@ fixes_made old new (Ok count) h inside =
     blank_again with_taps old.now new.now fixes (creates create_fixes with_taps fixes fixes_is.0.0 fixes_is.0.1 fixes_is.0.2 fixes_is.0.3 fixes_is.1 old new count blank.schema_is h.0) blank in
     record { blank = blank; on = went_on old new h.1 inside }
 
-abbrev pub insert_meta : List ℕ
-insert_meta = codes "INSERT INTO meta (name, version) VALUES ('farebox', 1)"
-
-abbrev meta_terms : List Term
-meta_terms = lit Null ∷ lit (Text (codes "farebox")) ∷ lit (Int (pos 1)) ∷ []
-
-insert_meta_is : (command_of (understood ledger_schema insert_meta) ≡ Insert 0 (Values meta_terms 3)) × IsPlain (understood ledger_schema insert_meta)
-unfolding understood everything
-insert_meta_is = (refl, (refl, refl))
-
 abbrev meta_source : Row
 meta_source = Null ∷ meta_columns
 
-meta_row : (rows : List Row) → drop 1 (with_rowid Chosen rows (cast_row meta meta_source)) ≡ meta_columns
-meta_row rows =
-    let cast : cast_row meta meta_source ≡ meta_source = ap₂ (λ x xs. x ∷ xs) cast_null (ap (λ x. Text (codes "farebox") ∷ x ∷ []) (cast_int (pos 1))) in
+meta_row : (t : Table) (rows : List Row) → drop 1 (with_rowid Chosen rows (cast_row (alike meta t) meta_source)) ≡ meta_columns
+meta_row t rows =
+    let cast : cast_row (alike meta t) meta_source ≡ meta_source = ap₂ (λ x xs. x ∷ xs) cast_null (ap (λ x. Text (codes "farebox") ∷ x ∷ []) (cast_int (pos 1))) in
     ap (λ r. drop 1 (with_rowid Chosen rows r)) cast
 
 only : (row : Row) (rows : List Row) → rows ≡ [] → put_row row rows ≡ row ∷ []
@@ -143,23 +150,34 @@ only row rows none = rw none
 no_numbers : (rows : List Row) → rows ≡ [] → AreNumbers rows []
 no_numbers rows none = record { rising = subst (RiseFrom (pos 0)) (sym none) tt; are = ap (map (drop 1)) none }
 
+-- under any schema that has the tables, where they have no rows
+meta_added_in : (p : Places) (old new : State) → HasLedgerTables old.now.schema p → (count : ℕ) → AllByRecursion (λ tree. old.now.trees tree ≡ []) (trees_of p) → Executes insert_meta [] old new (Ok count)
+    → (new.now.schema ≡ old.now.schema) × HoldsIn p new.now.trees no_rows
+meta_added_in p old new has count empty h =
+    let schema = old.now.schema in
+    let tree = p.meta.table.tree in
+    let it = row_added p.meta meta insert_meta meta_terms 3 meta_read refl refl old new has.has_meta [] meta_source refl refl count h in
+    let stay = stays schema old.now new.now p.meta meta _ has.has_meta it in
+    let postings_empty = stay p.postings postings has.has_postings (λ same. omega (arith, same)) ∙ empty.1.0 in
+    let row = with_rowid Chosen (old.now.trees tree) (cast_row (alike meta p.meta.table) meta_source) in (
+      it.schema_is,
+      record {
+        meta = ap (map (drop 1)) (it.rows ∙ only row (old.now.trees tree) empty.0) ∙ ap (λ r. r ∷ []) (meta_row p.meta.table (old.now.trees tree));
+        postings = postings_empty;
+        postings_rise = subst (RiseFrom (pos 0)) (sym postings_empty) tt;
+        shares = no_numbers (new.now.trees p.shares.table.tree) (stay p.shares shares has.has_shares (λ same. omega (arith, same)) ∙ empty.1.1.0);
+        taps = no_numbers (new.now.trees p.taps.table.tree) (stay p.taps taps has.has_taps (λ same. omega (arith, same)) ∙ empty.1.1.1.0);
+        fixes = no_numbers (new.now.trees p.fixes.table.tree) (stay p.fixes fixes has.has_fixes (λ same. omega (arith, same)) ∙ empty.1.1.1.1.0);
+      },
+    )
+
 pub meta_added : (old new : State) (r : Result ℕ Error) → ExecutesInside 0 insert_meta [] old new r → IsTrue old.in_transaction → OnOk r (MakesLedger old new ledger_schema)
 meta_added old new (Err e) h inside = tt
 meta_added old new (Ok count) h inside =
     let ledger : IsBlank ledger_schema old.now → HoldsRows new.now no_rows = λ blank.
-    let it = adds insert_meta ledger_schema 0 3 meta_terms meta insert_meta_is.0 insert_meta_is.1 refl refl (quiet 0) [] refl meta_source refl old new count blank.schema_is h.0 in
     let empty = blank.empty in
-    let others = it.others in
-    let row = with_rowid Chosen (old.now.trees 0) (cast_row meta meta_source) in
-    record {
-      schema_is = it.schema_is;
-      meta = ap (map (drop 1)) (it.rows ∙ only row (old.now.trees 0) empty.0) ∙ ap (λ r. r ∷ []) (meta_row (old.now.trees 0));
-      postings = others.1.0 (λ same. omega (arith, same)) ∙ empty.1.0;
-      postings_rise = subst (RiseFrom (pos 0)) (sym (others.1.0 (λ same. omega (arith, same)) ∙ empty.1.0)) tt;
-      shares = no_numbers (new.now.trees 5) (others.1.1.1.0 (λ same. omega (arith, same)) ∙ empty.1.1.1.0);
-      taps = no_numbers (new.now.trees 7) (others.1.1.1.1.0 (λ same. omega (arith, same)) ∙ empty.1.1.1.1.0);
-      fixes = no_numbers (new.now.trees 9) (others.1.1.1.1.1.0 (λ same. omega (arith, same)) ∙ empty.1.1.1.1.1.0);
-    } in
+    let it = meta_added_in ledger_places old new (has_tables old.now.schema blank.schema_is) count (empty.0, (empty.1.0, (empty.1.1.1.0, (empty.1.1.1.1.0, (empty.1.1.1.1.1.0, tt))))) h.0 in
+    held_from new.now no_rows (it.0 ∙ blank.schema_is) it.1 in
     record { ledger = ledger; on = went_on old new h.1 inside }
 
 -- one after another

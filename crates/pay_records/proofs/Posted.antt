@@ -1,20 +1,22 @@
 -- What a posting that is added does to the rows of the ledger, and the number that it gets.
-use Rattle.std.proofs.Common.{◌≡◌, inl, inr, Option, ℕ, ℤ, pos, ◌+ℤ◌, ◌<ℤ◌, List, [], ◌∷◌, ◌++◌, map, drop, slice_get, true, false, Some, None, Ok, Err, Result, IfOk, IsTrue, refl, sym, ap, ap₂, subst, append-nil, ◌∙◌, arith}
+use Rattle.std.proofs.Common.{◌≡◌, ◌≢◌, inl, inr, Option, ℕ, ℤ, pos, ◌+ℤ◌, ◌<ℤ◌, List, [], ◌∷◌, ◌++◌, map, drop, slice_get, true, false, Some, None, Ok, Err, Result, IfOk, IfSome, IsTrue, refl, sym, ap, ap₂, subst, append-nil, ◌∙◌, arith}
 use Rattle.std.proofs.lemmas.Int.{ints}
 use Rattle.std.proofs.lemmas.Bool.Decides.{nat_tests}
 use Rattle.std.proofs.lemmas.List.{map-append}
 use Rattle.sqlite.specs.declared.types.Value.TheVariants.{Null, Int}
 use Rattle.sqlite.specs.Order.{Row, column}
+use Rattle.sqlite.specs.Schema.{Schema}
+use Rattle.sqlite.specs.Table.{Table}
 use Rattle.sqlite.specs.declared.error.Error.{Error}
 use Rattle.sqlite.specs.Tree.{Trees, put_row}
 use Rattle.sqlite.specs.Cast.{cast_row}
 use Rattle.sqlite.specs.Rowids.TheVariants.{Above}
 use Rattle.sqlite.specs.Edit.{with_rowid, next_rowid, at_least}
 use Rattle.pay_rows.specs.declared.row.PostingRow.{PostingRow}
-use Rattle.pay_records.specs.Tables.{postings_columns, ledger_schema}
-use Rattle.pay_records.specs.Rows.{LedgerRows, HoldsRows, AreNumbers, RiseFrom, posting_row, posting_numbers, share_numbers, tap_numbers, fix_numbers}
+use Rattle.pay_records.specs.Places.{Place, Places, HasTable, HasLedgerTables, IsCounter, alike, trees_of, ledger_places}
+use Rattle.pay_records.specs.Tables.{meta, postings, shares, taps, fixes, postings_columns}
+use Rattle.pay_records.specs.Rows.{LedgerRows, HoldsRows, AreNumbers, RiseFrom, posting_row, posting_numbers, share_numbers, tap_numbers, fix_numbers, with_posting}
 use Rattle.sqlite_resolve.specs.declared.compiled.Compiled.{Compiled}
-use Rattle.sqlite_resolve.specs.declared.error.CompileError.{CompileError}
 use Rattle.sqlite_schema.specs.declared.command.Returning.{Returning}
 use Rattle.sqlite.specs.Command.TheVariants.{Insert}
 use Rattle.sqlite.specs.Source.TheVariants.{Values}
@@ -26,13 +28,15 @@ use Rattle.pay_records.proofs.Kept.{went_on}
 use Rattle.pay_records.proofs.Creates.{went, same_value}
 use Rattle.pay_records.proofs.Adds.{task_of}
 use Rattle.sqlite.specs.Listing.{understood}
-use Rattle.sqlite.specs.State.{State, Shows, IsUnchanged, QueriesRow, Shown, ShowsRows, mode_of}
-use Rattle.sqlite.proofs.Callers.{command_of, statement_of}
+use Rattle.sqlite.specs.State.{State, Shows, IsUnchanged, QueriesRow, Shown, ShowsRows}
+use Rattle.sqlite.proofs.Callers.{statement_of}
 use Rattle.pay_records.specs.Steps.{Changes}
 use Rattle.pay_records.proofs.Rises.{put_behind}
 use Rattle.pay_records.proofs.Numbers.{cast_null, cast_ints}
-use Rattle.pay_records.proofs.Returns.{AddsCounted, shows_as, returning_of, formats_of, concluded_showing, inserted_counted}
-use Rattle.pay_records.proofs.Texts.{postings_made, counters_made, insert_posting, posting_terms, returned, insert_posting_is, counters_are, still, quiet}
+use Rattle.pay_records.proofs.Returns.{AddsCounted, shows_as, concluded_showing, inserted_counted, counter_there}
+use Rattle.pay_records.proofs.Inserting.{insert_posting_is}
+use Rattle.pay_records.proofs.Placed.{HoldsIn, each_at, apart, initial, none_of, sets_off_nothing, held_in, held_from, has_tables}
+use Rattle.pay_records.proofs.Texts.{insert_posting, posting_terms, returned}
 
 not_below : (top next : ℤ) → next <ℤ (at_least (Above top) next +ℤ pos 1)
 not_below top next = grind (arith, ints, nat_tests)
@@ -40,57 +44,77 @@ not_below top next = grind (arith, ints, nat_tests)
 abbrev pub number_above : ℤ → List Row → ℤ
 number_above top rows = at_least (Above top) (next_rowid rows)
 
-counted_row : (top : ℤ) (rows : List Row) (vs : List ℤ) → with_rowid (Above top) rows (cast_row postings_made (Null ∷ Null ∷ map Int vs)) ≡ Int (number_above top rows) ∷ Null ∷ map Int vs
-counted_row top rows vs =
-    let cast : cast_row postings_made (Null ∷ Null ∷ map Int vs) ≡ Null ∷ Null ∷ map Int vs =
+counted_row : (t : Table) (top : ℤ) (rows : List Row) (vs : List ℤ) → with_rowid (Above top) rows (cast_row (alike postings t) (Null ∷ Null ∷ map Int vs)) ≡ Int (number_above top rows) ∷ Null ∷ map Int vs
+counted_row t top rows vs =
+    let cast : cast_row (alike postings t) (Null ∷ Null ∷ map Int vs) ≡ Null ∷ Null ∷ map Int vs =
     ap₂ (λ x xs. x ∷ xs) cast_null (ap₂ (λ x xs. x ∷ xs) cast_null (cast_ints postings_columns vs)) in
     ap (with_rowid (Above top) rows) cast
 
 -- the posting stands behind all others, under a number of its own
-pub posting_behind : (old new : Trees) (postings : List (ℤ × ℤ × PostingRow)) (account : ℤ) (row : PostingRow) (written : List Row) → old 2 ≡ map posting_row postings → RiseFrom (pos 0) (old 2)
-    → AddsCounted ledger_schema old new postings_made counters_made (Null ∷ Null ∷ map Int (posting_numbers account row)) written
-    → (id : ℤ) × (written ≡ posting_row (id, account, row) ∷ []) × (new 2 ≡ map posting_row (postings ++ (id, account, row) ∷ [])) × RiseFrom (pos 0) (new 2)
-posting_behind old new postings account row written are up it =
+posting_behind : (schema : Schema) (t counters : Table) (old new : Trees) (all : List (ℤ × ℤ × PostingRow)) (account : ℤ) (row : PostingRow) (written : List Row) → old t.tree ≡ map posting_row all → RiseFrom (pos 0) (old t.tree)
+    → AddsCounted schema old new (alike postings t) counters (Null ∷ Null ∷ map Int (posting_numbers account row)) written
+    → (id : ℤ) × (written ≡ posting_row (id, account, row) ∷ []) × (new t.tree ≡ map posting_row (all ++ (id, account, row) ∷ [])) × RiseFrom (pos 0) (new t.tree)
+posting_behind schema t counters old new all account row written are up it =
     let vs = posting_numbers account row in
-    let id = number_above it.top (old 2) in
-    let same = counted_row it.top (old 2) vs in
-    let behind = put_behind (pos 0) id (Null ∷ map Int vs) (old 2) up (not_below it.top (next_rowid (old 2))) in
-    let rows : new 2 ≡ old 2 ++ posting_row (id, account, row) ∷ [] = it.rows ∙ ap (λ r. put_row r (old 2)) same ∙ behind.0 in (
+    let id = number_above it.top (old t.tree) in
+    let same = counted_row t it.top (old t.tree) vs in
+    let behind = put_behind (pos 0) id (Null ∷ map Int vs) (old t.tree) up (not_below it.top (next_rowid (old t.tree))) in
+    let rows : new t.tree ≡ old t.tree ++ posting_row (id, account, row) ∷ [] = it.rows ∙ ap (λ r. put_row r (old t.tree)) same ∙ behind.0 in (
       id,
       it.written_is ∙ ap (λ r. r ∷ []) same,
-      rows ∙ ap (λ l. l ++ posting_row (id, account, row) ∷ []) are ∙ sym (map-append posting_row postings ((id, account, row) ∷ [])),
+      rows ∙ ap (λ l. l ++ posting_row (id, account, row) ∷ []) are ∙ sym (map-append posting_row all ((id, account, row) ∷ [])),
       subst (RiseFrom (pos 0)) (sym rows) behind.1,
     )
+
+-- the rows of another table are as they were, but for the one that counts
+stays : (schema : Schema) (old new : Trees) (p : Place) (wanted counters : Table) (source : Row) (written : List Row) → HasTable schema p wanted → AddsCounted schema old new (alike wanted p.table) counters source written
+    → (q : Place) (other : Table) → HasTable schema q other → initial other ≢ initial wanted → q.table.tree ≢ counters.tree → new q.table.tree ≡ old q.table.tree
+stays schema old new p wanted counters source written has it q other also differ beside =
+    each_at (λ t. t.tree ≢ p.table.tree → t.tree ≢ counters.tree → new t.tree ≡ old t.tree) schema.tables q.at (alike other q.table) also.placed it.others (apart schema q p other wanted also has differ) beside
+
+-- of a posting RETURNING shows the number
+number_shown : (limit : Option ℕ) (schema : Schema) (t : Table) (trees : Trees) (id account : ℤ) (row : PostingRow) (written shown : List Row) → written ≡ posting_row (id, account, row) ∷ []
+    → ShowsReturned (task_of limit schema (alike postings t) (map Int (posting_numbers account row))) returned trees written (Ok shown) → shown ≡ (Int id ∷ []) ∷ []
+number_shown limit schema t trees id account row written shown is h =
+    let task = task_of limit schema (alike postings t) (map Int (posting_numbers account row)) in
+    let first = went (subst (λ rows. ShowsReturned task returned trees rows (Ok shown)) is h) in
+    let rest = went first.2 in
+    same_value rest.2 ∙ ap (λ others. first.0 ++ others) (same_value rest.1) ∙ append-nil first.0 ∙ first.1.1
 
 abbrev the_mode : Mode
 the_mode = record { keys = Enforced; in_doubt = false; may_wait = false }
 
--- what the statement does over the tables of a ledger
-posted : (limit : Option ℕ) (db : Trees) (said : List ℕ) (tally : Tally) (new : Database) (account : ℤ) (row : PostingRow) (l : LedgerRows) → HoldsRows (record { schema = ledger_schema; trees = db }) l
-    → Does limit the_mode (map Int (posting_numbers account row)) (record { schema = ledger_schema; trees = db }) said (Some returned) (Insert 1 (Values posting_terms 8)) (Ok (tally, new))
-    → (id : ℤ) × (tally.shown ≡ (Int id ∷ []) ∷ []) × HoldsRows new (record l { postings = l.postings ++ (id, account, row) ∷ [] })
-posted limit db said tally new account row l held does =
+-- what the statement does under any schema that has the tables
+posted : (schema : Schema) (p : Places) → HasLedgerTables schema p → (limit : Option ℕ) (db : Trees) (said : List ℕ) (tally : Tally) (new : Database) (account : ℤ) (row : PostingRow) (l : LedgerRows) → HoldsIn p db l
+    → Does limit the_mode (map Int (posting_numbers account row)) (record { schema = schema; trees = db }) said (Some returned) (Insert p.postings.at (Values posting_terms 8)) (Ok (tally, new))
+    → (id : ℤ) × (tally.shown ≡ (Int id ∷ []) ∷ []) × (new.schema ≡ schema) × HoldsIn p new.trees (with_posting id account row l)
+posted schema p has limit db said tally new account row l held does =
     let params = map Int (posting_numbers account row) in
-    let done = went does in
-    let it = inserted_counted ledger_schema counters_made still postings_made 1 refl refl (λ same. omega (arith, same)) counters_are (quiet 2) params refl posting_terms 8 (Null ∷ Null ∷ params) refl limit db done.0 done.1 in
-    let behind = posting_behind db done.0.trees l.postings account row done.0.rows held.postings held.postings_rise it in
-    let task = task_of limit ledger_schema postings_made params in
+    let table = alike postings p.postings.table in
+    let tree = p.postings.table.tree in
+    let done = went (rw has.has_postings.placed at does) in
+    let counter = counter_there schema table refl limit params (Values posting_terms 8) db done.0 done.1 in
+    let c = counter.0 in
+    let counts = subst (λ o. IfSome o (IsCounter schema p)) counter.1 has.counter in
+    let beside = none_of (trees_of p) c.tree counts.0 in
+    let it = inserted_counted schema c (λ olds row. sets_off_nothing schema c.tree counts.1 olds (row ∷ [])) table p.postings.at has.has_postings.placed refl beside.1.0 counter.1 params refl posting_terms 8 (Null ∷ Null ∷ params) refl limit db done.0 done.1 in
+    let behind = posting_behind schema p.postings.table c db done.0.trees l.postings account row done.0.rows held.postings held.postings_rise it in
+    let task = task_of limit schema table params in
     let end = concluded_showing task the_mode returned done.0 tally new done.2 in
-    let shows = went (subst (λ rows. ShowsReturned task returned done.0.trees rows (Ok tally.shown)) behind.1 end.1) in
-    let rest = went shows.2 in
-    let shown : tally.shown ≡ (Int behind.0 ∷ []) ∷ [] = same_value rest.2 ∙ ap (λ others. shows.0 ++ others) (same_value rest.1) ∙ append-nil shows.0 ∙ shows.1.1 in
-    let others = it.others in (
+    let shown = number_shown limit schema p.postings.table done.0.trees behind.0 account row done.0.rows tally.shown behind.1 end.1 in
+    let stay = stays schema db done.0.trees p.postings postings c (Null ∷ Null ∷ params) done.0.rows has.has_postings it in
+    let after : HoldsIn p done.0.trees (with_posting behind.0 account row l) = record {
+      meta = ap (map (drop 1)) (stay p.meta meta has.has_meta (λ same. omega (arith, same)) beside.0) ∙ held.meta;
+      postings = behind.2;
+      postings_rise = behind.3;
+      shares = subst (λ r. AreNumbers r (map share_numbers l.shares)) (sym (stay p.shares shares has.has_shares (λ same. omega (arith, same)) beside.1.1.0)) held.shares;
+      taps = subst (λ r. AreNumbers r (map tap_numbers l.taps)) (sym (stay p.taps taps has.has_taps (λ same. omega (arith, same)) beside.1.1.1.0)) held.taps;
+      fixes = subst (λ r. AreNumbers r (map fix_numbers l.fixes)) (sym (stay p.fixes fixes has.has_fixes (λ same. omega (arith, same)) beside.1.1.1.1.0)) held.fixes;
+    } in (
       behind.0,
       shown,
-      subst (λ d. HoldsRows d (record l { postings = l.postings ++ (behind.0, account, row) ∷ [] })) (sym end.0) (record {
-        schema_is = refl;
-        meta = ap (map (drop 1)) (others.0 (λ same. omega (arith, same)) (λ same. omega (arith, same))) ∙ held.meta;
-        postings = behind.2;
-        postings_rise = behind.3;
-        shares = subst (λ r. AreNumbers r (map share_numbers l.shares)) (sym (others.1.1.1.0 (λ same. omega (arith, same)) (λ same. omega (arith, same)))) held.shares;
-        taps = subst (λ r. AreNumbers r (map tap_numbers l.taps)) (sym (others.1.1.1.1.0 (λ same. omega (arith, same)) (λ same. omega (arith, same)))) held.taps;
-        fixes = subst (λ r. AreNumbers r (map fix_numbers l.fixes)) (sym (others.1.1.1.1.1.0 (λ same. omega (arith, same)) (λ same. omega (arith, same)))) held.fixes;
-      }),
+      ap (λ (d : Database). d.schema) end.0,
+      subst (λ (d : Database). HoldsIn p d.trees (with_posting behind.0 account row l)) (sym end.0) after,
     )
 
 module _ (old new : State) (inside : IsTrue old.in_transaction) where
@@ -109,20 +133,18 @@ module _ (old new : State) (inside : IsTrue old.in_transaction) where
   goes_on sql params shown (inl h) = within h.1
   goes_on sql params shown (inr h) = by_returning sql h.1.0 _ h.0 h.1.0.returning h.1.2
 
-  pub posting_added : (account : ℤ) (row : PostingRow) (shown : Row) (l : LedgerRows) → HoldsRows old.now l → QueriesRow insert_posting (map Int (posting_numbers account row)) old new (Ok shown)
-      → (id : ℤ) × (shown ≡ Int id ∷ []) × HoldsRows new.now (record l { postings = l.postings ++ (id, account, row) ∷ [] })
-  posting_added account row shown l held h =
+  pub posting_added_in : (p : Places) → HasLedgerTables old.now.schema p → (account : ℤ) (row : PostingRow) (shown : Row) (l : LedgerRows) → HoldsIn p old.now.trees l
+      → QueriesRow insert_posting (map Int (posting_numbers account row)) old new (Ok shown)
+      → (id : ℤ) × (shown ≡ Int id ∷ []) × (new.now.schema ≡ old.now.schema) × HoldsIn p new.now.trees (with_posting id account row l)
+  posting_added_in p has account row shown l held h =
+      let schema = old.now.schema in
       let params = map Int (posting_numbers account row) in
-      let known = λ (P : Result Compiled CompileError → Type 0) (p : P (understood ledger_schema insert_posting)). subst (λ s. P (understood s insert_posting)) (sym held.schema_is) p in
-      let command = Insert 1 (Values posting_terms 8) in
-      let w = shows_as insert_posting params old new returned command (known (λ r. command_of r ≡ command) insert_posting_is.0) (known (λ r. returning_of r ≡ Some returned) insert_posting_is.1)
-      (known (λ r. formats_of r ≡ []) insert_posting_is.2) shown h in
+      let known = insert_posting_is schema p.postings has.has_postings in
+      let w = shows_as insert_posting params old new returned (Insert p.postings.at (Values posting_terms 8)) known.0 known.1 known.2 shown h in
       let shows = w.1 in
-      let said = statement_of insert_posting (understood old.now.schema insert_posting) in
-      let at_schema = subst (λ s. Does old.step_limit (mode_of old) params (record old.now { schema = s }) said (Some returned) command (Ok (shows.writes.tally, new.now))) held.schema_is shows.writes.changed in
-      let it = posted old.step_limit old.now.trees said shows.writes.tally new.now account row l (subst (λ s. HoldsRows (record old.now { schema = s }) l) held.schema_is held) at_schema in
+      let it = posted schema p has old.step_limit old.now.trees (statement_of insert_posting (understood schema insert_posting)) shows.writes.tally new.now account row l held shows.writes.changed in
       let first : Some shown ≡ Some (Int it.0 ∷ []) = sym w.2 ∙ ap (λ rows. slice_get rows 0) (shows.shown ∙ it.1) in
-      (it.0, (let same : shown ≡ Int it.0 ∷ [] = cc in same), it.2)
+      (it.0, (let same : shown ≡ Int it.0 ∷ [] = cc in same), it.2, it.3)
 
   -- the number that was read from what is shown is that of the posting
   pub posting_told : (account : ℤ) (row : PostingRow) (given shown : Row) (number : Result ℤ Error) → QueriesRow insert_posting given old new (Ok shown) → given ≡ map Int (posting_numbers account row)
@@ -132,8 +154,9 @@ module _ (old new : State) (inside : IsTrue old.in_transaction) where
       let h = subst (λ params. QueriesRow insert_posting params old new (Ok shown)) is ran in
       let on = goes_on insert_posting (map Int (posting_numbers account row)) shown h in
       let rows : (l : LedgerRows) → HoldsRows old.now l → HoldsRows new.now (record l { postings = l.postings ++ (id, account, row) ∷ [] }) = λ l held.
-      let it = posting_added account row shown l held h in
+      let it = posting_added_in ledger_places (has_tables old.now.schema held.schema_is) account row shown l (held_in old.now l held) h in
+      let after = held_from new.now (with_posting it.0 account row l) (it.2 ∙ held.schema_is) it.3 in
       let both : Int id ≡ Int it.0 = sym read ∙ ap (λ r. column r 0) it.1 in
       let same : it.0 ≡ id = cc in
-      subst (λ n. HoldsRows new.now (record l { postings = l.postings ++ (n, account, row) ∷ [] })) same it.2 in
+      subst (λ n. HoldsRows new.now (with_posting n account row l)) same after in
       record { rows = rows; on = went_on old new on inside }

@@ -1,5 +1,5 @@
 -- What an INSERT of one row does to a table whose rowids are counted, and the rowid that it shows.
-use Rattle.std.proofs.Common.{◌≡◌, ◌≢◌, ◌⊎◌, inl, inr, ℕ, zero, suc, ℤ, List, [], ◌∷◌, length, ◌/◌, slice_get, Bool, true, false, Some, None, Option, Ok, Err, Result, refl, sym, ap, subst, subst₂, append-nil, unwrap_or, MatchBool, ◌∙◌}
+use Rattle.std.proofs.Common.{◌≡◌, ◌≢◌, ◌⊎◌, inl, inr, ℕ, ℤ, List, [], ◌∷◌, length, ◌/◌, slice_get, Bool, true, false, Some, None, Option, Ok, Err, Result, refl, sym, ap, subst, subst₂, append-nil, unwrap_or, MatchBool, ◌∙◌}
 use Rattle.std.specs.List.{AllByRecursion}
 use Rattle.sqlite_schema.specs.declared.schema.Keys.TheVariants.{Enforced}
 use Rattle.sqlite_schema.specs.declared.command.Returning.{Returning}
@@ -7,21 +7,24 @@ use Rattle.sqlite_schema.specs.declared.command.Command.{Command}
 use Rattle.sqlite_resolve.specs.declared.compiled.Compiled.{Compiled}
 use Rattle.sqlite_resolve.specs.declared.error.CompileError.{CompileError}
 use Rattle.sqlite_rules.specs.Action.{works, Writes as MakesStep}
+use Rattle.sqlite_rules.proofs.ActionLemmas.{no_works}
 use Rattle.sqlite_rules.specs.declared.error.Rowids.{Rowids}
 use Rattle.sqlite.specs.Rowids.TheVariants.{Above}
 use Rattle.sqlite.specs.Edit.{edit_of, with_rowid, are_fresh, taken_by}
 use Rattle.sqlite.specs.Tree.{Trees, put_row}
-use Rattle.sqlite.specs.Rows.{Written, Task, stamped, Inserts, Counts, CountsIn, count_of, rowids_for, counting, sequence, Gives}
+use Rattle.sqlite.specs.Rows.{Written, Task, stamped, Inserts, Counter, CounterIn, Counts, CountsIn, count_of, rowids_for, counting, sequence, Gives}
 use Rattle.sqlite.specs.Does.{Concludes, Shows}
 use Rattle.sqlite.specs.declared.run.Mode.{Mode}
 use Rattle.sqlite.specs.Term.{Term}
 use Rattle.sqlite.specs.Cast.{cast_row}
 use Rattle.sqlite.specs.Schema.{Schema}
 use Rattle.sqlite.specs.Table.{Table}
+use Rattle.sqlite_schema.specs.declared.command.Source.{Source}
 use Rattle.sqlite.specs.Source.TheVariants.{Values}
 use Rattle.sqlite.specs.Effect.{Database, value_rows}
 use Rattle.pay_records.proofs.Creates.{went, same_value}
 use Rattle.pay_records.proofs.Adds.{task_of}
+use Rattle.pay_records.proofs.Placed.{each_at, each_both}
 use Rattle.sqlite.specs.Order.{Row}
 use Rattle.sqlite.specs.Clock.{timed}
 use Rattle.sqlite.specs.Does.{Tally}
@@ -62,15 +65,6 @@ module _ (text : List ℕ) (params : Row) (old new : State) (what : Returning) (
   shows_as row (inl h) = absurd (let e = sym (ap returning_of (sym h.0.1.is) ∙ returning) ∙ h.0.2 in cc)
   shows_as row (inr h) = (h.0, shown_as h.0 h.1, h.2)
 
-pub each_at : {X : Type 0} (P : X → Type 0) (xs : List X) (i : ℕ) (x : X) → slice_get xs i ≡ Some x → AllByRecursion P xs → P x
-each_at P [] i x is all = absurd (let e = is in cc)
-each_at P (y ∷ xs) zero x is all = let same : y ≡ x = cc in subst P same all.0
-each_at P (y ∷ xs) (suc i) x is all = each_at P xs i x is all.1
-
-pub each_both : {X : Type 0} (P Q R : X → Type 0) → ((x : X) → P x → Q x → R x) → (xs : List X) → AllByRecursion P xs → AllByRecursion Q xs → AllByRecursion R xs
-each_both P Q R step [] p q = tt
-each_both P Q R step (x ∷ xs) p q = (step x p.0 q.0, each_both P Q R step xs p.1 q.1)
-
 pub concluded_showing : (task : Task) (mode : Mode) (what : Returning) (w : Written) (tally : Tally) (new : Database) → Concludes task mode (Some what) w (Ok (tally, new))
     → (new ≡ record { schema = task.schema; trees = w.trees }) × Shows task what w.trees w.rows (Ok tally.shown)
 concluded_showing task mode what w tally new h =
@@ -89,6 +83,20 @@ pub record AddsCounted (schema : Schema) (old new : Trees) (table counters : Tab
   pub fresh : are_fresh (old table.tree) (with_rowid (Above top) (old table.tree) (cast_row table source) ∷ []) ≡ true
   pub rows : new table.tree ≡ put_row (with_rowid (Above top) (old table.tree) (cast_row table source)) (old table.tree)
   pub others : AllByRecursion (λ t. t.tree ≢ table.tree → t.tree ≢ counters.tree → new t.tree ≡ old t.tree) schema.tables
+
+-- a row with a number of its own is added only where the table that counts is there
+counter_in_place : (task : Task) (db : Trees) (o : Option Table) (counter : Option Row) → CounterIn task db o (Ok counter) → (c : Table) × (o ≡ Some c)
+counter_in_place task db None counter h = absurd (let e = h in cc)
+counter_in_place task db (Some c) counter h = (c, refl)
+
+counter_by : (task : Task) (db : Trees) (counter : Option Row) → task.table.is_counted ≡ true → Counter task db (Ok counter) → (c : Table) × (sequence task.schema ≡ Some c)
+counter_by task db counter counted h = counter_in_place task db (sequence task.schema) counter (rw counted at h)
+
+pub counter_there : (schema : Schema) (table : Table) → table.is_counted ≡ true → (limit : Option ℕ) (params : Row) (from : Source) (db : Trees) (w : Written) → Inserts (task_of limit schema table params) from db (Ok w)
+    → (c : Table) × (sequence schema ≡ Some c)
+counter_there schema table counted limit params from db w h =
+    let counter = went (went h).2 in
+    counter_by (task_of limit schema table params) db counter.0 counted counter.1
 
 split : (b : Bool) (P Q : Type 0) → MatchBool b P Q → P ⊎ Q
 split true P Q h = inl h
@@ -118,7 +126,7 @@ module _ (schema : Schema) (counters : Table) (still : (olds : List Row) (row : 
       ]
 
   module _ (table : Table) (at : ℕ) (place : slice_get schema.tables at ≡ Some table) (counted : table.is_counted ≡ true) (apart : table.tree ≢ counters.tree) (named : sequence schema ≡ Some counters)
-      (quiet : (row : Row) → works schema Enforced 0 table.tree [] (row ∷ []) ≡ []) (params : Row) (unstamped : stamped table params ≡ params) (terms : List Term) (width : ℕ) (source : Row)
+      (params : Row) (unstamped : stamped table params ≡ params) (terms : List Term) (width : ℕ) (source : Row)
       (one : value_rows params width (length terms / width) terms ≡ source ∷ []) where
     above : (top : ℤ) → rowids_for table top ≡ Above top
     above top = rw counted
@@ -134,7 +142,7 @@ module _ (schema : Schema) (counters : Table) (still : (olds : List Row) (row : 
         let edit = edit_of db table [] (Above top) 0 (source ∷ []) in
         let made : MakesStep schema Enforced db edit (Ok step.0) =
         subst₂ (λ (k : Rowids) (r : List Row). MakesStep schema Enforced db (edit_of db table [] k 0 r) (Ok step.0)) (above top) rows step.1 in
-        let applied = one_step schema Enforced db step.0 edit (quiet (with_rowid (Above top) (db table.tree) (cast_row table source))) made in
+        let applied = one_step schema Enforced db step.0 edit (no_works schema Enforced 0 table.tree (with_rowid (Above top) (db table.tree) (cast_row table source) ∷ [])) made in
         let leaves = counts_leave limit table params step.0 counts.0 counter.0 _ named counts.1 in
         let trees : w.trees ≡ counts.0 = ap (λ (it : Written). it.trees) (same_value counts.2) in
         let news : w.rows ≡ edit.news = ap (λ (it : Written). it.rows) (same_value counts.2) ∙ subst₂ (λ (k : Rowids) (r : List Row). (edit_of db table [] (rowids_for table top) 0 given.0).news ≡ (edit_of db table [] k 0 r).news) (above top) rows refl in

@@ -8,6 +8,7 @@ use Rattle.sqlite_sql.specs.declared.ops.BinaryOp.TheVariants.{Compare}
 use Rattle.sqlite.specs.Command.TheVariants.{Select}
 use Rattle.sqlite.specs.Term.{Term, col, op2}
 use Rattle.sqlite.specs.Query.{Query, inner, end}
+use Rattle.sqlite.specs.Schema.{Schema}
 use Rattle.sqlite.specs.Listing.{understood, reads_listing}
 use Rattle.sqlite.proofs.Callers.{IsPlain, command_of}
 use Rattle.pay_records.specs.Tables.{ledger_schema, meta_tree, postings_tree, shares_tree, taps_tree, fixes_tree, taps_columns, fixes_columns}
@@ -41,57 +42,58 @@ is_given at = op2 (Compare Eq Binary) (col 1 at) (col 0 0)
 abbrev pub by_rowid : List (Term × Key)
 by_rowid = (col 1 0, record { collation = Binary; descending = false }) ∷ []
 
-abbrev pub postings_query : Query
-postings_query = simple (inner postings_tree end) (is_given 2 ∷ []) (col 1 0 ∷ col 1 3 ∷ col 1 4 ∷ col 1 5 ∷ col 1 6 ∷ col 1 7 ∷ []) by_rowid
+-- over the tables of these trees
+abbrev pub postings_query : ℕ → Query
+postings_query tree = simple (inner tree end) (is_given 2 ∷ []) (col 1 0 ∷ col 1 3 ∷ col 1 4 ∷ col 1 5 ∷ col 1 6 ∷ col 1 7 ∷ []) by_rowid
 
-abbrev pub shares_query : Query
-shares_query = simple (inner postings_tree (inner shares_tree end)) (op2 (Compare Eq Binary) (col 2 1) (col 1 0) ∷ is_given 2 ∷ []) (col 2 1 ∷ col 2 2 ∷ col 2 3 ∷ []) []
+abbrev pub shares_query : ℕ → ℕ → Query
+shares_query postings shares = simple (inner postings (inner shares end)) (op2 (Compare Eq Binary) (col 2 1) (col 1 0) ∷ is_given 2 ∷ []) (col 2 1 ∷ col 2 2 ∷ col 2 3 ∷ []) []
 
-abbrev pub taps_query : Query
-taps_query = simple (inner taps_tree end) (is_given 1 ∷ []) (col 1 2 ∷ col 1 3 ∷ col 1 4 ∷ col 1 5 ∷ col 1 6 ∷ col 1 7 ∷ col 1 8 ∷ []) by_rowid
+abbrev pub taps_query : ℕ → Query
+taps_query tree = simple (inner tree end) (is_given 1 ∷ []) (col 1 2 ∷ col 1 3 ∷ col 1 4 ∷ col 1 5 ∷ col 1 6 ∷ col 1 7 ∷ col 1 8 ∷ []) by_rowid
 
-abbrev pub fixes_query : Query
-fixes_query = simple (inner fixes_tree end) (is_given 1 ∷ []) (col 1 2 ∷ col 1 3 ∷ col 1 4 ∷ col 1 5 ∷ col 1 6 ∷ col 1 7 ∷ col 1 8 ∷ col 1 9 ∷ []) by_rowid
+abbrev pub fixes_query : ℕ → Query
+fixes_query tree = simple (inner tree end) (is_given 1 ∷ []) (col 1 2 ∷ col 1 3 ∷ col 1 4 ∷ col 1 5 ∷ col 1 6 ∷ col 1 7 ∷ col 1 8 ∷ col 1 9 ∷ []) by_rowid
 
-abbrev pub all_taps_query : Query
-all_taps_query = simple (inner taps_tree end) [] (col 1 1 ∷ col 1 2 ∷ col 1 3 ∷ col 1 4 ∷ col 1 5 ∷ col 1 6 ∷ col 1 7 ∷ col 1 8 ∷ []) by_rowid
+abbrev pub all_taps_query : ℕ → Query
+all_taps_query tree = simple (inner tree end) [] (col 1 1 ∷ col 1 2 ∷ col 1 3 ∷ col 1 4 ∷ col 1 5 ∷ col 1 6 ∷ col 1 7 ∷ col 1 8 ∷ []) by_rowid
 
-abbrev pub all_fixes_query : Query
-all_fixes_query = simple (inner fixes_tree end) [] (col 1 1 ∷ col 1 2 ∷ col 1 3 ∷ col 1 4 ∷ col 1 5 ∷ col 1 6 ∷ col 1 7 ∷ col 1 8 ∷ col 1 9 ∷ []) by_rowid
+abbrev pub all_fixes_query : ℕ → Query
+all_fixes_query tree = simple (inner tree end) [] (col 1 1 ∷ col 1 2 ∷ col 1 3 ∷ col 1 4 ∷ col 1 5 ∷ col 1 6 ∷ col 1 7 ∷ col 1 8 ∷ col 1 9 ∷ []) by_rowid
 
-abbrev pub meta_query : Query
-meta_query = simple (inner meta_tree end) [] (col 1 1 ∷ col 1 2 ∷ []) []
+abbrev pub meta_query : ℕ → Query
+meta_query tree = simple (inner tree end) [] (col 1 1 ∷ col 1 2 ∷ []) []
 
--- a text is this query, and nothing else
-pub record IsQuery (text : List ℕ) (q : Query) (names : List (List ℕ)) : Type 0 where
-  pub command : command_of (understood ledger_schema text) ≡ Select (record { lets = []; body = q }) names
-  pub plain : IsPlain (understood ledger_schema text)
-  pub unlisted : reads_listing ledger_schema text ≡ false
+-- under a schema a text is this query, and nothing else
+pub record IsQuery (schema : Schema) (text : List ℕ) (q : Query) (names : List (List ℕ)) : Type 0 where
+  pub command : command_of (understood schema text) ≡ Select (record { lets = []; body = q }) names
+  pub plain : IsPlain (understood schema text)
+  pub unlisted : reads_listing schema text ≡ false
 
-pub select_postings_is : IsQuery select_postings postings_query (codes "id" ∷ codes "week" ∷ codes "through" ∷ codes "version" ∷ codes "due" ∷ codes "amount" ∷ [])
+pub select_postings_is : IsQuery ledger_schema select_postings (postings_query postings_tree) (codes "id" ∷ codes "week" ∷ codes "through" ∷ codes "version" ∷ codes "due" ∷ codes "amount" ∷ [])
 unfolding understood everything
 select_postings_is = record { command = refl; plain = (refl, refl); unlisted = refl }
 
-pub select_shares_is : IsQuery select_shares shares_query (codes "posting" ∷ codes "operator" ∷ codes "amount" ∷ [])
+pub select_shares_is : IsQuery ledger_schema select_shares (shares_query postings_tree shares_tree) (codes "posting" ∷ codes "operator" ∷ codes "amount" ∷ [])
 unfolding understood everything
 select_shares_is = record { command = refl; plain = (refl, refl); unlisted = refl }
 
-pub select_taps_is : IsQuery select_taps taps_query (codes "reader" ∷ codes "seq" ∷ codes "utc" ∷ codes "day" ∷ codes "second" ∷ codes "place" ∷ codes "kind" ∷ [])
+pub select_taps_is : IsQuery ledger_schema select_taps (taps_query taps_tree) (codes "reader" ∷ codes "seq" ∷ codes "utc" ∷ codes "day" ∷ codes "second" ∷ codes "place" ∷ codes "kind" ∷ [])
 unfolding understood everything
 select_taps_is = record { command = refl; plain = (refl, refl); unlisted = refl }
 
-pub select_fixes_is : IsQuery select_fixes fixes_query (codes "staff" ∷ codes "seq" ∷ codes "what" ∷ codes "a" ∷ codes "b" ∷ codes "c" ∷ codes "d" ∷ codes "e" ∷ [])
+pub select_fixes_is : IsQuery ledger_schema select_fixes (fixes_query fixes_tree) (codes "staff" ∷ codes "seq" ∷ codes "what" ∷ codes "a" ∷ codes "b" ∷ codes "c" ∷ codes "d" ∷ codes "e" ∷ [])
 unfolding understood everything
 select_fixes_is = record { command = refl; plain = (refl, refl); unlisted = refl }
 
-pub select_all_taps_is : IsQuery select_all_taps all_taps_query taps_columns
+pub select_all_taps_is : IsQuery ledger_schema select_all_taps (all_taps_query taps_tree) taps_columns
 unfolding understood everything
 select_all_taps_is = record { command = refl; plain = (refl, refl); unlisted = refl }
 
-pub select_all_fixes_is : IsQuery select_all_fixes all_fixes_query fixes_columns
+pub select_all_fixes_is : IsQuery ledger_schema select_all_fixes (all_fixes_query fixes_tree) fixes_columns
 unfolding understood everything
 select_all_fixes_is = record { command = refl; plain = (refl, refl); unlisted = refl }
 
-pub select_meta_is : IsQuery select_meta meta_query (codes "name" ∷ codes "version" ∷ [])
+pub select_meta_is : IsQuery ledger_schema select_meta (meta_query meta_tree) (codes "name" ∷ codes "version" ∷ [])
 unfolding understood everything
 select_meta_is = record { command = refl; plain = (refl, refl); unlisted = refl }

@@ -1,4 +1,5 @@
 pub mod Tables
+pub mod Places
 pub mod Rows
 pub mod Steps
 pub mod Told

@@ -1,0 +1,168 @@
+-- What each SELECT of the ledger means under any schema that has its tables.
+use Rattle.std.proofs.Common.{◌≡◌, ℕ, true, false, List, [], ◌∷◌, map, codes, Option, Some, None, Ok, refl, sym, ap, subst}
+use Rattle.sqlite_tied.specs.Compute.{everything}
+use Rattle.sqlite_ast.specs.declared.Expr.{Expr}
+use Rattle.sqlite_ast.specs.declared.Select.{Select as Written}
+use Rattle.sqlite.specs.Command.TheVariants.{Select}
+use Rattle.sqlite.specs.Query.{Query}
+use Rattle.sqlite.specs.Schema.{Schema}
+use Rattle.sqlite.proofs.Callers.{IsPlain, command_of}
+use Rattle.sqlite_schema.specs.Names.{same_name}
+use Rattle.sqlite_typing.specs.Types.{accepts_program}
+use Rattle.sqlite_resolve.specs.Lowering.{chosen, alone, first_found}
+use Rattle.sqlite_resolve.specs.Scope.{Name, is_rowid}
+use Rattle.sqlite_resolve.specs.Select.{ungrouped}
+use Rattle.sqlite_resolve.specs.Compile.{first, read}
+use Rattle.sqlite_resolve.specs.Body.{tests}
+use Rattle.sqlite_resolve.specs.Order.{sorts}
+use Rattle.pay_records.specs.Tables.{meta, taps, taps_columns, fixes, fixes_columns, postings}
+use Rattle.pay_records.specs.Places.{Place, HasTable}
+use Rattle.pay_records.proofs.SelectTexts.{select_meta, select_all_taps, select_all_fixes, select_taps, select_fixes, select_postings, IsQuery, is_given, by_rowid, meta_query, all_taps_query, all_fixes_query, taps_query, fixes_query, postings_query}
+use Rattle.pay_records.proofs.Selecting.{bare, source, by_column, select_of, parsed_as, understood_is, classes_are, reads_one, rowid_sorts, column_sorts, given_tests, is_first_given}
+
+pub is_query : (schema : Schema) (text : List ℕ) (s : Written) (names : List Name) (size : ℕ) (q : Query) (shown : List (List ℕ)) → first text ≡ Ok (parsed_as s names size)
+    → read schema s ≡ Ok (Select (record { lets = []; body = q }) shown) → IsQuery schema text q shown
+is_query schema text s names size q shown parsed reads =
+    let it = understood_is schema text s names size (Select (record { lets = []; body = q }) shown) parsed reads in
+    record { command = ap command_of it.0; plain = subst IsPlain (sym it.0) (refl, refl); unlisted = it.1 }
+
+-- the parameter by its spelling
+abbrev parameter : List Name
+parameter = codes "?1" ∷ []
+
+-- ---- the row of `meta`
+
+abbrev pub meta_names : List Name
+meta_names = codes "name" ∷ codes "version" ∷ []
+
+abbrev meta_written : Written
+meta_written = select_of (map bare meta_names) (source (codes "meta") None ∷ []) None []
+
+meta_parsed : first select_meta ≡ Ok (parsed_as meta_written [] 30)
+unfolding first everything
+meta_parsed = refl
+
+module _ (schema : Schema) (place : Place) (has : HasTable schema place meta) where
+  meta_accepted : accepts_program schema [] (meta_query place.table.tree) [] ≡ true
+  meta_accepted = simp (classes_are schema place meta has)
+
+  meta_read : read schema meta_written ≡ Ok (Select (record { lets = []; body = meta_query place.table.tree }) meta_names)
+  unfolding ungrouped same_name tests sorts
+  meta_read = reads_one schema place meta has meta_names _ refl refl None [] [] [] 99998 99998 _ _ refl refl meta_accepted
+
+  pub select_meta_is : IsQuery schema select_meta (meta_query place.table.tree) meta_names
+  select_meta_is = is_query schema select_meta meta_written [] 30 (meta_query place.table.tree) meta_names meta_parsed meta_read
+
+-- ---- all of a table
+
+abbrev all_taps_written : Written
+all_taps_written = select_of (map bare taps_columns) (source (codes "taps") None ∷ []) None (by_column (codes "rowid") ∷ [])
+
+all_taps_parsed : first select_all_taps ≡ Ok (parsed_as all_taps_written [] 83)
+unfolding first everything
+all_taps_parsed = refl
+
+module _ (schema : Schema) (place : Place) (has : HasTable schema place taps) where
+  all_taps_accepted : accepts_program schema [] (all_taps_query place.table.tree) [] ≡ true
+  all_taps_accepted = simp (classes_are schema place taps has)
+
+  all_taps_read : read schema all_taps_written ≡ Ok (Select (record { lets = []; body = all_taps_query place.table.tree }) taps_columns)
+  unfolding ungrouped same_name tests is_rowid
+  all_taps_read = reads_one schema place taps has taps_columns _ refl refl None (by_column (codes "rowid") ∷ []) [] by_rowid 99992 99991 _ _ refl
+      (rowid_sorts schema place taps has _ false (codes "rowid") refl refl refl 99992 _ refl) all_taps_accepted
+
+  pub select_all_taps_is : IsQuery schema select_all_taps (all_taps_query place.table.tree) taps_columns
+  select_all_taps_is = is_query schema select_all_taps all_taps_written [] 83 (all_taps_query place.table.tree) taps_columns all_taps_parsed all_taps_read
+
+abbrev all_fixes_written : Written
+all_fixes_written = select_of (map bare fixes_columns) (source (codes "fixes") None ∷ []) None (by_column (codes "rowid") ∷ [])
+
+all_fixes_parsed : first select_all_fixes ≡ Ok (parsed_as all_fixes_written [] 73)
+unfolding first everything
+all_fixes_parsed = refl
+
+module _ (schema : Schema) (place : Place) (has : HasTable schema place fixes) where
+  all_fixes_accepted : accepts_program schema [] (all_fixes_query place.table.tree) [] ≡ true
+  all_fixes_accepted = simp (classes_are schema place fixes has)
+
+  all_fixes_read : read schema all_fixes_written ≡ Ok (Select (record { lets = []; body = all_fixes_query place.table.tree }) fixes_columns)
+  unfolding ungrouped same_name tests is_rowid
+  all_fixes_read = reads_one schema place fixes has fixes_columns _ refl refl None (by_column (codes "rowid") ∷ []) [] by_rowid 99991 99990 _ _ refl
+      (rowid_sorts schema place fixes has _ false (codes "rowid") refl refl refl 99991 _ refl) all_fixes_accepted
+
+  pub select_all_fixes_is : IsQuery schema select_all_fixes (all_fixes_query place.table.tree) fixes_columns
+  select_all_fixes_is = is_query schema select_all_fixes all_fixes_written [] 73 (all_fixes_query place.table.tree) fixes_columns all_fixes_parsed all_fixes_read
+
+-- ---- of an account
+
+abbrev pub taps_names : List Name
+taps_names = codes "reader" ∷ codes "seq" ∷ codes "utc" ∷ codes "day" ∷ codes "second" ∷ codes "place" ∷ codes "kind" ∷ []
+
+abbrev of_account : Option Expr
+of_account = Some (is_first_given (codes "account"))
+
+abbrev taps_written : Written
+taps_written = select_of (map bare taps_names) (source (codes "taps") None ∷ []) of_account (by_column (codes "rowid") ∷ [])
+
+taps_parsed : first select_taps ≡ Ok (parsed_as taps_written parameter 93)
+unfolding first everything
+taps_parsed = refl
+
+module _ (schema : Schema) (place : Place) (has : HasTable schema place taps) where
+  taps_accepted : accepts_program schema [] (taps_query place.table.tree) [] ≡ true
+  taps_accepted = simp (classes_are schema place taps has)
+
+  taps_read : read schema taps_written ≡ Ok (Select (record { lets = []; body = taps_query place.table.tree }) taps_names)
+  unfolding ungrouped same_name is_rowid chosen alone first_found
+  taps_read = reads_one schema place taps has taps_names _ refl refl of_account (by_column (codes "rowid") ∷ []) (is_given 1 ∷ []) by_rowid 99990 99989 _ _
+      (given_tests schema place taps has _ false (codes "account") 0 _ refl refl refl refl refl 99993 _ refl refl refl)
+      (rowid_sorts schema place taps has _ false (codes "rowid") refl refl refl 99990 _ refl) taps_accepted
+
+  pub select_taps_is : IsQuery schema select_taps (taps_query place.table.tree) taps_names
+  select_taps_is = is_query schema select_taps taps_written parameter 93 (taps_query place.table.tree) taps_names taps_parsed taps_read
+
+abbrev pub fixes_names : List Name
+fixes_names = codes "staff" ∷ codes "seq" ∷ codes "what" ∷ codes "a" ∷ codes "b" ∷ codes "c" ∷ codes "d" ∷ codes "e" ∷ []
+
+abbrev fixes_written : Written
+fixes_written = select_of (map bare fixes_names) (source (codes "fixes") None ∷ []) of_account (by_column (codes "rowid") ∷ [])
+
+fixes_parsed : first select_fixes ≡ Ok (parsed_as fixes_written parameter 83)
+unfolding first everything
+fixes_parsed = refl
+
+module _ (schema : Schema) (place : Place) (has : HasTable schema place fixes) where
+  fixes_accepted : accepts_program schema [] (fixes_query place.table.tree) [] ≡ true
+  fixes_accepted = simp (classes_are schema place fixes has)
+
+  fixes_read : read schema fixes_written ≡ Ok (Select (record { lets = []; body = fixes_query place.table.tree }) fixes_names)
+  unfolding ungrouped same_name is_rowid chosen alone first_found
+  fixes_read = reads_one schema place fixes has fixes_names _ refl refl of_account (by_column (codes "rowid") ∷ []) (is_given 1 ∷ []) by_rowid 99989 99988 _ _
+      (given_tests schema place fixes has _ false (codes "account") 0 _ refl refl refl refl refl 99992 _ refl refl refl)
+      (rowid_sorts schema place fixes has _ false (codes "rowid") refl refl refl 99989 _ refl) fixes_accepted
+
+  pub select_fixes_is : IsQuery schema select_fixes (fixes_query place.table.tree) fixes_names
+  select_fixes_is = is_query schema select_fixes fixes_written parameter 83 (fixes_query place.table.tree) fixes_names fixes_parsed fixes_read
+
+abbrev pub postings_names : List Name
+postings_names = codes "id" ∷ codes "week" ∷ codes "through" ∷ codes "version" ∷ codes "due" ∷ codes "amount" ∷ []
+
+abbrev postings_written : Written
+postings_written = select_of (map bare postings_names) (source (codes "postings") None ∷ []) of_account (by_column (codes "id") ∷ [])
+
+postings_parsed : first select_postings ≡ Ok (parsed_as postings_written parameter 91)
+unfolding first everything
+postings_parsed = refl
+
+module _ (schema : Schema) (place : Place) (has : HasTable schema place postings) where
+  postings_accepted : accepts_program schema [] (postings_query place.table.tree) [] ≡ true
+  postings_accepted = simp (classes_are schema place postings has)
+
+  postings_read : read schema postings_written ≡ Ok (Select (record { lets = []; body = postings_query place.table.tree }) postings_names)
+  unfolding ungrouped same_name chosen alone first_found
+  postings_read = reads_one schema place postings has postings_names _ refl refl of_account (by_column (codes "id") ∷ []) (is_given 2 ∷ []) by_rowid 99991 99990 _ _
+      (given_tests schema place postings has _ false (codes "account") 1 _ refl refl refl refl refl 99994 _ refl refl refl)
+      (column_sorts schema place postings has _ false (codes "id") 0 _ refl refl refl 99991 _ refl) postings_accepted
+
+  pub select_postings_is : IsQuery schema select_postings (postings_query place.table.tree) postings_names
+  select_postings_is = is_query schema select_postings postings_written parameter 91 (postings_query place.table.tree) postings_names postings_parsed postings_read
