@@ -68,7 +68,8 @@ impl<S: Alter> Ledger<S> {
     pub fn post(&mut self, quotes: &[Quote], sets: &[Sets]) -> Result<Vec<Posting>, LedgerFault>
         ensures posts { Answers S.Store self.old self.new result (λ old new given. Posts old new quotes.now sets.now given.items) }
         ensures refused { RefusesAsDefined S.Store self.old self.new result (λ ledger. posted ledger quotes.now sets.now) }
-        // Over whatever rows: 45 comes before 42, 46 and 47, and nothing is posted beside bad rows of an account.
+        // Over whatever rows: 45 comes before 42, 46 and 47, and nothing is posted beside bad rows of an account that is quoted or in
+        // the sets.
         ensures read { AnswersOfReadable S.Store self.old self.new result (asked quotes.now sets.now) }
         ensures bad_first { RefusesBadRowsFirst S.Store self.old self.new result (asked quotes.now sets.now) }
         ensures of_open { RefusesOpenAlone S.Store self.old self.new result }

@@ -1,4 +1,4 @@
-//! The tests of the ledger and of the crates that stand on it, from its tables to lines over it, each by public calls alone.
+//! The tests of the ledger and of closes into it, from its tables to lines over it, each by public calls alone.
 //! What they are for, and where all other tests stand, `pay_tests` says.
 #![tactic(auto)]
 

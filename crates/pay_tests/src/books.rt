@@ -311,12 +311,12 @@ fn six_in_whatever_order(rt: HostRuntime) {
 
 /// Draws numbers, the same ones from the same seed.
 #[derive(Drop)]
-pub(crate) struct Dice {
+struct Dice {
     state: u64,
 }
 
 impl Dice {
-    pub(crate) fn new(seed: u64) -> Dice {
+    fn new(seed: u64) -> Dice {
         let mut dice = Dice {
             state: seed.wrapping_mul(0x9e37_79b9_7f4a_7c15) | 1,
         };
@@ -326,7 +326,7 @@ impl Dice {
     }
 
     /// A number below this one.
-    pub(crate) fn below(&mut self, limit: u64) -> u64
+    fn below(&mut self, limit: u64) -> u64
         requires { 0 < limit }
         ensures { result < limit }
     {
@@ -337,7 +337,7 @@ impl Dice {
     }
 
     /// The same.
-    pub(crate) fn few(&mut self, limit: u32) -> u32
+    fn few(&mut self, limit: u32) -> u32
         requires { 0 < limit }
         ensures { result < limit }
     {
@@ -346,7 +346,7 @@ impl Dice {
 }
 
 /// Where touches are made, and boardings, those that make runs more often.
-pub(crate) static PLACES: [(u16, Kind); 16] = [
+static PLACES: [(u16, Kind); 16] = [
     (50, Kind::Bus),
     (50, Kind::Bus),
     (50, Kind::Bus),
@@ -467,7 +467,7 @@ fn change<R: Abort>(rt: &R, history: u32, dice: &mut Dice) -> What {
 }
 
 /// An item of a history, whose account has its number: the same at the same place, of which those below 10 are taps.
-pub(crate) fn item<R: Abort>(rt: &R, history: u32, place: u32) -> Asked {
+fn item<R: Abort>(rt: &R, history: u32, place: u32) -> Asked {
     let mut dice = Dice::new(u64::from(history) * 64 + u64::from(place));
     if place < 10 {
         let (stamp, at, kind) = made(rt, history, place, &mut dice);
@@ -537,7 +537,7 @@ fn expect_shown<R: Abort>(
 }
 
 /// The place of the next item: this one of 16, and now and then another, which may have come before.
-pub(crate) fn next(place: u32, dice: &mut Dice) -> u32
+fn next(place: u32, dice: &mut Dice) -> u32
     ensures { result < 16 }
 {
     if dice.below(6) == 0 {

@@ -1,4 +1,4 @@
-//! How many stored taps an account that is kept reads for a command, where it is full or nearly so: at most 64, and four for each
+//! How many stored taps an account that is kept reads for a command, where it has many: at most 64, and four for each
 //! tap that the command disturbs, by hand. By the sample fare file.
 
 ghost use Rattle.pay_book.specs.Stored.{IsKept};
