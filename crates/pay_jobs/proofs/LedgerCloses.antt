@@ -137,7 +137,8 @@ module _ (gathers : OneShardGathersAll) (m : Machine) (day : ℕ) (old new : Sta
   ledger_closes (Ok given) closes clean has =
       let l = the_ledger old m.ledger has in
       let done = closes.closed clean in
-      posted_as m day new l.ledger l.there (gathered put) given (gathers_all gathers m.tables m.accounts day put done.0 answers) (done.1.ledger l.ledger (l.is done.1.was_open))
+      let became = done.1.ledger l.ledger (l.is done.1.was_open) in
+      posted_as m day new l.ledger l.there (gathered put) given (gathers_all gathers m.tables m.accounts day put done.0 answers) (became.0, became.1, became.2)
   ledger_closes (Err fault) closes clean has =
       let l = the_ledger old m.ledger has in
       shut_or_not fault l (λ live. as_before l (closes.kept clean live)) (closes.refused clean) (closes.of_open clean)

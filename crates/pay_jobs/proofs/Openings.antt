@@ -3,15 +3,15 @@ use Rattle.std.proofs.Common.{◌≡◌, ◌⊎◌, inl, inr, ap}
 use Rattle.std.specs.Prelude.{IsTrue}
 use Rattle.sqlite.specs.State.{State}
 use Rattle.sqlite.specs.Steps.{IsEmpty}
-use Rattle.pay_records.specs.Words.{no_schema, IsBlank}
+use Rattle.pay_records.specs.Words.{IsFree, empty_is_free}
 use Rattle.pay_ledger.specs.Words.{open_fault_number, open_fault_name, opens_by_store}
 use Rattle.pay_ledger.specs.declared.fault.OpenFault.{OpenFault}
 use Rattle.pay_ledger.specs.declared.fault.OpenFault.TheVariants.{NotALedger, Version, Store, Memory}
 use Rattle.pay_jobs.specs.Faults.{IsRefusal, IsWantOfLedger}
 use Rattle.pay_jobs.specs.declared.fault.Fault.{Fault}
 
-pub is_blank : (s : State) → IsEmpty s → IsBlank no_schema s.now
-is_blank s empty = record { schema_is = empty.2; empty = tt }
+pub is_free : (s : State) → IsEmpty s → IsFree s.now
+is_free s empty = empty_is_free s.now empty.2
 
 -- where no database is opened, it is for its store or for memory
 pub by_store : (why : OpenFault) → (why ≡ Store) ⊎ (why ≡ Memory) → IsTrue (opens_by_store why)

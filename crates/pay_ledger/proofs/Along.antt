@@ -1,9 +1,13 @@
 -- Parts of a transaction, one after another.
-use Rattle.std.proofs.Common.{◌≡◌, inl, ◌<◌, ◌+◌, ℕ, List, [], ◌∷◌, ◌++◌, length, take, get_or, Ok, Err, Result, OnOk, OnErr, refl, sym, ap, ◌∙◌, arith}
+use Rattle.std.specs.List.{AllByRecursion}
+use Rattle.std.proofs.Common.{◌≡◌, inl, ◌<◌, ◌+◌, ℕ, List, [], ◌∷◌, ◌++◌, length, take, get_or, Ok, Err, Result, OnOk, OnErr, refl, sym, ap, subst, ◌∙◌, arith}
 use Rattle.std.proofs.lemmas.List.{append_assoc, take_more}
+use Rattle.sqlite_keyed.proofs.ListLemmas.{all_both, all_of}
+use Rattle.sqlite.specs.Effect.{Database}
 use Rattle.sqlite.specs.State.{State, HasCleanDisk, KeepsCommit, Survives}
 use Rattle.sqlite.proofs.StateLemmas.{survives_then}
 use Rattle.sqlite.proofs.InsideLemmas.{keeps_then}
+use Rattle.pay_records.specs.Words.{KeepsOthers, HasLedgerTables, IsOthers}
 use Rattle.pay_ledger.specs.Steps.{Stays, GoesOn}
 
 pub survives_same : (s : State) → Survives s s (λ _. ⊥)
@@ -56,3 +60,20 @@ err_then P Q (Err e) f h = f h
 pub clean_before : {A E : Type 0} (a b : State) (r : Result A E) → OnOk r (GoesOn a b) → OnErr r (Stays a b) → HasCleanDisk b → HasCleanDisk a
 clean_before a b (Ok x) ok err clean = was_clean a b ok.stays.survives clean
 clean_before a b (Err e) ok err clean = was_clean a b err.survives clean
+
+-- ---- what is another's
+
+pub others_same : (db : Database) → KeepsOthers db db
+others_same db = record { beside = λ p has. record { schema_is = refl; rows = all_of (λ t. IsOthers db.schema p t → db.trees t.tree ≡ db.trees t.tree) (λ t others. refl) db.schema.tables } }
+
+pub others_then : (a b c : Database) → KeepsOthers a b → KeepsOthers b c → KeepsOthers a c
+others_then a b c one two = record {
+  beside = λ p has.
+      let first = one.beside p has in
+      let second = two.beside p (subst (λ s. HasLedgerTables s p) (sym first.schema_is) has) in
+      record {
+        schema_is = second.schema_is ∙ first.schema_is;
+        rows = all_both (λ t. IsOthers a.schema p t → b.trees t.tree ≡ a.trees t.tree) (λ t. IsOthers a.schema p t → c.trees t.tree ≡ b.trees t.tree) (λ t. IsOthers a.schema p t → c.trees t.tree ≡ a.trees t.tree)
+            (λ t early late others. late others ∙ early others) a.schema.tables first.rows (subst (λ s. AllByRecursion (λ t. IsOthers s p t → c.trees t.tree ≡ b.trees t.tree) s.tables) first.schema_is second.rows);
+      };
+}

@@ -10,6 +10,7 @@ use Rattle.pay_quotes.specs.Words.{QuoteParts, IsQuote, SetsParts}
 use Rattle.pay_postings.specs.Words.{LedgerParts, posted, AreKept, AccountsParts, Agrees, Covers, IsThere}
 use Rattle.pay_postings.specs.declared.fault.PostFault.{PostFault}
 use Rattle.pay_postings.specs.declared.fault.PostFault.TheVariants.{BadArchive, StaleQuote, QuoteDiffers, ArchiveConflict, Memory}
+use Rattle.pay_records.specs.Words.{KeepsOthers}
 use Rattle.pay_ledger.specs.declared.fault.LedgerFault.{LedgerFault}
 use Rattle.pay_ledger.specs.declared.fault.LedgerFault.TheVariants.{Refused}
 use Rattle.pay_records.specs.Words.{LedgerRows, HoldsRows}
@@ -40,10 +41,10 @@ read_of a b c none one two quotes sets is first second on covers clean rows k =
 pub judged : (a b c : State) (none one two : AccountsParts) (quotes : List QuoteParts) (sets : List SetsParts) (Answer : LedgerParts → Type 0) → none ≡ finite.empty → ReadsInto a b none one → ReadsInto b c one two → GoesOn b c
     → AllByRecursion (λ (q : QuoteParts). IsThere one q.account) quotes → AllByRecursion (λ (s : SetsParts). IsThere two s.account) sets
     → ((ledger : LedgerParts) → Agrees two ledger → Covers two quotes sets → Answer ledger)
-    → HasCleanDisk c → (ledger : LedgerParts) → IsLedger a.now ledger → Answer ledger × IsLedger c.now ledger
+    → HasCleanDisk c → (ledger : LedgerParts) → IsLedger a.now ledger → Answer ledger × IsLedger c.now ledger × (c.now ≡ a.now)
 judged a b c none one two quotes sets Answer is first second on quoted archived answers clean ledger k =
     let read = (reads_then a b c none one two first second on).agrees clean ledger k in
-    (answers ledger (read.0 (subst (λ m. Agrees m ledger) (sym is) (none_agree ledger))) (covers_all b c one two quotes sets second quoted archived), read.1)
+    (answers ledger (read.0 (subst (λ m. Agrees m ledger) (sym is) (none_agree ledger))) (covers_all b c one two quotes sets second quoted archived), read.1, read.2)
 
 pub refused_so : {A : Type 0} (answer : Result A PostFault) (fault : PostFault) → (fault ≢ Memory → answer ≡ Err fault) → IsRefused (Refused fault) answer
 refused_so answer BadArchive h = inr (BadArchive, refl, h (λ e. cc))
@@ -56,10 +57,10 @@ refused_so answer Memory h = inl refl
 pub posted_ledger : ((ledger after : LedgerParts) (quotes : List QuoteParts) (sets : List SetsParts) (given : List Posting) → AreKept ledger.postings → AllByRecursion IsQuote quotes → posted ledger quotes sets ≡ Ok (given, after) → AreKept after.postings)
     → (a b c : State) (quotes : List QuoteParts) (sets : List SetsParts) (given : List Posting) (change : LedgerParts → LedgerParts) → AllByRecursion IsQuote quotes
     → Tells a b (λ ledger. posted ledger quotes sets ≡ Ok (given, change ledger)) → Grows b c change
-    → (ledger : LedgerParts) → IsLedger a.now ledger → (after : LedgerParts) × (posted ledger quotes sets ≡ Ok (given, after)) × IsLedger c.now after
+    → (ledger : LedgerParts) → IsLedger a.now ledger → (after : LedgerParts) × (posted ledger quotes sets ≡ Ok (given, after)) × IsLedger c.now after × KeepsOthers a.now c.now
 posted_ledger kept a b c quotes sets given change are told grows ledger k =
     let it = told ledger k in
-    (change ledger, it.0, record { keeps = grows ledger it.1.keeps; kept = kept ledger (change ledger) quotes sets given k.kept are it.0 })
+    (change ledger, it.0, record { keeps = grows.0 ledger it.1.keeps; kept = kept ledger (change ledger) quotes sets given k.kept are it.0 }, subst (λ db. KeepsOthers db c.now) it.2 grows.1)
 
 -- what is answered by a refusal is said of it
 pub by_answer : {A : Type 0} (r : Result A LedgerFault) (Says : LedgerFault → Type 0) (why : PostFault) → IsErrAnd r (λ f. f ≡ Refused why) → Says (Refused why) → IfErr r Says

@@ -57,20 +57,20 @@ module _ (before after : AccountsParts) (account : ℕ) (p : ArchivedParts) (is 
 
   pub read_one : (old new : State) → (HasCleanDisk new → Tells old new (λ ledger. p ≡ archived_of account ledger)) → (HasCleanDisk new → TellsRows old new (λ rows. IsReadable rows account)) → ReadsInto old new before after
   read_one old new told said = record {
-    agrees = λ clean ledger k. let it = told clean ledger k in (agrees_more ledger it.0, it.1);
+    agrees = λ clean ledger k. let it = told clean ledger k in (agrees_more ledger it.0, it.1, it.2);
     rows = λ clean rows k. let it = said clean rows k in (read_more rows it.0, it.1);
     stay = still_there;
   }
 
 pub reads_none : (s : State) (accounts : AccountsParts) → ReadsInto s s accounts accounts
-reads_none s accounts = record { agrees = λ clean ledger k. ((λ agrees. agrees), k); rows = λ clean rows k. ((λ read. read), k); stay = λ account h. h }
+reads_none s accounts = record { agrees = λ clean ledger k. ((λ agrees. agrees), k, refl); rows = λ clean rows k. ((λ read. read), k); stay = λ account h. h }
 
 pub reads_then : (a b c : State) (one two three : AccountsParts) → ReadsInto a b one two → ReadsInto b c two three → GoesOn b c → ReadsInto a c one three
 reads_then a b c one two three first second on = record {
   agrees = λ clean ledger k.
       let begun = first.agrees (was_clean b c on.stays.survives clean) ledger k in
       let gone = second.agrees clean ledger begun.1 in
-      ((λ agrees. gone.0 (begun.0 agrees)), gone.1);
+      ((λ agrees. gone.0 (begun.0 agrees)), gone.1, gone.2 ∙ begun.2);
   rows = λ clean rows k.
       let begun = first.rows (was_clean b c on.stays.survives clean) rows k in
       let gone = second.rows clean rows begun.1 in

@@ -17,6 +17,7 @@ use Rattle.pay_rows.specs.declared.row.FixRow.{FixRow}
 use Rattle.pay_postings.specs.PostingRows.{posting_row, share_rows, share_rows_from, postings_from_rows}
 use Rattle.pay_postings.specs.SetRows.{tap_row, fix_row}
 use Rattle.pay_postings.specs.AccountRows.{is_of_account, of_account, numbered_of, rows_of, shares_of, RiseBehind}
+use Rattle.sqlite.specs.Effect.{Database}
 use Rattle.pay_records.specs.Words.{LedgerRows, HoldsRows, RiseFrom, posting_row as stored}
 use Rattle.pay_records.specs.Found as found
 use Rattle.sqlite.specs.State.{State, IsUnchanged}
@@ -143,12 +144,17 @@ still_ledger old new ledger same is = subst (λ d. IsLedger d ledger) (sym same.
 pub taps_told : (old new : State) (account : ℕ) (number : ℤ) (list : List TapRow) → number ≡ pos account → found.Finds old new (λ rows. list ≡ found.taps_of number rows) → Tells old new (λ ledger. list ≡ map tap_row (taps_of account ledger.taps))
 taps_told old new account number list is told ledger k =
     let it = told k.keeps.rows k.keeps.held in
-    (it.0 ∙ ap (λ n. found.taps_of n k.keeps.rows) is ∙ taps_read account ledger k.keeps.rows k.keeps.are, still_ledger old new ledger it.1 k)
+    (it.0 ∙ ap (λ n. found.taps_of n k.keeps.rows) is ∙ taps_read account ledger k.keeps.rows k.keeps.are, still_ledger old new ledger it.1 k, it.1.0.now_is)
 
 pub fixes_told : (old new : State) (account : ℕ) (number : ℤ) (list : List FixRow) → number ≡ pos account → found.Finds old new (λ rows. list ≡ found.fixes_of number rows) → Tells old new (λ ledger. list ≡ map fix_row (fixes_of account ledger.fixes))
 fixes_told old new account number list is told ledger k =
     let it = told k.keeps.rows k.keeps.held in
-    (it.0 ∙ ap (λ n. found.fixes_of n k.keeps.rows) is ∙ fixes_read account ledger k.keeps.rows k.keeps.are, still_ledger old new ledger it.1 k)
+    (it.0 ∙ ap (λ n. found.fixes_of n k.keeps.rows) is ∙ fixes_read account ledger k.keeps.rows k.keeps.are, still_ledger old new ledger it.1 k, it.1.0.now_is)
+
+-- the numbers of what was posted rise
+rows_rise : (db : Database) (rows : LedgerRows) → HoldsRows db rows → RiseFrom (pos 0) (map stored rows.postings)
+unfolding HoldsRows
+rows_rise db rows held = subst (RiseFrom (pos 0)) held.2.postings held.2.postings_rise
 
 -- the two reads of what was posted: rows in order, and those of their shares in any order
 pub posted_told : ((account : ℕ) (before : ℤ) (ids : List ℤ) (list : List Posting) (shares : List ShareRow) → AreKept list → length ids ≡ length list → RiseBehind before ids
@@ -162,11 +168,12 @@ posted_told back old between new account number other list shares is same told b
     let one = told rows k.keeps.held in
     let held : HoldsRows between.now rows = subst (λ d. HoldsRows d rows) (sym one.1.0.now_is) k.keeps.held in
     let two = beside rows held in
-    let up = ids_rise (pos 0) are.ids ledger.postings are.as_long (subst (λ l. RiseFrom (pos 0) (map stored l)) are.postings (subst (RiseFrom (pos 0)) k.keeps.held.postings k.keeps.held.postings_rise)) in
+    let up = ids_rise (pos 0) are.ids ledger.postings are.as_long (subst (λ l. RiseFrom (pos 0) (map stored l)) are.postings (rows_rise old.now rows k.keeps.held)) in
     let rows_are : list ≡ rows_of account are.ids ledger.postings = one.0 ∙ ap (λ n. found.postings_of n rows) is ∙ postings_read account ledger rows are in
     let shares_are : IsPermutation (shares_of account are.ids ledger.postings) shares = subst (λ l. IsPermutation l shares) (ap (λ n. found.shares_of n rows) same ∙ shares_read account ledger rows are up) two.0 in (
       ap (λ l. postings_from_rows account l shares) rows_are ∙ back account (pos 0) are.ids ledger.postings shares k.kept are.as_long up shares_are,
       still_ledger between new ledger two.1 (still_ledger old between ledger one.1 k),
+      two.1.0.now_is ∙ one.1.0.now_is,
     )
 
 pub same_some : {X : Type 0} {x y : X} → Some x ≡ Some y → x ≡ y

@@ -4,7 +4,7 @@ use Rattle.sqlite.specs.Tree.{Trees}
 use Rattle.sqlite.specs.Effect.{Database}
 use Rattle.sqlite.specs.State.{State}
 use Rattle.pay_postings.specs.Words.{LedgerParts}
-use Rattle.pay_records.specs.Words.{no_schema, IsBlank, IsOfKind}
+use Rattle.pay_records.specs.Words.{IsFree, IsOfKind}
 use Rattle.pay_records.specs.declared.kind.Kind.TheVariants as kind
 use Rattle.pay_ledger.specs.declared.fault.OpenFault.{OpenFault}
 use Rattle.pay_ledger.specs.declared.fault.OpenFault.TheVariants.{NotALedger, Version, Store, Memory}
@@ -25,13 +25,13 @@ IsWhy Memory db = ⊤
 abbrev pub IsLedgerOrBlank : Database → Type 0
 IsLedgerOrBlank db = IsOfKind db kind.Ledger ⊎ IsOfKind db kind.Blank
 
--- a ledger stays as it is
+-- a database that is a ledger stays as it is, with all that is beside the ledger
 abbrev pub KeepsLedger : Database → Database → Type 0
-KeepsLedger old new = (ledger : LedgerParts) → IsLedger old ledger → IsLedger new ledger
+KeepsLedger old new = (ledger : LedgerParts) → IsLedger old ledger → new ≡ old
 
--- a database without tables becomes a ledger of nothing
+-- a database in which the names of the tables are not used becomes a ledger of nothing
 abbrev pub BlankBecomesLedger : Database → Database → Type 0
-BlankBecomesLedger old new = IsBlank no_schema old → IsLedger new nothing
+BlankBecomesLedger old new = IsFree old → IsLedger new nothing
 
 -- it is a ledger, or it is made one
 pub record IsOpened (old new : State) : Type 0 where

@@ -7,7 +7,7 @@ use Rattle.pay_quotes.specs.declared.posting.Posting.{Posting}
 use Rattle.pay_quotes.specs.Words.{QuoteParts, SetsParts}
 use Rattle.pay_postings.specs.declared.fault.PostFault.{PostFault}
 use Rattle.pay_postings.specs.Words.{LedgerParts, posted, AccountsParts, Agrees, IsThere}
-use Rattle.pay_records.specs.Words.{LedgerRows, HoldsRows}
+use Rattle.pay_records.specs.Words.{LedgerRows, HoldsRows, KeepsOthers}
 use Rattle.pay_ledger.specs.declared.fault.LedgerFault.{LedgerFault}
 use Rattle.pay_ledger.specs.declared.fault.LedgerFault.TheVariants.{Refused}
 use Rattle.pay_ledger.specs.Faults.{is_of_store}
@@ -24,17 +24,17 @@ pub record GoesOn (old new : State) : Type 0 where
   pub stays : Stays old new
   pub inside : HasCleanDisk new → IsTrue old.in_transaction → IsTrue new.in_transaction
 
--- the rows of a ledger become others
+-- the rows of a ledger become others, and nothing beside them does
 abbrev pub RowsGrow : State → State → (LedgerRows → LedgerRows) → Type 0
-RowsGrow old new change = (rows : LedgerRows) → HoldsRows old.now rows → HoldsRows new.now (change rows)
+RowsGrow old new change = ((rows : LedgerRows) → HoldsRows old.now rows → HoldsRows new.now (change rows)) × KeepsOthers old.now new.now
 
--- a ledger becomes another
+-- a ledger becomes another, and so
 abbrev pub Grows : State → State → (LedgerParts → LedgerParts) → Type 0
-Grows old new change = (ledger : LedgerParts) → Keeps old.now ledger → Keeps new.now (change ledger)
+Grows old new change = ((ledger : LedgerParts) → Keeps old.now ledger → Keeps new.now (change ledger)) × KeepsOthers old.now new.now
 
--- it is told of a ledger, which stays
+-- it is told of a ledger, which stays, and so does all beside it
 abbrev pub Tells : State → State → (LedgerParts → Type 0) → Type 0
-Tells old new Told = (ledger : LedgerParts) → IsLedger old.now ledger → Told ledger × IsLedger new.now ledger
+Tells old new Told = (ledger : LedgerParts) → IsLedger old.now ledger → Told ledger × IsLedger new.now ledger × (new.now ≡ old.now)
 
 -- the rows of a ledger stay
 abbrev pub KeepsRows : State → State → Type 0
@@ -54,9 +54,9 @@ pub record ReadsInto (old new : State) (before after : AccountsParts) : Type 0 w
 abbrev pub IsRefused : {A : Type 0} → LedgerFault → Result A PostFault → Type 0
 IsRefused fault answer = IsTrue (is_of_store fault) ⊎ ((why : PostFault) × (fault ≡ Refused why) × (answer ≡ Err why))
 
--- of a ledger the database has become the one that posting quotes and archiving sets comes to
+-- of a ledger the database has become the one that posting quotes and archiving sets comes to, and nothing beside it has changed
 abbrev pub BecomesPosted : Database → Database → List QuoteParts × List SetsParts → List Posting → Type 0
-BecomesPosted old new asked given = (ledger : LedgerParts) → IsLedger old ledger → (after : LedgerParts) × (posted ledger asked.0 asked.1 ≡ Ok (given, after)) × IsLedger new after
+BecomesPosted old new asked given = (ledger : LedgerParts) → IsLedger old ledger → (after : LedgerParts) × (posted ledger asked.0 asked.1 ≡ Ok (given, after)) × IsLedger new after × KeepsOthers old new
 
 -- quotes were posted and sets archived, and it is committed
 pub record Posts (old new : State) (quotes : List QuoteParts) (sets : List SetsParts) (given : List Posting) : Type 0 where
@@ -71,7 +71,7 @@ pub record IsAsBefore (old new : State) : Type 0 where
   pub now : new.now ≡ old.now
   pub committed : new.committed ≡ old.committed
 
--- what a crash may leave of it, beside what it left before: all that the definition says
+-- what a crash may leave of it, beside what it left before: all that the definition says, and nothing else
 abbrev pub MayLeave : State → List QuoteParts → List SetsParts → Trees → Type 0
 MayLeave old quotes sets trees =
-    (db : Database) × (trees ≡ db.trees) × ((ledger : LedgerParts) → IsLedger old.now ledger → (answer : List Posting × LedgerParts) × (posted ledger quotes sets ≡ Ok answer) × IsLedger db answer.1)
+    (db : Database) × (trees ≡ db.trees) × ((ledger : LedgerParts) → IsLedger old.now ledger → (answer : List Posting × LedgerParts) × (posted ledger quotes sets ≡ Ok answer) × IsLedger db answer.1 × KeepsOthers old.now db)

@@ -16,7 +16,7 @@ use Rattle.pay_postings.specs.declared.fault.PostFault.TheVariants.{BadArchive, 
 use Rattle.std.specs.Ordering.{int_eq}
 use Rattle.pay_postings.specs.PostingRows.{is_share_of, amount_or_none}
 use Rattle.pay_postings.specs.Words.{LedgerParts}
-use Rattle.pay_records.specs.Words.{LedgerRows, no_rows, ledger_schema}
+use Rattle.pay_records.specs.Words.{LedgerRows, HoldsRows, no_rows, ledger_schema, ledger_places, ledger_has, other_schema, other_places, other_has}
 use Rattle.pay_records.specs.declared.fault.ReadFault.TheVariants as read
 use Rattle.pay_ledger.specs.declared.fault.LedgerFault.TheVariants.{Refused}
 use Rattle.pay_ledger.specs.Faults.{ledger_fault_of_read, is_of_store, open_fault_number, open_fault_of_read}
@@ -70,31 +70,75 @@ nothing_has_no_rows = record { ids = []; as_long = refl; postings = refl; shares
 abbrev stored : ℤ → List ℤ → Row
 stored rowid numbers = Int rowid ∷ map Int numbers
 
+abbrev meta_rows : List Row
+meta_rows = (Int (pos 1) ∷ Text (codes "farebox") ∷ Int (pos 1) ∷ []) ∷ []
+
+abbrev posting_rows : List Row
+posting_rows = (Int (pos 3) ∷ Null ∷ map Int (pos 7 ∷ pos 19_730 ∷ pos 19_731 ∷ pos 2 ∷ pos 860 ∷ pos 860 ∷ [])) ∷ []
+
+abbrev share_rows : List Row
+share_rows = stored (pos 1) (pos 3 ∷ pos 1 ∷ pos 500 ∷ []) ∷ stored (pos 2) (pos 3 ∷ pos 3 ∷ pos 360 ∷ []) ∷ []
+
+abbrev tap_rows : List Row
+tap_rows = stored (pos 1) (pos 7 ∷ pos 12 ∷ pos 4 ∷ pos 1_704_700_000 ∷ pos 19_730 ∷ pos 28_000 ∷ pos 31 ∷ pos 2 ∷ []) ∷ []
+
+abbrev fix_rows : List Row
+fix_rows = stored (pos 1) (pos 7 ∷ pos 2 ∷ pos 0 ∷ pos 2 ∷ pos 19_731 ∷ pos 50 ∷ pos 0 ∷ pos 0 ∷ pos 0 ∷ []) ∷ []
+
 -- the trees are those of meta, postings, shares, taps and fixes
 abbrev rows_in : ℕ → List Row
-rows_in tree =
-    if tree == 0 then (Int (pos 1) ∷ Text (codes "farebox") ∷ Int (pos 1) ∷ []) ∷ []
-    else if tree == 2 then (Int (pos 3) ∷ Null ∷ map Int (pos 7 ∷ pos 19_730 ∷ pos 19_731 ∷ pos 2 ∷ pos 860 ∷ pos 860 ∷ [])) ∷ []
-    else if tree == 5 then stored (pos 1) (pos 3 ∷ pos 1 ∷ pos 500 ∷ []) ∷ stored (pos 2) (pos 3 ∷ pos 3 ∷ pos 360 ∷ []) ∷ []
-    else if tree == 7 then stored (pos 1) (pos 7 ∷ pos 12 ∷ pos 4 ∷ pos 1_704_700_000 ∷ pos 19_730 ∷ pos 28_000 ∷ pos 31 ∷ pos 2 ∷ []) ∷ []
-    else if tree == 9 then stored (pos 1) (pos 7 ∷ pos 2 ∷ pos 0 ∷ pos 2 ∷ pos 19_731 ∷ pos 50 ∷ pos 0 ∷ pos 0 ∷ pos 0 ∷ []) ∷ []
-    else []
+rows_in tree = if tree == 0 then meta_rows else if tree == 2 then posting_rows else if tree == 5 then share_rows else if tree == 7 then tap_rows else if tree == 9 then fix_rows else []
 
 abbrev database : Database
 database = record { schema = ledger_schema; trees = rows_in }
 
 it_is_kept : Keeps database ledger
+unfolding HoldsRows
 it_is_kept = record {
   rows = rows;
-  held = record {
-    schema_is = refl;
-    meta = refl;
-    postings = refl;
-    postings_rise = (pos 3, refl, omega (arith, ints), tt);
-    shares = record { rising = (pos 1, refl, omega (arith, ints), (pos 2, refl, omega (arith, ints), tt)); are = refl };
-    taps = record { rising = (pos 1, refl, omega (arith, ints), tt); are = refl };
-    fixes = record { rising = (pos 1, refl, omega (arith, ints), tt); are = refl };
-  };
+  held = (
+    ledger_places,
+    ledger_has,
+    record {
+      meta = refl;
+      postings = refl;
+      postings_rise = (pos 3, refl, omega (arith, ints), tt);
+      shares = record { rising = (pos 1, refl, omega (arith, ints), (pos 2, refl, omega (arith, ints), tt)); are = refl };
+      taps = record { rising = (pos 1, refl, omega (arith, ints), tt); are = refl };
+      fixes = record { rising = (pos 1, refl, omega (arith, ints), tt); are = refl };
+    },
+  );
+  are = are_its_rows;
+}
+
+-- in another order, beside a note of the posting and the count of numbers: the trees are those of fixes, notes, taps, postings, the count, shares and meta
+abbrev rows_among_others : ℕ → List Row
+rows_among_others tree =
+    if tree == 0 then fix_rows
+    else if tree == 2 then stored (pos 1) (pos 3 ∷ []) ∷ []
+    else if tree == 3 then tap_rows
+    else if tree == 5 then posting_rows
+    else if tree == 7 then (Int (pos 1) ∷ Text (codes "postings") ∷ Int (pos 3) ∷ []) ∷ []
+    else if tree == 8 then share_rows
+    else if tree == 10 then meta_rows
+    else []
+
+it_is_kept_among_others : Keeps (record { schema = other_schema; trees = rows_among_others }) ledger
+unfolding HoldsRows
+it_is_kept_among_others = record {
+  rows = rows;
+  held = (
+    other_places,
+    other_has,
+    record {
+      meta = refl;
+      postings = refl;
+      postings_rise = (pos 3, refl, omega (arith, ints), tt);
+      shares = record { rising = (pos 1, refl, omega (arith, ints), (pos 2, refl, omega (arith, ints), tt)); are = refl };
+      taps = record { rising = (pos 1, refl, omega (arith, ints), tt); are = refl };
+      fixes = record { rising = (pos 1, refl, omega (arith, ints), tt); are = refl };
+    },
+  );
   are = are_its_rows;
 }
 

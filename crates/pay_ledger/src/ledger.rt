@@ -7,7 +7,7 @@ ghost use Rattle.pay_postings.specs.Words.{posted, postings_of, net};
 ghost use Rattle.pay_postings.specs.declared.fault.PostFault.TheVariants.{BadArchive};
 ghost use Rattle.pay_restore.specs.Words.{ArePriced, restored};
 ghost use Rattle.pay_ledger.specs.Faults.{opens_by_store};
-ghost use Rattle.pay_records.specs.Words.{OnCleanDisk, LeavesAsBeforeOr, LeavesAsBefore, Answers, no_schema, IsBlank};
+ghost use Rattle.pay_records.specs.Words.{OnCleanDisk, LeavesAsBeforeOr, LeavesAsBefore, Answers, IsFree};
 ghost use Rattle.pay_ledger.specs.Opening.{IsWhy, IsOpened, MayLeaveOpened};
 ghost use Rattle.pay_ledger.specs.Steps.{Posts, MayLeave};
 ghost use Rattle.pay_ledger.specs.BadRows.{ReadsAs, asked};
@@ -52,7 +52,7 @@ impl<S: Alter> Ledger<S> {
         requires { conn.in_transaction ≡ false }
         ensures opened { IfOk result (λ ledger. OnCleanDisk S.Store conn ledger IsOpened) }
         ensures refused { IfErr result (λ e. OnCleanDisk S.Store conn e.1 (λ old _. IsWhy e.0 old.now)) }
-        ensures of_blank { IfErr result (λ e. OnCleanDisk S.Store conn e.1 (λ old _. IsBlank no_schema old.now → IsTrue (opens_by_store e.0))) }
+        ensures of_blank { IfErr result (λ e. OnCleanDisk S.Store conn e.1 (λ old _. IsFree old.now → IsTrue (opens_by_store e.0))) }
         ensures kept { IfErr result (λ e. ChangesNothing S.Store conn e.1) }
         ensures autocommit { IfErr result (λ e. e.1.in_transaction ≡ false) }
         ensures survives { IfOk result (λ ledger. LeavesAsBeforeOr S.Store conn ledger MayLeaveOpened) }

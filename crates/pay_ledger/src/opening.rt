@@ -1,6 +1,6 @@
 ghost use Rattle.std.specs.Prelude.{◌≡◌, false, IsTrue};
 ghost use Rattle.pay_ledger.specs.Faults.{opens_by_store};
-ghost use Rattle.pay_records.specs.Words.{LeavesAsBeforeOr, Refuses, Does, no_schema, IsBlank};
+ghost use Rattle.pay_records.specs.Words.{LeavesAsBeforeOr, Refuses, Does, IsFree};
 ghost use Rattle.pay_ledger.specs.Opening.{IsWhy, IsOpened, MayLeaveOpened, KeepsLedger, BlankBecomesLedger, IsLedgerOrBlank};
 ghost use Rattle.pay_ledger.specs.Calls.{ChangesNothingIfRefused, GoesOnIfDone, StaysIfRefused};
 
@@ -15,7 +15,7 @@ fn ready<S: Alter>(tx: &mut Transaction<'_, S>) -> Result<(), OpenFault>
     ensures blank { Does S.Store tx.old.conn.now tx.new.conn.now result (λ old new. BlankBecomesLedger old.now new.now) }
     ensures of_kind { Does S.Store tx.old.conn.now tx.new.conn.now result (λ old _. IsLedgerOrBlank old.now) }
     ensures refused { Refuses S.Store tx.old.conn.now tx.new.conn.now result (λ old _ fault. IsWhy fault old.now) }
-    ensures of_blank { Refuses S.Store tx.old.conn.now tx.new.conn.now result (λ old _ fault. IsBlank no_schema old.now → IsTrue (opens_by_store fault)) }
+    ensures of_blank { Refuses S.Store tx.old.conn.now tx.new.conn.now result (λ old _ fault. IsFree old.now → IsTrue (opens_by_store fault)) }
     ensures ok { GoesOnIfDone S.Store tx.old.conn.now tx.new.conn.now result }
     ensures err { StaysIfRefused S.Store tx.old.conn.now tx.new.conn.now result }
 {
@@ -33,7 +33,7 @@ pub(crate) fn prepare<S: Alter>(conn: &mut Connection<S>) -> Result<(), OpenFaul
     ensures autocommit { conn.new.in_transaction ≡ false }
     ensures opened { Does S.Store conn.old conn.new result IsOpened }
     ensures refused { Refuses S.Store conn.old conn.new result (λ old _ fault. IsWhy fault old.now) }
-    ensures of_blank { Refuses S.Store conn.old conn.new result (λ old _ fault. IsBlank no_schema old.now → IsTrue (opens_by_store fault)) }
+    ensures of_blank { Refuses S.Store conn.old conn.new result (λ old _ fault. IsFree old.now → IsTrue (opens_by_store fault)) }
     ensures kept { ChangesNothingIfRefused S.Store conn.old conn.new result }
     ensures survives { LeavesAsBeforeOr S.Store conn.old conn.new MayLeaveOpened }
 {

@@ -34,10 +34,12 @@ use Rattle.pay_rows.specs.declared.row.PostingRow.{PostingRow}
 use Rattle.pay_rows.specs.declared.row.ShareRow.{ShareRow}
 use Rattle.pay_rows.specs.declared.row.TapRow.{TapRow}
 use Rattle.pay_rows.specs.declared.row.FixRow.{FixRow}
-use Rattle.pay_records.specs.Tables.{ledger_schema, postings_tree, shares_tree, taps_tree, fixes_tree}
 use Rattle.pay_records.specs.Rows.{LedgerRows, HoldsRows, RiseFrom, AreNumbers, share_numbers, tap_numbers, fix_numbers, posting_row}
 use Rattle.pay_records.specs.Found.{shares_of}
-use Rattle.pay_records.proofs.SelectTexts.{IsQuery, is_given, by_rowid, select_postings, select_shares, select_taps, select_fixes, select_all_taps, select_all_fixes, postings_query, shares_query, taps_query, fixes_query, all_taps_query, all_fixes_query, select_postings_is, select_shares_is, select_taps_is, select_fixes_is, select_all_taps_is, select_all_fixes_is}
+use Rattle.pay_records.proofs.SelectTexts.{IsQuery, is_given, by_rowid, select_postings, select_shares, select_taps, select_fixes, select_all_taps, select_all_fixes, postings_query, shares_query, taps_query, fixes_query, all_taps_query, all_fixes_query}
+use Rattle.pay_records.proofs.Queries.{select_postings_is, select_taps_is, select_fixes_is, select_all_taps_is, select_all_fixes_is}
+use Rattle.pay_records.proofs.Joining.{select_shares_is}
+use Rattle.pay_records.proofs.Placed.{opened}
 use Rattle.pay_records.proofs.Selects.{simple, simply, answers}
 
 -- each way to put a table's rows beside what stands already that passes a test
@@ -182,7 +184,9 @@ shares_shown_in schema first second names query account old new rows has h l pos
 
 pub shares_shown : (account : ℤ) (old new : State) (rows : List Row) → Shown select_shares (Int account ∷ []) old new rows → (l : LedgerRows) → HoldsRows old.now l
     → Shows share_numbers (shares_of account l) old new rows
-shares_shown account old new rows h l held = shares_shown_in ledger_schema postings_tree shares_tree _ select_shares_is account old new rows held.schema_is h l held.postings held.shares
+shares_shown account old new rows h l held =
+    let at = opened old.now l held in
+    shares_shown_in old.now.schema at.0.postings.table.tree at.0.shares.table.tree _ (select_shares_is old.now.schema at.0.postings at.0.shares at.1.has_postings at.1.has_shares) account old new rows refl h l at.2.postings at.2.shares
 
 -- ---- in the order in which rows were written
 
@@ -262,7 +266,9 @@ taps_shown_in schema tree names query account old new rows has h all are =
 
 pub taps_shown : (account : ℤ) (old new : State) (rows : List Row) → Shown select_taps (Int account ∷ []) old new rows → (l : LedgerRows) → HoldsRows old.now l
     → ShowsInOrder tap_shown (filter (λ (t : ℤ × TapRow). int_eq t.0 account) l.taps) old new rows
-taps_shown account old new rows h l held = taps_shown_in ledger_schema taps_tree _ select_taps_is account old new rows held.schema_is h l.taps held.taps
+taps_shown account old new rows h l held =
+    let at = opened old.now l held in
+    taps_shown_in old.now.schema at.0.taps.table.tree _ (select_taps_is old.now.schema at.0.taps at.1.has_taps) account old new rows refl h l.taps at.2.taps
 
 pub fixes_shown_in : (schema : Schema) (tree : ℕ) (names : List (List ℕ)) → IsQuery schema select_fixes (fixes_query tree) names → (account : ℤ) (old new : State) (rows : List Row) → old.now.schema ≡ schema
     → Shown select_fixes (Int account ∷ []) old new rows → (all : List (ℤ × FixRow)) → AreNumbers (old.now.trees tree) (map fix_numbers all)
@@ -277,7 +283,9 @@ fixes_shown_in schema tree names query account old new rows has h all are =
 
 pub fixes_shown : (account : ℤ) (old new : State) (rows : List Row) → Shown select_fixes (Int account ∷ []) old new rows → (l : LedgerRows) → HoldsRows old.now l
     → ShowsInOrder fix_shown (filter (λ (f : ℤ × FixRow). int_eq f.0 account) l.fixes) old new rows
-fixes_shown account old new rows h l held = fixes_shown_in ledger_schema fixes_tree _ select_fixes_is account old new rows held.schema_is h l.fixes held.fixes
+fixes_shown account old new rows h l held =
+    let at = opened old.now l held in
+    fixes_shown_in old.now.schema at.0.fixes.table.tree _ (select_fixes_is old.now.schema at.0.fixes at.1.has_fixes) account old new rows refl h l.fixes at.2.fixes
 
 -- of a whole table
 pub all_taps_shown_in : (schema : Schema) (tree : ℕ) (names : List (List ℕ)) → IsQuery schema select_all_taps (all_taps_query tree) names → (old new : State) (rows : List Row) → old.now.schema ≡ schema
@@ -292,7 +300,9 @@ all_taps_shown_in schema tree names query old new rows has h all are =
     }
 
 pub all_taps_shown : (old new : State) (rows : List Row) → Shown select_all_taps [] old new rows → (l : LedgerRows) → HoldsRows old.now l → ShowsInOrder tap_numbers l.taps old new rows
-all_taps_shown old new rows h l held = all_taps_shown_in ledger_schema taps_tree _ select_all_taps_is old new rows held.schema_is h l.taps held.taps
+all_taps_shown old new rows h l held =
+    let at = opened old.now l held in
+    all_taps_shown_in old.now.schema at.0.taps.table.tree _ (select_all_taps_is old.now.schema at.0.taps at.1.has_taps) old new rows refl h l.taps at.2.taps
 
 pub all_fixes_shown_in : (schema : Schema) (tree : ℕ) (names : List (List ℕ)) → IsQuery schema select_all_fixes (all_fixes_query tree) names → (old new : State) (rows : List Row) → old.now.schema ≡ schema
     → Shown select_all_fixes [] old new rows → (all : List (ℤ × FixRow)) → AreNumbers (old.now.trees tree) (map fix_numbers all) → ShowsInOrder fix_numbers all old new rows
@@ -306,7 +316,9 @@ all_fixes_shown_in schema tree names query old new rows has h all are =
     }
 
 pub all_fixes_shown : (old new : State) (rows : List Row) → Shown select_all_fixes [] old new rows → (l : LedgerRows) → HoldsRows old.now l → ShowsInOrder fix_numbers l.fixes old new rows
-all_fixes_shown old new rows h l held = all_fixes_shown_in ledger_schema fixes_tree _ select_all_fixes_is old new rows held.schema_is h l.fixes held.fixes
+all_fixes_shown old new rows h l held =
+    let at = opened old.now l held in
+    all_fixes_shown_in old.now.schema at.0.fixes.table.tree _ (select_all_fixes_is old.now.schema at.0.fixes at.1.has_fixes) old new rows refl h l.fixes at.2.fixes
 
 -- ---- postings
 
@@ -326,4 +338,6 @@ postings_shown_in schema tree names query account old new rows has h all are ris
 
 pub postings_shown : (account : ℤ) (old new : State) (rows : List Row) → Shown select_postings (Int account ∷ []) old new rows → (l : LedgerRows) → HoldsRows old.now l
     → ShowsInOrder posting_shown (filter (λ (p : ℤ × ℤ × PostingRow). int_eq p.1 account) l.postings) old new rows
-postings_shown account old new rows h l held = postings_shown_in ledger_schema postings_tree _ select_postings_is account old new rows held.schema_is h l.postings held.postings held.postings_rise
+postings_shown account old new rows h l held =
+    let at = opened old.now l held in
+    postings_shown_in old.now.schema at.0.postings.table.tree _ (select_postings_is old.now.schema at.0.postings at.1.has_postings) account old new rows refl h l.postings at.2.postings at.2.postings_rise

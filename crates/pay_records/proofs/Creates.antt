@@ -7,7 +7,7 @@ use Rattle.sqlite.specs.Schema.{Schema}
 use Rattle.sqlite.specs.Table.{Table}
 use Rattle.sqlite.specs.Does.{Tally, lacks_sequence, sequence_text, MakesTable}
 use Rattle.sqlite.specs.Listing.{understood}
-use Rattle.sqlite.specs.Effect.{Database}
+use Rattle.sqlite.specs.Effect.{Database, IsDatabase}
 use Rattle.sqlite.specs.State.{State, Writes, Executes}
 use Rattle.sqlite.proofs.Callers.{IsPlain, command_of, statement_of, runs_as}
 
@@ -34,6 +34,10 @@ makes text schema table old new has is made =
       empty = subst (λ s. new.trees (next_tree s) ≡ []) has made.empty;
       others = subst (λ (s : Schema). KeepsRows s.tables old.trees new.trees) has made.others;
     }
+
+pub created_soundly : (text : List ℕ) (schema : Schema) → command_of (understood schema text) ≡ CreateTable → IsPlain (understood schema text) → (old new : State) (count : ℕ) → old.now.schema ≡ schema
+    → Executes text [] old new (Ok count) → IsDatabase new.now
+created_soundly text schema command plain old new count has h = (runs_as text [] old new schema has CreateTable command plain count h).sound
 
 module _ (text : List ℕ) (schema : Schema) (table : Table) (command : command_of (understood schema text) ≡ CreateTable) (statement : statement_of text (understood schema text) ≡ text)
     (defined : table_defined_by text ≡ Ok table) (plain : IsPlain (understood schema text)) where

@@ -3,7 +3,6 @@ use Rattle.std.proofs.Common.{◌≡◌, ℕ, List, [], false, None, Ok, refl, a
 use Rattle.sqlite_ast.specs.declared.CreateTable.{CreateTable as Written}
 use Rattle.sqlite_ast.specs.declared.Statement.TheVariants as written
 use Rattle.sqlite_syntax.specs.declared.statement.Parsed.{Parsed}
-use Rattle.sqlite_schema.specs.Names.{table_named, index_named, view_named}
 use Rattle.sqlite_resolve.specs.Compile.{first, planned, timed, meaning, command, returning, create_table, creates, is_attached, is_reserved, table_in, with_command}
 use Rattle.sqlite_resolve.specs.Define as define
 use Rattle.sqlite.specs.Command.TheVariants.{CreateTable}
@@ -13,13 +12,8 @@ use Rattle.sqlite.specs.Table.{Table}
 use Rattle.sqlite.specs.Listing.{understood}
 use Rattle.sqlite.specs.State.{text_of}
 use Rattle.sqlite.proofs.Callers.{IsPlain, command_of, statement_of}
+use Rattle.pay_records.specs.Free.{IsUnused}
 use Rattle.pay_records.proofs.Compiling.{compiled_as, understood_as}
-
--- no object has this name
-pub record IsFree (schema : Schema) (name : List ℕ) : Type 0 where
-  pub no_table : table_named schema name ≡ None
-  pub no_index : index_named schema name ≡ None
-  pub no_view : view_named schema name ≡ None
 
 -- the text of a CREATE TABLE as the grammar reads it, and the table that it defines
 pub record IsDefinition (text : List ℕ) (table : Table) : Type 0 where
@@ -40,7 +34,7 @@ pub record IsDefinition (text : List ℕ) (table : Table) : Type 0 where
 abbrev pub IsCreated : Schema → List ℕ → Table → Type 0
 IsCreated schema text table = (command_of (understood schema text) ≡ CreateTable) × (statement_of text (understood schema text) ≡ text) × (table_defined_by text ≡ Ok table) × IsPlain (understood schema text)
 
-module _ (schema : Schema) (text : List ℕ) (table : Table) (it : IsDefinition text table) (free : IsFree schema table.name) where
+module _ (schema : Schema) (text : List ℕ) (table : Table) (it : IsDefinition text table) (free : IsUnused schema table.name) where
   creates_it : create_table schema [] it.definition ≡ Ok CreateTable
   unfolding create_table creates is_attached
   creates_it = simp (create_table, creates, is_attached, it.named, it.anew, it.own, it.unresolved, it.defined, it.uncomputed, it.unstamped, free.no_table, free.no_index, free.no_view)

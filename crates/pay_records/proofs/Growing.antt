@@ -14,21 +14,21 @@ use Rattle.sqlite.specs.Table.{Table}
 use Rattle.pay_records.specs.Places.{Place, HasTable, alike}
 
 module _ {X : Type 0} (test : X → Bool) where
-  position_still : (xs ys : List X) (from at : ℕ) → position_from test from xs ≡ Some at → position_from test from (xs ++ ys) ≡ Some at
+  pub position_still : (xs ys : List X) (from at : ℕ) → position_from test from xs ≡ Some at → position_from test from (xs ++ ys) ≡ Some at
   position_still [] ys from at h = absurd (cc)
   position_still (x ∷ xs) ys from at h = (elim (test x) as (λ b. cond b (Some from) (position_from test (from + 1) xs) ≡ Some at → cond b (Some from) (position_from test (from + 1) (xs ++ ys)) ≡ Some at) [
     | true ↦ λ here. here
     | false ↦ λ later. position_still xs ys (from + 1) at later
   ]) h
 
-  position_last : (xs : List X) (y : X) (from : ℕ) → position_from test from xs ≡ None → test y ≡ true → position_from test from (xs ++ y ∷ []) ≡ Some (from + length xs)
+  pub position_last : (xs : List X) (y : X) (from : ℕ) → position_from test from xs ≡ None → test y ≡ true → position_from test from (xs ++ y ∷ []) ≡ Some (from + length xs)
   position_last [] y from h passes = let e : from + 0 ≡ from = omega arith in rw (passes, e)
   position_last (x ∷ xs) y from h passes = (elim (test x) as (λ b. cond b (Some from) (position_from test (from + 1) xs) ≡ None → cond b (Some from) (position_from test (from + 1) (xs ++ y ∷ [])) ≡ Some (from + suc (length xs))) [
     | true ↦ λ here. absurd (cc)
     | false ↦ λ later. let e : from + 1 + length xs ≡ from + suc (length xs) = omega arith in position_last xs y (from + 1) later passes ∙ ap (λ n. Some n) e
   ]) h
 
-  found_still : (xs ys : List X) (x : X) → find test xs ≡ Some x → find test (xs ++ ys) ≡ Some x
+  pub found_still : (xs ys : List X) (x : X) → find test xs ≡ Some x → find test (xs ++ ys) ≡ Some x
   found_still xs ys x h = find-append test xs ys ∙ ap (λ o. option_or o (find test ys)) h
 
   found_last : (xs : List X) (y : X) → find test xs ≡ None → test y ≡ true → find test (xs ++ y ∷ []) ≡ Some y
@@ -46,7 +46,7 @@ none_reaches (t ∷ ts) start bound h =
     ap (λ b. cond b (Some t) (find (λ t. t.tree == bound) ts)) (ne_eqb t.tree bound apart) ∙ none_reaches ts (max start (t.tree + 1)) bound h
 
 -- the tree of the next table is none of those that there are
-next_is_new : (schema : Schema) → find (λ t. t.tree == next_tree schema) schema.tables ≡ None
+pub next_is_new : (schema : Schema) → find (λ t. t.tree == next_tree schema) schema.tables ≡ None
 next_is_new schema = none_reaches schema.tables (past_views schema) (next_tree schema) (rises (λ (i : Index). i.tree) (fold (λ n (t : Table). max n (t.tree + 1)) (past_views schema) schema.tables) schema.indexes)
 
 pub has_still : (schema : Schema) (more : Table) (place : Place) (wanted : Table) → HasTable schema place wanted → HasTable (created schema more) place wanted

@@ -1,18 +1,16 @@
 -- Of what kind a database is.
-use Rattle.std.proofs.Common.{◌≡◌, ◌⊎◌, inl, inr, ℕ, ℤ, List, [], ◌∷◌, map, drop, Ok, Err, Result, IfOk, IfErr, refl, sym, ap, ap₂, subst, ◌∙◌, IsPermutation}
-use Rattle.std.proofs.lemmas.List.Sorted.{IsPermutation-map}
+use Rattle.std.proofs.Common.{◌≡◌, ◌⊎◌, inl, inr, ℕ, List, [], ◌∷◌, map, flat_map, drop, length, arith, Ok, Err, Result, IfOk, IfErr, refl, sym, ap, ap₂, subst, ◌∙◌, IsPermutation}
+use Rattle.std.proofs.lemmas.List.Sorted.{IsPermutation-map, length_permutation}
 use Rattle.sqlite_resolve.specs.declared.compiled.Compiled.{Compiled}
 use Rattle.sqlite_resolve.specs.declared.error.CompileError.{CompileError}
 use Rattle.sqlite_resolve.specs.declared.error.CompileError.TheVariants.{NoSuchTable, NoSuchColumn}
-use Rattle.sqlite_tied.specs.Compute.{everything}
 use Rattle.sqlite_trees.specs.declared.error.StoreError.{StoreError}
 use Rattle.sqlite_trees.specs.declared.error.StoreError.TheVariants as store
 use Rattle.sqlite_sql.specs.Query.{Output}
 use Rattle.sqlite.specs.declared.error.Error.{Error}
 use Rattle.sqlite.specs.declared.error.Error.TheVariants.{SqlInputError}
-use Rattle.sqlite.specs.declared.types.Value.TheVariants.{Int, Text}
-use Rattle.sqlite.specs.Listing.{understood, listing_schema}
-use Rattle.sqlite.specs.Order.{Row}
+use Rattle.sqlite.specs.Listing.{understood}
+use Rattle.sqlite.specs.Order.{Row, column}
 use Rattle.sqlite.specs.Outline.{Outline}
 use Rattle.sqlite.specs.Schema.{Schema}
 use Rattle.sqlite.specs.Effect.{Database}
@@ -28,10 +26,14 @@ use Rattle.pay_records.specs.declared.kind.Presence.{Presence}
 use Rattle.pay_records.specs.declared.kind.Presence.TheVariants.{Missing, There, Partly}
 use Rattle.pay_records.specs.Kinds.{presence_of, is_there, together, IsToldBy, tables_in, kind_by, IsKindBy, IsKindOf, IsOfKindBy, IsOfKind}
 use Rattle.pay_records.specs.Rows.{LedgerRows, HoldsRows}
-use Rattle.pay_records.specs.Tables.{no_schema, ledger_schema, meta_tree}
+use Rattle.pay_records.specs.Free.{IsFree}
 use Rattle.pay_records.proofs.Kept.{kept_unchanged, kept_not_run}
 use Rattle.pay_records.proofs.Selects.{simply}
-use Rattle.pay_records.proofs.SelectTexts.{IsQuery, select_meta, meta_query, select_meta_is}
+use Rattle.pay_records.proofs.SelectTexts.{IsQuery, select_meta, meta_query}
+use Rattle.pay_records.proofs.Queries.{select_meta_is}
+use Rattle.pay_records.proofs.Presences.{tables_there}
+use Rattle.pay_records.proofs.Missing.{tables_missing}
+use Rattle.pay_records.proofs.Placed.{opened}
 use Rattle.pay_records.proofs.Answered.{overlay_is, shown_by_query}
 
 outlined : (u : Result Compiled CompileError) (s : Outline) → Outlines u s → presence_of u ≡ There
@@ -83,56 +85,69 @@ module _ (old new : State) (sql : List ℕ) where
   kept_prepared (Ok s) ok err = kept_unchanged old new ok.1
   kept_prepared (Err e) ok err = kept_not_run old new sql [] e (err [])
 
-pub blank_tables : tables_in no_schema ≡ Missing
-unfolding understood everything listing_schema
-blank_tables = refl
+-- what is told of rows does not depend on their order
+kind_in_order : (rows others : List Row) → IsPermutation rows others → kind_by others ≡ kind_by rows
+kind_in_order rows others same = go rows others (sym (length_permutation rows others same)) same
+  where
+    go : (rows others : List Row) → length rows ≡ length others → IsPermutation rows others → kind_by others ≡ kind_by rows
+    go [] [] long same = refl
+    go [] (s ∷ others) long same = absurd (cc)
+    go (r ∷ []) others long same = ap kind_by (one_permutation r others same)
+    go (r ∷ t ∷ rows) [] long same = absurd (cc)
+    go (r ∷ t ∷ rows) (s ∷ []) long same = absurd (omega (arith, long))
+    go (r ∷ t ∷ rows) (s ∷ u ∷ others) long same = refl
 
-pub ledger_tables : tables_in ledger_schema ≡ There
-unfolding understood everything
-ledger_tables = refl
+-- the columns of `meta` as the query shows them
+meta_of : Row → Row
+meta_of r = column r 1 ∷ column r 2 ∷ []
 
--- the one row of `meta`
-one_row : (rows : List Row) (columns : Row) → map (drop 1) rows ≡ columns ∷ [] → (r : Row) × (rows ≡ r ∷ []) × (drop 1 r ≡ columns)
-one_row [] columns is = absurd (cc)
-one_row (r ∷ []) columns is = (r, refl, cc)
-one_row (r ∷ s ∷ rows) columns is = absurd (cc)
+all_of : (tree : ℕ) (rows : List Row) → map (λ (o : Output). o.1) (map (output (meta_query tree)) (flat_map (λ r. ([] ∷ r ∷ []) ∷ []) rows)) ≡ map meta_of rows
+unfolding meta_of
+all_of tree [] = refl
+all_of tree (r ∷ rows) = ap (λ l. meta_of r ∷ l) (all_of tree rows)
 
-columns_behind : (tree : ℕ) (name : List ℕ) (version : ℤ) (r : Row) → drop 1 r ≡ Text name ∷ Int version ∷ [] → map (λ (o : Output). o.1) (output (meta_query tree) ([] ∷ r ∷ []) ∷ []) ≡ (Text name ∷ Int version ∷ []) ∷ []
-columns_behind tree name version [] is = absurd (cc)
-columns_behind tree name version (x ∷ r) is = ap (λ r. map (λ (o : Output). o.1) (output (meta_query tree) ([] ∷ (x ∷ r) ∷ []) ∷ [])) is
+kind_behind : (rows : List Row) → kind_by (map meta_of rows) ≡ kind_by (map (drop 1) rows)
+unfolding meta_of
+kind_behind [] = refl
+kind_behind ([] ∷ []) = refl
+kind_behind ((v ∷ r) ∷ []) = refl
+kind_behind (r ∷ s ∷ rows) = refl
 
-meta_shown_in : (schema : Schema) (tree : ℕ) (names : List (List ℕ)) → IsQuery schema select_meta (meta_query tree) names → (old new : State) (rows : List Row) → Shown select_meta [] old new rows → old.now.schema ≡ schema
-    → (name : List ℕ) (version : ℤ) → map (drop 1) (old.now.trees tree) ≡ (Text name ∷ Int version ∷ []) ∷ [] → (rows ≡ (Text name ∷ Int version ∷ []) ∷ []) × IsUnchanged old new
-meta_shown_in schema tree names query old new rows h has name version is =
+meta_told : (schema : Schema) (tree : ℕ) (names : List (List ℕ)) → IsQuery schema select_meta (meta_query tree) names → (old new : State) (rows : List Row) → Shown select_meta [] old new rows → old.now.schema ≡ schema
+    → (kind_by rows ≡ kind_by (map (drop 1) (old.now.trees tree))) × IsUnchanged old new
+meta_told schema tree names query old new rows h has =
     let q = meta_query tree in
     let it = shown_by_query schema select_meta q names query [] old new rows has h in
     let db = overlay old.now.trees [] in
     let found = simply q.from [] q.project [] db [] rows it.0 in
-    let one = one_row (db tree) (Text name ∷ Int version ∷ []) (ap (map (drop 1)) (overlay_is old.now.trees tree) ∙ is) in
-    let seen : map (λ (o : Output). o.1) (map (output q) (matches db [] (inner tree end) ([] ∷ []))) ≡ (Text name ∷ Int version ∷ []) ∷ [] =
-    ap (λ r. map (λ (o : Output). o.1) (map (output q) (Rattle.std.proofs.Common.flat_map (λ r. ([] ∷ r ∷ []) ∷ []) r))) one.1 ∙ columns_behind tree name version one.0 one.2 in
+    let seen : map (λ (o : Output). o.1) (map (output q) (matches db [] (inner tree end) ([] ∷ []))) ≡ map meta_of (old.now.trees tree) =
+    ap (λ r. map (λ (o : Output). o.1) (map (output q) (flat_map (λ r. ([] ∷ r ∷ []) ∷ []) r))) (overlay_is old.now.trees tree) ∙ all_of tree (old.now.trees tree) in
     let same = IsPermutation-map (λ (o : Output). o.1) _ _ found.same in
-    (found.shown ∙ one_permutation (Text name ∷ Int version ∷ []) _ (subst (λ l. IsPermutation l (map (λ (o : Output). o.1) found.ordered)) seen same), it.1)
+    (ap kind_by found.shown ∙ kind_in_order _ _ (subst (λ l. IsPermutation l (map (λ (o : Output). o.1) found.ordered)) seen same) ∙ kind_behind (old.now.trees tree), it.1)
 
 module _ (old between new : State) where
   pub kind_where_all : IsUnchanged old between → (rows : List Row) → Shown select_meta [] between new rows → There ≡ tables_in old.now.schema → (k : Kind) → k ≡ kind_by rows → IsKindOf old new k
   kind_where_all first rows h there k told =
       let same : between.now ≡ old.now = first.0.now_is in
-      subst (λ p. IsKindBy old new p k) there (λ has name version is.
-      let it = meta_shown_in ledger_schema meta_tree _ select_meta_is between new rows h (ap (λ d. d.schema) same ∙ has) name version (ap (λ d. map (drop 1) (d.trees meta_tree)) same ∙ is) in
-      (told ∙ ap kind_by it.0, unchanged_then old between new first it.1))
+      subst (λ p. IsKindBy old new p k) there (λ place has.
+      let query = select_meta_is old.now.schema place has in
+      let it = meta_told old.now.schema place.table.tree _ query between new rows h (ap (λ d. d.schema) same) in
+      (told ∙ it.0 ∙ ap (λ d. kind_by (map (drop 1) (d.trees place.table.tree))) same, unchanged_then old between new first it.1))
 
 module _ (old new : State) where
-  pub kind_of_blank : (k : Kind) → IsKindOf old new k → old.now.schema ≡ no_schema → (k ≡ kind.Blank) × IsUnchanged old new
-  kind_of_blank k h has = subst (λ p. IsKindBy old new p k) (ap tables_in has ∙ blank_tables) h
+  pub kind_of_blank : (k : Kind) → IsKindOf old new k → IsFree old.now → (k ≡ kind.Blank) × IsUnchanged old new
+  kind_of_blank k h free = subst (λ p. IsKindBy old new p k) (tables_missing old.now free) h
 
   pub kind_of_ledger : (k : Kind) → IsKindOf old new k → (rows : LedgerRows) → HoldsRows old.now rows → (k ≡ kind.Ledger) × IsUnchanged old new
-  kind_of_ledger k h rows held = (subst (λ p. IsKindBy old new p k) (ap tables_in held.schema_is ∙ ledger_tables) h) held.schema_is _ _ held.meta
+  kind_of_ledger k h rows held =
+      let at = opened old.now rows held in
+      let it = (subst (λ p. IsKindBy old new p k) (tables_there old.now.schema at.0 at.1) h) at.0.meta at.1.has_meta in
+      (it.0 ∙ ap kind_by at.2.meta, it.1)
 
   kind_alone : (p : Presence) (k : Kind) → IsKindBy old new p k → IsOfKindBy old.now p k
   kind_alone Missing k h = h.0
   kind_alone Partly k h = h.0
-  kind_alone There k h = λ has name version is. (h has name version is).0
+  kind_alone There k h = λ place has. (h place has).0
 
   pub is_of_kind : (k : Kind) → IsKindOf old new k → IsOfKind old.now k
   is_of_kind k h = kind_alone (tables_in old.now.schema) k h

@@ -1,12 +1,6 @@
--- What each SELECT of the ledger means over its own tables, and one of them over others, as worked rows.
-use Rattle.std.proofs.Common.{false, [], ◌∷◌, codes, refl}
-use Rattle.sqlite.specs.Schema.{Schema}
-use Rattle.sqlite.specs.Table.{Table}
-use Rattle.sqlite.specs.Change.{created}
-use Rattle.sqlite_schema.specs.Names.{same_name}
-use Rattle.sqlite_schema.specs.declared.schema.Action.TheVariants.{NoAction, Cascade}
-use Rattle.pay_records.specs.Tables.{no_schema, ledger_schema, keyed, postings, sequence_table, shares, meta_tree, postings_tree, shares_tree, taps_tree, fixes_tree, taps_columns, fixes_columns}
-use Rattle.pay_records.specs.Places.{Place, HasTable, ledger_places, ledger_has}
+-- What each SELECT of the ledger means over its own tables, and two of them where these stand among others, as worked rows.
+use Rattle.pay_records.specs.Tables.{ledger_schema, meta_tree, postings_tree, shares_tree, taps_tree, fixes_tree, taps_columns, fixes_columns}
+use Rattle.pay_records.specs.Places.{ledger_places, ledger_has, other_schema, other_places, other_has}
 use Rattle.pay_records.proofs.SelectTexts.{select_meta, select_all_taps, select_all_fixes, select_taps, select_fixes, select_postings, select_shares, IsQuery, meta_query, all_taps_query, all_fixes_query, taps_query, fixes_query, postings_query, shares_query}
 use Rattle.pay_records.proofs.Queries.{meta_names, taps_names, fixes_names, postings_names, select_meta_is, select_all_taps_is, select_all_fixes_is, select_taps_is, select_fixes_is, select_postings_is}
 use Rattle.pay_records.proofs.Joining.{shares_names, select_shares_is}
@@ -34,25 +28,8 @@ ledger_shares = select_shares_is ledger_schema ledger_places.postings ledger_pla
 
 -- ---- in another order, beside a table of others whose rows go with the posting that they refer to
 
-abbrev notes : Table
-notes = record (keyed (codes "notes") (codes "posting" ∷ []) [] (record { columns = 1 ∷ []; parent = codes "postings"; parent_columns = codes "id" ∷ []; on_delete = Cascade; on_update = NoAction; is_deferred = false } ∷ [])) { uniques = []; orders = [] }
+other_meta : IsQuery other_schema select_meta (meta_query 10) meta_names
+other_meta = select_meta_is other_schema other_places.meta other_has.has_meta
 
-abbrev other_schema : Schema
-other_schema = created (created (created (created no_schema shares) notes) postings) sequence_table
-
-abbrev other_shares : Place
-other_shares = record { at = 0; table = record shares { tree = 0 } }
-
-abbrev other_postings : Place
-other_postings = record { at = 2; table = record postings { tree = 3 } }
-
-others_have_shares : HasTable other_schema other_shares shares
-unfolding same_name
-others_have_shares = record { named = refl; placed = refl; stored = refl; only = refl }
-
-others_have_postings : HasTable other_schema other_postings postings
-unfolding same_name
-others_have_postings = record { named = refl; placed = refl; stored = refl; only = refl }
-
-shares_among_others : IsQuery other_schema select_shares (shares_query 3 0) shares_names
-shares_among_others = select_shares_is other_schema other_postings other_shares others_have_postings others_have_shares
+other_shares : IsQuery other_schema select_shares (shares_query 5 8) shares_names
+other_shares = select_shares_is other_schema other_places.postings other_places.shares other_has.has_postings other_has.has_shares

@@ -5,6 +5,8 @@ mod Returning
 mod Inserting
 mod Creating
 mod Growing
+mod Standing
+mod Lasting
 mod Adds
 mod Returns
 mod Rises
@@ -16,6 +18,7 @@ mod Queries
 mod Joining
 mod LedgerTexts
 mod Presences
+mod Missing
 mod Answered
 mod Tells
 mod Kinded

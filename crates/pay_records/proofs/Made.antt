@@ -1,6 +1,9 @@
 -- What each CREATE TABLE of the ledger makes.
-use Rattle.std.proofs.Common.{◌≡◌, ℕ, pos, map, drop, arith, ap₂, List, [], ◌∷◌, ◌++◌, codes, true, false, Ok, Err, Result, OnOk, IsTrue, refl, sym, ap, subst, ◌∙◌}
-use Rattle.std.specs.List.{AllByRecursion}
+use Rattle.std.proofs.Common.{◌≡◌, ◌≢◌, ℕ, pos, not, find, length, slice_get, Option, Some, None, IfSome, option_map, unwrap_or, map, drop, arith, ap₂, List, [], ◌∷◌, ◌++◌, codes, true, false, Ok, Err, Result, OnOk, IsTrue, refl, sym, ap, subst, ◌∙◌}
+use Rattle.std.specs.Prelude.{◌==◌}
+use Rattle.std.specs.List.{AllByRecursion, list_all}
+use Rattle.std.proofs.lemmas.Bool.{and_from, or_parts}
+use Rattle.sqlite_rules.proofs.ActionLemmas.{got_last, got_still}
 use Rattle.sqlite_tied.specs.Compute.{everything}
 use Rattle.sqlite.specs.Compile.{table_defined_by}
 use Rattle.sqlite_schema.specs.Names.{same_name}
@@ -9,26 +12,31 @@ use Rattle.sqlite.specs.Cast.{cast_row}
 use Rattle.sqlite.specs.Rowids.TheVariants.{Chosen}
 use Rattle.sqlite.specs.Edit.{with_rowid}
 use Rattle.sqlite.specs.declared.types.Value.TheVariants.{Null, Text}
-use Rattle.pay_records.specs.Places.{Places, HasLedgerTables, alike, trees_of, ledger_places}
+use Rattle.pay_records.specs.Places.{Place, Places, HasTable, HasLedgerTables, IsCounter, refers_to, alike, trees_of}
+use Rattle.pay_records.specs.Free.{CountsBeside, AreThere, Stands, HasFirst, IsFree, tree_of, ledger_tables}
+use Rattle.pay_records.proofs.Growing.{found_still}
+use Rattle.pay_records.proofs.Lasting.{grows_then, grows_on, grown_alone, grown_counted}
+use Rattle.pay_records.proofs.Standing.{IsBeside, IsNext, all_unused, there, stands_with, counted_already, lacks_none, still, counted_later, needs_none, needs_one, stands_counted, found_named, low_at}
 use Rattle.pay_records.proofs.Added.{row_added, stays}
 use Rattle.pay_records.proofs.Inserting.{meta_read}
-use Rattle.pay_records.proofs.Placed.{HoldsIn, held_from, has_tables}
+use Rattle.pay_records.proofs.Placed.{held_from}
 use Rattle.pay_records.proofs.Texts.{insert_meta, meta_terms}
 use Rattle.pay_records.proofs.Numbers.{cast_null, cast_int}
-use Rattle.sqlite.specs.Change.{created, next_tree, KeepsRows}
+use Rattle.sqlite.specs.Change.{created, next_tree}
 use Rattle.sqlite.specs.Schema.{Schema}
 use Rattle.sqlite.specs.Table.{Table}
 use Rattle.sqlite.specs.Tree.{Trees, put_row}
 use Rattle.sqlite.specs.Does.{sequence_text, lacks_sequence}
-use Rattle.sqlite.specs.Effect.{Database}
+use Rattle.sqlite.specs.Effect.{IsDatabase}
+use Rattle.sqlite.specs.Rows.{sequence}
 use Rattle.sqlite.specs.State.{State, Executes, ExecutesInside, KeepsCommit}
 use Rattle.sqlite.specs.declared.error.Error.{Error}
 use Rattle.pay_records.proofs.Creating.{IsDefinition, IsCreated, created_is}
-use Rattle.pay_records.specs.Tables.{no_schema, meta, postings, sequence_table, shares, taps, fixes, with_meta, with_postings, with_shares, with_taps, ledger_schema}
-use Rattle.pay_records.specs.Steps.{IsBlank, GoesOn, Makes, MakesLedger}
-use Rattle.pay_records.specs.Rows.{HoldsRows, AreNumbers, RiseFrom, meta_columns, no_rows}
+use Rattle.pay_records.specs.Tables.{meta, postings, sequence_table, shares, taps, fixes}
+use Rattle.pay_records.specs.Steps.{GoesOn, Grows, Makes, Begins, MakesLedger, between, with_tables}
+use Rattle.pay_records.specs.Rows.{HoldsRows, HoldsAt, AreNumbers, RiseFrom, meta_columns, no_rows}
 use Rattle.pay_records.proofs.Kept.{went_on}
-use Rattle.pay_records.proofs.Creates.{AddsTable, creates, creates_counted}
+use Rattle.pay_records.proofs.Creates.{creates, creates_counted, created_soundly}
 
 abbrev pub create_meta : List ℕ
 create_meta = codes "CREATE TABLE meta (name TEXT NOT NULL PRIMARY KEY, version INTEGER NOT NULL) STRICT"
@@ -65,76 +73,148 @@ fixes_defined : IsDefinition create_fixes fixes
 unfolding everything
 fixes_defined = record { parsed = _; read = refl; definition = _; statement = refl; formats = refl; named = refl; anew = refl; own = refl; unresolved = refl; defined = refl; uncomputed = refl; unstamped = refl; whole = refl }
 
-meta_is : IsCreated no_schema create_meta meta × (lacks_sequence (created no_schema meta) ≡ false)
-unfolding same_name
-meta_is = (created_is no_schema create_meta meta meta_defined (record { no_table = refl; no_index = refl; no_view = refl }), refl)
-
-postings_is : IsCreated with_meta create_postings postings × (lacks_sequence (created with_meta postings) ≡ true)
-unfolding same_name
-postings_is = (created_is with_meta create_postings postings postings_defined (record { no_table = refl; no_index = refl; no_view = refl }), refl)
-
-shares_is : IsCreated with_postings create_shares shares × (lacks_sequence (created with_postings shares) ≡ false)
-unfolding same_name
-shares_is = (created_is with_postings create_shares shares shares_defined (record { no_table = refl; no_index = refl; no_view = refl }), refl)
-
-taps_is : IsCreated with_shares create_taps taps × (lacks_sequence (created with_shares taps) ≡ false)
-unfolding same_name
-taps_is = (created_is with_shares create_taps taps taps_defined (record { no_table = refl; no_index = refl; no_view = refl }), refl)
-
-fixes_is : IsCreated with_taps create_fixes fixes × (lacks_sequence (created with_taps fixes) ≡ false)
-unfolding same_name
-fixes_is = (created_is with_taps create_fixes fixes fixes_defined (record { no_table = refl; no_index = refl; no_view = refl }), refl)
-
 counters_are : table_defined_by sequence_text ≡ Ok sequence_table
 unfolding everything
 counters_are = refl
 
--- with one more that has none, all tables have no rows
-still_empty : (old new : Trees) (ts : List Table) (last : Table) → AllByRecursion (λ t. old t.tree ≡ []) ts → KeepsRows ts old new → new last.tree ≡ [] → AllByRecursion (λ t. new t.tree ≡ []) (ts ++ last ∷ [])
-still_empty old new [] last empty kept none = (none, tt)
-still_empty old new (t ∷ ts) last empty kept none = (kept.0 ∙ empty.0, still_empty old new ts last empty.1 kept.1 none)
+-- ---- each of them under any schema in which its name is unused
 
-blank_again : (schema : Schema) (old new : Database) (table : Table) → AddsTable schema old new table → IsBlank schema old → IsBlank (created schema table) new
-blank_again schema old new table adds blank = record {
-  schema_is = adds.schema_is;
-  empty = still_empty old.trees new.trees schema.tables (record table { tree = next_tree schema }) blank.empty adds.others adds.empty;
-}
+module _ (text : List ℕ) (t : Table) (defined : IsDefinition text t) (made left : List Table) (next : IsNext t left) (old new : State) (count : ℕ) (ran : Executes text [] old new (Ok count))
+    (stands : Stands made (t ∷ left) old.now.schema old.now.trees) where
+  abbrev before : Schema
+  before = old.now.schema
 
-pub meta_made : (old new : State) (r : Result ℕ Error) → ExecutesInside 0 create_meta [] old new r → IsTrue old.in_transaction → OnOk r (Makes old new no_schema with_meta)
+  abbrev grown : Schema
+  grown = created before t
+
+  abbrev last : Table
+  last = record t { tree = next_tree before }
+
+  is : IsCreated before text t
+  is = created_is before text t defined stands.unused.0
+
+  sound : IsDatabase new.now
+  sound = created_soundly text before is.0 is.3 old new count refl ran
+
+  abbrev Made : Type 0
+  Made = Stands (made ++ t ∷ []) left new.now.schema new.now.trees × Grows old.now new.now (t ∷ [])
+
+  one : lacks_sequence grown ≡ false → CountsBeside grown (map tree_of stands.places ++ next_tree before ∷ []) (sequence grown) → Made
+  one unneeded counter =
+      let adds = creates text before t is.0 is.1 is.2 is.3 unneeded old new count refl ran in
+      let low = low_at new.now sound (length before.tables) last (ap (λ (s : Schema). slice_get s.tables (length before.tables)) adds.schema_is ∙ got_last before.tables last) in (
+        subst (λ s. Stands (made ++ t ∷ []) left s new.now.trees) (sym adds.schema_is) (stands_with before t made left next old.now.trees stands new.now.trees adds.others adds.empty low counter),
+        grown_alone old.now new.now t unneeded adds.schema_is adds.others,
+      )
+
+  module _ (own : (c : Table) → sequence before ≡ Some c → list_all (λ ref. not (refers_to grown c.tree ref)) t.references ≡ true) where
+    where_counted : (c : Table) → sequence before ≡ Some c → Made
+    where_counted c e = one (lacks_none before t made left next old.now.trees stands c e) (counted_already before t made left next old.now.trees stands c e (own c e))
+
+    pub uncounted_made : t.is_counted ≡ false → Made
+    uncounted_made uncounted = go (sequence before) refl
+      where
+        go : (o : Option Table) → sequence before ≡ o → Made
+        go (Some c) e = where_counted c e
+        go None e = one (needs_none before t made left next old.now.trees stands e uncounted) (counted_later before t made left next old.now.trees stands e uncounted)
+
+    pub counted_made : t.is_counted ≡ true → AllByRecursion (IsBeside sequence_table) left → Made
+    counted_made counted beside = go (sequence before) refl
+      where
+        go : (o : Option Table) → sequence before ≡ o → Made
+        go (Some c) e = where_counted c e
+        go None e =
+            let needed = needs_one before t made left next old.now.trees stands e counted in
+            let two = creates_counted text before t is.0 is.1 is.2 is.3 sequence_table counters_are needed old new count refl ran in
+            let first = two.1 in
+            let second = two.2 in
+            let counters : Table = record sequence_table { tree = next_tree grown } in
+            let low = low_at new.now sound (length before.tables) last
+            (ap (λ (s : Schema). slice_get s.tables (length before.tables)) second.schema_is ∙ got_still grown.tables (counters ∷ []) (grown.tables ++ counters ∷ []) (length before.tables) last refl (got_last before.tables last)) in
+            let are = there before t made left next old.now.trees stands two.0.trees first.others first.empty low in
+            let none = still before t made left next old.now.trees stands e in (
+              subst (λ s. Stands (made ++ t ∷ []) left s new.now.trees) (sym second.schema_is)
+                  (stands_counted grown (made ++ t ∷ []) left (stands.places ++ record { at = length before.tables; table = last } ∷ []) two.0.trees new.now.trees are (all_unused before t left next.beside stands.unused.1) beside none.0 none.1 second.others),
+              grown_counted old.now two.0 new.now t needed second.schema_is first.others second.others,
+            )
+
+meta_next : IsNext meta (postings ∷ shares ∷ taps ∷ fixes ∷ [])
+unfolding same_name
+meta_next = record { uncomputed = refl; itself = refl; other = refl; unnamed = refl; beside = ((refl, λ tree. refl), ((refl, λ tree. refl), ((refl, λ tree. refl), ((refl, λ tree. refl), tt)))) }
+
+postings_next : IsNext postings (shares ∷ taps ∷ fixes ∷ [])
+unfolding same_name
+postings_next = record { uncomputed = refl; itself = refl; other = refl; unnamed = refl; beside = ((refl, λ tree. refl), ((refl, λ tree. refl), ((refl, λ tree. refl), tt))) }
+
+counters_beside : AllByRecursion (IsBeside sequence_table) (shares ∷ taps ∷ fixes ∷ [])
+unfolding same_name
+counters_beside = ((refl, λ tree. refl), ((refl, λ tree. refl), ((refl, λ tree. refl), tt)))
+
+shares_next : IsNext shares (taps ∷ fixes ∷ [])
+unfolding same_name
+shares_next = record { uncomputed = refl; itself = refl; other = refl; unnamed = refl; beside = ((refl, λ tree. refl), ((refl, λ tree. refl), tt)) }
+
+taps_next : IsNext taps (fixes ∷ [])
+unfolding same_name
+taps_next = record { uncomputed = refl; itself = refl; other = refl; unnamed = refl; beside = ((refl, λ tree. refl), tt) }
+
+fixes_next : IsNext fixes []
+unfolding same_name
+fixes_next = record { uncomputed = refl; itself = refl; other = refl; unnamed = refl; beside = tt }
+
+-- shares refer to postings, and not to the table that counts
+shares_own : (schema : Schema) (db : Trees) (places : List Place) → AreThere schema db places (meta ∷ postings ∷ []) → (c : Table) → CountsBeside schema (map tree_of places) (Some c)
+    → list_all (λ ref. not (refers_to (created schema shares) c.tree ref)) shares.references ≡ true
+shares_own schema db [] h c counts = absurd h
+shares_own schema db (p ∷ []) h c counts = absurd h.2
+shares_own schema db (p ∷ q ∷ []) h c counts =
+    let has = h.2.0 in
+    let found : find (λ t. same_name t.name (codes "postings")) (created schema shares).tables ≡ Some (alike postings q.table) =
+    found_still (λ t. same_name t.name (codes "postings")) schema.tables (record shares { tree = next_tree schema } ∷ []) (alike postings q.table) (found_named (λ t. same_name t.name (codes "postings")) schema.tables q.at (alike postings q.table) has.named has.placed) in
+    let other : (q.table.tree == c.tree) ≡ false = (or_parts (q.table.tree == c.tree) _ (or_parts (p.table.tree == c.tree) _ counts.0).1).0 in
+    and_from _ true (ap (λ o. not (unwrap_or (option_map (λ t. t.tree == c.tree) o) false)) found ∙ ap not other) refl
+shares_own schema db (p ∷ q ∷ r ∷ places) h c counts = absurd h.2.2
+
+makes_by : (old new : State) (first end : ℕ) → (HasFirst first old.now.schema old.now.trees → HasFirst end new.now.schema new.now.trees × Grows old.now new.now (between first end)) → GoesOn old new → Makes old new first end
+makes_by old new first end it on = record { tables = λ stands. (it stands).0; grows = λ stands. (it stands).1; on = on }
+
+pub meta_made : (old new : State) (r : Result ℕ Error) → ExecutesInside 0 create_meta [] old new r → IsTrue old.in_transaction → OnOk r (Makes old new 0 1)
 meta_made old new (Err e) h inside = tt
-meta_made old new (Ok count) h inside =
-    let blank : IsBlank no_schema old.now → IsBlank with_meta new.now = λ blank.
-    blank_again no_schema old.now new.now meta (creates create_meta no_schema meta meta_is.0.0 meta_is.0.1 meta_is.0.2 meta_is.0.3 meta_is.1 old new count blank.schema_is h.0) blank in
-    record { blank = blank; on = went_on old new h.1 inside }
+meta_made old new (Ok count) h inside = makes_by old new 0 1 (λ stands. uncounted_made create_meta meta meta_defined [] (postings ∷ shares ∷ taps ∷ fixes ∷ []) meta_next old new count h.0 stands (λ c e. refl) refl) (went_on old new h.1 inside)
 
-pub postings_made : (old new : State) (r : Result ℕ Error) → ExecutesInside 0 create_postings [] old new r → IsTrue old.in_transaction → OnOk r (Makes old new with_meta with_postings)
+pub postings_made : (old new : State) (r : Result ℕ Error) → ExecutesInside 0 create_postings [] old new r → IsTrue old.in_transaction → OnOk r (Makes old new 1 2)
 postings_made old new (Err e) h inside = tt
-postings_made old new (Ok count) h inside =
-    let blank : IsBlank with_meta old.now → IsBlank with_postings new.now = λ blank.
-    let two = creates_counted create_postings with_meta postings postings_is.0.0 postings_is.0.1 postings_is.0.2 postings_is.0.3 sequence_table counters_are postings_is.1 old new count blank.schema_is h.0 in
-    blank_again (created with_meta postings) two.0 new.now sequence_table two.2 (blank_again with_meta old.now two.0 postings two.1 blank) in
-    record { blank = blank; on = went_on old new h.1 inside }
+postings_made old new (Ok count) h inside = makes_by old new 1 2 (λ stands. counted_made create_postings postings postings_defined (meta ∷ []) (shares ∷ taps ∷ fixes ∷ []) postings_next old new count h.0 stands (λ c e. refl) refl counters_beside) (went_on old new h.1 inside)
 
-pub shares_made : (old new : State) (r : Result ℕ Error) → ExecutesInside 0 create_shares [] old new r → IsTrue old.in_transaction → OnOk r (Makes old new with_postings with_shares)
+pub shares_made : (old new : State) (r : Result ℕ Error) → ExecutesInside 0 create_shares [] old new r → IsTrue old.in_transaction → OnOk r (Makes old new 2 3)
 shares_made old new (Err e) h inside = tt
-shares_made old new (Ok count) h inside =
-    let blank : IsBlank with_postings old.now → IsBlank with_shares new.now = λ blank.
-    blank_again with_postings old.now new.now shares (creates create_shares with_postings shares shares_is.0.0 shares_is.0.1 shares_is.0.2 shares_is.0.3 shares_is.1 old new count blank.schema_is h.0) blank in
-    record { blank = blank; on = went_on old new h.1 inside }
+shares_made old new (Ok count) h inside = makes_by old new 2 3 (λ stands. uncounted_made create_shares shares shares_defined (meta ∷ postings ∷ []) (taps ∷ fixes ∷ []) shares_next old new count h.0 stands
+    (λ c e. shares_own old.now.schema old.now.trees stands.places stands.are c (subst (CountsBeside old.now.schema (map tree_of stands.places)) e stands.counter)) refl) (went_on old new h.1 inside)
 
-pub taps_made : (old new : State) (r : Result ℕ Error) → ExecutesInside 0 create_taps [] old new r → IsTrue old.in_transaction → OnOk r (Makes old new with_shares with_taps)
+pub taps_made : (old new : State) (r : Result ℕ Error) → ExecutesInside 0 create_taps [] old new r → IsTrue old.in_transaction → OnOk r (Makes old new 3 4)
 taps_made old new (Err e) h inside = tt
-taps_made old new (Ok count) h inside =
-    let blank : IsBlank with_shares old.now → IsBlank with_taps new.now = λ blank.
-    blank_again with_shares old.now new.now taps (creates create_taps with_shares taps taps_is.0.0 taps_is.0.1 taps_is.0.2 taps_is.0.3 taps_is.1 old new count blank.schema_is h.0) blank in
-    record { blank = blank; on = went_on old new h.1 inside }
+taps_made old new (Ok count) h inside = makes_by old new 3 4 (λ stands. uncounted_made create_taps taps taps_defined (meta ∷ postings ∷ shares ∷ []) (fixes ∷ []) taps_next old new count h.0 stands (λ c e. refl) refl) (went_on old new h.1 inside)
 
-pub fixes_made : (old new : State) (r : Result ℕ Error) → ExecutesInside 0 create_fixes [] old new r → IsTrue old.in_transaction → OnOk r (Makes old new with_taps ledger_schema)
+pub fixes_made : (old new : State) (r : Result ℕ Error) → ExecutesInside 0 create_fixes [] old new r → IsTrue old.in_transaction → OnOk r (Makes old new 4 5)
 fixes_made old new (Err e) h inside = tt
-fixes_made old new (Ok count) h inside =
-    let blank : IsBlank with_taps old.now → IsBlank ledger_schema new.now = λ blank.
-    blank_again with_taps old.now new.now fixes (creates create_fixes with_taps fixes fixes_is.0.0 fixes_is.0.1 fixes_is.0.2 fixes_is.0.3 fixes_is.1 old new count blank.schema_is h.0) blank in
-    record { blank = blank; on = went_on old new h.1 inside }
+fixes_made old new (Ok count) h inside = makes_by old new 4 5 (λ stands. uncounted_made create_fixes fixes fixes_defined (meta ∷ postings ∷ shares ∷ taps ∷ []) [] fixes_next old new count h.0 stands (λ c e. refl) refl) (went_on old new h.1 inside)
+
+-- all five are those of a ledger
+ledger_there : (schema : Schema) (db : Trees) (places : List Place) → AreThere schema db places ledger_tables → CountsBeside schema (map tree_of places) (sequence schema)
+    → (p : Places) × HasLedgerTables schema p × AllByRecursion (λ tree. db tree ≡ []) (trees_of p)
+ledger_there schema db [] h counts = absurd h
+ledger_there schema db (a ∷ []) h counts = absurd h.2
+ledger_there schema db (a ∷ b ∷ []) h counts = absurd h.2.2
+ledger_there schema db (a ∷ b ∷ c ∷ []) h counts = absurd h.2.2.2
+ledger_there schema db (a ∷ b ∷ c ∷ d ∷ []) h counts = absurd h.2.2.2.2
+ledger_there schema db (a ∷ b ∷ c ∷ d ∷ e ∷ f ∷ places) h counts = absurd h.2.2.2.2.2
+ledger_there schema db (a ∷ b ∷ c ∷ d ∷ e ∷ []) h counts =
+    let p : Places = record { meta = a; postings = b; shares = c; taps = d; fixes = e } in
+    (p, record { has_meta = h.0; has_postings = h.2.0; has_shares = h.2.2.0; has_taps = h.2.2.2.0; has_fixes = h.2.2.2.2.0; counter = beside p (sequence schema) counts }, (h.1, (h.2.1, (h.2.2.1, (h.2.2.2.1, (h.2.2.2.2.1, tt))))))
+  where
+    beside : (p : Places) (o : Option Table) → CountsBeside schema (trees_of p) o → IfSome o (IsCounter schema p)
+    beside p None counts = tt
+    beside p (Some t) counts = counts
 
 abbrev meta_source : Row
 meta_source = Null ∷ meta_columns
@@ -152,7 +232,7 @@ no_numbers rows none = record { rising = subst (RiseFrom (pos 0)) (sym none) tt;
 
 -- under any schema that has the tables, where they have no rows
 meta_added_in : (p : Places) (old new : State) → HasLedgerTables old.now.schema p → (count : ℕ) → AllByRecursion (λ tree. old.now.trees tree ≡ []) (trees_of p) → Executes insert_meta [] old new (Ok count)
-    → (new.now.schema ≡ old.now.schema) × HoldsIn p new.now.trees no_rows
+    → (new.now.schema ≡ old.now.schema) × HoldsAt p new.now.trees no_rows
 meta_added_in p old new has count empty h =
     let schema = old.now.schema in
     let tree = p.meta.table.tree in
@@ -171,24 +251,45 @@ meta_added_in p old new has count empty h =
       },
     )
 
-pub meta_added : (old new : State) (r : Result ℕ Error) → ExecutesInside 0 insert_meta [] old new r → IsTrue old.in_transaction → OnOk r (MakesLedger old new ledger_schema)
+-- and beside its own rows all stays
+meta_beside : (old new : State) (count : ℕ) → Executes insert_meta [] old new (Ok count) → (p : Place) → HasTable old.now.schema p meta
+    → (new.now.schema ≡ old.now.schema) × AllByRecursion (λ t. t.tree ≢ p.table.tree → new.now.trees t.tree ≡ old.now.trees t.tree) old.now.schema.tables
+meta_beside old new count h p has = let it = row_added p meta insert_meta meta_terms 3 meta_read refl refl old new has [] meta_source refl refl count h in (it.schema_is, it.others)
+
+pub meta_added : (old new : State) (r : Result ℕ Error) → ExecutesInside 0 insert_meta [] old new r → IsTrue old.in_transaction → OnOk r (Begins old new)
 meta_added old new (Err e) h inside = tt
 meta_added old new (Ok count) h inside =
-    let ledger : IsBlank ledger_schema old.now → HoldsRows new.now no_rows = λ blank.
-    let empty = blank.empty in
-    let it = meta_added_in ledger_places old new (has_tables old.now.schema blank.schema_is) count (empty.0, (empty.1.0, (empty.1.1.1.0, (empty.1.1.1.1.0, (empty.1.1.1.1.1.0, tt))))) h.0 in
-    held_from new.now no_rows (it.0 ∙ blank.schema_is) it.1 in
-    record { ledger = ledger; on = went_on old new h.1 inside }
+    let ledger : HasFirst 5 old.now.schema old.now.trees → HoldsRows new.now no_rows = λ stands.
+    let at = ledger_there old.now.schema old.now.trees stands.places stands.are stands.counter in
+    let it = meta_added_in at.0 old new at.1 count at.2 h.0 in
+    held_from old.now new.now no_rows at.0 at.1 it.0 it.1 in
+    record { ledger = ledger; beside = meta_beside old new count h.0; on = went_on old new h.1 inside }
 
 -- one after another
 pub on_then : (a b c : State) → GoesOn a b → GoesOn b c → GoesOn a c
 on_then a b c p q = record { before = p.before; after = q.after; was_open = p.was_open; is_open = q.is_open; committed = q.committed ∙ p.committed }
 
-pub makes_then : (a b c : State) (first second third : Schema) → Makes a b first second → Makes b c second third → Makes a c first third
-makes_then a b c first second third p q = record { blank = λ blank. q.blank (p.blank blank); on = on_then a b c p.on q.on }
+makes_then : (a b c : State) (first second third : ℕ) → ((schema : Schema) → with_tables (between second third) (with_tables (between first second) schema) ≡ with_tables (between first third) schema)
+    → Makes a b first second → Makes b c second third → Makes a c first third
+makes_then a b c first second third joined p q = record {
+  tables = λ tables. q.tables (p.tables tables);
+  grows = λ tables. grows_then a.now b.now c.now (between first second) (between second third) (between first third) joined (p.grows tables) (q.grows (p.tables tables));
+  on = on_then a b c p.on q.on;
+}
 
-pub ledger_then : (a b c : State) (first second : Schema) → Makes a b first second → MakesLedger b c second → MakesLedger a c first
-ledger_then a b c first second p q = record { ledger = λ blank. q.ledger (p.blank blank); on = on_then a b c p.on q.on }
+pub first_made : (a b c d : State) → Makes a b 0 1 → Makes b c 1 2 → Makes c d 2 3 → Makes a d 0 3
+first_made a b c d p q r = makes_then a c d 0 2 3 (λ schema. refl) (makes_then a b c 0 1 2 (λ schema. refl) p q) r
+
+pub ledger_made : (a b c d e : State) → Makes a b 0 3 → Makes b c 3 4 → Makes c d 4 5 → Begins d e → MakesLedger a e
+unfolding same_name
+ledger_made a b c d e p q r s =
+    let all = makes_then a c d 0 4 5 (λ schema. refl) (makes_then a b c 0 3 4 (λ schema. refl) p q) r in
+    let grows : IsFree a.now → Grows a.now e.now ledger_tables = λ free.
+    let stands = all.tables free in
+    let at = ledger_there d.now.schema d.now.trees stands.places stands.are stands.counter in
+    let beside = s.beside at.0.meta at.1.has_meta in
+    grows_on a.now d.now e.now ledger_tables at.0.meta meta (all.grows free) free.unused.0.no_table refl at.1.has_meta beside.0 beside.1 in
+    record { ledger = λ free. s.ledger (all.tables free); grows = grows; on = on_then a d e all.on s.on }
 
 pub kept_then : (a b c : State) → KeepsCommit a b → KeepsCommit b c → KeepsCommit a c
 kept_then a b c p q = record { was_open = λ live. p.was_open (q.was_open live); committed = λ live. q.committed live ∙ p.committed (q.was_open live) }

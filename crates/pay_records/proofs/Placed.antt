@@ -1,5 +1,5 @@
 -- What stands at the places of a ledger's tables.
-use Rattle.std.proofs.Common.{◌≡◌, ◌≢◌, ℕ, pos, zero, suc, Bool, true, false, not, List, [], ◌∷◌, ◌++◌, map, drop, slice_get, find, Option, Some, None, option_map, option_and_then, unwrap_or, refl, sym, ap, ap₂, subst, ◌∙◌}
+use Rattle.std.proofs.Common.{◌≡◌, ◌≢◌, ℕ, zero, suc, Bool, true, false, not, List, [], ◌∷◌, ◌++◌, slice_get, find, Option, Some, None, option_map, option_and_then, unwrap_or, refl, sym, ap, ap₂, subst, ◌∙◌}
 use Rattle.std.specs.Prelude.{slice_index_or, ◌==◌}
 use Rattle.std.specs.List.{AllByRecursion, list_all, list_any, filter_map, flat_map, cons_option}
 use Rattle.std.proofs.lemmas.Bool.{and_parts, or_parts, eqb-false}
@@ -13,11 +13,9 @@ use Rattle.sqlite_rules.specs.Action.{works, work_for, work_by, deed_for, pairs}
 use Rattle.sqlite.specs.Order.{Row}
 use Rattle.sqlite.specs.Schema.{Schema}
 use Rattle.sqlite.specs.Table.{Table}
-use Rattle.sqlite.specs.Tree.{Trees}
 use Rattle.sqlite.specs.Effect.{Database}
-use Rattle.pay_records.specs.Tables.{ledger_schema}
-use Rattle.pay_records.specs.Places.{Place, Places, HasTable, HasLedgerTables, alike, refers_to, is_unreferred, ledger_places, ledger_has}
-use Rattle.pay_records.specs.Rows.{LedgerRows, HoldsRows, RiseFrom, AreNumbers, meta_columns, posting_row, share_numbers, tap_numbers, fix_numbers}
+use Rattle.pay_records.specs.Places.{Place, Places, HasTable, HasLedgerTables, alike, refers_to, is_unreferred}
+use Rattle.pay_records.specs.Rows.{LedgerRows, HoldsRows, HoldsAt}
 
 pub each_at : {X : Type 0} (P : X → Type 0) (xs : List X) (i : ℕ) (x : X) → slice_get xs i ≡ Some x → AllByRecursion P xs → P x
 each_at P [] i x is all = absurd (let e = is in cc)
@@ -76,21 +74,13 @@ sets_off_nothing schema tree unreferred olds news = each schema.tables unreferre
     each [] h = refl
     each (t ∷ tables) h = let both = and_parts _ _ h in ap₂ ◌++◌ (none t t.references both.0) (each tables both.1)
 
--- ---- the rows of a ledger at these places
+-- ---- the rows of a ledger at its places
 
-pub record HoldsIn (p : Places) (db : Trees) (rows : LedgerRows) : Type 0 where
-  pub meta : map (drop 1) (db p.meta.table.tree) ≡ meta_columns ∷ []
-  pub postings : db p.postings.table.tree ≡ map posting_row rows.postings
-  pub postings_rise : RiseFrom (pos 0) (db p.postings.table.tree)
-  pub shares : AreNumbers (db p.shares.table.tree) (map share_numbers rows.shares)
-  pub taps : AreNumbers (db p.taps.table.tree) (map tap_numbers rows.taps)
-  pub fixes : AreNumbers (db p.fixes.table.tree) (map fix_numbers rows.fixes)
+pub opened : (db : Database) (rows : LedgerRows) → HoldsRows db rows → (p : Places) × HasLedgerTables db.schema p × HoldsAt p db.trees rows
+unfolding HoldsRows
+opened db rows held = held
 
-pub held_in : (db : Database) (rows : LedgerRows) → HoldsRows db rows → HoldsIn ledger_places db.trees rows
-held_in db rows held = record { meta = held.meta; postings = held.postings; postings_rise = held.postings_rise; shares = held.shares; taps = held.taps; fixes = held.fixes }
-
-pub held_from : (db : Database) (rows : LedgerRows) → db.schema ≡ ledger_schema → HoldsIn ledger_places db.trees rows → HoldsRows db rows
-held_from db rows is held = record { schema_is = is; meta = held.meta; postings = held.postings; postings_rise = held.postings_rise; shares = held.shares; taps = held.taps; fixes = held.fixes }
-
-pub has_tables : (schema : Schema) → schema ≡ ledger_schema → HasLedgerTables schema ledger_places
-has_tables schema is = subst (λ s. HasLedgerTables s ledger_places) (sym is) ledger_has
+-- where the schema stays, what stands at the places makes a ledger again
+pub held_from : (old new : Database) (rows : LedgerRows) (p : Places) → HasLedgerTables old.schema p → new.schema ≡ old.schema → HoldsAt p new.trees rows → HoldsRows new rows
+unfolding HoldsRows
+held_from old new rows p has same at = (p, subst (λ schema. HasLedgerTables schema p) (sym same) has, at)

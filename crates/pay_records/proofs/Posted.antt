@@ -1,5 +1,7 @@
 -- What a posting that is added does to the rows of the ledger, and the number that it gets.
 use Rattle.std.proofs.Common.{◌≡◌, ◌≢◌, inl, inr, Option, ℕ, ℤ, pos, ◌+ℤ◌, ◌<ℤ◌, List, [], ◌∷◌, ◌++◌, map, drop, slice_get, true, false, Some, None, Ok, Err, Result, IfOk, IfSome, IsTrue, refl, sym, ap, ap₂, subst, append-nil, ◌∙◌, arith}
+use Rattle.std.specs.Prelude.{◌==◌}
+use Rattle.std.proofs.lemmas.Bool.{eqb-false}
 use Rattle.std.proofs.lemmas.Int.{ints}
 use Rattle.std.proofs.lemmas.Bool.Decides.{nat_tests}
 use Rattle.std.proofs.lemmas.List.{map-append}
@@ -9,13 +11,15 @@ use Rattle.sqlite.specs.Schema.{Schema}
 use Rattle.sqlite.specs.Table.{Table}
 use Rattle.sqlite.specs.declared.error.Error.{Error}
 use Rattle.sqlite.specs.Tree.{Trees, put_row}
+use Rattle.sqlite.specs.Rows.{sequence}
+use Rattle.sqlite_keyed.proofs.ListLemmas.{all_weaker}
 use Rattle.sqlite.specs.Cast.{cast_row}
 use Rattle.sqlite.specs.Rowids.TheVariants.{Above}
 use Rattle.sqlite.specs.Edit.{with_rowid, next_rowid, at_least}
 use Rattle.pay_rows.specs.declared.row.PostingRow.{PostingRow}
-use Rattle.pay_records.specs.Places.{Place, Places, HasTable, HasLedgerTables, IsCounter, alike, trees_of, ledger_places}
+use Rattle.pay_records.specs.Places.{Place, Places, HasTable, HasLedgerTables, IsCounter, IsOthers, alike, trees_of}
 use Rattle.pay_records.specs.Tables.{meta, postings, shares, taps, fixes, postings_columns}
-use Rattle.pay_records.specs.Rows.{LedgerRows, HoldsRows, AreNumbers, RiseFrom, posting_row, posting_numbers, share_numbers, tap_numbers, fix_numbers, with_posting}
+use Rattle.pay_records.specs.Rows.{LedgerRows, HoldsRows, HoldsAt, AreNumbers, RiseFrom, posting_row, posting_numbers, share_numbers, tap_numbers, fix_numbers, with_posting}
 use Rattle.sqlite_resolve.specs.declared.compiled.Compiled.{Compiled}
 use Rattle.sqlite_schema.specs.declared.command.Returning.{Returning}
 use Rattle.sqlite.specs.Command.TheVariants.{Insert}
@@ -30,12 +34,12 @@ use Rattle.pay_records.proofs.Adds.{task_of}
 use Rattle.sqlite.specs.Listing.{understood}
 use Rattle.sqlite.specs.State.{State, Shows, IsUnchanged, QueriesRow, Shown, ShowsRows}
 use Rattle.sqlite.proofs.Callers.{statement_of}
-use Rattle.pay_records.specs.Steps.{Changes}
+use Rattle.pay_records.specs.Steps.{Changes, OthersStay}
 use Rattle.pay_records.proofs.Rises.{put_behind}
 use Rattle.pay_records.proofs.Numbers.{cast_null, cast_ints}
 use Rattle.pay_records.proofs.Returns.{AddsCounted, shows_as, concluded_showing, inserted_counted, counter_there}
 use Rattle.pay_records.proofs.Inserting.{insert_posting_is}
-use Rattle.pay_records.proofs.Placed.{HoldsIn, each_at, apart, initial, none_of, sets_off_nothing, held_in, held_from, has_tables}
+use Rattle.pay_records.proofs.Placed.{each_at, apart, initial, none_of, sets_off_nothing, opened, held_from}
 use Rattle.pay_records.proofs.Texts.{insert_posting, posting_terms, returned}
 
 not_below : (top next : ℤ) → next <ℤ (at_least (Above top) next +ℤ pos 1)
@@ -51,19 +55,19 @@ counted_row t top rows vs =
     ap (with_rowid (Above top) rows) cast
 
 -- the posting stands behind all others, under a number of its own
-posting_behind : (schema : Schema) (t counters : Table) (old new : Trees) (all : List (ℤ × ℤ × PostingRow)) (account : ℤ) (row : PostingRow) (written : List Row) → old t.tree ≡ map posting_row all → RiseFrom (pos 0) (old t.tree)
-    → AddsCounted schema old new (alike postings t) counters (Null ∷ Null ∷ map Int (posting_numbers account row)) written
-    → (id : ℤ) × (written ≡ posting_row (id, account, row) ∷ []) × (new t.tree ≡ map posting_row (all ++ (id, account, row) ∷ [])) × RiseFrom (pos 0) (new t.tree)
-posting_behind schema t counters old new all account row written are up it =
+posting_behind : (schema : Schema) (t counters : Table) (old new : Trees) (account : ℤ) (row : PostingRow) (written : List Row) → AddsCounted schema old new (alike postings t) counters (Null ∷ Null ∷ map Int (posting_numbers account row)) written
+    → (id : ℤ) × (written ≡ posting_row (id, account, row) ∷ [])
+    × ((all : List (ℤ × ℤ × PostingRow)) → old t.tree ≡ map posting_row all → RiseFrom (pos 0) (old t.tree) → (new t.tree ≡ map posting_row (all ++ (id, account, row) ∷ [])) × RiseFrom (pos 0) (new t.tree))
+posting_behind schema t counters old new account row written it =
     let vs = posting_numbers account row in
     let id = number_above it.top (old t.tree) in
-    let same = counted_row t it.top (old t.tree) vs in
-    let behind = put_behind (pos 0) id (Null ∷ map Int vs) (old t.tree) up (not_below it.top (next_rowid (old t.tree))) in
-    let rows : new t.tree ≡ old t.tree ++ posting_row (id, account, row) ∷ [] = it.rows ∙ ap (λ r. put_row r (old t.tree)) same ∙ behind.0 in (
+    let same = counted_row t it.top (old t.tree) vs in (
       id,
       it.written_is ∙ ap (λ r. r ∷ []) same,
-      rows ∙ ap (λ l. l ++ posting_row (id, account, row) ∷ []) are ∙ sym (map-append posting_row all ((id, account, row) ∷ [])),
-      subst (RiseFrom (pos 0)) (sym rows) behind.1,
+      λ all are up.
+          let behind = put_behind (pos 0) id (Null ∷ map Int vs) (old t.tree) up (not_below it.top (next_rowid (old t.tree))) in
+          let rows : new t.tree ≡ old t.tree ++ posting_row (id, account, row) ∷ [] = it.rows ∙ ap (λ r. put_row r (old t.tree)) same ∙ behind.0 in
+          (rows ∙ ap (λ l. l ++ posting_row (id, account, row) ∷ []) are ∙ sym (map-append posting_row all ((id, account, row) ∷ [])), subst (RiseFrom (pos 0)) (sym rows) behind.1),
     )
 
 -- the rows of another table are as they were, but for the one that counts
@@ -84,11 +88,22 @@ number_shown limit schema t trees id account row written shown is h =
 abbrev the_mode : Mode
 the_mode = record { keys = Enforced; in_doubt = false; may_wait = false }
 
+-- what is written to the postings, and to the count of their numbers, leaves another's tables as they were
+posting_beside : (schema : Schema) (p : Places) (old new : Trees) (c : Table) (source : Row) (written : List Row) → sequence schema ≡ Some c → AddsCounted schema old new (alike postings p.postings.table) c source written
+    → OthersStay (record { schema = schema; trees = old }) (record { schema = schema; trees = new }) p
+posting_beside schema p old new c source written named it = record {
+  schema_is = refl;
+  rows = all_weaker (λ t. t.tree ≢ p.postings.table.tree → t.tree ≢ c.tree → new t.tree ≡ old t.tree) (λ t. IsOthers schema p t → new t.tree ≡ old t.tree)
+      (λ t stays others.
+      let apart_from_counter = eqb-false c.tree t.tree (subst (λ o. IfSome o (λ c. (c.tree == t.tree) ≡ false)) named others.not_counter) in
+      stays (λ same. (none_of (trees_of p) t.tree others.not_ledger).1.0 (sym same)) (λ same. apart_from_counter (sym same))) schema.tables it.others;
+}
+
 -- what the statement does under any schema that has the tables
-posted : (schema : Schema) (p : Places) → HasLedgerTables schema p → (limit : Option ℕ) (db : Trees) (said : List ℕ) (tally : Tally) (new : Database) (account : ℤ) (row : PostingRow) (l : LedgerRows) → HoldsIn p db l
+posted : (schema : Schema) (p : Places) → HasLedgerTables schema p → (limit : Option ℕ) (db : Trees) (said : List ℕ) (tally : Tally) (new : Database) (account : ℤ) (row : PostingRow)
     → Does limit the_mode (map Int (posting_numbers account row)) (record { schema = schema; trees = db }) said (Some returned) (Insert p.postings.at (Values posting_terms 8)) (Ok (tally, new))
-    → (id : ℤ) × (tally.shown ≡ (Int id ∷ []) ∷ []) × (new.schema ≡ schema) × HoldsIn p new.trees (with_posting id account row l)
-posted schema p has limit db said tally new account row l held does =
+    → (id : ℤ) × (tally.shown ≡ (Int id ∷ []) ∷ []) × OthersStay (record { schema = schema; trees = db }) new p × ((l : LedgerRows) → HoldsAt p db l → HoldsAt p new.trees (with_posting id account row l))
+posted schema p has limit db said tally new account row does =
     let params = map Int (posting_numbers account row) in
     let table = alike postings p.postings.table in
     let tree = p.postings.table.tree in
@@ -98,23 +113,26 @@ posted schema p has limit db said tally new account row l held does =
     let counts = subst (λ o. IfSome o (IsCounter schema p)) counter.1 has.counter in
     let beside = none_of (trees_of p) c.tree counts.0 in
     let it = inserted_counted schema c (λ olds row. sets_off_nothing schema c.tree counts.1 olds (row ∷ [])) table p.postings.at has.has_postings.placed refl beside.1.0 counter.1 params refl posting_terms 8 (Null ∷ Null ∷ params) refl limit db done.0 done.1 in
-    let behind = posting_behind schema p.postings.table c db done.0.trees l.postings account row done.0.rows held.postings held.postings_rise it in
+    let behind = posting_behind schema p.postings.table c db done.0.trees account row done.0.rows it in
     let task = task_of limit schema table params in
     let end = concluded_showing task the_mode returned done.0 tally new done.2 in
     let shown = number_shown limit schema p.postings.table done.0.trees behind.0 account row done.0.rows tally.shown behind.1 end.1 in
     let stay = stays schema db done.0.trees p.postings postings c (Null ∷ Null ∷ params) done.0.rows has.has_postings it in
-    let after : HoldsIn p done.0.trees (with_posting behind.0 account row l) = record {
+    let others = posting_beside schema p db done.0.trees c (Null ∷ Null ∷ params) done.0.rows counter.1 it in
+    let after : (l : LedgerRows) → HoldsAt p db l → HoldsAt p done.0.trees (with_posting behind.0 account row l) = λ l held.
+    let its = behind.2 l.postings held.postings held.postings_rise in
+    record {
       meta = ap (map (drop 1)) (stay p.meta meta has.has_meta (λ same. omega (arith, same)) beside.0) ∙ held.meta;
-      postings = behind.2;
-      postings_rise = behind.3;
+      postings = its.0;
+      postings_rise = its.1;
       shares = subst (λ r. AreNumbers r (map share_numbers l.shares)) (sym (stay p.shares shares has.has_shares (λ same. omega (arith, same)) beside.1.1.0)) held.shares;
       taps = subst (λ r. AreNumbers r (map tap_numbers l.taps)) (sym (stay p.taps taps has.has_taps (λ same. omega (arith, same)) beside.1.1.1.0)) held.taps;
       fixes = subst (λ r. AreNumbers r (map fix_numbers l.fixes)) (sym (stay p.fixes fixes has.has_fixes (λ same. omega (arith, same)) beside.1.1.1.1.0)) held.fixes;
     } in (
       behind.0,
       shown,
-      ap (λ (d : Database). d.schema) end.0,
-      subst (λ (d : Database). HoldsIn p d.trees (with_posting behind.0 account row l)) (sym end.0) after,
+      subst (λ (d : Database). OthersStay (record { schema = schema; trees = db }) d p) (sym end.0) others,
+      λ l held. subst (λ (d : Database). HoldsAt p d.trees (with_posting behind.0 account row l)) (sym end.0) (after l held),
     )
 
 module _ (old new : State) (inside : IsTrue old.in_transaction) where
@@ -133,16 +151,15 @@ module _ (old new : State) (inside : IsTrue old.in_transaction) where
   goes_on sql params shown (inl h) = within h.1
   goes_on sql params shown (inr h) = by_returning sql h.1.0 _ h.0 h.1.0.returning h.1.2
 
-  pub posting_added_in : (p : Places) → HasLedgerTables old.now.schema p → (account : ℤ) (row : PostingRow) (shown : Row) (l : LedgerRows) → HoldsIn p old.now.trees l
-      → QueriesRow insert_posting (map Int (posting_numbers account row)) old new (Ok shown)
-      → (id : ℤ) × (shown ≡ Int id ∷ []) × (new.now.schema ≡ old.now.schema) × HoldsIn p new.now.trees (with_posting id account row l)
-  posting_added_in p has account row shown l held h =
+  pub posting_added_in : (p : Places) → HasLedgerTables old.now.schema p → (account : ℤ) (row : PostingRow) (shown : Row) → QueriesRow insert_posting (map Int (posting_numbers account row)) old new (Ok shown)
+      → (id : ℤ) × (shown ≡ Int id ∷ []) × OthersStay old.now new.now p × ((l : LedgerRows) → HoldsAt p old.now.trees l → HoldsAt p new.now.trees (with_posting id account row l))
+  posting_added_in p has account row shown h =
       let schema = old.now.schema in
       let params = map Int (posting_numbers account row) in
       let known = insert_posting_is schema p.postings has.has_postings in
       let w = shows_as insert_posting params old new returned (Insert p.postings.at (Values posting_terms 8)) known.0 known.1 known.2 shown h in
       let shows = w.1 in
-      let it = posted schema p has old.step_limit old.now.trees (statement_of insert_posting (understood schema insert_posting)) shows.writes.tally new.now account row l held shows.writes.changed in
+      let it = posted schema p has old.step_limit old.now.trees (statement_of insert_posting (understood schema insert_posting)) shows.writes.tally new.now account row shows.writes.changed in
       let first : Some shown ≡ Some (Int it.0 ∷ []) = sym w.2 ∙ ap (λ rows. slice_get rows 0) (shows.shown ∙ it.1) in
       (it.0, (let same : shown ≡ Int it.0 ∷ [] = cc in same), it.2, it.3)
 
@@ -154,9 +171,10 @@ module _ (old new : State) (inside : IsTrue old.in_transaction) where
       let h = subst (λ params. QueriesRow insert_posting params old new (Ok shown)) is ran in
       let on = goes_on insert_posting (map Int (posting_numbers account row)) shown h in
       let rows : (l : LedgerRows) → HoldsRows old.now l → HoldsRows new.now (record l { postings = l.postings ++ (id, account, row) ∷ [] }) = λ l held.
-      let it = posting_added_in ledger_places (has_tables old.now.schema held.schema_is) account row shown l (held_in old.now l held) h in
-      let after = held_from new.now (with_posting it.0 account row l) (it.2 ∙ held.schema_is) it.3 in
+      let at = opened old.now l held in
+      let it = posting_added_in at.0 at.1 account row shown h in
+      let after = held_from old.now new.now (with_posting it.0 account row l) at.0 at.1 it.2.schema_is (it.3 l at.2) in
       let both : Int id ≡ Int it.0 = sym read ∙ ap (λ r. column r 0) it.1 in
       let same : it.0 ≡ id = cc in
       subst (λ n. HoldsRows new.now (with_posting n account row l)) same after in
-      record { rows = rows; on = went_on old new on inside }
+      record { rows = rows; others = record { beside = λ p has. (posting_added_in p has account row shown h).2 }; on = went_on old new on inside }

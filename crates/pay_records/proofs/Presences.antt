@@ -21,7 +21,7 @@ use Rattle.pay_records.proofs.Selecting.{bare, source, select_of, parsed_as, und
 use Rattle.pay_records.proofs.Resolving.{is_enough}
 use Rattle.pay_records.proofs.Queries.{meta_names}
 
-abbrev all_of : List Name → Name → Written
+abbrev pub all_of : List Name → Name → Written
 all_of names table = select_of (map bare names) (source table None ∷ []) None []
 
 module _ (schema : Schema) (place : Place) (wanted : Table) (has : HasTable schema place wanted) where
@@ -33,26 +33,26 @@ module _ (schema : Schema) (place : Place) (wanted : Table) (has : HasTable sche
       let reads = reads_one schema place wanted has names outputs are enough None [] [] [] _ _ _ _ refl refl accepted in
       ap presence_of (understood_is schema text (all_of names wanted.name) [] size _ parsed reads).0
 
-abbrev posting_names : List Name
+abbrev pub posting_names : List Name
 posting_names = codes "id" ∷ postings_columns
 
-meta_parsed : first (codes "SELECT name, version FROM meta") ≡ Ok (parsed_as (all_of meta_names (codes "meta")) [] 30)
+pub meta_parsed : first (codes "SELECT name, version FROM meta") ≡ Ok (parsed_as (all_of meta_names (codes "meta")) [] 30)
 unfolding first everything
 meta_parsed = refl
 
-postings_parsed : first (codes "SELECT id, account, week, through, version, due, amount FROM postings") ≡ Ok (parsed_as (all_of posting_names (codes "postings")) [] 69)
+pub postings_parsed : first (codes "SELECT id, account, week, through, version, due, amount FROM postings") ≡ Ok (parsed_as (all_of posting_names (codes "postings")) [] 69)
 unfolding first everything
 postings_parsed = refl
 
-shares_parsed : first (codes "SELECT posting, operator, amount FROM shares") ≡ Ok (parsed_as (all_of shares_columns (codes "shares")) [] 44)
+pub shares_parsed : first (codes "SELECT posting, operator, amount FROM shares") ≡ Ok (parsed_as (all_of shares_columns (codes "shares")) [] 44)
 unfolding first everything
 shares_parsed = refl
 
-taps_parsed : first (codes "SELECT account, reader, seq, utc, day, second, place, kind FROM taps") ≡ Ok (parsed_as (all_of taps_columns (codes "taps")) [] 68)
+pub taps_parsed : first (codes "SELECT account, reader, seq, utc, day, second, place, kind FROM taps") ≡ Ok (parsed_as (all_of taps_columns (codes "taps")) [] 68)
 unfolding first everything
 taps_parsed = refl
 
-fixes_parsed : first (codes "SELECT account, staff, seq, what, a, b, c, d, e FROM fixes") ≡ Ok (parsed_as (all_of fixes_columns (codes "fixes")) [] 58)
+pub fixes_parsed : first (codes "SELECT account, staff, seq, what, a, b, c, d, e FROM fixes") ≡ Ok (parsed_as (all_of fixes_columns (codes "fixes")) [] 58)
 unfolding first everything
 fixes_parsed = refl
 

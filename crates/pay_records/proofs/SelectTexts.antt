@@ -1,6 +1,5 @@
 -- What each SELECT of the ledger means over its tables.
-use Rattle.std.proofs.Common.{◌≡◌, ℕ, false, List, [], ◌∷◌, codes, refl}
-use Rattle.sqlite_tied.specs.Compute.{everything}
+use Rattle.std.proofs.Common.{◌≡◌, ℕ, false, List, [], ◌∷◌, codes}
 use Rattle.sqlite_value.specs.declared.keys.Key.{Key}
 use Rattle.sqlite_value.specs.declared.keys.Collation.TheVariants.{Binary}
 use Rattle.sqlite_sql.specs.declared.ops.CompareOp.TheVariants.{Eq}
@@ -11,7 +10,6 @@ use Rattle.sqlite.specs.Query.{Query, inner, end}
 use Rattle.sqlite.specs.Schema.{Schema}
 use Rattle.sqlite.specs.Listing.{understood, reads_listing}
 use Rattle.sqlite.proofs.Callers.{IsPlain, command_of}
-use Rattle.pay_records.specs.Tables.{ledger_schema, meta_tree, postings_tree, shares_tree, taps_tree, fixes_tree, taps_columns, fixes_columns}
 use Rattle.pay_records.proofs.Selects.{simple}
 
 abbrev pub select_postings : List ℕ
@@ -69,31 +67,3 @@ pub record IsQuery (schema : Schema) (text : List ℕ) (q : Query) (names : List
   pub command : command_of (understood schema text) ≡ Select (record { lets = []; body = q }) names
   pub plain : IsPlain (understood schema text)
   pub unlisted : reads_listing schema text ≡ false
-
-pub select_postings_is : IsQuery ledger_schema select_postings (postings_query postings_tree) (codes "id" ∷ codes "week" ∷ codes "through" ∷ codes "version" ∷ codes "due" ∷ codes "amount" ∷ [])
-unfolding understood everything
-select_postings_is = record { command = refl; plain = (refl, refl); unlisted = refl }
-
-pub select_shares_is : IsQuery ledger_schema select_shares (shares_query postings_tree shares_tree) (codes "posting" ∷ codes "operator" ∷ codes "amount" ∷ [])
-unfolding understood everything
-select_shares_is = record { command = refl; plain = (refl, refl); unlisted = refl }
-
-pub select_taps_is : IsQuery ledger_schema select_taps (taps_query taps_tree) (codes "reader" ∷ codes "seq" ∷ codes "utc" ∷ codes "day" ∷ codes "second" ∷ codes "place" ∷ codes "kind" ∷ [])
-unfolding understood everything
-select_taps_is = record { command = refl; plain = (refl, refl); unlisted = refl }
-
-pub select_fixes_is : IsQuery ledger_schema select_fixes (fixes_query fixes_tree) (codes "staff" ∷ codes "seq" ∷ codes "what" ∷ codes "a" ∷ codes "b" ∷ codes "c" ∷ codes "d" ∷ codes "e" ∷ [])
-unfolding understood everything
-select_fixes_is = record { command = refl; plain = (refl, refl); unlisted = refl }
-
-pub select_all_taps_is : IsQuery ledger_schema select_all_taps (all_taps_query taps_tree) taps_columns
-unfolding understood everything
-select_all_taps_is = record { command = refl; plain = (refl, refl); unlisted = refl }
-
-pub select_all_fixes_is : IsQuery ledger_schema select_all_fixes (all_fixes_query fixes_tree) fixes_columns
-unfolding understood everything
-select_all_fixes_is = record { command = refl; plain = (refl, refl); unlisted = refl }
-
-pub select_meta_is : IsQuery ledger_schema select_meta (meta_query meta_tree) (codes "name" ∷ codes "version" ∷ [])
-unfolding understood everything
-select_meta_is = record { command = refl; plain = (refl, refl); unlisted = refl }

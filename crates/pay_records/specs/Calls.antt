@@ -5,7 +5,7 @@ use Rattle.sqlite_trees.specs.Tree.{Trees}
 use Rattle.sqlite.specs.Held.{Held, state}
 use Rattle.sqlite.specs.Schema.{Schema}
 use Rattle.sqlite.specs.State.{State, HasCleanDisk, KeepsCommit, IsUnchanged, Survives}
-use Rattle.pay_records.specs.Tables.{no_schema}
+use Rattle.pay_records.specs.Free.{IsFree}
 use Rattle.pay_records.specs.Rows.{LedgerRows, HoldsRows}
 use Rattle.pay_records.specs.Found.{Finds}
 use Rattle.pay_records.specs.Steps.{Changes}
@@ -74,9 +74,9 @@ module _ {S : Type 0} (store : Ghosts S) (old new : Held S) where
     abbrev pub SeesInSchema : (Schema → A) → Type 0
     SeesInSchema seen_in = Answers (λ old new it. (it ≡ seen_in old.now.schema) × IsUnchanged old new)
 
-    -- where there are no tables this is answered, and nothing changes
+    -- where a ledger can be made this is answered, and nothing changes
     abbrev pub SeesNoTables : A → Type 0
-    SeesNoTables it_is = Answers (λ old new it. old.now.schema ≡ no_schema → (it ≡ it_is) × IsUnchanged old new)
+    SeesNoTables it_is = Answers (λ old new it. IsFree old.now → (it ≡ it_is) × IsUnchanged old new)
 
     -- where the database is a ledger, what is answered is so of its rows, and nothing changes
     abbrev pub FindsInRows : (LedgerRows → A → Type 0) → Type 0

@@ -1,5 +1,5 @@
 -- What a database is to a ledger.
-use Rattle.std.specs.Prelude.{bytes_eq, ◌≡◌, ◌⊎◌, ℤ, pos, map, drop, if◌then◌else◌, ℕ, List, [], ◌∷◌, codes, Result, Ok, Err}
+use Rattle.std.specs.Prelude.{bytes_eq, ◌≡◌, ◌⊎◌, pos, map, drop, if◌then◌else◌, ℕ, List, [], ◌∷◌, codes, Result, Ok, Err, refl}
 use Rattle.std.specs.Ordering.{int_eq}
 use Rattle.sqlite_resolve.specs.declared.compiled.Compiled.{Compiled}
 use Rattle.sqlite_resolve.specs.declared.error.CompileError.{CompileError}
@@ -14,7 +14,8 @@ use Rattle.sqlite.specs.declared.error.Error.{Error}
 use Rattle.sqlite.specs.declared.error.Error.TheVariants.{SqlInputError}
 use Rattle.sqlite.specs.Outline.{Outline}
 use Rattle.sqlite.specs.Listing.{understood}
-use Rattle.pay_records.specs.Tables.{ledger_schema, meta_tree}
+use Rattle.pay_records.specs.Tables.{meta}
+use Rattle.pay_records.specs.Places.{Place, HasTable}
 use Rattle.pay_records.specs.declared.kind.Kind.{Kind}
 use Rattle.pay_records.specs.declared.kind.Kind.TheVariants.{Blank, Ledger, Version, Other}
 use Rattle.pay_records.specs.declared.kind.Presence.{Presence}
@@ -62,13 +63,11 @@ abbrev pub kind_by : List Row → Kind
 kind_by (row ∷ []) = kind_of_row (column row 0) (column row 1)
 kind_by _ = Other
 
--- by the tables that are there, and where they are a ledger's by the row of `meta`
+-- by the tables that are there, and where they are a ledger's by the rows of `meta`, whatever else the database has
 abbrev pub IsKindBy : State → State → Presence → Kind → Type 0
 IsKindBy old new Missing kind = (kind ≡ Blank) × IsUnchanged old new
 IsKindBy old new Partly kind = (kind ≡ Other) × IsUnchanged old new
-IsKindBy old new There kind =
-    old.now.schema ≡ ledger_schema → (name : List ℕ) (version : ℤ) → map (drop 1) (old.now.trees meta_tree) ≡ (Text name ∷ Int version ∷ []) ∷ []
-    → (kind ≡ kind_of_row (Text name) (Int version)) × IsUnchanged old new
+IsKindBy old new There kind = (place : Place) → HasTable old.now.schema place meta → (kind ≡ kind_by (map (drop 1) (old.now.trees place.table.tree))) × IsUnchanged old new
 
 abbrev pub IsKindOf : State → State → Kind → Type 0
 IsKindOf old new kind = IsKindBy old new (tables_in old.now.schema) kind
@@ -77,8 +76,24 @@ IsKindOf old new kind = IsKindBy old new (tables_in old.now.schema) kind
 abbrev pub IsOfKindBy : Database → Presence → Kind → Type 0
 IsOfKindBy db Missing kind = kind ≡ Blank
 IsOfKindBy db Partly kind = kind ≡ Other
-IsOfKindBy db There kind =
-    db.schema ≡ ledger_schema → (name : List ℕ) (version : ℤ) → map (drop 1) (db.trees meta_tree) ≡ (Text name ∷ Int version ∷ []) ∷ [] → kind ≡ kind_of_row (Text name) (Int version)
+IsOfKindBy db There kind = (place : Place) → HasTable db.schema place meta → kind ≡ kind_by (map (drop 1) (db.trees place.table.tree))
 
 abbrev pub IsOfKind : Database → Kind → Type 0
 IsOfKind db kind = IsOfKindBy db (tables_in db.schema) kind
+
+-- ---- worked rows
+
+no_row : kind_by [] ≡ Other
+no_row = refl
+
+first_version : kind_by ((Text (codes "farebox") ∷ Int (pos 1) ∷ []) ∷ []) ≡ Ledger
+first_version = refl
+
+later_version : kind_by ((Text (codes "farebox") ∷ Int (pos 2) ∷ []) ∷ []) ≡ Version
+later_version = refl
+
+other_name : kind_by ((Text (codes "fares") ∷ Int (pos 1) ∷ []) ∷ []) ≡ Other
+other_name = refl
+
+two_rows : kind_by ((Text (codes "farebox") ∷ Int (pos 1) ∷ []) ∷ (Text (codes "fares") ∷ Int (pos 1) ∷ []) ∷ []) ≡ Other
+two_rows = refl

@@ -1,6 +1,7 @@
 pub mod Tables
 pub mod Places
 pub mod Rows
+pub mod Free
 pub mod Steps
 pub mod Told
 pub mod Found

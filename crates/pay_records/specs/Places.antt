@@ -57,6 +57,11 @@ pub record HasLedgerTables (schema : Schema) (p : Places) : Type 0 where
   pub has_fixes : HasTable schema p.fixes fixes
   pub counter : IfSome (sequence schema) (IsCounter schema p)
 
+-- a table that is another's: none of the five, and not SQLite's own count of posting numbers
+pub record IsOthers (schema : Schema) (p : Places) (t : Table) : Type 0 where
+  pub not_ledger : list_any (λ tree. tree == t.tree) (trees_of p) ≡ false
+  pub not_counter : IfSome (sequence schema) (λ c. (c.tree == t.tree) ≡ false)
+
 -- ---- worked rows
 
 -- where they are made
@@ -81,17 +86,17 @@ ledger_has = record {
 }
 
 -- another's table, whose rows go with the posting that they refer to
-abbrev notes : Table
+abbrev pub notes : Table
 notes = record (keyed (codes "notes") (codes "posting" ∷ []) [] (record { columns = 1 ∷ []; parent = codes "postings"; parent_columns = codes "id" ∷ []; on_delete = Cascade; on_update = NoAction; is_deferred = false } ∷ [])) {
   uniques = [];
   orders = [];
 }
 
 -- in another order, beside that table
-abbrev other_schema : Schema
+abbrev pub other_schema : Schema
 other_schema = created (created (created (created (created (created (created no_schema fixes) notes) taps) postings) sequence_table) shares) meta
 
-abbrev other_places : Places
+abbrev pub other_places : Places
 other_places = record {
   meta = record { at = 6; table = record meta { tree = 10 } };
   postings = record { at = 3; table = record postings { tree = 5 } };
@@ -100,7 +105,7 @@ other_places = record {
   fixes = record { at = 0; table = record fixes { tree = 0 } };
 }
 
-other_has : HasLedgerTables other_schema other_places
+pub other_has : HasLedgerTables other_schema other_places
 unfolding same_name
 other_has = record {
   has_meta = record { named = refl; placed = refl; stored = refl; only = refl };
@@ -110,3 +115,7 @@ other_has = record {
   has_fixes = record { named = refl; placed = refl; stored = refl; only = refl };
   counter = (refl, refl);
 }
+
+notes_are_others : IsOthers other_schema other_places (record notes { tree = 2 })
+unfolding same_name
+notes_are_others = record { not_ledger = refl; not_counter = refl }

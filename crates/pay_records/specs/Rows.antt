@@ -2,13 +2,13 @@
 use Rattle.std.specs.Prelude.{◌≡◌, ◌<ℤ◌, ℤ, pos, List, [], ◌∷◌, ◌++◌, map, drop, codes}
 use Rattle.sqlite.specs.declared.types.Value.TheVariants.{Null, Int, Text}
 use Rattle.sqlite.specs.Order.{Row}
-use Rattle.sqlite.specs.Tree.{rowid}
+use Rattle.sqlite.specs.Tree.{Trees, rowid}
 use Rattle.sqlite.specs.Effect.{Database}
 use Rattle.pay_rows.specs.declared.row.PostingRow.{PostingRow}
 use Rattle.pay_rows.specs.declared.row.ShareRow.{ShareRow}
 use Rattle.pay_rows.specs.declared.row.TapRow.{TapRow}
 use Rattle.pay_rows.specs.declared.row.FixRow.{FixRow}
-use Rattle.pay_records.specs.Tables.{ledger_schema, meta_tree, postings_tree, shares_tree, taps_tree, fixes_tree}
+use Rattle.pay_records.specs.Places.{Places, HasLedgerTables}
 
 -- All that a ledger has written, each table in the order in which it was: a posting beside its number and its account, a tap and a correction beside the account.
 pub record LedgerRows : Type 0 where
@@ -47,15 +47,18 @@ pub record AreNumbers (rows : List Row) (numbers : List (List ℤ)) : Type 0 whe
   pub rising : RiseFrom (pos 0) rows
   pub are : map (drop 1) rows ≡ map (map Int) numbers
 
--- a database that is a ledger with these rows, and nothing beside it
-pub record HoldsRows (db : Database) (rows : LedgerRows) : Type 0 where
-  pub schema_is : db.schema ≡ ledger_schema
-  pub meta : map (drop 1) (db.trees meta_tree) ≡ meta_columns ∷ []
-  pub postings : db.trees postings_tree ≡ map posting_row rows.postings
-  pub postings_rise : RiseFrom (pos 0) (db.trees postings_tree)
-  pub shares : AreNumbers (db.trees shares_tree) (map share_numbers rows.shares)
-  pub taps : AreNumbers (db.trees taps_tree) (map tap_numbers rows.taps)
-  pub fixes : AreNumbers (db.trees fixes_tree) (map fix_numbers rows.fixes)
+-- where the tables of a ledger stand, these are their rows
+pub record HoldsAt (p : Places) (db : Trees) (rows : LedgerRows) : Type 0 where
+  pub meta : map (drop 1) (db p.meta.table.tree) ≡ meta_columns ∷ []
+  pub postings : db p.postings.table.tree ≡ map posting_row rows.postings
+  pub postings_rise : RiseFrom (pos 0) (db p.postings.table.tree)
+  pub shares : AreNumbers (db p.shares.table.tree) (map share_numbers rows.shares)
+  pub taps : AreNumbers (db p.taps.table.tree) (map tap_numbers rows.taps)
+  pub fixes : AreNumbers (db p.fixes.table.tree) (map fix_numbers rows.fixes)
+
+-- a database that has the five tables of a ledger with these rows, whatever else it has
+unfoldable pub HoldsRows : Database → LedgerRows → Type 0
+HoldsRows db rows = (p : Places) × HasLedgerTables db.schema p × HoldsAt p db.trees rows
 
 abbrev pub no_rows : LedgerRows
 no_rows = record { postings = []; shares = []; taps = []; fixes = [] }

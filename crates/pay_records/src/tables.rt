@@ -1,13 +1,12 @@
 ghost use Rattle.std.specs.Prelude.{◌≡◌};
-ghost use Rattle.pay_records.specs.Tables.{no_schema, with_meta, with_postings, with_shares, with_taps, ledger_schema};
-ghost use Rattle.pay_records.specs.Steps.{Makes, MakesLedger};
+ghost use Rattle.pay_records.specs.Steps.{Makes, Begins, MakesLedger};
 ghost use Rattle.pay_records.specs.Calls.{LeavesAsBefore, CommitsNothing, Does};
 
 use sqlite::{Alter, Error, Transaction};
 
 fn make_meta<S: Alter>(tx: &mut Transaction<'_, S>) -> Result<usize, Error>
     ensures same_reference { tx.new.conn.ghost_name ≡ tx.old.conn.ghost_name }
-    ensures made { Does S.Store tx.old.conn.now tx.new.conn.now result (λ old new. Makes old new no_schema with_meta) }
+    ensures made { Does S.Store tx.old.conn.now tx.new.conn.now result (λ old new. Makes old new 0 1) }
     ensures kept { CommitsNothing S.Store tx.old.conn.now tx.new.conn.now }
     ensures survives { LeavesAsBefore S.Store tx.old.conn.now tx.new.conn.now }
 {
@@ -19,7 +18,7 @@ fn make_meta<S: Alter>(tx: &mut Transaction<'_, S>) -> Result<usize, Error>
 
 fn make_postings<S: Alter>(tx: &mut Transaction<'_, S>) -> Result<usize, Error>
     ensures same_reference { tx.new.conn.ghost_name ≡ tx.old.conn.ghost_name }
-    ensures made { Does S.Store tx.old.conn.now tx.new.conn.now result (λ old new. Makes old new with_meta with_postings) }
+    ensures made { Does S.Store tx.old.conn.now tx.new.conn.now result (λ old new. Makes old new 1 2) }
     ensures kept { CommitsNothing S.Store tx.old.conn.now tx.new.conn.now }
     ensures survives { LeavesAsBefore S.Store tx.old.conn.now tx.new.conn.now }
 {
@@ -31,7 +30,7 @@ fn make_postings<S: Alter>(tx: &mut Transaction<'_, S>) -> Result<usize, Error>
 
 fn make_shares<S: Alter>(tx: &mut Transaction<'_, S>) -> Result<usize, Error>
     ensures same_reference { tx.new.conn.ghost_name ≡ tx.old.conn.ghost_name }
-    ensures made { Does S.Store tx.old.conn.now tx.new.conn.now result (λ old new. Makes old new with_postings with_shares) }
+    ensures made { Does S.Store tx.old.conn.now tx.new.conn.now result (λ old new. Makes old new 2 3) }
     ensures kept { CommitsNothing S.Store tx.old.conn.now tx.new.conn.now }
     ensures survives { LeavesAsBefore S.Store tx.old.conn.now tx.new.conn.now }
 {
@@ -43,7 +42,7 @@ fn make_shares<S: Alter>(tx: &mut Transaction<'_, S>) -> Result<usize, Error>
 
 fn make_taps<S: Alter>(tx: &mut Transaction<'_, S>) -> Result<usize, Error>
     ensures same_reference { tx.new.conn.ghost_name ≡ tx.old.conn.ghost_name }
-    ensures made { Does S.Store tx.old.conn.now tx.new.conn.now result (λ old new. Makes old new with_shares with_taps) }
+    ensures made { Does S.Store tx.old.conn.now tx.new.conn.now result (λ old new. Makes old new 3 4) }
     ensures kept { CommitsNothing S.Store tx.old.conn.now tx.new.conn.now }
     ensures survives { LeavesAsBefore S.Store tx.old.conn.now tx.new.conn.now }
 {
@@ -55,7 +54,7 @@ fn make_taps<S: Alter>(tx: &mut Transaction<'_, S>) -> Result<usize, Error>
 
 fn make_fixes<S: Alter>(tx: &mut Transaction<'_, S>) -> Result<usize, Error>
     ensures same_reference { tx.new.conn.ghost_name ≡ tx.old.conn.ghost_name }
-    ensures made { Does S.Store tx.old.conn.now tx.new.conn.now result (λ old new. Makes old new with_taps ledger_schema) }
+    ensures made { Does S.Store tx.old.conn.now tx.new.conn.now result (λ old new. Makes old new 4 5) }
     ensures kept { CommitsNothing S.Store tx.old.conn.now tx.new.conn.now }
     ensures survives { LeavesAsBefore S.Store tx.old.conn.now tx.new.conn.now }
 {
@@ -67,7 +66,7 @@ fn make_fixes<S: Alter>(tx: &mut Transaction<'_, S>) -> Result<usize, Error>
 
 fn add_meta<S: Alter>(tx: &mut Transaction<'_, S>) -> Result<usize, Error>
     ensures same_reference { tx.new.conn.ghost_name ≡ tx.old.conn.ghost_name }
-    ensures made { Does S.Store tx.old.conn.now tx.new.conn.now result (λ old new. MakesLedger old new ledger_schema) }
+    ensures made { Does S.Store tx.old.conn.now tx.new.conn.now result Begins }
     ensures kept { CommitsNothing S.Store tx.old.conn.now tx.new.conn.now }
     ensures survives { LeavesAsBefore S.Store tx.old.conn.now tx.new.conn.now }
 {
@@ -79,7 +78,7 @@ fn add_meta<S: Alter>(tx: &mut Transaction<'_, S>) -> Result<usize, Error>
 
 fn make_first<S: Alter>(tx: &mut Transaction<'_, S>) -> Result<(), Error>
     ensures same_reference { tx.new.conn.ghost_name ≡ tx.old.conn.ghost_name }
-    ensures made { Does S.Store tx.old.conn.now tx.new.conn.now result (λ old new. Makes old new no_schema with_shares) }
+    ensures made { Does S.Store tx.old.conn.now tx.new.conn.now result (λ old new. Makes old new 0 3) }
     ensures kept { CommitsNothing S.Store tx.old.conn.now tx.new.conn.now }
     ensures survives { LeavesAsBefore S.Store tx.old.conn.now tx.new.conn.now }
 {
@@ -92,7 +91,7 @@ fn make_first<S: Alter>(tx: &mut Transaction<'_, S>) -> Result<(), Error>
 /// Makes the five tables, and the row that says what they are.
 pub fn make<S: Alter>(tx: &mut Transaction<'_, S>) -> Result<(), Error>
     ensures same_reference { tx.new.conn.ghost_name ≡ tx.old.conn.ghost_name }
-    ensures made { Does S.Store tx.old.conn.now tx.new.conn.now result (λ old new. MakesLedger old new no_schema) }
+    ensures made { Does S.Store tx.old.conn.now tx.new.conn.now result MakesLedger }
     ensures kept { CommitsNothing S.Store tx.old.conn.now tx.new.conn.now }
     ensures survives { LeavesAsBefore S.Store tx.old.conn.now tx.new.conn.now }
 {

@@ -15,7 +15,7 @@ returns-in_err-commit-clause-survives g c =
     let posts = λ (clean : HasCleanDisk (state g.S.Store last)). rw begun at (c.in_ok-given.ensures.posts clean (rw begun)) in
     let inside = c.in_ok-given.ensures.ok.stays.survives in
     let whole = survives_then (state g.S.Store old) (state g.S.Store last) (state g.S.Store c.commit.new.self.0) _ _ P (λ _ db none. absurd none)
-    (λ clean db is. ((state g.S.Store last).now, is, λ ledger k. let it = posts (omega (arith, c.commit.ensures.survives.clean)) ledger k in ((c.in_ok-given.given.items, it.0), it.1, it.2)))
+    (λ clean db is. ((state g.S.Store last).now, is, λ ledger k. let it = posts (omega (arith, c.commit.ensures.survives.clean)) ledger k in ((c.in_ok-given.given.items, it.0), it.1, it.2, it.3)))
     (survives_begin g.S.Store old (state g.S.Store last) _ (rw begun at inside)) c.commit.ensures.survives in
     let same : c.commit.new.self.0 ≡ c.conn-2-1.given.0 = search rules in
     subst (λ h. Survives (state g.S.Store old) (state g.S.Store h) P) same whole
@@ -29,7 +29,7 @@ returns-clause-survives g c =
     let posts = λ (clean : HasCleanDisk (state g.S.Store last)). rw begun at (c.in_ok-given.ensures.posts clean (rw begun)) in
     let inside = c.in_ok-given.ensures.ok.stays.survives in
     let whole = survives_then (state g.S.Store old) (state g.S.Store last) (state g.S.Store c.commit.new.self.0) _ _ P (λ _ db none. absurd none)
-    (λ clean db is. ((state g.S.Store last).now, is, λ ledger k. let it = posts (omega (arith, c.commit.ensures.survives.clean)) ledger k in ((c.in_ok-given.given.items, it.0), it.1, it.2)))
+    (λ clean db is. ((state g.S.Store last).now, is, λ ledger k. let it = posts (omega (arith, c.commit.ensures.survives.clean)) ledger k in ((c.in_ok-given.given.items, it.0), it.1, it.2, it.3)))
     (survives_begin g.S.Store old (state g.S.Store last) _ (rw begun at inside)) c.commit.ensures.survives in
     let same : c.commit.new.self.0 ≡ c.conn-2-1.given.0 = search rules in
     subst (λ h. Survives (state g.S.Store old) (state g.S.Store h) P) same whole

@@ -51,7 +51,7 @@ returns-clause-told g c clean ledger k =
     let last = state g.S.Store c.shares_of.new.tx.conn.now in
     let before = was_clean between last c.shares_of.ensures.survives clean in
     let it = posted_told c.postings_back.ensures first between last c.args.account _ _ _ _ (search rules) (search rules) (c.in_ok-rows.ensures.found before) (c.in_ok-shares.ensures.found clean) ledger k in
-    (same_some (sym c.in_ok-postings_from_rows.ensures ∙ ap₂ (λ l s. postings_from_rows c.args.account l s) c.deref.ensures.value c.deref-2.ensures.value ∙ it.0), it.1)
+    (same_some (sym c.in_ok-postings_from_rows.ensures ∙ ap₂ (λ l s. postings_from_rows c.args.account l s) c.deref.ensures.value c.deref-2.ensures.value ∙ it.0), it.1, it.2)
 
 pub returns-clause-rows : goal.returns-clause-rows
 returns-clause-rows g c clean =
