@@ -1,10 +1,10 @@
 -- What a database is that is opened as a ledger, or is not.
-use Rattle.std.specs.Prelude.{◌≡◌, ◌⊎◌, ⊤, [], IsTrue}
+use Rattle.std.specs.Prelude.{◌≡◌, ◌⊎◌, ⊤, false, [], IsTrue}
 use Rattle.sqlite.specs.Tree.{Trees}
 use Rattle.sqlite.specs.Effect.{Database}
 use Rattle.sqlite.specs.State.{State}
 use Rattle.pay_postings.specs.Words.{LedgerParts}
-use Rattle.pay_records.specs.Words.{IsFree, IsOfKind}
+use Rattle.pay_records.specs.Words.{IsFree, IsOfKind, has_view, Grows, ledger_tables}
 use Rattle.pay_records.specs.declared.kind.Kind.TheVariants as kind
 use Rattle.pay_ledger.specs.declared.fault.OpenFault.{OpenFault}
 use Rattle.pay_ledger.specs.declared.fault.OpenFault.TheVariants.{NotALedger, Version, Store, Memory}
@@ -14,9 +14,13 @@ use Rattle.pay_ledger.specs.Keeps.{IsLedger}
 abbrev pub nothing : LedgerParts
 nothing = record { postings = []; taps = []; fixes = [] }
 
--- why it is not opened
+-- no view stands in the place of one of its tables
+abbrev pub HasNoView : Database → Type 0
+HasNoView db = has_view db.schema ≡ false
+
+-- why it is not opened: for a view, or by what its tables are
 abbrev pub IsWhy : OpenFault → Database → Type 0
-IsWhy NotALedger db = IsOfKind db kind.Other
+IsWhy NotALedger db = HasNoView db → IsOfKind db kind.Other
 IsWhy Version db = IsOfKind db kind.Version
 IsWhy Store db = ⊤
 IsWhy Memory db = ⊤
@@ -29,9 +33,9 @@ IsLedgerOrBlank db = IsOfKind db kind.Ledger ⊎ IsOfKind db kind.Blank
 abbrev pub KeepsLedger : Database → Database → Type 0
 KeepsLedger old new = (ledger : LedgerParts) → IsLedger old ledger → new ≡ old
 
--- a database in which the names of the tables are not used becomes a ledger of nothing
+-- A database in which the names of the tables are not used becomes a ledger of nothing. Just its five tables are created, and the rows of each table that was there stay.
 abbrev pub BlankBecomesLedger : Database → Database → Type 0
-BlankBecomesLedger old new = IsFree old → IsLedger new nothing
+BlankBecomesLedger old new = IsFree old → IsLedger new nothing × Grows old new ledger_tables
 
 -- it is a ledger, or it is made one
 pub record IsOpened (old new : State) : Type 0 where

@@ -124,6 +124,38 @@ fn posts_beside_no_bad_posting(rt: HostRuntime) {
     let _ = expect_rows(&rt, ledger, NO_POSTING_ROWS);
 }
 
+/// Another's table, whose rows go with the posting that they refer to.
+const NOTES: &str =
+    "CREATE TABLE notes (posting INTEGER REFERENCES postings (id) ON DELETE CASCADE); INSERT INTO notes VALUES (NULL)";
+
+/// Another's key of the ledger's own table: one posting an account.
+const ONE_POSTING: &str = "CREATE UNIQUE INDEX one_posting ON postings (account)";
+
+/// The replies where the second close is refused by it.
+const REFUSED: &str =
+    "OK 19730 860 860\nPAY 7 19730 19730 1 860 860 1=860\nDONE 19730 1\nOK 19730 340 340\nNO 43 Store\n";
+
+/// The rows behind the first close.
+const ENTERED: &str = "meta farebox 1
+posting 1 7 19730 19730 1 860 860
+share 1 1 860
+tap 7 1 1 1704697200 19730 25200 10 0
+";
+
+#[test]
+fn stands_beside_others(rt: HostRuntime) {
+    let mut conn = Connection::open_in_memory(rt.alloc()).expect(&rt, "a database");
+    run(&mut conn, NOTES).expect(&rt, NOTES);
+    let mut ledger = expect_rows(&rt, opened(&rt, conn), EMPTY);
+    expect_run(&rt, &mut ledger, LINES, 4, REPLIES);
+    let mut conn = expect_rows(&rt, ledger, JOURNEY).into_connection();
+    let notes = number(&mut conn, "SELECT count(*) FROM notes");
+    expect_same(&rt, notes, Ok(1));
+    let mut ledger = opened(&rt, changed(&rt, ONE_POSTING));
+    expect_run(&rt, &mut ledger, LINES, 4, REFUSED);
+    let _ = expect_rows(&rt, ledger, ENTERED);
+}
+
 /// The file, in the folder that the test is run in. It is made anew and stays there, for `tests/ledger` to read.
 const PATH: &str = "ledger.db";
 

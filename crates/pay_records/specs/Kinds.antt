@@ -1,5 +1,5 @@
 -- What a database is to a ledger.
-use Rattle.std.specs.Prelude.{bytes_eq, ◌≡◌, ◌⊎◌, pos, map, drop, if◌then◌else◌, ℕ, List, [], ◌∷◌, codes, Result, Ok, Err, refl}
+use Rattle.std.specs.Prelude.{bytes_eq, ◌≡◌, ◌⊎◌, Bool, true, false, ◌&&◌, ◌||◌, is_some, is_none, pos, map, drop, if◌then◌else◌, ℕ, List, [], ◌∷◌, codes, None, Result, Ok, Err, refl}
 use Rattle.std.specs.Ordering.{int_eq}
 use Rattle.sqlite_resolve.specs.declared.compiled.Compiled.{Compiled}
 use Rattle.sqlite_resolve.specs.declared.error.CompileError.{CompileError}
@@ -14,8 +14,9 @@ use Rattle.sqlite.specs.declared.error.Error.{Error}
 use Rattle.sqlite.specs.declared.error.Error.TheVariants.{SqlInputError}
 use Rattle.sqlite.specs.Outline.{Outline}
 use Rattle.sqlite.specs.Listing.{understood}
-use Rattle.pay_records.specs.Tables.{meta}
-use Rattle.pay_records.specs.Places.{Place, HasTable}
+use Rattle.sqlite_schema.specs.Names.{same_name, table_named, view_named}
+use Rattle.pay_records.specs.Tables.{no_schema, meta, ledger_schema}
+use Rattle.pay_records.specs.Places.{Place, HasTable, other_schema}
 use Rattle.pay_records.specs.declared.kind.Kind.{Kind}
 use Rattle.pay_records.specs.declared.kind.Kind.TheVariants.{Blank, Ledger, Version, Other}
 use Rattle.pay_records.specs.declared.kind.Presence.{Presence}
@@ -52,6 +53,15 @@ abbrev pub tables_in : Schema → Presence
 tables_in schema =
     together (together (posting_tables_in schema) (is_there schema (codes "SELECT account, reader, seq, utc, day, second, place, kind FROM taps")))
     (is_there schema (codes "SELECT account, staff, seq, what, a, b, c, d, e FROM fixes"))
+
+-- the name is a view's, and no table's
+abbrev pub is_view : Schema → List ℕ → Bool
+is_view schema name = is_none (table_named schema name) && is_some (view_named schema name)
+
+-- a view stands in the place of one of the five tables
+abbrev pub has_view : Schema → Bool
+has_view schema =
+    is_view schema (codes "meta") || (is_view schema (codes "postings") || (is_view schema (codes "shares") || (is_view schema (codes "taps") || is_view schema (codes "fixes"))))
 
 -- by a name and a version
 abbrev pub kind_of_row : Value → Value → Kind
@@ -97,3 +107,16 @@ other_name = refl
 
 two_rows : kind_by ((Text (codes "farebox") ∷ Int (pos 1) ∷ []) ∷ (Text (codes "fares") ∷ Int (pos 1) ∷ []) ∷ []) ≡ Other
 two_rows = refl
+
+-- a view by the name of the taps, in capitals
+with_a_view : has_view (record no_schema { views = record { name = codes "TAPS"; tree = 0; sql = []; foreign = None; binds = false; is_bound = false } ∷ [] }) ≡ true
+unfolding same_name
+with_a_view = refl
+
+no_view_in_a_ledger : has_view ledger_schema ≡ false
+unfolding same_name
+no_view_in_a_ledger = refl
+
+nor_among_others : has_view other_schema ≡ false
+unfolding same_name
+nor_among_others = refl

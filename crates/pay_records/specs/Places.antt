@@ -6,6 +6,7 @@ use Rattle.sqlite.specs.Rows.{sequence}
 use Rattle.sqlite.specs.Schema.{Schema}
 use Rattle.sqlite.specs.Table.{Table}
 use Rattle.sqlite_schema.specs.Names.{same_name, table_named}
+use Rattle.sqlite_schema.specs.declared.schema.Index.{Index}
 use Rattle.sqlite_schema.specs.declared.schema.Reference.{Reference}
 use Rattle.sqlite_schema.specs.declared.schema.Action.TheVariants.{NoAction, Cascade}
 use Rattle.pay_records.specs.Tables.{no_schema, ledger_schema, keyed, meta, postings, sequence_table, shares, taps, fixes, meta_tree, postings_tree, shares_tree, taps_tree, fixes_tree}
@@ -119,3 +120,23 @@ other_has = record {
 notes_are_others : IsOthers other_schema other_places (record notes { tree = 2 })
 unfolding same_name
 notes_are_others = record { not_ledger = refl; not_counter = refl }
+
+-- an operator's own index on the weeks of the postings changes nothing of it
+abbrev by_week : Index
+by_week = record { name = codes "by_week"; tree = 12; table = 5; columns = 3 ∷ []; order = record { digits = 0 }; is_unique = false }
+
+indexed_has : HasLedgerTables (record other_schema { indexes = by_week ∷ other_schema.indexes }) other_places
+unfolding same_name
+indexed_has = record {
+  has_meta = record { named = refl; placed = refl; stored = refl; only = refl };
+  has_postings = record { named = refl; placed = refl; stored = refl; only = refl };
+  has_shares = record { named = refl; placed = refl; stored = refl; only = refl };
+  has_taps = record { named = refl; placed = refl; stored = refl; only = refl };
+  has_fixes = record { named = refl; placed = refl; stored = refl; only = refl };
+  counter = (refl, refl);
+}
+
+-- where there are notes alone there are no taps
+no_taps : (p : Place) → HasTable (created no_schema notes) p taps → ⊥
+unfolding same_name
+no_taps p has = let e = has.named in cc

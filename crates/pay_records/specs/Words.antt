@@ -5,8 +5,8 @@ pub use Rattle.pay_records.specs.Places.{Places, HasLedgerTables, IsOthers, ledg
 unfoldable pub use Rattle.pay_records.specs.Rows.{HoldsRows}
 pub use Rattle.pay_records.specs.Rows.{LedgerRows, RiseFrom, posting_row, no_rows, with_posting, with_share, with_tap, with_fix}
 pub use Rattle.pay_records.specs.Found.{Finds, postings_of, shares_of, taps_of, fixes_of}
-pub use Rattle.pay_records.specs.Kinds.{IsOfKind}
-pub use Rattle.pay_records.specs.Free.{IsFree, empty_is_free}
+pub use Rattle.pay_records.specs.Kinds.{IsOfKind, has_view}
+pub use Rattle.pay_records.specs.Free.{IsFree, ledger_tables, empty_is_free}
 pub use Rattle.pay_records.specs.Steps.{GoesOn, OthersStay, KeepsOthers, Changes, Grows, MakesLedger, with_tables}
 pub use Rattle.pay_records.specs.Calls.{OnCleanDisk, OnCleanDiskInside, LeavesAsBeforeOr, LeavesAsBefore, CommitsNothing, CommitsNothingInside}
 pub use Rattle.pay_records.specs.Calls.{StaysInside, StaysInsideOrOut, Answers, AnswersInside, Refuses, Does, DoesInside}

@@ -1,13 +1,16 @@
-ghost use Rattle.std.specs.Prelude.{◌≡◌, [], IfOk, Err};
-ghost use Rattle.pay_records.specs.Kinds.{is_there, together, IsToldBy, posting_tables_in, tables_in, kind_by, IsKindOf, IsOfKind};
+ghost use Rattle.std.specs.Prelude.{◌≡◌, false, [], IfOk, Err};
+ghost use Rattle.sqlite.specs.Held.{state};
+ghost use Rattle.pay_records.specs.Kinds.{is_there, together, IsToldBy, posting_tables_in, tables_in, is_view, has_view, kind_by, IsKindOf, IsOfKind};
+ghost use Rattle.pay_records.specs.Free.{IsFree};
 ghost use Rattle.pay_records.specs.declared.fault.ReadFault.TheVariants.{BadArchive};
 ghost use Rattle.pay_records.specs.Calls.{LeavesAsBefore, CommitsNothing, CommitsNothingInside, StaysInside, Answers, SeesInSchema, SeesNoTables, FindsInRows};
 
 use crate::fault::ReadFault;
 use crate::read::query;
 use sqlite::types::ValueRef;
-use sqlite::{Alter, Error, Row, Statement, Transaction};
+use sqlite::{Alter, Connection, Error, Row, Statement, Transaction};
 use sqlite_resolve::CompileError;
+use sqlite_schema::schema::Schema;
 
 /// What a database is to a ledger.
 #[derive(Clone, Copy, Debug, PartialEq, Eq)]
@@ -106,6 +109,27 @@ fn tables<S: Alter>(tx: &mut Transaction<'_, S>) -> Result<Presence, ReadFault>
         "SELECT account, staff, seq, what, a, b, c, d, e FROM fixes",
     )?;
     Ok(postings.with(taps).with(fixes))
+}
+
+/// Whether a name is a view's, and no table's.
+fn is_view(schema: &Schema, name: &str) -> bool
+    ensures { result ≡ is_view schema.now name.now }
+{
+    let name = name.as_bytes();
+    schema.table_named(name).is_none() && schema.view_named(name).is_some()
+}
+
+/// Whether a view stands in the place of one of the five tables. So does a table that SQLite keeps as it is, since it has a trigger.
+pub fn has_view<S: Alter>(conn: &Connection<S>) -> bool
+    ensures value { result ≡ has_view (state S.Store conn.now).now.schema }
+    ensures free { IsFree (state S.Store conn.now).now → result ≡ false }
+{
+    let schema = conn.schema();
+    is_view(schema, "meta")
+        || is_view(schema, "postings")
+        || is_view(schema, "shares")
+        || is_view(schema, "taps")
+        || is_view(schema, "fixes")
 }
 
 /// What the rows of `meta` say, where all tables are there.

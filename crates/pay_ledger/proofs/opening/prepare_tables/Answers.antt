@@ -4,7 +4,7 @@ use Rattle.sqlite.specs.Held.{state}
 use Rattle.sqlite.proofs.StateLemmas.{survives_then}
 use Rattle.sqlite.proofs.Callers.{survives_begin}
 use Rattle.pay_ledger.specs.Opening.{MayLeaveOpened}
-use Rattle.pay_ledger.proofs.opening.prepare.Goals as goal
+use Rattle.pay_ledger.proofs.opening.prepare_tables.Goals as goal
 
 pub returns-in_err-commit-clause-survives : goal.returns-in_err-commit-clause-survives
 returns-in_err-commit-clause-survives g c =
