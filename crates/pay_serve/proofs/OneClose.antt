@@ -20,7 +20,7 @@ use Rattle.pay_shard.specs.declared.reply.Reply.TheVariants as replies
 use Rattle.pay_lanes.specs.Words.{LaneParts, WorkerParts, by_shard, at_lane, answers_for, shard_numbers, IsSameWorker, IsOfShards, IsAnswered, AreJournalsFrom}
 use Rattle.pay_lanes.specs.Ends.{IsLaneOf}
 use Rattle.pay_lanes.proofs.Exchanges.{each_length}
-use Rattle.pay_office.specs.Words.{answer_to, HasEnded}
+use Rattle.pay_office.specs.Words.{answer_to}
 use Rattle.pay_session.specs.Served.{AreQuotes, gives_quotes, brings_quotes}
 use Rattle.pay_session.specs.Events.{IsAnswerTo, AreAnswered}
 use Rattle.pay_session.specs.Words.{Taken}
