@@ -28,3 +28,4 @@ mod Added
 mod Posted
 mod Kept
 mod Made
+mod Views

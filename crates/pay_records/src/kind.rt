@@ -119,17 +119,23 @@ fn is_view(schema: &Schema, name: &str) -> bool
     schema.table_named(name).is_none() && schema.view_named(name).is_some()
 }
 
-/// Whether a view stands in the place of one of the five tables. So does a table that SQLite keeps as it is, since it has a trigger.
-pub fn has_view<S: Alter>(conn: &Connection<S>) -> bool
-    ensures value { result ≡ has_view (state S.Store conn.now).now.schema }
-    ensures free { IsFree (state S.Store conn.now).now → result ≡ false }
+/// Whether one of the five names is.
+fn has_view_in(schema: &Schema) -> bool
+    ensures { result ≡ has_view schema.now }
 {
-    let schema = conn.schema();
     is_view(schema, "meta")
         || is_view(schema, "postings")
         || is_view(schema, "shares")
         || is_view(schema, "taps")
         || is_view(schema, "fixes")
+}
+
+/// Whether a view stands in the place of one of the five tables. So does a table that SQLite keeps as it is, since it has a trigger.
+pub fn has_view<S: Alter>(conn: &Connection<S>) -> bool
+    ensures value { result ≡ has_view (state S.Store conn.now).now.schema }
+    ensures free { IsFree (state S.Store conn.now).now → result ≡ false }
+{
+    has_view_in(conn.schema())
 }
 
 /// What the rows of `meta` say, where all tables are there.
