@@ -33,9 +33,13 @@ IsLedgerOrBlank db = IsOfKind db kind.Ledger ⊎ IsOfKind db kind.Blank
 abbrev pub KeepsLedger : Database → Database → Type 0
 KeepsLedger old new = (ledger : LedgerParts) → IsLedger old ledger → new ≡ old
 
--- A database in which the names of the tables are not used becomes a ledger of nothing. Just its five tables are created, and the rows of each table that was there stay.
+-- a database in which the names of the tables are not used becomes a ledger of nothing
 abbrev pub BlankBecomesLedger : Database → Database → Type 0
-BlankBecomesLedger old new = IsFree old → IsLedger new nothing × Grows old new ledger_tables
+BlankBecomesLedger old new = IsFree old → IsLedger new nothing
+
+-- and just its five tables are created in it, and the rows of each table that was there stay
+abbrev pub BlankJustGrows : Database → Database → Type 0
+BlankJustGrows old new = IsFree old → Grows old new ledger_tables
 
 -- it is a ledger, or it is made one
 pub record IsOpened (old new : State) : Type 0 where
@@ -47,4 +51,4 @@ pub record IsOpened (old new : State) : Type 0 where
 
 -- what a crash may leave of it, beside what it left before
 abbrev pub MayLeaveOpened : State → Trees → Type 0
-MayLeaveOpened old trees = (db : Database) × (trees ≡ db.trees) × KeepsLedger old.now db × BlankBecomesLedger old.now db
+MayLeaveOpened old trees = (db : Database) × (trees ≡ db.trees) × KeepsLedger old.now db × BlankBecomesLedger old.now db × BlankJustGrows old.now db

@@ -8,7 +8,7 @@ ghost use Rattle.pay_postings.specs.declared.fault.PostFault.TheVariants.{BadArc
 ghost use Rattle.pay_restore.specs.Words.{ArePriced, restored};
 ghost use Rattle.pay_ledger.specs.Faults.{opens_by_store};
 ghost use Rattle.pay_records.specs.Words.{OnCleanDisk, LeavesAsBeforeOr, LeavesAsBefore, Answers, IsFree};
-ghost use Rattle.pay_ledger.specs.Opening.{HasNoView, IsWhy, IsOpened, MayLeaveOpened};
+ghost use Rattle.pay_ledger.specs.Opening.{HasNoView, IsWhy, IsOpened, BlankJustGrows, MayLeaveOpened};
 ghost use Rattle.pay_ledger.specs.Steps.{Posts, MayLeave};
 ghost use Rattle.pay_ledger.specs.BadRows.{ReadsAs, asked};
 ghost use Rattle.pay_ledger.specs.Calls.{ChangesNothing, ChangesNothingIfRefused, AnswersOfLedger, AnswersOfRows, AnswersOfReadable, FailsByStoreAlone, RefusesAsDefined, RefusesOpenAlone, RefusesBadRows, RefusesBadRowsFirst, RestoresRows, RestoresLedger};
@@ -51,6 +51,7 @@ impl<S: Alter> Ledger<S> {
     ) -> Result<Ledger<S>, (OpenFault, Connection<S>)>
         requires { conn.in_transaction ≡ false }
         ensures opened { IfOk result (λ ledger. OnCleanDisk S.Store conn ledger IsOpened) }
+        ensures grows { IfOk result (λ ledger. OnCleanDisk S.Store conn ledger (λ old new. BlankJustGrows old.now new.now)) }
         ensures no_view { IfOk result (λ ledger. OnCleanDisk S.Store conn ledger (λ old _. HasNoView old.now)) }
         ensures refused { IfErr result (λ e. OnCleanDisk S.Store conn e.1 (λ old _. IsWhy e.0 old.now)) }
         ensures of_blank { IfErr result (λ e. OnCleanDisk S.Store conn e.1 (λ old _. IsFree old.now → IsTrue (opens_by_store e.0))) }

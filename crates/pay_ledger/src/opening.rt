@@ -1,7 +1,7 @@
 ghost use Rattle.std.specs.Prelude.{◌≡◌, false, IsTrue};
 ghost use Rattle.pay_ledger.specs.Faults.{opens_by_store};
 ghost use Rattle.pay_records.specs.Words.{LeavesAsBeforeOr, Refuses, Does, IsFree};
-ghost use Rattle.pay_ledger.specs.Opening.{HasNoView, IsWhy, IsOpened, MayLeaveOpened, KeepsLedger, BlankBecomesLedger, IsLedgerOrBlank};
+ghost use Rattle.pay_ledger.specs.Opening.{HasNoView, IsWhy, IsOpened, MayLeaveOpened, KeepsLedger, BlankBecomesLedger, BlankJustGrows, IsLedgerOrBlank};
 ghost use Rattle.pay_ledger.specs.Calls.{ChangesNothingIfRefused, GoesOnIfDone, StaysIfRefused};
 
 use crate::fault::OpenFault;
@@ -13,6 +13,7 @@ fn ready<S: Alter>(tx: &mut Transaction<'_, S>) -> Result<(), OpenFault>
     ensures same_reference { tx.new.conn.ghost_name ≡ tx.old.conn.ghost_name }
     ensures ledger { Does S.Store tx.old.conn.now tx.new.conn.now result (λ old new. KeepsLedger old.now new.now) }
     ensures blank { Does S.Store tx.old.conn.now tx.new.conn.now result (λ old new. BlankBecomesLedger old.now new.now) }
+    ensures grows { Does S.Store tx.old.conn.now tx.new.conn.now result (λ old new. BlankJustGrows old.now new.now) }
     ensures of_kind { Does S.Store tx.old.conn.now tx.new.conn.now result (λ old _. IsLedgerOrBlank old.now) }
     ensures refused { Refuses S.Store tx.old.conn.now tx.new.conn.now result (λ old _ fault. IsWhy fault old.now) }
     ensures of_blank { Refuses S.Store tx.old.conn.now tx.new.conn.now result (λ old _ fault. IsFree old.now → IsTrue (opens_by_store fault)) }
@@ -32,6 +33,7 @@ fn prepare_tables<S: Alter>(conn: &mut Connection<S>) -> Result<(), OpenFault>
     requires { conn.old.in_transaction ≡ false }
     ensures autocommit { conn.new.in_transaction ≡ false }
     ensures opened { Does S.Store conn.old conn.new result IsOpened }
+    ensures grows { Does S.Store conn.old conn.new result (λ old new. BlankJustGrows old.now new.now) }
     ensures refused { Refuses S.Store conn.old conn.new result (λ old _ fault. IsWhy fault old.now) }
     ensures of_blank { Refuses S.Store conn.old conn.new result (λ old _ fault. IsFree old.now → IsTrue (opens_by_store fault)) }
     ensures kept { ChangesNothingIfRefused S.Store conn.old conn.new result }
@@ -49,6 +51,7 @@ pub(crate) fn prepare<S: Alter>(conn: &mut Connection<S>) -> Result<(), OpenFaul
     requires { conn.old.in_transaction ≡ false }
     ensures autocommit { conn.new.in_transaction ≡ false }
     ensures opened { Does S.Store conn.old conn.new result IsOpened }
+    ensures grows { Does S.Store conn.old conn.new result (λ old new. BlankJustGrows old.now new.now) }
     ensures no_view { Does S.Store conn.old conn.new result (λ old _. HasNoView old.now) }
     ensures refused { Refuses S.Store conn.old conn.new result (λ old _ fault. IsWhy fault old.now) }
     ensures of_blank { Refuses S.Store conn.old conn.new result (λ old _ fault. IsFree old.now → IsTrue (opens_by_store fault)) }
