@@ -65,6 +65,11 @@ fn opens_ledgers_alone(rt: HostRuntime) {
             3,
         ),
         ("DROP TABLE fixes", OpenFault::NotALedger, 1),
+        (
+            "DROP TABLE shares; CREATE VIEW shares AS SELECT id AS posting, 1 AS operator, amount FROM postings",
+            OpenFault::NotALedger,
+            1,
+        ),
     ] {
         expect_closed(&rt, changed(&rt, sql), fault, versions);
     }
@@ -124,9 +129,12 @@ fn posts_beside_no_bad_posting(rt: HostRuntime) {
     let _ = expect_rows(&rt, ledger, NO_POSTING_ROWS);
 }
 
+/// Another's table, which is there before the ledger.
+const NOTES: &str = "CREATE TABLE notes (text TEXT); INSERT INTO notes VALUES ('first')";
+
 /// Another's table, whose rows go with the posting that they refer to.
-const NOTES: &str =
-    "CREATE TABLE notes (posting INTEGER REFERENCES postings (id) ON DELETE CASCADE); INSERT INTO notes VALUES (NULL)";
+const MARKS: &str =
+    "CREATE TABLE marks (posting INTEGER REFERENCES postings (id) ON DELETE CASCADE); INSERT INTO marks VALUES (NULL)";
 
 /// Another's key of the ledger's own table: one posting an account.
 const ONE_POSTING: &str = "CREATE UNIQUE INDEX one_posting ON postings (account)";
@@ -146,11 +154,14 @@ tap 7 1 1 1704697200 19730 25200 10 0
 fn stands_beside_others(rt: HostRuntime) {
     let mut conn = Connection::open_in_memory(rt.alloc()).expect(&rt, "a database");
     run(&mut conn, NOTES).expect(&rt, NOTES);
-    let mut ledger = expect_rows(&rt, opened(&rt, conn), EMPTY);
+    let mut conn = expect_rows(&rt, opened(&rt, conn), EMPTY).into_connection();
+    run(&mut conn, MARKS).expect(&rt, MARKS);
+    let mut ledger = opened(&rt, conn);
     expect_run(&rt, &mut ledger, LINES, 4, REPLIES);
     let mut conn = expect_rows(&rt, ledger, JOURNEY).into_connection();
     let notes = number(&mut conn, "SELECT count(*) FROM notes");
-    expect_same(&rt, notes, Ok(1));
+    let marks = number(&mut conn, "SELECT count(*) FROM marks");
+    expect_same(&rt, (notes, marks), (Ok(1), Ok(1)));
     let mut ledger = opened(&rt, changed(&rt, ONE_POSTING));
     expect_run(&rt, &mut ledger, LINES, 4, REFUSED);
     let _ = expect_rows(&rt, ledger, ENTERED);
