@@ -9,3 +9,4 @@ pub mod Spelled
 pub mod ReplyStreams
 pub mod ShareWords
 pub mod Visible
+pub mod WriterCalls

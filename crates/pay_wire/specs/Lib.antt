@@ -1,3 +1,4 @@
+pub mod Calls
 pub mod Commands
 pub mod Fields
 pub mod Numbers

@@ -1,4 +1,5 @@
--- Words for the crate above: the commands that lines spell, the spelling of replies, and what a writer holds.
+-- Words for the crate above: what a writer answers, the commands that lines spell, the spelling of replies, and what a writer holds.
+pub use Rattle.pay_wire.specs.Calls.{WriterCall, answer_of, IsFlushed, IsCaused, HasFault}
 pub use Rattle.pay_wire.specs.Commands.{command_of}
 pub use Rattle.pay_wire.specs.Output.{AppendsFront}
 pub use Rattle.pay_wire.specs.Replies.{spelling_of_reply}

@@ -10,9 +10,11 @@ mod output;
 mod refusal;
 mod reply;
 mod sending;
+mod told_writer;
 
 pub use command::{Command, SpelledCredit, SpelledFix, SpelledTap, SpelledWhat, read_command};
 pub use output::WriteFault;
 pub use refusal::Refusal;
 pub use reply::{Closed, Reply};
 pub use sending::{send, send_line};
+pub use told_writer::ToldWriter;

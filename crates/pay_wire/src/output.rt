@@ -1,12 +1,14 @@
 //! A writer, and how it did when it was last asked.
-ghost use Rattle.std.specs.Prelude.{◌≡◌, ◌≢◌, ◌<◌, false, Ok, IfOk, IfErr, OnOk};
+ghost use Rattle.std.specs.Prelude.{◌≡◌, ◌≢◌, ◌<◌, false, length, Ok, IfOk, IfErr, OnOk};
 ghost use Rattle.std.specs.Io.{WritesAtMost};
 ghost use Rattle.std.specs.Io.KnownBytes.{WriteAppends, Keeps};
 ghost use Rattle.std.specs.IoError.{error_kind};
+ghost use Rattle.pay_wire.specs.Calls.{Wrote, answer_of, IsFlushed, IsCaused, HasCause};
 ghost use Rattle.pay_wire.specs.Output.{has_failed};
 
+use crate::told_writer::ToldWriter;
 use std::io;
-use std::io::{ErrorKind, Write};
+use std::io::ErrorKind;
 use thiserror::Error;
 
 /// Why a writer has not taken a reply.
@@ -44,7 +46,7 @@ pub struct Output<'a, W> {
     state: State,
 }
 
-impl<'a, W: Write> Output<'a, W> {
+impl<'a, W: ToldWriter> Output<'a, W> {
     /// A writer that was not asked yet.
     pub fn new(writer: &'a mut W) -> Output<'a, W>
         ensures same_writer { result.writer.ghost_name ≡ writer.entry.ghost_name }
@@ -66,7 +68,8 @@ impl<'a, W: Write> Output<'a, W> {
 
     /// Asks the writer to take bytes, and keeps how it did.
     pub fn write(&mut self, bytes: &[u8]) -> io::Result<usize>
-        requires { has_failed self.old.state ≡ false }
+        requires some { 0 < length bytes.now }
+        requires not_failed { has_failed self.old.state ≡ false }
         ensures same_writer { self.new.writer.ghost_name ≡ self.old.writer.ghost_name }
         ensures bound { WritesAtMost result bytes.now }
         ensures bytes { WriteAppends (W.contents self.old.writer.now) (W.contents self.new.writer.now) result bytes.now }
@@ -75,8 +78,10 @@ impl<'a, W: Write> Output<'a, W> {
         ensures interrupted { IfErr result (λ e. error_kind e ≡ ErrorKind.Interrupted → self.new.state ≡ State.Interrupted) }
         ensures failed { IfErr result (λ e. error_kind e ≢ ErrorKind.Interrupted
             → self.new.state ≡ State.Failed (WriteFault.Failed (error_kind e))) }
+        ensures told { W.Tells self.old.writer.now (Wrote (length bytes.now) (answer_of (λ n. n) error_kind result)) self.new.writer.now }
+        ensures cause { HasCause W.Tells self.new.state self.new.writer.now }
     {
-        let written = self.writer.write(bytes);
+        let written = self.writer.ask_to_write(bytes);
         self.state = state_after(&written);
         written
     }
@@ -89,8 +94,10 @@ impl<'a, W: Write> Output<'a, W> {
         ensures ok { OnOk result (self.new.state ≡ State.Flushed) }
         ensures err { IfErr result (λ fault. self.new.state ≡ State.Failed fault) }
         ensures not_interrupted { IfErr result (λ fault. fault ≢ WriteFault.Failed ErrorKind.Interrupted) }
+        ensures flushed { OnOk result (IsFlushed W.Tells self.new.writer.now) }
+        ensures cause { IfErr result (λ fault. IsCaused W.Tells fault self.new.writer.now) }
     {
-        match self.writer.flush() {
+        match self.writer.ask_to_flush() {
             Ok(()) => {
                 self.state = State::Flushed;
                 Ok(())
