@@ -8,7 +8,7 @@ use Rattle.std.specs.Io.BufRead.{DropsConsumable}
 use Rattle.pay_session.specs.Events.{Event}
 use Rattle.pay_session.specs.SessionSteps.{Position, facing, with_ahead, Advances, Breaks, TakesToQuit, BringsMore, BringsEnd, BringsQuit, Loses}
 use Rattle.pay_session.specs.declared.request.Request.{Request}
-use Rattle.pay_session.specs.Stops.{IsFailure, IsWriteFailure}
+use Rattle.pay_session.specs.Stops.{IsWriteFailure}
 use Rattle.pay_session.specs.declared.stop.Stop.{Stop}
 use Rattle.pay_session.specs.declared.stop.Stop.TheVariants.{Read, NoMoreFills, Write}
 use Rattle.pay_session.proofs.SessionSteps.{Advances_none}
@@ -27,11 +27,6 @@ consumed (Some xs) (Some ys) new limit shown amount within keeps shows drops = d
 
 drop_front : (xs ys : List ℕ) (n : ℕ) → n ≡ length xs → drop n (xs ++ ys) ≡ ys
 drop_front xs ys n e = ap (λ k. drop k (xs ++ ys)) e ∙ drop-append_seam xs ys
-
-pub failed : (stop : Stop) → IsWriteFailure stop → IsFailure stop
-failed (Read kind) f = absurd f
-failed NoMoreFills f = absurd f
-failed (Write failure) f = f
 
 module _ {S : Type 0} (Serves : S → Request → Event → S → Type 0) where
   -- ---- nothing is taken

@@ -5,6 +5,7 @@ pub mod InputPieces
 pub mod Newlines
 pub mod OverDesk
 pub mod PutCommands
+pub mod ReaderCalls
 pub mod SessionSteps
 pub mod UnendedLine
 pub mod WholeSession

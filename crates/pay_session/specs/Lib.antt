@@ -1,5 +1,6 @@
 pub mod Requests
 pub mod Asks
+pub mod Calls
 pub mod Events
 pub mod Served
 pub mod Serving

@@ -13,9 +13,11 @@ mod service;
 mod sessions;
 mod stop;
 mod till;
+mod told_reader;
 
 pub use asks::Asks;
 pub use request::Request;
 pub use sessions::{Done, session};
 pub use stop::SessionFault;
 pub use till::{NoTill, Till};
+pub use told_reader::ToldReader;

@@ -3,7 +3,8 @@ ghost use Rattle.std.specs.Prelude.{◌≡◌, ◌≢◌, ◌+◌, ◌<◌, ◌�
 ghost use Rattle.pay_session.specs.Events.{lacks_memory};
 ghost use Rattle.pay_session.specs.Requests.{has_newline, IsAsked};
 ghost use Rattle.pay_session.specs.SessionSteps.{at, facing, Advances, Breaks, Replies, Falters, EndsLine, TakesToQuit, EndsRest, FaltersAtRest, Ran, Fills, FailsAs, Finishes, StopsAs};
-ghost use Rattle.pay_session.specs.Stops.{IsFailure, IsWriteFailure};
+ghost use Rattle.pay_session.specs.Calls.{IsFill, IsLastFill, ShowsNothing};
+ghost use Rattle.pay_session.specs.Stops.{IsStop, IsStopOfFill, IsWriteStop};
 
 use crate::begun_line::BegunLine;
 use crate::cut::cut;
@@ -12,8 +13,8 @@ use crate::request::{Request, request_of_rest};
 use crate::service::Answers;
 use crate::sessions::Done;
 use crate::stop::{Stop, unless_interrupted};
-use pay_wire::{Refusal, Reply, send};
-use std::io::{BufRead, Write};
+use crate::told_reader::ToldReader;
+use pay_wire::{Refusal, Reply, ToldWriter, send};
 
 /// How far a session is.
 #[derive(Drop)]
@@ -68,7 +69,7 @@ impl Progress {
     }
 
     /// Answers the lines of a reader up to a `QUIT` or to the end of the input, and says whether it was a `QUIT`.
-    pub fn serve<A: Answers, R: BufRead, W: Write>(
+    pub fn serve<A: Answers, R: ToldReader, W: ToldWriter>(
         &mut self,
         answers: &mut A,
         reader: &mut R,
@@ -82,7 +83,8 @@ impl Progress {
         ensures fails { IfErr result (StopsAs A.Serves (at self.old answers.old (W.contents writer.old)) (R.remaining reader.old) (R.remaining reader.new)
             (at self.new answers.new (W.contents writer.new))) }
         ensures ran { Ran A.Serves answers.old answers.new }
-        ensures cause { IfErr result (λ stop. stop ≢ Stop.NoMoreFills → IsFailure stop) }
+        ensures ended { IfOk result (λ quit. quit ≡ false → IsLastFill R.Tells (ShowsNothing R.Tells) reader.old reader.new) }
+        ensures cause { IfErr result (λ stop. IsStop R.Tells W.Tells stop reader.old reader.new writer.new) }
     {
         for _ in 0..MOST_FILLS {
             match self.turn(answers, reader, writer)? {
@@ -98,7 +100,7 @@ impl Progress {
     }
 
     /// Takes what one fill of the reader's buffer shows.
-    fn turn<A: Answers, R: BufRead, W: Write>(
+    fn turn<A: Answers, R: ToldReader, W: ToldWriter>(
         &mut self,
         answers: &mut A,
         reader: &mut R,
@@ -113,9 +115,11 @@ impl Progress {
         ensures loses { IfErr result (FailsAs A.Serves (at self.old answers.old (W.contents writer.old)) (R.remaining reader.old) (R.remaining reader.new)
             (at self.new answers.new (W.contents writer.new))) }
         ensures ran { Ran A.Serves answers.old answers.new }
-        ensures cause { IfErr result IsFailure }
+        ensures filled { IfOk result (λ fill. fill ≢ Fill.End → IsFill R.Tells reader.old reader.new) }
+        ensures ended { IfOk result (λ fill. fill ≡ Fill.End → ShowsNothing R.Tells reader.old reader.new) }
+        ensures cause { IfErr result (λ stop. IsStopOfFill R.Tells W.Tells stop reader.old reader.new writer.new) }
     {
-        let shown = match reader.fill_buf() {
+        let shown = match reader.ask_to_fill() {
             Ok(shown) => shown,
             Err(error) => {
                 unless_interrupted(&error)?;
@@ -128,11 +132,11 @@ impl Progress {
         let len = shown.len();
         match self.take(answers, shown, writer)? {
             None => {
-                reader.consume(len);
+                reader.ask_to_consume(len);
                 Ok(Fill::More)
             }
             Some(left) => {
-                reader.consume(len - left);
+                reader.ask_to_consume(len - left);
                 Ok(Fill::Quit)
             }
         }
@@ -140,7 +144,7 @@ impl Progress {
 
     /// Takes the bytes, and answers each line that ends in them. Where one asks to quit, the answer
     /// is how many bytes are left behind it.
-    fn take<A: Answers, W: Write>(
+    fn take<A: Answers, W: ToldWriter>(
         &mut self,
         answers: &mut A,
         bytes: &[u8],
@@ -158,7 +162,7 @@ impl Progress {
         ensures breaks { OnErr result (Breaks A.Serves (facing (at self.old answers.old (W.contents writer.old)) bytes.now)
             (at self.new answers.new (W.contents writer.new))) }
         ensures ran { Ran A.Serves answers.old answers.new }
-        ensures cause { IfErr result IsWriteFailure }
+        ensures cause { IfErr result (λ stop. IsWriteStop W.Tells stop writer.new) }
     {
         let mut ahead = bytes;
         while let Some((text, rest)) = cut(ahead) {
@@ -172,7 +176,7 @@ impl Progress {
     }
 
     /// Answers the line that ends with this text, and says whether it asked to quit.
-    fn end_line<A: Answers, W: Write>(
+    fn end_line<A: Answers, W: ToldWriter>(
         &mut self,
         answers: &mut A,
         text: &[u8],
@@ -187,7 +191,7 @@ impl Progress {
         ensures breaks { OnErr result ((rest : List ℕ) → Breaks A.Serves (facing (at self.old answers.old (W.contents writer.old)) (text.now ++ 10 ∷ rest))
             (at self.new answers.new (W.contents writer.new))) }
         ensures ran { Ran A.Serves answers.old answers.new }
-        ensures cause { IfErr result IsWriteFailure }
+        ensures cause { IfErr result (λ stop. IsWriteStop W.Tells stop writer.new) }
     {
         let request = self.line.finish(text);
         self.answer(answers, request, writer)?;
@@ -195,12 +199,16 @@ impl Progress {
     }
 
     /// Answers what no newline ended.
-    fn end<A: Answers, W: Write>(&mut self, answers: &mut A, writer: &mut W) -> Result<(), Stop>
+    fn end<A: Answers, W: ToldWriter>(
+        &mut self,
+        answers: &mut A,
+        writer: &mut W,
+    ) -> Result<(), Stop>
         requires count { self.old.answered + 1 < 2 ^ 128 }
         ensures ends { OnOk result (EndsRest A.Serves (at self.old answers.old (W.contents writer.old)) (at self.new answers.new (W.contents writer.new))) }
         ensures falters { OnErr result (FaltersAtRest A.Serves (at self.old answers.old (W.contents writer.old)) (at self.new answers.new (W.contents writer.new))) }
         ensures ran { Ran A.Serves answers.old answers.new }
-        ensures cause { IfErr result IsWriteFailure }
+        ensures cause { IfErr result (λ stop. IsWriteStop W.Tells stop writer.new) }
     {
         let rest = self.line.as_slice();
         if rest.is_empty() {
@@ -211,7 +219,7 @@ impl Progress {
     }
 
     /// Answers one request.
-    fn answer<A: Answers, W: Write>(
+    fn answer<A: Answers, W: ToldWriter>(
         &mut self,
         answers: &mut A,
         request: Request,
@@ -223,7 +231,7 @@ impl Progress {
         ensures replies { OnOk result (Replies A.Serves request (at self.old answers.old (W.contents writer.old)) (at self.new answers.new (W.contents writer.new))) }
         ensures falters { OnErr result (Falters A.Serves request (at self.old answers.old (W.contents writer.old)) (at self.new answers.new (W.contents writer.new))) }
         ensures ran { Ran A.Serves answers.old answers.new }
-        ensures cause { IfErr result IsWriteFailure }
+        ensures cause { IfErr result (λ stop. IsWriteStop W.Tells stop writer.new) }
     {
         let reply = answers.answer(request);
         match send(writer, &reply) {

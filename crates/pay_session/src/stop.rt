@@ -1,7 +1,7 @@
 //! Why a session stops before its end.
-ghost use Rattle.std.specs.Prelude.{◌≡◌, ◌↔◌, IsOk, IfErr};
+ghost use Rattle.std.specs.Prelude.{◌≡◌, ◌≢◌, ◌↔◌, IsOk, IfErr, OnErr};
 ghost use Rattle.std.specs.IoError.{error_kind};
-ghost use Rattle.pay_session.specs.Stops.{IsFailure, fault_of};
+ghost use Rattle.pay_session.specs.Stops.{fault_of};
 
 use pay_wire::WriteFault;
 use std::io;
@@ -46,7 +46,7 @@ impl Stop {
 pub fn unless_interrupted(error: &io::Error) -> Result<(), Stop>
     ensures interrupted { IsOk result ↔ (error_kind error.now ≡ ErrorKind.Interrupted) }
     ensures failed { IfErr result (λ stop. stop ≡ Stop.Read (error_kind error.now)) }
-    ensures cause { IfErr result IsFailure }
+    ensures other { OnErr result (error_kind error.now ≢ ErrorKind.Interrupted) }
 {
     let kind = error.kind();
     if kind == ErrorKind::Interrupted {

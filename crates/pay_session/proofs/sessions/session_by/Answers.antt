@@ -1,4 +1,5 @@
 use Rattle.pay_session.proofs.OverDesk.{ran, ends, fails}
+use Rattle.pay_session.proofs.ReaderCalls.{broken}
 use Rattle.pay_session.proofs.sessions.session_by.Goals as goal
 
 pub returns-in-Ok-clause-desk_name : goal.returns-in-Ok-clause-desk_name
@@ -36,3 +37,6 @@ returns-in-Ok-clause-ends g c = rw c.done.ensures (ends g.D.Desk.parts g.T.Till.
 
 pub returns-in-Err-clause-fails : goal.returns-in-Err-clause-fails
 returns-in-Err-clause-fails g c = rw (c.after.ensures, c.answered.ensures) (fails g.D.Desk.parts g.T.Till.Closes g.T.Till.origin _ _ _ _ _ _ _ c.in-Err.ensures.fails)
+
+pub returns-in-Err-clause-cause : goal.returns-in-Err-clause-cause
+returns-in-Err-clause-cause g c = rw c.after.ensures (broken g.R.ToldReader.Tells g.W.ToldWriter.Tells _ _ _ _ _ c.in-Err.ensures.cause)
