@@ -24,7 +24,7 @@ use Rattle.pay_records.specs.declared.kind.Kind.{Kind}
 use Rattle.pay_records.specs.declared.kind.Kind.TheVariants as kind
 use Rattle.pay_records.specs.declared.kind.Presence.{Presence}
 use Rattle.pay_records.specs.declared.kind.Presence.TheVariants.{Missing, There, Partly}
-use Rattle.pay_records.specs.Kinds.{presence_of, is_there, together, IsToldBy, tables_in, kind_by, IsKindBy, IsKindOf, IsOfKindBy, IsOfKind}
+use Rattle.pay_records.specs.Kinds.{presence_of, is_there, together, told_by, tables_in, kind_by, IsKindBy, IsKindOf, IsOfKindBy, IsOfKind}
 use Rattle.pay_records.specs.Rows.{LedgerRows, HoldsRows}
 use Rattle.pay_records.specs.Free.{IsFree}
 use Rattle.pay_records.proofs.Kept.{kept_unchanged, kept_not_run}
@@ -60,6 +60,18 @@ refused old new sql e h = go (h [])
     go (inl (inr (c, is, inr (inr clock)), same)) = absurd (let e = clock.1 in cc)
     go (inr fails) = absurd (no_store_error fails.0 e fails.1)
 
+-- a table is there where its query was prepared; it is missing, or is another's, where the query names no table, or no column
+abbrev IsToldBy : Presence → Result Outline Error → Type 0
+IsToldBy p r =
+    ((statement : Outline) × (r ≡ Ok statement) × (p ≡ There))
+    ⊎ (((r ≡ Err (SqlInputError NoSuchTable)) × (p ≡ Missing)) ⊎ ((r ≡ Err (SqlInputError NoSuchColumn)) × (p ≡ Partly)))
+
+told_so : (r : Result Outline Error) → IfOk (told_by r) (λ p. IsToldBy p r)
+told_so (Ok statement) = inl (statement, refl, refl)
+told_so (Err (SqlInputError NoSuchTable)) = inr (inl (refl, refl))
+told_so (Err (SqlInputError NoSuchColumn)) = inr (inr (refl, refl))
+told_so (Err _) = tt
+
 module _ (old new : State) (sql : List ℕ) where
   found_by : (r : Result Outline Error) → IfOk r (λ s. (s.text ≡ sql) × IsUnchanged old new) → IfOk r (Outlines (understood old.now.schema sql)) → IfErr r (λ e. (params : Row) → IsNotRun old new sql params e)
       → (p : Presence) → IsToldBy p r → (p ≡ presence_of (understood old.now.schema sql)) × IsUnchanged old new
@@ -77,9 +89,12 @@ module _ (old new : State) (sql : List ℕ) where
       (told.1 ∙ sym (ap presence_of it.0), it.1)
 
   pub presence_told : (r : Result Outline Error) → IfOk r (λ s. (s.text ≡ sql) × IsUnchanged old new) → IfOk r (Outlines (understood old.now.schema sql)) → IfErr r (λ e. (params : Row) → IsNotRun old new sql params e)
-      → (a : Result Presence ReadFault) → IfOk a (λ p. IsToldBy p r) → IfOk a (λ p. (p ≡ presence_of (understood old.now.schema sql)) × IsUnchanged old new)
-  presence_told r ok shape err (Ok p) told = found_by r ok shape err p told
-  presence_told r ok shape err (Err e) told = tt
+      → (a : Result Presence ReadFault) → a ≡ told_by r → IfOk a (λ p. (p ≡ presence_of (understood old.now.schema sql)) × IsUnchanged old new)
+  presence_told r ok shape err a told = by a (subst (λ a. IfOk a (λ p. IsToldBy p r)) (sym told) (told_so r))
+    where
+      by : (a : Result Presence ReadFault) → IfOk a (λ p. IsToldBy p r) → IfOk a (λ p. (p ≡ presence_of (understood old.now.schema sql)) × IsUnchanged old new)
+      by (Ok p) is = found_by r ok shape err p is
+      by (Err e) is = tt
 
   pub kept_prepared : (r : Result Outline Error) → IfOk r (λ s. (s.text ≡ sql) × IsUnchanged old new) → IfErr r (λ e. (params : Row) → IsNotRun old new sql params e) → KeepsCommit old new
   kept_prepared (Ok s) ok err = kept_unchanged old new ok.1

@@ -29,3 +29,4 @@ mod Posted
 mod Kept
 mod Made
 mod Views
+mod Wholes

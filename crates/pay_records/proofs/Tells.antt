@@ -1,5 +1,5 @@
 -- What the rows that each SELECT shows tell.
-use Rattle.std.proofs.Common.{◌≡◌, ℕ, ℤ, List, [], ◌∷◌, map, refl, sym, ap, subst, ◌∙◌, IsPermutation}
+use Rattle.std.proofs.Common.{◌≡◌, ◌≢◌, ℕ, ℤ, List, [], ◌∷◌, map, Result, Err, IfErr, refl, sym, ap, subst, ◌∙◌, IsPermutation}
 use Rattle.std.specs.List.{AllByRecursion}
 use Rattle.sqlite.specs.declared.types.Value.TheVariants.{Int}
 use Rattle.sqlite.specs.Order.{Row, column}
@@ -9,10 +9,16 @@ use Rattle.pay_rows.specs.declared.row.ShareRow.{ShareRow}
 use Rattle.pay_rows.specs.declared.row.TapRow.{TapRow}
 use Rattle.pay_rows.specs.declared.row.FixRow.{FixRow}
 use Rattle.pay_records.specs.Rows.{LedgerRows, HoldsRows, share_numbers, tap_numbers, fix_numbers}
-use Rattle.pay_records.specs.Told.{IsWhole, AreWhole, whole_in, posting_at, share_at, tap_at, fix_at}
+use Rattle.pay_records.specs.declared.fault.ReadFault.{ReadFault}
+use Rattle.pay_records.specs.declared.fault.ReadFault.TheVariants.{BadArchive, Memory}
+use Rattle.pay_records.specs.Told.{IsWhole, AreWhole, whole_in, IsBadUnless, posting_at, share_at, tap_at, fix_at}
 use Rattle.pay_records.specs.Found.{Finds, postings_of, shares_of, taps_of, fixes_of}
 use Rattle.pay_records.proofs.SelectTexts.{select_postings, select_shares, select_taps, select_fixes, select_all_taps, select_all_fixes}
 use Rattle.pay_records.proofs.Answered.{told_in_some_order, told_in_order, each_shown, each_in_order, tap_shown, fix_shown, posting_shown, taps_shown, fixes_shown, all_taps_shown, all_fixes_shown, shares_shown, postings_shown}
+
+-- columns that are whole numbers are not told to be bad
+pub never_told_bad : {A : Type 0} (r : Result A ReadFault) (Whole : Type 0) → IfErr r (λ fault. fault ≢ Memory → IsBadUnless Whole fault) → r ≡ Err BadArchive → Whole → ⊥
+never_told_bad r Whole told bad whole = (subst (λ r. IfErr r (λ fault. fault ≢ Memory → IsBadUnless Whole fault)) bad told (λ e. cc)).1 whole
 
 itself : {X : Type 0} (xs : List X) → map (λ x. x) xs ≡ xs
 itself [] = refl

@@ -1,5 +1,5 @@
 -- What a database is to a ledger.
-use Rattle.std.specs.Prelude.{bytes_eq, ◌≡◌, ◌⊎◌, Bool, true, false, ◌&&◌, ◌||◌, is_some, is_none, pos, map, drop, if◌then◌else◌, ℕ, List, [], ◌∷◌, codes, None, Result, Ok, Err, refl}
+use Rattle.std.specs.Prelude.{bytes_eq, ◌≡◌, Bool, true, false, ◌&&◌, ◌||◌, is_some, is_none, pos, map, drop, if◌then◌else◌, ℕ, List, [], ◌∷◌, codes, None, Result, Ok, Err, refl}
 use Rattle.std.specs.Ordering.{int_eq}
 use Rattle.sqlite_resolve.specs.declared.compiled.Compiled.{Compiled}
 use Rattle.sqlite_resolve.specs.declared.error.CompileError.{CompileError}
@@ -17,6 +17,8 @@ use Rattle.sqlite.specs.Listing.{understood}
 use Rattle.sqlite_schema.specs.Names.{same_name, table_named, view_named}
 use Rattle.pay_records.specs.Tables.{no_schema, meta, ledger_schema}
 use Rattle.pay_records.specs.Places.{Place, HasTable, other_schema}
+use Rattle.pay_records.specs.declared.fault.ReadFault.{ReadFault}
+use Rattle.pay_records.specs.declared.fault.ReadFault.TheVariants.{Store}
 use Rattle.pay_records.specs.declared.kind.Kind.{Kind}
 use Rattle.pay_records.specs.declared.kind.Kind.TheVariants.{Blank, Ledger, Version, Other}
 use Rattle.pay_records.specs.declared.kind.Presence.{Presence}
@@ -34,11 +36,12 @@ together There There = There
 together Missing Missing = Missing
 together _ _ = Partly
 
--- what it tells of a table that a query of it was prepared, or was not
-abbrev pub IsToldBy : Presence → Result Outline Error → Type 0
-IsToldBy p r =
-    ((statement : Outline) × (r ≡ Ok statement) × (p ≡ There))
-    ⊎ (((r ≡ Err (SqlInputError NoSuchTable)) × (p ≡ Missing)) ⊎ ((r ≡ Err (SqlInputError NoSuchColumn)) × (p ≡ Partly)))
+-- What it tells of a table that a query of it was prepared, or was not. Any other failure is the store's.
+abbrev pub told_by : Result Outline Error → Result Presence ReadFault
+told_by (Ok statement) = Ok There
+told_by (Err (SqlInputError NoSuchTable)) = Ok Missing
+told_by (Err (SqlInputError NoSuchColumn)) = Ok Partly
+told_by (Err _) = Err Store
 
 abbrev pub is_there : Schema → List ℕ → Presence
 is_there schema text = presence_of (understood schema text)

@@ -7,6 +7,8 @@ use Rattle.pay_rows.specs.declared.row.PostingRow.{PostingRow}
 use Rattle.pay_rows.specs.declared.row.ShareRow.{ShareRow}
 use Rattle.pay_rows.specs.declared.row.TapRow.{TapRow}
 use Rattle.pay_rows.specs.declared.row.FixRow.{FixRow}
+use Rattle.pay_records.specs.declared.fault.ReadFault.{ReadFault}
+use Rattle.pay_records.specs.declared.fault.ReadFault.TheVariants.{BadArchive}
 
 -- a value is a whole number
 abbrev pub IsWhole : Value → Type 0
@@ -16,6 +18,10 @@ IsWhole value = (number : ℤ) × (value ≡ Int number)
 abbrev pub AreWhole : ℕ → ℕ → Row → Type 0
 AreWhole from zero row = ⊤
 AreWhole from (suc width) row = IsWhole (column row from) × AreWhole (from + 1) width row
+
+-- a refusal is that columns are bad, and they are not whole numbers
+abbrev pub IsBadUnless : Type 0 → ReadFault → Type 0
+IsBadUnless Whole fault = (fault ≡ BadArchive) × (Whole → ⊥)
 
 -- the number, and 0 where there is none
 abbrev pub whole_in : Value → ℤ

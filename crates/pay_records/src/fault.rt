@@ -1,4 +1,3 @@
-use sqlite::ErrorCode;
 use std::alloc::AllocFailed;
 use thiserror::Error;
 
@@ -8,26 +7,23 @@ pub enum ReadFault {
     /// A column has no whole number.
     #[error("45 BadArchive")]
     BadArchive,
-    /// A call of the database failed.
+    /// A call of the database failed, for want of memory too.
     #[error("43 Store")]
     Store,
-    /// Memory was refused.
+    /// A growth of what is read was refused.
     #[error("90 Memory")]
     Memory,
 }
 
-/// What the database answers in place of rows.
+/// What the database answers in place of rows: its own want of memory is a failure like any other.
 impl From<sqlite::Error> for ReadFault {
-    ghost use Rattle.std.specs.Prelude.{◌≢◌};
-    ghost use Rattle.pay_records.specs.declared.fault.ReadFault.TheVariants.{BadArchive};
+    ghost use Rattle.std.specs.Prelude.{◌≡◌};
+    ghost use Rattle.pay_records.specs.declared.fault.ReadFault.TheVariants.{Store};
 
-    ghost from_gives = { λ _ fault. fault ≢ BadArchive };
+    ghost from_gives = { λ _ fault. fault ≡ Store };
 
-    fn from(error: sqlite::Error) -> ReadFault {
-        match error {
-            sqlite::Error::SqliteFailure(ErrorCode::OutOfMemory) => ReadFault::Memory,
-            _ => ReadFault::Store,
-        }
+    fn from(_: sqlite::Error) -> ReadFault {
+        ReadFault::Store
     }
 }
 

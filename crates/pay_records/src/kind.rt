@@ -1,8 +1,7 @@
-ghost use Rattle.std.specs.Prelude.{◌≡◌, false, [], IfOk, Err};
+ghost use Rattle.std.specs.Prelude.{◌≡◌, false, [], IsOkUnless};
 ghost use Rattle.sqlite.specs.Held.{state};
-ghost use Rattle.pay_records.specs.Kinds.{is_there, together, IsToldBy, posting_tables_in, tables_in, is_view, has_view, kind_by, IsKindOf, IsOfKind};
+ghost use Rattle.pay_records.specs.Kinds.{is_there, together, told_by, posting_tables_in, tables_in, is_view, has_view, kind_by, IsKindOf, IsOfKind};
 ghost use Rattle.pay_records.specs.Free.{IsFree};
-ghost use Rattle.pay_records.specs.declared.fault.ReadFault.TheVariants.{BadArchive};
 ghost use Rattle.pay_records.specs.Calls.{LeavesAsBefore, CommitsNothing, CommitsNothingInside, StaysInside, Answers, SeesInSchema, SeesNoTables, FindsInRows};
 
 use crate::fault::ReadFault;
@@ -51,8 +50,8 @@ impl Presence {
 
 /// What it tells of a table that a query of it was prepared, or was not.
 fn told_by(prepared: &Result<Statement, Error>) -> Result<Presence, ReadFault>
-    ensures value { IfOk result (λ p. IsToldBy p prepared.now) }
-    ensures never_bad { result ≡ Err BadArchive → ⊥ }
+    ensures value { result ≡ told_by prepared.now }
+    ensures store { IsOkUnless result ReadFault.Store }
 {
     match prepared {
         Ok(_) => Ok(Presence::There),
@@ -66,7 +65,7 @@ fn told_by(prepared: &Result<Statement, Error>) -> Result<Presence, ReadFault>
 fn presence_by<S: Alter>(tx: &mut Transaction<'_, S>, sql: &str) -> Result<Presence, ReadFault>
     ensures same_reference { tx.new.conn.ghost_name ≡ tx.old.conn.ghost_name }
     ensures value { SeesInSchema S.Store tx.old.conn.now tx.new.conn.now result (λ schema. is_there schema sql.now) }
-    ensures never_bad { result ≡ Err BadArchive → ⊥ }
+    ensures store { IsOkUnless result ReadFault.Store }
     ensures kept { CommitsNothing S.Store tx.old.conn.now tx.new.conn.now }
     ensures survives { LeavesAsBefore S.Store tx.old.conn.now tx.new.conn.now }
 {
@@ -78,7 +77,7 @@ fn presence_by<S: Alter>(tx: &mut Transaction<'_, S>, sql: &str) -> Result<Prese
 fn posting_tables<S: Alter>(tx: &mut Transaction<'_, S>) -> Result<Presence, ReadFault>
     ensures same_reference { tx.new.conn.ghost_name ≡ tx.old.conn.ghost_name }
     ensures value { SeesInSchema S.Store tx.old.conn.now tx.new.conn.now result posting_tables_in }
-    ensures never_bad { result ≡ Err BadArchive → ⊥ }
+    ensures store { IsOkUnless result ReadFault.Store }
     ensures kept { CommitsNothing S.Store tx.old.conn.now tx.new.conn.now }
     ensures survives { LeavesAsBefore S.Store tx.old.conn.now tx.new.conn.now }
 {
@@ -95,7 +94,7 @@ fn posting_tables<S: Alter>(tx: &mut Transaction<'_, S>) -> Result<Presence, Rea
 fn tables<S: Alter>(tx: &mut Transaction<'_, S>) -> Result<Presence, ReadFault>
     ensures same_reference { tx.new.conn.ghost_name ≡ tx.old.conn.ghost_name }
     ensures value { SeesInSchema S.Store tx.old.conn.now tx.new.conn.now result tables_in }
-    ensures never_bad { result ≡ Err BadArchive → ⊥ }
+    ensures store { IsOkUnless result ReadFault.Store }
     ensures kept { CommitsNothing S.Store tx.old.conn.now tx.new.conn.now }
     ensures survives { LeavesAsBefore S.Store tx.old.conn.now tx.new.conn.now }
 {
@@ -162,7 +161,7 @@ fn by_tables<S: Alter>(tx: &mut Transaction<'_, S>) -> Result<Kind, ReadFault>
     ensures same_reference { tx.new.conn.ghost_name ≡ tx.old.conn.ghost_name }
     ensures value { Answers S.Store tx.old.conn.now tx.new.conn.now result IsKindOf }
     ensures inside { StaysInside S.Store tx.old.conn.now tx.new.conn.now result }
-    ensures never_bad { result ≡ Err BadArchive → ⊥ }
+    ensures store { IsOkUnless result ReadFault.Store }
     ensures kept { CommitsNothingInside S.Store tx.old.conn.now tx.new.conn.now }
     ensures survives { LeavesAsBefore S.Store tx.old.conn.now tx.new.conn.now }
 {
@@ -180,7 +179,7 @@ pub fn kind_of<S: Alter>(tx: &mut Transaction<'_, S>) -> Result<Kind, ReadFault>
     ensures blank { SeesNoTables S.Store tx.old.conn.now tx.new.conn.now result Kind.Blank }
     ensures ledger { FindsInRows S.Store tx.old.conn.now tx.new.conn.now result (λ _ kind. kind ≡ Kind.Ledger) }
     ensures inside { StaysInside S.Store tx.old.conn.now tx.new.conn.now result }
-    ensures never_bad { result ≡ Err BadArchive → ⊥ }
+    ensures store { IsOkUnless result ReadFault.Store }
     ensures kept { CommitsNothingInside S.Store tx.old.conn.now tx.new.conn.now }
     ensures survives { LeavesAsBefore S.Store tx.old.conn.now tx.new.conn.now }
 {

@@ -1,8 +1,7 @@
-ghost use Rattle.std.specs.Prelude.{◌≡◌, IsPermutation, Err};
+ghost use Rattle.std.specs.Prelude.{◌≡◌, IsPermutation, IsOkUnless};
 ghost use Rattle.sqlite.specs.Values.{bound};
 ghost use Rattle.sqlite.specs.State.{Shown};
 ghost use Rattle.pay_records.specs.Found.{postings_of, shares_of, taps_of, fixes_of};
-ghost use Rattle.pay_records.specs.declared.fault.ReadFault.TheVariants.{BadArchive};
 ghost use Rattle.pay_records.specs.Calls.{LeavesAsBefore, CommitsNothingInside, StaysInsideOrOut, Answers, FindsInRows, NeverBadOfRows};
 
 use crate::fault::ReadFault;
@@ -20,7 +19,7 @@ pub(crate) fn query<S: Alter>(
 ) -> Result<Vec<Row>, ReadFault>
     ensures same_reference { tx.new.conn.ghost_name ≡ tx.old.conn.ghost_name }
     ensures shown { Answers S.Store tx.old.conn.now tx.new.conn.now result (λ old new rows. Shown sql.now (bound params.now) old new rows.items) }
-    ensures never_bad { result ≡ Err BadArchive → ⊥ }
+    ensures store { IsOkUnless result ReadFault.Store }
     ensures inside { StaysInsideOrOut S.Store tx.old.conn.now tx.new.conn.now result }
     ensures kept { CommitsNothingInside S.Store tx.old.conn.now tx.new.conn.now }
     ensures survives { LeavesAsBefore S.Store tx.old.conn.now tx.new.conn.now }

@@ -1,23 +1,23 @@
-ghost use Rattle.std.specs.Prelude.{◌≡◌, ◌≤◌, ℕ, map, IfOk, Err};
+ghost use Rattle.std.specs.Prelude.{◌≡◌, ◌≢◌, ◌≤◌, ℕ, map, IfOk, OnOk, IfErr};
 ghost use Rattle.std.specs.List.{AllByRecursion};
 ghost use Rattle.sqlite.specs.Order.{Row as Values, column};
-ghost use Rattle.pay_records.specs.declared.fault.ReadFault.TheVariants.{BadArchive};
-ghost use Rattle.pay_records.specs.Told.{IsWhole, AreWhole, whole_in};
+ghost use Rattle.pay_records.specs.Told.{IsWhole, AreWhole, whole_in, IsBadUnless};
 
 use crate::fault::ReadFault;
 use pay_rows::{FixRow, PostingRow, ShareRow, TapRow};
-use sqlite::{Error, ErrorCode, Row};
+use sqlite::Row;
+use sqlite::types::ValueRef;
 use std::alloc::Global;
 
-/// The whole number in a column of a row.
+/// The whole number in a column of a row. It is looked at where it lies, which takes no memory.
 fn whole(row: &Row, at: usize) -> Result<i64, ReadFault>
     ensures told { IfOk result (λ number. number ≡ whole_in (column row.now at)) }
-    ensures bad { result ≡ Err BadArchive → IsWhole (column row.now at) → ⊥ }
+    ensures is_whole { OnOk result (IsWhole (column row.now at)) }
+    ensures bad { IfErr result (IsBadUnless (IsWhole (column row.now at))) }
 {
-    match row.get(at) {
-        Ok(number) => Ok(number),
-        Err(Error::SqliteFailure(ErrorCode::OutOfMemory)) => Err(ReadFault::Memory),
-        Err(_) => Err(ReadFault::BadArchive),
+    match row.get_ref(at) {
+        Ok(ValueRef::Int(number)) => Ok(number),
+        _ => Err(ReadFault::BadArchive),
     }
 }
 
@@ -33,7 +33,8 @@ pub(crate) trait Told: Sized {
     fn told(row: &Row, from: usize) -> Result<Self, ReadFault>
         requires { from ≤ 1 }
         ensures told { IfOk result (λ it. it ≡ told_at from row.now) }
-        ensures bad { result ≡ Err BadArchive → AreWhole from width row.now → ⊥ };
+        ensures are_whole { OnOk result (AreWhole from width row.now) }
+        ensures bad { IfErr result (IsBadUnless (AreWhole from width row.now)) };
 }
 
 /// Week, through, version, due and amount.
@@ -118,7 +119,8 @@ impl Told for FixRow {
 /// The number or the account that stands before it, and it.
 pub(crate) fn beside<T: Told>(row: &Row) -> Result<(i64, T), ReadFault>
     ensures told { IfOk result (λ it. (it.0 ≡ whole_in (column row.now 0)) × (it.1 ≡ T.told_at 1 row.now)) }
-    ensures bad { result ≡ Err BadArchive → IsWhole (column row.now 0) × AreWhole 1 T.width row.now → ⊥ }
+    ensures are_whole { OnOk result (IsWhole (column row.now 0) × AreWhole 1 T.width row.now) }
+    ensures bad { IfErr result (IsBadUnless (IsWhole (column row.now 0) × AreWhole 1 T.width row.now)) }
 {
     let first = whole(row, 0)?;
     Ok((first, T::told(row, 1)?))
@@ -127,7 +129,8 @@ pub(crate) fn beside<T: Told>(row: &Row) -> Result<(i64, T), ReadFault>
 /// What all rows tell.
 pub(crate) fn all<T: Told + Drop>(alloc: Global, rows: &[Row]) -> Result<Vec<T>, ReadFault>
     ensures told { IfOk result (λ list. list.items ≡ map (T.told_at 0) rows.now) }
-    ensures bad { result ≡ Err BadArchive → AllByRecursion (AreWhole 0 T.width) rows.now → ⊥ }
+    ensures are_whole { OnOk result (AllByRecursion (AreWhole 0 T.width) rows.now) }
+    ensures bad { IfErr result (λ fault. fault ≢ ReadFault.Memory → IsBadUnless (AllByRecursion (AreWhole 0 T.width) rows.now) fault) }
 {
     let mut list = Vec::new(alloc);
     for row in rows {
@@ -142,7 +145,8 @@ pub(crate) fn all_beside<T: Told + Drop>(
     rows: &[Row],
 ) -> Result<Vec<(i64, T)>, ReadFault>
     ensures told { IfOk result (λ list. list.items ≡ map (λ r. (whole_in (column r 0), T.told_at 1 r)) rows.now) }
-    ensures bad { result ≡ Err BadArchive → AllByRecursion (λ r. IsWhole (column r 0) × AreWhole 1 T.width r) rows.now → ⊥ }
+    ensures are_whole { OnOk result (AllByRecursion (λ r. IsWhole (column r 0) × AreWhole 1 T.width r) rows.now) }
+    ensures bad { IfErr result (λ fault. fault ≢ ReadFault.Memory → IsBadUnless (AllByRecursion (λ r. IsWhole (column r 0) × AreWhole 1 T.width r) rows.now) fault) }
 {
     let mut list = Vec::new(alloc);
     for row in rows {

@@ -1,7 +1,7 @@
 use Rattle.std.proofs.Common.{rules}
 use Rattle.std.proofs.lemmas.Result.{IfOk-weaker}
 use Rattle.sqlite.specs.Held.{state}
-use Rattle.pay_records.proofs.Tells.{shares_told, shares_whole}
+use Rattle.pay_records.proofs.Tells.{never_told_bad, shares_told, shares_whole}
 use Rattle.pay_records.proofs.read.shares_of.Goals as goal
 
 pub returns-clause-found : goal.returns-clause-found
@@ -11,5 +11,5 @@ returns-clause-found g c clean =
 
 pub returns-clause-never_bad : goal.returns-clause-never_bad
 returns-clause-never_bad g c clean bad l held =
-    c.all.ensures.bad bad (shares_whole (state g.S.Store c.args.tx.now.conn.now) (state g.S.Store c.query.new.tx.conn.now) _ _ _ c.args.account
+    never_told_bad c.all.result _ c.all.ensures.bad bad (shares_whole (state g.S.Store c.args.tx.now.conn.now) (state g.S.Store c.query.new.tx.conn.now) _ _ _ c.args.account
     (record { shown = c.in_ok-rows.ensures.shown clean; params_are = search rules; rows_are = c.deref.ensures.value }) l held)
