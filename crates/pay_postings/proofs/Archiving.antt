@@ -13,7 +13,7 @@ use Rattle.pay_postings.specs.Archive.{archived_beside, archived_each}
 use Rattle.pay_postings.specs.NewRows.{unless_other, is_new_beside, with_new, new_behind}
 use Rattle.pay_postings.proofs.Postings.{behind}
 
-all_more : {X : Type 0} (P : X → Type 0) (list : List X) (x : X) → AllByRecursion P list → P x → AllByRecursion P (list ++ x ∷ [])
+pub all_more : {X : Type 0} (P : X → Type 0) (list : List X) (x : X) → AllByRecursion P list → P x → AllByRecursion P (list ++ x ∷ [])
 all_more P [] x all one = (one, tt)
 all_more P (y ∷ list) x all one = (all.0, all_more P list x all.1 one)
 
@@ -73,7 +73,7 @@ module _ {X R : Type 0} (row : X → R) (account : X → ℕ) (numbered : X → 
   one_found x y list false true is e more = let no = other_number x y is in absurd (cc)
   one_found x y list false false is e more = more
 
-  find_own : (x : X) (list : List X) → find (at (row x)) (rows_of (account x) list) ≡ option_map row (find (numbered x) list)
+  pub find_own : (x : X) (list : List X) → find (at (row x)) (rows_of (account x) list) ≡ option_map row (find (numbered x) list)
   find_own x [] = refl
   find_own x (y ∷ list) = one_found x y list (account y == account x) (numbered x y) refl refl (find_own x list)
 

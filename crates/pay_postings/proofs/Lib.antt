@@ -12,3 +12,6 @@ pub mod Archiving
 pub mod Sets
 pub mod Steps
 pub mod Loops
+pub mod QuotesJudged
+pub mod SetsJudged
+pub mod NetRows

@@ -4,7 +4,8 @@ use Rattle.std.specs.BTreeMap.{is_at}
 use Rattle.std.specs.Cmp.{nat_cmp_total, eq_by_cmp_equiv}
 use Rattle.std.specs.FinMap.{find, get, contains_key, insert, remove, empty, get-from_entries, get-insert, get-remove, same_map, nat_cmp-IsAntisymmetric}
 use Rattle.std.specs.Map.{lookup}
-use Rattle.std.specs.Option.{option_map, IfSome, IfNone}
+use Rattle.std.proofs.Common.{Bor}
+use Rattle.std.specs.Option.{option_map, option_copied, IfSome, IfNone}
 use Rattle.std.specs.Ordering.{nat_cmp, eq_by_cmp, is_eq}
 use Rattle.std.specs.declared.cmp.Ordering.{Ordering}
 use Rattle.std.specs.declared.cmp.Ordering.TheVariants.{Less, Equal, Greater}
@@ -57,6 +58,14 @@ taken (Some archived) es accounts q is e = ap (λ m. get m q) (sym is) ∙ there
 pub not_taken : (o : Option Archived) (es : List (ℕ × Archived)) (accounts : AccountsParts) (q : ℕ) → accounts_of es ≡ accounts → o ≡ at q es → IfNone o (get accounts q ≡ None)
 not_taken None es accounts q is e = ap (λ m. get m q) (sym is) ∙ there_is es q ∙ ap (option_map parts) (sym e)
 not_taken (Some archived) es accounts q is e = tt
+
+as_lent : (o : Option (Bor Archived)) → option_map (λ a. parts a.now) o ≡ option_map parts (option_copied o)
+as_lent None = refl
+as_lent (Some a) = refl
+
+-- what is lent of an entry is what is there
+pub lent : (o : Option (Bor Archived)) (es : List (ℕ × Archived)) (accounts : AccountsParts) (q : ℕ) → accounts_of es ≡ accounts → option_copied o ≡ at q es → option_map (λ a. parts a.now) o ≡ get accounts q
+lent o es accounts q is e = as_lent o ∙ ap (option_map parts) e ∙ sym (there_is es q) ∙ ap (λ m. get m q) is
 
 pub inserted : (es fs : List (ℕ × Archived)) (accounts : AccountsParts) (k : ℕ) (v : Archived) → accounts_of es ≡ accounts
     → ((q : ℕ) → at q fs ≡ cond (is_at (nat_cmp k) q) (Some v) (at q es)) → accounts_of fs ≡ insert accounts k (parts v)

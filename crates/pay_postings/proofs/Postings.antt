@@ -26,7 +26,7 @@ fold_own step test skip so_far (x ∷ list) = one_more step so_far x (filter tes
 not_of : (account week : ℕ) (p : Posting) → is_of_account account p ≡ false → is_of account week p ≡ false
 not_of account week p e = ap (λ (b : Bool). b && p.quote.week == week) e
 
-last_own : (account week : ℕ) (list : List Posting) → last_of account week (of_account account list) ≡ last_of account week list
+pub last_own : (account week : ℕ) (list : List Posting) → last_of account week (of_account account list) ≡ last_of account week list
 last_own account week list =
     fold_own (later_of account week) (is_of_account account) (λ so_far p e. ap (λ (b : Bool). if b then Some p else so_far) (not_of account week p e)) None list
 

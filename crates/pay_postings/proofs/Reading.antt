@@ -87,7 +87,7 @@ naturals_themselves (amount ∷ amounts) are =
     λ i. first i ∷ others i
 
 -- the quote of amounts that stand beside what was posted has these as its shares
-quotes_amounts : (account week : ℕ) (row : PostingRow) (amounts : List ℤ) (quote : QuoteParts) (are : Bool) → list_all is_natural amounts ≡ are
+pub quotes_amounts : (account week : ℕ) (row : PostingRow) (amounts : List ℤ) (quote : QuoteParts) (are : Bool) → list_all is_natural amounts ≡ are
     → ((if are then Some (map unsigned_abs amounts) else None) >>= quote_from_row account week row) ≡ Some quote → QuotesRow account week (map unsigned_abs amounts) quote × (amounts ≡ map pos quote.shares)
 quotes_amounts account week row amounts quote false is e = absurd cc
 quotes_amounts account week row amounts quote true is e =

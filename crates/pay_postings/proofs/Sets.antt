@@ -32,7 +32,7 @@ use Rattle.pay_postings.specs.NewRows.{is_tap_at, is_tap_row, is_fix_at, is_fix_
 int_is : (x y : ℤ) → int_eq x y ≡ true → x ≡ y
 int_is x y e = (Decides-int_eq x y).0 e
 
-int_itself : (x : ℤ) → int_eq x x ≡ true
+pub int_itself : (x : ℤ) → int_eq x x ≡ true
 int_itself x = int_eq_equiv.refl x
 
 alike : (b c : Bool) → (b ≡ true → c ≡ true) → (c ≡ true → b ≡ true) → b ≡ c
@@ -40,7 +40,7 @@ alike true c so back = sym (so refl)
 alike false true so back = back refl
 alike false false so back = refl
 
-pos_is : (p q : ℕ) → int_eq (pos p) (pos q) ≡ (q == p)
+pub pos_is : (p q : ℕ) → int_eq (pos p) (pos q) ≡ (q == p)
 pos_is p q =
     alike (int_eq (pos p) (pos q)) (q == p) (λ e. eq-eqb q p (sym (ap unsigned_abs (int_is (pos p) (pos q) e))))
     (λ e. subst (λ k. int_eq (pos p) (pos k) ≡ true) (sym (eqb-true q p e)) (int_itself (pos p)))

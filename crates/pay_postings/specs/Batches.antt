@@ -1,5 +1,5 @@
 -- Accounts beside the ledger that they were read of, and what a batch adds to it.
-use Rattle.std.specs.Prelude.{◌≡◌, ◌≢◌, ℕ, ◌==◌, true, List, [], ◌++◌, map, filter, Some, Result, Ok, Err, MatchResult, Bool, ◌∷◌}
+use Rattle.std.specs.Prelude.{◌≡◌, ◌≢◌, ℕ, ◌==◌, true, List, [], ◌++◌, map, filter, Some, Result, Ok, Err, IsOk, MatchResult, Bool, ◌∷◌}
 use Rattle.std.specs.FinMap as finite
 use Rattle.std.specs.List.{AllByRecursion}
 use Rattle.pay_taps.specs.declared.tap.Tap.{Tap}
@@ -72,11 +72,15 @@ with_new_of_set taps fixes batch = record { given = batch.given; postings = batc
 abbrev pub with_batch : LedgerParts → BatchLists → LedgerParts
 with_batch ledger batch = record { postings = ledger.postings ++ batch.postings; taps = ledger.taps ++ batch.taps; fixes = ledger.fixes ++ batch.fixes }
 
+-- a refusal is that of a definition, or want of memory, which it never is for what the definition refuses
+abbrev pub IsRefusedAs : {A : Type 0} → Result A PostFault → PostFault → Type 0
+IsRefusedAs answer fault = (fault ≢ Memory → answer ≡ Err fault) × (fault ≡ Memory → IsOk answer)
+
 -- An answer is the batch of quotes and sets for a ledger: the ledger with it is what posting them makes of it, and the postings given
--- are those of the quotes. Or it is why one of them is refused.
+-- are those of the quotes. Or it is why one of them is refused, or memory is wanting for what is posted.
 abbrev pub IsBatchFor : Result Batch PostFault → LedgerParts → List QuoteParts → List SetsParts → Type 0
 IsBatchFor result ledger quotes sets =
-    MatchResult result (λ batch. posted ledger quotes sets ≡ Ok (batch.given.items, with_batch ledger (lists batch))) (λ fault. fault ≢ Memory → posted ledger quotes sets ≡ Err fault)
+    MatchResult result (λ batch. posted ledger quotes sets ≡ Ok (batch.given.items, with_batch ledger (lists batch))) (IsRefusedAs (posted ledger quotes sets))
 
 -- quotes and sets posted behind a batch: its postings and theirs, and the ledger then
 abbrev pub posted_behind : LedgerParts → BatchLists → List QuoteParts → List SetsParts → Result (List Posting × LedgerParts) PostFault

@@ -7,12 +7,14 @@ pub mod Archive
 pub mod Ledger
 pub mod Ranged
 pub mod PostingRows
+pub mod NetRows
 pub mod AccountRows
 pub mod SetRows
 pub mod InRange
 pub mod NewRows
 pub mod Archived
 pub mod Batches
+pub mod Judged
 pub mod Laws
 mod WorkedRows
 mod BatchRows

@@ -109,10 +109,10 @@ share_rows id p = share_rows_from id 1 p.share_amounts
 
 -- ---- worked rows
 
-charge_row : PostingRow
+unfoldable pub charge_row : PostingRow
 charge_row = record { week = pos 19_730; through = pos 19_730; version = pos 1; due = pos 860; amount = pos 860 }
 
-refund_row : PostingRow
+unfoldable pub refund_row : PostingRow
 refund_row = record { week = pos 19_730; through = pos 19_730; version = pos 2; due = pos 340; amount = negsuc 519 }
 
 a_share : ℤ → ℤ → ℤ → ShareRow

@@ -1,13 +1,18 @@
-ghost use Rattle.std.specs.Prelude.{◌≡◌, [], ◌∷◌, Some, None, Err, IfSome, IfNone, OnOk, OnErr};
+ghost use Rattle.std.specs.Prelude.{◌≡◌, ◌<◌, [], ◌∷◌, length, Some, None, Err, IfSome, IfNone, OnOk, OnErr};
 ghost use Rattle.std.specs.FinMap as map;
+ghost use Rattle.std.specs.Option.{option_map};
 ghost use Rattle.pay_postings.specs.declared.fault.PostFault.TheVariants.{BadArchive};
-ghost use Rattle.pay_postings.specs.Ledger.{LedgerParts};
+ghost use Rattle.pay_postings.specs.Postings.{post_each};
+ghost use Rattle.pay_postings.specs.Archive.{archived_sets};
+ghost use Rattle.pay_postings.specs.Ledger.{LedgerParts, posted};
 ghost use Rattle.pay_postings.specs.Archived.{parts};
 ghost use Rattle.pay_postings.specs.Batches.{Agrees, Covers, AreThere, lists, IsBatchFor, AreQuotesPosted, AreSetsPosted};
+ghost use Rattle.pay_postings.specs.Judged.{IsVerdict, IsQuoteJudged, IsSetJudged};
 
 use crate::archived::{Archived, post};
 use crate::batch::Batch;
 use crate::fault::PostFault;
+use crate::judging::{are_own, greater, judge_quote, judge_set, looked_at};
 use crate::new_rows::{new_fixes, new_taps};
 use pay_quotes::{Quote, Sets};
 use std::alloc::{AllocError, Global};
@@ -57,6 +62,13 @@ impl Accounts {
         Ok(())
     }
 
+    /// What a ledger has of an account.
+    fn of(&self, account: u32) -> Option<&Archived>
+        ensures { option_map (λ a. parts a.now) result ≡ map.get self.now account }
+    {
+        self.archived.get(&account)
+    }
+
     /// Takes an account out.
     fn take(&mut self, account: u32) -> Option<Archived>
         ensures some { IfSome result (λ archived. map.get self.old account ≡ Some (parts archived)) }
@@ -64,6 +76,74 @@ impl Accounts {
         ensures others { self.new ≡ map.remove self.old account }
     {
         self.archived.remove(&account)
+    }
+
+    /// Judges the quote at a place behind those before it, none of which is of an account above the highest. So those of its own
+    /// are looked for only where there may be some.
+    fn judge_quote(&self, quotes: &[Quote], place: usize, highest: u32) -> Result<bool, PostFault>
+        requires { place < length quotes.now }
+        ensures judged { IsQuoteJudged result self.now quotes.now place highest }
+        ensures never_bad { Covers self.now quotes.now [] → result ≡ Err BadArchive → ⊥ }
+    {
+        let quote = &quotes[place];
+        let Some(archived) = self.of(quote.account()) else {
+            return Err(PostFault::BadArchive);
+        };
+        let before = &quotes[..looked_at(highest, quote.account(), place)];
+        judge_quote(&archived.posted, before, quote)
+    }
+
+    /// Judges quotes one after another.
+    fn judge_quotes(&self, quotes: &[Quote]) -> Result<(), PostFault>
+        ensures judged { (ledger : LedgerParts) → Agrees self.now ledger → Covers self.now quotes.now [] → IsVerdict result (post_each ledger.postings quotes.now) }
+        ensures never_bad { Covers self.now quotes.now [] → result ≡ Err BadArchive → ⊥ }
+    {
+        let mut highest = 0;
+        for place in 0..quotes.len() {
+            self.judge_quote(quotes, place, highest)?;
+            highest = greater(highest, quotes[place].account());
+        }
+        Ok(())
+    }
+
+    /// Judges the set at a place behind those before it, likewise.
+    fn judge_set(&self, sets: &[Sets], place: usize, highest: u32) -> Result<(), PostFault>
+        requires { place < length sets.now }
+        ensures judged { IsSetJudged result self.now sets.now place highest }
+        ensures never_bad { Covers self.now [] sets.now → result ≡ Err BadArchive → ⊥ }
+    {
+        let set = &sets[place];
+        let Some(archived) = self.of(set.account()) else {
+            return Err(PostFault::BadArchive);
+        };
+        are_own(set);
+        crate::laws::same_row();
+        let before = &sets[..looked_at(highest, set.account(), place)];
+        judge_set(archived, before, set)
+    }
+
+    /// Judges sets one after another.
+    fn judge_sets(&self, sets: &[Sets]) -> Result<(), PostFault>
+        ensures judged { (ledger : LedgerParts) → Agrees self.now ledger → Covers self.now [] sets.now → IsVerdict result (archived_sets (ledger.taps, ledger.fixes) sets.now) }
+        ensures never_bad { Covers self.now [] sets.now → result ≡ Err BadArchive → ⊥ }
+    {
+        let mut highest = 0;
+        for place in 0..sets.len() {
+            self.judge_set(sets, place, highest)?;
+            let set = &sets[place];
+            are_own(set);
+            highest = greater(highest, set.account());
+        }
+        Ok(())
+    }
+
+    /// Judges quotes and then sets, before any room is made for what they add.
+    fn judge(&self, quotes: &[Quote], sets: &[Sets]) -> Result<(), PostFault>
+        ensures judged { (ledger : LedgerParts) → Agrees self.now ledger → Covers self.now quotes.now sets.now → IsVerdict result (posted ledger quotes.now sets.now) }
+        ensures never_bad { Covers self.now quotes.now sets.now → result ≡ Err BadArchive → ⊥ }
+    {
+        self.judge_quotes(quotes)?;
+        self.judge_sets(sets)
     }
 
     /// Posts a quote behind a batch.
@@ -129,8 +209,9 @@ impl Accounts {
     }
 
     /// Posts quotes one after another, and then archives sets one after another, by what is there of their accounts:
-    /// what is to be written to the ledger for it. `BadArchive` comes only where an account is not there, and nothing else
-    /// is said of the answer then. The accounts are used up.
+    /// what is to be written to the ledger for it. All of them are judged before any room is made, so memory is wanting
+    /// only for what is posted. `BadArchive` comes only where an account is not there, and nothing else is said of the
+    /// answer then. The accounts are used up.
     pub fn post(
         &mut self,
         alloc: Global,
@@ -140,6 +221,7 @@ impl Accounts {
         ensures batch { (ledger : LedgerParts) → Agrees self.old ledger → Covers self.old quotes.now sets.now → IsBatchFor result ledger quotes.now sets.now }
         ensures never_bad { Covers self.old quotes.now sets.now → result ≡ Err BadArchive → ⊥ }
     {
+        self.judge(quotes, sets)?;
         let mut batch = Batch::new(alloc);
         self.post_quotes(&mut batch, quotes)?;
         self.archive_sets(alloc, &mut batch, sets)?;

@@ -9,6 +9,7 @@ ghost use Rattle.pay_taps.specs.declared.tap.Tap.{Tap};
 ghost use Rattle.pay_fix.specs.declared.fix.Fix.{Fix};
 ghost use Rattle.pay_postings.specs.SetRows.{tap_row, tap_from_row, fix_row, fix_from_row};
 ghost use Rattle.pay_postings.specs.InRange.{IsTapInRange, IsFixInRange};
+ghost use Rattle.pay_postings.specs.NetRows.{NetIsOfPostings};
 ghost use Rattle.pay_postings.specs.Laws.{PostedStayKept, NetIsDue, SharesAreDue, SharesComeToDue, PostingsAreReadBack};
 
 /// Postings that were posted one after another stay such when one more quote is posted, and no postings are such.
@@ -47,4 +48,9 @@ pub fn same_row()
 /// their rows, in order, and from the rows of their shares, in any order.
 pub fn postings_back()
     ensures { PostingsAreReadBack }
+{}
+
+/// Where rows say postings of an account, what their amounts come to for a week is the net of these postings.
+pub fn net_of_rows()
+    ensures { NetIsOfPostings }
 {}

@@ -33,7 +33,7 @@ fn is_tap_touch(row: &TapRow, other: &TapRow) -> bool
 }
 
 /// Whether they have one content.
-fn is_tap_row(row: &TapRow, other: &TapRow) -> bool
+pub(crate) fn is_tap_row(row: &TapRow, other: &TapRow) -> bool
     ensures { result ≡ is_tap_row row.now other.now }
 {
     is_tap_at(row, other) && is_tap_stamp(row, other) && is_tap_touch(row, other)
@@ -61,7 +61,7 @@ fn is_fix_rest(row: &FixRow, other: &FixRow) -> bool
 }
 
 /// Whether they have one content.
-fn is_fix_row(row: &FixRow, other: &FixRow) -> bool
+pub(crate) fn is_fix_row(row: &FixRow, other: &FixRow) -> bool
     ensures { result ≡ is_fix_row row.now other.now }
 {
     is_fix_at(row, other) && is_fix_form(row, other) && is_fix_rest(row, other)
@@ -79,14 +79,14 @@ fn unless_other(is_same: bool) -> Result<bool, PostFault>
 }
 
 /// The archived row of a tap's number.
-fn tap_there<'a>(archived: &'a [TapRow], row: &TapRow) -> Option<&'a TapRow>
+pub(crate) fn tap_there<'a>(archived: &'a [TapRow], row: &TapRow) -> Option<&'a TapRow>
     ensures { option_map (λ r. r.now) result ≡ find (is_tap_at row.now) archived.now }
 {
     archived.iter().find(|there| is_tap_at(row, there))
 }
 
 /// The archived row of a correction's number.
-fn fix_there<'a>(archived: &'a [FixRow], row: &FixRow) -> Option<&'a FixRow>
+pub(crate) fn fix_there<'a>(archived: &'a [FixRow], row: &FixRow) -> Option<&'a FixRow>
     ensures { option_map (λ r. r.now) result ≡ find (is_fix_at row.now) archived.now }
 {
     archived.iter().find(|there| is_fix_at(row, there))

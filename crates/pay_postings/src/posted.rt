@@ -1,10 +1,11 @@
-ghost use Rattle.std.specs.Prelude.{◌≡◌, ◌≤◌, pos, [], ◌∷◌, ◌++◌, map, sum, IfOk, OnOk, OnErr};
+ghost use Rattle.std.specs.Prelude.{◌≡◌, ◌≤◌, pos, [], ◌∷◌, ◌++◌, map, sum, Some, IfOk, OnOk, OnErr};
 ghost use Rattle.std.specs.Option.{option_map};
 ghost use Rattle.pay_money.specs.declared.limits.TheConstants.{MOST_MONEY};
 ghost use Rattle.pay_postings.specs.Amounts.{IsMoney, less};
 ghost use Rattle.pay_postings.specs.Postings.{is_of, is_stale, is_again, is_as_due, net, with_amount, shares_posted, last_of, posting_of};
 ghost use Rattle.pay_postings.specs.Kept.{AreRead};
 ghost use Rattle.pay_postings.specs.Answers.{IsPosted, IsJudged};
+ghost use Rattle.pay_postings.specs.Judged.{is_further};
 
 use crate::fault::PostFault;
 use pay_money::limits::OPERATORS;
@@ -112,6 +113,28 @@ fn is_as_due(quote: &Quote, posted: &Quote) -> bool
     quote.due() == posted.due() && quote.shares() == posted.shares()
 }
 
+/// Whether a quote is posted anew beside the one that was posted last for its account and week, or what was posted for that is
+/// kept; or why it is refused.
+pub(crate) fn is_further(quote: &Quote, last: &Quote) -> Result<bool, PostFault>
+    ensures { result ≡ is_further quote.now (Some last.now) }
+{
+    if is_stale(quote, last) {
+        return Err(PostFault::StaleQuote {
+            account: last.account(),
+            version: last.version(),
+            through: last.through(),
+        });
+    }
+    if !is_again(quote, last) {
+        return Ok(true);
+    }
+    if is_as_due(quote, last) {
+        Ok(false)
+    } else {
+        Err(PostFault::QuoteDiffers)
+    }
+}
+
 /// A posting as it is. An `Err` is out of memory.
 fn copied(posting: &Posting) -> Result<Posting, AllocError>
     ensures { IfOk result (λ p. p ≡ posting.now) }
@@ -163,6 +186,16 @@ impl Posted {
         }
     }
 
+    /// The quote that was posted last for an account and a week.
+    pub(crate) fn last_quote(&self, account: u32, week: u32) -> Option<&Quote>
+        ensures { option_map (λ q. q.now) result ≡ option_map (λ p. p.quote) (last_of account week self.now) }
+    {
+        match last_of(&self.postings, account, week) {
+            Some(last) => Some(&last.quote),
+            None => None,
+        }
+    }
+
     /// The posting that is kept for a quote which was posted before; none where it is to be posted.
     fn judge(&self, quote: &Quote) -> Result<Option<Posting>, PostFault>
         ensures { IsJudged result self.now quote.now }
@@ -170,21 +203,10 @@ impl Posted {
         let Some(last) = last_of(&self.postings, quote.account(), quote.week()) else {
             return Ok(None);
         };
-        if is_stale(quote, &last.quote) {
-            return Err(PostFault::StaleQuote {
-                account: last.quote.account(),
-                version: last.quote.version(),
-                through: last.quote.through(),
-            });
-        }
-        if !is_again(quote, &last.quote) {
+        if is_further(quote, &last.quote)? {
             return Ok(None);
         }
-        if is_as_due(quote, &last.quote) {
-            Ok(Some(copied(last)?))
-        } else {
-            Err(PostFault::QuoteDiffers)
-        }
+        Ok(Some(copied(last)?))
     }
 
     /// A quote as a further posting. An `Err` is out of memory.

@@ -7,6 +7,7 @@ ghost use Rattle.pay_postings.specs.Answers.{IsReadAs};
 ghost use Rattle.pay_postings.specs.Amounts.{IsMoney, added};
 ghost use Rattle.pay_postings.specs.Kept.{AreRead};
 ghost use Rattle.pay_postings.specs.PostingRows.{is_money, is_share_row, is_natural, is_share_of, amount_of, amounts_of, naturals, quote_from_row, quote_behind, is_amount_behind, posting_behind, week_from_row, posting_from_row, postings_from_rows, posting_row, share_rows, share_rows_from, share_row};
+ghost use Rattle.pay_postings.specs.NetRows.{with_amount_of, net_from_rows};
 
 use crate::fault::PostFault;
 use crate::posted::Posted;
@@ -248,6 +249,36 @@ pub fn postings_from_rows(
         postings.push(posting)?;
     }
     Ok(postings)
+}
+
+/// What was charged for a week, with a further row: none where an amount of the week is no sum of money, by itself or with
+/// those before it.
+fn with_amount_of(week: u32, so_far: i64, row: &PostingRow) -> Option<i64>
+    requires { IsMoney so_far }
+    ensures value { result ≡ with_amount_of week so_far row.now }
+    ensures in_range { IfSome result IsMoney }
+{
+    if row.week != i64::from(week) {
+        return Some(so_far);
+    }
+    if is_money(row.amount) && is_money(so_far + row.amount) {
+        Some(so_far + row.amount)
+    } else {
+        None
+    }
+}
+
+/// What an account was charged for a week less what it was given back, by the rows of its postings, each beside its number
+/// and in ascending order of these: the sum of their amounts. None where one of these is no sum of money, by itself or with
+/// those of the week before it. Nothing else of the rows is looked at, nor the rows of other weeks.
+pub fn net_from_rows(week: u32, rows: &[(i64, PostingRow)]) -> Option<i64>
+    ensures { result ≡ net_from_rows week rows.now }
+{
+    let mut net = 0;
+    for (_, row) in rows {
+        net = with_amount_of(week, net, row)?;
+    }
+    Some(net)
 }
 
 /// A posting as a row.

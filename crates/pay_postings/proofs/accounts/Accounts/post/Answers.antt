@@ -5,12 +5,18 @@ use Rattle.pay_postings.proofs.Loops.{agrees_at_start, still_covers, quotes_firs
 use Rattle.pay_postings.proofs.NeverBad.{not_bad}
 use Rattle.pay_postings.proofs.accounts.Accounts.post.Goals as goal
 
+pub returns-in_err-judge-clause-batch : goal.returns-in_err-judge-clause-batch
+returns-in_err-judge-clause-batch c = λ ledger agrees covers.
+    let p = err_from_is_err_and c.from_residual.result c.from_residual.ensures.1 in
+    let why = c.in_err-judge.ensures.judged ledger agrees covers in
+    rw (p.1, p.2) (λ other. why.0, λ want. absurd (why.1 want))
+
 pub returns-in_err-post_quotes-clause-batch : goal.returns-in_err-post_quotes-clause-batch
 returns-in_err-post_quotes-clause-batch c = λ ledger agrees covers.
-    let p = err_from_is_err_and c.from_residual.result c.from_residual.ensures.1 in
+    let p = err_from_is_err_and c.from_residual-in_err-post_quotes.result c.from_residual-in_err-post_quotes.ensures.1 in
     let start = lists c.new-batch.result in
     let agrees_first = agrees_at_start ledger c.args.self.now start c.new-batch.ensures agrees in
-    rw (p.1, p.2) (λ other. quotes_first ledger start c.args.quotes.now c.args.sets.now c.new-batch.ensures ∙ c.in_err-post_quotes.ensures.posted ledger agrees_first (covers.0, tt) other [] c.args.sets.now)
+    rw (p.1, p.2) (λ other. quotes_first ledger start c.args.quotes.now c.args.sets.now c.new-batch.ensures ∙ c.in_err-post_quotes.ensures.posted ledger agrees_first (covers.0, tt) other [] c.args.sets.now, λ want. c.in_ok-judge.ensures.judged ledger agrees covers)
 
 pub returns-in_err-archive_sets-clause-batch : goal.returns-in_err-archive_sets-clause-batch
 returns-in_err-archive_sets-clause-batch c = λ ledger agrees covers.
@@ -22,7 +28,7 @@ returns-in_err-archive_sets-clause-batch c = λ ledger agrees covers.
     let agrees_first = agrees_at_start ledger first start c.new-batch.ensures agrees in
     let posted = c.in_ok-post_quotes.ensures.posted ledger agrees_first (covers.0, tt) in
     let there = still_covers first mid sets covers.1 posted.0.same in
-    rw (p.1, p.2) (λ other. then_sets ledger first mid start (lists c.post_quotes.new.batch) c.args.quotes.now sets c.new-batch.ensures posted ∙ c.in_err-archive_sets.ensures.posted ledger posted.0.agrees (tt, there) other [])
+    rw (p.1, p.2) (λ other. then_sets ledger first mid start (lists c.post_quotes.new.batch) c.args.quotes.now sets c.new-batch.ensures posted ∙ c.in_err-archive_sets.ensures.posted ledger posted.0.agrees (tt, there) other [], λ want. c.in_ok-judge.ensures.judged ledger agrees covers)
 
 pub returns-clause-batch : goal.returns-clause-batch
 returns-clause-batch c = λ ledger agrees covers.
