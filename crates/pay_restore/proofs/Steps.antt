@@ -1,5 +1,5 @@
 -- A row is taken into its account, which is put back at its number.
-use Rattle.std.proofs.Common.{◌≡◌, ℕ, ◌≤◌, List, Option, Some, None, sym, ap, ◌∙◌, subst}
+use Rattle.std.proofs.Common.{◌≡◌, ℕ, ◌≤◌, List, Option, Some, None, is_some, IsSome, refl, sym, ap, ◌∙◌, subst}
 use Rattle.std.specs.Prelude.{ℤ}
 use Rattle.std.specs.FinMap.{insert, empty, entries}
 use Rattle.pay_tables.specs.Words.{FareTables}
@@ -13,6 +13,29 @@ use Rattle.pay_restore.specs.Restored.{tap_of_row, fix_of_row, with_archived_tap
 
 pub still_from_1 : (account before now : ℕ) → 1 ≤ account → before ≡ account → now ≡ before → 1 ≤ now
 still_from_1 account before now from_1 own same = subst (λ n. 1 ≤ n) (sym (same ∙ own)) from_1
+
+some_through : {A B : Type 0} (f : A → B) (o : Option A) → IsSome o → IsSome (o >>= λ a. Some (f a))
+some_through f (Some a) is = refl
+some_through f None is = absurd (cc)
+
+-- a row whose tap or correction its account takes is taken
+module _ (tables : FareTables) (state : State) (before : Accepted) where
+  pub tap_taken : (row : ℤ × TapRow) (tap : Tap) → Some tap ≡ tap_of_row row → before ≡ accepted_of state tap.account → IsSome (with_archived_tap tables before tap) → IsSome (with_tap_row tables state row)
+  tap_taken row tap read was is =
+      let whole : with_tap_row tables state row ≡ (with_archived_tap tables before tap >>= λ a. Some (insert state tap.account a)) =
+      ap (λ (o : Option Tap). o >>= λ t. with_archived_tap tables (accepted_of state t.account) t >>= λ a. Some (insert state t.account a)) (sym read)
+      ∙ ap (λ (b : Accepted). with_archived_tap tables b tap >>= λ a. Some (insert state tap.account a)) (sym was) in
+      ap is_some whole ∙ some_through (insert state tap.account) (with_archived_tap tables before tap) is
+
+  pub fix_taken : (row : ℤ × FixRow) (fix : Fix) → Some fix ≡ fix_of_row row → before ≡ accepted_of state fix.account → IsSome (with_archived_fix tables before fix) → IsSome (with_fix_row tables state row)
+  fix_taken row fix read was is =
+      let whole : with_fix_row tables state row ≡ (with_archived_fix tables before fix >>= λ a. Some (insert state fix.account a)) =
+      ap (λ (o : Option Fix). o >>= λ f. with_archived_fix tables (accepted_of state f.account) f >>= λ a. Some (insert state f.account a)) (sym read)
+      ∙ ap (λ (b : Accepted). with_archived_fix tables b fix >>= λ a. Some (insert state fix.account a)) (sym was) in
+      ap is_some whole ∙ some_through (insert state fix.account) (with_archived_fix tables before fix) is
+
+pub taken_some : {X : Type 0} (o : Option X) (x : X) → o ≡ Some x → IsSome o
+taken_some o x e = ap is_some e
 
 module _ (tables : FareTables) (state mid end : State) (before after : Accepted) (account : ℕ) where
   pub tap_restored : (row : ℤ × TapRow) (tap : Tap) → Some tap ≡ tap_of_row row → before ≡ accepted_of state tap.account → with_archived_tap tables before tap ≡ Some after → account ≡ tap.account

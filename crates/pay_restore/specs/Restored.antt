@@ -1,5 +1,5 @@
 -- The accounts of an archive: each archived tap and correction is handed to its account again, all taps first.
-use Rattle.std.specs.Prelude.{◌≡◌, ℕ, ℤ, pos, negsuc, true, false, if◌then◌else◌, List, [], ◌∷◌, map as each, Option, Some, None, Result, Ok, Err, MatchResult, refl}
+use Rattle.std.specs.Prelude.{◌≡◌, ℕ, ℤ, pos, negsuc, true, false, if◌then◌else◌, List, [], ◌∷◌, map as each, Option, Some, None, Result, Ok, Err, MatchResult, IsSome, refl}
 use Rattle.std.specs.FinMap as map
 use Rattle.pay_tables.specs.Words.{FareTables}
 use Rattle.pay_taps.specs.declared.tap.Tap.{Tap}
@@ -8,7 +8,11 @@ use Rattle.pay_account.specs.Words.{Accepted, with_tap, with_fix, tap_result, fi
 use Rattle.pay_quotes.specs.declared.priced.Priced.{Priced}
 use Rattle.pay_account.specs.declared.fares.TapFault.{TapFault}
 use Rattle.pay_account.specs.declared.fares.TapFault.TheVariants.{UnknownPlace}
+use Rattle.pay_account.specs.declared.fares.TapFault.TheVariants as of_tap
+use Rattle.pay_account.specs.declared.fares.FixFault.{FixFault}
+use Rattle.pay_account.specs.declared.fares.FixFault.TheVariants as of_fix
 use Rattle.pay_postings.specs.declared.fault.PostFault.{PostFault}
+use Rattle.pay_postings.specs.declared.fault.PostFault.TheVariants.{BadArchive, Memory}
 use Rattle.pay_postings.specs.Ranged.{◌>>=◌, ranged}
 use Rattle.pay_rows.specs.declared.row.TapRow.{TapRow}
 use Rattle.pay_rows.specs.declared.row.FixRow.{FixRow}
@@ -29,6 +33,15 @@ abbrev pub fix_of_row : ℤ × FixRow → Option Fix
 fix_of_row row = do
   account ← account_number row.0
   fix_from_row account row.1
+
+-- what it is for an archive that an account refuses a tap of it, or a correction: only want of memory is no fault of the archive
+abbrev pub fault_of_tap : TapFault → PostFault
+fault_of_tap of_tap.Memory = Memory
+fault_of_tap _ = BadArchive
+
+abbrev pub fault_of_fix : FixFault → PostFault
+fault_of_fix of_fix.Memory = Memory
+fault_of_fix _ = BadArchive
 
 -- what an account has accepted after something archived: it refuses none of it, and what comes again changes nothing
 abbrev pub unless_refused : {E : Type 0} → Result Priced E → Accepted → Accepted → Option Accepted
@@ -81,6 +94,10 @@ restored tables taps fixes = do
 -- An answer is what a definition gives. A refusal is want of memory, or there is none, and it tells a bad archive.
 abbrev pub IsRestoredAs : {U X : Type 0} → Result U PostFault → Option X → X → Type 0
 IsRestoredAs result given now = MatchResult result (λ _. given ≡ Some now) (IsRefusedAsBad given)
+
+-- memory is wanting only for what a definition gives
+abbrev pub IsWantFor : {X : Type 0} → Option X → PostFault → Type 0
+IsWantFor given fault = fault ≡ Memory → IsSome given
 
 -- the numbers of accounts, and beside each what it has accepted
 abbrev pub with_accepted : {F : Type 0} → (F → ℕ) → (F → Accepted) → List F → List (ℕ × Accepted)

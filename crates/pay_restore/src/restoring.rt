@@ -1,11 +1,11 @@
-ghost use Rattle.std.specs.Prelude.{◌≡◌, map as each, Some, MatchResult, IfOk, OnOk};
+ghost use Rattle.std.specs.Prelude.{◌≡◌, map as each, Some, MatchResult, IfOk, IfErr, OnOk};
 ghost use Rattle.std.specs.List.{IsDistinct};
 ghost use Rattle.std.specs.List.Sorted.{IsStrictlySortedBy};
 ghost use Rattle.std.specs.Ordering.{nat_cmp, eq_by_cmp};
 ghost use Rattle.pay_postings.specs.Words.{IsRefusedAsBad};
 ghost use Rattle.pay_account.specs.Words.{ArePriced};
 ghost use Rattle.pay_restore.specs.Kept.{held, AreKept};
-ghost use Rattle.pay_restore.specs.Restored.{with_tap_row, with_tap_rows, with_fix_row, with_fix_rows, restored, with_accepted, IsRestoredAs};
+ghost use Rattle.pay_restore.specs.Restored.{with_tap_row, with_tap_rows, with_fix_row, with_fix_rows, restored, with_accepted, IsRestoredAs, IsWantFor};
 
 use crate::keeping::{in_order, keep, take};
 use crate::reading::{fix_of_row, tap_of_row};
@@ -26,6 +26,7 @@ fn add_tap<F: Fares>(
 ) -> Result<(), PostFault>
     requires { AreKept F.account (F.IsPricedBy tables.now) accounts.old.entries }
     ensures answer { IsRestoredAs result (with_tap_row tables.now (held F.accepted accounts.old.entries) row.now) (held F.accepted accounts.new.entries) }
+    ensures memory { IfErr result (IsWantFor (with_tap_row tables.now (held F.accepted accounts.old.entries) row.now)) }
     ensures kept { OnOk result (AreKept F.account (F.IsPricedBy tables.now) accounts.new.entries) }
 {
     let Some(tap) = tap_of_row(row) else {
@@ -46,6 +47,7 @@ fn add_fix<F: Fares>(
 ) -> Result<(), PostFault>
     requires { AreKept F.account (F.IsPricedBy tables.now) accounts.old.entries }
     ensures answer { IsRestoredAs result (with_fix_row tables.now (held F.accepted accounts.old.entries) row.now) (held F.accepted accounts.new.entries) }
+    ensures memory { IfErr result (IsWantFor (with_fix_row tables.now (held F.accepted accounts.old.entries) row.now)) }
     ensures kept { OnOk result (AreKept F.account (F.IsPricedBy tables.now) accounts.new.entries) }
 {
     let Some(fix) = fix_of_row(row) else {

@@ -1,11 +1,31 @@
-ghost use Rattle.std.specs.Prelude.{◌≡◌, OnOk};
-ghost use Rattle.pay_restore.specs.Restored.{with_archived_tap, with_archived_fix, IsRestoredAs};
+ghost use Rattle.std.specs.Prelude.{◌≡◌, IfErr};
+ghost use Rattle.pay_restore.specs.Restored.{with_archived_tap, with_archived_fix, fault_of_tap, fault_of_fix, IsRestoredAs, IsWantFor};
 
 use pay_account::{Fares, FixFault, TapFault};
 use pay_fix::Fix;
 use pay_postings::PostFault;
 use pay_tables::Tables;
 use pay_taps::Tap;
+
+/// What it is for an archive that an account refuses a tap of it: only want of memory is no fault of the archive.
+fn fault_of_tap(fault: TapFault) -> PostFault
+    ensures { result ≡ fault_of_tap fault }
+{
+    match fault {
+        TapFault::Memory => PostFault::Memory,
+        _ => PostFault::BadArchive,
+    }
+}
+
+/// And that it refuses a correction.
+fn fault_of_fix(fault: FixFault) -> PostFault
+    ensures { result ≡ fault_of_fix fault }
+{
+    match fault {
+        FixFault::Memory => PostFault::Memory,
+        _ => PostFault::BadArchive,
+    }
+}
 
 /// Hands an archived tap to its account again. One that the account refuses was never archived: `BadArchive`.
 pub(crate) fn retake_tap<F: Fares>(
@@ -16,13 +36,13 @@ pub(crate) fn retake_tap<F: Fares>(
     requires own { tap.account ≡ F.account account.old }
     requires priced_by { F.IsPricedBy tables.now account.old }
     ensures answer { IsRestoredAs result (with_archived_tap tables.now (F.accepted account.old) tap) (F.accepted account.new) }
+    ensures memory { IfErr result (IsWantFor (with_archived_tap tables.now (F.accepted account.old) tap)) }
     ensures same_account { F.account account.new ≡ F.account account.old }
     ensures priced_by { F.IsPricedBy tables.now account.new }
 {
     match account.tap(tables, tap) {
         Ok(_) => Ok(()),
-        Err(TapFault::Memory) => Err(PostFault::Memory),
-        Err(_) => Err(PostFault::BadArchive),
+        Err(fault) => Err(fault_of_tap(fault)),
     }
 }
 
@@ -35,12 +55,12 @@ pub(crate) fn retake_fix<F: Fares>(
     requires own { fix.account ≡ F.account account.old }
     requires priced_by { F.IsPricedBy tables.now account.old }
     ensures answer { IsRestoredAs result (with_archived_fix tables.now (F.accepted account.old) fix) (F.accepted account.new) }
+    ensures memory { IfErr result (IsWantFor (with_archived_fix tables.now (F.accepted account.old) fix)) }
     ensures same_account { F.account account.new ≡ F.account account.old }
     ensures priced_by { F.IsPricedBy tables.now account.new }
 {
     match account.fix(tables, fix) {
         Ok(_) => Ok(()),
-        Err(FixFault::Memory) => Err(PostFault::Memory),
-        Err(_) => Err(PostFault::BadArchive),
+        Err(fault) => Err(fault_of_fix(fault)),
     }
 }
