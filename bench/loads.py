@@ -83,11 +83,15 @@ def trip_taps(draw, account, count):
     return [Tap(utc, *number, account, place, kind) for number, (utc, place, kind) in zip(numbers(draw, count), touches)]
 
 
+def arriving(draw, taps):
+    """Taps in order of time, but a tenth of them arrive 1 to 12 hours late."""
+    late = [draw.randint(HOUR, 12 * HOUR) if draw.random() < 0.1 else 0 for _ in taps]
+    return [tap for _, tap in sorted((tap.utc + by, tap) for tap, by in zip(taps, late))]
+
+
 def week_taps(draw, accounts):
-    """Bus and rail taps of the week in order of time, but a tenth of them arrive 1 to 12 hours late."""
-    made = [tap for account in range(1, accounts + 1) for tap in trip_taps(draw, account, WEEK.taps_each)]
-    late = [draw.randint(HOUR, 12 * HOUR) if draw.random() < 0.1 else 0 for _ in made]
-    return [tap for _, tap in sorted((tap.utc + by, tap) for tap, by in zip(made, late))]
+    """Bus and rail taps of the week, as they arrive."""
+    return arriving(draw, [tap for account in range(1, accounts + 1) for tap in trip_taps(draw, account, WEEK.taps_each)])
 
 
 def lone_taps(taps):
@@ -132,11 +136,16 @@ def corrections(draw, taps, count):
     return made + [(drawn_arrival(draw, at, len(taps), False), fix) for at, fix in draw.sample(made, repeats)]
 
 
+def corrected(draw, taps, count):
+    """Taps, and among them that many corrections."""
+    made = [*enumerate(taps), *corrections(draw, taps, count)]
+    return [command for _, command in sorted(made, key=lambda it: it[0])]
+
+
 def corrected_week(draw, accounts):
     """The taps of the week, and among them corrections, a twentieth of the lines."""
     taps = week_taps(draw, accounts)
-    made = [*enumerate(taps), *corrections(draw, taps, len(taps) // 19)]
-    return [command for _, command in sorted(made, key=lambda it: it[0])]
+    return corrected(draw, taps, len(taps) // 19)
 
 
 def quoted_week(draw, accounts):

@@ -14,6 +14,7 @@ import threading
 
 import loads
 import rules
+from preloads import preloaded
 from running import (
     FARES, LONDON, MISSING, MONDAY, SAMPLE, SEVEN, TIME_TO_REPLY, End, answers, closing, end_of, fault, heard, run, started, test,
 )
@@ -56,10 +57,10 @@ def listening(port, lanes):
 
 
 @contextlib.contextmanager
-def serving(lanes, shards, sessions, fares=FARES, stdin=subprocess.DEVNULL, **how):
+def serving(lanes, shards, sessions, fares=FARES, close=MONDAY, stdin=subprocess.DEVNULL, **how):
     """A service that listens, its first port, and what it said."""
     port = free_ports(lanes)
-    with started(words_of(port, lanes, shards, sessions, fares=fares), stdin=stdin, **how) as ran:
+    with started(words_of(port, lanes, shards, sessions, close, fares), stdin=stdin, **how) as ran:
         said = heard(ran.stderr, len(listening(port, lanes)))
         yield ran, port, said
 
@@ -388,70 +389,6 @@ def ports_that_are_taken(_):
         for lane in (port, port + 1):
             yield "a session beside services that do not begin", answers(talk(lane, b"QUIT\n")), answers(b"BYE\n")
         yield "a service beside those that do not begin", ended(ran, said), closed(port, 2, f"DONE {MONDAY} 0\n".encode())
-
-
-# A pthread_create whose call number THREAD is refused, once standard input has ended; and a malloc and a realloc whose calls from
-# number FIRST through LAST are refused, counted together, and told by a byte on the descriptor TELL. It declares what it calls: the
-# toolchain's compiler comes without the C library's headers.
-PRELOADED = r"""
-typedef unsigned long size_t;
-extern void *dlsym(void *, const char *);
-extern char *getenv(const char *);
-extern long atol(const char *);
-extern long read(int, void *, size_t);
-extern long write(int, const void *, size_t);
-extern void abort(void);
-extern int *__errno_location(void);
-
-#define RTLD_NEXT ((void *)-1l)
-#define EAGAIN 11
-#define ENOMEM 12
-
-static long number(const char *name) {
-  const char *it = getenv(name);
-  return it ? atol(it) : 0;
-}
-
-int pthread_create(void *thread, const void *how, void *(*start)(void *), void *given) {
-  static long calls;
-  typedef int create(void *, const void *, void *(*)(void *), void *);
-  create *next = (create *)dlsym(RTLD_NEXT, "pthread_create");
-  char byte;
-  if (++calls != number("THREAD")) return next(thread, how, start, given);
-  while (read(0, &byte, 1) > 0) {}
-  return EAGAIN;
-}
-
-static int is_refused(void) {
-  static long calls;
-  long call = __atomic_add_fetch(&calls, 1, __ATOMIC_SEQ_CST);
-  if (call < number("FIRST") || call > number("LAST")) return 0;
-  if (write(number("TELL"), "x", 1) != 1) abort();
-  *__errno_location() = ENOMEM;
-  return 1;
-}
-
-void *malloc(size_t size) {
-  void *(*next)(size_t) = (void *(*)(size_t))dlsym(RTLD_NEXT, "malloc");
-  return is_refused() ? 0 : next(size);
-}
-
-void *realloc(void *old, size_t size) {
-  void *(*next)(void *, size_t) = (void *(*)(void *, size_t))dlsym(RTLD_NEXT, "realloc");
-  return is_refused() ? 0 : next(old, size);
-}
-"""
-
-
-def preloaded(folder):
-    """The library of that, compiled."""
-    library = os.path.join(folder, "preloaded.so")
-    # `rt doc` names a file beside the folder toolchain/bin.
-    guide = subprocess.run(["rt", "doc"], capture_output=True, text=True, check=True).stdout.strip()
-    toolchain = f"{os.path.dirname(guide)}/toolchain/bin"
-    links = ["-shared", "-fPIC", "-nostdinc", "-nostdlib", f"-fuse-ld={toolchain}/ld.lld"]
-    subprocess.run([f"{toolchain}/clang", "-O1", *links, "-o", library, "-x", "c", "-"], input=PRELOADED.encode(), check=True)
-    return library
 
 
 def heard_of(call):

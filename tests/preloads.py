@@ -1,0 +1,92 @@
+"""The library that is loaded before the built program and refuses it threads and memory."""
+
+import os
+import subprocess
+
+# A pthread_create whose call number THREAD is refused, once standard input has ended. And a malloc and a realloc, counted together, of
+# which are refused the calls from number FIRST through LAST, and one in so many, drawn by SEED, as stands in the first eight bytes of the
+# file that is the descriptor ODDS, where there is one; 0 there refuses none. Each is told by a byte on the descriptor TELL. It declares
+# what it calls: the toolchain's compiler comes without the C library's headers.
+SOURCE = r"""
+typedef unsigned long size_t;
+extern void *dlsym(void *, const char *);
+extern char *getenv(const char *);
+extern long atol(const char *);
+extern void *mmap(void *, size_t, int, int, int, long);
+extern long read(int, void *, size_t);
+extern long write(int, const void *, size_t);
+extern void abort(void);
+extern int *__errno_location(void);
+
+#define RTLD_NEXT ((void *)-1l)
+#define PROT_READ 1
+#define MAP_SHARED 1
+#define EAGAIN 11
+#define ENOMEM 12
+
+static long number(const char *name) {
+  const char *it = getenv(name);
+  return it ? atol(it) : 0;
+}
+
+int pthread_create(void *thread, const void *how, void *(*start)(void *), void *given) {
+  static long calls;
+  typedef int create(void *, const void *, void *(*)(void *), void *);
+  create *next = (create *)dlsym(RTLD_NEXT, "pthread_create");
+  char byte;
+  if (++calls != number("THREAD")) return next(thread, how, start, given);
+  while (read(0, &byte, 1) > 0) {}
+  return EAGAIN;
+}
+
+/* The file is mapped by the first call, when there is one thread. */
+static unsigned long odds(void) {
+  static const volatile unsigned long *mapped;
+  if (!mapped) {
+    if (!getenv("ODDS")) return 0;
+    void *it = mmap(0, sizeof *mapped, PROT_READ, MAP_SHARED, number("ODDS"), 0);
+    if (it == (void *)-1l) abort();
+    mapped = it;
+  }
+  return *mapped;
+}
+
+static unsigned long drawn(unsigned long call) {
+  unsigned long it = number("SEED") + call * 0x9e3779b97f4a7c15ul;
+  it = (it ^ it >> 30) * 0xbf58476d1ce4e5b9ul;
+  it = (it ^ it >> 27) * 0x94d049bb133111ebul;
+  return it ^ it >> 31;
+}
+
+static int is_refused(void) {
+  static long calls;
+  long call = __atomic_add_fetch(&calls, 1, __ATOMIC_SEQ_CST);
+  unsigned long most = odds();
+  int is_drawn = most && drawn(call) % most == 0;
+  if (!is_drawn && (call < number("FIRST") || call > number("LAST"))) return 0;
+  if (write(number("TELL"), "x", 1) != 1) abort();
+  *__errno_location() = ENOMEM;
+  return 1;
+}
+
+void *malloc(size_t size) {
+  void *(*next)(size_t) = (void *(*)(size_t))dlsym(RTLD_NEXT, "malloc");
+  return is_refused() ? 0 : next(size);
+}
+
+void *realloc(void *old, size_t size) {
+  void *(*next)(void *, size_t) = (void *(*)(void *, size_t))dlsym(RTLD_NEXT, "realloc");
+  return is_refused() ? 0 : next(old, size);
+}
+"""
+
+
+def preloaded(folder):
+    """The library of that, compiled into a folder."""
+    library = os.path.join(folder, "preloaded.so")
+    # `rt doc` names a file beside the folder toolchain/bin.
+    guide = subprocess.run(["rt", "doc"], capture_output=True, text=True, check=True).stdout.strip()
+    toolchain = f"{os.path.dirname(guide)}/toolchain/bin"
+    links = ["-shared", "-fPIC", "-nostdinc", "-nostdlib", f"-fuse-ld={toolchain}/ld.lld"]
+    subprocess.run([f"{toolchain}/clang", "-O1", *links, "-o", library, "-x", "c", "-"], input=SOURCE.encode(), check=True)
+    return library
