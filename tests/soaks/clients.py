@@ -217,8 +217,9 @@ class Client:
 
     def try_again(self, line, reply):
         """Has a line sent again that is refused for now."""
-        if not (line.is_put and self.service.may_lack):
-            raise Fault(f"{line.text!r} was answered {reply!r}, though nothing is wanting")
+        may_be = self.service.may_lack if reply == NO_MEMORY else self.service.may_be_late
+        if not (line.is_put and may_be):
+            raise Fault(f"{line.text!r} was answered {reply!r}, though {'nothing is wanting' if line.is_put else 'no shard answers it'}")
         self.tries[line] += 1
         if self.tries[line] > MOST_TRIES:
             raise Fault(f"{line.text!r} was refused {MOST_TRIES:,} times, at last by {reply!r}")
@@ -231,7 +232,7 @@ class Client:
         """One connection. What has no reply behind it is to be sent again."""
         self.connections += 1
         if self.connections >= self.service.plan.sessions:
-            raise Fault("no connection is left for what is to be sent")
+            raise Fault(f"no connection is left for {len(self.left):,} lines; for {self.count['without memory']:,} there was no memory")
         try:
             opened = connected(self.port)
         except OSError as error:

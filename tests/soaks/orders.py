@@ -42,9 +42,10 @@ class Told:
             self.blur(places[0][0], places[-1][0], line.account)
             if len(places) == 1:
                 self.fates[places[0][1]] = True
-        elif not is_again:
+        is_new = reply.startswith(b"OK ")
+        if is_new:
             self.fates.update((at, False) for _, at in places)
-        if is_again or reply.startswith(b"OK "):
+        if is_again or is_new:
             self.taken.add(line.text)
 
     def blur(self, first, last, account):
@@ -62,7 +63,7 @@ class Told:
                 if self.fates.get(at) is False:
                     was_left = line
                 elif self.fates.get(at) and was_left:
-                    raise Fault(f"lane {self.client.lane}: a connection was lost on which {line.text!r} was taken and {was_left.text!r} before it not")
+                    raise Fault(f"lane {self.client.lane}: on a lost connection {line.text!r} was taken, and {was_left.text!r} before it was not")
 
 
 def shared_lines(clients):

@@ -12,6 +12,9 @@ from typing import NamedTuple, Optional
 from soaks.clients import Fault
 from soaks.lines import SHAPES, WEEK_DAYS, Shape
 
+# A shard that gets no memory for less than so many seconds makes no reply late.
+LATE_AFTER = 9
+
 
 class Squeeze(NamedTuple):
     """For how many seconds the system gives no more than so many bytes, once the first lane has sent so many lines."""
@@ -51,28 +54,36 @@ def plan_of(draw):
         longest = (0.1, 0.3, 1, 2) if shape.fills else (0.1, 0.3, 1, 2, 12)
         starts = sorted(draw.randrange(100, 6_000) for _ in range(draw.randrange(3)))
         squeezes = [Squeeze(lines, draw.choice(longest), draw.randrange(1 << 18)) for lines in starts]
-    room = draw.choice((None, None, None, draw.randrange(4 << 20)))
-    return Plan(shape, draw.randint(700, 1_000), draw.choice(WEEK_DAYS), odds, draw.choice((0, 0, 0, 30_000, 1_000_000)), room, squeezes)
+    closing_odds = draw.choice((0, 0, 0, 300, 1_000_000))
+    closing_room = draw.choice((None, None, None, None, draw.randrange(1 << 16), draw.randrange(1 << 23)))
+    return Plan(shape, draw.randint(700, 1_000), draw.choice(WEEK_DAYS), odds, closing_odds, closing_room, squeezes)
 
 
 def status_bytes(process, name):
-    """What Linux tells of a process: VmRSS, what it holds, VmHWM, the most that it held, or VmData, what its limit counts."""
-    with open(f"/proc/{process.pid}/status", encoding="ascii", errors="replace") as status:
+    """What Linux tells of a process: VmRSS, what it holds, VmHWM, the most that it held, or VmData, what its limit counts. 0 of one that
+    has ended."""
+    with contextlib.suppress(OSError), open(f"/proc/{process.pid}/status", encoding="ascii", errors="replace") as status:
         return 1024 * next((int(it.split()[1]) for it in status if it.startswith(f"{name}:")), 0)
+    return 0
 
 
 class Service:
     """A service that runs, and what keeps memory from it."""
 
-    def __init__(self, process, port, plan, odds):
-        self.process, self.port, self.plan, self.odds = process, port, plan, odds
-        self.may_lack = False
+    def __init__(self, process, port, plan, planned, odds):
+        # How many lines are planned, and the first bytes of a mapped file: one in how many allocations is refused.
+        self.process, self.port, self.plan, self.planned, self.odds = process, port, plan, planned, odds
+        # What was held after each quarter of the lines that are planned.
+        self.held = []
+        # Whether a line may be refused for memory now, and whether a reply may be late.
+        self.may_lack, self.may_be_late = False, False
         self.lifted = threading.Event()
         self.lifted.set()
-        self.lift_at = 0.0
+        # The squeezes that are to come; when the one that is on began, and for how long it is; and how many there were, for how long.
         self.squeezes = collections.deque(plan.squeezes)
-        self.squeezed = 0
-        self.seconds_squeezed = 0.0
+        self.began, self.seconds = 0.0, 0.0
+        self.squeezed, self.seconds_squeezed = 0, 0.0
+        # The most that the process may be given, and what it is given out of squeezes.
         self.most = resource.prlimit(process.pid, resource.RLIMIT_DATA)[1]
         self.room = self.most
         self.fault = None
@@ -90,26 +101,31 @@ class Service:
     def limit_room(self, room):
         self.limit(status_bytes(self.process, "VmData") + room)
 
+    def squeeze(self, squeeze):
+        self.lifted.clear()
+        self.limit_room(squeeze.spare)
+        self.began, self.seconds = time.monotonic(), squeeze.seconds
+        self.squeezed += 1
+        self.may_be_late = self.may_be_late or squeeze.seconds > LATE_AFTER
+
     def lift(self):
         if not self.lifted.is_set():
             self.limit(self.room)
+            self.seconds_squeezed += time.monotonic() - self.began
             self.lifted.set()
 
     def watch(self, clients):
-        """Begins and ends the times in which the system gives no memory."""
+        """Looks whether the process goes on, keeps what it holds, and begins and ends squeezes."""
         if self.process.poll() is not None:
             self.fail(Fault("the service ended before its clients"))
-        now = time.monotonic()
+            return
+        if len(self.held) < 4 and 4 * sum(len(client.said) for client in clients) >= (len(self.held) + 1) * self.planned:
+            self.held.append(status_bytes(self.process, "VmRSS"))
         if not self.lifted.is_set():
-            if now >= self.lift_at:
+            if time.monotonic() >= self.began + self.seconds:
                 self.lift()
         elif self.squeezes and len(clients[0].said) >= self.squeezes[0].lines:
-            squeeze = self.squeezes.popleft()
-            self.lifted.clear()
-            self.limit_room(squeeze.spare)
-            self.lift_at = now + squeeze.seconds
-            self.squeezed += 1
-            self.seconds_squeezed += squeeze.seconds
+            self.squeeze(self.squeezes.popleft())
 
     def fail(self, fault):
         """Keeps the first fault, and ends the process, so that nobody waits for it. Where that has ended by itself, this is the fault."""
