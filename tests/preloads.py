@@ -1,12 +1,14 @@
-"""The library that is loaded before the built program and refuses it threads and memory."""
+"""The library that is loaded before the built program, or before tests, and refuses them threads, memory and room in a connection."""
 
 import os
 import subprocess
 
 # A pthread_create whose call number THREAD is refused, once standard input has ended. And a malloc and a realloc, counted together, of
 # which are refused the calls from number FIRST through LAST, and one in so many, drawn by SEED, as stands in the first eight bytes of the
-# file that is the descriptor ODDS, where there is one; 0 there refuses none. Each is told by a byte on the descriptor TELL. It declares
-# what it calls: the toolchain's compiler comes without the C library's headers.
+# file that is the descriptor ODDS, where there is one; 0 there refuses none. Each is told by an x on the descriptor TELL. Where there is
+# MARKED, only those between the marks of a test count, which are requests of sizes that nothing else asks for, and a third such size tells
+# by an m that a call has said so. And a send that takes ROOM bytes in all, of the one connection that there is. It declares what it calls:
+# the toolchain's compiler comes without the C library's headers.
 SOURCE = r"""
 typedef unsigned long size_t;
 extern void *dlsym(void *, const char *);
@@ -23,6 +25,10 @@ extern int *__errno_location(void);
 #define MAP_SHARED 1
 #define EAGAIN 11
 #define ENOMEM 12
+#define EPIPE 32
+#define MAY_BE_REFUSED 1000003
+#define MAY_NOT_BE 1000033
+#define WAS_REFUSED 1000037
 
 static long number(const char *name) {
   const char *it = getenv(name);
@@ -58,25 +64,54 @@ static unsigned long drawn(unsigned long call) {
   return it ^ it >> 31;
 }
 
-static int is_refused(void) {
+static void tell(const char *it) {
+  if (write(number("TELL"), it, 1) != 1) abort();
+}
+
+static int counts(size_t size) {
+  static int between;
+  if (!getenv("MARKED")) return 1;
+  if (size == MAY_BE_REFUSED) between = 1;
+  else if (size == MAY_NOT_BE) between = 0;
+  else if (size == WAS_REFUSED) tell("m");
+  else return between;
+  return 0;
+}
+
+static int is_refused(size_t size) {
   static long calls;
+  if (!counts(size)) return 0;
   long call = __atomic_add_fetch(&calls, 1, __ATOMIC_SEQ_CST);
   unsigned long most = odds();
   int is_drawn = most && drawn(call) % most == 0;
   if (!is_drawn && (call < number("FIRST") || call > number("LAST"))) return 0;
-  if (write(number("TELL"), "x", 1) != 1) abort();
+  tell("x");
   *__errno_location() = ENOMEM;
   return 1;
 }
 
 void *malloc(size_t size) {
   void *(*next)(size_t) = (void *(*)(size_t))dlsym(RTLD_NEXT, "malloc");
-  return is_refused() ? 0 : next(size);
+  return is_refused(size) ? 0 : next(size);
 }
 
 void *realloc(void *old, size_t size) {
   void *(*next)(void *, size_t) = (void *(*)(void *, size_t))dlsym(RTLD_NEXT, "realloc");
-  return is_refused() ? 0 : next(old, size);
+  return is_refused(size) ? 0 : next(old, size);
+}
+
+long send(int socket, const void *bytes, size_t count, int flags) {
+  static long taken;
+  typedef long transmit(int, const void *, size_t, int);
+  transmit *next = (transmit *)dlsym(RTLD_NEXT, "send");
+  long room = getenv("ROOM") ? number("ROOM") - taken : (long)count, took;
+  if (count && room <= 0) {
+    *__errno_location() = EPIPE;
+    return -1;
+  }
+  took = next(socket, bytes, room < (long)count ? (size_t)room : count, flags);
+  if (took > 0) taken += took;
+  return took;
 }
 """
 
