@@ -4,7 +4,9 @@
 ghost use Rattle.std.specs.Prelude.{◌≡◌, ◌≤◌, false};
 
 use crate::accounts::{expect_price, expect_voided};
-use crate::given::{MONDAY, expect_list, expect_same, sample, tap_at};
+use crate::given::{
+    MAY_BE_REFUSED, MAY_NOT_BE, MONDAY, WAS_REFUSED, expect_list, expect_same, sample, tap_at, tell,
+};
 use crate::lines::expect_run;
 use pay_account::{Account, Fares, Posting, Quote, Sets};
 use pay_ledger::{Ledger, LedgerFault, OpenFault};
@@ -139,6 +141,39 @@ fn account_told<R: Abort>(rt: &R, account: &Account, tables: &Tables) -> (u32, u
     (quote.account(), quote.version(), quote.due().pence())
 }
 
+const NO_MEMORY: LedgerFault = LedgerFault::Refused(PostFault::Memory);
+
+/// So a refusal is the store's, or for memory, if that may be refused. Then it is told.
+fn expect_by_store<R: Abort + AllocGlobal>(
+    rt: &R,
+    is_store: bool,
+    is_memory: bool,
+    may_lack_memory: bool,
+) {
+    expect_same(rt, is_store || may_lack_memory && is_memory, true);
+    if may_lack_memory {
+        tell(rt, WAS_REFUSED);
+    }
+}
+
+/// The accounts of a ledger, at the second time where memory is refused at the first.
+fn restored<R: Abort + AllocGlobal, S: Alter + Drop>(
+    rt: &R,
+    ledger: &mut Ledger<S>,
+    tables: &Tables,
+) -> Vec<Account> {
+    tell(rt, MAY_BE_REFUSED);
+    let accounts = match ledger.restore(tables) {
+        Ok(accounts) => accounts,
+        Err(fault) => {
+            expect_by_store(rt, fault == LedgerFault::Store, fault == NO_MEMORY, true);
+            ledger.restore(tables).expect(rt, "accounts")
+        }
+    };
+    tell(rt, MAY_NOT_BE);
+    accounts
+}
+
 /// Restores the accounts of a ledger, and compares them in their order.
 pub fn expect_restored<R: Abort + AllocGlobal, S: Alter + Drop>(
     rt: &R,
@@ -146,7 +181,7 @@ pub fn expect_restored<R: Abort + AllocGlobal, S: Alter + Drop>(
     tables: &Tables,
     wanted: &[(u32, u32, u64)],
 ) {
-    let accounts: Vec<Account> = ledger.restore(tables).expect(rt, "accounts");
+    let accounts = restored(rt, ledger, tables);
     let mut list = Vec::new(rt.alloc());
     for account in &accounts {
         let it = account_told(rt, account, tables);
@@ -376,7 +411,7 @@ fn gives_back_what_was_voided(rt: HostRuntime) {
     expect_restored(&rt, &mut ledger, &tables, &[(7, 1, 175), (8, 2, 0)]);
 }
 
-/// What comes of a batch under a limit on steps.
+/// What comes of a batch under a limit on steps, or where memory may be refused.
 #[derive(Clone, Copy, Debug, PartialEq, Eq)]
 enum Limited {
     /// The ledger is not opened.
@@ -387,24 +422,27 @@ enum Limited {
     Posted,
 }
 
-/// Opens the ledger under a limit on steps and posts a batch. Then it is opened without one.
+/// Opens the ledger under a limit on steps, or else where memory may be refused, and posts a batch. Then it is opened without.
 fn post_within<R: Abort + AllocGlobal>(
     rt: &R,
     ledger: Ledger<MemStore>,
-    limit: u64,
+    limit: Option<u64>,
     batch: (&[Quote], &[Sets]),
 ) -> (Ledger<MemStore>, Limited) {
     let mut conn = ledger.into_connection();
-    conn.set_step_limit(Some(limit));
+    conn.set_step_limit(limit);
+    tell(rt, MAY_BE_REFUSED);
     let (mut conn, outcome) = match Ledger::open(rt.alloc(), conn) {
         Err((fault, conn)) => {
-            expect_same(rt, fault, OpenFault::Store);
+            let (is_store, is_memory) = (fault == OpenFault::Store, fault == OpenFault::Memory);
+            expect_by_store(rt, is_store, is_memory, limit.is_none());
             (conn, Limited::Closed)
         }
         Ok(mut ledger) => {
             let outcome = match ledger.post(batch.0, batch.1) {
                 Err(fault) => {
-                    expect_same(rt, fault, LedgerFault::Store);
+                    let (is_store, is_memory) = (fault == LedgerFault::Store, fault == NO_MEMORY);
+                    expect_by_store(rt, is_store, is_memory, limit.is_none());
                     Limited::Refused
                 }
                 Ok(_) => Limited::Posted,
@@ -412,13 +450,14 @@ fn post_within<R: Abort + AllocGlobal>(
             (ledger.into_connection(), outcome)
         }
     };
+    tell(rt, MAY_NOT_BE);
     conn.set_step_limit(None);
     (opened(rt, conn), outcome)
 }
 
-/// Posts what is due once account 8's boarding was voided, under a limit on steps. Where that is refused, all is as before, and
-/// it is posted without a limit.
-fn void_within<R: Abort + AllocGlobal>(rt: &R, tables: &Tables, limit: u64) -> Limited {
+/// Posts what is due once account 8's boarding was voided, under a limit on steps, or else where memory may be refused. Where that
+/// is refused, all is as before, and it is posted without.
+fn void_within<R: Abort + AllocGlobal>(rt: &R, tables: &Tables, limit: Option<u64>) -> Limited {
     let (ledger, batch) = boardings(rt, tables);
     let (ledger, outcome) = post_within(rt, ledger, limit, (&batch.0, &batch.1));
     if outcome != Limited::Posted {
@@ -435,11 +474,16 @@ fn posts_all_or_nothing_under_each_limit(rt: HostRuntime) {
     let mut is_refused = false;
     let mut outcome = Limited::Closed;
     for limit in 1..100 {
-        outcome = void_within(&rt, &tables, limit);
+        outcome = void_within(&rt, &tables, Some(limit));
         if outcome == Limited::Posted {
             break;
         }
         is_refused = is_refused || outcome == Limited::Refused;
     }
     expect_same(&rt, (is_refused, outcome), (true, Limited::Posted));
+}
+
+#[test]
+fn posts_all_or_nothing_without_memory(rt: HostRuntime) {
+    void_within(&rt, &sample(&rt), None);
 }

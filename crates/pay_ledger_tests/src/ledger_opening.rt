@@ -36,7 +36,7 @@ fn expect_closed<R: Abort + AllocGlobal>(
         Ok(_) => expect_same(rt, None, Some(fault)),
         Err((found, mut conn)) => {
             expect_same(rt, (found, conn.is_autocommit()), (fault, true));
-            let sum = number(&mut conn, "SELECT sum(version) FROM meta");
+            let sum = number(&mut conn, "SELECT coalesce(sum(version), 0) FROM meta");
             expect_same(rt, sum, Ok(versions));
         }
     }
@@ -64,9 +64,16 @@ fn opens_ledgers_alone(rt: HostRuntime) {
             OpenFault::NotALedger,
             3,
         ),
+        ("DELETE FROM meta", OpenFault::NotALedger, 0),
         ("DROP TABLE fixes", OpenFault::NotALedger, 1),
         (
             "DROP TABLE shares; CREATE VIEW shares AS SELECT id AS posting, 1 AS operator, amount FROM postings",
+            OpenFault::NotALedger,
+            1,
+        ),
+        // A column is missing.
+        (
+            "DROP TABLE fixes; CREATE TABLE fixes (account INTEGER NOT NULL, staff INTEGER NOT NULL) STRICT",
             OpenFault::NotALedger,
             1,
         ),
@@ -77,6 +84,37 @@ fn opens_ledgers_alone(rt: HostRuntime) {
 
 /// The rows of an empty ledger.
 const EMPTY: &str = "meta farebox 1\n";
+
+/// Opens a database with a table of another kind under a limit on steps. Where that is refused no table is made, and it is opened
+/// without one.
+fn is_opened_within<R: Abort + AllocGlobal>(rt: &R, limit: u64) -> bool {
+    let mut conn = Connection::open_in_memory(rt.alloc()).expect(rt, "a database");
+    run(&mut conn, "CREATE TABLE other (x INTEGER)").expect(rt, "a table");
+    conn.set_step_limit(Some(limit));
+    assert!(rt; conn.is_autocommit());
+    match Ledger::open(rt.alloc(), conn) {
+        Ok(_) => true,
+        Err((fault, mut conn)) => {
+            conn.set_step_limit(None);
+            let tables = number(&mut conn, "SELECT count(*) FROM sqlite_schema");
+            expect_same(rt, (fault, tables), (OpenFault::Store, Ok(1)));
+            let _ = expect_rows(rt, opened(rt, conn), EMPTY);
+            false
+        }
+    }
+}
+
+#[test]
+fn makes_all_tables_or_none_under_each_limit(rt: HostRuntime) {
+    let mut refused = 0_u64;
+    for limit in 1..1_000 {
+        if is_opened_within(&rt, limit) {
+            break;
+        }
+        refused = limit;
+    }
+    assert!(rt; 0 < refused && refused < 999);
+}
 
 /// The entry of account 7 is not posted.
 fn expect_not_posted<R: Abort + AllocGlobal>(rt: &R, ledger: &mut Ledger<MemStore>) {

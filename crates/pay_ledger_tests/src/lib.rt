@@ -5,6 +5,8 @@
 #[cfg(test)]
 mod accounts;
 #[cfg(test)]
+mod archives;
+#[cfg(test)]
 mod closing;
 #[cfg(test)]
 mod faults;
