@@ -31,6 +31,16 @@ same_limit = 1800
 /// Monday, 2024-01-08.
 const MONDAY: u32 = 19_730;
 
+/// What a test tells `tests/allocations`, by asking for so many bytes, which nothing else does: memory may be refused from here on.
+pub const MAY_BE_REFUSED: usize = 1_000_003;
+/// A call has said that it was.
+pub const WAS_REFUSED: usize = 1_000_037;
+
+/// Tells one of these.
+pub fn tell<R: AllocGlobal>(rt: &R, bytes: usize) {
+    let _ = Vec::<u8>::with_capacity(rt.alloc(), bytes);
+}
+
 /// So what was found is what is wanted.
 pub fn expect_same<R: Abort, T: Copy + PartialEq + Debug>(rt: &R, found: T, wanted: T) {
     assert_eq!(rt; found, wanted);

@@ -1,6 +1,6 @@
 //! A turn without memory.
 
-use crate::given::{bus_tap, expect_same, opened, pence};
+use crate::given::{MAY_BE_REFUSED, WAS_REFUSED, bus_tap, expect_same, opened, pence, tell};
 use pay_book::Book;
 use pay_lanes::{Lane, OpenGate, Opened, Turn, Worker};
 use pay_shard::Reply;
@@ -17,7 +17,7 @@ fn send_tap<R: Abort + Wait>(rt: &R, lane: &mut Lane, ticket: u32) {
 
 // Takes turns until an entry is answered, which then stands at this place of the journal: the first turn, or the second, where
 // memory for the first is refused. How many turns were without memory.
-fn turns_without_memory<R: Abort + Wait>(
+fn turns_without_memory<R: Abort + AllocGlobal + Wait>(
     rt: &R,
     worker: &mut Worker<Book, OpenGate>,
     place: usize,
@@ -27,6 +27,7 @@ fn turns_without_memory<R: Abort + Wait>(
         expect_same(rt, turn, Turn::Did(place));
         return 0;
     }
+    tell(rt, WAS_REFUSED);
     expect_same(rt, worker.shard().journal().len(), place);
     expect_same(rt, worker.turn(rt), Turn::Did(place));
     1
@@ -34,10 +35,16 @@ fn turns_without_memory<R: Abort + Wait>(
 
 // Takes the answer to a ticket. Each tap that is accepted pays 175 pence, since it is more than an hour after the one before.
 // How many taps are accepted then: all that were, and this one, if memory for it is not refused.
-fn accepted_then<R: Abort + Wait>(rt: &R, lane: &mut Lane, ticket: u64, accepted: u64) -> u64 {
+fn accepted_then<R: Abort + AllocGlobal + Wait>(
+    rt: &R,
+    lane: &mut Lane,
+    ticket: u64,
+    accepted: u64,
+) -> u64 {
     let answer = lane.take(rt).expect(rt, "an answer");
     expect_same(rt, (answer.ticket, answer.place), (ticket, ticket as usize));
     if matches!(&answer.reply, Reply::Memory) {
+        tell(rt, WAS_REFUSED);
         return accepted;
     }
     let accepted = accepted.saturating_add(1);
@@ -45,8 +52,7 @@ fn accepted_then<R: Abort + Wait>(rt: &R, lane: &mut Lane, ticket: u64, accepted
     accepted
 }
 
-// `rt try --test --fail-alloc N` runs it with each allocation behind those of what is opened failing in turn: at most one fails,
-// so at most one turn or one tap is without memory.
+// At most one allocation fails, so at most one turn or one tap is without memory.
 #[test]
 fn a_turn_without_memory(rt: HostRuntime) {
     let Opened {
@@ -55,6 +61,7 @@ fn a_turn_without_memory(rt: HostRuntime) {
     } = opened(&rt, 1, 1);
     let worker = workers.first_mut().expect(&rt, "a worker");
     let lane = lanes.first_mut().expect(&rt, "a lane");
+    tell(&rt, MAY_BE_REFUSED);
     let (mut starved, mut accepted) = (0u64, 0u64);
     for ticket in 0..3 {
         send_tap(&rt, lane, ticket);
