@@ -1,6 +1,6 @@
 -- Parts of a transaction, one after another.
 use Rattle.std.specs.List.{AllByRecursion}
-use Rattle.std.proofs.Common.{◌≡◌, inl, ◌<◌, ◌+◌, ℕ, List, [], ◌∷◌, ◌++◌, length, take, get_or, Ok, Err, Result, OnOk, OnErr, refl, sym, ap, subst, ◌∙◌, arith}
+use Rattle.std.proofs.Common.{◌≡◌, inl, ◌<◌, ◌+◌, ℕ, List, [], ◌∷◌, ◌++◌, length, take, get_or, Ok, Err, Result, IsTrue, IfErr, OnOk, OnErr, refl, sym, ap, subst, ◌∙◌, arith}
 use Rattle.std.proofs.lemmas.List.{append_assoc, take_more}
 use Rattle.sqlite_keyed.proofs.ListLemmas.{all_both, all_of}
 use Rattle.sqlite.specs.Effect.{Database}
@@ -8,6 +8,9 @@ use Rattle.sqlite.specs.State.{State, HasCleanDisk, KeepsCommit, Survives}
 use Rattle.sqlite.proofs.StateLemmas.{survives_then}
 use Rattle.sqlite.proofs.InsideLemmas.{keeps_then}
 use Rattle.pay_records.specs.Words.{KeepsOthers, HasLedgerTables, IsOthers}
+use Rattle.pay_ledger.specs.declared.fault.LedgerFault.{LedgerFault}
+use Rattle.pay_ledger.specs.declared.fault.LedgerFault.TheVariants.{Store}
+use Rattle.pay_ledger.specs.Faults.{is_of_store}
 use Rattle.pay_ledger.specs.Steps.{Stays, GoesOn}
 
 pub survives_same : (s : State) → Survives s s (λ _. ⊥)
@@ -43,6 +46,15 @@ module _ (a b c : State) where
 pub on_err : {A E : Type 0} (P : Type 0) (r : Result A E) → P → OnErr r P
 on_err P (Ok x) h = tt
 on_err P (Err e) h = h
+
+pub on_ok : {A E : Type 0} (P : Type 0) (r : Result A E) → P → OnOk r P
+on_ok P (Ok x) h = h
+on_ok P (Err e) h = tt
+
+-- what only the store refuses
+pub store_only : {A : Type 0} (r : Result A LedgerFault) → IfErr r (λ fault. fault ≡ Store) → IfErr r (λ fault. IsTrue (is_of_store fault))
+store_only (Ok x) h = tt
+store_only (Err fault) h = ap is_of_store h
 
 -- a list with the first of others behind it, and one more of these
 pub one_more : {X : Type 0} (list more : List X) (i : ℕ) (d : X) → i < length more → (list ++ take i more) ++ get_or more i d ∷ [] ≡ list ++ take (i + 1) more

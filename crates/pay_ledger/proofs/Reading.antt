@@ -1,15 +1,16 @@
 -- What is read of an account is what the ledger has of it.
-use Rattle.std.proofs.Common.{◌≡◌, ◌==◌, ◌+◌, ◌<ℤ◌, ℕ, ℤ, pos, Bool, true, false, cond, List, [], ◌∷◌, ◌++◌, length, map, filter, flat_map, Some, None, Option, ◌≢◌, Ok, Err, Result, IsErrAnd, IfErr, IsTrue, refl, sym, ap, ap₂, subst, ◌⊎◌, inl, inr, ◌∙◌, arith, append-nil, IsPermutation}
+use Rattle.std.proofs.Common.{◌≡◌, ◌==◌, ◌+◌, ◌<ℤ◌, ℕ, ℤ, pos, Bool, true, false, cond, List, [], ◌∷◌, ◌++◌, length, map, filter, flat_map, Some, None, Option, ◌≢◌, Ok, Err, Result, IsErrAnd, IfOk, IfErr, IsTrue, refl, sym, ap, ap₂, subst, ◌⊎◌, inl, inr, ◌∙◌, arith, append-nil, IsPermutation}
 use Rattle.std.specs.List.{zip, AllByRecursion}
 use Rattle.std.specs.Ordering.{int_eq}
 use Rattle.std.proofs.lemmas.Int.{ints}
 use Rattle.std.proofs.lemmas.List.Elements.{filter-append}
 use Rattle.std.proofs.lemmas.Bool.Decides.{nat_tests}
+use Rattle.std.proofs.lemmas.List.Sorted.{IsPermutation-refl}
 use Rattle.sqlite_keyed.proofs.ListLemmas.{map-map, filter-map, filter_same, flat_map-map, all_weaker, filter_all, filter_none, all-filter}
 use Rattle.pay_taps.specs.declared.tap.Tap.{Tap}
 use Rattle.pay_fix.specs.declared.fix.Fix.{Fix}
 use Rattle.pay_quotes.specs.declared.posting.Posting.{Posting}
-use Rattle.pay_postings.specs.Words.{LedgerParts, AreKept, taps_of, fixes_of}
+use Rattle.pay_postings.specs.Words.{LedgerParts, AreKept, net, net_from_rows, taps_of, fixes_of}
 use Rattle.pay_rows.specs.declared.row.PostingRow.{PostingRow}
 use Rattle.pay_rows.specs.declared.row.ShareRow.{ShareRow}
 use Rattle.pay_rows.specs.declared.row.TapRow.{TapRow}
@@ -26,7 +27,9 @@ use Rattle.pay_postings.specs.declared.fault.PostFault.TheVariants.{BadArchive, 
 use Rattle.pay_ledger.specs.declared.fault.LedgerFault.{LedgerFault}
 use Rattle.pay_ledger.specs.declared.fault.LedgerFault.TheVariants.{Refused}
 use Rattle.pay_ledger.specs.Faults.{is_of_store}
+use Rattle.pay_ledger.specs.BadRows.{net_said, IsNetOf}
 use Rattle.pay_ledger.specs.Steps.{Tells}
+use Rattle.pay_ledger.proofs.Looking.{net_of_own}
 use Rattle.pay_ledger.specs.Keeps.{IsLedger, AreRowsOf, row_of_posting, row_of_tap, row_of_fix}
 
 same_account : (a b : ℕ) → int_eq (pos a) (pos b) ≡ (a == b)
@@ -191,3 +194,32 @@ pub by_post_fault : {A : Type 0} (r : Result A LedgerFault) (Told : LedgerParts 
     → IfErr r (λ f. (ledger : LedgerParts) → Told ledger → IsTrue (is_of_store f))
 by_post_fault (Ok x) Told fault is h = tt
 by_post_fault (Err f) Told fault is h = λ ledger k. subst (λ f. IsTrue (is_of_store f)) (sym is) (h ledger k)
+
+-- what the rows of a ledger come to for an account and a week is what it has of these
+pub net_of_ledger : ((account : ℕ) (before : ℤ) (ids : List ℤ) (list : List Posting) (shares : List ShareRow) → AreKept list → length ids ≡ length list → RiseBehind before ids
+    → IsPermutation (shares_of account ids list) shares → postings_from_rows account (rows_of account ids list) shares ≡ Some (of_account account list))
+    → ((account week : ℕ) (rows : List (ℤ × PostingRow)) (shares : List ShareRow) (list : List Posting) → postings_from_rows account rows shares ≡ Some list → net_from_rows week rows ≡ Some (net account week list))
+    → (db : Database) (ledger : LedgerParts) (k : IsLedger db ledger) (account week : ℕ) → net_said k.keeps.rows account week ≡ Some (net account week ledger.postings)
+net_of_ledger back sums db ledger k account week =
+    let rows = k.keeps.rows in
+    let are = k.keeps.are in
+    let up = ids_rise (pos 0) are.ids ledger.postings are.as_long (subst (λ l. RiseFrom (pos 0) (map stored l)) are.postings (rows_rise db rows k.keeps.held)) in
+    let shares = shares_of account are.ids ledger.postings in
+    ap (net_from_rows week) (postings_read account ledger rows are)
+    ∙ sums account week (rows_of account are.ids ledger.postings) shares (of_account account ledger.postings) (back account (pos 0) are.ids ledger.postings shares k.kept are.as_long up (IsPermutation-refl shares))
+    ∙ ap Some (net_of_own account week ledger.postings)
+
+-- so it is refused for want of memory or for the store alone
+pub only_by_store : (fault : LedgerFault) (said : Option ℤ) (net : ℤ) → IsTrue (is_of_store fault) ⊎ ((fault ≡ Refused BadArchive) × (said ≡ None)) → said ≡ Some net → IsTrue (is_of_store fault)
+only_by_store fault said net h is = elim h [ inl store ↦ store | inr bad ↦ absurd (let none = bad.1 in cc) ]
+
+-- what is made of the rows that were read is so of those that are there
+pub net_told : (r : Result ℤ LedgerFault) (said : Option ℤ) (P : LedgerRows → Type 0) (account week : ℕ) → IsNetOf r said → ((rows : LedgerRows) → P rows → net_said rows account week ≡ said)
+    → IfOk r (λ net. (rows : LedgerRows) → P rows → net_said rows account week ≡ Some net)
+net_told (Ok net) said P account week is same = λ rows k. same rows k ∙ is
+net_told (Err fault) said P account week is same = tt
+
+pub net_refused : (r : Result ℤ LedgerFault) (said : Option ℤ) (P : LedgerRows → Type 0) (account week : ℕ) → IsNetOf r said → ((rows : LedgerRows) → P rows → net_said rows account week ≡ said)
+    → IfErr r (λ fault. (rows : LedgerRows) → P rows → IsTrue (is_of_store fault) ⊎ ((fault ≡ Refused BadArchive) × (net_said rows account week ≡ None)))
+net_refused (Ok net) said P account week is same = tt
+net_refused (Err fault) said P account week is same = λ rows k. inr (is.0, same rows k ∙ is.1)

@@ -1,12 +1,12 @@
 -- What the rows of an account say, and which of them are bad.
-use Rattle.std.specs.Prelude.{◌≡◌, ◌≢◌, ◌⊎◌, ℕ, ◌==◌, pos, true, List, map, ◌++◌, Option, Some, None, IsPermutation, IsTrue}
+use Rattle.std.specs.Prelude.{◌≡◌, ◌≢◌, ◌⊎◌, ℕ, ◌==◌, ℤ, pos, true, List, map, ◌++◌, Option, Some, None, Result, MatchResult, IsPermutation, IsTrue}
 use Rattle.std.specs.List.{list_any}
 use Rattle.pay_rows.specs.declared.row.ShareRow.{ShareRow}
 use Rattle.pay_quotes.specs.declared.posting.Posting.{Posting}
 use Rattle.pay_quotes.specs.Words.{QuoteParts, SetsParts}
 use Rattle.pay_postings.specs.declared.fault.PostFault.TheVariants.{BadArchive}
 use Rattle.pay_postings.specs.PostingRows.{postings_from_rows}
-use Rattle.pay_postings.specs.Words.{AccountsParts, IsThere}
+use Rattle.pay_postings.specs.Words.{AccountsParts, IsThere, net_from_rows}
 use Rattle.pay_records.specs.Words.{LedgerRows}
 use Rattle.pay_records.specs.Found.{postings_of, shares_of}
 use Rattle.pay_ledger.specs.declared.fault.LedgerFault.{LedgerFault}
@@ -25,6 +25,14 @@ IsReadable rows account = (postings : List Posting) × ReadsAs rows account (Som
 -- one of them is bad, in whatever order those of its shares come
 abbrev pub IsBad : LedgerRows → ℕ → Type 0
 IsBad rows account = (shares : List ShareRow) → IsPermutation (shares_of (pos account) rows) shares → postings_from_rows account (postings_of (pos account) rows) shares ≡ None
+
+-- what the amounts of an account's postings come to for a week, and none where one of these is bad
+abbrev pub net_said : LedgerRows → ℕ → ℕ → Option ℤ
+net_said rows account week = net_from_rows week (postings_of (pos account) rows)
+
+-- an answer is what rows come to, or 45 where they are bad
+abbrev pub IsNetOf : Result ℤ LedgerFault → Option ℤ → Type 0
+IsNetOf result said = MatchResult result (λ net. said ≡ Some net) (λ fault. (fault ≡ Refused BadArchive) × (said ≡ None))
 
 -- the accounts whose rows are read for quotes and sets
 abbrev pub quoted : List QuoteParts → List ℕ

@@ -12,13 +12,17 @@ use Rattle.pay_records.specs.Words.{LedgerRows, HoldsRows, OnCleanDisk, Answers,
 use Rattle.pay_ledger.specs.declared.fault.LedgerFault.{LedgerFault}
 use Rattle.pay_ledger.specs.declared.fault.LedgerFault.TheVariants.{Refused}
 use Rattle.pay_ledger.specs.Faults.{is_of_store}
-use Rattle.pay_ledger.specs.BadRows.{ReadsAs, AreReadable, IsBadAmong, IsJudgedByRows}
+use Rattle.pay_ledger.specs.BadRows.{ReadsAs, net_said, AreReadable, IsBadAmong, IsJudgedByRows}
 use Rattle.pay_ledger.specs.Keeps.{IsLedger}
 use Rattle.pay_ledger.specs.Steps.{Stays, GoesOn, Grows, Tells, TellsRows, ReadsInto, IsRefused, IsAsBefore}
 
 -- a fault is one that the database gives, or the archive is bad and has no accounts
 abbrev pub IsRefusedAsBad : {A : Type 0} → Option A → LedgerFault → Type 0
 IsRefusedAsBad accounts fault = IsTrue (is_of_store fault) ⊎ ((fault ≡ Refused BadArchive) × (accounts ≡ None))
+
+-- the accounts of an archive are answered, or it is refused as bad, or memory is wanting
+abbrev pub AreAccountsOf : {A B : Type 0} → Result A LedgerFault → Option B → (A → B) → Type 0
+AreAccountsOf result restored accounts = MatchResult result (λ it. restored ≡ Some (accounts it)) (IsRefusedAsBad restored)
 
 module _ {S : Type 0} (store : Ghosts S) (old new : Held S) where
   -- ---- what it keeps
@@ -92,6 +96,10 @@ module _ {S : Type 0} (store : Ghosts S) (old new : Held S) where
     -- of a ledger's rows it refuses what the database gives, or by 45 an account whose rows say nothing
     abbrev pub RefusesBadRows : ℕ → Type 0
     RefusesBadRows account = RefusesOfRows answer (λ rows fault. IsTrue (is_of_store fault) ⊎ ((fault ≡ Refused BadArchive) × ReadsAs rows account None))
+
+    -- or an account with an amount in a week that is bad
+    abbrev pub RefusesBadAmounts : ℕ → ℕ → Type 0
+    RefusesBadAmounts account week = RefusesOfRows answer (λ rows fault. IsTrue (is_of_store fault) ⊎ ((fault ≡ Refused BadArchive) × (net_said rows account week ≡ None)))
 
     -- and of several accounts one whose rows say nothing
     abbrev pub RefusesBadRowsOf : List ℕ → Type 0

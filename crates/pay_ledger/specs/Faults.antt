@@ -20,12 +20,6 @@ open_fault_name opened.Version = codes "Version"
 open_fault_name opened.Store = codes "Store"
 open_fault_name opened.Memory = codes "Memory"
 
--- a refusal that a database gives, whatever it holds
-abbrev pub opens_by_store : OpenFault → Bool
-opens_by_store opened.Store = true
-opens_by_store opened.Memory = true
-opens_by_store _ = false
-
 abbrev pub wants_memory : LedgerFault
 wants_memory = Refused Memory
 

@@ -1,10 +1,11 @@
 -- What a database is that is opened as a ledger, or is not.
-use Rattle.std.specs.Prelude.{◌≡◌, ◌⊎◌, ⊤, false, [], IsTrue}
+use Rattle.std.specs.Prelude.{◌≡◌, ◌⊎◌, ⊤, Bool, true, false, [], Result, Ok, Err, IsTrue}
 use Rattle.sqlite.specs.Tree.{Trees}
 use Rattle.sqlite.specs.Effect.{Database}
 use Rattle.sqlite.specs.State.{State}
 use Rattle.pay_postings.specs.Words.{LedgerParts}
 use Rattle.pay_records.specs.Words.{IsFree, IsOfKind, has_view, Grows, ledger_tables}
+use Rattle.pay_records.specs.declared.kind.Kind.{Kind}
 use Rattle.pay_records.specs.declared.kind.Kind.TheVariants as kind
 use Rattle.pay_ledger.specs.declared.fault.OpenFault.{OpenFault}
 use Rattle.pay_ledger.specs.declared.fault.OpenFault.TheVariants.{NotALedger, Version, Store, Memory}
@@ -18,12 +19,19 @@ nothing = record { postings = []; taps = []; fixes = [] }
 abbrev pub HasNoView : Database → Type 0
 HasNoView db = has_view db.schema ≡ false
 
--- why it is not opened: for a view, or by what its tables are
+-- whether a ledger is to be made in a database of a kind, or is there; or why it is not opened
+abbrev pub is_blank : Kind → Result Bool OpenFault
+is_blank kind.Blank = Ok true
+is_blank kind.Ledger = Ok false
+is_blank kind.Version = Err Version
+is_blank kind.Other = Err NotALedger
+
+-- Why it is not opened: for a view, or by what its tables are. Its store may fail whatever it is, and there is no growth beside those of the store.
 abbrev pub IsWhy : OpenFault → Database → Type 0
 IsWhy NotALedger db = HasNoView db → IsOfKind db kind.Other
 IsWhy Version db = IsOfKind db kind.Version
 IsWhy Store db = ⊤
-IsWhy Memory db = ⊤
+IsWhy Memory db = ⊥
 
 -- it is a ledger, or has none of its tables
 abbrev pub IsLedgerOrBlank : Database → Type 0

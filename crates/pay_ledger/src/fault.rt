@@ -15,10 +15,10 @@ pub enum OpenFault {
     /// 41: it is a ledger of another version.
     #[error("41 Version")]
     Version,
-    /// 43: a call of the database failed.
+    /// 43: a call of the database failed, for want of memory too.
     #[error("43 Store")]
     Store,
-    /// 90: the memory for it was refused.
+    /// 90: a growth was refused. Opening makes none beside those of the database, so it never gives this.
     #[error("90 Memory")]
     Memory,
 }
@@ -67,20 +67,20 @@ impl From<ReadFault> for OpenFault {
 
 /// A table that was not made, or a commit that failed.
 impl From<sqlite::Error> for OpenFault {
-    ghost use Rattle.std.specs.Prelude.{◌≡◌, ◌⊎◌};
-    ghost use Rattle.pay_ledger.specs.declared.fault.OpenFault.TheVariants.{Store, Memory};
+    ghost use Rattle.std.specs.Prelude.{◌≡◌};
+    ghost use Rattle.pay_ledger.specs.declared.fault.OpenFault.TheVariants.{Store};
 
-    ghost from_gives = { λ _ fault. (fault ≡ Store) ⊎ (fault ≡ Memory) };
+    ghost from_gives = { λ _ fault. fault ≡ Store };
 
-    fn from(error: sqlite::Error) -> OpenFault {
-        OpenFault::from(ReadFault::from(error))
+    fn from(_: sqlite::Error) -> OpenFault {
+        OpenFault::Store
     }
 }
 
 /// Why a ledger does not post, nor tell what was posted. It stays as it was.
 #[derive(Clone, Copy, Debug, PartialEq, Eq, Error)]
 pub enum LedgerFault {
-    /// 43: a call of the database failed.
+    /// 43: a call of the database failed, for want of memory too.
     #[error("43 Store")]
     Store,
     /// 42, 45, 46, 47 or 90.
@@ -130,12 +130,12 @@ impl From<ReadFault> for LedgerFault {
 
 /// A write that failed.
 impl From<sqlite::Error> for LedgerFault {
-    ghost use Rattle.std.specs.Prelude.{◌≡◌, IsTrue};
-    ghost use Rattle.pay_ledger.specs.Faults.{is_of_store};
+    ghost use Rattle.std.specs.Prelude.{◌≡◌};
+    ghost use Rattle.pay_ledger.specs.declared.fault.LedgerFault.TheVariants.{Store};
 
-    ghost from_gives = { λ _ fault. IsTrue (is_of_store fault) };
+    ghost from_gives = { λ _ fault. fault ≡ Store };
 
-    fn from(error: sqlite::Error) -> LedgerFault {
-        LedgerFault::from(ReadFault::from(error))
+    fn from(_: sqlite::Error) -> LedgerFault {
+        LedgerFault::Store
     }
 }

@@ -1,4 +1,4 @@
-ghost use Rattle.std.specs.Prelude.{◌≡◌, false, List, Some, map as each, IsTrue, IfOk, IfErr};
+ghost use Rattle.std.specs.Prelude.{◌≡◌, ◌≢◌, false, List, Some, map as each, IfOk, IfErr};
 ghost use Rattle.std.specs.List.{IsDistinct};
 ghost use Rattle.std.specs.List.Sorted.{IsStrictlySortedBy};
 ghost use Rattle.std.specs.Ordering.{nat_cmp, eq_by_cmp};
@@ -6,15 +6,14 @@ ghost use Rattle.pay_quotes.specs.declared.posting.Posting.{Posting};
 ghost use Rattle.pay_postings.specs.Words.{posted, postings_of, net};
 ghost use Rattle.pay_postings.specs.declared.fault.PostFault.TheVariants.{BadArchive};
 ghost use Rattle.pay_restore.specs.Words.{ArePriced, restored};
-ghost use Rattle.pay_ledger.specs.Faults.{opens_by_store};
 ghost use Rattle.pay_records.specs.Words.{OnCleanDisk, LeavesAsBeforeOr, LeavesAsBefore, Answers, IsFree};
 ghost use Rattle.pay_ledger.specs.Opening.{HasNoView, IsWhy, IsOpened, BlankJustGrows, MayLeaveOpened};
 ghost use Rattle.pay_ledger.specs.Steps.{Posts, MayLeave};
-ghost use Rattle.pay_ledger.specs.BadRows.{ReadsAs, asked};
-ghost use Rattle.pay_ledger.specs.Calls.{ChangesNothing, ChangesNothingIfRefused, AnswersOfLedger, AnswersOfRows, AnswersOfReadable, FailsByStoreAlone, RefusesAsDefined, RefusesOpenAlone, RefusesBadRows, RefusesBadRowsFirst, RestoresRows, RestoresLedger};
+ghost use Rattle.pay_ledger.specs.BadRows.{ReadsAs, net_said, asked};
+ghost use Rattle.pay_ledger.specs.Calls.{ChangesNothing, ChangesNothingIfRefused, AnswersOfLedger, AnswersOfRows, AnswersOfReadable, FailsByStoreAlone, RefusesAsDefined, RefusesOpenAlone, RefusesBadRows, RefusesBadAmounts, RefusesBadRowsFirst, AreAccountsOf, RestoresRows, RestoresLedger};
 
 use crate::fault::{LedgerFault, OpenFault};
-use crate::lookup::{archive_of, of_week, posted_of};
+use crate::lookup::{Archive, archive_of, net_of, of_week, posted_of};
 use crate::opening::prepare;
 use crate::post::post;
 use pay_quotes::{Posting, Postings, Quote, Sets};
@@ -43,6 +42,21 @@ impl<S: Alter> Model for Ledger<S> {
     ghost invariant = { λ l. l.conn.in_transaction ≡ false };
 }
 
+/// The accounts of what is archived. No call of the database is made for them, so that no fault is the store's.
+fn accounts_of<F: Fares>(
+    alloc: Global,
+    tables: &Tables,
+    archive: &Archive,
+) -> Result<Vec<F>, LedgerFault>
+    ensures answer { AreAccountsOf result (restored tables.now archive.now.taps.items archive.now.fixes.items) (λ accounts. each (λ a. (F.account a, F.accepted a)) accounts.items) }
+    ensures own { IfErr result (λ fault. fault ≢ LedgerFault.Store) }
+    ensures ascending { IfOk result (λ accounts. IsStrictlySortedBy nat_cmp (each F.account accounts.items)) }
+    ensures distinct { IfOk result (λ accounts. IsDistinct (eq_by_cmp nat_cmp) (each F.account accounts.items)) }
+    ensures priced { IfOk result (λ accounts. ArePriced F.account (F.IsPricedBy tables.now) accounts.items) }
+{
+    Ok(restored(alloc, tables, &archive.taps, &archive.fixes)?)
+}
+
 impl<S: Alter> Ledger<S> {
     /// Opens a database as a ledger, which is made where none of its tables is there. A fault gives the connection back.
     pub fn open(
@@ -54,7 +68,7 @@ impl<S: Alter> Ledger<S> {
         ensures grows { IfOk result (λ ledger. OnCleanDisk S.Store conn ledger (λ old new. BlankJustGrows old.now new.now)) }
         ensures no_view { IfOk result (λ ledger. OnCleanDisk S.Store conn ledger (λ old _. HasNoView old.now)) }
         ensures refused { IfErr result (λ e. OnCleanDisk S.Store conn e.1 (λ old _. IsWhy e.0 old.now)) }
-        ensures of_blank { IfErr result (λ e. OnCleanDisk S.Store conn e.1 (λ old _. IsFree old.now → IsTrue (opens_by_store e.0))) }
+        ensures of_blank { IfErr result (λ e. OnCleanDisk S.Store conn e.1 (λ old _. IsFree old.now → e.0 ≡ OpenFault.Store)) }
         ensures kept { IfErr result (λ e. ChangesNothing S.Store conn e.1) }
         ensures autocommit { IfErr result (λ e. e.1.in_transaction ≡ false) }
         ensures survives { IfOk result (λ ledger. LeavesAsBeforeOr S.Store conn ledger MayLeaveOpened) }
@@ -94,16 +108,20 @@ impl<S: Alter> Ledger<S> {
         Ok(Postings::from(of_week(self.alloc, &posted, account, week)?))
     }
 
-    /// What an account was charged for a week less what it was given back, in pence: the sum of the amounts.
+    /// What an account was charged for a week less what it was given back, in pence: the sum of the amounts. Nothing else of
+    /// its postings is asked, nor are those of other weeks or any shares: `BadArchive` where an amount of the week is no sum of
+    /// money, by itself or with those before it.
     pub fn net(&mut self, account: u32, week: u32) -> Result<i64, LedgerFault>
         ensures told { AnswersOfLedger S.Store self.old self.new result (λ ledger amount. amount ≡ net account week ledger.postings) }
         ensures never_bad { FailsByStoreAlone S.Store self.old self.new result }
-        ensures read { AnswersOfRows S.Store self.old self.new result (λ rows amount. (all : List Posting) × ReadsAs rows account (Some all) × (amount ≡ net account week all)) }
-        ensures bad { RefusesBadRows S.Store self.old self.new result account }
+        ensures read { AnswersOfRows S.Store self.old self.new result (λ rows amount. net_said rows account week ≡ Some amount) }
+        ensures bad { RefusesBadAmounts S.Store self.old self.new result account week }
         ensures kept { ChangesNothing S.Store self.old self.new }
         ensures survives { LeavesAsBefore S.Store self.old self.new }
     {
-        Ok(posted_of(self.alloc, &mut self.conn, account)?.net(account, week))
+        pay_postings::laws::postings_back();
+        pay_postings::laws::net_of_rows();
+        net_of(self.alloc, &mut self.conn, account, week)
     }
 
     /// The accounts of the archive, one for each account number in it, in ascending order, priced by these tables: each has
@@ -120,8 +138,7 @@ impl<S: Alter> Ledger<S> {
         ensures survives { LeavesAsBefore S.Store self.old self.new }
     {
         let archive = archive_of(self.alloc, &mut self.conn)?;
-        let accounts = restored(self.alloc, tables, &archive.taps, &archive.fixes)?;
-        Ok(accounts)
+        accounts_of(self.alloc, tables, &archive)
     }
 
     /// The connection.

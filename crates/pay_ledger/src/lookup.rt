@@ -1,16 +1,16 @@
 ghost use Rattle.std.specs.Prelude.{◌≡◌, ◌++◌, ◌∷◌, [], Some, false, IfOk, OnOk};
-ghost use Rattle.pay_postings.specs.Words.{postings_of};
+ghost use Rattle.pay_postings.specs.Words.{postings_of, net_from_rows};
 ghost use Rattle.pay_postings.specs.AccountRows.{of_account};
 ghost use Rattle.pay_records.specs.Words.{LeavesAsBefore};
-ghost use Rattle.pay_ledger.specs.BadRows.{ReadsAs};
-ghost use Rattle.pay_ledger.specs.Calls.{ChangesNothing, GoesOnIfDone, StaysIfRefused, AnswersOfLedger, AnswersOfRows, FailsByStoreAlone, FailsByStoreAloneOfRows, RefusesBadRows};
+ghost use Rattle.pay_ledger.specs.BadRows.{ReadsAs, net_said, IsNetOf};
+ghost use Rattle.pay_ledger.specs.Calls.{ChangesNothing, GoesOnIfDone, StaysIfRefused, AnswersOfLedger, AnswersOfRows, FailsByStoreAlone, FailsByStoreAloneOfRows, RefusesBadRows, RefusesBadAmounts};
 
 use crate::fault::LedgerFault;
 use crate::read::read_posted;
-use pay_postings::Posted;
+use pay_postings::{PostFault, Posted, net_from_rows};
 use pay_quotes::Posting;
-use pay_records::{all_fixes, all_taps};
-use pay_rows::{FixRow, TapRow};
+use pay_records::{all_fixes, all_taps, postings_of};
+use pay_rows::{FixRow, PostingRow, TapRow};
 use sqlite::{Alter, Connection, Transaction};
 use std::alloc::{AllocError, Global};
 
@@ -32,6 +32,51 @@ pub(crate) fn posted_of<S: Alter>(
     let _ = conn.is_autocommit();
     let mut tx = conn.transaction();
     read_posted(alloc, &mut tx, account)
+}
+
+/// What the rows of an account's postings come to for a week.
+fn net_of_rows(week: u32, rows: &[(i64, PostingRow)]) -> Result<i64, LedgerFault>
+    ensures { IsNetOf result (net_from_rows week rows.now) }
+{
+    match net_from_rows(week, rows) {
+        Some(net) => Ok(net),
+        None => Err(LedgerFault::Refused(PostFault::BadArchive)),
+    }
+}
+
+fn read_net<S: Alter>(
+    alloc: Global,
+    tx: &mut Transaction<'_, S>,
+    account: u32,
+    week: u32,
+) -> Result<i64, LedgerFault>
+    ensures same_reference { tx.new.conn.ghost_name ≡ tx.old.conn.ghost_name }
+    ensures told { AnswersOfRows S.Store tx.old.conn.now tx.new.conn.now result (λ rows net. net_said rows account week ≡ Some net) }
+    ensures bad { RefusesBadAmounts S.Store tx.old.conn.now tx.new.conn.now result account week }
+    ensures ok { GoesOnIfDone S.Store tx.old.conn.now tx.new.conn.now result }
+    ensures err { StaysIfRefused S.Store tx.old.conn.now tx.new.conn.now result }
+{
+    let rows = postings_of(alloc, tx, i64::from(account))?;
+    net_of_rows(week, &rows)
+}
+
+/// What an account was charged for a week less what it was given back, by the amounts of its postings alone.
+pub(crate) fn net_of<S: Alter>(
+    alloc: Global,
+    conn: &mut Connection<S>,
+    account: u32,
+    week: u32,
+) -> Result<i64, LedgerFault>
+    requires { conn.old.in_transaction ≡ false }
+    ensures autocommit { conn.new.in_transaction ≡ false }
+    ensures told { AnswersOfRows S.Store conn.old conn.new result (λ rows net. net_said rows account week ≡ Some net) }
+    ensures bad { RefusesBadAmounts S.Store conn.old conn.new result account week }
+    ensures kept { ChangesNothing S.Store conn.old conn.new }
+    ensures survives { LeavesAsBefore S.Store conn.old conn.new }
+{
+    let _ = conn.is_autocommit();
+    let mut tx = conn.transaction();
+    read_net(alloc, &mut tx, account, week)
 }
 
 /// Adds a posting, if it is of a week. An `Err` is out of memory.

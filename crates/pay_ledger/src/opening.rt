@@ -1,12 +1,23 @@
-ghost use Rattle.std.specs.Prelude.{◌≡◌, false, IsTrue};
-ghost use Rattle.pay_ledger.specs.Faults.{opens_by_store};
+ghost use Rattle.std.specs.Prelude.{◌≡◌, false};
 ghost use Rattle.pay_records.specs.Words.{LeavesAsBeforeOr, Refuses, Does, IsFree};
-ghost use Rattle.pay_ledger.specs.Opening.{HasNoView, IsWhy, IsOpened, MayLeaveOpened, KeepsLedger, BlankBecomesLedger, BlankJustGrows, IsLedgerOrBlank};
+ghost use Rattle.pay_ledger.specs.Opening.{HasNoView, is_blank, IsWhy, IsOpened, MayLeaveOpened, KeepsLedger, BlankBecomesLedger, BlankJustGrows, IsLedgerOrBlank};
 ghost use Rattle.pay_ledger.specs.Calls.{ChangesNothingIfRefused, GoesOnIfDone, StaysIfRefused};
 
 use crate::fault::OpenFault;
 use pay_records::{Kind, has_view, kind_of, make};
 use sqlite::{Alter, Connection, Transaction};
+
+/// Whether a ledger is to be made in a database of a kind, or is there; or why it is not opened.
+fn is_blank(kind: Kind) -> Result<bool, OpenFault>
+    ensures { result ≡ is_blank kind }
+{
+    match kind {
+        Kind::Blank => Ok(true),
+        Kind::Ledger => Ok(false),
+        Kind::Version => Err(OpenFault::Version),
+        Kind::Other => Err(OpenFault::NotALedger),
+    }
+}
 
 /// Makes the tables, if none is there, in a transaction that is not committed yet.
 fn ready<S: Alter>(tx: &mut Transaction<'_, S>) -> Result<(), OpenFault>
@@ -16,16 +27,16 @@ fn ready<S: Alter>(tx: &mut Transaction<'_, S>) -> Result<(), OpenFault>
     ensures grows { Does S.Store tx.old.conn.now tx.new.conn.now result (λ old new. BlankJustGrows old.now new.now) }
     ensures of_kind { Does S.Store tx.old.conn.now tx.new.conn.now result (λ old _. IsLedgerOrBlank old.now) }
     ensures refused { Refuses S.Store tx.old.conn.now tx.new.conn.now result (λ old _ fault. IsWhy fault old.now) }
-    ensures of_blank { Refuses S.Store tx.old.conn.now tx.new.conn.now result (λ old _ fault. IsFree old.now → IsTrue (opens_by_store fault)) }
+    ensures of_blank { Refuses S.Store tx.old.conn.now tx.new.conn.now result (λ old _ fault. IsFree old.now → fault ≡ OpenFault.Store) }
     ensures ok { GoesOnIfDone S.Store tx.old.conn.now tx.new.conn.now result }
     ensures err { StaysIfRefused S.Store tx.old.conn.now tx.new.conn.now result }
 {
-    match kind_of(tx)? {
-        Kind::Ledger => Ok(()),
-        Kind::Blank => Ok(make(tx)?),
-        Kind::Version => Err(OpenFault::Version),
-        Kind::Other => Err(OpenFault::NotALedger),
+    let kind = kind_of(tx)?;
+    if !is_blank(kind)? {
+        return Ok(());
     }
+    make(tx)?;
+    Ok(())
 }
 
 /// Makes the tables, if none is there, in one transaction.
@@ -35,7 +46,7 @@ fn prepare_tables<S: Alter>(conn: &mut Connection<S>) -> Result<(), OpenFault>
     ensures opened { Does S.Store conn.old conn.new result IsOpened }
     ensures grows { Does S.Store conn.old conn.new result (λ old new. BlankJustGrows old.now new.now) }
     ensures refused { Refuses S.Store conn.old conn.new result (λ old _ fault. IsWhy fault old.now) }
-    ensures of_blank { Refuses S.Store conn.old conn.new result (λ old _ fault. IsFree old.now → IsTrue (opens_by_store fault)) }
+    ensures of_blank { Refuses S.Store conn.old conn.new result (λ old _ fault. IsFree old.now → fault ≡ OpenFault.Store) }
     ensures kept { ChangesNothingIfRefused S.Store conn.old conn.new result }
     ensures survives { LeavesAsBeforeOr S.Store conn.old conn.new MayLeaveOpened }
 {
@@ -54,7 +65,7 @@ pub(crate) fn prepare<S: Alter>(conn: &mut Connection<S>) -> Result<(), OpenFaul
     ensures grows { Does S.Store conn.old conn.new result (λ old new. BlankJustGrows old.now new.now) }
     ensures no_view { Does S.Store conn.old conn.new result (λ old _. HasNoView old.now) }
     ensures refused { Refuses S.Store conn.old conn.new result (λ old _ fault. IsWhy fault old.now) }
-    ensures of_blank { Refuses S.Store conn.old conn.new result (λ old _ fault. IsFree old.now → IsTrue (opens_by_store fault)) }
+    ensures of_blank { Refuses S.Store conn.old conn.new result (λ old _ fault. IsFree old.now → fault ≡ OpenFault.Store) }
     ensures kept { ChangesNothingIfRefused S.Store conn.old conn.new result }
     ensures survives { LeavesAsBeforeOr S.Store conn.old conn.new MayLeaveOpened }
 {

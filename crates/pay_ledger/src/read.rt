@@ -1,4 +1,4 @@
-ghost use Rattle.std.specs.Prelude.{◌≡◌, Some, map, IsTrue, IfErr, OnOk};
+ghost use Rattle.std.specs.Prelude.{◌≡◌, Some, map, IsOkUnless, OnOk};
 ghost use Rattle.pay_postings.specs.Words.{parts, taps_of, fixes_of, archived_of, IsThere};
 ghost use Rattle.pay_postings.specs.SetRows.{tap_row, fix_row};
 ghost use Rattle.pay_postings.specs.AccountRows.{of_account};
@@ -6,7 +6,6 @@ ghost use Rattle.std.specs.List.{AllByRecursion};
 ghost use Rattle.sqlite.specs.State.{IsUnchanged};
 ghost use Rattle.pay_quotes.specs.Words.{QuoteParts, SetsParts};
 ghost use Rattle.pay_records.specs.Words.{Does};
-ghost use Rattle.pay_ledger.specs.Faults.{is_of_store};
 ghost use Rattle.pay_ledger.specs.BadRows.{ReadsAs, quoted, in_sets};
 ghost use Rattle.pay_ledger.specs.Steps.{KeepsRows};
 ghost use Rattle.pay_ledger.specs.Calls.{GoesOnIfDone, StaysIfRefused, ReadsIntoIfDone, FindsInLedger, FindsInHeldRows, FailsByStoreAlone, FailsByStoreAloneOfRows, RefusesBadRows, RefusesBadRowsOf};
@@ -23,7 +22,7 @@ use std::alloc::Global;
 pub(crate) fn ask<S: Alter>(tx: &mut Transaction<'_, S>) -> Result<(), LedgerFault>
     ensures same_reference { tx.new.conn.ghost_name ≡ tx.old.conn.ghost_name }
     ensures same { Does S.Store tx.old.conn.now tx.new.conn.now result IsUnchanged }
-    ensures of_store { IfErr result (λ fault. IsTrue (is_of_store fault)) }
+    ensures store { IsOkUnless result LedgerFault.Store }
     ensures ok { GoesOnIfDone S.Store tx.old.conn.now tx.new.conn.now result }
     ensures err { StaysIfRefused S.Store tx.old.conn.now tx.new.conn.now result }
 {

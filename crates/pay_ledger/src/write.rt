@@ -1,4 +1,4 @@
-ghost use Rattle.std.specs.Prelude.{◌≡◌, ◌∷◌, [], IsTrue, IfErr};
+ghost use Rattle.std.specs.Prelude.{◌≡◌, ◌∷◌, [], IsTrue, IsOkUnless, IfErr};
 ghost use Rattle.pay_ledger.specs.Faults.{is_of_store};
 ghost use Rattle.pay_records.specs.Words.{Does};
 ghost use Rattle.pay_ledger.specs.Keeps.{with_shares, with_postings, with_taps, with_fixes};
@@ -23,7 +23,7 @@ fn write_shares<S: Alter>(
     ensures same_reference { tx.new.conn.ghost_name ≡ tx.old.conn.ghost_name }
     ensures writes { Does S.Store tx.old.conn.now tx.new.conn.now result (λ old new. RowsGrow old new (with_shares shares.now)) }
     ensures ok { GoesOnIfDone S.Store tx.old.conn.now tx.new.conn.now result }
-    ensures of_store { IfErr result (λ fault. IsTrue (is_of_store fault)) }
+    ensures store { IsOkUnless result LedgerFault.Store }
     ensures err { StaysIfRefused S.Store tx.old.conn.now tx.new.conn.now result }
 {
     for share in shares {
@@ -76,7 +76,7 @@ fn write_tap<S: Alter>(tx: &mut Transaction<'_, S>, tap: &Tap) -> Result<(), Led
     ensures same_reference { tx.new.conn.ghost_name ≡ tx.old.conn.ghost_name }
     ensures writes { GrowsInside S.Store tx.old.conn.now tx.new.conn.now result (with_taps (tap.now ∷ [])) }
     ensures ok { GoesOnIfDone S.Store tx.old.conn.now tx.new.conn.now result }
-    ensures of_store { IfErr result (λ fault. IsTrue (is_of_store fault)) }
+    ensures store { IsOkUnless result LedgerFault.Store }
     ensures err { StaysIfRefused S.Store tx.old.conn.now tx.new.conn.now result }
 {
     add_tap(tx, i64::from(tap.account), &tap_row(tap))?;
@@ -91,7 +91,7 @@ pub(crate) fn write_taps<S: Alter>(
     ensures same_reference { tx.new.conn.ghost_name ≡ tx.old.conn.ghost_name }
     ensures writes { GrowsInside S.Store tx.old.conn.now tx.new.conn.now result (with_taps taps.now) }
     ensures ok { GoesOnIfDone S.Store tx.old.conn.now tx.new.conn.now result }
-    ensures of_store { IfErr result (λ fault. IsTrue (is_of_store fault)) }
+    ensures store { IsOkUnless result LedgerFault.Store }
     ensures err { StaysIfRefused S.Store tx.old.conn.now tx.new.conn.now result }
 {
     for tap in taps {
@@ -105,7 +105,7 @@ fn write_fix<S: Alter>(tx: &mut Transaction<'_, S>, fix: &Fix) -> Result<(), Led
     ensures same_reference { tx.new.conn.ghost_name ≡ tx.old.conn.ghost_name }
     ensures writes { GrowsInside S.Store tx.old.conn.now tx.new.conn.now result (with_fixes (fix.now ∷ [])) }
     ensures ok { GoesOnIfDone S.Store tx.old.conn.now tx.new.conn.now result }
-    ensures of_store { IfErr result (λ fault. IsTrue (is_of_store fault)) }
+    ensures store { IsOkUnless result LedgerFault.Store }
     ensures err { StaysIfRefused S.Store tx.old.conn.now tx.new.conn.now result }
 {
     add_fix(tx, i64::from(fix.account), &fix_row(fix))?;
@@ -120,7 +120,7 @@ pub(crate) fn write_fixes<S: Alter>(
     ensures same_reference { tx.new.conn.ghost_name ≡ tx.old.conn.ghost_name }
     ensures writes { GrowsInside S.Store tx.old.conn.now tx.new.conn.now result (with_fixes fixes.now) }
     ensures ok { GoesOnIfDone S.Store tx.old.conn.now tx.new.conn.now result }
-    ensures of_store { IfErr result (λ fault. IsTrue (is_of_store fault)) }
+    ensures store { IsOkUnless result LedgerFault.Store }
     ensures err { StaysIfRefused S.Store tx.old.conn.now tx.new.conn.now result }
 {
     for fix in fixes {

@@ -1,7 +1,7 @@
-use Rattle.std.proofs.Common.{◌≡◌, Ok, Err, ap, rules, ◌≢◌}
+use Rattle.std.proofs.Common.{◌≡◌, Ok, Err, ap, rules}
 use Rattle.sqlite.specs.Held.{state}
-use Rattle.pay_postings.specs.declared.fault.PostFault.TheVariants.{BadArchive, Memory}
-use Rattle.pay_postings.specs.Words.{posted, lists, with_batch}
+use Rattle.pay_postings.specs.declared.fault.PostFault.TheVariants.{BadArchive}
+use Rattle.pay_postings.specs.Words.{posted, lists, with_batch, IsRefusedAs}
 use Rattle.pay_ledger.proofs.Along.{goes_then, stays_then, was_clean, on_err}
 use Rattle.pay_ledger.proofs.Batched.{covers_all, read_of, judged, refused_so, by_answer}
 use Rattle.pay_ledger.specs.declared.fault.LedgerFault.TheVariants.{Refused}
@@ -27,9 +27,9 @@ returns-in_err-post-clause-refused g c clean =
     let a = state g.S.Store c.args.tx.now.conn.now in
     let b = state g.S.Store c.read_quoted.new.tx.conn.now in
     let d = state g.S.Store c.read_sets.new.tx.conn.now in
-    let told = judged a b d _ _ _ c.args.quotes.now c.args.sets.now (λ ledger. c.in_err-post.field-0.0 ≢ Memory → posted ledger c.args.quotes.now c.args.sets.now ≡ Err c.in_err-post.field-0.0) c.new-accounts.ensures c.in_ok-read_quoted.ensures.told c.in_ok-read_sets.ensures.told c.in_ok-read_sets.ensures.ok
+    let told = judged a b d _ _ _ c.args.quotes.now c.args.sets.now (λ ledger. IsRefusedAs (posted ledger c.args.quotes.now c.args.sets.now) c.in_err-post.field-0.0) c.new-accounts.ensures c.in_ok-read_quoted.ensures.told c.in_ok-read_sets.ensures.told c.in_ok-read_sets.ensures.ok
     c.in_ok-read_quoted.ensures.there c.in_ok-read_sets.ensures.there c.in_err-post.ensures.batch clean in
-    by_answer c.from_residual-in_err-post.result _ c.in_err-post.field-0.0 (search rules) (λ ledger k. refused_so (posted ledger c.args.quotes.now c.args.sets.now) c.in_err-post.field-0.0 (told ledger k).0)
+    by_answer c.from_residual-in_err-post.result _ c.in_err-post.field-0.0 (search rules) (λ ledger k. refused_so (posted ledger c.args.quotes.now c.args.sets.now) c.in_err-post.field-0.0 (told ledger k).0.0)
 
 pub returns-clause-told : goal.returns-clause-told
 returns-clause-told g c clean =

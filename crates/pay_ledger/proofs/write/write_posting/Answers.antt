@@ -2,7 +2,7 @@ use Rattle.std.proofs.Common.{rules, ◌∙◌, ap}
 use Rattle.sqlite.specs.Held.{state}
 use Rattle.pay_postings.specs.PostingRows.{share_rows}
 use Rattle.pay_ledger.specs.Steps.{GoesOn}
-use Rattle.pay_ledger.proofs.Along.{goes_then, stays_then, clean_before, ok_then, err_then, others_then}
+use Rattle.pay_ledger.proofs.Along.{goes_then, stays_then, clean_before, ok_then, err_then, others_then, store_only}
 use Rattle.pay_ledger.proofs.Written.{posting_written}
 use Rattle.pay_ledger.proofs.write.write_posting.Goals as goal
 
@@ -34,3 +34,6 @@ returns-clause-err g c =
     let after = state g.S.Store c.write_shares.new.tx.conn.now in
     let step : GoesOn first between = record { stays = record { kept = c.add_posting.ensures.kept; survives = c.add_posting.ensures.survives }; inside = c.in_ok-id.ensures.inside } in
     err_then _ _ c.write_shares.result (stays_then first between after step) c.write_shares.ensures.err
+
+pub returns-clause-of_store : goal.returns-clause-of_store
+returns-clause-of_store g c = store_only c.write_shares.result c.write_shares.ensures.store
