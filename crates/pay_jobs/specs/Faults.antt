@@ -1,5 +1,5 @@
 -- How a program ends where it fails: its status, and the refusal that a fault is.
-use Rattle.std.specs.Prelude.{◌≡◌, ◌⊎◌, ℕ, List, codes}
+use Rattle.std.specs.Prelude.{◌≡◌, ℕ, List, codes}
 use Rattle.pay_jobs.specs.declared.fault.Fault.{Fault}
 use Rattle.pay_jobs.specs.declared.fault.Fault.TheVariants.{Usage, CannotListen, Input, Output, Refused}
 use Rattle.pay_session.specs.declared.stop.SessionFault.{SessionFault}
@@ -28,9 +28,9 @@ IsRefusal _ n text = ⊥
 abbrev pub IsWantOfMemory : Fault → Type 0
 IsWantOfMemory fault = IsRefusal fault 90 (codes "Memory")
 
--- the store of a ledger in memory failed, or memory for it was wanting
+-- the store of a ledger in memory failed, for want of memory too
 abbrev pub IsWantOfLedger : Fault → Type 0
-IsWantOfLedger fault = IsRefusal fault 43 (codes "Store") ⊎ IsWantOfMemory fault
+IsWantOfLedger fault = IsRefusal fault 43 (codes "Store")
 
 -- what kept the journeys of a week from being told
 abbrev pub IsWeekFault : WeekFault → Fault → Type 0

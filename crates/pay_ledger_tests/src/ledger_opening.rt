@@ -158,13 +158,20 @@ share 1 17 860
 fn posts_beside_no_bad_posting(rt: HostRuntime) {
     let mut ledger = opened(&rt, changed(&rt, NO_POSTING));
     let postings = ledger.postings(7, 19_730).err();
-    expect_same(
-        &rt,
-        (postings, ledger.net(7, 19_730)),
-        (Some(BAD), Err(BAD)),
-    );
+    expect_same(&rt, (postings, ledger.net(7, 19_730)), (Some(BAD), Ok(860)));
     expect_not_posted(&rt, &mut ledger);
     let _ = expect_rows(&rt, ledger, NO_POSTING_ROWS);
+}
+
+/// The row of a posting whose amount is beyond all sums of money.
+const NO_AMOUNT: &str = "INSERT INTO postings VALUES (1, 7, 19730, 19730, 2, 860, 4000000001)";
+
+// A sum looks at the amounts of its own week alone.
+#[test]
+fn sums_no_bad_amount(rt: HostRuntime) {
+    let mut ledger = opened(&rt, changed(&rt, NO_AMOUNT));
+    let other_week = ledger.net(7, 19_737);
+    expect_same(&rt, (ledger.net(7, 19_730), other_week), (Err(BAD), Ok(0)));
 }
 
 /// Another's table, which is there before the ledger.
