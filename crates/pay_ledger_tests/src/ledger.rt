@@ -144,7 +144,7 @@ fn account_told<R: Abort>(rt: &R, account: &Account, tables: &Tables) -> (u32, u
 const NO_MEMORY: LedgerFault = LedgerFault::Refused(PostFault::Memory);
 
 /// So a refusal is the store's, or for memory, if that may be refused. Then it is told.
-fn expect_by_store<R: Abort + AllocGlobal>(
+pub fn expect_by_store<R: Abort + AllocGlobal>(
     rt: &R,
     is_store: bool,
     is_memory: bool,

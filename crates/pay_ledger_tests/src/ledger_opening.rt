@@ -3,9 +3,10 @@
 ghost use Rattle.std.specs.Prelude.{◌≡◌};
 
 use crate::accounts::expect_price;
-use crate::given::{expect_same, sample, tap_at};
+use crate::given::{MAY_BE_REFUSED, MAY_NOT_BE, expect_same, sample, tap_at, tell};
 use crate::ledger::{
-    JOURNEY, empty_ledger, expect_posted, expect_restored, expect_rows, opened, owed,
+    JOURNEY, empty_ledger, expect_by_store, expect_posted, expect_restored, expect_rows, opened,
+    owed,
 };
 use crate::lines::expect_run;
 use pay_account::{Account, Fares};
@@ -85,35 +86,32 @@ fn opens_ledgers_alone(rt: HostRuntime) {
 /// The rows of an empty ledger.
 const EMPTY: &str = "meta farebox 1\n";
 
-/// Opens a database with a table of another kind under a limit on steps. Where that is refused no table is made, and it is opened
-/// without one.
-fn is_opened_within<R: Abort + AllocGlobal>(rt: &R, limit: u64) -> bool {
+/// Opens a database with a table of another kind under a limit on steps, or else where memory may be refused. Where that is refused no
+/// table is made, and it is opened then.
+fn expect_made<R: Abort + AllocGlobal>(rt: &R, limit: Option<u64>) {
     let mut conn = Connection::open_in_memory(rt.alloc()).expect(rt, "a database");
     run(&mut conn, "CREATE TABLE other (x INTEGER)").expect(rt, "a table");
-    conn.set_step_limit(Some(limit));
+    conn.set_step_limit(limit);
     assert!(rt; conn.is_autocommit());
-    match Ledger::open(rt.alloc(), conn) {
-        Ok(_) => true,
-        Err((fault, mut conn)) => {
-            conn.set_step_limit(None);
-            let tables = number(&mut conn, "SELECT count(*) FROM sqlite_schema");
-            expect_same(rt, (fault, tables), (OpenFault::Store, Ok(1)));
-            let _ = expect_rows(rt, opened(rt, conn), EMPTY);
-            false
-        }
+    tell(rt, MAY_BE_REFUSED);
+    let made = Ledger::open(rt.alloc(), conn);
+    tell(rt, MAY_NOT_BE);
+    if let Err((fault, mut conn)) = made {
+        let (is_store, is_memory) = (fault == OpenFault::Store, fault == OpenFault::Memory);
+        expect_by_store(rt, is_store, is_memory, limit.is_none());
+        conn.set_step_limit(None);
+        let tables = number(&mut conn, "SELECT count(*) FROM sqlite_schema");
+        expect_same(rt, tables, Ok(1));
+        let _ = expect_rows(rt, opened(rt, conn), EMPTY);
     }
 }
 
 #[test]
-fn makes_all_tables_or_none_under_each_limit(rt: HostRuntime) {
-    let mut refused = 0_u64;
-    for limit in 1..1_000 {
-        if is_opened_within(&rt, limit) {
-            break;
-        }
-        refused = limit;
+fn makes_all_tables_or_none(rt: HostRuntime) {
+    for limit in 0..20 {
+        expect_made(&rt, Some(limit));
     }
-    assert!(rt; 0 < refused && refused < 999);
+    expect_made(&rt, None);
 }
 
 /// The entry of account 7 is not posted.

@@ -6,7 +6,7 @@ ghost use Rattle.std.specs.List.{AllByRecursion};
 ghost use Rattle.pay_book.specs.History.{account_of};
 
 use crate::accounts::{empty_account, shown};
-use crate::given::{MONDAY, expect_same, sample, tap_at};
+use crate::given::{MAY_BE_REFUSED, MONDAY, WAS_REFUSED, expect_same, sample, tap_at, tell};
 use crate::shards::{empty_shard, priced, refusal, reply};
 use pay_account::*;
 use pay_book::{Book, Sent, book_of};
@@ -44,7 +44,7 @@ fn told(again: bool, pence: u64) -> Priced {
 // What follows asks again if memory runs out once. The account shows then what it showed before.
 
 /// The result of a tap of an account whose Monday has so many journeys and this price before.
-fn sent<R: Abort, F: Fares>(
+fn sent<R: Abort + AllocGlobal, F: Fares>(
     rt: &R,
     account: &mut F,
     tables: &Tables,
@@ -60,12 +60,13 @@ fn sent<R: Abort, F: Fares>(
     if result != Err(TapFault::Memory) {
         return result;
     }
+    tell(rt, WAS_REFUSED);
     expect_day(rt, account, tables, before);
     account.tap(tables, *tap)
 }
 
 /// The result of a correction of such an account.
-fn fixed<R: Abort, F: Fares>(
+fn fixed<R: Abort + AllocGlobal, F: Fares>(
     rt: &R,
     account: &mut F,
     tables: &Tables,
@@ -81,12 +82,13 @@ fn fixed<R: Abort, F: Fares>(
     if result != Err(FixFault::Memory) {
         return result;
     }
+    tell(rt, WAS_REFUSED);
     expect_day(rt, account, tables, before);
     account.fix(tables, *fix)
 }
 
 /// Sends a tap, and compares how many journeys the Monday has and its price, before and after.
-fn expect_tap<R: Abort, F: Fares>(
+fn expect_tap<R: Abort + AllocGlobal, F: Fares>(
     rt: &R,
     account: &mut F,
     tables: &Tables,
@@ -108,7 +110,7 @@ fn expect_tap<R: Abort, F: Fares>(
 }
 
 /// The same of a correction by staff 3.
-fn expect_fix<R: Abort, F: Fares>(
+fn expect_fix<R: Abort + AllocGlobal, F: Fares>(
     rt: &R,
     account: &mut F,
     tables: &Tables,
@@ -134,7 +136,7 @@ fn expect_fix<R: Abort, F: Fares>(
 
 /// Three boardings, of which a late one makes the next free and the last pay, and a journey from 10 to 12 at 340, which a late
 /// touch in cuts off from its beginning: that is then alone, at 860.
-fn boardings_and_a_ride<R: Abort, F: Fares>(rt: &R, tables: &Tables, account: &mut F)
+fn boardings_and_a_ride<R: Abort + AllocGlobal, F: Fares>(rt: &R, tables: &Tables, account: &mut F)
     requires { F.IsPricedBy tables.now account.old }
 {
     let bus = tap_at(rt, 1, 28_200, 50, Kind::Bus);
@@ -175,7 +177,7 @@ fn boardings_and_a_ride<R: Abort, F: Fares>(rt: &R, tables: &Tables, account: &m
 
 /// A leg from 14 to 11 at 210, which becomes a run over 12 and 10 at 370 by two late taps: it has a leg from 10 to 11, at 280
 /// where it is alone. A tap of it that is taken out and restored changes it and restores it, and another late tap parts it.
-fn a_run<R: Abort, F: Fares>(rt: &R, tables: &Tables, account: &mut F)
+fn a_run<R: Abort + AllocGlobal, F: Fares>(rt: &R, tables: &Tables, account: &mut F)
     requires { F.IsPricedBy tables.now account.old }
 {
     let entry = tap_at(rt, 1, 25_200, 14, Kind::In);
@@ -199,14 +201,20 @@ fn a_run<R: Abort, F: Fares>(rt: &R, tables: &Tables, account: &mut F)
 fn boardings_by_late_taps(rt: HostRuntime) {
     let tables = sample(&rt);
     let mut book: Book = empty_account(&rt, &tables);
+    let mut account: Account = empty_account(&rt, &tables);
+    tell(&rt, MAY_BE_REFUSED);
     boardings_and_a_ride(&rt, &tables, &mut book);
+    boardings_and_a_ride(&rt, &tables, &mut account);
 }
 
 #[test]
 fn runs_by_late_taps(rt: HostRuntime) {
     let tables = sample(&rt);
     let mut book: Book = empty_account(&rt, &tables);
+    let mut account: Account = empty_account(&rt, &tables);
+    tell(&rt, MAY_BE_REFUSED);
     a_run(&rt, &tables, &mut book);
+    a_run(&rt, &tables, &mut account);
 }
 
 /// Sends a boarding, of which there is one that pays.

@@ -1,4 +1,4 @@
-use crate::given::{MONDAY, expect_same, tap_at};
+use crate::given::{MAY_BE_REFUSED, MONDAY, WAS_REFUSED, expect_same, tap_at, tell};
 use pay_fix::*;
 use pay_money::Pence;
 use pay_numbered::{Addition, AdditionFault};
@@ -16,10 +16,11 @@ fn fix(seq: u32, what: What) -> Fix {
 }
 
 /// Adds a correction. Where an allocation fails, the set is as before and takes it at the next call.
-fn add<R: Abort>(rt: &R, fixes: &mut FixSet, fix: &Fix) {
-    let seq = fix.seq;
+fn add<R: Abort + AllocGlobal>(rt: &R, fixes: &mut FixSet, fix: &Fix) {
+    let (seq, before) = (fix.seq, fixes.len());
     if fixes.add(*fix) == Err(AdditionFault::Memory) {
-        expect_same(rt, fixes.get(3, seq), None);
+        tell(rt, WAS_REFUSED);
+        expect_same(rt, (fixes.len(), fixes.get(3, seq)), (before, None));
         expect_same(rt, fixes.add(*fix), Ok(Addition::Added));
     }
 }
@@ -31,6 +32,7 @@ fn credit<R: Abort>(rt: &R, pence: u32) -> What {
 #[test]
 fn keeps_corrections_by_number(rt: HostRuntime) {
     let mut fixes = FixSet::new(rt.alloc());
+    tell(&rt, MAY_BE_REFUSED);
     add(&rt, &mut fixes, &fix(1, What::Void(5, 6)));
     expect_same(
         &rt,
@@ -43,6 +45,11 @@ fn keeps_corrections_by_number(rt: HostRuntime) {
         Err(AdditionFault::Conflict),
     );
     expect_same(&rt, (fixes.len(), fixes.is_empty()), (1, false));
+    // They outgrow the set's own places.
+    for seq in 2..100 {
+        add(&rt, &mut fixes, &fix(seq, What::Void(5, seq)));
+    }
+    expect_same(&rt, fixes.len(), 99);
     if let Ok(list) = fixes.list(rt.alloc()) {
         expect_same(&rt, list.as_slice(), fixes.as_slice());
     }

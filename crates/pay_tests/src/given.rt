@@ -29,6 +29,18 @@ pub fn expect_list<R: Abort, T: PartialEq + Debug + Drop, F: Copy + PartialEq + 
 /// Monday, 2024-01-08.
 pub const MONDAY: u32 = 19_730;
 
+/// What a test tells `tests/allocations`, by asking for so many bytes, which nothing else does: memory may be refused from here on.
+pub const MAY_BE_REFUSED: usize = 1_000_003;
+/// It may not any more.
+pub const MAY_NOT_BE: usize = 1_000_033;
+/// A call has said that it was.
+pub const WAS_REFUSED: usize = 1_000_037;
+
+/// Tells one of these.
+pub fn tell<R: AllocGlobal>(rt: &R, bytes: usize) {
+    let _ = Vec::<u8>::with_capacity(rt.alloc(), bytes);
+}
+
 /// The tables of the sample fare file, whose bands are that of the buses (525 a day, 2470 a week), of zones 1 to 2
 /// (890, 4470) and of zones 1 to 3 (1050, 5250).
 pub fn sample<R: Abort + AllocGlobal>(rt: &R) -> Tables {

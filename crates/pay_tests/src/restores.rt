@@ -1,12 +1,14 @@
 //! Accounts restored from the rows of an archive, by the sample fare file, whose route is 50.
 
-use crate::given::{expect_list, sample};
+use crate::given::{MAY_BE_REFUSED, MAY_NOT_BE, WAS_REFUSED, expect_list, sample, tell};
 use crate::ledger_rows::TAPPED;
 use pay_account::Fares;
 use pay_book::Book;
 use pay_postings::PostFault;
 use pay_restore::restored;
 use pay_rows::{FixRow, TapRow};
+use pay_tables::Tables;
+use std::alloc::AllocError;
 use std::process::Abort;
 
 /// A boarding.
@@ -38,20 +40,37 @@ const DROPPED: FixRow = FixRow {
 };
 
 /// What is restored: the number of each account, and how many taps and corrections it has accepted.
+fn counts_of<R: AllocGlobal>(
+    rt: &R,
+    tables: &Tables,
+    taps: &[(i64, TapRow)],
+    fixes: &[(i64, FixRow)],
+) -> Result<Vec<(u32, usize, usize)>, PostFault> {
+    let accounts: Vec<Book> = restored(rt.alloc(), tables, taps, fixes)?;
+    let mut counts = Vec::new(rt.alloc());
+    for account in &accounts {
+        let sets = account.sets()?;
+        let count = (account.number(), sets.taps().len(), sets.fixes().len());
+        counts.push(count).map_err(AllocError::from)?;
+    }
+    Ok(counts)
+}
+
+/// The same at the second time, where memory is refused at the first.
 fn counts<R: Abort + AllocGlobal>(
     rt: &R,
     taps: &[(i64, TapRow)],
     fixes: &[(i64, FixRow)],
 ) -> Result<Vec<(u32, usize, usize)>, PostFault> {
     let tables = sample(rt);
-    let accounts: Vec<Book> = restored(rt.alloc(), &tables, taps, fixes)?;
-    let mut counts = Vec::new(rt.alloc());
-    for account in &accounts {
-        let sets = account.sets()?;
-        let count = (account.number(), sets.taps().len(), sets.fixes().len());
-        counts.push(count).expect(rt, "memory");
+    tell(rt, MAY_BE_REFUSED);
+    let mut found = counts_of(rt, &tables, taps, fixes);
+    if matches!(&found, Err(PostFault::Memory)) {
+        tell(rt, WAS_REFUSED);
+        found = counts_of(rt, &tables, taps, fixes);
     }
-    Ok(counts)
+    tell(rt, MAY_NOT_BE);
+    found
 }
 
 // Account 9 has one boarding twice, and account 8 a correction alone.

@@ -1,4 +1,4 @@
-use crate::given::{expect_same, tap_at, touch_at};
+use crate::given::{MAY_BE_REFUSED, WAS_REFUSED, expect_same, tap_at, tell, touch_at};
 use pay_numbered::{Addition, AdditionFault};
 use pay_taps::*;
 use std::process::Abort;
@@ -27,18 +27,20 @@ fn keeps_taps_by_number(rt: HostRuntime) {
 }
 
 /// Adds a tap. Where an allocation fails, the set is as before and takes the tap at the next call.
-fn add_at_last<R: Abort>(rt: &R, taps: &mut TapSet, tap: &Tap) {
+fn add_at_last<R: Abort + AllocGlobal>(rt: &R, taps: &mut TapSet, tap: &Tap) {
     let before = taps.len();
     if taps.add(*tap) == Err(AdditionFault::Memory) {
+        tell(rt, WAS_REFUSED);
         expect_same(rt, (taps.len(), taps.get(1, tap.seq)), (before, None));
         expect_same(rt, taps.add(*tap), Ok(Addition::Added));
     }
 }
 
-// They outgrow the set's own places, and a block. `rt try --test --fail-alloc N` runs it with each allocation failing in turn.
+// They outgrow the set's own places, and a block.
 #[test]
 fn takes_more_taps_than_the_set_has_places(rt: HostRuntime) {
     let mut taps = TapSet::new(rt.alloc());
+    tell(&rt, MAY_BE_REFUSED);
     for seq in 0..300 {
         add_at_last(&rt, &mut taps, &boarding(&rt, 299 - seq, 25_200));
     }
