@@ -14,3 +14,4 @@ pub mod Openings
 pub mod Runs
 pub mod Served
 mod Statements
+mod StreamCauses

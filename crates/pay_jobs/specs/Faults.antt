@@ -1,7 +1,9 @@
 -- How a program ends where it fails: its status, and the refusal that a fault is.
-use Rattle.std.specs.Prelude.{◌≡◌, ℕ, List, codes}
+use Rattle.std.specs.Prelude.{◌≡◌, ℕ, List, codes, ⊤}
 use Rattle.pay_jobs.specs.declared.fault.Fault.{Fault}
-use Rattle.pay_jobs.specs.declared.fault.Fault.TheVariants.{Usage, CannotListen, Input, Output, Refused}
+use Rattle.pay_jobs.specs.declared.fault.Fault.TheVariants.{Usage, CannotReadFares, BadZone, CannotListen, Input, Output, Refused}
+use Rattle.pay_wire.specs.Words.{WriterCall}
+use Rattle.pay_session.specs.Words.{ReaderCall, IsBroken}
 use Rattle.pay_session.specs.declared.stop.SessionFault.{SessionFault}
 use Rattle.pay_session.specs.declared.stop.SessionFault.TheVariants.{Read, Write}
 use Rattle.pay_serve.specs.declared.fault.ServeFault.{ServeFault}
@@ -44,3 +46,14 @@ IsServeFault serving.Count fault = IsRefusal fault 32 (codes "Count")
 IsServeFault serving.NoThread fault = IsRefusal fault 35 (codes "NoThread")
 IsServeFault serving.Memory fault = IsWantOfMemory fault
 IsServeFault serving.Output fault = fault ≡ Output
+
+-- With what a reader and a writer may answer, from the reader before to both after: the fault of a stream comes from what it answered.
+module _ {R W : Type 0} (reads : R → ReaderCall → R → Type 0) (writes : W → WriterCall → W → Type 0) where
+  abbrev pub HasCause : Fault → R → R → W → Type 0
+  HasCause Input before reader writer = IsBroken reads writes (Read 0) before reader writer
+  HasCause Output before reader writer = IsBroken reads writes (Write 0) before reader writer
+  HasCause Usage before reader writer = ⊤
+  HasCause CannotReadFares before reader writer = ⊤
+  HasCause BadZone before reader writer = ⊤
+  HasCause CannotListen before reader writer = ⊤
+  HasCause (Refused number name) before reader writer = ⊤

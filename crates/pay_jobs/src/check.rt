@@ -3,18 +3,21 @@ ghost use Rattle.std.specs.Prelude.{◌≡◌, ◌++◌, ◌∷◌, decimal, IfO
 ghost use Rattle.std.specs.String.{string_bytes};
 ghost use Rattle.pay_jobs.specs.Check.{CheckEnds, CheckFails, IsCounted, counts_line};
 ghost use Rattle.pay_jobs.specs.Run.{IsRefused};
+ghost use Rattle.pay_wire.specs.Words.{IsFlushed, HasFault};
 
 use crate::fault::Fault;
 use crate::output::write_text;
 use pay_fare_file::read_tables;
 use pay_tables::Counts;
+use pay_wire::ToldWriter;
 use std::alloc::{AllocError, Global};
-use std::io::Write;
 
 /// Writes how many of each thing the fare file of a text has, as one line, and flushes the writer.
-pub fn check_text<W: Write>(alloc: Global, fares: &str, writer: &mut W) -> Result<(), Fault>
+pub fn check_text<W: ToldWriter>(alloc: Global, fares: &str, writer: &mut W) -> Result<(), Fault>
     ensures ends { OnOk result (CheckEnds fares.now (W.contents writer.old) (W.contents writer.new)) }
     ensures fails { IfErr result (λ fault. CheckFails fault fares.now (W.contents writer.old) (W.contents writer.new)) }
+    ensures flushed { OnOk result (IsFlushed W.Tells writer.new) }
+    ensures cause { IfErr result (λ fault. fault ≡ Fault.Output → HasFault W.Tells writer.new) }
 {
     let line = counted(alloc, fares)?;
     write_text(writer, line.as_str().as_bytes())

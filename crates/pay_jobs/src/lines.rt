@@ -1,19 +1,20 @@
-ghost use Rattle.std.specs.Prelude.{◌≡◌, []};
+ghost use Rattle.std.specs.Prelude.{◌≡◌, false, [], IfOk, IfErr};
 ghost use Rattle.std.specs.Arc.{arc_value};
 ghost use Rattle.std.specs.FinMap as map;
 ghost use Rattle.sqlite.specs.Held.{state};
+ghost use Rattle.pay_session.specs.Words.{IsBroken, IsLastFill, ShowsNothing};
 ghost use Rattle.pay_jobs.specs.LineRuns.{LinesEnd, LinesFail};
 
 use jiff::tz::TimeZone;
 use pay_book::Book;
 use pay_close::LedgerTill;
 use pay_ledger::Ledger;
-use pay_session::{Done, SessionFault, session};
+use pay_session::{Done, SessionFault, ToldReader, session};
 use pay_shard::LocalDesk;
 use pay_tables::Tables;
+use pay_wire::ToldWriter;
 use sqlite::Alter;
 use std::alloc::Global;
-use std::io::{BufRead, Write};
 use std::sync::Arc;
 
 /// A desk over one shard without accounts. It takes no memory.
@@ -34,7 +35,7 @@ pub(crate) fn new_desk(alloc: Global, tables: Arc<Tables>) -> LocalDesk<Book>
 /// zone, the fare file and the ledger before it, where no reply is 43, 44 or 90. Where a write of the ledger's disk fails, its
 /// connection may shut: the replies are still the machine's, by what failed for each line, and nothing is said of the ledger. Where
 /// the disk does not return what was written, nothing is said of the run.
-pub fn run_lines<R: BufRead, W: Write, S: Alter>(
+pub fn run_lines<R: ToldReader, W: ToldWriter, S: Alter>(
     alloc: Global,
     reader: &mut R,
     writer: &mut W,
@@ -46,6 +47,8 @@ pub fn run_lines<R: BufRead, W: Write, S: Alter>(
         (ledger.new, R.remaining reader.new, W.contents writer.new) result }
     ensures fails { LinesFail (state S.Store) zone.now (arc_value tables) (ledger.old, R.remaining reader.old, W.contents writer.old)
         (ledger.new, R.remaining reader.new, W.contents writer.new) result }
+    ensures ended { IfOk result (λ done. done.quit ≡ false → IsLastFill R.Tells (ShowsNothing R.Tells) reader.old reader.new) }
+    ensures cause { IfErr result (λ fault. IsBroken R.Tells W.Tells fault reader.old reader.new writer.new) }
 {
     let mut desk = new_desk(alloc, tables);
     let mut till = LedgerTill::new(alloc, ledger);

@@ -1,5 +1,5 @@
 //! The job `run`, by the texts of its fare file and its zone: all that the program does below the reading of files.
-ghost use Rattle.std.specs.Prelude.{◌≡◌, None, Ok, IfOk, IfErr, OnErr};
+ghost use Rattle.std.specs.Prelude.{◌≡◌, false, None, Ok, IfOk, IfErr, OnErr};
 ghost use Rattle.std.specs.Arc.{arc_value};
 ghost use Rattle.jiff.specs.Placed.{IsPosixZone};
 ghost use Rattle.jiff.specs.Words.{read_whole};
@@ -8,7 +8,8 @@ ghost use Rattle.sqlite.specs.Files.{file_state};
 ghost use Rattle.sqlite.specs.Steps.{IsEmpty};
 ghost use Rattle.pay_fare_file.specs.Words.{fare_text};
 ghost use Rattle.pay_ledger.specs.Words.{IsLedger, nothing};
-ghost use Rattle.pay_jobs.specs.Faults.{IsWantOfLedger};
+ghost use Rattle.pay_session.specs.Words.{IsLastFill, ShowsNothing};
+ghost use Rattle.pay_jobs.specs.Faults.{IsWantOfLedger, HasCause};
 ghost use Rattle.pay_jobs.specs.Run.{IsRefused, JobEnds, JobFails};
 
 use crate::fault::Fault;
@@ -17,17 +18,17 @@ use jiff::tz::TimeZone;
 use pay_disk::{ScratchFile, new_database};
 use pay_fare_file::read_tables;
 use pay_ledger::{Ledger, OpenFault};
-use pay_session::Done;
+use pay_session::{Done, ToldReader};
 use pay_tables::Tables;
+use pay_wire::ToldWriter;
 use sqlite::{Connection, Error, FileStore};
 use std::alloc::{AllocError, Global};
-use std::io::{BufRead, Write};
 use std::sync::Arc;
 
 /// Answers the lines of a reader by the fares of a fare file and the clock of a zone, which are given as texts. Days are
 /// closed into a ledger in memory, which ends with the session.
 /// The fare file is read before the zone, and both before the first line.
-pub fn run_texts<R: BufRead, W: Write>(
+pub fn run_texts<R: ToldReader, W: ToldWriter>(
     alloc: Global,
     fares: &str,
     zone: &str,
@@ -36,6 +37,8 @@ pub fn run_texts<R: BufRead, W: Write>(
 ) -> Result<Done, Fault>
     ensures ends { IfOk result (JobEnds fares.now zone.now (R.remaining reader.old, W.contents writer.old) (R.remaining reader.new, W.contents writer.new)) }
     ensures fails { IfErr result (JobFails fares.now zone.now (R.remaining reader.old, W.contents writer.old) (R.remaining reader.new, W.contents writer.new)) }
+    ensures ended { IfOk result (λ done. done.quit ≡ false → IsLastFill R.Tells (ShowsNothing R.Tells) reader.old reader.new) }
+    ensures cause { IfErr result (λ fault. HasCause R.Tells W.Tells fault reader.old reader.new writer.new) }
 {
     let tables = read_fares(alloc, fares)?;
     let zone = read_zone(zone)?;

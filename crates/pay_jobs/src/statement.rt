@@ -1,5 +1,6 @@
 //! The job `statement`, by the texts of its fare file and its zone: all that the program does below the reading of files.
 ghost use Rattle.std.specs.Prelude.{◌≡◌, IfOk, IfErr, OnOk};
+ghost use Rattle.pay_wire.specs.Words.{IsFlushed};
 ghost use Rattle.std.specs.Arc.{arc_value};
 ghost use Rattle.pay_day.specs.Words.{IsDay};
 ghost use Rattle.pay_statement.specs.Words.{statement_text};
@@ -10,16 +11,17 @@ use crate::output::write_text;
 use crate::run::{read_fares, read_zone};
 use crate::week::week_by_lines;
 use pay_account::Line;
+use pay_session::ToldReader;
 use pay_statement::write_csv;
 use pay_tables::Tables;
+use pay_wire::ToldWriter;
 use std::alloc::{AllocError, Global};
-use std::io::{BufRead, Write};
 use std::sync::Arc;
 
 /// Writes the statement of the week that holds a service day, counted from 1970-01-01, of an account that has
 /// accepted what the lines of a reader ask for. The fare file is read before the zone, both before the first
 /// line, and all of them before anything is written.
-pub fn statement_texts<R: BufRead, W: Write>(
+pub fn statement_texts<R: ToldReader, W: ToldWriter>(
     alloc: Global,
     fares: &str,
     zone: &str,
@@ -33,13 +35,14 @@ pub fn statement_texts<R: BufRead, W: Write>(
         (R.remaining reader.new, W.contents writer.new)) }
     ensures fails { IfErr result (StatementRefused fares.now zone.now account day (R.remaining reader.old, W.contents writer.old)
         (R.remaining reader.new, W.contents writer.new)) }
+    ensures flushed { OnOk result (IsFlushed W.Tells writer.new) }
 {
     let page = read_page(alloc, fares, zone, account, day, reader)?;
     write_text(writer, &page)
 }
 
 /// The text of the statement.
-fn read_page<R: BufRead>(
+fn read_page<R: ToldReader>(
     alloc: Global,
     fares: &str,
     zone: &str,

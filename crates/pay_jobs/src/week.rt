@@ -13,12 +13,11 @@ use jiff::tz::TimeZone;
 use pay_account::{Fares, Lines};
 use pay_book::Book;
 use pay_day::monday;
-use pay_session::{NoTill, SessionFault, session};
+use pay_session::{NoTill, SessionFault, ToldReader, session};
 use pay_shard::Shard;
 use pay_tables::Tables;
 use std::alloc::{AllocError, Global};
 use std::io;
-use std::io::BufRead;
 use std::sync::Arc;
 use thiserror::Error;
 
@@ -69,7 +68,7 @@ fn lines_of(
 /// The journeys of the week that holds a service day, counted from 1970-01-01, of an account that has
 /// accepted what the lines of a reader ask for. The replies to the lines are written nowhere; where one of them is
 /// `NO 90 Memory`, no journeys are given, since some may be missing.
-pub fn week_by_lines<R: BufRead>(
+pub fn week_by_lines<R: ToldReader>(
     alloc: Global,
     reader: &mut R,
     zone: &TimeZone<'_>,

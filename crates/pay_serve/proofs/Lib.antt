@@ -1,3 +1,4 @@
 pub mod Begun
 pub mod Going
 pub mod OneClose
+pub mod ToldCloses

@@ -1,8 +1,9 @@
 //! The close of a day over one lane, once all others have ended.
-ghost use Rattle.std.specs.Prelude.{◌≡◌, ◌≤◌, ◌<◌, [], ◌∷◌, ◌++◌, length, vec_capacity};
+ghost use Rattle.std.specs.Prelude.{◌≡◌, ◌≤◌, ◌<◌, [], ◌∷◌, ◌++◌, length, vec_capacity, OnOk, OnErr, IfErr};
 ghost use Rattle.sqlite.specs.Held.{state};
 ghost use Rattle.pay_day.specs.declared.limits.TheConstants.{FIRST_DAY, LAST_DAY};
 ghost use Rattle.pay_shard.specs.Words.{AreKept};
+ghost use Rattle.pay_wire.specs.Words.{IsFlushed, IsCaused, HasFault};
 ghost use Rattle.pay_lanes.specs.Words.{IsSameLane};
 ghost use Rattle.pay_serve.specs.Closes.{IsClosedOver, IsClosedThrough, IsTold, IsDayClosed};
 ghost use Rattle.pay_serve.specs.Lanes.{HasShards, AreAllWith};
@@ -15,16 +16,15 @@ use pay_ledger::Ledger;
 use pay_office::{Gate, Lane, LaneDesk, Office, shut};
 use pay_session::Till;
 use pay_shard::Desk;
-use pay_wire::{Closed, Reply, WriteFault, send};
+use pay_wire::{Closed, Reply, ToldWriter, WriteFault, send};
 use sqlite::Alter;
 use std::alloc::Global;
-use std::io::Write;
 use std::sync::Wait;
 use std::thread::Threads;
 
 /// Closes a service day, counted from 1970-01-01, into a ledger over a desk, and writes what came of it. Whether it was closed; if
 /// not, its refusal is written.
-pub fn close_over<D: Desk, S: Alter, W: Write>(
+pub fn close_over<D: Desk, S: Alter, W: ToldWriter>(
     alloc: Global,
     desk: &mut D,
     ledger: &mut Ledger<S>,
@@ -34,6 +34,8 @@ pub fn close_over<D: Desk, S: Alter, W: Write>(
     requires { (FIRST_DAY ≤ day) × (day ≤ LAST_DAY) }
     ensures closed { IsClosedOver D.parts day (desk.old, state S.Store ledger.old, W.contents writer.old)
         (desk.new, state S.Store ledger.new, W.contents writer.new) result }
+    ensures flushed { OnOk result (IsFlushed W.Tells writer.new) }
+    ensures cause { IfErr result (λ fault. IsCaused W.Tells fault writer.new) }
     ensures transcript { AreKept (D.parts desk.old).transcript (D.parts desk.new).transcript }
     ensures same_desk { (D.parts desk.new).standing ≡ (D.parts desk.old).standing }
 {
@@ -51,7 +53,7 @@ pub fn close_over<D: Desk, S: Alter, W: Write>(
 }
 
 /// The same over a desk that begins with a lane. The lane is given back.
-fn close_through<R: Wait + Copy, S: Alter, W: Write>(
+fn close_through<R: Wait + Copy, S: Alter, W: ToldWriter>(
     rt: R,
     alloc: Global,
     lane: Lane,
@@ -63,6 +65,8 @@ fn close_through<R: Wait + Copy, S: Alter, W: Write>(
     requires shards { HasShards lane }
     ensures closed { IsClosedThrough day (lane, state S.Store ledger.old, W.contents writer.old)
         (result.1, state S.Store ledger.new, W.contents writer.new) result.0 }
+    ensures flushed { OnOk result.0 (IsFlushed W.Tells writer.new) }
+    ensures cause { IfErr result.0 (λ fault. IsCaused W.Tells fault writer.new) }
     ensures same { IsSameLane lane result.1 }
 {
     let mut desk = LaneDesk::new(rt, alloc, lane);
@@ -99,7 +103,7 @@ fn told(closed: Result<bool, WriteFault>) -> Result<bool, ServeFault>
 /// Closes a service day, counted from 1970-01-01, into a ledger over the last lane of an office, whose other lanes are back; writes
 /// what came of it; and ends the threads of the office. Whether the day was closed; if not, its refusal is written. Over a new office
 /// whose shards all gave their quotes it is the close of one machine that was asked what stands in their journals.
-pub fn close_day<F: Fares, G: Gate, R: Threads + Wait + Copy, S: Alter, W: Write>(
+pub fn close_day<F: Fares, G: Gate, R: Threads + Wait + Copy, S: Alter, W: ToldWriter>(
     rt: R,
     alloc: Global,
     office: Office<F, G>,
@@ -113,7 +117,9 @@ pub fn close_day<F: Fares, G: Gate, R: Threads + Wait + Copy, S: Alter, W: Write
     requires shards { HasShards last }
     requires room { length lanes.items < vec_capacity lanes }
     requires all { AreAllWith office lanes.items last }
-    ensures { IsDayClosed office lanes.items day (last, state S.Store ledger.old, W.contents writer.old) (state S.Store ledger.new, W.contents writer.new) result }
+    ensures closed { IsDayClosed office lanes.items day (last, state S.Store ledger.old, W.contents writer.old) (state S.Store ledger.new, W.contents writer.new) result }
+    ensures flushed { OnOk result (IsFlushed W.Tells writer.new) }
+    ensures cause { OnErr result (HasFault W.Tells writer.new) }
 {
     pay_lanes::laws::still_together();
     pay_lanes::laws::same_lanes();

@@ -1,8 +1,9 @@
 //! The whole service.
-ghost use Rattle.std.specs.Prelude.{◌≡◌, ◌≤◌, All, length, IfOk};
+ghost use Rattle.std.specs.Prelude.{◌≡◌, ◌≤◌, All, length, IfOk, OnOk};
 ghost use Rattle.std.specs.Arc.{arc_value};
 ghost use Rattle.sqlite.specs.Held.{state};
 ghost use Rattle.pay_day.specs.declared.limits.TheConstants.{FIRST_DAY, LAST_DAY};
+ghost use Rattle.pay_wire.specs.Words.{IsFlushed};
 ghost use Rattle.pay_serve.specs.Closes.{IsServed};
 ghost use Rattle.pay_serve.specs.Lanes.{HasShards, AreAllWith};
 ghost use Rattle.pay_serve.specs.Machines.{IsNewOffice};
@@ -17,9 +18,9 @@ use pay_book::Book;
 use pay_ledger::Ledger;
 use pay_office::{Lane, Office, OpenGate, start};
 use pay_tables::Tables;
+use pay_wire::ToldWriter;
 use sqlite::Alter;
 use std::alloc::{AllocError, Global};
-use std::io::Write;
 use std::net::TcpListener;
 use std::sync::{Arc, Wait};
 use std::thread::Threads;
@@ -62,7 +63,7 @@ where
 /// until all have ended. Then it closes the plan's day into a ledger over one further lane, and writes what came of it: what one machine
 /// says that was asked what all lanes asked. Whether the day was closed; if not, its refusal is written. Where a lane gets no thread,
 /// no connection is served, and the day is not closed.
-pub fn serve<R, S: Alter, W: Write>(
+pub fn serve<R, S: Alter, W: ToldWriter>(
     rt: R,
     alloc: Global,
     listeners: Vec<TcpListener>,
@@ -76,8 +77,9 @@ where
     R: Threads + Wait + Copy + Send + 'static,
     requires day { (FIRST_DAY ≤ plan.now.close) × (plan.now.close ≤ LAST_DAY) }
     requires listeners { length listeners.items ≡ plan.now.lanes }
-    ensures { IsServed (arc_value tables) plan.now.close (state S.Store ledger.old, W.contents writer.old) (state S.Store ledger.new, W.contents writer.new)
+    ensures served { IsServed (arc_value tables) plan.now.close (state S.Store ledger.old, W.contents writer.old) (state S.Store ledger.new, W.contents writer.new)
         result ((ledger.new ≡ ledger.old) × (writer.new ≡ writer.old)) }
+    ensures flushed { OnOk result (IsFlushed W.Tells writer.new) }
 {
     pay_lanes::laws::still_together();
     pay_lanes::laws::same_lanes();

@@ -59,4 +59,4 @@ returns-clause-ends g c =
       new_machine c.in_ok-zone.zone (arc_value c.in_ok-tables.tables) (Some nothing),
       record { says = c.in_ok-tables.ensures.ok; rule = c.in_ok-zone.ensures.ok; new = refl; posted = refl },
     )
-    c.in_ok-closed.ensures
+    c.in_ok-closed.ensures.served

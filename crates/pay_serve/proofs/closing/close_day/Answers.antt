@@ -5,6 +5,7 @@ use Rattle.pay_lanes.specs.Words.{LaneParts}
 use Rattle.pay_serve.specs.Lanes.{AreAllWith}
 use Rattle.pay_serve.proofs.Going.{all_back, lanes_same}
 use Rattle.pay_serve.proofs.OneClose.{over_as_one}
+use Rattle.pay_serve.proofs.ToldCloses.{told_flushed, told_cause}
 use Rattle.pay_serve.proofs.closing.close_day.Goals as goal
 
 -- the last lane has gone on
@@ -14,8 +15,8 @@ end-requires-clause-all g c =
     (lanes_same c.same_lanes.ensures.itself c.args.lanes.items) c.close_through-closed.ensures.same c.requires.all
 
 -- the close of all shards
-pub returns : goal.returns
-returns g c =
+pub returns-clause-closed : goal.returns-clause-closed
+returns-clause-closed g c =
     let through = c.close_through-closed.ensures.closed in
     let l : LaneParts = c.close_through-closed.result.1 in
     let ls = c.args.lanes.items in
@@ -31,3 +32,9 @@ returns g c =
       told = c.told.ensures;
       one = over_as_one c.any_shards.ensures.merged c.args.office ls l c.args.day shards put all (sym (c.same_lanes.ensures.shards c.args.last l c.close_through-closed.ensures.same)) through.closed.closed.close.quotes its c.end.ensures;
     }
+
+pub returns-clause-flushed : goal.returns-clause-flushed
+returns-clause-flushed g c = told_flushed _ _ _ c.told.ensures c.close_through-closed.ensures.flushed
+
+pub returns-clause-cause : goal.returns-clause-cause
+returns-clause-cause g c = told_cause _ _ _ c.told.ensures c.close_through-closed.ensures.cause

@@ -25,13 +25,13 @@ close_day-requires-clause-all g c =
     all_back c.still_together.ensures.in_order c.same_workers.ensures.itself c.in_ok-office.office c.in_ok-office.lanes.items c.end_all.new.lanes.items c.in_ok-office.last c.in_ok-office.last
     (subst (λ ls. AllZip IsSameLane ls c.end_all.new.lanes.items) c.begin_all.ensures c.end_all.ensures.lanes) (c.same_lanes.ensures.itself c.in_ok-office.last) c.in_ok-office.ensures.all
 
-pub returns : goal.returns
-returns g c = inl (record {
+pub returns-clause-served : goal.returns-clause-served
+returns-clause-served g c = inl (record {
   office = c.in_ok-office.office;
   new = c.in_ok-office.ensures.new;
   others = c.end_all.new.lanes.items;
   last = c.in_ok-office.last;
   all = all_back c.still_together.ensures.in_order c.same_workers.ensures.itself c.in_ok-office.office c.in_ok-office.lanes.items c.end_all.new.lanes.items c.in_ok-office.last c.in_ok-office.last
       (subst (λ ls. AllZip IsSameLane ls c.end_all.new.lanes.items) c.begin_all.ensures c.end_all.ensures.lanes) (c.same_lanes.ensures.itself c.in_ok-office.last) c.in_ok-office.ensures.all;
-  closed = c.close_day.ensures;
+  closed = c.close_day.ensures.closed;
 })
