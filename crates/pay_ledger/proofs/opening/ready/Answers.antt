@@ -10,8 +10,8 @@ use Rattle.pay_ledger.proofs.opening.ready.Goals as goal
 grown : (first between last : State) → IsUnchanged first between → MakesLedger between last → BlankJustGrows first.now last.now
 grown first between last same made free = subst (λ db. Grows db last.now ledger_tables) same.0.now_is (made.grows (subst IsFree (sym same.0.now_is) free))
 
-pub returns-in_ok-make-clause-grows : goal.returns-in_ok-make-clause-grows
-returns-in_ok-make-clause-grows g c clean free =
+pub returns-clause-grows : goal.returns-clause-grows
+returns-clause-grows g c clean free =
     let between = state g.S.Store c.kind_of.new.tx.conn.now in
     let last = state g.S.Store c.make.new.tx.conn.now in
     let was = was_clean between last c.make.ensures.survives clean in
