@@ -35,18 +35,12 @@ RunFails_refused CannotListen fares zone remaining held (inr (why, says, told)) 
 
 pub RunFails_unmade : (fault : Fault) (fares zone : List ℕ) (remaining held : Option (List ℕ)) → IsUnmade fault fares zone → RunFails fault fares zone remaining remaining held held
 RunFails_unmade (Refused number name) fares zone remaining held h = (inr h, (refl, refl))
-RunFails_unmade BadZone fares zone remaining held (m, begins, inl told) = absurd told
-RunFails_unmade BadZone fares zone remaining held (m, begins, inr told) = absurd told
-RunFails_unmade Input fares zone remaining held (m, begins, inl told) = absurd told
-RunFails_unmade Input fares zone remaining held (m, begins, inr told) = absurd told
-RunFails_unmade Output fares zone remaining held (m, begins, inl told) = absurd told
-RunFails_unmade Output fares zone remaining held (m, begins, inr told) = absurd told
-RunFails_unmade Usage fares zone remaining held (m, begins, inl told) = absurd told
-RunFails_unmade Usage fares zone remaining held (m, begins, inr told) = absurd told
-RunFails_unmade CannotReadFares fares zone remaining held (m, begins, inl told) = absurd told
-RunFails_unmade CannotReadFares fares zone remaining held (m, begins, inr told) = absurd told
-RunFails_unmade CannotListen fares zone remaining held (m, begins, inl told) = absurd told
-RunFails_unmade CannotListen fares zone remaining held (m, begins, inr told) = absurd told
+RunFails_unmade BadZone fares zone remaining held (m, begins, told) = absurd told
+RunFails_unmade Input fares zone remaining held (m, begins, told) = absurd told
+RunFails_unmade Output fares zone remaining held (m, begins, told) = absurd told
+RunFails_unmade Usage fares zone remaining held (m, begins, told) = absurd told
+RunFails_unmade CannotReadFares fares zone remaining held (m, begins, told) = absurd told
+RunFails_unmade CannotListen fares zone remaining held (m, begins, told) = absurd told
 
 -- what becomes of a ledger that ends with its session is not told
 comes_alone : (m : Machine) (requests : List Request) (Holds : Option LedgerParts → Type 0) (came : Outcome) → ComesTo m requests Holds came → ComesTo m requests (λ _. ⊤) came
