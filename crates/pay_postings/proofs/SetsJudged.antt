@@ -26,7 +26,7 @@ use Rattle.pay_postings.specs.Postings.{post_each}
 use Rattle.pay_postings.specs.Ledger.{LedgerParts, posted}
 use Rattle.pay_postings.specs.Archived.{ArchivedParts}
 use Rattle.pay_postings.specs.Batches.{archived_of}
-use Rattle.pay_postings.specs.Judged.{is_other, is_tap_refused, is_fix_refused, is_set_refused, IsWhy, IsVerdict, IsNext, IsSetUpTo, AreSetsUpTo}
+use Rattle.pay_postings.specs.Judged.{is_other, is_tap_refused, is_fix_refused, is_set_refused, IsWhy, IsVerdict, IsNext, IsSetUpTo, AreSetsUpTo, IsConflictIf}
 use Rattle.pay_postings.proofs.QuotesJudged.{front_and_one, front_and_rest}
 use Rattle.pay_postings.proofs.Archiving.{all_more, AreApart, rows_of, find_own, all_archived}
 use Rattle.pay_postings.proofs.Sets.{own_tap, other_tap, same_taps, tap_number_at, own_fix, other_fix, same_fixes, fix_number_at, numbered_apart}
@@ -342,7 +342,7 @@ none_looked_at highest place count sets before set archived true e few is up own
 none_looked_at highest place count sets before set archived false e few is up own too = ap (λ (l : List SetsParts). is_set_refused archived l set) (is ∙ ap (λ (n : ℕ). take n sets) few)
 
 next_set : {U : Type 0} (tell : RowsTell) (archive : Archives) (before later : List SetsParts) (set : SetsParts) (archived : ArchivedParts) (rows : AreRows archive set.account archived) (are : AreTaps set) (too : AreFixes set) (result : Result U PostFault)
-    → MatchResult result (λ _. is_set_refused archived before set ≡ false) (λ why. (why ≡ ArchiveConflict) × (is_set_refused archived before set ≡ true)) → IsOk (archived_sets archive before)
+    → IsConflictIf (is_set_refused archived before set) result → IsOk (archived_sets archive before)
     → MatchResult result (λ _. IsOk (archived_sets archive (before ++ set ∷ []))) (IsWhy (archived_sets archive (before ++ set ∷ later)))
 next_set tell archive before later set archived rows are too (Ok done) judged ok = set_not_refused tell archive before later set archived rows are too ok judged
 next_set tell archive before later set archived rows are too (Err why) judged ok =
@@ -351,7 +351,7 @@ next_set tell archive before later set archived rows are too (Err why) judged ok
 
 pub set_judged : {U : Type 0} (tell : RowsTell) (ledger : LedgerParts) (sets before : List SetsParts) (place highest count : ℕ) (set : SetsParts) (archived : ArchivedParts) (result : Result U PostFault)
     → place < length sets → set ≡ get_or sets place set → archived ≡ archived_of set.account ledger → count ≡ (if nat_lt highest set.account then 0 else place) → before ≡ take count sets
-    → MatchResult result (λ _. is_set_refused archived before set ≡ false) (λ why. (why ≡ ArchiveConflict) × (is_set_refused archived before set ≡ true)) → AreTaps set → AreFixes set → AreSetsUpTo highest (take place sets)
+    → IsConflictIf (is_set_refused archived before set) result → AreTaps set → AreFixes set → AreSetsUpTo highest (take place sets)
     → IsNext result (archived_sets (ledger.taps, ledger.fixes) (take place sets)) (archived_sets (ledger.taps, ledger.fixes) (take (place + 1) sets)) (archived_sets (ledger.taps, ledger.fixes) sets)
 set_judged {U} tell ledger sets before place highest count set archived result below is own few taken judged are too up ok =
     let archive : Archives = (ledger.taps, ledger.fixes) in
@@ -360,7 +360,7 @@ set_judged {U} tell ledger sets before place highest count set archived result b
     subst (λ (l : List SetsParts). MatchResult result (λ _. IsOk (archived_sets archive l)) (IsWhy (archived_sets archive sets))) (front_and_one sets place set below is)
     (subst (λ (l : List SetsParts). MatchResult result (λ _. IsOk (archived_sets archive (take place sets ++ set ∷ []))) (IsWhy (archived_sets archive l))) (front_and_rest sets place set below is)
     (next_set tell archive (take place sets) (drop (place + 1) sets) set archived rows are too result
-    (subst (λ (b : Bool). MatchResult result (λ _. b ≡ false) (λ why. (why ≡ ArchiveConflict) × (b ≡ true))) refused judged) ok))
+    (subst (λ (b : Bool). IsConflictIf b result) refused judged) ok))
 
 pub sets_up_more : (sets : List SetsParts) (place highest account next : ℕ) (set : SetsParts) → place < length sets → set ≡ get_or sets place set → account ≡ set.account → next ≡ max highest account → AreTapsOf set.account set.taps → AreFixesOf set.account set.fixes
     → AreSetsUpTo highest (take place sets) → AreSetsUpTo next (take (place + 1) sets)

@@ -10,7 +10,7 @@ use Rattle.pay_quotes.specs.Words.{QuoteParts, SetsParts}
 use Rattle.pay_rows.specs.declared.row.TapRow.{TapRow}
 use Rattle.pay_rows.specs.declared.row.FixRow.{FixRow}
 use Rattle.pay_postings.specs.declared.fault.PostFault.{PostFault}
-use Rattle.pay_postings.specs.declared.fault.PostFault.TheVariants.{BadArchive, StaleQuote, QuoteDiffers, Memory}
+use Rattle.pay_postings.specs.declared.fault.PostFault.TheVariants.{BadArchive, StaleQuote, QuoteDiffers, ArchiveConflict, Memory}
 use Rattle.pay_postings.specs.Postings.{last_of, is_stale, is_again, is_as_due, post_each, last_quote_of}
 use Rattle.pay_postings.specs.Archive.{is_numbered_as, is_fix_numbered_as, archived_sets}
 use Rattle.pay_postings.specs.Ledger.{LedgerParts}
@@ -57,6 +57,10 @@ is_fix_refused rows sets fix = is_other is_fix_row (fix_row fix) (fix_behind row
 -- a set is refused behind others, by what is archived of its account
 abbrev pub is_set_refused : ArchivedParts → List SetsParts → SetsParts → Bool
 is_set_refused archived sets set = list_any (is_tap_refused archived.taps sets) set.taps || list_any (is_fix_refused archived.fixes sets) set.fixes
+
+-- what is refused is in conflict with the archive, and the rest is not refused
+abbrev pub IsConflictIf : {U : Type 0} → Bool → Result U PostFault → Type 0
+IsConflictIf refused result = MatchResult result (λ _. refused ≡ false) (λ why. (why ≡ ArchiveConflict) × (refused ≡ true))
 
 -- ---- a judgement
 

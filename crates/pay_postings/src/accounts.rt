@@ -12,7 +12,7 @@ ghost use Rattle.pay_postings.specs.Judged.{IsVerdict, IsQuoteJudged, IsSetJudge
 use crate::archived::{Archived, post};
 use crate::batch::Batch;
 use crate::fault::PostFault;
-use crate::judging::{are_own, greater, judge_quote, judge_set, looked_at};
+use crate::judging::{are_own, judge_quote, judge_set, looked_at};
 use crate::new_rows::{new_fixes, new_taps};
 use pay_quotes::{Quote, Sets};
 use std::alloc::{AllocError, Global};
@@ -101,7 +101,7 @@ impl Accounts {
         let mut highest = 0;
         for place in 0..quotes.len() {
             self.judge_quote(quotes, place, highest)?;
-            highest = greater(highest, quotes[place].account());
+            highest = highest.max(quotes[place].account());
         }
         Ok(())
     }
@@ -132,7 +132,7 @@ impl Accounts {
             self.judge_set(sets, place, highest)?;
             let set = &sets[place];
             are_own(set);
-            highest = greater(highest, set.account());
+            highest = highest.max(set.account());
         }
         Ok(())
     }

@@ -1,5 +1,5 @@
 //! Judging quotes and sets by what is there, which takes no memory.
-ghost use Rattle.std.specs.Prelude.{◌≡◌, if◌then◌else◌, nat_lt, max, find, flat_map, MatchResult, true, false};
+ghost use Rattle.std.specs.Prelude.{◌≡◌, if◌then◌else◌, nat_lt, find, flat_map};
 ghost use Rattle.std.specs.List.{list_any};
 ghost use Rattle.std.specs.Option.{option_map};
 ghost use Rattle.pay_taps.specs.declared.limits.TheConstants.{MOST_TAPS};
@@ -11,7 +11,7 @@ ghost use Rattle.pay_quotes.specs.Words.{SetsParts};
 ghost use Rattle.pay_postings.specs.Archive.{is_numbered_as, is_fix_numbered_as};
 ghost use Rattle.pay_postings.specs.Archived.{parts};
 ghost use Rattle.pay_postings.specs.Postings.{last_quote_of};
-ghost use Rattle.pay_postings.specs.Judged.{is_further, last_quoted, is_tap_refused, is_fix_refused, is_set_refused};
+ghost use Rattle.pay_postings.specs.Judged.{is_further, last_quoted, is_tap_refused, is_fix_refused, is_set_refused, IsConflictIf};
 
 use crate::archived::Archived;
 use crate::fault::PostFault;
@@ -152,7 +152,7 @@ fn are_fixes_refused(archived: &[FixRow], before: &[Sets], fixes: &[Fix]) -> boo
 
 /// Judges a set by what is archived of its account and by the sets that come before it in a batch.
 pub(crate) fn judge_set(archived: &Archived, before: &[Sets], set: &Sets) -> Result<(), PostFault>
-    ensures { MatchResult result (λ _. is_set_refused (parts archived.now) before.now set.now ≡ false) (λ why. (why ≡ PostFault.ArchiveConflict) × (is_set_refused (parts archived.now) before.now set.now ≡ true)) }
+    ensures { IsConflictIf (is_set_refused (parts archived.now) before.now set.now) result }
 {
     if are_taps_refused(&archived.taps, before, set.taps())
         || are_fixes_refused(&archived.fixes, before, set.fixes())
@@ -176,11 +176,4 @@ pub(crate) fn looked_at(highest: u32, account: u32, place: usize) -> usize
     ensures { result ≡ (if nat_lt highest account then 0 else place) }
 {
     if highest < account { 0 } else { place }
-}
-
-/// The greater of two numbers of accounts.
-pub(crate) fn greater(account: u32, other: u32) -> u32
-    ensures { result ≡ max account other }
-{
-    if account < other { other } else { account }
 }

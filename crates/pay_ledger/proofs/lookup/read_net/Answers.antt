@@ -1,9 +1,8 @@
-use Rattle.std.proofs.Common.{◌≡◌, IsTrue, rules, sym, ap, subst, ◌∙◌}
+use Rattle.std.proofs.Common.{IsTrue, rules, sym, ap, subst, ◌∙◌}
 use Rattle.sqlite.specs.Held.{state}
 use Rattle.pay_postings.specs.Words.{net_from_rows}
-use Rattle.pay_records.specs.Words.{LedgerRows, HoldsRows}
+use Rattle.pay_records.specs.Words.{HoldsRows}
 use Rattle.pay_records.specs.Found as found
-use Rattle.pay_ledger.specs.BadRows.{net_said}
 use Rattle.pay_ledger.specs.Steps.{GoesOn}
 use Rattle.pay_ledger.proofs.Along.{on_ok, on_err}
 use Rattle.pay_ledger.proofs.Reading.{net_told, net_refused}

@@ -11,6 +11,6 @@ returns-in_err-judge_quote-clause-judged c ledger agrees covers =
 
 pub loop-place-preserved : goal.loop-place-preserved
 loop-place-preserved c = record {
-  up = up_more c.args.quotes.now c.loop-place.place c.loop-place.highest c.account.result c.greater-highest.result c.index-quotes-place.result c.loop-place-test.true (search rules) c.account.ensures.value c.greater-highest.ensures c.loop-place.invariant.up;
+  up = up_more c.args.quotes.now c.loop-place.place c.loop-place.highest c.account.result c.max-highest.result c.index-quotes-place.result c.loop-place-test.true (search rules) c.account.ensures.value c.max-highest.ensures c.loop-place.invariant.up;
   ok = λ ledger agrees covers. c.in_ok-judge_quote.ensures.judged ledger agrees covers c.loop-place.invariant.up (c.loop-place.invariant.ok ledger agrees covers);
 }

@@ -11,6 +11,6 @@ returns-in_err-judge_set-clause-judged c ledger agrees covers =
 
 pub loop-place-preserved : goal.loop-place-preserved
 loop-place-preserved c = record {
-  up = sets_up_more c.args.sets.now c.loop-place.place c.loop-place.highest c.account.result c.greater-highest.result c.index-sets-place.result c.loop-place-test.true (search rules) c.account.ensures c.greater-highest.ensures c.are_own.ensures.taps.0 c.are_own.ensures.fixes.0 c.loop-place.invariant.up;
+  up = sets_up_more c.args.sets.now c.loop-place.place c.loop-place.highest c.account.result c.max-highest.result c.index-sets-place.result c.loop-place-test.true (search rules) c.account.ensures c.max-highest.ensures c.are_own.ensures.taps.0 c.are_own.ensures.fixes.0 c.loop-place.invariant.up;
   ok = λ ledger agrees covers. c.in_ok-judge_set.ensures.judged ledger agrees covers c.loop-place.invariant.up (c.loop-place.invariant.ok ledger agrees covers);
 }
