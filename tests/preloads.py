@@ -6,9 +6,9 @@ import subprocess
 # A pthread_create whose call number THREAD is refused, once standard input has ended. And a malloc and a realloc, counted together, of
 # which are refused the calls from number FIRST through LAST, and one in so many, drawn by SEED, as stands in the first eight bytes of the
 # file that is the descriptor ODDS, where there is one; 0 there refuses none. Each is told by an x on the descriptor TELL. Where there is
-# MARKED, only those between the marks of a test count, from its mark of that number on; marks are requests of sizes that nothing else asks
-# for, and a third such size tells by an m that a call has said so. And a send that takes ROOM bytes in all, of the one connection that there is. It declares what it calls:
-# the toolchain's compiler comes without the C library's headers.
+# MARKED, only those between the marks of a test count; marks are requests of sizes that nothing else asks for, and a third such size
+# tells by an m that a call has said so. And a send that takes ROOM bytes in all, of the one connection that there is. It declares what
+# it calls: the toolchain's compiler comes without the C library's headers.
 SOURCE = r"""
 typedef unsigned long size_t;
 extern void *dlsym(void *, const char *);
@@ -70,9 +70,8 @@ static void tell(const char *it) {
 
 static int counts(size_t size) {
   static int between;
-  static long marks;
   if (!getenv("MARKED")) return 1;
-  if (size == MAY_BE_REFUSED) between = ++marks >= number("MARKED");
+  if (size == MAY_BE_REFUSED) between = 1;
   else if (size == MAY_NOT_BE) between = 0;
   else if (size == WAS_REFUSED) tell("m");
   else return between;

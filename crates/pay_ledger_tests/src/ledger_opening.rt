@@ -107,10 +107,14 @@ fn expect_made<R: Abort + AllocGlobal>(rt: &R, limit: Option<u64>) {
 }
 
 #[test]
-fn makes_all_tables_or_none(rt: HostRuntime) {
+fn makes_all_tables_or_none_under_each_limit(rt: HostRuntime) {
     for limit in 0..20 {
         expect_made(&rt, Some(limit));
     }
+}
+
+#[test]
+fn makes_all_tables_or_none_without_memory(rt: HostRuntime) {
     expect_made(&rt, None);
 }
 
