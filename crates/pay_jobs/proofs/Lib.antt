@@ -15,3 +15,4 @@ pub mod Runs
 pub mod Served
 mod Statements
 mod StreamCauses
+mod ServiceCauses

@@ -11,14 +11,12 @@ use Rattle.pay_jobs.specs.declared.fault.Fault.{Fault}
 use Rattle.pay_jobs.specs.declared.fault.Fault.TheVariants.{Usage, CannotReadFares, BadZone, CannotListen, Input, Output, Refused}
 use Rattle.pay_jobs.specs.Machine.{Machine}
 use Rattle.pay_jobs.specs.Week.{TellsWeek}
-use Rattle.pay_session.specs.declared.stop.SessionFault.TheVariants.{Read, Write}
 use Rattle.pay_jobs.specs.declared.week.WeekFault.{WeekFault}
-use Rattle.pay_jobs.specs.declared.week.WeekFault.TheVariants.{Session, Memory}
+use Rattle.pay_jobs.specs.declared.week.WeekFault.TheVariants.{Broken, Memory}
 
 pub not_told : (of : WeekFault) (fault : Fault) (fares zone : List ℕ) (remaining left : Option (List ℕ)) → IsWeekFault of fault → WeekBreaks of fares zone remaining left
     → PageFails fault fares zone remaining left
-not_told (Session (Read answered)) fault fares zone remaining left is breaks = subst (λ f. PageFails f fares zone remaining left) (sym is) (answered, breaks)
-not_told (Session (Write answered)) fault fares zone remaining left is breaks = subst (λ f. PageFails f fares zone remaining left) (sym is) (answered, breaks)
+not_told (Broken answered) fault fares zone remaining left is breaks = subst (λ f. PageFails f fares zone remaining left) (sym is) (answered, breaks)
 not_told Memory (Refused number name) fares zone remaining left is breaks = inr (is, breaks)
 not_told Memory Usage fares zone remaining left is breaks = absurd is
 not_told Memory CannotReadFares fares zone remaining left is breaks = absurd is
@@ -31,12 +29,12 @@ not_told Memory Output fares zone remaining left is breaks = absurd is
 pub not_spelled : (fault : Fault) (fares zone : List ℕ) (account day : ℕ) (remaining left : Option (List ℕ)) (m : Machine) (lines : List Line) → IsWantOfMemory fault → Begins fares zone None m
     → IfSome remaining (λ input. TellsWeek m input left account day lines) → PageFails fault fares zone remaining left
 not_spelled fault fares zone account day remaining left m lines is begins tells =
-    not_told Memory fault fares zone remaining left is record { machine = m; begins = begins; fails = IfSome_then remaining tells (λ input t. t.unread) }
+    not_told Memory fault fares zone remaining left is record { machine = m; begins = begins; fails = IfSome_then remaining tells (λ input t. inl t.unread) }
 
 pub no_page : (fault : Fault) (fares zone : List ℕ) (account day : ℕ) (remaining left held : Option (List ℕ)) → PageFails fault fares zone remaining left
     → StatementFails fault fares zone account day remaining left held held
 no_page (Refused number name) fares zone account day remaining left held fails = (fails, refl)
-no_page Output fares zone account day remaining left held fails = inl (fails, refl)
+no_page Output fares zone account day remaining left held fails = absurd fails
 no_page Usage fares zone account day remaining left held fails = absurd fails
 no_page CannotReadFares fares zone account day remaining left held fails = absurd fails
 no_page CannotListen fares zone account day remaining left held fails = absurd fails
@@ -51,4 +49,4 @@ page_written (Err e) fares zone text account day remaining left held written is 
 pub page_broken : {T : Type 0} (r : Result T Fault) (fares zone text : List ℕ) (account day : ℕ) (remaining left held written : Option (List ℕ)) → IsPage fares zone account day remaining left text
     → OnErr r (AppendsFront held written text) → IfErr r (λ fault. fault ≡ Output) → IfErr r (λ fault. StatementFails fault fares zone account day remaining left held written)
 page_broken (Ok x) fares zone text account day remaining left held written is h e = tt
-page_broken (Err fault) fares zone text account day remaining left held written is h e = rw e (inr (text, is, h))
+page_broken (Err fault) fares zone text account day remaining left held written is h e = rw e (text, is, h)

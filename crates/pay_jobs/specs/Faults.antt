@@ -1,15 +1,16 @@
 -- How a program ends where it fails: its status, and the refusal that a fault is.
-use Rattle.std.specs.Prelude.{◌≡◌, ℕ, List, codes, ⊤}
+use Rattle.std.specs.Prelude.{◌≡◌, ◌⊎◌, ℕ, List, codes, ⊤}
+use Rattle.std.specs.declared.io.ErrorKind.{ErrorKind}
 use Rattle.pay_jobs.specs.declared.fault.Fault.{Fault}
 use Rattle.pay_jobs.specs.declared.fault.Fault.TheVariants.{Usage, CannotReadFares, BadZone, CannotListen, Input, Output, Refused}
 use Rattle.pay_wire.specs.Words.{WriterCall}
-use Rattle.pay_session.specs.Words.{ReaderCall, IsBroken}
+use Rattle.pay_session.specs.Words.{ReaderCall, FailsBy, IsLastFill, HasNoEnd, IsBroken}
 use Rattle.pay_session.specs.declared.stop.SessionFault.{SessionFault}
 use Rattle.pay_session.specs.declared.stop.SessionFault.TheVariants.{Read, Write}
 use Rattle.pay_serve.specs.declared.fault.ServeFault.{ServeFault}
 use Rattle.pay_serve.specs.declared.fault.ServeFault.TheVariants as serving
 use Rattle.pay_jobs.specs.declared.week.WeekFault.{WeekFault}
-use Rattle.pay_jobs.specs.declared.week.WeekFault.TheVariants.{Session, Memory}
+use Rattle.pay_jobs.specs.declared.week.WeekFault.TheVariants.{Broken, Memory}
 
 -- refused words end with 2, and every other fault with 1
 abbrev pub status_of : Fault → ℕ
@@ -36,7 +37,7 @@ IsWantOfLedger fault = IsRefusal fault 43 (codes "Store")
 
 -- what kept the journeys of a week from being told
 abbrev pub IsWeekFault : WeekFault → Fault → Type 0
-IsWeekFault (Session of) fault = fault ≡ stream_fault of
+IsWeekFault (Broken answered) fault = fault ≡ Input
 IsWeekFault Memory fault = IsWantOfMemory fault
 
 -- what ended a service
@@ -46,6 +47,10 @@ IsServeFault serving.Count fault = IsRefusal fault 32 (codes "Count")
 IsServeFault serving.NoThread fault = IsRefusal fault 35 (codes "NoThread")
 IsServeFault serving.Memory fault = IsWantOfMemory fault
 IsServeFault serving.Output fault = fault ≡ Output
+
+-- With what a reader may answer, from before to after: its last fill failed and was not interrupted, or it was filled too often.
+abbrev pub HasInputFault : {R : Type 0} → (R → ReaderCall → R → Type 0) → R → R → Type 0
+HasInputFault reads before reader = ((kind : ErrorKind) × IsLastFill reads (FailsBy reads kind) before reader) ⊎ HasNoEnd reads before reader
 
 -- With what a reader and a writer may answer, from the reader before to both after: the fault of a stream comes from what it answered.
 module _ {R W : Type 0} (reads : R → ReaderCall → R → Type 0) (writes : W → WriterCall → W → Type 0) where

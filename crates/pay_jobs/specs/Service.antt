@@ -1,17 +1,19 @@
 -- How the job serve ends, by the text of its fare file and the text of its zone.
-use Rattle.std.specs.Prelude.{◌≡◌, ◌⊎◌, ℕ, Bool, List, Option, Some, Result, is_ok}
+use Rattle.std.specs.Prelude.{◌≡◌, ◌⊎◌, ℕ, Bool, List, Option, Some, Result, is_ok, ⊤}
 use Rattle.std.specs.Io.KnownBytes.{Appends}
 use Rattle.pay_ledger.specs.Words.{nothing}
 use Rattle.pay_account.specs.Words.{Posting}
 use Rattle.pay_session.specs.Words.{said_of_close}
-use Rattle.pay_wire.specs.Words.{spelling_of_reply}
+use Rattle.pay_wire.specs.Words.{WriterCall, HasFault, spelling_of_reply}
 use Rattle.pay_wire.specs.declared.refusal.Refusal.{Refusal}
+use Rattle.pay_serve.specs.Words.{IsOutOfPlan}
 use Rattle.pay_serve.specs.declared.fault.ServeFault.{ServeFault}
+use Rattle.pay_serve.specs.declared.plan.Plan.{Plan}
 use Rattle.pay_jobs.specs.Faults.{IsServeFault}
 use Rattle.pay_jobs.specs.Machine.{Machine}
 use Rattle.pay_jobs.specs.Run.{Begins, IsRefused, IsBadZone, IsUnmade}
 use Rattle.pay_jobs.specs.declared.fault.Fault.{Fault}
-use Rattle.pay_jobs.specs.declared.fault.Fault.TheVariants.{BadZone}
+use Rattle.pay_jobs.specs.declared.fault.Fault.TheVariants.{Usage, CannotReadFares, BadZone, CannotListen, Input, Output, Refused}
 
 -- A fare file and a zone that are read. From then on what comes of a service depends on what its connections send.
 abbrev pub AreRead : List ℕ → List ℕ → Type 0
@@ -29,3 +31,13 @@ abbrev pub ServiceFails : Fault → List ℕ → List ℕ → Option (List ℕ) 
 ServiceFails fault fares zone held written =
     ((IsRefused fault fares ⊎ ((fault ≡ BadZone) × IsBadZone fares zone) ⊎ IsUnmade fault fares zone) × (written ≡ held))
     ⊎ ((why : ServeFault) × IsServeFault why fault × AreRead fares zone)
+
+-- With what a writer may answer: an output fault comes from what it answered last, and 32 from the counts of the plan.
+abbrev pub HasServiceCause : {W : Type 0} → (W → WriterCall → W → Type 0) → Plan → Fault → W → Type 0
+HasServiceCause writes plan Output writer = HasFault writes writer
+HasServiceCause writes plan (Refused number name) writer = number ≡ 32 → IsOutOfPlan plan
+HasServiceCause writes plan BadZone writer = ⊤
+HasServiceCause writes plan CannotListen writer = ⊤
+HasServiceCause writes plan Input writer = ⊥
+HasServiceCause writes plan Usage writer = ⊥
+HasServiceCause writes plan CannotReadFares writer = ⊥

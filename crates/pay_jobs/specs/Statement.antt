@@ -10,9 +10,8 @@ use Rattle.pay_jobs.specs.Machine.{Machine}
 use Rattle.pay_jobs.specs.Week.{TellsWeek, WeekFails as FailsSo}
 use Rattle.pay_jobs.specs.declared.fault.Fault.{Fault}
 use Rattle.pay_jobs.specs.declared.fault.Fault.TheVariants.{Usage, CannotReadFares, BadZone, CannotListen, Input, Output, Refused}
-use Rattle.pay_session.specs.declared.stop.SessionFault.TheVariants.{Read, Write}
 use Rattle.pay_jobs.specs.declared.week.WeekFault.{WeekFault}
-use Rattle.pay_jobs.specs.declared.week.WeekFault.TheVariants.{Session, Memory}
+use Rattle.pay_jobs.specs.declared.week.WeekFault.TheVariants.{Broken, Memory}
 
 -- the statement of an account's week, by a machine that has begun with the texts and answered the input
 pub record IsPage (fares zone : List ℕ) (account day : ℕ) (remaining left : Option (List ℕ)) (text : List ℕ) : Type 0 where
@@ -33,8 +32,8 @@ abbrev pub PageFails : Fault → List ℕ → List ℕ → Option (List ℕ) →
 PageFails (Refused number name) fares zone remaining left =
     (IsRefused (Refused number name) fares × (left ≡ remaining)) ⊎ (IsWantOfMemory (Refused number name) × WeekBreaks Memory fares zone remaining left)
 PageFails BadZone fares zone remaining left = IsBadZone fares zone × (left ≡ remaining)
-PageFails Input fares zone remaining left = (answered : ℕ) × WeekBreaks (Session (Read answered)) fares zone remaining left
-PageFails Output fares zone remaining left = (answered : ℕ) × WeekBreaks (Session (Write answered)) fares zone remaining left
+PageFails Input fares zone remaining left = (answered : ℕ) × WeekBreaks (Broken answered) fares zone remaining left
+PageFails Output fares zone remaining left = ⊥
 PageFails Usage fares zone remaining left = ⊥
 PageFails CannotReadFares fares zone remaining left = ⊥
 PageFails CannotListen fares zone remaining left = ⊥
@@ -53,8 +52,7 @@ HasNoPage fault fares zone remaining left held written = PageFails fault fares z
 
 -- how the job failed, by its fault
 abbrev pub StatementFails : Fault → List ℕ → List ℕ → ℕ → ℕ → Option (List ℕ) → Option (List ℕ) → Option (List ℕ) → Option (List ℕ) → Type 0
-StatementFails Output fares zone account day remaining left held written =
-    HasNoPage Output fares zone remaining left held written ⊎ StopsWriting fares zone account day remaining left held written
+StatementFails Output fares zone account day remaining left held written = StopsWriting fares zone account day remaining left held written
 StatementFails fault fares zone account day remaining left held written = HasNoPage fault fares zone remaining left held written
 
 -- ---- from before to after: what the reader has left, and what the writer holds, each where it is known

@@ -99,7 +99,7 @@ impl From<WeekFault> for Fault {
 
     fn from(fault: WeekFault) -> Fault {
         match fault {
-            WeekFault::Session(broken) => Fault::from(broken),
+            WeekFault::Broken { .. } => Fault::Input,
             WeekFault::Memory => Fault::from(AllocError),
         }
     }

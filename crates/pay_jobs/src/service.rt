@@ -2,7 +2,7 @@
 ghost use Rattle.std.specs.Prelude.{IfOk, IfErr, OnOk};
 ghost use Rattle.pay_wire.specs.Words.{IsFlushed};
 ghost use Rattle.pay_day.specs.Words.{IsDay};
-ghost use Rattle.pay_jobs.specs.Service.{ServiceEnds, ServiceFails};
+ghost use Rattle.pay_jobs.specs.Service.{ServiceEnds, ServiceFails, HasServiceCause};
 
 use crate::fault::Fault;
 use crate::run::{new_ledger, read_fares, read_zone};
@@ -48,6 +48,7 @@ where
     ensures ends { IfOk result (ServiceEnds fares.now zone.now plan.now.close (W.contents writer.old) (W.contents writer.new)) }
     ensures fails { IfErr result (λ fault. ServiceFails fault fares.now zone.now (W.contents writer.old) (W.contents writer.new)) }
     ensures flushed { OnOk result (IsFlushed W.Tells writer.new) }
+    ensures cause { IfErr result (λ fault. HasServiceCause W.Tells plan.now fault writer.new) }
 {
     let tables = read_fares(alloc, fares)?;
     let zone = read_zone(zone)?;

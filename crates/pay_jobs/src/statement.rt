@@ -4,6 +4,7 @@ ghost use Rattle.pay_wire.specs.Words.{IsFlushed};
 ghost use Rattle.std.specs.Arc.{arc_value};
 ghost use Rattle.pay_day.specs.Words.{IsDay};
 ghost use Rattle.pay_statement.specs.Words.{statement_text};
+ghost use Rattle.pay_jobs.specs.Faults.{HasInputFault, HasCause};
 ghost use Rattle.pay_jobs.specs.Statement.{PageFails, PageStands, StatementWritten, StatementRefused};
 
 use crate::fault::Fault;
@@ -36,6 +37,7 @@ pub fn statement_texts<R: ToldReader, W: ToldWriter>(
     ensures fails { IfErr result (StatementRefused fares.now zone.now account day (R.remaining reader.old, W.contents writer.old)
         (R.remaining reader.new, W.contents writer.new)) }
     ensures flushed { OnOk result (IsFlushed W.Tells writer.new) }
+    ensures cause { IfErr result (λ fault. HasCause R.Tells W.Tells fault reader.old reader.new writer.new) }
 {
     let page = read_page(alloc, fares, zone, account, day, reader)?;
     write_text(writer, &page)
@@ -53,6 +55,7 @@ fn read_page<R: ToldReader>(
     requires { IsDay day }
     ensures page { IfOk result (λ page. PageStands fares.now zone.now account day (R.remaining reader.old, R.remaining reader.new) page.items) }
     ensures fails { IfErr result (λ fault. PageFails fault fares.now zone.now (R.remaining reader.old) (R.remaining reader.new)) }
+    ensures cause { IfErr result (λ fault. fault ≡ Fault.Input → HasInputFault R.Tells reader.old reader.new) }
 {
     let tables = read_fares(alloc, fares)?;
     let zone = read_zone(zone)?;

@@ -1,12 +1,13 @@
 //! The journeys of an account's week, by the lines of a reader.
-ghost use Rattle.std.specs.Prelude.{◌≡◌, None, IfOk, IfErr, IfSome};
+ghost use Rattle.std.specs.Prelude.{◌≡◌, ◌≢◌, None, IfOk, IfErr, IfSome};
 ghost use Rattle.std.specs.Arc.{arc_value};
 ghost use Rattle.pay_day.specs.Words.{IsDay, monday};
 ghost use Rattle.pay_account.specs.Words.{week_lines};
 ghost use Rattle.pay_shard.specs.Words.{accepted_of, state_now};
+ghost use Rattle.pay_jobs.specs.Faults.{HasInputFault};
 ghost use Rattle.pay_jobs.specs.Machine.{new_machine};
-ghost use Rattle.pay_jobs.specs.Week.{TellsWeek, WeekFails};
-ghost use Rattle.pay_jobs.specs.declared.week.WeekFault.TheVariants.{Session, Memory};
+ghost use Rattle.pay_jobs.specs.Week.{TellsWeek, WeekFails, week_fault};
+ghost use Rattle.pay_jobs.specs.declared.week.WeekFault.TheVariants.{Memory};
 
 use crate::lines::new_desk;
 use jiff::tz::TimeZone;
@@ -24,9 +25,9 @@ use thiserror::Error;
 /// Why the journeys of a week are not told.
 #[derive(Clone, Copy, Debug, PartialEq, Eq, Error)]
 pub enum WeekFault {
-    /// What broke the session off. Its replies go to a writer that takes all, so this is the reader.
-    #[error(transparent)]
-    Session(SessionFault),
+    /// The reader failed, or was filled too often, after so many replies.
+    #[error("input fault")]
+    Broken { answered: u128 },
     /// 90: no memory for a line, or for the journeys.
     #[error("90 Memory")]
     Memory,
@@ -41,10 +42,14 @@ impl From<AllocError> for WeekFault {
 }
 
 impl From<SessionFault> for WeekFault {
-    ghost from_gives = { λ of fault. fault ≡ Session of };
+    ghost from_gives = { λ of fault. fault ≡ week_fault of };
 
     fn from(fault: SessionFault) -> WeekFault {
-        WeekFault::Session(fault)
+        match fault {
+            SessionFault::Read { answered } => WeekFault::Broken { answered },
+            // The replies go to a sink, which takes all.
+            SessionFault::Write { .. } => WeekFault::Memory,
+        }
     }
 }
 
@@ -81,6 +86,7 @@ pub fn week_by_lines<R: ToldReader>(
         TellsWeek (new_machine zone.now (arc_value tables) None) input (R.remaining reader.new) account day lines)) }
     ensures fails { IfErr result (λ fault. IfSome (R.remaining reader.old) (λ input.
         WeekFails fault (new_machine zone.now (arc_value tables) None) input (R.remaining reader.new))) }
+    ensures cause { IfErr result (λ fault. fault ≢ Memory → HasInputFault R.Tells reader.old reader.new) }
 {
     let mut desk = new_desk(alloc, tables);
     let ended = session(reader, &mut io::sink(), zone, &mut desk, &mut NoTill);

@@ -12,9 +12,10 @@ use pay_lanes::{Gate, Lane, laws};
 use pay_ledger::Ledger;
 use pay_office::{Ended, LaneDesk, Office, shut, start};
 use pay_quotes::{Posting, Postings, Quote};
-use pay_session::NoTill;
+use pay_session::{Done, NoTill, SessionFault, session};
 use pay_shard::{Asked, Batch, Command, Desk, DeskFault, Entry, Reply, Shard};
 use sqlite::MemStore;
+use std::io::BufRead;
 use std::marker::Model;
 use std::process::Abort;
 use std::snapshot::Snapshot;
@@ -35,7 +36,7 @@ fn same_count<R: Abort>(rt: &R, count: &Count) -> Count {
 
 /// What the gates of both shards and a test tell each other.
 #[derive(Drop)]
-struct Counts {
+pub struct Counts {
     // How many entries have come to the gates, and what a test adds.
     entered: Count,
     // How many had to pass a gate that did not open.
@@ -43,7 +44,7 @@ struct Counts {
 }
 
 impl Counts {
-    fn new<R: Abort + AllocGlobal>(rt: &R) -> Counts {
+    pub fn new<R: Abort + AllocGlobal>(rt: &R) -> Counts {
         Counts {
             entered: new_count(rt),
             ran_out: new_count(rt),
@@ -98,7 +99,7 @@ impl Gate for Counting {
 
 /// An office of two shards, a desk over a lane, and the other lanes.
 #[derive(Drop)]
-struct Closer<R: Wait + Copy> {
+pub struct Closer<R: Wait + Copy> {
     office: Office<Book, Counting>,
     lanes: Vec<Lane>,
     desk: LaneDesk<R>,
@@ -175,7 +176,7 @@ fn closer_over<R: Wait + Abort + AllocGlobal + Copy>(
 }
 
 // An office of two shards, whose gates open at these counts or once they have looked so often, and so many lanes.
-fn begin<R>(rt: R, counts: &Counts, lanes: u8, opens_at: [u64; 2], looks: u64) -> Closer<R>
+pub fn begin<R>(rt: R, counts: &Counts, lanes: u8, opens_at: [u64; 2], looks: u64) -> Closer<R>
 where
     R: Threads + Wait + Abort + AllocGlobal + Copy + Send + 'static,
 {
@@ -201,13 +202,24 @@ impl<R: Threads + Wait + Abort + AllocGlobal + Copy> Closer<R> {
         expect_lines(&rt, &mut self.desk, &mut till, lines, answered, replies);
     }
 
+    // Answers what a reader shows over the desk, where nothing is closed.
+    pub fn answer<B: BufRead>(
+        &mut self,
+        rt: R,
+        reader: &mut B,
+        writer: &mut Vec<u8>,
+    ) -> Result<Done, SessionFault> {
+        let (_, zone) = sample_in_london(&rt);
+        session(reader, writer, &zone, &mut self.desk, &mut NoTill)
+    }
+
     // Closes the Monday into a ledger.
     fn close(&mut self, rt: R, ledger: &mut Ledger<MemStore>) -> Result<Postings, NotClosed> {
         close(rt.alloc(), &mut self.desk, ledger, MONDAY)
     }
 
     // Shuts the office.
-    fn shut(self, rt: R) -> Ended {
+    pub fn shut(self, rt: R) -> Ended {
         laws::still_together();
         laws::same_lanes();
         laws::same_workers();

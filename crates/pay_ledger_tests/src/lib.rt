@@ -22,3 +22,5 @@ mod lines;
 mod records;
 #[cfg(test)]
 mod sample;
+#[cfg(test)]
+mod unending;

@@ -4,6 +4,8 @@ use Rattle.pay_shard.specs.declared.limits.TheConstants.{MOST_SHARDS}
 use Rattle.pay_lanes.specs.Words.{LaneParts, WorkerParts, AreTogether, AreAll}
 use Rattle.pay_office.specs.declared.office.StartFault.{StartFault}
 use Rattle.pay_office.specs.declared.office.StartFault.TheVariants as starting
+use Rattle.pay_serve.specs.declared.begins.LaneFault.{LaneFault}
+use Rattle.pay_serve.specs.declared.begins.LaneFault.TheVariants as lane
 use Rattle.pay_serve.specs.declared.fault.ServeFault.{ServeFault}
 use Rattle.pay_serve.specs.declared.fault.ServeFault.TheVariants.{Count, NoThread, Memory}
 
@@ -20,3 +22,8 @@ abbrev pub serve_fault : StartFault → ServeFault
 serve_fault starting.Count = Count
 serve_fault starting.NoThread = NoThread
 serve_fault starting.Memory = Memory
+
+-- why nothing is served where a lane has no thread
+abbrev pub lane_fault : LaneFault → ServeFault
+lane_fault lane.NoThread = NoThread
+lane_fault lane.Memory = Memory

@@ -1,3 +1,4 @@
+pub mod Causes
 pub mod Closes
 pub mod Lanes
 pub mod Machines

@@ -1,5 +1,6 @@
 //! Why nothing is served any more.
 
+use crate::begins::LaneFault;
 use pay_office::StartFault;
 use pay_wire::WriteFault;
 use std::alloc::AllocError;
@@ -47,6 +48,20 @@ impl From<StartFault> for ServeFault {
             StartFault::Count => ServeFault::Count,
             StartFault::NoThread => ServeFault::NoThread,
             StartFault::Memory => ServeFault::Memory,
+        }
+    }
+}
+
+impl From<LaneFault> for ServeFault {
+    ghost use Rattle.std.specs.Prelude.{◌≡◌};
+    ghost use Rattle.pay_serve.specs.Lanes.{lane_fault};
+
+    ghost from_gives = { λ from fault. fault ≡ lane_fault from };
+
+    fn from(fault: LaneFault) -> ServeFault {
+        match fault {
+            LaneFault::NoThread => ServeFault::NoThread,
+            LaneFault::Memory => ServeFault::Memory,
         }
     }
 }

@@ -4,9 +4,8 @@ ghost use Rattle.std.specs.List.{AllZip};
 ghost use Rattle.pay_lanes.specs.Words.{IsSameLane};
 ghost use Rattle.pay_serve.specs.Lanes.{HasShards};
 
-use crate::begins::Begins;
+use crate::begins::{Begins, LaneFault};
 use crate::connection::serve_lane;
-use crate::fault::ServeFault;
 use jiff::tz::TimeZone;
 use pay_office::Lane;
 use std::alloc::Global;
@@ -86,7 +85,7 @@ where
     pay_lanes::laws::same_lanes();
     let began = Snapshot::of(&lane);
     let Ok(shared) = Arc::try_clone(service) else {
-        service.begins.refuse(ServeFault::Memory);
+        service.begins.refuse(LaneFault::Memory);
         return Tried {
             began,
             lane: Err(lane),
@@ -103,7 +102,7 @@ where
             lane: Ok(there),
         },
         Err(refused) => {
-            service.begins.refuse(ServeFault::NoThread);
+            service.begins.refuse(LaneFault::NoThread);
             let serves = refused.value;
             Tried {
                 began,

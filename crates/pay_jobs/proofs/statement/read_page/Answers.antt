@@ -4,6 +4,7 @@ use Rattle.std.specs.Arc.{arc_value}
 use Rattle.pay_statement.specs.Words.{statement_text}
 use Rattle.pay_jobs.specs.Machine.{new_machine}
 use Rattle.pay_jobs.proofs.Statements.{not_told, not_spelled}
+use Rattle.pay_jobs.proofs.StreamCauses.{not_input, not_memory, week_input}
 use Rattle.pay_jobs.proofs.statement.read_page.Goals as goal
 
 pub returns-in_err-zone-clause-fails : goal.returns-in_err-zone-clause-fails
@@ -34,3 +35,23 @@ returns-clause-page g c = record {
   tells = c.in_ok-lines.ensures.week;
   says = c.in_ok-page.ensures ∙ ap (statement_text c.deref.result.now) c.as_slice.ensures ∙ ap (λ tables. statement_text tables c.in_ok-lines.lines) (c.deref.ensures ∙ sym c.in_ok-shared.ensures);
 }
+
+pub returns-in_err-tables-clause-cause : goal.returns-in_err-tables-clause-cause
+returns-in_err-tables-clause-cause g c =
+    let p = err_from_is_err_and c.from_residual.result c.from_residual.ensures.1 in
+    rw (p.1, p.2) (λ is. absurd (not_input _ _ c.in_err-tables.ensures.refused is))
+
+pub returns-in_err-shared-clause-cause : goal.returns-in_err-shared-clause-cause
+returns-in_err-shared-clause-cause g c =
+    let p = err_from_is_err_and c.from_residual-in_err-shared.result c.from_residual-in_err-shared.ensures.1 in
+    rw p.1 (λ is. absurd (not_memory _ p.2 is))
+
+pub returns-in_err-lines-clause-cause : goal.returns-in_err-lines-clause-cause
+returns-in_err-lines-clause-cause g c =
+    let p = err_from_is_err_and c.from_residual-in_err-lines.result c.from_residual-in_err-lines.ensures.1 in
+    rw p.1 (week_input _ _ _ p.2 c.in_err-lines.ensures.cause)
+
+pub returns-in_err-page-clause-cause : goal.returns-in_err-page-clause-cause
+returns-in_err-page-clause-cause g c =
+    let p = err_from_is_err_and c.from_residual-in_err-page.result c.from_residual-in_err-page.ensures.1 in
+    rw p.1 (λ is. absurd (not_memory _ p.2 is))

@@ -1,6 +1,8 @@
-use Rattle.std.proofs.Common.{◌<◌, sym, subst}
+use Rattle.std.proofs.Common.{◌<◌, ap, sym, subst, Err}
+use Rattle.std.proofs.lemmas.Result.{err_from_is_err_and}
 use Rattle.std.specs.Arc.{arc_value}
 use Rattle.pay_serve.proofs.Begun.{in_count, popped, some_lane, one_more, others, all_have, all_with, new_office}
+use Rattle.pay_serve.proofs.ServeCauses.{no_memory, not_begun}
 use Rattle.pay_serve.proofs.service.open_office.Goals as goal
 
 -- there are lanes
@@ -39,3 +41,13 @@ returns-clause-new g c =
     let begun = c.in_ok-office.ensures in
     let counts = in_count c.args.plan.now.shards c.saturating_add-lanes.result _ (λ out. let e = begun.count.1 out in absurd cc) in
     new_office (arc_value c.args.tables) c.args.plan.now.shards c.saturating_add-lanes.result c.in_ok-office.office counts.some begun.workers begun.new_workers
+
+pub returns-in_err-gates-clause-cause : goal.returns-in_err-gates-clause-cause
+returns-in_err-gates-clause-cause g c =
+    let p = err_from_is_err_and c.from_residual.result c.from_residual.ensures.1 in
+    rw p.1 (no_memory c.args.plan.now _ p.2)
+
+pub returns-in_err-office-clause-cause : goal.returns-in_err-office-clause-cause
+returns-in_err-office-clause-cause g c =
+    let p = err_from_is_err_and c.from_residual-in_err-office.result c.from_residual-in_err-office.ensures.1 in
+    rw p.1 (not_begun c.args.plan.now c.saturating_add-lanes.result _ _ _ p.2 c.saturating_add-lanes.ensures c.in_ok-gates.ensures (λ is. c.in_err-office.ensures.count.0 (ap Err is)))

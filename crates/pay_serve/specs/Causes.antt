@@ -1,0 +1,25 @@
+-- What the fault of a service comes from.
+use Rattle.std.specs.Prelude.{◌≡◌, ◌⊎◌, ◌<◌, ◌+◌, ⊤}
+use Rattle.pay_shard.specs.declared.limits.TheConstants.{MOST_SHARDS}
+use Rattle.pay_lanes.specs.declared.limits.TheConstants.{MOST_LANES}
+use Rattle.pay_wire.specs.Words.{WriterCall, HasFault}
+use Rattle.pay_serve.specs.declared.fault.ServeFault.{ServeFault}
+use Rattle.pay_serve.specs.declared.fault.ServeFault.TheVariants.{CannotListen, Count, NoThread, Memory, Output}
+use Rattle.pay_serve.specs.declared.plan.Plan.{Plan}
+
+-- a plan of no shards or too many, or of too many lanes with the one that closes
+abbrev pub IsOutOfPlan : Plan → Type 0
+IsOutOfPlan plan = (plan.shards ≡ 0) ⊎ (MOST_SHARDS < plan.shards) ⊎ (MOST_LANES < plan.lanes + 1)
+
+-- Why a plan's lanes are not served: its counts, or a thread or memory was refused, of which nobody tells why.
+abbrev pub IsUnserved : Plan → ServeFault → Type 0
+IsUnserved plan Count = IsOutOfPlan plan
+IsUnserved plan NoThread = ⊤
+IsUnserved plan Memory = ⊤
+IsUnserved plan CannotListen = ⊥
+IsUnserved plan Output = ⊥
+
+-- With what a writer may answer: an output fault comes from what it answered last, and any other is why nothing was served.
+abbrev pub IsServeCause : {W : Type 0} → (W → WriterCall → W → Type 0) → Plan → ServeFault → W → Type 0
+IsServeCause writes plan Output writer = HasFault writes writer
+IsServeCause writes plan fault writer = IsUnserved plan fault
