@@ -2,6 +2,7 @@
 ghost use Rattle.std.specs.Prelude.{IfOk, IfErr, OnOk};
 ghost use Rattle.pay_wire.specs.Words.{IsFlushed};
 ghost use Rattle.pay_day.specs.Words.{IsDay};
+ghost use Rattle.pay_serve.specs.Words.{IsOutOfPlan};
 ghost use Rattle.pay_jobs.specs.Service.{ServiceEnds, ServiceFails, HasServiceCause};
 
 use crate::fault::Fault;
@@ -48,6 +49,7 @@ where
     ensures ends { IfOk result (ServiceEnds fares.now zone.now plan.now.close (W.contents writer.old) (W.contents writer.new)) }
     ensures fails { IfErr result (λ fault. ServiceFails fault fares.now zone.now (W.contents writer.old) (W.contents writer.new)) }
     ensures flushed { OnOk result (IsFlushed W.Tells writer.new) }
+    ensures within { OnOk result (IsOutOfPlan plan.now → ⊥) }
     ensures cause { IfErr result (λ fault. HasServiceCause W.Tells plan.now fault writer.new) }
 {
     let tables = read_fares(alloc, fares)?;

@@ -175,7 +175,7 @@ fn closer_over<R: Wait + Abort + AllocGlobal + Copy>(
     }
 }
 
-// An office of two shards, whose gates open at these counts or once they have looked so often, and so many lanes.
+/// An office of two shards, whose gates open at these counts or once they have looked so often, and so many lanes.
 pub fn begin<R>(rt: R, counts: &Counts, lanes: u8, opens_at: [u64; 2], looks: u64) -> Closer<R>
 where
     R: Threads + Wait + Abort + AllocGlobal + Copy + Send + 'static,
@@ -202,7 +202,7 @@ impl<R: Threads + Wait + Abort + AllocGlobal + Copy> Closer<R> {
         expect_lines(&rt, &mut self.desk, &mut till, lines, answered, replies);
     }
 
-    // Answers what a reader shows over the desk, where nothing is closed.
+    /// Answers what a reader shows over the desk, where nothing is closed.
     pub fn answer<B: BufRead>(
         &mut self,
         rt: R,
@@ -218,7 +218,7 @@ impl<R: Threads + Wait + Abort + AllocGlobal + Copy> Closer<R> {
         close(rt.alloc(), &mut self.desk, ledger, MONDAY)
     }
 
-    // Shuts the office.
+    /// Shuts the office.
     pub fn shut(self, rt: R) -> Ended {
         laws::still_together();
         laws::same_lanes();

@@ -1,5 +1,5 @@
 -- What the fault of a service comes from, by the call that gave it.
-use Rattle.std.proofs.Common.{◌≡◌, inl, inr, ℕ, Bool, Result, Ok, Err, IfErr, OnErr, ◌+◌, min, refl, sym, subst, arith}
+use Rattle.std.proofs.Common.{◌≡◌, inl, inr, ℕ, Bool, Result, Ok, Err, IfErr, OnOk, OnErr, ◌+◌, min, refl, sym, subst, arith}
 use Rattle.pay_lanes.specs.Words.{IsOutOfCount}
 use Rattle.pay_office.specs.declared.office.StartFault.{StartFault}
 use Rattle.pay_office.specs.declared.office.StartFault.TheVariants as starting
@@ -22,11 +22,20 @@ out_of_plan plan lanes gates are same (inr (inr (inl none))) = absurd (omega (ar
 out_of_plan plan lanes gates are same (inr (inr (inr (inl many)))) = inr (inr (omega (arith, are, many)))
 out_of_plan plan lanes gates are same (inr (inr (inr (inr other)))) = absurd (other same)
 
+pub out_of_count : (plan : Plan) (lanes gates : ℕ) → lanes ≡ min (plan.lanes + 1) 255 → IsOutOfPlan plan → IsOutOfCount plan.shards lanes gates
+out_of_count plan lanes gates are (inl none) = inl none
+out_of_count plan lanes gates are (inr (inl many)) = inr (inl many)
+out_of_count plan lanes gates are (inr (inr many)) = inr (inr (inr (inl (omega (arith, are, many)))))
+
 pub not_begun : (plan : Plan) (lanes gates : ℕ) (from : StartFault) (fault : ServeFault) → fault ≡ serve_fault from → lanes ≡ min (plan.lanes + 1) 255 → gates ≡ plan.shards
     → (from ≡ starting.Count → IsOutOfCount plan.shards lanes gates) → IsUnserved plan fault
 not_begun plan lanes gates starting.Count fault is are same out = subst (IsUnserved plan) (sym is) (out_of_plan plan lanes gates are same (out refl))
 not_begun plan lanes gates starting.NoThread fault is are same out = subst (IsUnserved plan) (sym is) tt
 not_begun plan lanes gates starting.Memory fault is are same out = subst (IsUnserved plan) (sym is) tt
+
+pub within_plan : {T E : Type 0} (r : Result T E) (Within : Type 0) → Within → OnOk r Within
+within_plan (Ok x) Within h = h
+within_plan (Err e) Within h = tt
 
 pub no_memory : (plan : Plan) (fault : ServeFault) → fault ≡ Memory → IsUnserved plan fault
 no_memory plan fault is = subst (IsUnserved plan) (sym is) tt

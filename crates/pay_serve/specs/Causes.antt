@@ -1,4 +1,5 @@
 -- What the fault of a service comes from.
+use Rattle.std.proofs.Common.{arith, inl, inr}
 use Rattle.std.specs.Prelude.{◌≡◌, ◌⊎◌, ◌<◌, ◌+◌, ⊤}
 use Rattle.pay_shard.specs.declared.limits.TheConstants.{MOST_SHARDS}
 use Rattle.pay_lanes.specs.declared.limits.TheConstants.{MOST_LANES}
@@ -10,6 +11,15 @@ use Rattle.pay_serve.specs.declared.plan.Plan.{Plan}
 -- a plan of no shards or too many, or of too many lanes with the one that closes
 abbrev pub IsOutOfPlan : Plan → Type 0
 IsOutOfPlan plan = (plan.shards ≡ 0) ⊎ (MOST_SHARDS < plan.shards) ⊎ (MOST_LANES < plan.lanes + 1)
+
+-- the largest plan, 16 shards and 15 lanes, and one of a lane more
+largest : IsOutOfPlan (record { port = 0; lanes = 15; shards = 16; sessions = 0; close = 0 }) → ⊥
+largest (inl none) = absurd (omega (arith, none))
+largest (inr (inl many)) = absurd (omega (arith, many))
+largest (inr (inr many)) = absurd (omega (arith, many))
+
+one_lane_more : IsOutOfPlan (record { port = 0; lanes = 16; shards = 16; sessions = 0; close = 0 })
+one_lane_more = inr (inr (omega arith))
 
 -- Why a plan's lanes are not served: its counts, or a thread or memory was refused, of which nobody tells why.
 abbrev pub IsUnserved : Plan → ServeFault → Type 0

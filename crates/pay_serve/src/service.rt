@@ -4,7 +4,7 @@ ghost use Rattle.std.specs.Arc.{arc_value};
 ghost use Rattle.sqlite.specs.Held.{state};
 ghost use Rattle.pay_day.specs.declared.limits.TheConstants.{FIRST_DAY, LAST_DAY};
 ghost use Rattle.pay_wire.specs.Words.{IsFlushed};
-ghost use Rattle.pay_serve.specs.Causes.{IsUnserved, IsServeCause};
+ghost use Rattle.pay_serve.specs.Causes.{IsOutOfPlan, IsUnserved, IsServeCause};
 ghost use Rattle.pay_serve.specs.Closes.{IsServed};
 ghost use Rattle.pay_serve.specs.Lanes.{HasShards, AreAllWith};
 ghost use Rattle.pay_serve.specs.Machines.{IsNewOffice};
@@ -50,6 +50,7 @@ where
     ensures shards { IfOk result (λ opened. All HasShards opened.1.items × HasShards opened.2) }
     ensures all { IfOk result (λ opened. AreAllWith opened.0 opened.1.items opened.2) }
     ensures new { IfOk result (λ opened. IsNewOffice (arc_value tables) opened.0) }
+    ensures within { OnOk result (IsOutOfPlan plan.now → ⊥) }
     ensures cause { IfErr result (IsUnserved plan.now) }
 {
     let gates = open_gates(alloc, plan.shards)?;
@@ -82,6 +83,7 @@ where
     ensures served { IsServed (arc_value tables) plan.now.close (state S.Store ledger.old, W.contents writer.old) (state S.Store ledger.new, W.contents writer.new)
         result ((ledger.new ≡ ledger.old) × (writer.new ≡ writer.old)) }
     ensures flushed { OnOk result (IsFlushed W.Tells writer.new) }
+    ensures within { OnOk result (IsOutOfPlan plan.now → ⊥) }
     ensures cause { IfErr result (λ fault. IsServeCause W.Tells plan.now fault writer.new) }
 {
     pay_lanes::laws::still_together();

@@ -65,24 +65,24 @@ returns-clause-ends g c =
 pub returns-in_err-tables-clause-cause : goal.returns-in_err-tables-clause-cause
 returns-in_err-tables-clause-cause g c =
     let p = err_from_is_err_and c.from_residual.result c.from_residual.ensures.1 in
-    rw (p.1, p.2) (unread_fares g.W.ToldWriter.Tells _ _ _ _ c.in_err-tables.ensures.refused)
+    rw (p.1, p.2) (unread_fares g.W.ToldWriter.Tells c.args.plan.now _ _ _ c.in_err-tables.ensures.refused)
 
 pub returns-in_err-zone-clause-cause : goal.returns-in_err-zone-clause-cause
 returns-in_err-zone-clause-cause g c =
     let p = err_from_is_err_and c.from_residual-in_err-zone.result c.from_residual-in_err-zone.ensures.1 in
-    rw (p.1, p.2) (unread_zone g.W.ToldWriter.Tells _ _ _ c.in_err-zone.ensures.bad)
+    rw (p.1, p.2) (unread_zone g.W.ToldWriter.Tells c.args.plan.now _ _ c.in_err-zone.ensures.bad)
 
 pub returns-in_err-ledger-clause-cause : goal.returns-in_err-ledger-clause-cause
 returns-in_err-ledger-clause-cause g c =
     let p = err_from_is_err_and c.from_residual-in_err-ledger.result c.from_residual-in_err-ledger.ensures.1 in
-    rw (p.1, p.2) (no_ledger g.W.ToldWriter.Tells _ _ _ c.in_err-ledger.ensures.err)
+    rw (p.1, p.2) (no_ledger g.W.ToldWriter.Tells c.args.plan.now _ _ c.in_err-ledger.ensures.err)
 
 pub returns-in_err-listeners-clause-cause : goal.returns-in_err-listeners-clause-cause
 returns-in_err-listeners-clause-cause g c =
     let p = err_from_is_err_and c.from_residual-in_err-listeners.result c.from_residual-in_err-listeners.ensures.1 in
-    rw p.1 (unheard g.W.ToldWriter.Tells _ _ _ _ p.2 c.in_err-listeners.ensures.fault)
+    rw p.1 (unheard g.W.ToldWriter.Tells c.args.plan.now _ _ _ p.2 c.in_err-listeners.ensures.fault)
 
 pub returns-in_err-closed-clause-cause : goal.returns-in_err-closed-clause-cause
 returns-in_err-closed-clause-cause g c =
     let p = err_from_is_err_and c.from_residual-in_err-closed.result c.from_residual-in_err-closed.ensures.1 in
-    rw p.1 (unserved g.W.ToldWriter.Tells _ _ _ _ p.2 c.in_err-closed.ensures.cause)
+    rw p.1 (unserved g.W.ToldWriter.Tells c.args.plan.now _ _ _ p.2 c.in_err-closed.ensures.cause)

@@ -2,7 +2,7 @@ use Rattle.std.proofs.Common.{◌<◌, ap, sym, subst, Err}
 use Rattle.std.proofs.lemmas.Result.{err_from_is_err_and}
 use Rattle.std.specs.Arc.{arc_value}
 use Rattle.pay_serve.proofs.Begun.{in_count, popped, some_lane, one_more, others, all_have, all_with, new_office}
-use Rattle.pay_serve.proofs.ServeCauses.{no_memory, not_begun}
+use Rattle.pay_serve.proofs.ServeCauses.{no_memory, out_of_count, not_begun}
 use Rattle.pay_serve.proofs.service.open_office.Goals as goal
 
 -- there are lanes
@@ -51,3 +51,6 @@ pub returns-in_err-office-clause-cause : goal.returns-in_err-office-clause-cause
 returns-in_err-office-clause-cause g c =
     let p = err_from_is_err_and c.from_residual-in_err-office.result c.from_residual-in_err-office.ensures.1 in
     rw p.1 (not_begun c.args.plan.now c.saturating_add-lanes.result _ _ _ p.2 c.saturating_add-lanes.ensures c.in_ok-gates.ensures (λ is. c.in_err-office.ensures.count.0 (ap Err is)))
+
+pub returns-clause-within : goal.returns-clause-within
+returns-clause-within g c = λ out. let e = c.in_ok-office.ensures.count.1 (out_of_count c.args.plan.now c.saturating_add-lanes.result _ c.saturating_add-lanes.ensures out) in absurd cc
