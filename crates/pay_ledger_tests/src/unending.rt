@@ -49,7 +49,7 @@ fn gives_up_over_a_lane(rt: HostRuntime) {
     let mut writer = Vec::new(rt.alloc());
     let broken = closer.answer(rt, &mut reader, &mut writer);
     expect_same(&rt, broken, Err(SessionFault::Read { answered: 1 }));
-    expect_same(&rt, writer.as_slice(), b"OK 19730 175 175\n");
+    expect_same(&rt, writer.as_slice(), "OK 19730 175 175\n".as_bytes());
     expect_same(&rt, reader.fills, MOST_FILLS);
     closer.shut(rt);
 }

@@ -1,4 +1,5 @@
 use Rattle.std.proofs.Common.{Err, ap, refl}
+use Rattle.std.specs.Prelude.{⊤}
 use Rattle.std.proofs.lemmas.Result.{err_from_is_err_and}
 use Rattle.pay_jobs.proofs.Weeks.{is_day, is_monday, week_fails, week_cause}
 use Rattle.pay_jobs.proofs.WholeRuns.{lines_fail, week_told, local_plain}
@@ -24,4 +25,4 @@ returns-in_err-done-clause-fails g c =
 pub returns-in_err-done-clause-cause : goal.returns-in_err-done-clause-cause
 returns-in_err-done-clause-cause g c =
     let p = err_from_is_err_and c.from_residual.result c.from_residual.ensures.1 in
-    rw p.1 (week_cause g.R.ToldReader.Tells _ _ _ _ _ _ p.2 c.in_err-done.ensures.cause)
+    rw p.1 (week_cause g.R.ToldReader.Tells (λ _ _ _. ⊤) _ _ _ _ _ p.2 c.in_err-done.ensures.cause)
