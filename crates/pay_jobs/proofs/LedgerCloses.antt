@@ -86,6 +86,7 @@ module _ (m : Machine) (day : ℕ) (new : State) (ledger : LedgerParts) (there :
     outside_as refusal.BadArchive e = absurd (true_false (sym e))
     outside_as refusal.ArchiveConflict e = absurd (true_false (sym e))
     outside_as refusal.QuoteDiffers e = absurd (true_false (sym e))
+    outside_as refusal.NotKept e = absurd (true_false (sym e))
     outside_as refusal.BadLine e = absurd (true_false (sym e))
     outside_as refusal.LongLine e = absurd (true_false (sym e))
     outside_as refusal.Late e = absurd (true_false (sym e))

@@ -41,6 +41,7 @@ refusal_of shard_refusal.FixesFull = refusal.FixesFull
 abbrev pub refusal_of_desk : DeskFault → Refusal
 refusal_of_desk desk_fault.Busy = refusal.Busy
 refusal_of_desk desk_fault.Window = refusal.Window
+refusal_of_desk desk_fault.NotKept = refusal.NotKept
 refusal_of_desk desk_fault.Late = refusal.Late
 refusal_of_desk desk_fault.Memory = refusal.Memory
 

@@ -132,6 +132,7 @@ fn refusal_of_desk(fault: DeskFault) -> Refusal
     match fault {
         DeskFault::Busy => Refusal::Busy,
         DeskFault::Window => Refusal::Window,
+        DeskFault::NotKept => Refusal::NotKept,
         DeskFault::Late => Refusal::Late,
         DeskFault::Memory => Refusal::Memory,
     }

@@ -14,3 +14,4 @@ pub use Rattle.pay_shard.specs.Merges.{items_of, all_items, replies_of, IsAskedO
 pub use Rattle.pay_shard.specs.Desks.{Standing, with_waiting, DeskParts, IsForShards, IsAfterAll, IsNoneOf, without, command_under, IsReplyTo, AreKept}
 pub use Rattle.pay_shard.specs.Laws.{MergeRepliesAsShards, MergeEndsAsShards, MergeIsHistory, AnswersHaveReplies, AnswersStandAtPlaces, AskedAlikeEndsAlike, AcceptedAlikeEndsAlike, LastCommandIsUnderTicket, LastTicketWaits, StandsAsBefore}
 pub use Rattle.pay_shard.specs.LocalParts.{LocalParts, local_code, commands_of, transcript_of, desk_parts, AreInPlace}
+pub use Rattle.pay_shard.specs.NewItems.{is_new, new_items}

@@ -19,6 +19,9 @@ pub enum DeskFault {
     /// 31: as many commands wait for their replies as may.
     #[error("31 Window")]
     Window,
+    /// 48: what was accepted could not be kept. Nothing is taken any more.
+    #[error("48 NotKept")]
+    NotKept,
     /// 52: the reply has not come. The command may have taken effect.
     #[error("52 Late")]
     Late,

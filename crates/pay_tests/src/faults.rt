@@ -42,6 +42,7 @@ fn prints_why_a_line_is_refused(rt: HostRuntime) {
             (Refusal::BadArchive, "45 BadArchive"),
             (Refusal::ArchiveConflict, "46 ArchiveConflict"),
             (Refusal::QuoteDiffers, "47 QuoteDiffers"),
+            (Refusal::NotKept, "48 NotKept"),
             (Refusal::BadLine, "50 BadLine"),
             (Refusal::LongLine, "51 LongLine"),
             (Refusal::Late, "52 Late"),
@@ -100,6 +101,7 @@ fn prints_why_an_account_or_a_shard_refuses(rt: HostRuntime) {
         &[
             (DeskFault::Busy, "30 Busy"),
             (DeskFault::Window, "31 Window"),
+            (DeskFault::NotKept, "48 NotKept"),
             (DeskFault::Late, "52 Late"),
             (DeskFault::Memory, "90 Memory"),
         ],

@@ -52,6 +52,9 @@ pub enum Refusal {
     /// 47: what is due differs from what was posted for the same quote.
     #[error("47 QuoteDiffers")]
     QuoteDiffers,
+    /// 48: the line could not be kept.
+    #[error("48 NotKept")]
+    NotKept,
     /// 50: the line spells no command.
     #[error("50 BadLine")]
     BadLine,
@@ -87,6 +90,7 @@ impl Refusal {
             Refusal::BadArchive => 45,
             Refusal::ArchiveConflict => 46,
             Refusal::QuoteDiffers => 47,
+            Refusal::NotKept => 48,
             Refusal::BadLine => 50,
             Refusal::LongLine => 51,
             Refusal::Late => 52,
@@ -115,6 +119,7 @@ impl Refusal {
             Refusal::BadArchive => "BadArchive",
             Refusal::ArchiveConflict => "ArchiveConflict",
             Refusal::QuoteDiffers => "QuoteDiffers",
+            Refusal::NotKept => "NotKept",
             Refusal::BadLine => "BadLine",
             Refusal::LongLine => "LongLine",
             Refusal::Late => "Late",
