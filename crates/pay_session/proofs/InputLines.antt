@@ -32,7 +32,7 @@ abbrev ended_line : InputLine → List ℕ
 ended_line l = l.text ++ codes "\n"
 
 -- a line with its newline, before what is behind it
-joined : (z x y : List ℕ) → ((z ++ codes "\n") ++ x) ++ y ≡ z ++ 10 ∷ (x ++ y)
+pub joined : (z x y : List ℕ) → ((z ++ codes "\n") ++ x) ++ y ≡ z ++ 10 ∷ (x ++ y)
 joined z x y = append_assoc (z ++ codes "\n") x y ∙ append_assoc z (codes "\n") (x ++ y)
 
 pub whole_again : (input : List ℕ) → flat_map (λ (l : InputLine). l.text ++ codes "\n") (input_lines input) ++ rest_of input ≡ input

@@ -1,4 +1,5 @@
 pub mod BegunLines
+pub mod CommandLines
 pub mod Fills
 pub mod InputLines
 pub mod InputPieces
@@ -6,6 +7,7 @@ pub mod Newlines
 pub mod OverDesk
 pub mod PutCommands
 pub mod ReaderCalls
+pub mod Replays
 pub mod SessionSteps
 pub mod UnendedLine
 pub mod WholeSession

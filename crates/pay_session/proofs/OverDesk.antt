@@ -18,11 +18,11 @@ use Rattle.pay_wire.specs.declared.refusal.Refusal.{Refusal}
 
 -- ---- lists of what was taken
 
-commands_both : (ts us : List Taken) → commands_of (ts ++ us) ≡ commands_of ts ++ commands_of us
+pub commands_both : (ts us : List Taken) → commands_of (ts ++ us) ≡ commands_of ts ++ commands_of us
 commands_both [] us = refl
 commands_both (t ∷ ts) us = ap (λ l. (t.ticket, t.asked) ∷ l) (commands_both ts us)
 
-answered_both : (transcript : ℕ → Option Answer) (ts us : List Taken) → AreAnswered transcript ts → AreAnswered transcript us → AreAnswered transcript (ts ++ us)
+pub answered_both : (transcript : ℕ → Option Answer) (ts us : List Taken) → AreAnswered transcript ts → AreAnswered transcript us → AreAnswered transcript (ts ++ us)
 answered_both transcript [] us f g = g
 answered_both transcript (t ∷ ts) us f g = (f.0, answered_both transcript ts us f.1 g)
 
@@ -30,7 +30,7 @@ one_kept : (old new : ℕ → Option Answer) (t : Taken) (o : Option Answer) →
 one_kept old new t None kept f = tt
 one_kept old new t (Some answer) kept f = (kept t.ticket answer f.0, f.1, f.2)
 
-answered_kept : (old new : ℕ → Option Answer) (ts : List Taken) → AreKept old new → AreAnswered old ts → AreAnswered new ts
+pub answered_kept : (old new : ℕ → Option Answer) (ts : List Taken) → AreKept old new → AreAnswered old ts → AreAnswered new ts
 answered_kept old new [] kept f = tt
 answered_kept old new (t ∷ ts) kept f = (one_kept old new t t.answer kept f.0, answered_kept old new ts kept f.1)
 

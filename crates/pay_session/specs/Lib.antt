@@ -1,6 +1,8 @@
 pub mod Requests
+pub mod Replays
 pub mod Asks
 pub mod Calls
+pub mod CommandLines
 pub mod Events
 pub mod Served
 pub mod Serving

@@ -1,5 +1,5 @@
-//! A session of lines: [`session`] answers those of a reader over any desk and any till. `laws` says what the cutting of lines
-//! means, and `limits` how long a session may last.
+//! A session of lines: [`session`] answers those of a reader over any desk and any till, and [`replay`] hands those of an earlier
+//! session to a desk. `laws` says what the cutting of lines means, and `limits` how long a session may last.
 #![tactic(auto)]
 
 mod asks;
@@ -8,6 +8,7 @@ mod cut;
 pub mod laws;
 pub mod limits;
 mod progress;
+mod replaying;
 mod request;
 mod service;
 mod sessions;
@@ -16,6 +17,7 @@ mod till;
 mod told_reader;
 
 pub use asks::Asks;
+pub use replaying::{ReplayFault, Replayed, replay};
 pub use request::Request;
 pub use sessions::{Done, session};
 pub use stop::SessionFault;

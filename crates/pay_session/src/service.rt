@@ -67,7 +67,7 @@ impl<'a, D: Desk, T: Till> Answers for Service<'a, D, T> {
 }
 
 /// Hands a command to a desk and says its reply.
-fn put<D: Desk>(desk: &mut D, command: Command) -> Reply
+pub(crate) fn put<D: Desk>(desk: &mut D, command: Command) -> Reply
     requires { IsOfAccount command }
     ensures put { IsPutAt D.parts desk.old desk.new command result }
     ensures transcript { AreKept (D.parts desk.old).transcript (D.parts desk.new).transcript }

@@ -34,6 +34,8 @@ mod postings;
 #[cfg(test)]
 mod quotes;
 #[cfg(test)]
+mod replaying;
+#[cfg(test)]
 mod restores;
 #[cfg(test)]
 mod sample;
