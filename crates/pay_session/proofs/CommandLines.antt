@@ -1,5 +1,5 @@
 -- That commands are read back from their lines, whole or cut.
-use Rattle.std.proofs.Common.{◌≡◌, ℕ, ◌+◌, ◌-◌, ◌<◌, ◌≤◌, zero, suc, false, ◌||◌, cond, eqb, List, [], ◌∷◌, ◌++◌, map, length, take, drop, Some, sym, ap, ◌∙◌, refl, arith, le-ltb, append_assoc, append-nil, length-append, take-append-drop, codes, inl, inr}
+use Rattle.std.proofs.Common.{◌≡◌, ℕ, ◌+◌, ◌-◌, ◌<◌, ◌≤◌, zero, suc, false, ◌||◌, cond, eqb, List, [], ◌∷◌, ◌++◌, map, length, take, drop, Some, sym, ap, ◌∙◌, refl, arith, le-ltb, append_assoc, length-append, take-append-drop, codes, inl, inr, ◌⊎◌}
 use Rattle.std.specs.Prelude.{◌≢◌, All}
 use Rattle.std.specs.List.{AllByRecursion}
 use Rattle.std.proofs.Math.Seq.{take-append-add}
@@ -51,7 +51,12 @@ no_newline_front n line h =
 -- ---- a line before others, and what a cut leaves of it
 
 line_size : (s more : List ℕ) → length ((s ++ codes "\n") ++ more) ≡ length s + 1 + length more
-line_size s more = omega (arith, length-append (s ++ codes "\n") more, length-append s (codes "\n"))
+line_size s more =
+    let one : length (s ++ codes "\n") ≡ length s + 1 = length-append s (codes "\n") in
+    omega (arith, length-append (s ++ codes "\n") more, one)
+
+none_less : (n : ℕ) → 0 ≤ n
+none_less n = omega arith
 
 cut_within : (s more : List ℕ) (n : ℕ) → n ≤ length s → take n ((s ++ codes "\n") ++ more) ≡ take n s
 cut_within s more n h = ap (take n) (append_assoc s (codes "\n") more) ∙ take-append-le n s (codes "\n" ++ more) h
@@ -61,15 +66,15 @@ cut_behind s more n h =
     let whole : n ≡ length s + suc (n - length s - 1) = omega (arith, h) in
     ap (take n) (append_assoc s (codes "\n") more) ∙ ap (λ k. take k (s ++ 10 ∷ more)) whole ∙ take-append-add s (10 ∷ more) (suc (n - length s - 1))
 
-module _ (read : AreRead) (lines : AreLines) where
+module _ (reads : AreRead) (are_lines : AreLines) where
   whole_line : (c : Command) → IsSpelled c → has_newline (spelling_of_command c) ≡ false
-  whole_line c h = no_newline (spelling_of_command c) (lines c h).1
+  whole_line c h = no_newline (spelling_of_command c) (are_lines c h).1
 
   asks_it : (c : Command) → IsSpelled c → request_of (spelling_of_command c) ≡ requests.Command c
   unfolding request_of
   asks_it c h =
       let s = spelling_of_command c in
-      ap (λ b. cond b requests.LongLine (asked (command_of s))) (le-ltb MOST_LINE_BYTES (length s) (lines c h).0) ∙ ap asked (read s c (h, refl))
+      ap (λ b. cond b requests.LongLine (asked (command_of s))) (le-ltb MOST_LINE_BYTES (length s) (are_lines c h).0) ∙ ap asked (reads s c (h, refl))
 
   -- what is read of a line before others
   first_read : (c : Command) (more : List ℕ) → IsSpelled c → line_requests (spelling_of_command c ++ 10 ∷ more) ≡ requests.Command c ∷ line_requests more
@@ -91,8 +96,8 @@ module _ (read : AreRead) (lines : AreLines) where
   none_whole n none = record {
     read = ap line_requests none;
     parts = none ∙ ap rest_of (sym none);
-    some = omega arith;
-    within = omega arith;
+    some = none_less 0;
+    within = none_less n;
     most = λ m few fits. few;
   }
 
@@ -104,14 +109,17 @@ module _ (read : AreRead) (lines : AreLines) where
       record {
         read = ap line_requests is ∙ line_requests_part (take n s) part;
         parts = is ∙ sym (rest_of_part (take n s) part) ∙ ap rest_of (sym is);
-        some = omega arith;
-        within = omega arith;
+        some = none_less (length (c ∷ cs));
+        within = none_less n;
         most = too_many;
       }
     where
       too_many : (m : ℕ) → m ≤ length (c ∷ cs) → length (lines_of (take m (c ∷ cs))) ≤ n → m ≤ 0
-      too_many zero few fits = omega arith
-      too_many (suc m) few fits = absurd (omega (arith, short, fits, line_size (spelling_of_command c) (lines_of (take m cs))))
+      too_many zero few fits = none_less 0
+      too_many (suc m) few fits =
+          let s = spelling_of_command c in
+          let all : length ((s ++ codes "\n") ++ lines_of (take m cs)) ≤ n = fits in
+          absurd (omega (arith, short, all, line_size s (lines_of (take m cs))))
 
   cut_behind_first : (c : Command) (cs : List Command) (n whole : ℕ) → IsSpelled c → length (spelling_of_command c) < n → IsCutTo cs (n - length (spelling_of_command c) - 1) whole
       → IsCutTo (c ∷ cs) n (suc whole)
@@ -121,24 +129,31 @@ module _ (read : AreRead) (lines : AreLines) where
       let is : take n (lines_of (c ∷ cs)) ≡ s ++ 10 ∷ left = cut_behind s (lines_of cs) n long in
       let behind : rest_of left ≡ rest_of (take n (lines_of (c ∷ cs))) = sym (rest_of_line s left) ∙ ap rest_of (sym is) in
       let lines_left = lines_of (take whole cs) in
+      let within : length ((s ++ codes "\n") ++ lines_left) ≤ n = omega (arith, long, f.within, line_size s lines_left) in
+      let some : suc whole ≤ suc (length cs) = omega (arith, f.some) in
       record {
         read = ap line_requests is ∙ first_read c left h ∙ ap (λ rs. requests.Command c ∷ rs) f.read;
         parts = is ∙ ap (λ l. s ++ 10 ∷ l) f.parts ∙ sym (joined s lines_left (rest_of left)) ∙ ap (λ r. ((s ++ codes "\n") ++ lines_left) ++ r) behind;
-        some = omega (arith, f.some);
-        within = omega (arith, long, f.within, line_size s lines_left);
+        some = some;
+        within = within;
         most = no_more;
       }
     where
       no_more : (m : ℕ) → m ≤ length (c ∷ cs) → length (lines_of (take m (c ∷ cs))) ≤ n → m ≤ suc whole
-      no_more zero few fits = omega arith
-      no_more (suc m) few fits = omega (arith, f.most m (omega (arith, few)) (omega (arith, fits, long, line_size (spelling_of_command c) (lines_of (take m cs)))))
+      no_more zero few fits = none_less (suc whole)
+      no_more (suc m) few fits =
+          let s = spelling_of_command c in
+          let fewer : suc m ≤ suc (length cs) = few in
+          let all : length ((s ++ codes "\n") ++ lines_of (take m cs)) ≤ n = fits in
+          let behind : m ≤ whole = f.most m (omega (arith, fewer)) (omega (arith, all, long, line_size s (lines_of (take m cs)))) in
+          omega (arith, behind)
 
   pub cut : (commands : List Command) → AllByRecursion IsSpelled commands → (n : ℕ) → (whole : ℕ) × IsCutTo commands n whole
   cut [] h zero = (0, none_whole zero refl)
   cut [] h (suc n) = (0, none_whole (suc n) refl)
   cut (c ∷ cs) h n = by_size (cases_lt (length (spelling_of_command c)) n) (cut cs h.1 (n - length (spelling_of_command c) - 1))
     where
-      by_size : (length (spelling_of_command c) < n) ⊎ (n ≤ length (spelling_of_command c)) → (whole : ℕ) × IsCutTo cs (n - length (spelling_of_command c) - 1) whole → (whole : ℕ) × IsCutTo (c ∷ cs) n whole
+      by_size : (length (spelling_of_command c) < n) ⊎ (n ≤ length (spelling_of_command c)) → ((whole : ℕ) × IsCutTo cs (n - length (spelling_of_command c) - 1) whole) → ((whole : ℕ) × IsCutTo (c ∷ cs) n whole)
       by_size (inl long) f = (suc f.0, cut_behind_first c cs n f.0 h.0 long f.1)
       by_size (inr short) f = (0, cut_in_first c cs n h.0 short)
 
@@ -146,11 +161,14 @@ module _ (read : AreRead) (lines : AreLines) where
       → line_requests (take n (lines_of (commands ++ last ∷ []))) ≡ map requests.Command commands
   one_lost [] last h n low high =
       let s = spelling_of_command last in
-      ap line_requests (cut_within s [] n (omega (arith, high, line_size s []))) ∙ line_requests_part (take n s) (no_newline_front n s (whole_line last h.0))
+      let short : n < length ((s ++ codes "\n") ++ []) = high in
+      ap line_requests (cut_within s [] n (omega (arith, short, line_size s []))) ∙ line_requests_part (take n s) (no_newline_front n s (whole_line last h.0))
   one_lost (c ∷ cs) last h n low high =
       let s = spelling_of_command c in
       let all = lines_of (cs ++ last ∷ []) in
-      let sizes = (line_size s (lines_of cs), line_size s all) in
+      let least : length ((s ++ codes "\n") ++ lines_of cs) ≤ n = low in
+      let most : n < length ((s ++ codes "\n") ++ all) = high in
+      let size = line_size s (lines_of cs) in
       let left = n - length s - 1 in
-      ap line_requests (cut_behind s all n (omega (arith, low, sizes.0))) ∙ first_read c (take left all) h.0
-      ∙ ap (λ rs. requests.Command c ∷ rs) (one_lost cs last h.1 left (omega (arith, low, sizes.0)) (omega (arith, low, high, sizes.0, sizes.1)))
+      ap line_requests (cut_behind s all n (omega (arith, least, size))) ∙ first_read c (take left all) h.0
+      ∙ ap (λ rs. requests.Command c ∷ rs) (one_lost cs last h.1 left (omega (arith, least, size)) (omega (arith, least, most, size, line_size s all)))

@@ -1,10 +1,11 @@
 -- How the lines of a replay join.
-use Rattle.std.proofs.Common.{◌≡◌, ℕ, ◌+◌, ◌-◌, ◌≤◌, false, List, [], ◌∷◌, ◌++◌, length, Option, Some, None, Result, sym, ap, ◌∙◌, subst, refl, arith, append_assoc, append-nil, length-append, inl, inr}
+use Rattle.std.proofs.Common.{◌≡◌, ℕ, ◌+◌, ◌-◌, ◌≤◌, suc, true, false, List, [], ◌∷◌, ◌++◌, length, Option, Some, None, Result, sym, ap, ◌∙◌, subst, refl, arith, append_assoc, append-nil, length-append, inl, inr}
 use Rattle.std.specs.Prelude.{⊤}
 use Rattle.std.specs.List.{AllByRecursion}
 use Rattle.std.proofs.lemmas.Grind.{flat_map-append}
 use Rattle.jiff.specs.declared.tz.timezone.TimeZone.{TimeZone}
 use Rattle.pay_quotes.specs.declared.posting.Posting.{Posting}
+use Rattle.pay_shard.specs.declared.asked.Asked.{Asked}
 use Rattle.pay_shard.specs.declared.desk.DeskFault.{DeskFault}
 use Rattle.pay_shard.specs.Words.{AreKept, Standing, DeskParts}
 use Rattle.pay_wire.specs.declared.refusal.Refusal.{Refusal}
@@ -13,17 +14,19 @@ use Rattle.pay_wire.specs.declared.reply.Reply.{Reply}
 use Rattle.pay_wire.specs.declared.reply.Reply.TheVariants as replies
 use Rattle.pay_session.specs.Asks.{asks_of}
 use Rattle.pay_session.specs.Events.{Taken, Event, all_put, commands_of, AreAnswered}
-use Rattle.pay_session.specs.Replays.{IsPriced, why_ended, ClosesNothing, IsReplayStep, IsFaultOf, AreHanded, AreAccepted, IsReplayed, IsEndedAt, IsEnded}
+use Rattle.pay_session.specs.Replays.{is_barred, IsPriced, why_ended, ClosesNothing, IsReplayStep, IsFaultOf, AreHanded, AreAccepted, IsReplayed, IsEndedAt, IsEnded}
 use Rattle.pay_session.specs.Requests.{has_newline, line_requests, request_of, rest_of}
 use Rattle.pay_session.specs.Served.{IsServedAs, AreServed}
 use Rattle.pay_session.specs.Serving.{IsPutAt, IsStep, MaySometimeRefuse, MaySometimeBeLate}
 use Rattle.pay_session.specs.declared.asks.Asks.{Asks}
+use Rattle.pay_session.specs.declared.asks.Asks.TheVariants as asks
 use Rattle.pay_session.specs.declared.replaying.Replayed.{Replayed}
 use Rattle.pay_session.specs.declared.replaying.ReplayFault.{ReplayFault}
 use Rattle.pay_session.specs.declared.replaying.ReplayFault.TheVariants as fault
 use Rattle.pay_session.specs.declared.request.Request.{Request}
 use Rattle.pay_session.proofs.InputPieces.{line_requests_line, line_requests_part, rest_of_line, rest_of_part}
 use Rattle.pay_session.proofs.OverDesk.{commands_both, answered_both, answered_kept}
+use Rattle.pay_session.proofs.PutCommands.{still_step}
 
 -- ---- one event more
 
@@ -42,20 +45,39 @@ module _ {T : Type 0} (of : ℕ) (Refuses : DeskFault → Type 0) (Late : Type 0
   served_one (x ∷ rs) [] a b c r e f g = absurd f
   served_one (x ∷ rs) (y ∷ es) a b c r e f g = (f.0, f.1, served_one rs es f.0 b c r e f.2 g)
 
+no_none : (why : Refusal) → ◌≡◌ {A = Option Refusal} (Some why) None → ⊥
+no_none why e = cc
+
 -- what ends no replay is prices
 priced : (reply : Reply) → why_ended reply ≡ None → IsPriced reply
 priced (replies.Priced p) e = (p, refl)
-priced (replies.No why) e = cc
-priced (replies.Due quote) e = cc
-priced (replies.Shown shown) e = cc
-priced (replies.Closed closed) e = cc
-priced replies.Bye e = cc
+priced (replies.No why) e = absurd (no_none why e)
+priced (replies.Due quote) e = absurd (no_none refusal.DeskFault e)
+priced (replies.Shown shown) e = absurd (no_none refusal.DeskFault e)
+priced (replies.Closed closed) e = absurd (no_none refusal.DeskFault e)
+priced replies.Bye e = absurd (no_none refusal.DeskFault e)
+
+-- ---- what a line comes to
 
 module _ {D O : Type 0} (parts : D → DeskParts O) where
-  -- a command that was put is a step
-  pub put_step : (before after : D) (a : Asks) (line : Reply) (ended : Option Refusal) (e : Event) → IsStep parts ClosesNothing a e (before, tt) (after, tt) → e.reply ≡ line → ended ≡ why_ended line
-      → IsReplayStep parts before after a ended
-  put_step before after a line ended e step told is = inl (e, step, is ∙ ap why_ended (sym told))
+  -- a tap or a correction that was put
+  pub put_step : (before after : D) (a : Asked) (line : Reply) (ended : Option Refusal) → is_barred (asks.Put a) ≡ false → IsPutAt parts before after a line → AreKept (parts before).transcript (parts after).transcript
+      → (parts after).standing ≡ (parts before).standing → ended ≡ why_ended line → IsReplayStep parts before after (asks.Put a) ended
+  put_step before after a line ended open f kept same is =
+      inl (f.event, open, record { served = (f.answered, refl); added = f.added; said = f.said; kept = kept; same = same }, is ∙ ap why_ended (sym f.told))
+
+  -- what is refused as itself
+  pub refused_step : (desk : D) (a : Asks) (why : Refusal) → a ≡ asks.No why → IsReplayStep parts desk desk a (Some why)
+  refused_step desk a why is =
+      inl (record { reply = replies.No why; put = [] }, ap is_barred is, still_step parts ClosesNothing a (asks.No why) (replies.No why) desk tt is (refl, refl), refl)
+
+  -- what is barred
+  pub barred_step : (desk : D) (a b : Asks) → a ≡ b → is_barred b ≡ true → IsReplayStep parts desk desk a (Some refusal.BadLine)
+  barred_step desk a b is barred = inr (ap is_barred is ∙ barred, refl, refl)
+
+  -- a line that came to what was put
+  pub step_of : (before after : D) (a b : Asks) (ended : Option Refusal) → a ≡ b → IsReplayStep parts before after b ended → IsReplayStep parts before after a ended
+  step_of before after a b ended is f = subst (λ (x : Asks). IsReplayStep parts before after x ended) (sym is) f
 
 module _ {D O : Type 0} (zone : TimeZone) (parts : D → DeskParts O) where
   handed_none : (desk : D) → AreHanded zone parts desk desk [] []
@@ -90,7 +112,7 @@ module _ {D O : Type 0} (zone : TimeZone) (parts : D → DeskParts O) where
     events = [];
     requests = refl;
     rest = refl;
-    accepted = (handed_none desk, tt);
+    accepted = (handed_none desk, tt, tt);
     counted = refl;
     fits = omega arith;
     kept = λ ticket answer h. h;
@@ -102,20 +124,32 @@ module _ {D O : Type 0} (zone : TimeZone) (parts : D → DeskParts O) where
       → line_requests text ≡ done ++ request_of line ∷ line_requests behind
   first_ahead text line ahead behind done e cut whole = e ∙ ap (λ l. done ++ l) (ap line_requests cut ∙ line_requests_line line behind whole)
 
+  one_longer : (done : List Request) (r : Request) (lines : ℕ) → lines ≡ length done → lines + 1 ≡ length (done ++ r ∷ [])
+  one_longer done r lines e =
+      let longer : length (done ++ r ∷ []) ≡ length done + 1 = length-append done (r ∷ []) in
+      omega (arith, e, longer)
+
+  still_fits : (text line ahead behind : List ℕ) (lines : ℕ) → lines + length ahead ≤ length text → ahead ≡ line ++ 10 ∷ behind → lines + 1 + length behind ≤ length text
+  still_fits text line ahead behind lines fits cut =
+      let size : length (line ++ 10 ∷ behind) ≡ length line + suc (length behind) = length-append line (10 ∷ behind) in
+      omega (arith, fits, ap length cut, size)
+
   -- it was accepted
   underway_one : (text : List ℕ) (a b c : D) (ahead line behind : List ℕ) (lines : ℕ) (event : Event) → IsUnderway text a b ahead lines → ahead ≡ line ++ 10 ∷ behind → has_newline line ≡ false
+      → is_barred (asks_of zone (request_of line)) ≡ false
       → IsStep parts ClosesNothing (asks_of zone (request_of line)) event (b, tt) (c, tt) → IsPriced event.reply → IsUnderway text a c behind (lines + 1)
-  underway_one text a b c ahead line behind lines event u cut whole step prices = record {
+  underway_one text a b c ahead line behind lines event u cut whole open step prices = record {
     done = u.done ++ request_of line ∷ [];
     events = u.events ++ event ∷ [];
     requests = first_ahead text line ahead behind u.done u.requests cut whole ∙ sym (append_assoc u.done (request_of line ∷ []) (line_requests behind));
     rest = u.rest ∙ ap rest_of cut ∙ rest_of_line line behind;
     accepted = (
       handed_one a b c u.done u.events (request_of line) event u.accepted.0 u.same step,
-      all_one (λ (e : Event). IsPriced e.reply) u.events event u.accepted.1 prices,
+      all_one (λ (r : Request). is_barred (asks_of zone r) ≡ false) u.done (request_of line) u.accepted.1 open,
+      all_one (λ (e : Event). IsPriced e.reply) u.events event u.accepted.2 prices,
     );
-    counted = omega (arith, u.counted, length-append u.done (request_of line ∷ []));
-    fits = omega (arith, u.fits, ap length cut, length-append line (10 ∷ behind));
+    counted = one_longer u.done (request_of line) lines u.counted;
+    fits = still_fits text line ahead behind lines u.fits cut;
     kept = λ ticket answer h. step.kept ticket answer (u.kept ticket answer h);
     same = step.same ∙ u.same;
   }
@@ -123,11 +157,8 @@ module _ {D O : Type 0} (zone : TimeZone) (parts : D → DeskParts O) where
   pub underway_line : (text : List ℕ) (a b c : D) (ahead line behind : List ℕ) (lines : ℕ) (ended : Option Refusal) → IsUnderway text a b ahead lines → ahead ≡ line ++ 10 ∷ behind
       → has_newline line ≡ false → IsReplayStep parts b c (asks_of zone (request_of line)) ended → ended ≡ None → IsUnderway text a c behind (lines + 1)
   underway_line text a b c ahead line behind lines ended u cut whole (inl step) none =
-      underway_one text a b c ahead line behind lines step.0 u cut whole step.1 (priced step.0.reply (sym step.2 ∙ none))
-  underway_line text a b c ahead line behind lines ended u cut whole (inr barred) none = absurd (some_none (sym barred.1 ∙ none))
-    where
-      some_none : ◌≡◌ {A = Option Refusal} (Some refusal.BadLine) None → ⊥
-      some_none e = cc
+      underway_one text a b c ahead line behind lines step.0 u cut whole step.1 step.2 (priced step.0.reply (sym step.3 ∙ none))
+  underway_line text a b c ahead line behind lines ended u cut whole (inr barred) none = absurd (no_none refusal.BadLine (sym barred.1 ∙ none))
 
   -- it was not
   pub ended_at : (text : List ℕ) (a b c : D) (ahead line behind : List ℕ) (lines : ℕ) (ended : Option Refusal) (why : Refusal) → IsUnderway text a b ahead lines → ahead ≡ line ++ 10 ∷ behind
@@ -139,8 +170,9 @@ module _ {D O : Type 0} (zone : TimeZone) (parts : D → DeskParts O) where
     requests = first_ahead text line ahead behind u.done u.requests cut whole;
     counted = ap (λ n. n + 1) u.counted;
     events = u.events;
-    priced = u.accepted.1;
-    ended = inl (step.0, handed_one a b c u.done u.events (request_of line) step.0 u.accepted.0 u.same step.1, sym step.2 ∙ is);
+    opens = u.accepted.1;
+    priced = u.accepted.2;
+    ended = inl (step.0, step.1, handed_one a b c u.done u.events (request_of line) step.0 u.accepted.0 u.same step.2, sym step.3 ∙ is);
   }
   ended_at text a b c ahead line behind lines ended why u cut whole (inr barred) is = record {
     done = u.done;
@@ -149,8 +181,9 @@ module _ {D O : Type 0} (zone : TimeZone) (parts : D → DeskParts O) where
     requests = first_ahead text line ahead behind u.done u.requests cut whole;
     counted = ap (λ n. n + 1) u.counted;
     events = u.events;
-    priced = u.accepted.1;
-    ended = inr (subst (λ desk. AreHanded zone parts a desk u.done u.events) (sym barred.2) u.accepted.0, barred.0, same_why (sym is ∙ barred.1));
+    opens = u.accepted.1;
+    priced = u.accepted.2;
+    ended = inr (barred.0, subst (λ (desk : D). AreHanded zone parts a desk u.done u.events) (sym barred.2) u.accepted.0, same_why (sym is ∙ barred.1));
   }
     where
       same_why : ◌≡◌ {A = Option Refusal} (Some why) (Some refusal.BadLine) → why ≡ refusal.BadLine

@@ -45,12 +45,12 @@ OneLineIsLost = (commands : List Command) (last : Command) → AllByRecursion Is
 two_lines : lines_of (Tap (record { reader = 1; seq = 1; account = 7; utc = 1_704_697_200; place = 50; kind = Bus }) ∷ Quit ∷ []) ≡ codes "TAP 1 1 7 1704697200 50 BUS\nQUIT\n"
 two_lines = refl
 
--- a tap that was cut is none, though what is left of it spells one: its seq would be another
-cut_tap : line_requests (codes "QUIT\nTAP 1 1 7 1704697200 5") ≡ requests.Command Quit ∷ []
+-- a line that was cut is none, though what is left of it may spell another command
+cut_day : line_requests (codes "QUIT\nDUE 7 1973") ≡ requests.Command Quit ∷ []
 unfolding request_of
-cut_tap = refl
+cut_day = refl
 
--- nor is one whose newline alone is missing
+-- nor is one of which the newline alone is missing
 newline_missing : (line_requests (take 28 (codes "TAP 1 1 7 1704697200 50 BUS\n")) ≡ requests.Command (Tap (record { reader = 1; seq = 1; account = 7; utc = 1_704_697_200; place = 50; kind = Bus })) ∷ []) × (line_requests (take 27 (codes "TAP 1 1 7 1704697200 50 BUS\n")) ≡ [])
 unfolding request_of tap_of
 newline_missing = (refl, refl)

@@ -46,11 +46,11 @@ why_ended _ = Some refusal.DeskFault
 abbrev pub ClosesNothing : ⊤ → ℕ → ℕ → List Taken → Result (List Posting) Refusal → ⊤ → Type 0
 ClosesNothing before day of put result after = ⊥
 
--- Over a desk from before to after, with `parts` for what it is at a moment: what a line asks was handed to it, or is barred, and
--- was not; and why the replay ends there, if it does.
+-- Over a desk from before to after, with `parts` for what it is at a moment: what a line comes to was answered, or is barred, and the
+-- desk was not asked; and why the replay ends there, if it does.
 abbrev pub IsReplayStep : {D O : Type 0} → (D → DeskParts O) → D → D → Asks → Option Refusal → Type 0
 IsReplayStep parts before after a ended =
-    ((event : Event) × IsStep parts ClosesNothing a event (before, tt) (after, tt) × (ended ≡ why_ended event.reply))
+    ((event : Event) × (is_barred a ≡ false) × IsStep parts ClosesNothing a event (before, tt) (after, tt) × (ended ≡ why_ended event.reply))
     ⊎ ((is_barred a ≡ true) × (ended ≡ Some refusal.BadLine) × (after ≡ before))
 
 -- what is told of a replay that ended so at the line of this number
@@ -65,9 +65,13 @@ module _ {D O : Type 0} (zone : TimeZone) (parts : D → DeskParts O) (before af
       IsSession zone (parts before).standing.shards (MaySometimeRefuse parts (parts before).standing) (MaySometimeBeLate parts (parts before).standing) ClosesNothing
       (sides parts (before, tt) (after, tt))
 
-  -- each by prices
+  -- none of them is barred
+  abbrev pub AreOpen : List Request → Type 0
+  AreOpen = AllByRecursion (λ (r : Request). is_barred (asks_of zone r) ≡ false)
+
+  -- none is barred, and each was answered by prices
   abbrev pub AreAccepted : List Request → List Event → Type 0
-  AreAccepted list events = AreHanded list events × AllByRecursion (λ (e : Event). IsPriced e.reply) events
+  AreAccepted list events = AreHanded list events × AreOpen list × AllByRecursion (λ (e : Event). IsPriced e.reply) events
 
   -- All whole lines of a text were accepted, and were so many, of so many bytes.
   pub record IsReplayed (text : List ℕ) (it : Replayed) : Type 0 where
@@ -76,11 +80,11 @@ module _ {D O : Type 0} (zone : TimeZone) (parts : D → DeskParts O) (before af
     pub counted : it.lines ≡ length (line_requests text)
     pub sized : it.bytes + length (rest_of text) ≡ length text
 
-  -- Behind these, a request was answered by something else than prices; or it is barred, and nothing was handed to the desk for it.
+  -- Behind these, a request was answered by something else than prices; or it is barred, and the desk was not asked.
   abbrev pub IsEndedBy : List Request → List Event → Request → Refusal → Type 0
   IsEndedBy done events request why =
-      ((last : Event) × AreHanded (done ++ request ∷ []) (events ++ last ∷ []) × (why_ended last.reply ≡ Some why))
-      ⊎ (AreHanded done events × (is_barred (asks_of zone request) ≡ true) × (why ≡ refusal.BadLine))
+      ((last : Event) × (is_barred (asks_of zone request) ≡ false) × AreHanded (done ++ request ∷ []) (events ++ last ∷ []) × (why_ended last.reply ≡ Some why))
+      ⊎ ((is_barred (asks_of zone request) ≡ true) × AreHanded done events × (why ≡ refusal.BadLine))
 
   -- The lines before the one of this number were accepted, and that one was not.
   pub record IsEndedAt (text : List ℕ) (line : ℕ) (why : Refusal) : Type 0 where
@@ -90,6 +94,7 @@ module _ {D O : Type 0} (zone : TimeZone) (parts : D → DeskParts O) (before af
     pub requests : line_requests text ≡ done ++ request ∷ others
     pub counted : line ≡ length done + 1
     pub events : List Event
+    pub opens : AreOpen done
     pub priced : AllByRecursion (λ (e : Event). IsPriced e.reply) events
     pub ended : IsEndedBy done events request why
 

@@ -1,4 +1,5 @@
--- Words for the crates above: what requests are and come to, what comes of them over a desk and a till, and how a session may end.
+-- Words for the crates above: what requests are and come to, what comes of them over a desk and a till, how a session may end, what a
+-- replay is, and commands as lines.
 pub use Rattle.pay_session.specs.Requests.{input_lines, rest_of, has_newline, request_of, line_requests, requests_of, quits, unread}
 pub use Rattle.pay_session.specs.Asks.{asks_of}
 pub use Rattle.pay_session.specs.Calls.{ReaderCall, ShowsNothing, FailsBy, IsLastFill, HasNoEnd}
@@ -8,3 +9,5 @@ pub use Rattle.pay_session.specs.Serving.{IsWithin, IsClosedAt}
 unfoldable pub use Rattle.pay_session.specs.Serving.{MaySometimeRefuse, MaySometimeBeLate}
 pub use Rattle.pay_session.specs.Session.{Sides, IsSession, EndsSo, StopsReading, StopsWriting, FailsSo, sides, Ends, Fails}
 pub use Rattle.pay_session.specs.Stops.{IsBroken}
+pub use Rattle.pay_session.specs.Replays.{is_barred, IsPriced, why_ended, ClosesNothing, AreHanded, AreOpen, AreAccepted, IsReplayed, IsEndedBy, IsEndedAt, IsEnded}
+pub use Rattle.pay_session.specs.CommandLines.{lines_of, IsCutTo, LinesAreReadBack, CutLinesAreRead, OneLineIsLost}
