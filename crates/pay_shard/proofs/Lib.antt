@@ -8,5 +8,6 @@ pub mod FirstOnes
 pub mod Journals
 pub mod LocalDesks
 pub mod Merging
+pub mod NewAlone
 pub mod Places
 pub mod PutThenGet

@@ -1,5 +1,5 @@
 -- What is so of all journals and of all desks.
-use Rattle.std.specs.Prelude.{◌≡◌, ◌↔◌, ℕ, List, [], ◌∷◌, ◌++◌, map, Some}
+use Rattle.std.specs.Prelude.{◌≡◌, ◌↔◌, ℕ, false, List, [], ◌∷◌, ◌++◌, map, filter, Some}
 use Rattle.std.specs.List.{slice_get}
 use Rattle.pay_numbered.specs.Words.{IsIn}
 use Rattle.pay_tables.specs.Words.{FareTables}
@@ -7,6 +7,8 @@ use Rattle.pay_account.specs.State.{State}
 use Rattle.pay_shard.specs.declared.asked.Asked.{Asked}
 use Rattle.pay_shard.specs.declared.item.Item.{Item}
 use Rattle.pay_shard.specs.declared.reply.Answer.{Answer}
+use Rattle.pay_shard.specs.Machine.{item_step}
+use Rattle.pay_shard.specs.NewItems.{is_new, AreAllNew, new_items}
 use Rattle.pay_shard.specs.Runs.{run, replay, answers, reply_at, answer_to, IsHistory}
 use Rattle.pay_shard.specs.Changes.{AreAllPriced, asked_by, AreUnmarked, accepted_asked}
 use Rattle.pay_shard.specs.Desks.{Standing, with_waiting, IsAfterAll, IsNoneOf, without, command_under}
@@ -51,6 +53,26 @@ AskedAlikeEndsAlike = (tables : FareTables) (base : State) (list other : List It
 abbrev pub AcceptedAlikeEndsAlike : Type 0
 AcceptedAlikeEndsAlike = (tables : FareTables) (base : State) (list other : List Item) → ((a : Asked) → IsIn (accepted_asked tables base list) a ↔ IsIn (accepted_asked tables base other) a)
     → replay tables base other ≡ replay tables base list
+
+-- ---- what is newly accepted
+
+-- the newly accepted items of a journal are replied to by themselves as they were in it, and end where it ends
+abbrev pub NewRunAlone : Type 0
+NewRunAlone = (tables : FareTables) (base : State) (items : List Item)
+    → run tables base (new_items tables base items) ≡ record { replies = filter is_new (run tables base items).replies; after = replay tables base items }
+
+-- each of them newly
+abbrev pub NewStayNew : Type 0
+NewStayNew = (tables : FareTables) (base : State) (items : List Item) → AreAllNew (run tables base (new_items tables base items)).replies
+
+-- an item that is not newly accepted changes nothing
+abbrev pub OthersChangeNothing : Type 0
+OthersChangeNothing = (tables : FareTables) (state : State) (item : Item) → is_new (item_step tables state item).reply ≡ false → (item_step tables state item).after ≡ state
+
+-- where a journal goes on, those that are newly accepted then stand behind those of before
+abbrev pub NewStandBehind : Type 0
+NewStandBehind = (tables : FareTables) (base : State) (items more : List Item)
+    → new_items tables base (items ++ more) ≡ new_items tables base items ++ new_items tables (replay tables base items) more
 
 -- ---- desks
 

@@ -1,10 +1,13 @@
 -- The taps and corrections that are newly accepted, and no repeats.
-use Rattle.std.specs.Prelude.{◌≡◌, ℕ, Bool, true, false, not, if◌then◌else◌, List, [], ◌∷◌, refl}
+use Rattle.std.specs.Prelude.{◌≡◌, ℕ, Bool, true, false, not, if◌then◌else◌, List, [], ◌∷◌, filter, refl}
+use Rattle.std.specs.List.{AllByRecursion}
 use Rattle.pay_tables.specs.Words.{FareTables}
 use Rattle.pay_account.specs.State.{State}
 use Rattle.pay_shard.specs.Machine.{item_step}
+use Rattle.pay_shard.specs.declared.asked.Asked.TheVariants as asked
 use Rattle.pay_shard.specs.declared.item.Entry.{Entry}
 use Rattle.pay_shard.specs.declared.item.Item.{Item}
+use Rattle.pay_shard.specs.declared.refusal.Refusal.TheVariants as refusal
 use Rattle.pay_shard.specs.declared.reply.Reply.{Reply}
 use Rattle.pay_shard.specs.declared.reply.Reply.TheVariants as replies
 
@@ -12,6 +15,10 @@ use Rattle.pay_shard.specs.declared.reply.Reply.TheVariants as replies
 abbrev pub is_new : Reply → Bool
 is_new (replies.Priced priced) = not priced.again
 is_new _ = false
+
+-- each of these is
+abbrev pub AreAllNew : List Reply → Type 0
+AreAllNew = AllByRecursion (λ reply. is_new reply ≡ true)
 
 -- of items, those that are newly accepted, each where it stood
 abbrev pub new_items : FareTables → State → List Item → List Item
@@ -27,3 +34,15 @@ repeat_not_new day price week = refl
 -- neither is what was refused for memory
 refused_not_new : (tables : FareTables) (state : State) (entry : Entry) → new_items tables state (record { entry = entry; refused_memory = true } ∷ []) ≡ []
 refused_not_new tables state entry = refl
+
+-- and neither is a question
+question_not_new : (tables : FareTables) (state : State) (lane ticket : ℕ)
+    → new_items tables state (record { entry = record { lane = lane; ticket = ticket; command = asked.Due 7 19_730 }; refused_memory = false } ∷ []) ≡ []
+question_not_new tables state lane ticket = refl
+
+-- a first tap, a refusal, its repeat and want of memory: one reply is new
+one_of_four : filter is_new (
+    replies.Priced (record { day = 19_730; day_price = 175; week_price = 175; again = false }) ∷ replies.No refusal.Conflict
+    ∷ replies.Priced (record { day = 19_730; day_price = 175; week_price = 175; again = true }) ∷ replies.Memory ∷ []
+    ) ≡ replies.Priced (record { day = 19_730; day_price = 175; week_price = 175; again = false }) ∷ []
+one_of_four = refl

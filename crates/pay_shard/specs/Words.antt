@@ -12,6 +12,6 @@ pub use Rattle.pay_shard.specs.ShardParts.{ShardParts, shard_code, state_now, an
 pub use Rattle.pay_shard.specs.Changes.{is_priced, AreAllPriced, asked_by, AreUnmarked, accepted_asked}
 pub use Rattle.pay_shard.specs.Merges.{items_of, all_items, replies_of, IsAskedOf, AreAskedOf, IsWhole}
 pub use Rattle.pay_shard.specs.Desks.{Standing, with_waiting, DeskParts, IsForShards, IsAfterAll, IsNoneOf, without, command_under, IsReplyTo, AreKept}
-pub use Rattle.pay_shard.specs.Laws.{MergeRepliesAsShards, MergeEndsAsShards, MergeIsHistory, AnswersHaveReplies, AnswersStandAtPlaces, AskedAlikeEndsAlike, AcceptedAlikeEndsAlike, LastCommandIsUnderTicket, LastTicketWaits, StandsAsBefore}
+pub use Rattle.pay_shard.specs.Laws.{MergeRepliesAsShards, MergeEndsAsShards, MergeIsHistory, AnswersHaveReplies, AnswersStandAtPlaces, AskedAlikeEndsAlike, AcceptedAlikeEndsAlike, NewRunAlone, NewStayNew, OthersChangeNothing, NewStandBehind, LastCommandIsUnderTicket, LastTicketWaits, StandsAsBefore}
 pub use Rattle.pay_shard.specs.LocalParts.{LocalParts, local_code, commands_of, transcript_of, desk_parts, AreInPlace}
-pub use Rattle.pay_shard.specs.NewItems.{is_new, new_items}
+pub use Rattle.pay_shard.specs.NewItems.{is_new, AreAllNew, new_items}

@@ -1,6 +1,7 @@
-//! What several shards come to, what order has no effect on, and what a desk comes to that gave a reply at once. Each law is the
-//! contract of a function that does nothing: a caller whose proof needs a law calls its function.
-ghost use Rattle.pay_shard.specs.Laws.{MergeRepliesAsShards, MergeEndsAsShards, MergeIsHistory, AnswersHaveReplies, AnswersStandAtPlaces, AskedAlikeEndsAlike, AcceptedAlikeEndsAlike, LastCommandIsUnderTicket, LastTicketWaits, StandsAsBefore};
+//! What several shards come to, what order has no effect on, what the newly accepted items come to by themselves, and what a desk
+//! comes to that gave a reply at once. Each law is the contract of a function that does nothing: a caller whose proof needs a law
+//! calls its function.
+ghost use Rattle.pay_shard.specs.Laws.{MergeRepliesAsShards, MergeEndsAsShards, MergeIsHistory, AnswersHaveReplies, AnswersStandAtPlaces, AskedAlikeEndsAlike, AcceptedAlikeEndsAlike, NewRunAlone, NewStayNew, OthersChangeNothing, NewStandBehind, LastCommandIsUnderTicket, LastTicketWaits, StandsAsBefore};
 
 use crate::desk::Desk;
 
@@ -32,6 +33,22 @@ pub fn order_forgets_arrival()
 {
     pay_account::laws::order_forgets_arrival();
 }
+
+/// All that a journal came to is in its newly accepted items, those that are neither refused nor repeats: whoever keeps these
+/// alone loses nothing.
+pub fn accepted_alone()
+    // By themselves they are replied to as they were in the journal, and end where it ends.
+    ensures alone { NewRunAlone }
+
+    // So each is newly accepted once more.
+    ensures newly { NewStayNew }
+
+    // The others change nothing.
+    ensures others { OthersChangeNothing }
+
+    // Where a journal goes on, those that are newly accepted then stand behind those of before.
+    ensures behind { NewStandBehind }
+{}
 
 /// A command that a desk took last is the one under its ticket, and waits for its reply; once this is got, the desk stands as
 /// it did before.

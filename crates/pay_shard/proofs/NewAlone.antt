@@ -1,0 +1,88 @@
+-- The newly accepted items of a journal, by themselves: what is left out changes nothing.
+use Rattle.std.proofs.Common.{◌≡◌, Bool, true, false, cond, List, [], ◌∷◌, ◌++◌, Result, Ok, Err, if◌then◌else◌, refl, sym, ap, subst}
+use Rattle.std.specs.Prelude.{filter}
+use Rattle.pay_tables.specs.Words.{FareTables}
+use Rattle.pay_taps.specs.declared.tap.Tap.{Tap}
+use Rattle.pay_fix.specs.declared.fix.Fix.{Fix}
+use Rattle.pay_quotes.specs.declared.priced.Priced.{Priced}
+use Rattle.pay_account.specs.Words.{tap_result, fix_result, after_tap, after_fix}
+use Rattle.pay_account.specs.State.{State, accepted_of}
+use Rattle.pay_account.specs.declared.fares.TapFault.{TapFault}
+use Rattle.pay_account.specs.declared.fares.FixFault.{FixFault}
+use Rattle.pay_shard.specs.Machine.{step_tap_result, step_fix_result, step, marked_step, item_step}
+use Rattle.pay_shard.specs.NewItems.{is_new, AreAllNew, new_items}
+use Rattle.pay_shard.specs.Runs.{Run, reply_then, run, replay}
+use Rattle.pay_shard.specs.State.{kept}
+use Rattle.pay_shard.specs.declared.asked.Asked.{Asked}
+use Rattle.pay_shard.specs.declared.asked.Asked.TheVariants as asked
+use Rattle.pay_shard.specs.declared.item.Item.{Item}
+use Rattle.pay_shard.specs.declared.reply.Reply.{Reply}
+
+-- ---- what is not newly accepted changes nothing
+
+tap_stays : (state : State) (tap : Tap) (r : Result Priced TapFault) → is_new (step_tap_result state tap r).reply ≡ false → (step_tap_result state tap r).after ≡ state
+tap_stays state tap (Err fault) old = refl
+tap_stays state tap (Ok priced) old = ap (λ new. kept new state tap.account (after_tap (Ok priced) (accepted_of state tap.account) tap)) old
+
+fix_stays : (state : State) (fix : Fix) (r : Result Priced FixFault) → is_new (step_fix_result state fix r).reply ≡ false → (step_fix_result state fix r).after ≡ state
+fix_stays state fix (Err fault) old = refl
+fix_stays state fix (Ok priced) old = ap (λ new. kept new state fix.account (after_fix (Ok priced) (accepted_of state fix.account) fix)) old
+
+stays : (mark : Bool) (tables : FareTables) (state : State) (a : Asked) → is_new (marked_step mark tables state a).reply ≡ false → (marked_step mark tables state a).after ≡ state
+stays true tables state a old = refl
+stays false tables state (asked.Tap tap) old = tap_stays state tap (tap_result tables (accepted_of state tap.account) tap) old
+stays false tables state (asked.Fix fix) old = fix_stays state fix (fix_result tables (accepted_of state fix.account) fix) old
+stays false tables state (asked.Due account day) old = refl
+stays false tables state (asked.Show account day) old = refl
+stays false tables state (asked.Quotes day shard of) old = refl
+
+pub others_stay : (tables : FareTables) (state : State) (item : Item) → is_new (item_step tables state item).reply ≡ false → (item_step tables state item).after ≡ state
+others_stay tables state item old = stays item.refused_memory tables state item.entry.command old
+
+-- ---- so they may be left out
+
+-- of a run, what the newly accepted of it come to
+abbrev of_new : Run → Run
+of_new whole = record { replies = filter is_new whole.replies; after = whole.after }
+
+-- one item before the others, by whether it is newly accepted
+with_one : (tables : FareTables) (state : State) (item : Item) (later : List Item) (whole : Run) → run tables (item_step tables state item).after later ≡ of_new whole
+    → (b : Bool) → is_new (item_step tables state item).reply ≡ b
+    → run tables state (if b then item ∷ later else later)
+    ≡ record { replies = cond b ((item_step tables state item).reply ∷ filter is_new whole.replies) (filter is_new whole.replies); after = whole.after }
+with_one tables state item later whole rest true e = ap (reply_then (item_step tables state item).reply) rest
+with_one tables state item later whole rest false e = subst (λ s. run tables s later ≡ of_new whole) (others_stay tables state item e) rest
+
+pub run_alone : (tables : FareTables) (state : State) (items : List Item)
+    → run tables state (new_items tables state items) ≡ record { replies = filter is_new (run tables state items).replies; after = replay tables state items }
+run_alone tables state [] = refl
+run_alone tables state (item ∷ items) =
+    let next = (item_step tables state item).after in
+    with_one tables state item (new_items tables next items) (run tables next items) (run_alone tables next items) (is_new (item_step tables state item).reply) refl
+
+-- ---- each of them is newly accepted again
+
+first_new : (reply : Reply) (later : List Reply) → AreAllNew later → (b : Bool) → is_new reply ≡ b → AreAllNew (cond b (reply ∷ later) later)
+first_new reply later are true e = (e, are)
+first_new reply later are false e = are
+
+all_new : (replies : List Reply) → AreAllNew (filter is_new replies)
+all_new [] = tt
+all_new (reply ∷ later) = first_new reply (filter is_new later) (all_new later) (is_new reply) refl
+
+pub stay_new : (tables : FareTables) (state : State) (items : List Item) → AreAllNew (run tables state (new_items tables state items)).replies
+stay_new tables state items = subst (λ (r : Run). AreAllNew r.replies) (sym (run_alone tables state items)) (all_new (run tables state items).replies)
+
+-- ---- where a journal goes on
+
+one_behind : (b : Bool) (item : Item) (all first more : List Item) → all ≡ first ++ more → (if b then item ∷ all else all) ≡ (if b then item ∷ first else first) ++ more
+one_behind true item all first more e = ap (λ l. item ∷ l) e
+one_behind false item all first more e = e
+
+pub stand_behind : (tables : FareTables) (state : State) (items more : List Item)
+    → new_items tables state (items ++ more) ≡ new_items tables state items ++ new_items tables (replay tables state items) more
+stand_behind tables state [] more = refl
+stand_behind tables state (item ∷ items) more =
+    let next = (item_step tables state item).after in
+    one_behind (is_new (item_step tables state item).reply) item (new_items tables next (items ++ more)) (new_items tables next items)
+    (new_items tables (replay tables next items) more) (stand_behind tables next items more)
