@@ -18,7 +18,7 @@ use Rattle.pay_wire.specs.declared.refusal.Refusal.{Refusal}
 use Rattle.pay_jobs.specs.Machine.{Machine, Failure, Step, step, step_asks}
 use Rattle.pay_jobs.specs.Outcomes.{outcome, reply_then, tells_failure, any_failure}
 use Rattle.pay_jobs.proofs.OneRequest.{machine_at, one_steps, was_sound, transcript}
-use Rattle.pay_jobs.proofs.Tills.{IsPlain}
+use Rattle.pay_jobs.proofs.Tills.{is_keeping, IsPlain}
 
 -- what was replied
 abbrev pub replies_of : List Event → List Reply
@@ -30,6 +30,7 @@ pub record RunsTo (zone : TimeZone) (tables : FareTables) (base : State) (front 
   pub ledger_after : Option LedgerParts
   pub gives : outcome marks (machine_at zone tables base front ledger) requests ≡ record { replies = replies_of events; after = machine_at zone tables base (front ++ back) ledger_after }
   pub ample : any_failure (replies_of events) ≡ false → list_any is_some marks ≡ false
+  pub kept : list_any is_keeping marks ≡ false
   pub holds : Holds ledger_after
 
 commands_append : (xs ys : List Taken) → commands_of (xs ++ ys) ≡ commands_of xs ++ commands_of ys
@@ -83,6 +84,7 @@ module _ {T : Type 0} (Refuses : DeskFault → Type 0) (Late : Type 0) (Closes :
     ledger_after = ledger;
     gives = ap (λ l. record { replies = []; after = machine_at zone tables base l ledger }) (sym (ap (λ l. front ++ l) (none_left back commands) ∙ append-nil front));
     ample = λ e. refl;
+    kept = refl;
     holds = subst (λ t. Tells t ledger) (sym served) tells;
   }
   all_run number tables base front back journal ledger [] (e ∷ es) before after placed whole served commands said_so sound tells = absurd served
@@ -101,5 +103,6 @@ module _ {T : Type 0} (Refuses : DeskFault → Type 0) (Late : Type 0) (Closes :
         gives = ap (λ (s : Step). reply_then s.reply (outcome later.marks s.after rs)) first ∙ ap (reply_then e.reply) later.gives
             ∙ ap (λ l. record { replies = e.reply ∷ replies_of es; after = machine_at zone tables base l later.ledger_after }) (append_assoc front one.own one.rest ∙ ap (λ l. front ++ l) (sym one.parts));
         ample = λ h. let both = both_false (tells_failure e.reply) (any_failure (replies_of es)) h in or_false (is_some one.mark) (list_any is_some later.marks) (ap is_some (one.ample both.0)) (later.ample both.1);
+        kept = or_false (is_keeping one.mark) (list_any is_keeping later.marks) one.kept later.kept;
         holds = later.holds;
       }

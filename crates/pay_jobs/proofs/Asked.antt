@@ -14,9 +14,11 @@ use Rattle.pay_session.specs.Words.{asks_of, said, lacks_memory}
 use Rattle.pay_session.specs.declared.asks.Asks.{Asks}
 use Rattle.pay_session.specs.declared.asks.Asks.TheVariants as asks
 use Rattle.pay_session.specs.declared.request.Request.{Request}
-use Rattle.pay_jobs.specs.Machine.{Machine, Failure, Step, step_close, step_asks, step}
-use Rattle.pay_jobs.specs.Outcomes.{outcome, is_priced, AreAllPriced, accepted_requests}
+use Rattle.pay_wire.specs.declared.reply.Reply.TheVariants as replies
+use Rattle.pay_jobs.specs.Machine.{Machine, Failure, Memory, Store, Desk, Keeping, refusal_of_command, Step, step_close, step_asks, step}
+use Rattle.pay_jobs.specs.Outcomes.{outcome, tells_loss, is_priced, AreAllPriced, accepted_requests}
 use Rattle.pay_jobs.proofs.Closes.{of_close}
+use Rattle.pay_jobs.proofs.Tills.{is_keeping}
 
 -- ---- the commands and the items
 
@@ -132,7 +134,7 @@ ends_behind [] m (r ∷ list) =
 ends_behind (mark ∷ marks) m (r ∷ list) =
     ends_behind marks (step mark m r).after list ∙ behind_one mark m (asks_of m.zone r) (λ zone. items_for marks zone list) (outcome marks (step mark m r).after list).after.ledger
 
--- ---- where memory was wanting for nothing
+-- ---- where no command was lost
 
 true_false : true ≡ false → ⊥
 true_false e = cc
@@ -141,31 +143,78 @@ both_false : (a b : Bool) → (a || b) ≡ false → (a ≡ false) × (b ≡ fal
 both_false false b h = (refl, h)
 both_false true b h = absurd (true_false h)
 
--- no item has a mark
+-- a command that has a mark was lost, as its reply tells; if not by what keeps lines, then for memory
+lost : (failure : Failure) → tells_loss (replies.No (refusal_of_command failure)) ≡ true
+lost Memory = refl
+lost Store = refl
+lost Desk = refl
+lost Keeping = refl
+
+lacks : (failure : Failure) → is_keeping (Some failure) ≡ false → lacks_memory (replies.No (refusal_of_command failure)) ≡ true
+lacks Memory kept = refl
+lacks Store kept = refl
+lacks Desk kept = refl
+lacks Keeping kept = absurd (true_false kept)
+
+-- so no command has one
+abbrev IsNoCommand : Option Failure → Asks → Type 0
+IsNoCommand mark of = (a : Asked) → of ≡ asks.Put a → is_some mark ≡ false
+
+none_lost : (mark : Option Failure) (m : Machine) (of : Asks) → tells_loss (step_asks mark m of).reply ≡ false → IsNoCommand mark of
+none_lost None m of ample a e = refl
+none_lost (Some failure) m of ample a e = absurd (true_false (sym (lost failure) ∙ ap (λ o. tells_loss (step_asks (Some failure) m o).reply) (sym e) ∙ ample))
+
+none_lacks : (mark : Option Failure) (m : Machine) (of : Asks) → is_keeping mark ≡ false → lacks_memory (step_asks mark m of).reply ≡ false → IsNoCommand mark of
+none_lacks None m of kept ample a e = refl
+none_lacks (Some failure) m of kept ample a e = absurd (true_false (sym (lacks failure kept) ∙ ap (λ o. lacks_memory (step_asks (Some failure) m o).reply) (sym e) ∙ ample))
+
+-- and no item has one
 ample_one : (mark : Option Failure) (m : Machine) (of : Asks) (later other : TimeZone → List Item)
-    → lacks_memory (step_asks mark m of).reply ≡ false → later (step_asks mark m of).after.zone ≡ other (step_asks mark m of).after.zone
+    → IsNoCommand mark of → later (step_asks mark m of).after.zone ≡ other (step_asks mark m of).after.zone
     → item_then (is_some mark) of (later m.zone) ≡ item_then false of (other m.zone)
 ample_one None m (asks.Put a) later other ample same = ap (λ l. item_then false (asks.Put a) l) same
-ample_one (Some failure) m (asks.Put a) later other ample same = absurd (true_false ample)
+ample_one (Some failure) m (asks.Put a) later other ample same = absurd (true_false (ample a refl))
 ample_one mark m (asks.Close day) later other ample same =
     of_close (λ (s : Step). later s.after.zone ≡ other s.after.zone → later m.zone ≡ other m.zone) m (λ reply ledger plain alike. alike) mark day m.ledger same
 ample_one mark m asks.Quit later other ample same = same
 ample_one mark m (asks.No why) later other ample same = same
 
-items_alike : (marks : List (Option Failure)) (m : Machine) (list : List Request) → list_any lacks_memory (outcome marks m list).replies ≡ false → items_for marks m.zone list ≡ items_for [] m.zone list
+items_alike : (marks : List (Option Failure)) (m : Machine) (list : List Request) → list_any tells_loss (outcome marks m list).replies ≡ false → items_for marks m.zone list ≡ items_for [] m.zone list
 unfolding step
 items_alike [] m [] ample = refl
 items_alike (mark ∷ marks) m [] ample = refl
 items_alike [] m (r ∷ list) ample = refl
 items_alike (mark ∷ marks) m (r ∷ list) ample =
+    let both = both_false (tells_loss (step mark m r).reply) (list_any tells_loss (outcome marks (step mark m r).after list).replies) ample in
+    ample_one mark m (asks_of m.zone r) (λ zone. items_for marks zone list) (λ zone. items_for [] zone list) (none_lost mark m (asks_of m.zone r) both.0)
+    (items_alike marks (step mark m r).after list both.1)
+
+items_kept : (marks : List (Option Failure)) (m : Machine) (list : List Request) → list_any is_keeping marks ≡ false → list_any lacks_memory (outcome marks m list).replies ≡ false
+    → items_for marks m.zone list ≡ items_for [] m.zone list
+unfolding step
+items_kept [] m [] kept ample = refl
+items_kept (mark ∷ marks) m [] kept ample = refl
+items_kept [] m (r ∷ list) kept ample = refl
+items_kept (mark ∷ marks) m (r ∷ list) kept ample =
+    let none = both_false (is_keeping mark) (list_any is_keeping marks) kept in
     let both = both_false (lacks_memory (step mark m r).reply) (list_any lacks_memory (outcome marks (step mark m r).after list).replies) ample in
-    ample_one mark m (asks_of m.zone r) (λ zone. items_for marks zone list) (λ zone. items_for [] zone list) both.0 (items_alike marks (step mark m r).after list both.1)
+    ample_one mark m (asks_of m.zone r) (λ zone. items_for marks zone list) (λ zone. items_for [] zone list) (none_lacks mark m (asks_of m.zone r) none.0 both.0)
+    (items_kept marks (step mark m r).after list none.1 both.1)
+
+accounts_by : (marks : List (Option Failure)) (m : Machine) (list : List Request) → items_for marks m.zone list ≡ items_for [] m.zone list
+    → (outcome marks m list).after.accounts ≡ (outcome [] m list).after.accounts
+accounts_by marks m list same =
+    ap (λ (n : Machine). n.accounts) (ends_behind marks m list) ∙ ap (replay m.tables m.accounts) same ∙ sym (ap (λ (n : Machine). n.accounts) (ends_behind [] m list))
 
 -- the accounts are what they are where nothing failed
-pub accounts_alike : (marks : List (Option Failure)) (m : Machine) (list : List Request) → list_any lacks_memory (outcome marks m list).replies ≡ false
+pub accounts_alike : (marks : List (Option Failure)) (m : Machine) (list : List Request) → list_any tells_loss (outcome marks m list).replies ≡ false
     → (outcome marks m list).after.accounts ≡ (outcome [] m list).after.accounts
-accounts_alike marks m list ample =
-    ap (λ (n : Machine). n.accounts) (ends_behind marks m list) ∙ ap (replay m.tables m.accounts) (items_alike marks m list ample) ∙ sym (ap (λ (n : Machine). n.accounts) (ends_behind [] m list))
+accounts_alike marks m list ample = accounts_by marks m list (items_alike marks m list ample)
+
+-- and so where no line was to be kept, and memory was wanting for none
+pub accounts_kept : (marks : List (Option Failure)) (m : Machine) (list : List Request) → list_any is_keeping marks ≡ false → list_any lacks_memory (outcome marks m list).replies ≡ false
+    → (outcome marks m list).after.accounts ≡ (outcome [] m list).after.accounts
+accounts_kept marks m list kept ample = accounts_by marks m list (items_kept marks m list kept ample)
 
 -- ---- prices
 

@@ -24,7 +24,7 @@ use Rattle.pay_wire.specs.declared.reply.Reply.TheVariants as replies
 use Rattle.pay_jobs.specs.Ledgers.{HasLedger}
 use Rattle.pay_jobs.specs.Machine.{Machine, Failure, Memory, Store, Desk, refusal_of_failure, stays, step_closed, step_close}
 use Rattle.pay_jobs.specs.Outcomes.{tells_failure}
-use Rattle.pay_jobs.proofs.Tills.{IsOfMachine, ClosesAs}
+use Rattle.pay_jobs.proofs.Tills.{IsOfMachine, is_keeping, ClosesAs}
 
 true_false : true ≡ false → ⊥
 true_false e = cc
@@ -40,6 +40,7 @@ module _ (m : Machine) (day : ℕ) (new : State) (ledger : LedgerParts) (there :
     ledger = Some done.0;
     step = ap (step_close None m day) there ∙ ap (λ (c : BatchParts). step_closed m day (posted ledger c.quotes c.sets)) (sym all) ∙ ap (step_closed m day) done.1;
     ample = λ e. refl;
+    kept = refl;
     holds = λ live. done.2;
   }
 
@@ -56,23 +57,25 @@ module _ (m : Machine) (day : ℕ) (new : State) (ledger : LedgerParts) (there :
       step = ap (step_close None m day) there ∙ ap (λ (c : BatchParts). step_closed m day (posted ledger c.quotes c.sets)) (sym all) ∙ ap (step_closed m day) refuses
           ∙ ap (λ (r : Refusal). stays m (replies.No r)) (sym told);
       ample = λ e. refl;
+      kept = refl;
       holds = still;
     }
 
     -- or something failed
-    failed_as : (fault : Refusal) (failure : Failure) → refusal_of_failure failure ≡ fault → tells_failure (replies.No fault) ≡ true → ClosesAs m day (Err fault) (HasLedger new)
-    failed_as fault failure same shows = record {
+    failed_as : (fault : Refusal) (failure : Failure) → refusal_of_failure failure ≡ fault → tells_failure (replies.No fault) ≡ true → is_keeping (Some failure) ≡ false → ClosesAs m day (Err fault) (HasLedger new)
+    failed_as fault failure same shows kept = record {
       mark = Some failure;
       ledger = m.ledger;
       step = ap (step_close (Some failure) m day) there ∙ ap (λ (r : Refusal). stays m (replies.No r)) same;
       ample = λ e. absurd (true_false (sym shows ∙ e));
+      kept = kept;
       holds = still;
     }
 
     outside_as : (fault : Refusal) → IsTrue (is_outside fault) → ClosesAs m day (Err fault) (HasLedger new)
-    outside_as refusal.DeskFault e = failed_as refusal.DeskFault Desk refl refl
-    outside_as refusal.Store e = failed_as refusal.Store Store refl refl
-    outside_as refusal.Memory e = failed_as refusal.Memory Memory refl refl
+    outside_as refusal.DeskFault e = failed_as refusal.DeskFault Desk refl refl refl
+    outside_as refusal.Store e = failed_as refusal.Store Store refl refl refl
+    outside_as refusal.Memory e = failed_as refusal.Memory Memory refl refl refl
     outside_as refusal.OutOfTime e = absurd (true_false (sym e))
     outside_as refusal.UnknownPlace e = absurd (true_false (sym e))
     outside_as refusal.Conflict e = absurd (true_false (sym e))

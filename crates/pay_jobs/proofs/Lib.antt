@@ -9,6 +9,7 @@ pub mod Weeks
 pub mod MarkedRequests
 pub mod Asked
 pub mod ArrivalOrder
+pub mod NewRequests
 mod Counting
 pub mod Openings
 pub mod Runs

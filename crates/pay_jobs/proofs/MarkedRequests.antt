@@ -2,13 +2,12 @@
 use Rattle.std.proofs.Common.{◌≡◌, ℕ, Option, Some, None, refl, ap, ◌∙◌}
 use Rattle.pay_postings.specs.Words.{LedgerParts}
 use Rattle.pay_shard.specs.declared.asked.Asked.{Asked}
-use Rattle.pay_wire.specs.declared.refusal.Refusal.TheVariants as refusal
 use Rattle.pay_wire.specs.declared.reply.Reply.TheVariants as replies
 use Rattle.pay_session.specs.Words.{asks_of}
 use Rattle.pay_session.specs.declared.asks.Asks.{Asks}
 use Rattle.pay_session.specs.declared.asks.Asks.TheVariants as asks
 use Rattle.pay_session.specs.declared.request.Request.{Request}
-use Rattle.pay_jobs.specs.Machine.{Machine, Failure, refusal_of_failure, stays, step_close, step_asks, step}
+use Rattle.pay_jobs.specs.Machine.{Machine, Failure, refusal_of_failure, refusal_of_command, stays, step_close, step_asks, step}
 
 close_kept : (m : Machine) (failure : Failure) (day : ℕ) (ledger : Option LedgerParts) → (step_close (Some failure) m day ledger).after ≡ m
 close_kept m failure day None = refl
@@ -24,7 +23,7 @@ pub nothing_kept : (m : Machine) (r : Request) (failure : Failure) → (step (So
 unfolding step
 nothing_kept m r failure = kept_of m failure (asks_of m.zone r)
 
-pub command_refused : (m : Machine) (r : Request) (failure : Failure) (a : Asked) → asks_of m.zone r ≡ asks.Put a → step (Some failure) m r ≡ stays m (replies.No refusal.Memory)
+pub command_refused : (m : Machine) (r : Request) (failure : Failure) (a : Asked) → asks_of m.zone r ≡ asks.Put a → step (Some failure) m r ≡ stays m (replies.No (refusal_of_command failure))
 unfolding step
 command_refused m r failure a e = ap (step_asks (Some failure) m) e
 

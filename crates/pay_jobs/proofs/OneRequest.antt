@@ -26,7 +26,7 @@ use Rattle.pay_wire.specs.declared.refusal.Refusal.{Refusal}
 use Rattle.pay_jobs.specs.Machine.{Machine, Failure, Memory, Step, step_asks, with_ledger}
 use Rattle.pay_jobs.specs.Outcomes.{tells_failure}
 use Rattle.pay_jobs.proofs.Journals.{replay_behind, reply_behind, ticket_behind}
-use Rattle.pay_jobs.proofs.Tills.{IsOfMachine, IsPlain}
+use Rattle.pay_jobs.proofs.Tills.{IsOfMachine, is_keeping, IsPlain}
 
 -- the machine where a journal has come to, with its ledger
 abbrev pub machine_at : TimeZone → FareTables → State → List Item → Option LedgerParts → Machine
@@ -42,12 +42,17 @@ pub record StepsTo (zone : TimeZone) (tables : FareTables) (base : State) (front
   pub ledger_after : Option LedgerParts
   pub step : step_asks mark (machine_at zone tables base front ledger) a ≡ record { reply = event.reply; after = machine_at zone tables base (front ++ own) ledger_after }
   pub ample : tells_failure event.reply ≡ false → mark ≡ None
+  pub kept : is_keeping mark ≡ false
   pub holds : Holds ledger_after
 
 -- what failed for an item, by whether it has a mark
 abbrev mark_of : Bool → Option Failure
 mark_of true = Some Memory
 mark_of false = None
+
+never_keeping : (b : Bool) → is_keeping (mark_of b) ≡ false
+never_keeping true = refl
+never_keeping false = refl
 
 -- an item as one that has its command and its mark
 item_steps : (zone : TimeZone) (tables : FareTables) (base : State) (front : List Item) (ledger : Option LedgerParts) (item : Item) (a : Asked) → item.entry.command ≡ a
@@ -152,6 +157,7 @@ module _ (number : ℕ) (zone : TimeZone) (tables : FareTables) (base : State) (
         ledger_after = ledger;
         step = item_steps zone tables base front ledger f.item a (f.command ∙ is.same) ∙ ap (λ (r : Reply). record { reply = r; after = machine_at zone tables base (front ++ f.item ∷ []) ledger }) (sym told);
         ample = λ e. marked_lacks tables (replay tables base front) f.item (ap tells_failure (sym told) ∙ e);
+        kept = never_keeping f.item.refused_memory;
         holds = holds;
       }
 
@@ -215,9 +221,9 @@ module _ (number : ℕ) (zone : TimeZone) (tables : FareTables) (base : State) (
 -- what was not taken leaves the journal as it is
 nothing_taken : (zone : TimeZone) (tables : FareTables) (base : State) (front back : List Item) (ledger : Option LedgerParts) (a : Asks) (event : Event) (later : List (ℕ × Asked)) (Holds : Option LedgerParts → Type 0) (mark : Option Failure)
     → event.put ≡ [] → commands_of_items back ≡ commands_of event.put ++ later
-    → step_asks mark (machine_at zone tables base front ledger) a ≡ record { reply = event.reply; after = machine_at zone tables base front ledger } → (tells_failure event.reply ≡ false → mark ≡ None) → Holds ledger
+    → step_asks mark (machine_at zone tables base front ledger) a ≡ record { reply = event.reply; after = machine_at zone tables base front ledger } → (tells_failure event.reply ≡ false → mark ≡ None) → is_keeping mark ≡ false → Holds ledger
     → StepsTo zone tables base front back ledger a event later Holds
-nothing_taken zone tables base front back ledger a event later Holds mark none commands step ample holds = record {
+nothing_taken zone tables base front back ledger a event later Holds mark none commands step ample kept holds = record {
   mark = mark;
   own = [];
   rest = back;
@@ -226,6 +232,7 @@ nothing_taken zone tables base front back ledger a event later Holds mark none c
   ledger_after = ledger;
   step = step ∙ ap (λ l. record { reply = event.reply; after = machine_at zone tables base l ledger }) (sym (append-nil front));
   ample = ample;
+  kept = kept;
   holds = holds;
 }
 
@@ -237,7 +244,7 @@ refused_steps zone tables base front back ledger a event later Holds Refuses Lat
     let told : event ≡ record { reply = replies.No refusal.Memory; put = [] } = is.told ∙ ap (λ (f : DeskFault). record { reply = replies.No (refusal_of_desk f); put = [] }) (memory is.fault is.refuses) in
     nothing_taken zone tables base front back ledger (asks.Put a) event later Holds (Some Memory) (ap (λ (e : Event). e.put) told) commands
     (ap (λ (r : Reply). record { reply = r; after = machine_at zone tables base front ledger }) (ap (λ (e : Event). e.reply) (sym told)))
-    (λ e. absurd (true_false (ap tells_failure (ap (λ (e : Event). e.reply) (sym told)) ∙ e))) holds
+    (λ e. absurd (true_false (ap tells_failure (ap (λ (e : Event). e.reply) (sym told)) ∙ e))) refl holds
 
 -- ---- one request
 
@@ -260,6 +267,7 @@ module _ {T : Type 0} (Refuses : DeskFault → Type 0) (Late : Type 0) (Closes :
         step = c.step ∙ ap (λ (r : Reply). record { reply = r; after = with_ledger m c.ledger }) (sym is.told)
             ∙ ap (λ (s : State). record { reply = event.reply; after = record { zone = zone; tables = tables; accounts = s; ledger = c.ledger } }) (sym p.same);
         ample = λ e. c.ample (ap tells_failure (sym is.told) ∙ e);
+        kept = c.kept;
         holds = c.holds;
       }
 
@@ -275,10 +283,10 @@ module _ {T : Type 0} (Refuses : DeskFault → Type 0) (Late : Type 0) (Closes :
       closed_steps number zone tables base front back journal ledger day event later before after placed whole is commands said_so sound tells
   one_steps number zone tables base front back journal ledger asks.Quit event later before after placed whole is commands said_so sound tells =
       nothing_taken zone tables base front back ledger asks.Quit event later (Tells after) None (ap (λ (e : Event). e.put) is.0) commands
-      (ap (λ (r : Reply). record { reply = r; after = machine_at zone tables base front ledger }) (ap (λ (e : Event). e.reply) (sym is.0))) (λ e. refl) (subst (λ t. Tells t ledger) (sym is.1) tells)
+      (ap (λ (r : Reply). record { reply = r; after = machine_at zone tables base front ledger }) (ap (λ (e : Event). e.reply) (sym is.0))) (λ e. refl) refl (subst (λ t. Tells t ledger) (sym is.1) tells)
   one_steps number zone tables base front back journal ledger (asks.No why) event later before after placed whole is commands said_so sound tells =
       nothing_taken zone tables base front back ledger (asks.No why) event later (Tells after) None (ap (λ (e : Event). e.put) is.0) commands
-      (ap (λ (r : Reply). record { reply = r; after = machine_at zone tables base front ledger }) (ap (λ (e : Event). e.reply) (sym is.0))) (λ e. refl) (subst (λ t. Tells t ledger) (sym is.1) tells)
+      (ap (λ (r : Reply). record { reply = r; after = machine_at zone tables base front ledger }) (ap (λ (e : Event). e.reply) (sym is.0))) (λ e. refl) refl (subst (λ t. Tells t ledger) (sym is.1) tells)
 
   -- what a till keeps could be told before a request where it can be after it
   pub was_sound : (zone : TimeZone) (a : Asks) (event : Event) (before after : T) → IsServedAs 1 Refuses Late Closes a event before after → Sound after → Sound before

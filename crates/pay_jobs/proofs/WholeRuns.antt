@@ -33,7 +33,7 @@ use Rattle.pay_jobs.specs.Outcomes.{Outcome, outcome, reply_then, text_of}
 use Rattle.pay_jobs.specs.LineRuns.{ComesTo, Ends, StopsReading, StopsWriting, FailsSo}
 use Rattle.pay_jobs.specs.Week.{TellsWeek}
 use Rattle.pay_jobs.proofs.AllRequests.{RunsTo, replies_of, all_run}
-use Rattle.pay_jobs.proofs.Asked.{accounts_alike}
+use Rattle.pay_jobs.proofs.Asked.{accounts_kept}
 use Rattle.pay_jobs.proofs.LedgerCloses.{ledger_closes, was_clean}
 use Rattle.pay_jobs.proofs.OneRequest.{machine_at}
 use Rattle.pay_jobs.proofs.Tills.{ClosesAs, IsPlain}
@@ -209,7 +209,7 @@ module _ {T : Type 0} (Refuses : DeskFault → Type 0) (Late : Type 0) (Closes :
   accounts_after tables shard before after ledger requests events fresh sound tells s ample =
       let r = runs shard before after ledger requests events fresh.in_place sound tells s in
       let replies : list_any lacks_memory (outcome r.marks (first shard ledger) requests).replies ≡ false = ap (λ (o : Outcome). list_any lacks_memory o.replies) r.gives ∙ sym (any_alike events) ∙ ample in
-      ap (λ (m : Machine). (outcome [] m requests).after.accounts) (sym (begins tables shard ledger fresh)) ∙ sym (accounts_alike r.marks (first shard ledger) requests replies)
+      ap (λ (m : Machine). (outcome [] m requests).after.accounts) (sym (begins tables shard ledger fresh)) ∙ sym (accounts_kept r.marks (first shard ledger) requests r.kept replies)
       ∙ ap (λ (o : Outcome). o.after.accounts) r.gives
 
   -- what an account has of a week after it
@@ -237,6 +237,7 @@ not_here m day result is none = record {
   ledger = m.ledger;
   step = ap (step_close None m day) none ∙ ap (λ (r : Result (List Posting) Refusal). stays m (said_of_close day r)) (sym is);
   ample = λ e. refl;
+  kept = refl;
   holds = none;
 }
 

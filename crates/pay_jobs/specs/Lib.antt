@@ -2,6 +2,7 @@ pub mod Laws
 pub mod Ledgers
 pub mod Machine
 pub mod Outcomes
+pub mod Journals
 pub mod LineRuns
 pub mod Week
 pub mod Faults

@@ -37,11 +37,13 @@ with_accounts m accounts = record { zone = m.zone; tables = m.tables; accounts =
 abbrev pub with_ledger : Machine → Option LedgerParts → Machine
 with_ledger m ledger = record { zone = m.zone; tables = m.tables; accounts = m.accounts; ledger = ledger }
 
--- What may fail for a request, which no rule decides: memory for it, the store of the ledger, or the desk's quotes for a close.
+-- What may fail for a request, which no rule decides: memory for it, the store of the ledger, the desk's quotes for a close, or what
+-- keeps the lines that are accepted.
 pub data Failure : Type 0 where
   Memory : Failure
   Store : Failure
   Desk : Failure
+  Keeping : Failure
 
 -- the reply to a request, and the machine after it
 pub record Step : Type 0 where
@@ -58,11 +60,12 @@ step_of m s = record { reply = said s.reply; after = with_accounts m s.after }
 
 -- ---- closes
 
--- a failure, as a line says it
+-- a failure, as a close tells it: a desk that can keep nothing gives no quotes
 abbrev pub refusal_of_failure : Failure → Refusal
 refusal_of_failure Memory = refusal.Memory
 refusal_of_failure Store = refusal.Store
 refusal_of_failure Desk = refusal.DeskFault
+refusal_of_failure Keeping = refusal.DeskFault
 
 -- what a close comes to: the day's postings and another ledger, or a refusal
 abbrev pub step_closed : Machine → ℕ → Result (List Posting × LedgerParts) PostFault → Step
@@ -77,11 +80,17 @@ step_close None m day (Some ledger) = step_closed m day (close m.tables (record 
 
 -- ---- a request
 
--- A command is answered by the accounts. It takes memory alone: where something fails for it, want of memory is the reply, and
--- nothing changes.
+-- a failure, as a command tells it: what is accepted was not kept, and otherwise it takes memory alone
+abbrev pub refusal_of_command : Failure → Refusal
+refusal_of_command Memory = refusal.Memory
+refusal_of_command Store = refusal.Memory
+refusal_of_command Desk = refusal.Memory
+refusal_of_command Keeping = refusal.NotKept
+
+-- A command is answered by the accounts. Where something fails for it, that is the reply, and nothing changes.
 abbrev pub step_command : Option Failure → Machine → Asked → Step
 step_command None m a = step_of m (shard_step m.tables m.accounts a)
-step_command (Some failure) m a = stays m (replies.No refusal.Memory)
+step_command (Some failure) m a = stays m (replies.No (refusal_of_command failure))
 
 -- by what a request comes to
 abbrev pub step_asks : Option Failure → Machine → Asks → Step
@@ -102,6 +111,13 @@ refused_late m account version through = refl
 
 store_fails : (m : Machine) (ledger : LedgerParts) → step_close (Some Store) m 19_730 (Some ledger) ≡ stays m (replies.No refusal.Store)
 store_fails m ledger = refl
+
+-- a tap that was not kept is told so, and is not in the accounts; a close is then refused as where the desk fails
+not_kept : (m : Machine) (a : Asked) → step_asks (Some Keeping) m (asks.Put a) ≡ stays m (replies.No refusal.NotKept)
+not_kept m a = refl
+
+no_quotes_kept : (m : Machine) (ledger : LedgerParts) → step_close (Some Keeping) m 19_730 (Some ledger) ≡ stays m (replies.No refusal.DeskFault)
+no_quotes_kept m ledger = refl
 
 -- a day of which nobody is quoted is closed without a posting, and the ledger is then as it was
 nobody_quoted : (m : Machine) (ledger : LedgerParts) → step_closed m 19_730 (Ok ([], ledger)) ≡ record { reply = replies.Closed (record { day = 19_730; postings = [] }); after = with_ledger m (Some ledger) }

@@ -32,16 +32,23 @@ text_of = flat_map spelling_of_reply
 
 -- ---- failures
 
--- whether a reply tells of a failure: 43, 44 and 90
+-- whether a reply tells of a failure: 43, 44, 48 and 90
 abbrev pub tells_failure : Reply → Bool
 tells_failure (replies.No refusal.Store) = true
 tells_failure (replies.No refusal.DeskFault) = true
+tells_failure (replies.No refusal.NotKept) = true
 tells_failure (replies.No refusal.Memory) = true
 tells_failure _ = false
 
 -- or any of these
 abbrev pub any_failure : List Reply → Bool
 any_failure = list_any tells_failure
+
+-- whether it tells that a command was lost by one: 48 and 90
+abbrev pub tells_loss : Reply → Bool
+tells_loss (replies.No refusal.NotKept) = true
+tells_loss (replies.No refusal.Memory) = true
+tells_loss _ = false
 
 -- ---- prices
 
@@ -74,3 +81,10 @@ late_close = refl
 
 failed_close : any_failure (replies.Bye ∷ replies.No refusal.Store ∷ []) ≡ true
 failed_close = refl
+
+-- by which no command is lost, as one is that was not kept
+no_command_lost : list_any tells_loss (replies.Bye ∷ replies.No refusal.Store ∷ []) ≡ false
+no_command_lost = refl
+
+command_lost : list_any tells_loss (replies.Bye ∷ replies.No refusal.NotKept ∷ []) ≡ true
+command_lost = refl

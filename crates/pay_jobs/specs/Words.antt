@@ -6,6 +6,7 @@ pub use Rattle.pay_jobs.specs.Check.{CheckEnds, CheckFails}
 pub use Rattle.pay_jobs.specs.Statement.{StatementEnds, StatementFails}
 pub use Rattle.pay_day.specs.Words.{IsDay}
 pub use Rattle.pay_jobs.specs.Machine.{Machine, new_machine}
+pub use Rattle.pay_jobs.specs.Journals.{new_requests, machine_of, GivesBack}
 pub use Rattle.pay_jobs.specs.Ledgers.{HasLedger}
 pub use Rattle.pay_jobs.specs.LineRuns.{Ends, FailsSo}
 pub use Rattle.pay_jobs.specs.Week.{TellsWeek, WeekFails}

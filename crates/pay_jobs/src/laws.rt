@@ -2,25 +2,24 @@
 //! proof needs a law calls its function.
 ghost use Rattle.std.specs.Prelude.{◌≡◌, Some};
 ghost use Rattle.pay_shard.specs.declared.asked.Asked.{Asked};
-ghost use Rattle.pay_wire.specs.declared.refusal.Refusal.TheVariants as refusal;
 ghost use Rattle.pay_wire.specs.declared.reply.Reply.TheVariants.{No};
 ghost use Rattle.pay_session.specs.Words.{asks_of};
 ghost use Rattle.pay_session.specs.declared.asks.Asks.TheVariants.{Put};
 ghost use Rattle.pay_session.specs.declared.request.Request.{Request};
-ghost use Rattle.pay_jobs.specs.Machine.{Machine, Failure, stays, step};
+ghost use Rattle.pay_jobs.specs.Machine.{Machine, Failure, refusal_of_command, stays, step};
 ghost use Rattle.pay_jobs.specs.Laws.{FailedCloseTells, OthersNeverFail, FailuresLeaveAccounts, AskedAlikeEndsAlike, AcceptedAlikeEndsAlike};
+ghost use Rattle.pay_jobs.specs.Laws.{NewReplayAlone, NewStayNew, NewReplayInAnyOrder, CutLeavesFront, FrontReplaysAsCut, KeptGivesBack, KeptInAnyOrder};
 
-/// Where memory, the store or the desk fails for a request, no tap and no correction is kept, and nothing is posted. A command
-/// is then answered by `NO 90 Memory`, a close by what failed, and all else as ever.
+/// Where memory, the store, the desk or what keeps lines fails for a request, no tap and no correction is in the accounts, and
+/// nothing is posted. A command is then answered by `NO 48 NotKept` or `NO 90 Memory`, a close by what failed, and all else as ever.
 pub fn failures_change_nothing()
     ensures kept { (m : Machine) (r : Request) (failure : Failure) → (step (Some failure) m r).after ≡ m }
-    ensures command { (m : Machine) (r : Request) (failure : Failure) (a : Asked) → asks_of m.zone r ≡ Put a → step (Some failure) m r ≡ stays m (No refusal.Memory) }
+    ensures command { (m : Machine) (r : Request) (failure : Failure) (a : Asked) → asks_of m.zone r ≡ Put a → step (Some failure) m r ≡ stays m (No (refusal_of_command failure)) }
     ensures close { FailedCloseTells }
     ensures others { OthersNeverFail }
 {}
 
-/// What fails for a close concerns the ledger alone: if memory ran out for nothing, the accounts are what they are
-/// where nothing failed.
+/// What fails for a close concerns the ledger alone: if no reply is 48 or 90, the accounts are what they are where nothing failed.
 pub fn failed_closes_leave_the_accounts()
     ensures { FailuresLeaveAccounts }
 {}
@@ -35,4 +34,33 @@ pub fn order_forgets_arrival()
     ensures among_others { AcceptedAlikeEndsAlike }
 {
     pay_shard::laws::order_forgets_arrival();
+}
+
+/// A journal of the newly accepted requests of a run gives its accounts back: nothing that was answered is lost with the rest. Over
+/// the ledger as the run left it, it gives back the whole machine.
+pub fn journals()
+    // One journal: by themselves its requests are answered as they were in the run, whatever failed there, and end with its accounts.
+    ensures one { NewReplayAlone }
+
+    // So each is newly accepted once more.
+    ensures newly { NewStayNew }
+
+    // Many journals: a list that has the same requests, in whatever order, and some of them repeated, is accepted and ends so too.
+    ensures many { NewReplayInAnyOrder }
+
+    // A journal that has only its first requests is that of the run that was cut behind the last of these,
+    ensures cut { CutLeavesFront }
+
+    // and gives back the accounts that this run ended with.
+    ensures front { FrontReplaysAsCut }
+
+    // Where a session began with what a journal gives back, and put what it newly accepted behind it, the journal gives back where
+    // the session ended: so many sessions are as one.
+    ensures goes_on { KeptGivesBack }
+
+    // And the order in which a journal has its requests makes no difference.
+    ensures any_order { KeptInAnyOrder }
+{
+    order_forgets_arrival();
+    pay_shard::laws::accepted_alone();
 }
