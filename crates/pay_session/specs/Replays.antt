@@ -66,12 +66,12 @@ module _ {D O : Type 0} (zone : TimeZone) (parts : D → DeskParts O) (before af
       (sides parts (before, tt) (after, tt))
 
   -- none of them is barred
-  abbrev pub AreOpen : List Request → Type 0
-  AreOpen = AllByRecursion (λ (r : Request). is_barred (asks_of zone r) ≡ false)
+  abbrev pub NoneIsBarred : List Request → Type 0
+  NoneIsBarred = AllByRecursion (λ (r : Request). is_barred (asks_of zone r) ≡ false)
 
   -- none is barred, and each was answered by prices
   abbrev pub AreAccepted : List Request → List Event → Type 0
-  AreAccepted list events = AreHanded list events × AreOpen list × AllByRecursion (λ (e : Event). IsPriced e.reply) events
+  AreAccepted list events = AreHanded list events × NoneIsBarred list × AllByRecursion (λ (e : Event). IsPriced e.reply) events
 
   -- All whole lines of a text were accepted, and were so many, of so many bytes.
   pub record IsReplayed (text : List ℕ) (it : Replayed) : Type 0 where
@@ -94,7 +94,7 @@ module _ {D O : Type 0} (zone : TimeZone) (parts : D → DeskParts O) (before af
     pub requests : line_requests text ≡ done ++ request ∷ others
     pub counted : line ≡ length done + 1
     pub events : List Event
-    pub opens : AreOpen done
+    pub unbarred : NoneIsBarred done
     pub priced : AllByRecursion (λ (e : Event). IsPriced e.reply) events
     pub ended : IsEndedBy done events request why
 

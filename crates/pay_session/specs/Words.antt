@@ -9,5 +9,5 @@ pub use Rattle.pay_session.specs.Serving.{IsWithin, IsClosedAt}
 unfoldable pub use Rattle.pay_session.specs.Serving.{MaySometimeRefuse, MaySometimeBeLate}
 pub use Rattle.pay_session.specs.Session.{Sides, IsSession, EndsSo, StopsReading, StopsWriting, FailsSo, sides, Ends, Fails}
 pub use Rattle.pay_session.specs.Stops.{IsBroken}
-pub use Rattle.pay_session.specs.Replays.{is_barred, IsPriced, why_ended, ClosesNothing, AreHanded, AreOpen, AreAccepted, IsReplayed, IsEndedBy, IsEndedAt, IsEnded}
+pub use Rattle.pay_session.specs.Replays.{is_barred, IsPriced, why_ended, ClosesNothing, AreHanded, NoneIsBarred, AreAccepted, IsReplayed, IsEndedBy, IsEndedAt, IsEnded}
 pub use Rattle.pay_session.specs.CommandLines.{lines_of, IsCutTo, LinesAreReadBack, CutLinesAreRead, OneLineIsLost}
