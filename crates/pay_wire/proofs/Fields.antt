@@ -59,3 +59,25 @@ two_are e f i = e i ++ f i
 
 pub number_is : (l : List ℕ) {a b : ℕ} → a ≡ b → l ++ 32 ∷ decimal a ≡ l ++ 32 ∷ decimal b
 number_is l e i = l ++ 32 ∷ decimal (e i)
+
+-- two words put behind one, and three, and four, each put behind the line so far
+pub two_words : (w a b : List ℕ) → (w ++ 32 ∷ a) ++ 32 ∷ b ≡ join_with_byte 32 (w ∷ a ∷ b ∷ [])
+two_words w a b = step w a b
+
+last_field : (l a : List ℕ) → l ++ 32 ∷ a ≡ l ++ text_of_fields (a ∷ [])
+last_field l a = ap (λ (t : List ℕ). l ++ t) (sym (append-nil (32 ∷ a)))
+
+pub three_more : (l a b c : List ℕ) → ((l ++ 32 ∷ a) ++ 32 ∷ b) ++ 32 ∷ c ≡ l ++ text_of_fields (a ∷ b ∷ c ∷ [])
+three_more l a b c = last_field ((l ++ 32 ∷ a) ++ 32 ∷ b) c ∙ one_more (l ++ 32 ∷ a) b (c ∷ []) ∙ one_more l a (b ∷ c ∷ [])
+
+pub four_more : (l a b c d : List ℕ) → (((l ++ 32 ∷ a) ++ 32 ∷ b) ++ 32 ∷ c) ++ 32 ∷ d ≡ l ++ text_of_fields (a ∷ b ∷ c ∷ d ∷ [])
+four_more l a b c d = three_more (l ++ 32 ∷ a) b c d ∙ one_more l a (b ∷ c ∷ d ∷ [])
+
+-- a word and six fields, each put behind the line so far
+pub six_fields : (w a b c d e f : List ℕ) → (((((w ++ 32 ∷ a) ++ 32 ∷ b) ++ 32 ∷ c) ++ 32 ∷ d) ++ 32 ∷ e) ++ 32 ∷ f ≡ join_with_byte 32 (w ∷ a ∷ b ∷ c ∷ d ∷ e ∷ f ∷ [])
+six_fields w a b c d e f =
+    ap (λ (t : List ℕ). t ++ 32 ∷ f) (quote_fields w a b c d e) ∙ last_field (w ++ text_of_fields (a ∷ b ∷ c ∷ d ∷ e ∷ [])) f ∙ two_pieces w (a ∷ b ∷ c ∷ d ∷ e ∷ []) (f ∷ [])
+
+-- a word and three fields, each put behind the line so far, and further ones
+pub three_and_more : (w a b c : List ℕ) (ws : List (List ℕ)) → (((w ++ 32 ∷ a) ++ 32 ∷ b) ++ 32 ∷ c) ++ text_of_fields ws ≡ join_with_byte 32 (w ∷ a ∷ b ∷ c ∷ ws)
+three_and_more w a b c ws = one_more ((w ++ 32 ∷ a) ++ 32 ∷ b) c ws ∙ one_more (w ++ 32 ∷ a) b (c ∷ ws) ∙ one_more w a (b ∷ c ∷ ws) ∙ first_and_fields w (a ∷ b ∷ c ∷ ws)

@@ -173,7 +173,7 @@ fn render_refusal(refusal: Refusal) -> SpelledLine
 }
 
 /// A line that begins so.
-fn started(text: &[u8]) -> SpelledLine
+pub(crate) fn started(text: &[u8]) -> SpelledLine
     requires { length text.now ≤ REPLY_BYTES }
     ensures { result.items ≡ text.now }
 {
@@ -208,7 +208,7 @@ fn put_number<I: Integer>(line: &mut SpelledLine, number: I)
 }
 
 /// Puts a space and a number at the end of a line.
-fn put_field<I: Integer>(line: &mut SpelledLine, number: I)
+pub(crate) fn put_field<I: Integer>(line: &mut SpelledLine, number: I)
     requires short { I.MAX_STR_LEN ≤ NUMBER_BYTES }
     requires room { array_vec_len line.old + 1 + NUMBER_BYTES ≤ REPLY_BYTES }
     ensures items { line.new.items ≡ line.old.items ++ 32 ∷ I.text number }
@@ -251,7 +251,7 @@ fn put_share<I: Integer>(line: &mut SpelledLine, place: usize, share: I)
 }
 
 /// Puts bytes at the end of a line.
-fn put(line: &mut SpelledLine, text: &[u8])
+pub(crate) fn put(line: &mut SpelledLine, text: &[u8])
     requires { array_vec_len line.old + length text.now ≤ REPLY_BYTES }
     ensures items { line.new.items ≡ line.old.items ++ text.now }
     ensures len { array_vec_len line.new ≡ array_vec_len line.old + length text.now }
