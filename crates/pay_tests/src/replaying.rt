@@ -14,19 +14,6 @@ use std::process::Abort;
 const KEPT: &str =
     "TAP 1 1 7 1704697200 50 BUS\nTAP 1 2 7 1704700200 50 BUS\nTAP 1 3 7 1704702200 50 BUS\nTAP 1 2 7 1704700200 50 BUS\nFIX 3 1 7 VOID 1 2\nTAP 1 4 7 1704696200 50 BUS";
 
-/// The first two of these, and a line behind them that is not accepted.
-static REFUSED: [(&str, Refusal); 9] = [
-    ("SHOW 7 19730\n", Refusal::BadLine),
-    ("DUE 7 19730\n", Refusal::BadLine),
-    ("CLOSE 19730\n", Refusal::BadLine),
-    ("QUIT\n", Refusal::BadLine),
-    ("\n", Refusal::BadLine),
-    ("TAP 1 4 7 4294967295 50 BUS\n", Refusal::OutOfTime),
-    ("TAP 1 4 7 1704696200 9 BUS\n", Refusal::UnknownPlace),
-    ("TAP 1 2 7 1704700201 50 BUS\n", Refusal::Conflict),
-    ("FIX 3 1 7 CREDIT 50001 1\n", Refusal::BadLine),
-];
-
 /// How a replay over a desk ends.
 fn replayed<R: Abort>(
     rt: &R,
@@ -59,18 +46,42 @@ fn replays_whole_lines_and_repeats(rt: HostRuntime) {
     expect_same(&rt, replayed(&rt, &mut desk, ""), Ok(none));
 }
 
-/// A replay ends at the third line, and more lines behind it are not looked at.
-fn expect_ended<R: Abort + AllocGlobal>(rt: &R, line: &str, why: Refusal) {
+/// A replay over a desk with no accounts ends at the second line of a text.
+fn expect_ended<R: Abort + AllocGlobal>(rt: &R, text: &str, why: Refusal) {
     let mut desk = empty_desk(rt, sample(rt));
-    let first = &KEPT[..56];
-    let text = format!(in rt.alloc(); "{first}{line}QUIT\n").expect(rt, "memory");
-    let ended = Err(ReplayFault::Line { line: 3, why });
-    expect_same(rt, replayed(rt, &mut desk, &text), ended);
+    let ended = Err(ReplayFault::Line { line: 2, why });
+    expect_same(rt, replayed(rt, &mut desk, text), ended);
 }
 
 #[test]
-fn ends_at_the_line_that_is_not_accepted(rt: HostRuntime) {
-    for (line, why) in REFUSED {
-        expect_ended(&rt, line, why);
-    }
+fn ends_at_a_line_that_is_barred(rt: HostRuntime) {
+    let bad = Refusal::BadLine;
+    expect_ended(
+        &rt,
+        "TAP 1 1 7 1704697200 50 BUS\nSHOW 7 19730\nQUIT\n",
+        bad,
+    );
+    expect_ended(&rt, "TAP 1 1 7 1704697200 50 BUS\nDUE 7 19730\n", bad);
+    expect_ended(&rt, "TAP 1 1 7 1704697200 50 BUS\nCLOSE 19730\n", bad);
+    expect_ended(&rt, "TAP 1 1 7 1704697200 50 BUS\nQUIT\n", bad);
+}
+
+#[test]
+fn ends_at_a_line_that_is_refused(rt: HostRuntime) {
+    expect_ended(&rt, "TAP 1 1 7 1704697200 50 BUS\n\n", Refusal::BadLine);
+    expect_ended(
+        &rt,
+        "TAP 1 1 7 1704697200 50 BUS\nTAP 1 2 7 4294967295 50 BUS\n",
+        Refusal::OutOfTime,
+    );
+    expect_ended(
+        &rt,
+        "TAP 1 1 7 1704697200 50 BUS\nTAP 1 2 7 1704697200 9 BUS\n",
+        Refusal::UnknownPlace,
+    );
+    expect_ended(
+        &rt,
+        "TAP 1 1 7 1704697200 50 BUS\nTAP 1 1 7 1704697201 50 BUS\n",
+        Refusal::Conflict,
+    );
 }
