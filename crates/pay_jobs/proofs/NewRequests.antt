@@ -15,7 +15,7 @@ use Rattle.pay_session.specs.Words.{asks_of, said}
 use Rattle.pay_session.specs.declared.asks.Asks.{Asks}
 use Rattle.pay_session.specs.declared.asks.Asks.TheVariants as asks
 use Rattle.pay_session.specs.declared.request.Request.{Request}
-use Rattle.pay_jobs.specs.Journals.{is_new, AreAllNew, new_requests, up_to_new, cut_behind, of_new, machine_of, GivesBack}
+use Rattle.pay_jobs.specs.Journals.{is_new, AreAllNew, new_requests, cut_behind, of_new, GivesBack}
 use Rattle.pay_jobs.specs.Laws.{AskedAlikeEndsAlike}
 use Rattle.pay_jobs.specs.Machine.{Machine, Failure, Step, new_machine, with_ledger, step_asks, step}
 use Rattle.pay_jobs.specs.Outcomes.{Outcome, outcome, reply_then, is_priced, AreAllPriced}

@@ -9,7 +9,7 @@ use Rattle.pay_account.specs.Words.{tap_result, fix_result, after_tap, after_fix
 use Rattle.pay_account.specs.State.{State, accepted_of}
 use Rattle.pay_account.specs.declared.fares.TapFault.{TapFault}
 use Rattle.pay_account.specs.declared.fares.FixFault.{FixFault}
-use Rattle.pay_shard.specs.Machine.{step_tap_result, step_fix_result, step, marked_step, item_step}
+use Rattle.pay_shard.specs.Machine.{step_tap_result, step_fix_result, marked_step, item_step}
 use Rattle.pay_shard.specs.NewItems.{is_new, AreAllNew, new_items}
 use Rattle.pay_shard.specs.Runs.{Run, reply_then, run, replay}
 use Rattle.pay_shard.specs.State.{kept}
