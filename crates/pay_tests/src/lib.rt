@@ -22,6 +22,8 @@ mod faults;
 #[cfg(test)]
 mod fixes;
 #[cfg(test)]
+mod full;
+#[cfg(test)]
 mod given;
 #[cfg(test)]
 mod journals;
