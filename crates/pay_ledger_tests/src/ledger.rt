@@ -141,7 +141,7 @@ fn account_told<R: Abort>(rt: &R, account: &Account, tables: &Tables) -> (u32, u
     (quote.account(), quote.version(), quote.due().pence())
 }
 
-const NO_MEMORY: LedgerFault = LedgerFault::Refused(PostFault::Memory);
+pub const NO_MEMORY: LedgerFault = LedgerFault::Refused(PostFault::Memory);
 
 /// So a refusal is the store's, or for memory, if that may be refused. Then it is told.
 pub fn expect_by_store<R: Abort + AllocGlobal>(

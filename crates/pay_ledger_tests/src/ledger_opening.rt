@@ -3,10 +3,10 @@
 ghost use Rattle.std.specs.Prelude.{◌≡◌};
 
 use crate::accounts::expect_price;
-use crate::given::{MAY_BE_REFUSED, MAY_NOT_BE, expect_same, sample, tap_at, tell};
+use crate::given::{MAY_BE_REFUSED, MAY_NOT_BE, WAS_REFUSED, expect_same, sample, tap_at, tell};
 use crate::ledger::{
-    JOURNEY, empty_ledger, expect_by_store, expect_posted, expect_restored, expect_rows, opened,
-    owed,
+    JOURNEY, NO_MEMORY, empty_ledger, expect_by_store, expect_posted, expect_restored, expect_rows,
+    opened, owed,
 };
 use crate::lines::expect_run;
 use pay_account::{Account, Fares};
@@ -130,17 +130,34 @@ fn expect_not_posted<R: Abort + AllocGlobal>(rt: &R, ledger: &mut Ledger<MemStor
 
 const BAD: LedgerFault = LedgerFault::Refused(PostFault::BadArchive);
 
-/// Nothing is restored from a ledger with such a row.
+/// Nothing is restored from a ledger with such a row, at the second time where memory is refused at the first. No account accepts the row,
+/// so all that grows of our own is the list that is read, and only want of memory for that is told.
 fn expect_not_restored<R: Abort + AllocGlobal>(rt: &R, sql: &str) {
     let mut ledger = opened(rt, changed(rt, sql));
-    let accounts: Result<Vec<Account>, LedgerFault> = ledger.restore(&sample(rt));
-    expect_same(rt, accounts.err(), Some(BAD));
+    let tables = sample(rt);
+    tell(rt, MAY_BE_REFUSED);
+    let first: Result<Vec<Account>, LedgerFault> = ledger.restore(&tables);
+    tell(rt, MAY_NOT_BE);
+    let mut fault = first.err();
+    if fault == Some(NO_MEMORY) {
+        tell(rt, WAS_REFUSED);
+    }
+    if fault == Some(NO_MEMORY) || fault == Some(LedgerFault::Store) {
+        let second: Result<Vec<Account>, LedgerFault> = ledger.restore(&tables);
+        fault = second.err();
+    }
+    expect_same(rt, fault, Some(BAD));
 }
 
-// A correction of no form, and a tap at a route that there is not.
+// Of no form.
 #[test]
-fn restores_no_bad_archive(rt: HostRuntime) {
+fn restores_no_bad_correction(rt: HostRuntime) {
     expect_not_restored(&rt, "INSERT INTO fixes VALUES (7, 3, 1, 4, 1, 1, 0, 0, 0)");
+}
+
+// At a route that there is not.
+#[test]
+fn restores_no_bad_tap(rt: HostRuntime) {
     expect_not_restored(
         &rt,
         "INSERT INTO taps VALUES (7, 1, 1, 1704697200, 19730, 25200, 51, 2)",
