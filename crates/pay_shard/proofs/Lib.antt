@@ -5,6 +5,7 @@ pub mod AskedChanges
 pub mod Batches
 pub mod Blocks
 pub mod FirstOnes
+pub mod JournalFronts
 pub mod Journals
 pub mod LocalDesks
 pub mod Merging

@@ -3,12 +3,12 @@ use Rattle.std.proofs.Common.{◌≡◌, inl, inr, ℕ, zero, suc, ◌+◌, ◌<
 use Rattle.std.specs.List.{AllByRecursion, IsDistinct, find, position, position_or_len, remove, slice_get, slice_index_or}
 use Rattle.std.specs.Option.{option_map}
 use Rattle.std.proofs.lemmas.Bool.{lt-ltb, eqb-true, eq-eqb}
-use Rattle.std.specs.Prelude.{if◌then◌else◌}
+use Rattle.std.specs.Prelude.{if◌then◌else◌, IfSome}
 use Rattle.std.proofs.lemmas.List.{map-append}
 use Rattle.pay_numbered.specs.Words.{IsIn}
 use Rattle.pay_tables.specs.Words.{FareTables}
 use Rattle.pay_shard.specs.Desks.{IsAfterAll, IsNoneOf, without, command_under, IsReplyTo, AreKept}
-use Rattle.pay_shard.specs.LocalParts.{commands_of, transcript_of, AreInPlace, tickets_of, AreDistinct, AreOfRun, answers_without, IsLocal}
+use Rattle.pay_shard.specs.LocalParts.{commands_of, transcript_of, AreInPlace, AreBelow, IsTaken, tickets_of, AreDistinct, AreOfRun, answers_without, IsLocal}
 use Rattle.pay_shard.specs.Machine.{item_step}
 use Rattle.pay_shard.specs.Runs.{answer_at, answers_from}
 use Rattle.pay_shard.specs.ShardParts.{ShardParts, answers_given, next_answer, item_of, with_item, with_room}
@@ -136,6 +136,27 @@ module _ (ticket : ℕ) where
       by true is rest e = ap (λ n. option_map (λ (a : Answer). a.reply) (transcript_of s n)) (sym (eqb-true a.ticket ticket is)) ∙ ap (option_map (λ (a : Answer). a.reply)) of.0 ∙ e
       by false off rest e = rest e
 
+  pub answer_found : (s : ShardParts) (answers : List Answer) (answer : Answer) → AreOfRun s answers → find is_its answers ≡ Some answer → transcript_of s ticket ≡ Some answer
+  answer_found s [] answer of e = absurd (cc)
+  answer_found s (a ∷ answers) answer of e = by (a.ticket == ticket) refl (answer_found s answers answer of.1) e
+    where
+      by : (b : Bool) → (a.ticket == ticket) ≡ b → (find is_its answers ≡ Some answer → transcript_of s ticket ≡ Some answer) → cond b (Some a) (find is_its answers) ≡ Some answer → transcript_of s ticket ≡ Some answer
+      by true is rest e = ap (transcript_of s) (sym (eqb-true a.ticket ticket is)) ∙ of.0 ∙ e
+      by false off rest e = rest e
+
+  pub answer_of_found : {X : Type 0} (now : X → Answer) (s : ShardParts) (number : ℕ) (answers given : List Answer) (result : Option X) → AreOfRun s answers → number ≡ ticket → given ≡ answers
+      → option_map now result ≡ find (λ (a : Answer). a.ticket == number) given → IfSome result (λ x. transcript_of s ticket ≡ Some (now x))
+  answer_of_found {X} now s number answers given None of is same e = tt
+  answer_of_found {X} now s number answers given (Some x) of is same e = answer_found s answers (now x) of (sym (e ∙ (λ i. find (λ (a : Answer). a.ticket == is i) (same i))))
+
+  pub some_found : (answers : List Answer) → IsIn (tickets_of answers) ticket → find is_its answers ≡ None → ⊥
+  some_found [] waits none = absurd waits
+  some_found (a ∷ answers) waits none = by (a.ticket == ticket) refl (some_found answers) none
+    where
+      by : (b : Bool) → (a.ticket == ticket) ≡ b → (IsIn (tickets_of answers) ticket → find is_its answers ≡ None → ⊥) → cond b (Some a) (find is_its answers) ≡ None → ⊥
+      by true is rest e = absurd (cc)
+      by false off rest e = elim waits [ inl same ↦ (let here = eq-eqb a.ticket ticket same in absurd (cc)) | inr later ↦ rest later e ]
+
   all_still : (P : Answer → Type 0) (answers : List Answer) → AllByRecursion P answers → AllByRecursion P (answers_without ticket answers)
   all_still P [] all = tt
   all_still P (a ∷ answers) all = by (a.ticket == ticket) (all_still P answers all.1)
@@ -253,6 +274,14 @@ none_of s ticket (a ∷ answers) of e = (by (a.ticket == ticket) refl, none_of s
         absurd (omega (arith, is, below, many, e))
     by false off = refl
 
+-- and those that have one are places
+pub all_places : (s : ShardParts) (answers : List Answer) → AreOfRun s answers → AreBelow (length s.journal) (tickets_of answers)
+all_places s [] of = tt
+all_places s (a ∷ answers) of =
+    let below = within (answers_given s) a.ticket a of.0 in
+    let many = as_many_answers s.number 0 s.tables s.base s.journal in
+    (omega (arith, below, many), all_places s answers of.1)
+
 of_run_more : (s : ShardParts) (item : Item) (room : ℕ) (answers : List Answer) → AreOfRun s answers → AreOfRun (with_item s item room) answers
 of_run_more s item room [] of = tt
 of_run_more s item room (a ∷ answers) of = (answers_kept s item room a.ticket a of.0, of_run_more s item room answers of.1)
@@ -283,6 +312,19 @@ module _ (s reserved after : ShardParts) (entry : Entry) (mark : Bool) (room lat
       let as_kept : later ≡ answers ++ next_answer s (item_of entry mark) ∷ [] = added ∙ (λ i. kept i ++ (answered ∙ ap (λ t. next_answer t (item_of entry mark)) same) i ∷ []) in
       let more = local_more s answers entry mark later_room is lane (ticket ∙ many) in
       subst (λ t. IsLocal t later) (sym is_more) (subst (IsLocal (with_item s (item_of entry mark) later_room)) (sym as_kept) more)
+
+  pub taken_by_put : entry.lane ≡ 0 → entry.ticket ≡ length reserved.journal → (ticket : ℕ) → ticket ≡ entry.ticket → IsTaken ticket entry.command s after
+  taken_by_put lane next ticket its =
+      let item = item_of entry mark in
+      let many = ap (λ (t : ShardParts). length t.journal) same in
+      let place : ticket ≡ length s.journal = its ∙ next ∙ many in
+      record {
+        item = item;
+        is_entry = λ i. record { lane = lane i; ticket = sym its i; command = entry.command };
+        is_next = place;
+        added = is_more ∙ ap (with_item s item) (sym (ap (λ (t : ShardParts). t.room) is_more));
+        answered = (λ i. transcript_of (is_more i) (place i)) ∙ next_stands s item later_room;
+      }
 
   pub answers_after_put : AreKept (transcript_of s) (transcript_of after)
   answers_after_put ticket a e = ap (λ t. transcript_of t ticket) is_more ∙ answers_kept s (item_of entry mark) later_room ticket a e

@@ -1,5 +1,5 @@
 -- What is so of all journals and of all desks.
-use Rattle.std.specs.Prelude.{◌≡◌, ◌↔◌, ℕ, false, List, [], ◌∷◌, ◌++◌, map, filter, Some}
+use Rattle.std.specs.Prelude.{◌≡◌, ◌↔◌, ℕ, ◌<◌, false, length, List, [], ◌∷◌, ◌++◌, map, filter, Some}
 use Rattle.std.specs.List.{slice_get}
 use Rattle.pay_numbered.specs.Words.{IsIn}
 use Rattle.pay_tables.specs.Words.{FareTables}
@@ -7,11 +7,14 @@ use Rattle.pay_account.specs.State.{State}
 use Rattle.pay_shard.specs.declared.asked.Asked.{Asked}
 use Rattle.pay_shard.specs.declared.item.Item.{Item}
 use Rattle.pay_shard.specs.declared.reply.Answer.{Answer}
+use Rattle.pay_shard.specs.declared.reply.Reply.{Reply}
 use Rattle.pay_shard.specs.Machine.{item_step}
 use Rattle.pay_shard.specs.NewItems.{is_new, AreAllNew, new_items}
 use Rattle.pay_shard.specs.Runs.{run, replay, answers, reply_at, answer_to, IsHistory}
 use Rattle.pay_shard.specs.Changes.{AreAllPriced, asked_by, AreUnmarked, accepted_asked}
-use Rattle.pay_shard.specs.Desks.{Standing, with_waiting, IsAfterAll, IsNoneOf, without, command_under}
+use Rattle.pay_shard.specs.Desks.{Standing, with_waiting, IsAfterAll, IsNoneOf, without, command_under, IsReplyTo}
+use Rattle.pay_shard.specs.LocalParts.{commands_of, transcript_of, AreInPlace}
+use Rattle.pay_shard.specs.ShardParts.{ShardParts, with_items}
 use Rattle.pay_shard.specs.Merges.{items_of, all_items, replies_of, AreAskedOf, IsWhole}
 
 -- ---- merges, of so many shards, each from its own state, into one machine over all accounts
@@ -41,6 +44,17 @@ AnswersHaveReplies = (shard : ℕ) (tables : FareTables) (base : State) (items :
 abbrev pub AnswersStandAtPlaces : Type 0
 AnswersStandAtPlaces = (shard : ℕ) (tables : FareTables) (base : State) (items : List Item) (place : ℕ)
     → slice_get (answers shard tables base items) place ≡ answer_to shard place (slice_get items place) (reply_at tables base items place)
+
+-- ---- fronts
+
+-- what is replayed of more items goes on from where the first have led
+abbrev pub ReplayGoesOn : Type 0
+ReplayGoesOn = (tables : FareTables) (base : State) (items more : List Item) → replay tables base (items ++ more) ≡ replay tables (replay tables base items) more
+
+-- A reply to one of the first tickets of a desk is that of a desk which has the first items alone.
+abbrev pub FrontHasReply : Type 0
+FrontHasReply = (front whole : ShardParts) (more : List Item) (ticket : ℕ) (reply : Reply) → whole ≡ with_items front more whole.room → AreInPlace 0 front.journal → ticket < length front.journal
+    → IsReplyTo ticket (commands_of whole.journal) (transcript_of whole) reply → IsReplyTo ticket (commands_of front.journal) (transcript_of front) reply
 
 -- ---- order
 

@@ -1,11 +1,11 @@
 -- What a desk over one shard keeps.
-use Rattle.std.specs.Prelude.{◌≡◌, ℕ, ◌+◌, ◌==◌, cond, List, [], ◌∷◌, map, Option, Some, ⊤, refl}
+use Rattle.std.specs.Prelude.{◌≡◌, ℕ, ◌+◌, ◌<◌, ◌==◌, cond, length, List, [], ◌∷◌, map, Option, Some, ⊤, refl}
 use Rattle.std.specs.Coded.{Coded, code_by, coded×, coded_ℕ, coded_list}
 use Rattle.std.specs.List.{AllByRecursion, IsDistinct, slice_get}
 use Rattle.pay_tables.specs.Words.{FareTables}
 use Rattle.pay_account.specs.State.{State}
 use Rattle.pay_shard.specs.Desks.{DeskParts}
-use Rattle.pay_shard.specs.ShardParts.{ShardParts, shard_code, answers_given}
+use Rattle.pay_shard.specs.ShardParts.{ShardParts, shard_code, answers_given, next_answer, with_item}
 use Rattle.pay_shard.specs.declared.asked.Asked.{Asked}
 use Rattle.pay_shard.specs.declared.desk.DeskFault.TheVariants.{Memory}
 use Rattle.pay_shard.specs.declared.item.Item.{Item}
@@ -42,6 +42,18 @@ desk_parts d = record {
 abbrev pub AreInPlace : ℕ → List Item → Type 0
 AreInPlace place [] = ⊤
 AreInPlace place (item ∷ items) = ((item.entry.lane ≡ 0) × (item.entry.ticket ≡ place)) × AreInPlace (place + 1) items
+
+-- each ticket is below a place
+abbrev pub AreBelow : ℕ → List ℕ → Type 0
+AreBelow place tickets = AllByRecursion (λ t. t < place) tickets
+
+-- A command was taken: it is one item more, whose place is the ticket, and the answer to the ticket is the next one.
+pub record IsTaken (ticket : ℕ) (command : Asked) (before after : ShardParts) : Type 0 where
+  pub item : Item
+  pub is_entry : item.entry ≡ record { lane = 0; ticket = ticket; command = command }
+  pub is_next : ticket ≡ length before.journal
+  pub added : after ≡ with_item before item after.room
+  pub answered : transcript_of after ticket ≡ Some (next_answer before item)
 
 -- the tickets of answers
 abbrev pub tickets_of : List Answer → List ℕ

@@ -43,7 +43,11 @@ next_answer s item = answer_at s.number (length s.journal) s.tables (state_now s
 abbrev pub item_of : Entry → Bool → Item
 item_of entry refused_memory = record { entry = entry; refused_memory = refused_memory }
 
--- it with one more item, and so much room
+-- it with more items, and so much room
+abbrev pub with_items : ShardParts → List Item → ℕ → ShardParts
+with_items s items room = record { number = s.number; tables = s.tables; base = s.base; journal = s.journal ++ items; room = room }
+
+-- with one more
 abbrev pub with_item : ShardParts → Item → ℕ → ShardParts
 with_item s item room = record { number = s.number; tables = s.tables; base = s.base; journal = s.journal ++ item ∷ []; room = room }
 

@@ -1,7 +1,7 @@
 //! What several shards come to, what order has no effect on, what the newly accepted items come to by themselves, and what a desk
 //! comes to that gave a reply at once. Each law is the contract of a function that does nothing: a caller whose proof needs a law
 //! calls its function.
-ghost use Rattle.pay_shard.specs.Laws.{MergeRepliesAsShards, MergeEndsAsShards, MergeIsHistory, AnswersHaveReplies, AnswersStandAtPlaces, AskedAlikeEndsAlike, AcceptedAlikeEndsAlike, NewRunAlone, NewStayNew, OthersChangeNothing, NewStandBehind, LastCommandIsUnderTicket, LastTicketWaits, StandsAsBefore};
+ghost use Rattle.pay_shard.specs.Laws.{MergeRepliesAsShards, MergeEndsAsShards, MergeIsHistory, AnswersHaveReplies, AnswersStandAtPlaces, AskedAlikeEndsAlike, AcceptedAlikeEndsAlike, NewRunAlone, NewStayNew, OthersChangeNothing, NewStandBehind, ReplayGoesOn, FrontHasReply, LastCommandIsUnderTicket, LastTicketWaits, StandsAsBefore};
 
 use crate::desk::Desk;
 
@@ -19,6 +19,13 @@ pub fn merge()
 pub fn answers_of_run()
     ensures replies { AnswersHaveReplies }
     ensures places { AnswersStandAtPlaces }
+{}
+
+/// What comes of a journal's items goes on from what came of the first of them, and a reply to one of these is the same
+/// whatever stands behind them.
+pub fn fronts()
+    ensures replayed { ReplayGoesOn }
+    ensures reply { FrontHasReply }
 {}
 
 /// Two journals from one beginning in which the same taps and corrections were accepted, in whatever order and however

@@ -1,4 +1,4 @@
-ghost use Rattle.std.specs.Prelude.{◌≡◌, ◌<◌, ◌==◌, ℕ, map as each, List, [], ◌∷◌, ◌++◌, Some, IsOk, IfOk, IfErr};
+ghost use Rattle.std.specs.Prelude.{◌≡◌, ◌<◌, ◌==◌, ℕ, map as each, length, List, [], ◌∷◌, ◌++◌, Some, IsOk, IfOk, IfErr, OnErr, IsSome, IfSome};
 ghost use Rattle.std.specs.Arc.{arc_value};
 ghost use Rattle.std.specs.List.{IsDistinct, find, position};
 ghost use Rattle.std.specs.Option.{option_map};
@@ -7,7 +7,10 @@ ghost use Rattle.std.specs.Vec.{vec_capacity, vec_len};
 ghost use Rattle.pay_numbered.specs.Words.{IsIn};
 ghost use Rattle.pay_account.specs.State.{ArePriced};
 ghost use Rattle.pay_shard.specs.Held.{state_of};
-ghost use Rattle.pay_shard.specs.LocalParts.{tickets_of, answers_without, AreInPlace};
+ghost use Rattle.pay_shard.specs.Desks.{with_waiting, without, IsForShards, IsAfterAll, IsNoneOf, IsReplyTo, AreKept};
+ghost use Rattle.pay_shard.specs.declared.desk.DeskFault.TheVariants.{Late};
+ghost use Rattle.pay_shard.specs.LocalParts.{tickets_of, answers_without, transcript_of, desk_parts, AreInPlace, AreBelow, IsTaken};
+ghost use Rattle.pay_shard.specs.ShardParts.{with_room};
 ghost use Rattle.pay_shard.specs.declared.reply.Answer.{Answer};
 
 use crate::command::Command;
@@ -61,6 +64,13 @@ fn place_of(kept: &[Answer], ticket: u64) -> Option<usize>
     kept.iter().position(|answer| answer.ticket == ticket)
 }
 
+/// The first answer to a ticket.
+fn answer_to(kept: &[Answer], ticket: u64) -> Option<&Answer>
+    ensures { option_map (λ answer. answer.now) result ≡ find (λ a. a.ticket == ticket) kept.now }
+{
+    kept.iter().find(|answer| answer.ticket == ticket)
+}
+
 /// Takes the answer to a ticket out, and gives its reply.
 fn take_out(kept: &mut Vec<Answer>, ticket: u64) -> Reply
     requires { IsIn (tickets_of kept.old.items) ticket }
@@ -97,13 +107,24 @@ impl<F: Fares> LocalDesk<F> {
         })
     }
 
-    /// Its shard. Each entry of the journal is of lane 0, and its ticket is its place.
+    /// Its shard. Each entry of the journal is of lane 0, and its ticket is its place. Those that wait are places of it.
+    #[tactic(auto, using(crate::proofs::LocalDesks::all_places))]
     pub fn shard(&self) -> &Shard<F>
         ensures value { result.now ≡ self.now.shard }
         ensures number { result.now.number ≡ 0 }
         ensures in_place { AreInPlace 0 result.now.journal }
+        ensures below { AreBelow (length result.now.journal) self.now.waiting }
     {
         &self.shard
+    }
+
+    /// The answer to a command whose reply was not got, by its ticket.
+    #[tactic(auto, using(crate::proofs::LocalDesks::some_found))]
+    pub fn waiting(&self, ticket: Ticket) -> Option<&Answer>
+        ensures answer { IfSome result (λ answer. transcript_of self.now.shard ticket ≡ Some answer.now) }
+        ensures some { IsIn self.now.waiting ticket → IsSome result }
+    {
+        answer_to(&self.kept, ticket.number())
     }
 }
 
@@ -120,7 +141,21 @@ impl<F: Fares> Desk for LocalDesk<F> {
         1
     }
 
-    fn put(&mut self, command: Command) -> Result<Ticket, DeskFault> {
+    // The trait's clauses, and what comes of the journal.
+    fn put(&mut self, command: Command) -> Result<Ticket, DeskFault>
+        requires { IsForShards (desk_parts self.old).standing.shards command }
+        ensures added { IfOk result (λ ticket. (desk_parts self.new).taken ≡ (desk_parts self.old).taken ++ (ticket, command) ∷ []) }
+        ensures later { IfOk result (λ ticket. IsAfterAll ticket (desk_parts self.old).taken) }
+        ensures fresh { IfOk result (λ ticket. IsNoneOf ticket (desk_parts self.old).standing.waiting) }
+        ensures waits { IfOk result (λ ticket. (desk_parts self.new).standing
+            ≡ with_waiting ((desk_parts self.old).standing.waiting ++ ticket ∷ []) (desk_parts self.old).standing) }
+        ensures not_added { OnErr result ((desk_parts self.new).taken ≡ (desk_parts self.old).taken) }
+        ensures none_waits { OnErr result ((desk_parts self.new).standing ≡ (desk_parts self.old).standing) }
+        ensures refused { IfErr result (λ fault. (desk_parts self.old).MayRefuse fault) }
+        ensures transcript { AreKept (desk_parts self.old).transcript (desk_parts self.new).transcript }
+        ensures item { IfOk result (λ ticket. IsTaken ticket command self.old.shard self.new.shard) }
+        ensures same { OnErr result (self.new.shard ≡ with_room self.old.shard self.new.shard.room) }
+    {
         self.kept.reserve(1)?;
         self.shard.reserve(1)?;
         let ticket = self.shard.journal().len() as u64;
@@ -133,7 +168,16 @@ impl<F: Fares> Desk for LocalDesk<F> {
         Ok(Ticket::of(ticket))
     }
 
-    fn get(&mut self, ticket: Ticket) -> Result<Reply, DeskFault> {
+    // The trait's clauses, and that the shard stays.
+    fn get(&mut self, ticket: Ticket) -> Result<Reply, DeskFault>
+        requires { IsIn (desk_parts self.old).standing.waiting ticket }
+        ensures reply { IfOk result (λ reply. IsReplyTo ticket (desk_parts self.new).taken (desk_parts self.new).transcript reply) }
+        ensures late { IfErr result (λ fault. (fault ≡ Late) × (desk_parts self.old).MayBeLate) }
+        ensures got { (desk_parts self.new).standing ≡ with_waiting (without ticket (desk_parts self.old).standing.waiting) (desk_parts self.old).standing }
+        ensures none_added { (desk_parts self.new).taken ≡ (desk_parts self.old).taken }
+        ensures transcript { AreKept (desk_parts self.old).transcript (desk_parts self.new).transcript }
+        ensures same { self.new.shard ≡ self.old.shard }
+    {
         Ok(take_out(&mut self.kept, ticket.number()))
     }
 }

@@ -1,9 +1,10 @@
 use Rattle.std.proofs.Common.{refl, ap, ◌∙◌, length, subst}
 use Rattle.pay_shard.specs.Desks.{IsAfterAll, IsNoneOf, AreKept}
-use Rattle.pay_shard.specs.LocalParts.{LocalParts, commands_of, transcript_of}
+use Rattle.pay_shard.specs.LocalParts.{LocalParts, commands_of, transcript_of, IsTaken}
 use Rattle.pay_shard.specs.Machine.{is_memory}
+use Rattle.pay_shard.specs.declared.item.Entry.{Entry}
 use Rattle.pay_shard.specs.ShardParts.{ShardParts}
-use Rattle.pay_shard.proofs.LocalDesks.{local_after_put, answers_after_put, after_all, none_of}
+use Rattle.pay_shard.proofs.LocalDesks.{local_after_put, taken_by_put, answers_after_put, after_all, none_of}
 use Rattle.pay_shard.proofs.local_desk.LocalDeskDesk.put.Goals as goal
 
 pub invariant_of-self-2 : goal.invariant_of-self-2
@@ -27,3 +28,10 @@ pub returns-clause-fresh : goal.returns-clause-fresh
 returns-clause-fresh g c =
     let many = c.of.ensures ∙ c.len-ticket.ensures ∙ ap length c.journal.ensures.value ∙ ap (λ (s : ShardParts). length s.journal) c.in_ok-reserve-2.ensures.same in
     subst (λ (d : LocalParts). IsNoneOf c.of.result d.waiting) c.self.view_is (none_of c.self.inside.shard c.of.result c.self.inside.kept.items c.self.invariant.1.0 many)
+
+pub returns-clause-item : goal.returns-clause-item
+returns-clause-item g c =
+    let its : Entry = record { lane = 0; ticket = c.len-ticket.result; command = c.args.command } in
+    subst (λ (d : LocalParts). IsTaken c.of.result c.args.command d.shard c.apply.new.self) c.self.view_is
+    (taken_by_put c.self.inside.shard c.reserve-2.new.self c.apply.new.self its (is_memory c.apply.result.reply)
+    c.reserve-2.new.self.room c.apply.new.self.room c.in_ok-reserve-2.ensures.same c.apply.ensures.journal refl (c.len-ticket.ensures ∙ ap length c.journal.ensures.value) c.of.result c.of.ensures)
