@@ -3,6 +3,7 @@ pub mod CommandLines
 pub mod Fills
 pub mod InputLines
 pub mod InputPieces
+pub mod LinesOfCommands
 pub mod Newlines
 pub mod OverDesk
 pub mod PutCommands

@@ -4,6 +4,7 @@ pub mod Asks
 pub mod Calls
 pub mod CommandLines
 pub mod Events
+pub mod Lines
 pub mod Served
 pub mod Serving
 pub mod Session

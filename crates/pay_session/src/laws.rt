@@ -4,6 +4,7 @@ ghost use Rattle.std.specs.Prelude.{◌≡◌, ◌≢◌, ℕ, ◌<◌, ◌≤�
 ghost use Rattle.std.specs.List.{AllByRecursion, flat_map};
 ghost use Rattle.pay_wire.specs.declared.command.Command.TheVariants.{Quit};
 ghost use Rattle.pay_wire.specs.declared.limits.TheConstants.{MOST_LINE_BYTES};
+ghost use Rattle.pay_session.specs.Lines.{AskedByItsLine};
 ghost use Rattle.pay_session.specs.declared.request.Request.TheVariants as requests;
 ghost use Rattle.pay_session.specs.CommandLines.{LinesAreReadBack, CutLinesAreRead, OneLineIsLost};
 ghost use Rattle.pay_session.specs.Requests.{InputLine, input_lines, rest_of, has_newline, request_of, line_requests, requests_of, quits, unread, HasOneCutting, SpellsNothing};
@@ -67,3 +68,8 @@ pub fn cut()
     pay_wire::laws::read_as_spelled();
     pay_wire::laws::each_is_a_line();
 }
+
+/// What a line has a desk accept is spelled by that line: a tap and a correction have the command that asked for them.
+pub fn one_line()
+    ensures { AskedByItsLine }
+{}

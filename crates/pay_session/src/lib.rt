@@ -7,6 +7,7 @@ mod begun_line;
 mod cut;
 pub mod laws;
 pub mod limits;
+mod lines;
 mod progress;
 mod replaying;
 mod request;
@@ -17,6 +18,7 @@ mod till;
 mod told_reader;
 
 pub use asks::Asks;
+pub use lines::{line_of, spelled_of};
 pub use replaying::{ReplayFault, Replayed, replay};
 pub use request::Request;
 pub use sessions::{Done, session};
