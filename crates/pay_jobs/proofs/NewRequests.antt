@@ -5,7 +5,6 @@ use Rattle.jiff.specs.declared.tz.timezone.TimeZone.{TimeZone}
 use Rattle.pay_numbered.specs.Words.{IsIn}
 use Rattle.pay_postings.specs.Words.{LedgerParts}
 use Rattle.pay_tables.specs.Words.{FareTables}
-use Rattle.pay_shard.specs.declared.asked.Asked.{Asked}
 use Rattle.pay_shard.specs.declared.reply.Reply.{Reply as ShardReply}
 use Rattle.pay_shard.specs.declared.reply.Reply.TheVariants as shard_replies
 use Rattle.pay_shard.specs.Words.{State, is_new as is_shard_new, OthersChangeNothing, step as shard_step}
