@@ -60,14 +60,17 @@ AskedByItsLine = (zone : TimeZone) (c : Command) (a : Asked) → asks_of zone (r
 
 -- ---- worked rows
 
--- a tap of Monday 2024-01-08 at 07:00:00
-a_tap : line_of (asked.Tap (record { account = 7; reader = 1; seq = 2; place = 50; kind = In; stamp = record { utc = 1_704_697_200; day = 19_730; second = 25_200 } })) ≡ codes "TAP 1 2 7 1704697200 50 IN\n"
+-- a tap of Monday 2024-01-08 at 07:00:00, by its instant alone
+a_tap : spelled_of (asked.Tap (record { account = 7; reader = 1; seq = 2; place = 50; kind = In; stamp = record { utc = 1_704_697_200; day = 19_730; second = 25_200 } }))
+    ≡ Some (command.Tap (record { reader = 1; seq = 2; account = 7; utc = 1_704_697_200; place = 50; kind = In }))
 a_tap = refl
 
-a_fill : line_of (asked.Fix (record { account = 7; staff = 3; seq = 4; what = what.Fill (record { utc = 1_704_697_200; day = 19_730; second = 25_200 }) 12 In })) ≡ codes "FIX 3 4 7 FILL 1704697200 12 IN\n"
+a_fill : spelled_of (asked.Fix (record { account = 7; staff = 3; seq = 4; what = what.Fill (record { utc = 1_704_697_200; day = 19_730; second = 25_200 }) 12 In }))
+    ≡ Some (command.Fix (record { staff = 3; seq = 4; account = 7; what = spelled.Fill 1_704_697_200 12 In }))
 a_fill = refl
 
-a_credit : line_of (asked.Fix (record { account = 7; staff = 3; seq = 5; what = what.Credit (record { day = 19_730; pence = 175 }) })) ≡ codes "FIX 3 5 7 CREDIT 19730 175\n"
+a_credit : spelled_of (asked.Fix (record { account = 7; staff = 3; seq = 5; what = what.Credit (record { day = 19_730; pence = 175 }) }))
+    ≡ Some (command.Fix (record { staff = 3; seq = 5; account = 7; what = spelled.Credit (record { day = 19_730; pence = 175 }) }))
 a_credit = refl
 
 -- what is asked has none
