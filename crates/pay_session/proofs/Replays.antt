@@ -1,6 +1,5 @@
 -- How the lines of a replay join.
 use Rattle.std.proofs.Common.{◌≡◌, ℕ, ◌+◌, ◌-◌, ◌≤◌, suc, true, false, List, [], ◌∷◌, ◌++◌, length, Option, Some, None, Result, sym, ap, ◌∙◌, subst, refl, arith, append_assoc, append-nil, length-append, inl, inr}
-use Rattle.std.specs.Prelude.{⊤}
 use Rattle.std.specs.List.{AllByRecursion}
 use Rattle.std.proofs.lemmas.Grind.{flat_map-append}
 use Rattle.jiff.specs.declared.tz.timezone.TimeZone.{TimeZone}
@@ -20,9 +19,7 @@ use Rattle.pay_session.specs.Served.{IsServedAs, AreServed}
 use Rattle.pay_session.specs.Serving.{IsPutAt, IsStep, MaySometimeRefuse, MaySometimeBeLate}
 use Rattle.pay_session.specs.declared.asks.Asks.{Asks}
 use Rattle.pay_session.specs.declared.asks.Asks.TheVariants as asks
-use Rattle.pay_session.specs.declared.replaying.Replayed.{Replayed}
 use Rattle.pay_session.specs.declared.replaying.ReplayFault.{ReplayFault}
-use Rattle.pay_session.specs.declared.replaying.ReplayFault.TheVariants as fault
 use Rattle.pay_session.specs.declared.request.Request.{Request}
 use Rattle.pay_session.proofs.InputPieces.{line_requests_line, line_requests_part, rest_of_line, rest_of_part}
 use Rattle.pay_session.proofs.OverDesk.{commands_both, answered_both, answered_kept}

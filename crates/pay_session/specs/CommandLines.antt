@@ -1,5 +1,5 @@
 -- Commands as lines of a text, and what is read of it, whole or cut.
-use Rattle.std.specs.Prelude.{◌≡◌, ℕ, ◌+◌, ◌≤◌, ◌<◌, List, [], ◌∷◌, ◌++◌, map, length, take, codes, refl}
+use Rattle.std.specs.Prelude.{◌≡◌, ℕ, ◌≤◌, ◌<◌, List, [], ◌∷◌, ◌++◌, map, length, take, codes, refl}
 use Rattle.std.specs.List.{AllByRecursion, flat_map}
 use Rattle.pay_taps.specs.declared.tap.Kind.TheVariants.{Bus}
 use Rattle.pay_wire.specs.declared.command.Command.{Command}
@@ -51,6 +51,9 @@ unfolding request_of
 cut_day = refl
 
 -- nor is one of which the newline alone is missing
-newline_missing : (line_requests (take 28 (codes "TAP 1 1 7 1704697200 50 BUS\n")) ≡ requests.Command (Tap (record { reader = 1; seq = 1; account = 7; utc = 1_704_697_200; place = 50; kind = Bus })) ∷ []) × (line_requests (take 27 (codes "TAP 1 1 7 1704697200 50 BUS\n")) ≡ [])
+tap_read : line_requests (codes "TAP 1 1 7 1704697200 50 BUS\n") ≡ requests.Command (Tap (record { reader = 1; seq = 1; account = 7; utc = 1_704_697_200; place = 50; kind = Bus })) ∷ []
 unfolding request_of tap_of
-newline_missing = (refl, refl)
+tap_read = refl
+
+newline_missing : line_requests (take 27 (codes "TAP 1 1 7 1704697200 50 BUS\n")) ≡ []
+newline_missing = refl
