@@ -1,0 +1,3 @@
+pub mod Bytes
+pub mod KeptDesks
+pub mod Puts

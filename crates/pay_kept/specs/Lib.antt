@@ -1,0 +1,4 @@
+pub mod Keeping
+pub mod KeptParts
+pub mod Puts
+pub mod Words
