@@ -102,6 +102,7 @@ impl<F: Fares, K: Keeper> KeptDesk<F, K> {
         ensures first { (self.new.first ≡ self.old.first) × (self.new.held_first ≡ self.old.held_first) }
         ensures same { Keeps self.old.holds self.new.holds }
         ensures ok { OnOk result ((self.old.stuck ≡ false) × (self.new.stuck ≡ false)) }
+        ensures settled { OnOk result ((keeper : K) × K.IsSettled keeper × (K.holds keeper ≡ self.new.holds)) }
         ensures err { OnErr result (self.new.stuck ≡ true) }
     {
         if self.stuck {
