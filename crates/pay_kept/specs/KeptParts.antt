@@ -3,7 +3,7 @@ use Rattle.std.specs.Prelude.{◌≡◌, ◌⊎◌, ℕ, Bool, true, false, List
 use Rattle.std.specs.Coded.{Coded, code_by, coded×, coded_ℕ, coded_bool, coded_list, coded_option}
 use Rattle.std.specs.Io.KnownBytes.{Appends}
 use Rattle.pay_tables.specs.Words.{FareTables}
-use Rattle.pay_shard.specs.Words.{State, LocalParts, local_code, commands_of, transcript_of, AreInPlace, AreBelow, DeskParts, ShardParts, with_items, replay, new_items, IsHistory}
+use Rattle.pay_shard.specs.Words.{State, LocalParts, local_code, commands_of, transcript_of, AreInPlace, AreBelow, DeskParts, Standing, ShardParts, with_items, replay, new_items, IsHistory}
 use Rattle.pay_shard.specs.contracts.item.Item as item
 use Rattle.pay_shard.specs.declared.asked.Asked.{Asked}
 use Rattle.pay_shard.specs.declared.asked.Asked.TheVariants as asked
@@ -40,10 +40,18 @@ pub record Beginning : Type 0 where
 abbrev pub CanFail : {K : Type 0} → (K → Type 0) → Type 0
 CanFail {K = K} HasFailed = (keeper : K) × HasFailed keeper
 
+-- how such a desk stands
+abbrev pub standing_of : KeptParts → Standing Beginning
+standing_of k = record {
+  origin = record { tables = k.seen.shard.tables; base = k.seen.shard.base; items = k.first; holds = k.held_first };
+  shards = 1;
+  waiting = k.seen.waiting;
+}
+
 -- It refuses for want of memory, and because something could not be kept, if its keeper may fail. No reply of it is late.
 abbrev pub kept_parts : Type 0 → KeptParts → DeskParts Beginning
 kept_parts Fails k = record {
-  standing = record { origin = record { tables = k.seen.shard.tables; base = k.seen.shard.base; items = k.first; holds = k.held_first }; shards = 1; waiting = k.seen.waiting };
+  standing = standing_of k;
   taken = commands_of k.seen.shard.journal;
   transcript = transcript_of k.seen.shard;
   MayRefuse = λ fault. (fault ≡ Memory) ⊎ ((fault ≡ NotKept) × Fails);

@@ -1,12 +1,13 @@
 //! A desk over a shard that keeps the lines of what it accepts.
-ghost use Rattle.std.specs.Prelude.{◌≡◌, ◌≢◌, ℕ, false, true, List, ◌∷◌, [], ◌++◌, length, Option, IfOk, IfErr, OnOk, OnErr, IsTrue};
+ghost use Rattle.std.specs.Prelude.{◌≡◌, ◌≢◌, ◌⊎◌, ◌↔◌, ℕ, false, true, List, ◌∷◌, [], ◌++◌, length, Option, IfOk, IfErr, OnOk, OnErr, IsTrue, Err};
 ghost use Rattle.std.specs.Io.KnownBytes.{Appends, Keeps};
 ghost use Rattle.pay_numbered.specs.Words.{IsIn};
 ghost use Rattle.pay_wire.specs.Words.{AppendsFront};
 ghost use Rattle.pay_session.specs.Words.{line_of};
-ghost use Rattle.pay_shard.specs.Words.{IsForShards, IsHistory, AreInPlace, is_new, transcript_of, with_items, without};
+ghost use Rattle.pay_shard.specs.Words.{IsForShards, IsHistory, AreInPlace, IsAfterAll, IsNoneOf, AreKept, commands_of, is_new, transcript_of, with_items, with_waiting, without};
+ghost use Rattle.pay_shard.specs.declared.desk.DeskFault.TheVariants as desk_fault;
 ghost use Rattle.pay_shard.specs.declared.item.Item.{Item};
-ghost use Rattle.pay_kept.specs.KeptParts.{CanFail, KeepsLines, is_quotes};
+ghost use Rattle.pay_kept.specs.KeptParts.{CanFail, KeepsLines, is_quotes, standing_of};
 ghost use Rattle.pay_kept.specs.Puts.{IsPutKept, IsNotPut, is_new_answer, line_if, is_not_kept};
 
 use crate::keeper::{Keeper, NotKept};
@@ -116,6 +117,39 @@ impl<F: Fares, K: Keeper> KeptDesk<F, K> {
             }
         }
     }
+
+    /// Takes a command, as [`Desk`] says, once its line is kept if it is newly accepted. It is refused by `NotKept` where something
+    /// could not be kept, now or before: a desk that is stuck takes no command, asks its keeper for nothing, and stays as it is.
+    pub fn put(&mut self, command: Command) -> Result<Ticket, DeskFault>
+        requires { IsForShards 1 command }
+        ensures stuck { self.old.stuck ≡ true → (result ≡ Err desk_fault.NotKept) × (self.new ≡ self.old) }
+        ensures sticks { (result ≡ Err desk_fault.NotKept) ↔ (self.new.stuck ≡ true) }
+        ensures added { IfOk result (λ ticket. commands_of self.new.seen.shard.journal ≡ commands_of self.old.seen.shard.journal ++ (ticket, command) ∷ []) }
+        ensures later { IfOk result (λ ticket. IsAfterAll ticket (commands_of self.old.seen.shard.journal)) }
+        ensures fresh { IfOk result (λ ticket. IsNoneOf ticket self.old.seen.waiting) }
+        ensures waits { IfOk result (λ ticket. standing_of self.new ≡ with_waiting (self.old.seen.waiting ++ ticket ∷ []) (standing_of self.old)) }
+        ensures not_added { OnErr result (commands_of self.new.seen.shard.journal ≡ commands_of self.old.seen.shard.journal) }
+        ensures none_waits { OnErr result (standing_of self.new ≡ standing_of self.old) }
+        ensures refused { IfErr result (λ fault. (fault ≡ desk_fault.Memory) ⊎ ((fault ≡ desk_fault.NotKept) × CanFail K.HasFailed)) }
+        ensures transcript { AreKept (transcript_of self.old.seen.shard) (transcript_of self.new.seen.shard) }
+    {
+        if self.stuck {
+            return Err(DeskFault::NotKept);
+        }
+        pay_shard::laws::fronts();
+        pay_shard::laws::accepted_alone();
+        match put_and_keep(&mut self.desk, &mut self.keeper, command) {
+            Ok(ticket) => {
+                let _ = self.desk.shard().journal();
+                self.seen = Snapshot::of(self.desk.shard());
+                Ok(ticket)
+            }
+            Err(fault) => {
+                self.stuck = is_not_kept(fault);
+                Err(fault)
+            }
+        }
+    }
 }
 
 /// Whether a reply says that something is newly accepted.
@@ -221,22 +255,7 @@ impl<F: Fares, K: Keeper> Desk for KeptDesk<F, K> {
     }
 
     fn put(&mut self, command: Command) -> Result<Ticket, DeskFault> {
-        if self.stuck {
-            return Err(DeskFault::NotKept);
-        }
-        pay_shard::laws::fronts();
-        pay_shard::laws::accepted_alone();
-        match put_and_keep(&mut self.desk, &mut self.keeper, command) {
-            Ok(ticket) => {
-                let _ = self.desk.shard().journal();
-                self.seen = Snapshot::of(self.desk.shard());
-                Ok(ticket)
-            }
-            Err(fault) => {
-                self.stuck = is_not_kept(fault);
-                Err(fault)
-            }
-        }
+        KeptDesk::put(self, command)
     }
 
     fn get(&mut self, ticket: Ticket) -> Result<Reply, DeskFault> {

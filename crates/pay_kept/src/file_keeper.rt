@@ -1,6 +1,8 @@
 //! Lines kept in a file.
 ghost use Rattle.std.specs.Prelude.{◌≡◌, true, IfOk, OnErr, OnOk};
-ghost use Rattle.std.specs.Io.KnownBytes.{Keeps};
+ghost use Rattle.std.specs.Io.KnownBytes.{Appends, Keeps};
+ghost use Rattle.pay_wire.specs.Words.{AppendsFront};
+ghost use Rattle.pay_session.specs.Words.{line_of};
 ghost use Rattle.pay_kept.specs.Keeping.{IsCutTo, HasFailed, IsSettled};
 
 use crate::keeper::{Keeper, NotKept};
@@ -28,6 +30,30 @@ impl<W: Lasting> FileKeeper<W> {
             Ok(()) => Ok(FileKeeper { writer, syncs }),
             Err(_) => Err(NotKept),
         }
+    }
+
+    /// Keeps a line, as [`Keeper`] says. If each line is settled at once, it is done only where this one is.
+    pub fn keep(&mut self, command: Command) -> Result<(), NotKept>
+        ensures kept { OnOk result (Appends (W.contents self.old.writer) (W.contents self.new.writer) (line_of command)) }
+        ensures front { OnErr result (AppendsFront (W.contents self.old.writer) (W.contents self.new.writer) (line_of command)) }
+        ensures failed { OnErr result (HasFailed W.Tells W.Settles self.new.writer) }
+        ensures settled { OnOk result (self.old.syncs ≡ true → IsSettled W.Settles self.new.writer) }
+        ensures syncs { self.new.syncs ≡ self.old.syncs }
+    {
+        match send_line(&mut self.writer, line_of(command).as_slice()) {
+            Ok(()) => self.settle_line(),
+            Err(_) => Err(NotKept),
+        }
+    }
+
+    /// Settles what it holds, as [`Keeper`] says.
+    pub fn settle(&mut self) -> Result<(), NotKept>
+        ensures same { Keeps (W.contents self.old.writer) (W.contents self.new.writer) }
+        ensures settled { OnOk result (IsSettled W.Settles self.new.writer) }
+        ensures failed { OnErr result (HasFailed W.Tells W.Settles self.new.writer) }
+        ensures syncs { self.new.syncs ≡ self.old.syncs }
+    {
+        settled(&mut self.writer)
     }
 
     /// Settles what it holds, if each line is settled at once.
@@ -66,13 +92,10 @@ impl<W: Lasting + ToldWriter> Keeper for FileKeeper<W> {
     ghost IsSettled = { λ k. IsSettled W.Settles k.writer };
 
     fn keep(&mut self, command: Command) -> Result<(), NotKept> {
-        match send_line(&mut self.writer, line_of(command).as_slice()) {
-            Ok(()) => self.settle_line(),
-            Err(_) => Err(NotKept),
-        }
+        FileKeeper::keep(self, command)
     }
 
     fn settle(&mut self) -> Result<(), NotKept> {
-        settled(&mut self.writer)
+        FileKeeper::settle(self)
     }
 }

@@ -30,6 +30,8 @@ mod journals;
 #[cfg(test)]
 mod journeys;
 #[cfg(test)]
+mod kept;
+#[cfg(test)]
 mod ledger_rows;
 #[cfg(test)]
 mod postings;

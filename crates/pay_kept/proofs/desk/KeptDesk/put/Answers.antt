@@ -1,7 +1,7 @@
 use Rattle.std.proofs.Common.{length, sym, ap, ◌∙◌, subst}
 use Rattle.pay_shard.specs.Words.{ShardParts, AreInPlace, AreBelow, IsHistory}
 use Rattle.pay_kept.proofs.KeptDesks.{all_put, all_left}
-use Rattle.pay_kept.proofs.desk.KeptDeskDesk.put.Goals as goal
+use Rattle.pay_kept.proofs.desk.KeptDesk.put.Goals as goal
 
 pub invariant_of-self : goal.invariant_of-self
 invariant_of-self g c =

@@ -1,6 +1,6 @@
 use Rattle.std.proofs.Common.{◌∙◌}
 use Rattle.pay_kept.proofs.Bytes.{front_if_failed}
-use Rattle.pay_kept.proofs.file_keeper.FileKeeperKeeper.keep.Goals as goal
+use Rattle.pay_kept.proofs.file_keeper.FileKeeper.keep.Goals as goal
 
 pub returns-in-Ok-clause-front : goal.returns-in-Ok-clause-front
 returns-in-Ok-clause-front g c =

@@ -1,0 +1,174 @@
+//! What is newly accepted is kept as its line, once. What comes of a writer that fails at each of its bytes, or does not settle.
+
+use crate::desks::empty_desk;
+use crate::given::{MONDAY, expect_same, sample, tap_at};
+use pay_book::Book;
+use pay_kept::{FileKeeper, KeptDesk, Lasting};
+use pay_shard::{Asked, Command, Desk, DeskFault};
+use pay_taps::{Kind, Tap};
+use std::io;
+use std::io::{ErrorKind, Write};
+use std::process::Abort;
+
+/// Takes so many bytes and then fails, and settles so often and then fails.
+#[derive(Drop)]
+struct Torn {
+    room: usize,
+    settles: usize,
+    held: Vec<u8>,
+}
+
+impl Write for Torn {
+    fn write(&mut self, buf: &[u8]) -> io::Result<usize> {
+        let n = self.room.min(buf.len());
+        if n == 0 {
+            return Err(io::Error::from(ErrorKind::StorageFull));
+        }
+        self.room = self.room.saturating_sub(n);
+        self.held.extend_from_slice(&buf[..n])?;
+        Ok(n)
+    }
+
+    fn flush(&mut self) -> io::Result<()> {
+        Ok(())
+    }
+}
+
+impl Lasting for Torn {
+    ghost use Rattle.std.specs.Prelude.{⊤};
+
+    ghost Settles = { λ _ _ _. ⊤ };
+
+    fn settle(&mut self) -> io::Result<()> {
+        if self.settles == 0 {
+            return Err(io::Error::from(ErrorKind::StorageFull));
+        }
+        self.settles = self.settles.saturating_sub(1);
+        Ok(())
+    }
+
+    fn cut_to(&mut self, len: u64) -> io::Result<()> {
+        self.held.truncate(len as usize);
+        Ok(())
+    }
+}
+
+/// Two boardings of account 7, at 07:00:00 and 08:00:00.
+const LINES: &str = "TAP 1 1 7 1704697200 50 BUS
+TAP 1 2 7 1704700800 50 BUS
+";
+
+/// How long each is, with its newline.
+const LINE_BYTES: usize = 28;
+
+/// A desk that keeps lines behind three bytes, of which one is cut off.
+fn kept_desk<R: Abort + AllocGlobal>(
+    rt: &R,
+    room: usize,
+    settles: usize,
+    syncs: bool,
+) -> KeptDesk<Book, FileKeeper<Torn>> {
+    let mut held = Vec::new(rt.alloc());
+    held.extend_from_slice(b"..T").expect(rt, "memory");
+    let writer = Torn {
+        room,
+        settles,
+        held,
+    };
+    let keeper = FileKeeper::begin(writer, 2, syncs).expect(rt, "a keeper");
+    KeptDesk::begin(empty_desk(rt, sample(rt)), keeper)
+}
+
+/// How a desk refuses what is put, or whether its reply is got.
+fn put<R: Abort>(
+    rt: &R,
+    desk: &mut KeptDesk<Book, FileKeeper<Torn>>,
+    tap: Tap,
+) -> Result<bool, DeskFault> {
+    pay_shard::laws::put_then_get::<KeptDesk<Book, FileKeeper<Torn>>>();
+    let command = Command::of(Asked::Tap(tap)).expect(rt, "a command");
+    let ticket = desk.put(command)?;
+    Ok(desk.get(ticket).is_ok())
+}
+
+fn first<R: Abort>(rt: &R) -> Tap {
+    tap_at(rt, 1, 25_200, 50, Kind::Bus)
+}
+
+fn second<R: Abort>(rt: &R) -> Tap {
+    tap_at(rt, 2, 28_800, 50, Kind::Bus)
+}
+
+/// So these are the bytes that are held.
+fn expect_held<R: Abort>(rt: &R, desk: &KeptDesk<Book, FileKeeper<Torn>>, lines: &[u8]) {
+    let held = desk.keeper().writer.held.as_slice();
+    expect_same(
+        rt,
+        held.split_at_checked(2),
+        Some((b"..".as_slice(), lines)),
+    );
+}
+
+#[test]
+fn keeps_each_new_line_once(rt: HostRuntime) {
+    let mut desk = kept_desk(&rt, 999, 0, false);
+    expect_same(&rt, put(&rt, &mut desk, first(&rt)), Ok(true));
+    // A repeat, and a tap of another place under its number.
+    expect_same(&rt, put(&rt, &mut desk, first(&rt)), Ok(true));
+    let other = Tap {
+        place: 51,
+        ..first(&rt)
+    };
+    expect_same(&rt, put(&rt, &mut desk, other), Ok(true));
+    expect_same(&rt, put(&rt, &mut desk, second(&rt)), Ok(true));
+    expect_held(&rt, &desk, LINES.as_bytes());
+    expect_same(&rt, desk.is_stuck(), false);
+    // To settle is asked of the writer, which does not.
+    expect_same(&rt, desk.settle().is_err(), true);
+    expect_same(
+        &rt,
+        put(&rt, &mut desk, first(&rt)),
+        Err(DeskFault::NotKept),
+    );
+}
+
+#[test]
+fn fails_at_each_byte(rt: HostRuntime) {
+    for room in 0..2 * LINE_BYTES {
+        let mut desk = kept_desk(&rt, room, 0, false);
+        let one = put(&rt, &mut desk, first(&rt));
+        let two = put(&rt, &mut desk, second(&rt));
+        expect_same(&rt, one.is_ok(), room >= LINE_BYTES);
+        expect_same(&rt, two, Err(DeskFault::NotKept));
+        expect_same(&rt, desk.is_stuck(), true);
+        let front = LINES.as_bytes().get(..room).unwrap_or(b"none");
+        expect_held(&rt, &desk, front);
+    }
+}
+
+#[test]
+fn settles_before_quotes(rt: HostRuntime) {
+    let asked = Asked::Quotes {
+        day: MONDAY,
+        shard: 0,
+        of: 1,
+    };
+    let quotes = Command::of(asked).expect(&rt, "a command");
+    let mut desk = kept_desk(&rt, 999, 1, false);
+    expect_same(&rt, put(&rt, &mut desk, first(&rt)), Ok(true));
+    expect_same(&rt, desk.put(quotes).is_ok(), true);
+    expect_same(&rt, desk.put(quotes).err(), Some(DeskFault::NotKept));
+    expect_same(&rt, desk.shard().journal().len(), 2);
+}
+
+#[test]
+fn settles_each_line(rt: HostRuntime) {
+    let mut desk = kept_desk(&rt, 999, 1, true);
+    expect_same(&rt, put(&rt, &mut desk, first(&rt)), Ok(true));
+    expect_same(
+        &rt,
+        put(&rt, &mut desk, second(&rt)),
+        Err(DeskFault::NotKept),
+    );
+    expect_held(&rt, &desk, LINES.as_bytes());
+}
