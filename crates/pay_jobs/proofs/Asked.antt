@@ -15,10 +15,9 @@ use Rattle.pay_session.specs.declared.asks.Asks.{Asks}
 use Rattle.pay_session.specs.declared.asks.Asks.TheVariants as asks
 use Rattle.pay_session.specs.declared.request.Request.{Request}
 use Rattle.pay_wire.specs.declared.reply.Reply.TheVariants as replies
-use Rattle.pay_jobs.specs.Machine.{Machine, Failure, Memory, Store, Desk, Keeping, refusal_of_command, Step, step_close, step_asks, step}
+use Rattle.pay_jobs.specs.Machine.{Machine, Failure, Memory, Store, Desk, Keeping, is_keeping, refusal_of_command, Step, step_close, step_asks, step}
 use Rattle.pay_jobs.specs.Outcomes.{outcome, tells_loss, is_priced, AreAllPriced, accepted_requests}
 use Rattle.pay_jobs.proofs.Closes.{of_close}
-use Rattle.pay_jobs.proofs.Tills.{is_keeping}
 
 -- ---- the commands and the items
 

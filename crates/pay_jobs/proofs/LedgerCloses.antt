@@ -22,9 +22,9 @@ use Rattle.pay_wire.specs.declared.refusal.Refusal.{Refusal}
 use Rattle.pay_wire.specs.declared.refusal.Refusal.TheVariants as refusal
 use Rattle.pay_wire.specs.declared.reply.Reply.TheVariants as replies
 use Rattle.pay_jobs.specs.Ledgers.{HasLedger}
-use Rattle.pay_jobs.specs.Machine.{Machine, Failure, Memory, Store, Desk, refusal_of_failure, stays, step_closed, step_close}
+use Rattle.pay_jobs.specs.Machine.{Machine, Failure, is_keeping, Memory, Store, Desk, refusal_of_failure, stays, step_closed, step_close}
 use Rattle.pay_jobs.specs.Outcomes.{tells_failure}
-use Rattle.pay_jobs.proofs.Tills.{IsOfMachine, is_keeping, ClosesAs}
+use Rattle.pay_jobs.proofs.Tills.{IsOfMachine, ClosesAs}
 
 true_false : true ≡ false → ⊥
 true_false e = cc

@@ -14,6 +14,11 @@ mod Counting
 pub mod Openings
 pub mod Runs
 pub mod Served
+pub mod PastLines
+pub mod RequestLines
+pub mod Summaries
+pub mod ToldReplays
+pub mod WeekRuns
 mod Statements
 mod StreamCauses
 mod ServiceCauses

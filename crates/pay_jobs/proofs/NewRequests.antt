@@ -26,7 +26,7 @@ true_false e = cc
 -- ---- new replies
 
 -- what is new is prices
-new_priced : (reply : Reply) → is_new reply ≡ true → is_priced reply ≡ true
+pub new_priced : (reply : Reply) → is_new reply ≡ true → is_priced reply ≡ true
 new_priced (replies.Priced priced) new = refl
 new_priced (replies.Shown shown) new = absurd (cc)
 new_priced (replies.Due quote) new = absurd (cc)
@@ -47,7 +47,7 @@ all_new [] = tt
 all_new (reply ∷ told) = first_new reply (filter is_new told) (all_new told) (is_new reply) refl
 
 -- a line's reply is new where the shard's is
-said_new : (reply : ShardReply) → is_new (said reply) ≡ is_shard_new reply
+pub said_new : (reply : ShardReply) → is_new (said reply) ≡ is_shard_new reply
 said_new (shard_replies.Priced priced) = refl
 said_new (shard_replies.No why) = refl
 said_new (shard_replies.Due quote) = refl
@@ -101,7 +101,7 @@ cut_leaves m list marks n = cut marks m list n
 -- ---- one list behind another
 
 -- a machine behind more requests
-after_both : (m : Machine) (list more : List Request) → (outcome [] m (list ++ more)).after ≡ (outcome [] (outcome [] m list).after more).after
+pub after_both : (m : Machine) (list more : List Request) → (outcome [] m (list ++ more)).after ≡ (outcome [] (outcome [] m list).after more).after
 after_both m [] more = refl
 after_both m (r ∷ list) more = after_both (step None m r).after list more
 

@@ -1,5 +1,5 @@
 -- What came of one request over a desk of one shard and a till is a step of the machine.
-use Rattle.std.proofs.Common.{◌≡◌, ◌⊎◌, ℕ, Bool, true, false, List, [], ◌∷◌, ◌++◌, length, refl, sym, ap, ◌∙◌, subst, append-nil, zero-add, inl, inr, arith, Option, Some, None, IfSome}
+use Rattle.std.proofs.Common.{◌≡◌, ◌⊎◌, ℕ, Bool, true, false, List, [], ◌∷◌, ◌++◌, length, if◌then◌else◌, refl, sym, ap, ◌∙◌, subst, append-nil, zero-add, inl, inr, arith, Option, Some, None, IfSome}
 use Rattle.std.specs.Prelude.{Result, IfNone, IsSomeAnd}
 use Rattle.std.specs.List.{slice_get, AllByRecursion}
 use Rattle.std.specs.Option.{option_map}
@@ -15,25 +15,41 @@ use Rattle.pay_shard.specs.declared.item.Item.{Item}
 use Rattle.pay_shard.specs.declared.reply.Answer.{Answer}
 use Rattle.pay_shard.specs.declared.reply.Reply.{Reply as DeskReply}
 use Rattle.pay_shard.specs.declared.reply.Reply.TheVariants as desk_reply
-use Rattle.pay_shard.specs.Words.{State, batch, item_step, replay, answers, AreInPlace, commands_of as commands_of_items}
+use Rattle.pay_shard.specs.Words.{State, batch, item_step, is_new as is_shard_new, new_items, replay, answers, AreInPlace, commands_of as commands_of_items}
 use Rattle.pay_wire.specs.declared.refusal.Refusal.TheVariants as refusal
 use Rattle.pay_wire.specs.declared.reply.Reply.{Reply}
 use Rattle.pay_wire.specs.declared.reply.Reply.TheVariants as replies
-use Rattle.pay_session.specs.Words.{Taken, Event, said, refusal_of_desk, commands_of, IsAnswerTo, AreAnswered, AreQuotes, AreInTime, IsReplied, IsTaken, IsRefused, IsTillClosed, IsServedAs}
+use Rattle.pay_session.specs.Words.{Taken, Event, said, refusal_of_desk, commands_of, line_of, lines_of_items, IsAnswerTo, AreAnswered, AreQuotes, AreInTime, IsReplied, IsTaken, IsRefused, IsTillClosed, IsServedAs}
 use Rattle.pay_session.specs.declared.asks.Asks.{Asks}
 use Rattle.pay_session.specs.declared.asks.Asks.TheVariants as asks
 use Rattle.pay_wire.specs.declared.refusal.Refusal.{Refusal}
-use Rattle.pay_jobs.specs.Machine.{Machine, Failure, Memory, Step, step_asks, with_ledger}
+use Rattle.pay_jobs.specs.Machine.{Machine, Failure, Memory, Keeping, is_keeping, refusal_of_command, Step, step_asks, with_ledger}
+use Rattle.pay_jobs.specs.Journals.{is_new}
 use Rattle.pay_jobs.specs.Outcomes.{tells_failure}
 use Rattle.pay_jobs.proofs.Journals.{replay_behind, reply_behind, ticket_behind}
-use Rattle.pay_jobs.proofs.Tills.{IsOfMachine, is_keeping, IsPlain}
+use Rattle.pay_jobs.proofs.NewRequests.{said_new}
+use Rattle.pay_jobs.proofs.Tills.{IsOfMachine, IsPlain}
 
 -- the machine where a journal has come to, with its ledger
 abbrev pub machine_at : TimeZone → FareTables → State → List Item → Option LedgerParts → Machine
 machine_at zone tables base items ledger = record { zone = zone; tables = tables; accounts = replay tables base items; ledger = ledger }
 
--- The request was answered as the machine does; these items of the journal are its own, and these are left.
-pub record StepsTo (zone : TimeZone) (tables : FareTables) (base : State) (front back : List Item) (ledger : Option LedgerParts) (a : Asks) (event : Event) (later : List (ℕ × Asked)) (Holds : Option LedgerParts → Type 0) : Type 0 where
+-- the line of what a request comes to, if it is a command of a desk that has one
+abbrev pub line_of_asks : Asks → List ℕ
+line_of_asks (asks.Put a) = line_of a
+line_of_asks _ = []
+
+-- the line that is kept of a request, by its reply
+abbrev pub line_kept : Asks → Reply → List ℕ
+line_kept a reply = if is_new reply then line_of_asks a else []
+
+-- the lines of items that are newly accepted behind a front
+abbrev pub lines_new : FareTables → State → List Item → List ℕ
+lines_new tables state items = lines_of_items (new_items tables state items)
+
+-- The request was answered as the machine does; these items of the journal are its own, and these are left. Its line is kept if it is
+-- newly accepted.
+pub record StepsTo (zone : TimeZone) (tables : FareTables) (base : State) (front back : List Item) (ledger : Option LedgerParts) (a : Asks) (event : Event) (later : List (ℕ × Asked)) (Fails : Type 0) (Holds : Option LedgerParts → Type 0) : Type 0 where
   pub mark : Option Failure
   pub own : List Item
   pub rest : List Item
@@ -42,8 +58,19 @@ pub record StepsTo (zone : TimeZone) (tables : FareTables) (base : State) (front
   pub ledger_after : Option LedgerParts
   pub step : step_asks mark (machine_at zone tables base front ledger) a ≡ record { reply = event.reply; after = machine_at zone tables base (front ++ own) ledger_after }
   pub ample : tells_failure event.reply ≡ false → mark ≡ None
-  pub kept : is_keeping mark ≡ false
+  pub kept : (Fails → ⊥) → is_keeping mark ≡ false
+  pub lines : lines_new tables (replay tables base front) own ≡ line_kept a event.reply
   pub holds : Holds ledger_after
+
+-- no line is kept of what has none
+none_kept : (b : Bool) → ◌≡◌ {A = List ℕ} [] (if b then [] else [])
+none_kept true = refl
+none_kept false = refl
+
+-- the line of one item, if it is newly accepted
+one_kept : (b : Bool) (item : Item) (a : Asked) → item.entry.command ≡ a → lines_of_items (if b then item ∷ [] else []) ≡ (if b then line_of a else [])
+one_kept true item a is = append-nil (line_of item.entry.command) ∙ ap line_of is
+one_kept false item a is = refl
 
 -- what failed for an item, by whether it has a mark
 abbrev mark_of : Bool → Option Failure
@@ -139,10 +166,10 @@ module _ (number : ℕ) (zone : TimeZone) (tables : FareTables) (base : State) (
       }
 
   -- the desk took the command
-  taken_steps : (ledger : Option LedgerParts) (a : Asked) (event : Event) (later : List (ℕ × Asked)) (Holds : Option LedgerParts → Type 0) (Refuses : DeskFault → Type 0) (Late : Type 0) (never : Late → ⊥)
+  taken_steps : (ledger : Option LedgerParts) (a : Asked) (event : Event) (later : List (ℕ × Asked)) (Fails : Type 0) (Holds : Option LedgerParts → Type 0) (Refuses : DeskFault → Type 0) (Late : Type 0) (never : Late → ⊥)
       → IsTaken Refuses Late a event → commands_of_items back ≡ commands_of event.put ++ later
-      → AreAnswered (transcript number tables base journal) event.put → Holds ledger → StepsTo zone tables base front back ledger (asks.Put a) event later Holds
-  taken_steps ledger a event later Holds Refuses Late never is commands said_so holds =
+      → AreAnswered (transcript number tables base journal) event.put → Holds ledger → StepsTo zone tables base front back ledger (asks.Put a) event later Fails Holds
+  taken_steps ledger a event later Fails Holds Refuses Late never is commands said_so holds =
       let taken = is.taken in
       let n = next_of taken later (commands ∙ ap (λ p. commands_of p ++ later) is.once) in
       let f = n.next in
@@ -157,7 +184,9 @@ module _ (number : ℕ) (zone : TimeZone) (tables : FareTables) (base : State) (
         ledger_after = ledger;
         step = item_steps zone tables base front ledger f.item a (f.command ∙ is.same) ∙ ap (λ (r : Reply). record { reply = r; after = machine_at zone tables base (front ++ f.item ∷ []) ledger }) (sym told);
         ample = λ e. marked_lacks tables (replay tables base front) f.item (ap tells_failure (sym told) ∙ e);
-        kept = never_keeping f.item.refused_memory;
+        kept = λ _. never_keeping f.item.refused_memory;
+        lines = one_kept (is_shard_new (item_step tables (replay tables base front) f.item).reply) f.item a (f.command ∙ is.same)
+            ∙ ap (λ b. if b then line_of a else []) (sym (ap is_new told ∙ said_new (item_step tables (replay tables base front) f.item).reply));
         holds = holds;
       }
 
@@ -170,11 +199,12 @@ module _ (number : ℕ) (zone : TimeZone) (tables : FareTables) (base : State) (
     parts : back ≡ own ++ rest
     commands : commands_of_items rest ≡ later
     same : replay tables base (front ++ own) ≡ replay tables base front
+    none_new : lines_new tables (replay tables base front) own ≡ []
     answers_are : AllByRecursion (IsOfMachine tables (replay tables base front) day) put
 
   -- an item that asks for quotes is answered by them, or by want of memory, and changes no account
   abbrev GivesQuotes : State → ℕ → Item → Type 0
-  GivesQuotes state day i = ((item_step tables state i).after ≡ state) × (((item_step tables state i).reply ≡ desk_reply.Quotes (batch tables state day 0 1)) ⊎ ((item_step tables state i).reply ≡ desk_reply.Memory))
+  GivesQuotes state day i = ((item_step tables state i).after ≡ state) × (((item_step tables state i).reply ≡ desk_reply.Quotes (batch tables state day 0 1)) ⊎ ((item_step tables state i).reply ≡ desk_reply.Memory)) × (is_shard_new (item_step tables state i).reply ≡ false)
 
   asks_quotes : (state : State) (item : Item) (day : ℕ) → item.entry.command ≡ asked.Quotes day 0 1 → GivesQuotes state day item
   asks_quotes state item day is =
@@ -182,8 +212,8 @@ module _ (number : ℕ) (zone : TimeZone) (tables : FareTables) (base : State) (
       (by item.refused_memory)
     where
       by : (b : Bool) → GivesQuotes state day (record { entry = record { lane = item.entry.lane; ticket = item.entry.ticket; command = asked.Quotes day 0 1 }; refused_memory = b })
-      by true = (refl, inr refl)
-      by false = (refl, inl refl)
+      by true = (refl, inr refl, refl)
+      by false = (refl, inl refl, refl)
 
   -- the answer that came is the machine's
   answered_so : (Late : Type 0) → (Late → ⊥) → (transcript_of : ℕ → Option Answer) (t : Taken) (o : Option Answer) (reply : DeskReply) (P : DeskReply → Type 0) → IfNone o Late → IfSome o (IsAnswerTo transcript_of t)
@@ -199,6 +229,7 @@ module _ (number : ℕ) (zone : TimeZone) (tables : FareTables) (base : State) (
     parts = refl;
     commands = commands;
     same = ap (replay tables base) (append-nil front);
+    none_new = refl;
     answers_are = tt;
   }
   put_for_close day (t ∷ []) later Refuses Late never quotes in_time commands said_so =
@@ -212,6 +243,7 @@ module _ (number : ℕ) (zone : TimeZone) (tables : FareTables) (base : State) (
         parts = f.parts;
         commands = f.commands;
         same = replay_behind tables base front (f.item ∷ []) ∙ does.0;
+        none_new = ap (λ b. lines_of_items (if b then f.item ∷ [] else [])) does.2;
         answers_are = (answered_so Late never (transcript number tables base journal) t t.answer _ (λ (r : DeskReply). (r ≡ desk_reply.Quotes (batch tables state day 0 1)) ⊎ (r ≡ desk_reply.Memory)) in_time.0 said_so.0 n.there does.1, tt);
       }
   put_for_close day (t ∷ u ∷ ts) later Refuses Late never quotes in_time commands said_so = absurd (omega (arith, quotes.2.0))
@@ -219,11 +251,11 @@ module _ (number : ℕ) (zone : TimeZone) (tables : FareTables) (base : State) (
 -- ---- what was not taken
 
 -- what was not taken leaves the journal as it is
-nothing_taken : (zone : TimeZone) (tables : FareTables) (base : State) (front back : List Item) (ledger : Option LedgerParts) (a : Asks) (event : Event) (later : List (ℕ × Asked)) (Holds : Option LedgerParts → Type 0) (mark : Option Failure)
+nothing_taken : (zone : TimeZone) (tables : FareTables) (base : State) (front back : List Item) (ledger : Option LedgerParts) (a : Asks) (event : Event) (later : List (ℕ × Asked)) (Fails : Type 0) (Holds : Option LedgerParts → Type 0) (mark : Option Failure)
     → event.put ≡ [] → commands_of_items back ≡ commands_of event.put ++ later
-    → step_asks mark (machine_at zone tables base front ledger) a ≡ record { reply = event.reply; after = machine_at zone tables base front ledger } → (tells_failure event.reply ≡ false → mark ≡ None) → is_keeping mark ≡ false → Holds ledger
-    → StepsTo zone tables base front back ledger a event later Holds
-nothing_taken zone tables base front back ledger a event later Holds mark none commands step ample kept holds = record {
+    → step_asks mark (machine_at zone tables base front ledger) a ≡ record { reply = event.reply; after = machine_at zone tables base front ledger } → (tells_failure event.reply ≡ false → mark ≡ None) → ((Fails → ⊥) → is_keeping mark ≡ false)
+    → [] ≡ line_kept a event.reply → Holds ledger → StepsTo zone tables base front back ledger a event later Fails Holds
+nothing_taken zone tables base front back ledger a event later Fails Holds mark none commands step ample kept lines holds = record {
   mark = mark;
   own = [];
   rest = back;
@@ -233,26 +265,35 @@ nothing_taken zone tables base front back ledger a event later Holds mark none c
   step = step ∙ ap (λ l. record { reply = event.reply; after = machine_at zone tables base l ledger }) (sym (append-nil front));
   ample = ample;
   kept = kept;
+  lines = lines;
   holds = holds;
 }
 
--- the desk refused the command
-refused_steps : (zone : TimeZone) (tables : FareTables) (base : State) (front back : List Item) (ledger : Option LedgerParts) (a : Asked) (event : Event) (later : List (ℕ × Asked)) (Holds : Option LedgerParts → Type 0) (Refuses : DeskFault → Type 0) (Late : Type 0)
-    → ((fault : DeskFault) → Refuses fault → fault ≡ desk_fault.Memory)
-    → IsRefused Refuses Late event → commands_of_items back ≡ commands_of event.put ++ later → Holds ledger → StepsTo zone tables base front back ledger (asks.Put a) event later Holds
-refused_steps zone tables base front back ledger a event later Holds Refuses Late memory is commands holds =
-    let told : event ≡ record { reply = replies.No refusal.Memory; put = [] } = is.told ∙ ap (λ (f : DeskFault). record { reply = replies.No (refusal_of_desk f); put = [] }) (memory is.fault is.refuses) in
-    nothing_taken zone tables base front back ledger (asks.Put a) event later Holds (Some Memory) (ap (λ (e : Event). e.put) told) commands
-    (ap (λ (r : Reply). record { reply = r; after = machine_at zone tables base front ledger }) (ap (λ (e : Event). e.reply) (sym told)))
-    (λ e. absurd (true_false (ap tells_failure (ap (λ (e : Event). e.reply) (sym told)) ∙ e))) refl holds
+-- a refusal of the desk, by what failed
+module _ (zone : TimeZone) (tables : FareTables) (base : State) (front back : List Item) (ledger : Option LedgerParts) (a : Asked) (event : Event) (later : List (ℕ × Asked)) (Fails : Type 0) (Holds : Option LedgerParts → Type 0) (commands : commands_of_items back ≡ commands_of event.put ++ later) (holds : Holds ledger) where
+  refused_by : (fault : DeskFault) (failure : Failure) → refusal_of_desk fault ≡ refusal_of_command failure → tells_failure (replies.No (refusal_of_desk fault)) ≡ true → ((Fails → ⊥) → is_keeping (Some failure) ≡ false)
+      → event ≡ record { reply = replies.No (refusal_of_desk fault); put = [] } → StepsTo zone tables base front back ledger (asks.Put a) event later Fails Holds
+  refused_by fault failure same shows kept told =
+      let reply : event.reply ≡ replies.No (refusal_of_desk fault) = ap (λ (e : Event). e.reply) told in
+      nothing_taken zone tables base front back ledger (asks.Put a) event later Fails Holds (Some failure) (ap (λ (e : Event). e.put) told) commands
+      (ap (λ (r : Reply). record { reply = r; after = machine_at zone tables base front ledger }) (ap replies.No (sym same) ∙ sym reply))
+      (λ e. absurd (true_false (sym shows ∙ ap tells_failure (sym reply) ∙ e))) kept (ap (line_kept (asks.Put a)) (sym reply)) holds
+
+  -- the desk refused the command
+  refused_steps : (Refuses : DeskFault → Type 0) (Late : Type 0) → ((fault : DeskFault) → Refuses fault → (fault ≡ desk_fault.Memory) ⊎ ((fault ≡ desk_fault.NotKept) × Fails))
+      → IsRefused Refuses Late event → StepsTo zone tables base front back ledger (asks.Put a) event later Fails Holds
+  refused_steps Refuses Late memory is = elim (memory is.fault is.refuses) [
+    | inl lacks ↦ refused_by desk_fault.Memory Memory refl refl (λ _. refl) (is.told ∙ ap (λ (f : DeskFault). record { reply = replies.No (refusal_of_desk f); put = [] }) lacks)
+    | inr failed ↦ refused_by desk_fault.NotKept Keeping refl refl (λ never. absurd (never failed.1)) (is.told ∙ ap (λ (f : DeskFault). record { reply = replies.No (refusal_of_desk f); put = [] }) failed.0)
+  ]
 
 -- ---- one request
 
-module _ {T : Type 0} (Refuses : DeskFault → Type 0) (Late : Type 0) (Closes : T → ℕ → ℕ → List Taken → Result (List Posting) Refusal → T → Type 0) (Sound : T → Type 0) (Tells : T → Option LedgerParts → Type 0) (plain : IsPlain Refuses Late Closes Sound Tells) where
+module _ {T : Type 0} (Refuses : DeskFault → Type 0) (Late Fails : Type 0) (Closes : T → ℕ → ℕ → List Taken → Result (List Posting) Refusal → T → Type 0) (Sound : T → Type 0) (Tells : T → Option LedgerParts → Type 0) (plain : IsPlain Refuses Late Fails Closes Sound Tells) where
   -- the till closed a day
   closed_steps : (number : ℕ) (zone : TimeZone) (tables : FareTables) (base : State) (front back journal : List Item) (ledger : Option LedgerParts) (day : ℕ) (event : Event) (later : List (ℕ × Asked)) (before after : T)
       → AreInPlace 0 journal → journal ≡ front ++ back → IsTillClosed 1 Refuses Late Closes day event before after → commands_of_items back ≡ commands_of event.put ++ later
-      → AreAnswered (transcript number tables base journal) event.put → Sound after → Tells before ledger → StepsTo zone tables base front back ledger (asks.Close day) event later (Tells after)
+      → AreAnswered (transcript number tables base journal) event.put → Sound after → Tells before ledger → StepsTo zone tables base front back ledger (asks.Close day) event later Fails (Tells after)
   closed_steps number zone tables base front back journal ledger day event later before after placed whole is commands said_so sound tells =
       let p = put_for_close number zone tables base front back journal placed whole day event.put later Refuses Late plain.never is.close.quotes is.close.in_time commands said_so in
       let m = machine_at zone tables base front ledger in
@@ -267,26 +308,27 @@ module _ {T : Type 0} (Refuses : DeskFault → Type 0) (Late : Type 0) (Closes :
         step = c.step ∙ ap (λ (r : Reply). record { reply = r; after = with_ledger m c.ledger }) (sym is.told)
             ∙ ap (λ (s : State). record { reply = event.reply; after = record { zone = zone; tables = tables; accounts = s; ledger = c.ledger } }) (sym p.same);
         ample = λ e. c.ample (ap tells_failure (sym is.told) ∙ e);
-        kept = c.kept;
+        kept = λ _. c.kept;
+        lines = p.none_new ∙ none_kept (is_new event.reply);
         holds = c.holds;
       }
 
   -- one request, by what it comes to
   pub one_steps : (number : ℕ) (zone : TimeZone) (tables : FareTables) (base : State) (front back journal : List Item) (ledger : Option LedgerParts) (a : Asks) (event : Event) (later : List (ℕ × Asked)) (before after : T)
       → AreInPlace 0 journal → journal ≡ front ++ back → IsServedAs 1 Refuses Late Closes a event before after → commands_of_items back ≡ commands_of event.put ++ later
-      → AreAnswered (transcript number tables base journal) event.put → Sound after → Tells before ledger → StepsTo zone tables base front back ledger a event later (Tells after)
+      → AreAnswered (transcript number tables base journal) event.put → Sound after → Tells before ledger → StepsTo zone tables base front back ledger a event later Fails (Tells after)
   one_steps number zone tables base front back journal ledger (asks.Put a) event later before after placed whole (inl is, same) commands said_so sound tells =
-      taken_steps number zone tables base front back journal placed whole ledger a event later (Tells after) Refuses Late plain.never is commands said_so (subst (λ t. Tells t ledger) (sym same) tells)
+      taken_steps number zone tables base front back journal placed whole ledger a event later Fails (Tells after) Refuses Late plain.never is commands said_so (subst (λ t. Tells t ledger) (sym same) tells)
   one_steps number zone tables base front back journal ledger (asks.Put a) event later before after placed whole (inr is, same) commands said_so sound tells =
-      refused_steps zone tables base front back ledger a event later (Tells after) Refuses Late plain.memory is commands (subst (λ t. Tells t ledger) (sym same) tells)
+      refused_steps zone tables base front back ledger a event later Fails (Tells after) commands (subst (λ t. Tells t ledger) (sym same) tells) Refuses Late plain.memory is
   one_steps number zone tables base front back journal ledger (asks.Close day) event later before after placed whole is commands said_so sound tells =
       closed_steps number zone tables base front back journal ledger day event later before after placed whole is commands said_so sound tells
   one_steps number zone tables base front back journal ledger asks.Quit event later before after placed whole is commands said_so sound tells =
-      nothing_taken zone tables base front back ledger asks.Quit event later (Tells after) None (ap (λ (e : Event). e.put) is.0) commands
-      (ap (λ (r : Reply). record { reply = r; after = machine_at zone tables base front ledger }) (ap (λ (e : Event). e.reply) (sym is.0))) (λ e. refl) refl (subst (λ t. Tells t ledger) (sym is.1) tells)
+      nothing_taken zone tables base front back ledger asks.Quit event later Fails (Tells after) None (ap (λ (e : Event). e.put) is.0) commands
+      (ap (λ (r : Reply). record { reply = r; after = machine_at zone tables base front ledger }) (ap (λ (e : Event). e.reply) (sym is.0))) (λ e. refl) (λ _. refl) (none_kept (is_new event.reply)) (subst (λ t. Tells t ledger) (sym is.1) tells)
   one_steps number zone tables base front back journal ledger (asks.No why) event later before after placed whole is commands said_so sound tells =
-      nothing_taken zone tables base front back ledger (asks.No why) event later (Tells after) None (ap (λ (e : Event). e.put) is.0) commands
-      (ap (λ (r : Reply). record { reply = r; after = machine_at zone tables base front ledger }) (ap (λ (e : Event). e.reply) (sym is.0))) (λ e. refl) refl (subst (λ t. Tells t ledger) (sym is.1) tells)
+      nothing_taken zone tables base front back ledger (asks.No why) event later Fails (Tells after) None (ap (λ (e : Event). e.put) is.0) commands
+      (ap (λ (r : Reply). record { reply = r; after = machine_at zone tables base front ledger }) (ap (λ (e : Event). e.reply) (sym is.0))) (λ e. refl) (λ _. refl) (none_kept (is_new event.reply)) (subst (λ t. Tells t ledger) (sym is.1) tells)
 
   -- what a till keeps could be told before a request where it can be after it
   pub was_sound : (zone : TimeZone) (a : Asks) (event : Event) (before after : T) → IsServedAs 1 Refuses Late Closes a event before after → Sound after → Sound before

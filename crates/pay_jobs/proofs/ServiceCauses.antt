@@ -12,7 +12,7 @@ use Rattle.pay_jobs.specs.Faults.{IsRefusal, IsWantOfLedger, IsServeFault}
 use Rattle.pay_jobs.specs.Run.{IsRefused}
 use Rattle.pay_jobs.specs.Service.{HasServiceCause}
 use Rattle.pay_jobs.specs.declared.fault.Fault.{Fault}
-use Rattle.pay_jobs.specs.declared.fault.Fault.TheVariants.{Usage, CannotReadFares, BadZone, CannotListen, Input, Output, Refused}
+use Rattle.pay_jobs.specs.declared.fault.Fault.TheVariants.{Usage, CannotReadFares, BadZone, CannotListen, Input, Output, CannotUseJournal, JournalLine, JournalLineOf, Journal, Refused}
 
 -- no refusal of a fare file has the number 32
 not_of_fares : (why : FareFileFault) → fault_number why ≡ 32 → ⊥
@@ -33,6 +33,10 @@ module _ {W : Type 0} (writes : W → WriterCall → W → Type 0) (plan : Plan)
   other_refusal CannotReadFares n text other is = absurd is
   other_refusal BadZone n text other is = absurd is
   other_refusal CannotListen n text other is = absurd is
+  other_refusal CannotUseJournal n text other is = absurd is
+  other_refusal (JournalLine line why) n text other is = absurd is
+  other_refusal (JournalLineOf journal line why) n text other is = absurd is
+  other_refusal Journal n text other is = absurd is
   other_refusal Input n text other is = absurd is
   other_refusal Output n text other is = absurd is
 
@@ -52,6 +56,10 @@ module _ {W : Type 0} (writes : W → WriterCall → W → Type 0) (plan : Plan)
   refused_count CannotReadFares text is cause = absurd is
   refused_count BadZone text is cause = absurd is
   refused_count CannotListen text is cause = absurd is
+  refused_count CannotUseJournal text is cause = absurd is
+  refused_count (JournalLine line why) text is cause = absurd is
+  refused_count (JournalLineOf journal line why) text is cause = absurd is
+  refused_count Journal text is cause = absurd is
   refused_count Input text is cause = absurd is
   refused_count Output text is cause = absurd is
 

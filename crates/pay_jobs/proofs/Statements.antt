@@ -1,52 +1,107 @@
 -- How the job statement ends where there is no page, and how where there is one, by how it was written.
-use Rattle.std.proofs.Common.{◌≡◌, inl, inr, ℕ, List, Option, None, IfSome, Result, Ok, Err, OnOk, OnErr, IfErr, refl, sym, subst}
+use Rattle.std.proofs.Common.{◌≡◌, ◌∙◌, inl, inr, ℕ, List, [], Option, None, IfSome, Result, Ok, Err, OnOk, OnErr, IfErr, refl, sym, subst, ap}
 use Rattle.std.proofs.lemmas.Option.{IfSome_then}
 use Rattle.std.specs.Io.KnownBytes.{Appends}
+use Rattle.jiff.specs.Placed.{IsPosixZone}
+use Rattle.jiff.specs.ZoneView.{plain_zone}
+use Rattle.jiff.specs.declared.tz.timezone.TimeZone.{TimeZone}
+use Rattle.pay_fare_file.specs.Words.{fare_text}
 use Rattle.pay_quotes.specs.declared.shown.Line.{Line}
+use Rattle.pay_session.specs.Words.{line_requests}
+use Rattle.pay_statement.specs.Words.{statement_text}
+use Rattle.pay_tables.specs.Words.{FareTables}
 use Rattle.pay_wire.specs.Words.{AppendsFront}
 use Rattle.pay_jobs.specs.Faults.{IsWantOfMemory, IsWeekFault}
-use Rattle.pay_jobs.specs.Run.{Begins}
-use Rattle.pay_jobs.specs.Statement.{WeekBreaks, PageFails, IsPage, StatementEnds, StatementFails}
+use Rattle.pay_jobs.specs.Machine.{Machine, new_machine}
+use Rattle.pay_jobs.specs.Outcomes.{outcome, AreAllPriced}
+use Rattle.pay_jobs.specs.Run.{Begins, Resumes}
+use Rattle.pay_jobs.specs.Statement.{WeekBreaks, PageFails, IsPage, StatementWritten, StatementRefused}
+use Rattle.pay_jobs.specs.Week.{machine_past, IsPastAccepted, WeekTold, WeekNotTold}
 use Rattle.pay_jobs.specs.declared.fault.Fault.{Fault}
-use Rattle.pay_jobs.specs.declared.fault.Fault.TheVariants.{Usage, CannotReadFares, BadZone, CannotListen, Input, Output, Refused}
-use Rattle.pay_jobs.specs.Machine.{Machine}
-use Rattle.pay_jobs.specs.Week.{TellsWeek}
+use Rattle.pay_jobs.specs.declared.fault.Fault.TheVariants.{Usage, CannotReadFares, BadZone, CannotListen, Input, Output, CannotUseJournal, JournalLine, JournalLineOf, Journal, Refused}
 use Rattle.pay_jobs.specs.declared.week.WeekFault.{WeekFault}
-use Rattle.pay_jobs.specs.declared.week.WeekFault.TheVariants.{Broken, Memory}
+use Rattle.pay_jobs.specs.declared.week.WeekFault.TheVariants.{Broken, NotAccepted, Memory}
+use Rattle.pay_jobs.proofs.Asked.{ends_behind, same_ledger}
 
-pub not_told : (of : WeekFault) (fault : Fault) (fares zone : List ℕ) (remaining left : Option (List ℕ)) → IsWeekFault of fault → WeekBreaks of fares zone remaining left
-    → PageFails fault fares zone remaining left
-not_told (Broken answered) fault fares zone remaining left is breaks = subst (λ f. PageFails f fares zone remaining left) (sym is) (answered, breaks)
-not_told Memory (Refused number name) fares zone remaining left is breaks = inr (is, breaks)
-not_told Memory Usage fares zone remaining left is breaks = absurd is
-not_told Memory CannotReadFares fares zone remaining left is breaks = absurd is
-not_told Memory CannotListen fares zone remaining left is breaks = absurd is
-not_told Memory BadZone fares zone remaining left is breaks = absurd is
-not_told Memory Input fares zone remaining left is breaks = absurd is
-not_told Memory Output fares zone remaining left is breaks = absurd is
+pub not_told : (of : WeekFault) (fault : Fault) (texts : List ℕ × List ℕ × List ℕ) (reader : Option (List ℕ) × Option (List ℕ)) → IsWeekFault of fault → WeekBreaks of texts reader → PageFails fault texts reader
+not_told (Broken answered) fault texts reader is breaks = subst (λ f. PageFails f texts reader) (sym is) (answered, breaks)
+not_told (NotAccepted line why) fault texts reader is breaks = subst (λ f. PageFails f texts reader) (sym is) breaks
+not_told Memory (Refused number name) texts reader is breaks = inr (is, breaks)
+not_told Memory Usage texts reader is breaks = absurd is
+not_told Memory CannotReadFares texts reader is breaks = absurd is
+not_told Memory BadZone texts reader is breaks = absurd is
+not_told Memory CannotListen texts reader is breaks = absurd is
+not_told Memory Input texts reader is breaks = absurd is
+not_told Memory Output texts reader is breaks = absurd is
+not_told Memory CannotUseJournal texts reader is breaks = absurd is
+not_told Memory (JournalLine line why) texts reader is breaks = absurd is
+not_told Memory (JournalLineOf journal line why) texts reader is breaks = absurd is
+not_told Memory Journal texts reader is breaks = absurd is
 
--- the week was told, and memory for its text was refused
-pub not_spelled : (fault : Fault) (fares zone : List ℕ) (account day : ℕ) (remaining left : Option (List ℕ)) (m : Machine) (lines : List Line) → IsWantOfMemory fault → Begins fares zone None m
-    → IfSome remaining (λ input. TellsWeek m input left account day lines) → PageFails fault fares zone remaining left
-not_spelled fault fares zone account day remaining left m lines is begins tells =
-    not_told Memory fault fares zone remaining left is record { machine = m; begins = begins; fails = IfSome_then remaining tells (λ input t. inl t.unread) }
+-- the texts by which a page is made: a fare file and a zone that are read
+module _ (texts : List ℕ × List ℕ × List ℕ) (zone : TimeZone) (tables : FareTables) (says : fare_text texts.0 ≡ Ok tables) (rule : IsPosixZone texts.1 (plain_zone zone)) (reader : Option (List ℕ) × Option (List ℕ)) where
+  begins : Begins texts.0 texts.1 None (new_machine zone tables None)
+  begins = record { says = says; rule = rule; new = refl; posted = refl }
 
-pub no_page : (fault : Fault) (fares zone : List ℕ) (account day : ℕ) (remaining left held : Option (List ℕ)) → PageFails fault fares zone remaining left
-    → StatementFails fault fares zone account day remaining left held held
-no_page (Refused number name) fares zone account day remaining left held fails = (fails, refl)
-no_page Output fares zone account day remaining left held fails = absurd fails
-no_page Usage fares zone account day remaining left held fails = absurd fails
-no_page CannotReadFares fares zone account day remaining left held fails = absurd fails
-no_page CannotListen fares zone account day remaining left held fails = absurd fails
-no_page BadZone fares zone account day remaining left held fails = (fails, refl)
-no_page Input fares zone account day remaining left held fails = (fails, refl)
+  pub week_not_told : (of : WeekFault) (fault : Fault) → IsWeekFault of fault → WeekNotTold zone tables texts.2 reader of → PageFails fault texts reader
+  week_not_told of fault is fails = not_told of fault texts reader is record { machine = new_machine zone tables None; begins = begins; fails = fails }
 
-pub page_written : {T E : Type 0} (r : Result T E) (fares zone text : List ℕ) (account day : ℕ) (remaining left held written : Option (List ℕ)) → IsPage fares zone account day remaining left text
-    → OnOk r (Appends held written text) → OnOk r (StatementEnds fares zone account day remaining left held written)
-page_written (Ok x) fares zone text account day remaining left held written is h = (text, is, h)
-page_written (Err e) fares zone text account day remaining left held written is h = tt
+  -- the week was told, and memory for its text was refused
+  pub not_spelled : (fault : Fault) (of : ℕ × ℕ) (lines : List Line) → IsWantOfMemory fault → WeekTold zone tables texts.2 reader of lines → PageFails fault texts reader
+  not_spelled fault of lines is tells = week_not_told Memory fault is (inr (IfSome_then reader.0 tells.1 (λ input t. inl t.unread)))
 
-pub page_broken : {T : Type 0} (r : Result T Fault) (fares zone text : List ℕ) (account day : ℕ) (remaining left held written : Option (List ℕ)) → IsPage fares zone account day remaining left text
-    → OnErr r (AppendsFront held written text) → IfErr r (λ fault. fault ≡ Output) → IfErr r (λ fault. StatementFails fault fares zone account day remaining left held written)
-page_broken (Ok x) fares zone text account day remaining left held written is h e = tt
-page_broken (Err fault) fares zone text account day remaining left held written is h e = rw e (text, is, h)
+  -- the machine that the journal gives back
+  abbrev past : Machine
+  past = machine_past zone tables texts.2
+
+  in_zone : past.zone ≡ zone
+  in_zone = ap (λ (m : Machine). m.zone) (ends_behind [] (new_machine zone tables None) (line_requests texts.2))
+
+  by_tables : past.tables ≡ tables
+  by_tables = ap (λ (m : Machine). m.tables) (ends_behind [] (new_machine zone tables None) (line_requests texts.2))
+
+  resumes : IsPastAccepted zone tables texts.2 → Resumes texts None past
+  resumes accepted =
+      let none : past.ledger ≡ None = same_ledger (new_machine zone tables None) (line_requests texts.2) accepted in
+      let as_new : new_machine past.zone past.tables past.ledger ≡ new_machine zone tables None = (λ i. new_machine (in_zone i) (by_tables i) (none i)) in
+      record {
+        says = says ∙ ap Ok (sym by_tables);
+        rule = subst (λ z. IsPosixZone texts.1 (plain_zone z)) (sym in_zone) rule;
+        gives_back = record {
+          accepted = subst (λ m. AreAllPriced (outcome [] m (line_requests texts.2)).replies) (sym as_new) accepted;
+          machine = ap (λ m. (outcome [] m (line_requests texts.2)).after) as_new;
+        };
+        posted = none;
+      }
+
+  pub page_stands : (of : ℕ × ℕ) (lines : List Line) (text : List ℕ) → WeekTold zone tables texts.2 reader of lines → text ≡ statement_text tables lines → IsPage texts of reader text
+  page_stands of lines text tells is = record {
+    machine = past;
+    resumes = resumes tells.0;
+    lines = lines;
+    tells = tells.1;
+    says = is ∙ ap (λ t. statement_text t lines) (sym by_tables);
+  }
+
+pub no_page : (fault : Fault) (texts : List ℕ × List ℕ × List ℕ) (of : ℕ × ℕ) (remaining left held : Option (List ℕ)) → PageFails fault texts (remaining, left) → StatementRefused texts of (remaining, held) (left, held) fault
+no_page Output texts of remaining left held fails = absurd fails
+no_page (Refused number name) texts of remaining left held fails = (fails, refl)
+no_page Usage texts of remaining left held fails = (fails, refl)
+no_page CannotReadFares texts of remaining left held fails = (fails, refl)
+no_page BadZone texts of remaining left held fails = (fails, refl)
+no_page CannotListen texts of remaining left held fails = (fails, refl)
+no_page Input texts of remaining left held fails = (fails, refl)
+no_page CannotUseJournal texts of remaining left held fails = (fails, refl)
+no_page (JournalLine line why) texts of remaining left held fails = (fails, refl)
+no_page (JournalLineOf journal line why) texts of remaining left held fails = (fails, refl)
+no_page Journal texts of remaining left held fails = (fails, refl)
+
+pub page_written : {T E : Type 0} (r : Result T E) (texts : List ℕ × List ℕ × List ℕ) (of : ℕ × ℕ) (text : List ℕ) (remaining left held written : Option (List ℕ)) → IsPage texts of (remaining, left) text
+    → OnOk r (Appends held written text) → OnOk r (StatementWritten texts of (remaining, held) (left, written))
+page_written (Ok x) texts of text remaining left held written is h = (text, is, h)
+page_written (Err e) texts of text remaining left held written is h = tt
+
+pub page_broken : {T : Type 0} (r : Result T Fault) (texts : List ℕ × List ℕ × List ℕ) (of : ℕ × ℕ) (text : List ℕ) (remaining left held written : Option (List ℕ)) → IsPage texts of (remaining, left) text
+    → OnErr r (AppendsFront held written text) → IfErr r (λ fault. fault ≡ Output) → IfErr r (StatementRefused texts of (remaining, held) (left, written))
+page_broken (Ok x) texts of text remaining left held written is h e = tt
+page_broken (Err fault) texts of text remaining left held written is h e = rw e (text, is, h)

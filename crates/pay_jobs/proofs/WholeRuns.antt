@@ -1,22 +1,21 @@
 -- How a session over a desk of one shard and a till ends, as the machine tells it.
-use Rattle.std.proofs.Common.{◌≡◌, ℕ, Bool, true, false, ◌||◌, List, [], ◌∷◌, ◌++◌, refl, sym, ap, ◌∙◌, subst, Option, Some, None, IfSome}
-use Rattle.std.specs.Prelude.{Result, Ok, Err, IfOk, IfErr, is_some, ⊤}
-use Rattle.std.specs.FinMap as finite
+use Rattle.std.proofs.Common.{◌≡◌, inl, inr, ℕ, Bool, true, false, ◌||◌, List, [], ◌∷◌, ◌++◌, refl, sym, ap, ◌∙◌, subst, Option, Some, None, IfSome}
+use Rattle.std.specs.Prelude.{Result, Ok, Err, IfOk, IfErr, OnOk, OnErr, is_some, ⊤}
 use Rattle.std.specs.List.{list_any}
 use Rattle.std.specs.Io.KnownBytes.{Appends}
-use Rattle.std.proofs.lemmas.List.{length-map}
+use Rattle.std.proofs.lemmas.List.{length-map, map-append}
 use Rattle.jiff.specs.declared.tz.timezone.TimeZone.{TimeZone}
 use Rattle.sqlite.specs.State.{State as DatabaseState, HasCleanDisk}
-use Rattle.pay_day.specs.Words.{monday}
 use Rattle.pay_account.specs.Words.{Accepted, week_lines, Posting}
+use Rattle.pay_kept.specs.Words.{KeptParts, Beginning, CanFail, kept_parts, KeepsLines}
 use Rattle.pay_quotes.specs.declared.shown.Line.{Line}
 use Rattle.pay_postings.specs.Words.{LedgerParts}
 use Rattle.pay_tables.specs.Words.{FareTables}
 use Rattle.pay_shard.specs.declared.desk.DeskFault.{DeskFault}
 use Rattle.pay_shard.specs.declared.item.Item.{Item}
-use Rattle.pay_shard.specs.Words.{ShardParts, State, Standing, state_now, accepted_of, transcript_of, desk_parts, AreInPlace, commands_of as commands_of_items}
+use Rattle.pay_shard.specs.Words.{ShardParts, LocalParts, State, Standing, state_now, replay, transcript_of, desk_parts, AreInPlace, commands_of as commands_of_items}
 use Rattle.pay_wire.specs.Words.{spelling_of_reply}
-use Rattle.pay_session.specs.Words.{requests_of, line_requests, Taken, Event, said_of_close, lacks_memory, any_lacks_memory, Sides, IsSession, MaySometimeRefuse, MaySometimeBeLate, text_of as text_of_events, EndsSo as SessionEnds, StopsReading as SessionStopsReading, StopsWriting as SessionStopsWriting, FailsSo as SessionFailsSo}
+use Rattle.pay_session.specs.Words.{requests_of, line_requests, Taken, Event, all_put, commands_of, said_of_close, AskedByItsLine, ClosesNothing, lacks_memory, any_lacks_memory, Sides, IsSession, MaySometimeRefuse, MaySometimeBeLate, text_of as text_of_events, EndsSo as SessionEnds, StopsReading as SessionStopsReading, StopsWriting as SessionStopsWriting, FailsSo as SessionFailsSo}
 use Rattle.pay_session.specs.declared.request.Request.{Request}
 use Rattle.pay_session.specs.declared.sessions.Done.{Done}
 use Rattle.pay_session.specs.declared.stop.SessionFault.{SessionFault}
@@ -27,15 +26,16 @@ use Rattle.pay_session.specs.declared.till.NoTill.{NoTill}
 use Rattle.pay_ledger.specs.Words.{IsLedger}
 use Rattle.pay_close.specs.Words.{OneShardGathersAll}
 use Rattle.pay_close.specs.Closes.{Closes as LedgerCloses}
+use Rattle.pay_jobs.specs.Journals.{new_requests}
+use Rattle.pay_jobs.specs.KeptLines.{lines_of_requests, KeepsNew}
 use Rattle.pay_jobs.specs.Ledgers.{HasLedger}
-use Rattle.pay_jobs.specs.Machine.{Machine, Failure, new_machine, stays, step_close, step}
+use Rattle.pay_jobs.specs.Machine.{Machine, Failure, machine_on, stays, step_close, step}
 use Rattle.pay_jobs.specs.Outcomes.{Outcome, outcome, reply_then, text_of}
-use Rattle.pay_jobs.specs.LineRuns.{ComesTo, Ends, StopsReading, StopsWriting, FailsSo}
-use Rattle.pay_jobs.specs.Week.{TellsWeek}
+use Rattle.pay_jobs.specs.LineRuns.{Beside, beside_run, ComesTo, Ends, StopsReading, StopsWriting, FailsSo}
 use Rattle.pay_jobs.proofs.AllRequests.{RunsTo, replies_of, all_run}
 use Rattle.pay_jobs.proofs.Asked.{accounts_kept}
 use Rattle.pay_jobs.proofs.LedgerCloses.{ledger_closes, was_clean}
-use Rattle.pay_jobs.proofs.OneRequest.{machine_at}
+use Rattle.pay_jobs.proofs.OneRequest.{machine_at, lines_new}
 use Rattle.pay_jobs.proofs.Tills.{ClosesAs, IsPlain}
 
 -- what is written for events is what is written for their replies
@@ -62,173 +62,172 @@ no_marks (Some failure ∷ marks) m rs h = absurd (true_false h)
 no_marks (None ∷ marks) m [] h = refl
 no_marks (None ∷ marks) m (r ∷ rs) h = ap (reply_then (step None m r).reply) (no_marks marks (step None m r).after rs h)
 
--- a shard that began with nothing: its journal after a session, each entry at its ticket
-pub record IsFresh (tables : FareTables) (shard : ShardParts) : Type 0 where
-  pub same_tables : shard.tables ≡ tables
-  pub from_nothing : shard.base ≡ finite.empty
+-- the sides of a session at a desk whose journal began with a front
+abbrev pub sides_from : {T : Type 0} → List Item → ShardParts → T → T → Sides T
+sides_from front shard before after = record { taken_before = commands_of_items front; taken_after = commands_of_items shard.journal; transcript = transcript_of shard; till_before = before; till_after = after }
+
+-- a journal with a front, and what is behind it; each entry is at its ticket
+pub record IsBehind (front : List Item) (shard : ShardParts) : Type 0 where
+  pub back : List Item
+  pub whole : shard.journal ≡ front ++ back
   pub in_place : AreInPlace 0 shard.journal
 
--- the sides of a session at a desk that had such a journal
-abbrev pub from_journal : {T : Type 0} → List Item → ShardParts → T → T → Sides T
-from_journal journal shard before after = record { taken_before = commands_of_items journal; taken_after = commands_of_items shard.journal; transcript = transcript_of shard; till_before = before; till_after = after }
+-- what stands behind the same is the same
+same_behind : {X : Type 0} (xs ys zs : List X) → xs ++ ys ≡ xs ++ zs → ys ≡ zs
+same_behind [] ys zs e = e
+same_behind {X = X} (x ∷ xs) ys zs e = same_behind xs ys zs (tails x x (xs ++ ys) (xs ++ zs) e)
+  where
+    tails : (x y : X) (xs ys : List X) → x ∷ xs ≡ y ∷ ys → xs ≡ ys
+    tails x y xs ys e = cc
 
-module _ {T : Type 0} (Refuses : DeskFault → Type 0) (Late : Type 0) (Closes : T → ℕ → ℕ → List Taken → Result (List Posting) Refusal → T → Type 0) (Sound : T → Type 0) (Tells : T → Option LedgerParts → Type 0) (plain : IsPlain Refuses Late Closes Sound Tells) (zone : TimeZone) where
-  -- the sides of a session at such a shard
-  abbrev sides_of : ShardParts → T → T → Sides T
-  sides_of shard before after = record { taken_before = []; taken_after = commands_of_items shard.journal; transcript = transcript_of shard; till_before = before; till_after = after }
-
-  -- the machine where such a shard began
-  abbrev first : ShardParts → Option LedgerParts → Machine
-  first shard ledger = machine_at zone shard.tables shard.base [] ledger
-
-  begins : (tables : FareTables) (shard : ShardParts) (ledger : Option LedgerParts) → IsFresh tables shard → first shard ledger ≡ new_machine zone tables ledger
-  begins tables shard ledger fresh = ap (λ b. record { zone = zone; tables = shard.tables; accounts = b; ledger = ledger }) fresh.from_nothing ∙ ap (λ t. new_machine zone t ledger) fresh.same_tables
+module _ {T : Type 0} (Refuses : DeskFault → Type 0) (Late Fails : Type 0) (Closes : T → ℕ → ℕ → List Taken → Result (List Posting) Refusal → T → Type 0) (Sound : T → Type 0) (Tells : T → Option LedgerParts → Type 0) (plain : IsPlain Refuses Late Fails Closes Sound Tells) (by_line : AskedByItsLine) (zone : TimeZone) where
+  -- the machine where such a session began
+  abbrev first : List Item → ShardParts → Option LedgerParts → Machine
+  first front shard ledger = machine_at zone shard.tables shard.base front ledger
 
   -- a session's requests are run by the machine
-  runs : (shard : ShardParts) (before after : T) (ledger : Option LedgerParts) (requests : List Request) (events : List Event) → AreInPlace 0 shard.journal → Sound after → Tells before ledger
-      → IsSession zone 1 Refuses Late Closes (sides_of shard before after) requests events → RunsTo zone shard.tables shard.base [] shard.journal ledger requests events (Tells after)
-  runs shard before after ledger requests events placed sound tells s =
-      all_run Refuses Late Closes Sound Tells plain zone shard.number shard.tables shard.base [] shard.journal shard.journal ledger requests events before after placed refl s.served s.taken s.said sound tells
+  pub runs : (front : List Item) (shard : ShardParts) (before after : T) (ledger : Option LedgerParts) (requests : List Request) (events : List Event) (b : IsBehind front shard) → Sound after → Tells before ledger
+      → IsSession zone 1 Refuses Late Closes (sides_from front shard before after) requests events → RunsTo zone shard.tables shard.base front b.back ledger requests events Fails (Tells after)
+  runs front shard before after ledger requests events b sound tells s =
+      let own : commands_of_items b.back ≡ commands_of (all_put events) =
+      same_behind (commands_of_items front) (commands_of_items b.back) (commands_of (all_put events))
+      (sym (map-append (λ (i : Item). (i.entry.ticket, i.entry.command)) front b.back) ∙ ap commands_of_items (sym b.whole) ∙ s.taken) in
+      all_run Refuses Late Fails Closes Sound Tells plain by_line zone shard.number shard.tables shard.base front b.back shard.journal ledger requests events before after b.in_place b.whole s.served own s.said sound tells
 
   -- so they came to this
   abbrev came_to : ShardParts → List Event → Option LedgerParts → Outcome
   came_to shard events ledger = record { replies = replies_of events; after = machine_at zone shard.tables shard.base shard.journal ledger }
 
-  comes : (shard : ShardParts) (before after : T) (ledger : Option LedgerParts) (requests : List Request) (events : List Event) (r : RunsTo zone shard.tables shard.base [] shard.journal ledger requests events (Tells after))
-      → ComesTo (first shard ledger) requests (Tells after) (came_to shard events r.ledger_after)
-  comes shard before after ledger requests events r = record {
-    marks = r.marks;
-    run = sym r.gives;
-    ample = λ h. sym r.gives ∙ no_marks r.marks (first shard ledger) requests (r.ample h);
-    ledger = r.holds;
-  }
+  -- what is so beside the session: what is so of the newly accepted requests where it is so of all whose lines are those of the new items
+  module _ (front : List Item) (shard : ShardParts) (b : IsBehind front shard) (before after : T) (ledger : Option LedgerParts) (Keeps : List Request → Type 0) (keeps : (new : List Request) → lines_new shard.tables (replay shard.tables shard.base front) b.back ≡ lines_of_requests new → Keeps new)
+      (sound : Sound after) (tells : Tells before ledger) where
+    abbrev beside : Beside
+    beside = record { Holds = Tells after; Keeps = Keeps; Fails = Fails }
 
-  ends_first : (shard : ShardParts) (before after : T) (ledger : Option LedgerParts) (input : List ℕ) (left held new : Option (List ℕ)) (answered : ℕ) (quit lacked : Bool) → AreInPlace 0 shard.journal → Sound after → Tells before ledger
-      → SessionEnds zone 1 Refuses Late Closes (sides_of shard before after) input left held new answered quit lacked → Ends (first shard ledger) input left held new (Tells after) answered quit lacked
-  ends_first shard before after ledger input left held new answered quit lacked placed sound tells e =
-      let r = runs shard before after ledger (requests_of input) e.events placed sound tells e.session in
-      record {
-        came = came_to shard e.events r.ledger_after;
-        comes = comes shard before after ledger (requests_of input) e.events r;
-        written = subst (λ (l : List ℕ). Appends held new l) (text_alike e.events) e.written;
-        counted = e.counted ∙ sym (length-map e.events (λ (e : Event). e.reply));
-        lacked = e.lacked ∙ any_alike e.events;
-        ended = e.ended;
-        unread = e.unread;
-      }
+    comes : (requests : List Request) (events : List Event) (r : RunsTo zone shard.tables shard.base front b.back ledger requests events Fails (Tells after))
+        → ComesTo (first front shard ledger) requests beside (came_to shard events r.ledger_after)
+    comes requests events r =
+        let gives : outcome r.marks (first front shard ledger) requests ≡ came_to shard events r.ledger_after =
+        r.gives ∙ ap (λ l. record { replies = replies_of events; after = machine_at zone shard.tables shard.base l r.ledger_after }) (sym b.whole) in
+        record {
+          marks = r.marks;
+          run = sym gives;
+          ample = λ h. sym gives ∙ no_marks r.marks (first front shard ledger) requests (r.ample h);
+          ledger = r.holds;
+          kept = keeps (new_requests r.marks (first front shard ledger) requests) r.lines;
+          never = r.kept;
+        }
 
-  reading_first : (shard : ShardParts) (before after : T) (ledger : Option LedgerParts) (input : List ℕ) (left held new : Option (List ℕ)) (answered : ℕ) → AreInPlace 0 shard.journal → Sound after → Tells before ledger
-      → SessionStopsReading zone 1 Refuses Late Closes (sides_of shard before after) input left held new answered → StopsReading (first shard ledger) input left held new (Tells after) answered
-  reading_first shard before after ledger input left held new answered placed sound tells e =
-      let r = runs shard before after ledger (line_requests e.front) e.events placed sound tells e.session in
-      record {
-        front = e.front;
-        back = e.back;
-        parts = e.parts;
-        unread = e.unread;
-        goes_on = e.goes_on;
-        came = came_to shard e.events r.ledger_after;
-        comes = comes shard before after ledger (line_requests e.front) e.events r;
-        written = subst (λ (l : List ℕ). Appends held new l) (text_alike e.events) e.written;
-        counted = e.counted ∙ sym (length-map e.events (λ (e : Event). e.reply));
-      }
+    pub ends_from : (input : List ℕ) (left held new : Option (List ℕ)) (answered : ℕ) (quit lacked : Bool)
+        → SessionEnds zone 1 Refuses Late Closes (sides_from front shard before after) input left held new answered quit lacked → Ends (first front shard ledger) input left held new beside answered quit lacked
+    ends_from input left held new answered quit lacked e =
+        let r = runs front shard before after ledger (requests_of input) e.events b sound tells e.session in
+        record {
+          came = came_to shard e.events r.ledger_after;
+          comes = comes (requests_of input) e.events r;
+          written = subst (λ (l : List ℕ). Appends held new l) (text_alike e.events) e.written;
+          counted = e.counted ∙ sym (length-map e.events (λ (e : Event). e.reply));
+          lacked = e.lacked ∙ any_alike e.events;
+          ended = e.ended;
+          unread = e.unread;
+        }
 
-  writing_first : (shard : ShardParts) (before after : T) (ledger : Option LedgerParts) (input : List ℕ) (held new : Option (List ℕ)) (answered : ℕ) → AreInPlace 0 shard.journal → Sound after → Tells before ledger
-      → SessionStopsWriting zone 1 Refuses Late Closes (sides_of shard before after) input held new answered → StopsWriting (first shard ledger) input held new (Tells after) answered
-  writing_first shard before after ledger input held new answered placed sound tells e =
-      let all = e.events ++ e.next ∷ [] in
-      let r = runs shard before after ledger e.done all placed sound tells e.session in
-      record {
-        done = e.done;
-        others = e.others;
-        requests = e.requests;
-        came = came_to shard all r.ledger_after;
-        comes = comes shard before after ledger e.done all r;
-        told = replies_of e.events;
-        next = e.next.reply;
-        replies = replies_append e.events (e.next ∷ []);
-        whole = e.whole;
-        written = subst (λ (l : List ℕ). Appends held e.whole l) (text_alike e.events) e.written;
-        broken = e.broken;
-        counted = e.counted ∙ sym (length-map e.events (λ (e : Event). e.reply));
-      }
+    reading_from : (input : List ℕ) (left held new : Option (List ℕ)) (answered : ℕ)
+        → SessionStopsReading zone 1 Refuses Late Closes (sides_from front shard before after) input left held new answered → StopsReading (first front shard ledger) input left held new beside answered
+    reading_from input left held new answered e =
+        let r = runs front shard before after ledger (line_requests e.front) e.events b sound tells e.session in
+        record {
+          front = e.front;
+          back = e.back;
+          parts = e.parts;
+          unread = e.unread;
+          goes_on = e.goes_on;
+          came = came_to shard e.events r.ledger_after;
+          comes = comes (line_requests e.front) e.events r;
+          written = subst (λ (l : List ℕ). Appends held new l) (text_alike e.events) e.written;
+          counted = e.counted ∙ sym (length-map e.events (λ (e : Event). e.reply));
+        }
 
-  -- ---- from a new machine
+    writing_from : (input : List ℕ) (held new : Option (List ℕ)) (answered : ℕ)
+        → SessionStopsWriting zone 1 Refuses Late Closes (sides_from front shard before after) input held new answered → StopsWriting (first front shard ledger) input held new beside answered
+    writing_from input held new answered e =
+        let all = e.events ++ e.next ∷ [] in
+        let r = runs front shard before after ledger e.done all b sound tells e.session in
+        record {
+          done = e.done;
+          others = e.others;
+          requests = e.requests;
+          came = came_to shard all r.ledger_after;
+          comes = comes e.done all r;
+          told = replies_of e.events;
+          next = e.next.reply;
+          replies = replies_append e.events (e.next ∷ []);
+          whole = e.whole;
+          written = subst (λ (l : List ℕ). Appends held e.whole l) (text_alike e.events) e.written;
+          broken = e.broken;
+          counted = e.counted ∙ sym (length-map e.events (λ (e : Event). e.reply));
+        }
 
-  run_ends : (tables : FareTables) (shard : ShardParts) (before after : T) (ledger : Option LedgerParts) (input : List ℕ) (left held new : Option (List ℕ)) (answered : ℕ) (quit lacked : Bool) → IsFresh tables shard → Sound after → Tells before ledger
-      → SessionEnds zone 1 Refuses Late Closes (sides_of shard before after) input left held new answered quit lacked → Ends (new_machine zone tables ledger) input left held new (Tells after) answered quit lacked
-  run_ends tables shard before after ledger input left held new answered quit lacked fresh sound tells e =
-      subst (λ (m : Machine). Ends m input left held new (Tells after) answered quit lacked) (begins tables shard ledger fresh) (ends_first shard before after ledger input left held new answered quit lacked fresh.in_place sound tells e)
+    pub fails_from : (fault : SessionFault) (input : List ℕ) (left held new : Option (List ℕ))
+        → SessionFailsSo zone 1 Refuses Late Closes fault (sides_from front shard before after) input left held new → FailsSo fault (first front shard ledger) input left held new beside
+    fails_from (Read answered) input left held new e = reading_from input left held new answered e
+    fails_from (Write answered) input left held new e = writing_from input held new answered e
 
-  run_fails : (fault : SessionFault) (tables : FareTables) (shard : ShardParts) (before after : T) (ledger : Option LedgerParts) (input : List ℕ) (left held new : Option (List ℕ)) → IsFresh tables shard → Sound after → Tells before ledger
-      → SessionFailsSo zone 1 Refuses Late Closes fault (sides_of shard before after) input left held new → FailsSo fault (new_machine zone tables ledger) input left held new (Tells after)
-  run_fails (Read answered) tables shard before after ledger input left held new fresh sound tells e =
-      subst (λ (m : Machine). StopsReading m input left held new (Tells after) answered) (begins tables shard ledger fresh) (reading_first shard before after ledger input left held new answered fresh.in_place sound tells e)
-  run_fails (Write answered) tables shard before after ledger input left held new fresh sound tells e =
-      subst (λ (m : Machine). StopsWriting m input held new (Tells after) answered) (begins tables shard ledger fresh) (writing_first shard before after ledger input held new answered fresh.in_place sound tells e)
+    -- the accounts after a session for which nothing failed but a close
+    pub accounts_after : (Fails → ⊥) → (requests : List Request) (events : List Event) → IsSession zone 1 Refuses Late Closes (sides_from front shard before after) requests events → any_lacks_memory events ≡ false
+        → (outcome [] (first front shard ledger) requests).after.accounts ≡ state_now shard
+    accounts_after never requests events s ample =
+        let r = runs front shard before after ledger requests events b sound tells s in
+        let replies : list_any lacks_memory (outcome r.marks (first front shard ledger) requests).replies ≡ false = ap (λ (o : Outcome). list_any lacks_memory o.replies) r.gives ∙ sym (any_alike events) ∙ ample in
+        sym (accounts_kept r.marks (first front shard ledger) requests (r.kept never) replies)
+        ∙ ap (λ (o : Outcome). o.after.accounts) r.gives ∙ ap (replay shard.tables shard.base) (sym b.whole)
 
-  -- ---- from the clauses of a session, over a desk that began with nothing
+-- ---- a desk that keeps lines
 
-  -- the shard after it
-  fresh_after : (tables : FareTables) (begun shard : ShardParts) → begun.tables ≡ tables → begun.base ≡ finite.empty → AreInPlace 0 shard.journal → ◌≡◌ {A = FareTables × State} (shard.tables, shard.base) (begun.tables, begun.base) → IsFresh tables shard
-  fresh_after tables begun shard same nothing placed origin = record {
-    same_tables = ap (λ o. o.0) origin ∙ same;
-    from_nothing = ap (λ o. o.1) origin ∙ nothing;
-    in_place = placed;
-  }
+-- what such a desk began with, as it is told in the end
+pub same_origin : (Fails : Type 0) (desk : LocalParts) (held : Option (List ℕ)) (begun now settled : KeptParts) → begun ≡ record { seen = desk; first = desk.shard.journal; held_first = held; holds = held; stuck = false }
+    → (kept_parts Fails now).standing ≡ (kept_parts Fails begun).standing → settled.seen ≡ now.seen → (settled.first ≡ now.first) × (settled.held_first ≡ now.held_first)
+    → (kept_parts Fails settled).standing.origin ≡ record { tables = desk.shard.tables; base = desk.shard.base; items = desk.shard.journal; holds = held }
+same_origin Fails desk held begun now settled is same seen first =
+    (λ i. record { tables = (seen i).shard.tables; base = (seen i).shard.base; items = first.0 i; holds = first.1 i })
+    ∙ ap (λ (s : Standing Beginning). s.origin) same ∙ ap (λ (k : KeptParts). (kept_parts Fails k).standing.origin) is
 
-  from_nothing : (journal : List Item) (shard : ShardParts) (before after : T) → journal ≡ [] → from_journal journal shard before after ≡ sides_of shard before after
-  from_nothing journal shard before after none = ap (λ l. from_journal l shard before after) none
+-- the machine of such a beginning
+abbrev pub machine_from : TimeZone → Beginning → Option LedgerParts → Machine
+machine_from zone o ledger = record { zone = zone; tables = o.tables; accounts = replay o.tables o.base o.items; ledger = ledger }
 
-  pub lines_end : (result : Result Done SessionFault) (known left held new : Option (List ℕ)) (tables : FareTables) (begun shard : ShardParts) (before after : T) (ledger : Option LedgerParts)
-      → begun.tables ≡ tables → begun.base ≡ finite.empty → begun.journal ≡ [] → AreInPlace 0 shard.journal
-      → ◌≡◌ {A = FareTables × State} (shard.tables, shard.base) (begun.tables, begun.base) → Sound after → Tells before ledger
-      → IfOk result (λ done. IfSome known (λ input. SessionEnds zone 1 Refuses Late Closes (from_journal begun.journal shard before after) input left held new done.answered done.quit done.lacked_memory))
-      → IfOk result (λ done. IfSome known (λ input. Ends (new_machine zone tables ledger) input left held new (Tells after) done.answered done.quit done.lacked_memory))
-  lines_end (Err fault) known left held new tables begun shard before after ledger same nothing none placed origin sound tells h = tt
-  lines_end (Ok done) None left held new tables begun shard before after ledger same nothing none placed origin sound tells h = tt
-  lines_end (Ok done) (Some input) left held new tables begun shard before after ledger same nothing none placed origin sound tells h =
-      run_ends tables shard before after ledger input left held new done.answered done.quit done.lacked_memory (fresh_after tables begun shard same nothing placed origin) sound tells
-      (subst (λ (s : Sides T). SessionEnds zone 1 Refuses Late Closes s input left held new done.answered done.quit done.lacked_memory) (from_nothing begun.journal shard before after none) h)
+-- a session of it, from what it began with to what is seen in the end
+abbrev pub Refuses : Type 0 → KeptParts → DeskFault → Type 0
+Refuses Fails begun = MaySometimeRefuse (kept_parts Fails) (kept_parts Fails begun).standing
 
-  pub lines_fail : (result : Result Done SessionFault) (known left held new : Option (List ℕ)) (tables : FareTables) (begun shard : ShardParts) (before after : T) (ledger : Option LedgerParts)
-      → begun.tables ≡ tables → begun.base ≡ finite.empty → begun.journal ≡ [] → AreInPlace 0 shard.journal
-      → ◌≡◌ {A = FareTables × State} (shard.tables, shard.base) (begun.tables, begun.base) → Sound after → Tells before ledger
-      → IfErr result (λ fault. IfSome known (λ input. SessionFailsSo zone 1 Refuses Late Closes fault (from_journal begun.journal shard before after) input left held new))
-      → IfErr result (λ fault. IfSome known (λ input. FailsSo fault (new_machine zone tables ledger) input left held new (Tells after)))
-  lines_fail (Ok done) known left held new tables begun shard before after ledger same nothing none placed origin sound tells h = tt
-  lines_fail (Err fault) None left held new tables begun shard before after ledger same nothing none placed origin sound tells h = tt
-  lines_fail (Err fault) (Some input) left held new tables begun shard before after ledger same nothing none placed origin sound tells h =
-      run_fails fault tables shard before after ledger input left held new (fresh_after tables begun shard same nothing placed origin) sound tells
-      (subst (λ (s : Sides T). SessionFailsSo zone 1 Refuses Late Closes fault s input left held new) (from_nothing begun.journal shard before after none) h)
+abbrev pub Late : Type 0 → KeptParts → Type 0
+Late Fails begun = MaySometimeBeLate (kept_parts Fails) (kept_parts Fails begun).standing
 
-  -- the accounts after a session that lacked memory for nothing
-  accounts_after : (tables : FareTables) (shard : ShardParts) (before after : T) (ledger : Option LedgerParts) (requests : List Request) (events : List Event) → IsFresh tables shard → Sound after → Tells before ledger
-      → IsSession zone 1 Refuses Late Closes (sides_of shard before after) requests events → any_lacks_memory events ≡ false
-      → (outcome [] (new_machine zone tables ledger) requests).after.accounts ≡ state_now shard
-  accounts_after tables shard before after ledger requests events fresh sound tells s ample =
-      let r = runs shard before after ledger requests events fresh.in_place sound tells s in
-      let replies : list_any lacks_memory (outcome r.marks (first shard ledger) requests).replies ≡ false = ap (λ (o : Outcome). list_any lacks_memory o.replies) r.gives ∙ sym (any_alike events) ∙ ample in
-      ap (λ (m : Machine). (outcome [] m requests).after.accounts) (sym (begins tables shard ledger fresh)) ∙ sym (accounts_kept r.marks (first shard ledger) requests r.kept replies)
-      ∙ ap (λ (o : Outcome). o.after.accounts) r.gives
+module _ (Fails : Type 0) (begun now settled : KeptParts) where
+  -- the sides as the session has them are those behind what the desk began with
+  pub same_sides : {T : Type 0} (desk : LocalParts) (held : Option (List ℕ)) (before after : T) → begun ≡ record { seen = desk; first = desk.shard.journal; held_first = held; holds = held; stuck = false }
+      → settled.seen ≡ now.seen → (kept_parts Fails settled).standing.origin ≡ record { tables = desk.shard.tables; base = desk.shard.base; items = desk.shard.journal; holds = held }
+      → sides_from begun.seen.shard.journal now.seen.shard before after ≡ sides_from settled.first settled.seen.shard before after
+  same_sides desk held before after is seen origin =
+      ap (λ (l : List Item). sides_from l now.seen.shard before after) (ap (λ (k : KeptParts). k.seen.shard.journal) is ∙ sym (ap (λ (o : Beginning). o.items) origin))
+      ∙ ap (λ (p : LocalParts). sides_from settled.first p.shard before after) (sym seen)
 
-  -- what an account has of a week after it
-  pub week_told : (known left held new : Option (List ℕ)) (tables : FareTables) (begun shard : ShardParts) (before after : T) (ledger : Option LedgerParts) (done : Done) (account day week : ℕ) (lines : List Line)
-      → begun.tables ≡ tables → begun.base ≡ finite.empty → begun.journal ≡ [] → AreInPlace 0 shard.journal
-      → ◌≡◌ {A = FareTables × State} (shard.tables, shard.base) (begun.tables, begun.base) → Sound after → Tells before ledger
-      → done.lacked_memory ≡ false → week ≡ monday day → lines ≡ week_lines shard.tables (accepted_of (state_now shard) account) week
-      → IfSome known (λ input. SessionEnds zone 1 Refuses Late Closes (from_journal begun.journal shard before after) input left held new done.answered done.quit done.lacked_memory)
-      → IfSome known (λ input. TellsWeek (new_machine zone tables ledger) input left account day lines)
-  week_told None left held new tables begun shard before after ledger done account day week lines same nothing none placed origin sound tells ample its is h = tt
-  week_told (Some input) left held new tables begun shard before after ledger done account day week lines same nothing none placed origin sound tells ample its is h =
-      let fresh = fresh_after tables begun shard same nothing placed origin in
-      let e = subst (λ (s : Sides T). SessionEnds zone 1 Refuses Late Closes s input left held new done.answered done.quit done.lacked_memory) (from_nothing begun.journal shard before after none) h in
-      let stands = accounts_after tables shard before after ledger (requests_of input) e.events fresh sound tells e.session (sym e.lacked ∙ ample) in
-      record {
-        lines = is ∙ ap (λ w. week_lines shard.tables (accepted_of (state_now shard) account) w) its ∙ ap (λ t. week_lines t (accepted_of (state_now shard) account) (monday day)) fresh.same_tables
-            ∙ ap (λ (s : State). week_lines tables (accepted_of s account) (monday day)) (sym stands);
-        unread = e.unread;
-      }
+  -- its journal, of which it kept the newly accepted lines
+  abbrev pub behind_first : AreInPlace 0 settled.seen.shard.journal → KeepsLines settled → IsBehind settled.first settled.seen.shard
+  behind_first placed lines = record { back = lines.later; whole = lines.begins; in_place = placed }
+
+-- it is settled unless it is stuck
+pub settled_if : {T E : Type 0} (r : Result T E) (stuck : Bool) (P : Type 0) → OnOk r P → OnErr r (stuck ≡ true) → stuck ≡ false → P
+settled_if (Ok x) stuck P ok err free = ok
+settled_if (Err e) stuck P ok err free = absurd (true_not_false (sym err ∙ free))
+  where
+    true_not_false : true ≡ false → ⊥
+    true_not_false e = cc
+
+-- what its keeper has
+pub keeps_new : (k : KeptParts) (lines : KeepsLines k) (new : List Request) → lines_new k.seen.shard.tables (replay k.seen.shard.tables k.seen.shard.base k.first) lines.later ≡ lines_of_requests new
+    → KeepsNew k.held_first k.holds k.stuck new
+keeps_new k lines new same = record { rest = lines.rest; bytes = subst (λ (l : List ℕ). Appends k.held_first k.holds (l ++ lines.rest)) same lines.bytes; is_rest = lines.is_rest }
 
 -- where there is no ledger, nothing is closed
 not_here : (m : Machine) (day : ℕ) (result : Result (List Posting) Refusal) → result ≡ Err NotHere → m.ledger ≡ None → ClosesAs m day result (λ ledger. ledger ≡ None)
@@ -241,16 +240,30 @@ not_here m day result is none = record {
   holds = none;
 }
 
--- a desk over one shard, and no till: there is no ledger
-pub local_plain : (before : Standing (FareTables × State))
-    → IsPlain {T = NoTill} (MaySometimeRefuse desk_parts before) (MaySometimeBeLate desk_parts before) (λ before day of put result after. (put ≡ []) × (result ≡ Err NotHere) × (after ≡ before))
-    (λ till. ⊤) (λ till ledger. ledger ≡ None)
+-- a desk that keeps lines, which cannot fail, and no till: there is no ledger
+pub unkept_plain : {K : Type 0} (HasFailed : K → Type 0) → ((k : K) → HasFailed k → ⊥) → (before : Standing Beginning)
+    → IsPlain {T = NoTill} (MaySometimeRefuse (kept_parts (CanFail HasFailed)) before) (MaySometimeBeLate (kept_parts (CanFail HasFailed)) before) ⊥
+    (λ before day of put result after. (put ≡ []) × (result ≡ Err NotHere) × (after ≡ before)) (λ till. ⊤) (λ till ledger. ledger ≡ None)
 unfolding MaySometimeRefuse MaySometimeBeLate
-local_plain before = record {
-  memory = λ fault h. h.2;
+unkept_plain HasFailed never before = record {
+  memory = λ fault h. elim h.2 [
+    | inl lacks ↦ inl lacks
+    | inr failed ↦ absurd (never failed.1.0 failed.1.1)
+  ];
   never = λ h. h.3;
   was_sound = λ before after day put result closes sound. tt;
   closes = λ before after m day put result closes quotes answers sound none. not_here m day result closes.1 none;
+}
+
+-- a desk over one shard, to which lines are replayed: nothing is closed
+pub replay_plain : (before : Standing (FareTables × State))
+    → IsPlain {T = ⊤} (MaySometimeRefuse desk_parts before) (MaySometimeBeLate desk_parts before) ⊥ ClosesNothing (λ till. ⊤) (λ till ledger. ledger ≡ None)
+unfolding MaySometimeRefuse MaySometimeBeLate
+replay_plain before = record {
+  memory = λ fault h. inl h.2;
+  never = λ h. h.3;
+  was_sound = λ before after day put result closes sound. tt;
+  closes = λ before after m day put result closes quotes answers sound none. absurd closes;
 }
 
 -- journeys of a week, of the same by the same fare file
@@ -260,12 +273,12 @@ told_as (Err fault) t u x y week p q e = tt
 
 -- ---- into a ledger
 
--- a desk over one shard, and a till into a ledger
-pub ledger_plain : {T : Type 0} (stands : T → DatabaseState) (before : Standing (FareTables × State)) → OneShardGathersAll
-    → IsPlain {T = T} (MaySometimeRefuse desk_parts before) (MaySometimeBeLate desk_parts before) (λ before day of put result after. LedgerCloses (stands before) (stands after) of put result)
+-- a desk over one shard that keeps lines, and a till into a ledger
+pub kept_plain : {T : Type 0} (stands : T → DatabaseState) (Fails : Type 0) (before : Standing Beginning) → OneShardGathersAll
+    → IsPlain {T = T} (MaySometimeRefuse (kept_parts Fails) before) (MaySometimeBeLate (kept_parts Fails) before) Fails (λ before day of put result after. LedgerCloses (stands before) (stands after) of put result)
     (λ till. HasCleanDisk (stands till)) (λ till ledger. HasLedger (stands till) ledger)
 unfolding MaySometimeRefuse MaySometimeBeLate
-ledger_plain stands before gathers = record {
+kept_plain stands Fails before gathers = record {
   memory = λ fault h. h.2;
   never = λ h. h.3;
   was_sound = λ before after day put result closes clean. was_clean (stands before) (stands after) put result closes clean;
@@ -276,31 +289,60 @@ ledger_plain stands before gathers = record {
 abbrev pub ClosesInto : {T H : Type 0} → (H → DatabaseState) → (T → H) → T → ℕ → ℕ → List Taken → Result (List Posting) Refusal → T → Type 0
 ClosesInto state_of lent before day of put result after = LedgerCloses (state_of (lent before)) (state_of (lent after)) of put result
 
-module _ {T H : Type 0} (state_of : H → DatabaseState) (lent : T → H) (gathers : OneShardGathersAll) (stands : Standing (FareTables × State)) (zone : TimeZone) where
-  abbrev Refuses : DeskFault → Type 0
-  Refuses = MaySometimeRefuse desk_parts stands
+-- A desk that went on from a local one and kept lines, and was settled; a till that lent a ledger, which was this and is that.
+module _ {T H : Type 0} (state_of : H → DatabaseState) (lent : T → H) (gathers : OneShardGathersAll) (by_line : AskedByItsLine) (Fails : Type 0) (zone : TimeZone) (desk : LocalParts) (held : Option (List ℕ)) (begun now settled : KeptParts) (before after : T) (old last : H)
+    (is : begun ≡ record { seen = desk; first = desk.shard.journal; held_first = held; holds = held; stuck = false }) (same : (kept_parts Fails now).standing ≡ (kept_parts Fails begun).standing) (seen : settled.seen ≡ now.seen)
+    (first : (settled.first ≡ now.first) × (settled.held_first ≡ now.held_first)) (placed : AreInPlace 0 settled.seen.shard.journal) (lines : KeepsLines settled) (was : old ≡ lent before) (became : last ≡ lent after) where
+  origin : (kept_parts Fails settled).standing.origin ≡ record { tables = desk.shard.tables; base = desk.shard.base; items = desk.shard.journal; holds = held }
+  origin = same_origin Fails desk held begun now settled is same seen first
 
-  abbrev Late : Type 0
-  Late = MaySometimeBeLate desk_parts stands
+  abbrev Closes : T → ℕ → ℕ → List Taken → Result (List Posting) Refusal → T → Type 0
+  Closes = ClosesInto state_of lent
 
-  pub ledger_lines_end : (result : Result Done SessionFault) (known left held new : Option (List ℕ)) (tables : FareTables) (begun shard : ShardParts) (before after : T) (old now : H) → old ≡ lent before → now ≡ lent after
-      → begun.tables ≡ tables → begun.base ≡ finite.empty → begun.journal ≡ [] → AreInPlace 0 shard.journal
-      → ◌≡◌ {A = FareTables × State} (shard.tables, shard.base) (begun.tables, begun.base)
-      → IfOk result (λ done. IfSome known (λ input. SessionEnds zone 1 Refuses Late (ClosesInto state_of lent) (from_journal begun.journal shard before after) input left held new done.answered done.quit done.lacked_memory))
-      → HasCleanDisk (state_of now) → (ledger : LedgerParts) → IsLedger (state_of old).now ledger
-      → IfOk result (λ done. IfSome known (λ input. Ends (new_machine zone tables (Some ledger)) input left held new (HasLedger (state_of now)) done.answered done.quit done.lacked_memory))
-  ledger_lines_end result known left held new tables begun shard before after old now was is same nothing none placed origin h clean ledger has =
-      subst (λ (l : H). IfOk result (λ done. IfSome known (λ input. Ends (new_machine zone tables (Some ledger)) input left held new (HasLedger (state_of l)) done.answered done.quit done.lacked_memory))) (sym is)
-      (lines_end Refuses Late (ClosesInto state_of lent) (λ till. HasCleanDisk (state_of (lent till))) (λ till. HasLedger (state_of (lent till))) (ledger_plain (λ till. state_of (lent till)) stands gathers) zone result known left held new tables begun shard before after (Some ledger)
-      same nothing none placed origin (subst (λ (l : H). HasCleanDisk (state_of l)) is clean) (λ live. subst (λ (l : H). IsLedger (state_of l).now ledger) was has) h)
+  abbrev IsEnded : (input : List ℕ) (left written new : Option (List ℕ)) → Done → Sides T → Type 0
+  IsEnded input left written new done s = SessionEnds zone 1 (Refuses Fails begun) (Late Fails begun) Closes s input left written new done.answered done.quit done.lacked_memory
 
-  pub ledger_lines_fail : (result : Result Done SessionFault) (known left held new : Option (List ℕ)) (tables : FareTables) (begun shard : ShardParts) (before after : T) (old now : H) → old ≡ lent before → now ≡ lent after
-      → begun.tables ≡ tables → begun.base ≡ finite.empty → begun.journal ≡ [] → AreInPlace 0 shard.journal
-      → ◌≡◌ {A = FareTables × State} (shard.tables, shard.base) (begun.tables, begun.base)
-      → IfErr result (λ fault. IfSome known (λ input. SessionFailsSo zone 1 Refuses Late (ClosesInto state_of lent) fault (from_journal begun.journal shard before after) input left held new))
-      → HasCleanDisk (state_of now) → (ledger : LedgerParts) → IsLedger (state_of old).now ledger
-      → IfErr result (λ fault. IfSome known (λ input. FailsSo fault (new_machine zone tables (Some ledger)) input left held new (HasLedger (state_of now))))
-  ledger_lines_fail result known left held new tables begun shard before after old now was is same nothing none placed origin h clean ledger has =
-      subst (λ (l : H). IfErr result (λ fault. IfSome known (λ input. FailsSo fault (new_machine zone tables (Some ledger)) input left held new (HasLedger (state_of l))))) (sym is)
-      (lines_fail Refuses Late (ClosesInto state_of lent) (λ till. HasCleanDisk (state_of (lent till))) (λ till. HasLedger (state_of (lent till))) (ledger_plain (λ till. state_of (lent till)) stands gathers) zone result known left held new tables begun shard before after (Some ledger)
-      same nothing none placed origin (subst (λ (l : H). HasCleanDisk (state_of l)) is clean) (λ live. subst (λ (l : H). IsLedger (state_of l).now ledger) was has) h)
+  abbrev HasFailedSo : (input : List ℕ) (left written new : Option (List ℕ)) → SessionFault → Sides T → Type 0
+  HasFailedSo input left written new fault s = SessionFailsSo zone 1 (Refuses Fails begun) (Late Fails begun) Closes fault s input left written new
+
+  module _ (input : List ℕ) (left written new : Option (List ℕ)) (clean : HasCleanDisk (state_of last)) (ledger : LedgerParts) (has : IsLedger (state_of old).now ledger) where
+    clean_after : HasCleanDisk (state_of (lent after))
+    clean_after = subst (λ (l : H). HasCleanDisk (state_of l)) became clean
+
+    has_before : HasLedger (state_of (lent before)) (Some ledger)
+    has_before live = subst (λ (l : H). IsLedger (state_of l).now ledger) was has
+
+    plain : IsPlain (Refuses Fails begun) (Late Fails begun) Fails Closes (λ till. HasCleanDisk (state_of (lent till))) (λ till. HasLedger (state_of (lent till)))
+    plain = kept_plain (λ till. state_of (lent till)) Fails (kept_parts Fails begun).standing gathers
+
+    run_ends : (done : Done) → IsEnded input left written new done (sides_from begun.seen.shard.journal now.seen.shard before after)
+        → Ends (machine_on zone desk.shard (Some ledger)) input left written new (beside_run Fails held settled (state_of last)) done.answered done.quit done.lacked_memory
+    run_ends done h =
+        subst (λ (o : Beginning). Ends (machine_from zone o (Some ledger)) input left written new (beside_run Fails o.holds settled (state_of last)) done.answered done.quit done.lacked_memory) origin
+        (subst (λ (l : H). Ends (machine_from zone (kept_parts Fails settled).standing.origin (Some ledger)) input left written new (beside_run Fails settled.held_first settled (state_of l)) done.answered done.quit done.lacked_memory) (sym became)
+        (ends_from (Refuses Fails begun) (Late Fails begun) Fails Closes (λ till. HasCleanDisk (state_of (lent till))) (λ till. HasLedger (state_of (lent till))) plain by_line zone settled.first settled.seen.shard (behind_first Fails begun now settled placed lines) before after (Some ledger)
+        (KeepsNew settled.held_first settled.holds settled.stuck) (keeps_new settled lines) clean_after has_before input left written new done.answered done.quit done.lacked_memory
+        (subst (IsEnded input left written new done) (same_sides Fails begun now settled desk held before after is seen origin) h)))
+
+    run_fails : (fault : SessionFault) → HasFailedSo input left written new fault (sides_from begun.seen.shard.journal now.seen.shard before after)
+        → FailsSo fault (machine_on zone desk.shard (Some ledger)) input left written new (beside_run Fails held settled (state_of last))
+    run_fails fault h =
+        subst (λ (o : Beginning). FailsSo fault (machine_from zone o (Some ledger)) input left written new (beside_run Fails o.holds settled (state_of last))) origin
+        (subst (λ (l : H). FailsSo fault (machine_from zone (kept_parts Fails settled).standing.origin (Some ledger)) input left written new (beside_run Fails settled.held_first settled (state_of l))) (sym became)
+        (fails_from (Refuses Fails begun) (Late Fails begun) Fails Closes (λ till. HasCleanDisk (state_of (lent till))) (λ till. HasLedger (state_of (lent till))) plain by_line zone settled.first settled.seen.shard (behind_first Fails begun now settled placed lines) before after (Some ledger)
+        (KeepsNew settled.held_first settled.holds settled.stuck) (keeps_new settled lines) clean_after has_before fault input left written new
+        (subst (HasFailedSo input left written new fault) (same_sides Fails begun now settled desk held before after is seen origin) h)))
+
+  pub lines_end : (ended : Result Done SessionFault) (known left written new : Option (List ℕ)) → IfOk ended (λ done. IfSome known (λ input. IsEnded input left written new done (sides_from begun.seen.shard.journal now.seen.shard before after)))
+      → HasCleanDisk (state_of last) → (ledger : LedgerParts) → IsLedger (state_of old).now ledger
+      → IfOk ended (λ done. IfSome known (λ input. Ends (machine_on zone desk.shard (Some ledger)) input left written new (beside_run Fails held settled (state_of last)) done.answered done.quit done.lacked_memory))
+  lines_end (Err fault) known left written new h clean ledger has = tt
+  lines_end (Ok done) None left written new h clean ledger has = tt
+  lines_end (Ok done) (Some input) left written new h clean ledger has = run_ends input left written new clean ledger has done h
+
+  pub lines_fail : (ended : Result Done SessionFault) (known left written new : Option (List ℕ)) → IfErr ended (λ fault. IfSome known (λ input. HasFailedSo input left written new fault (sides_from begun.seen.shard.journal now.seen.shard before after)))
+      → HasCleanDisk (state_of last) → (ledger : LedgerParts) → IsLedger (state_of old).now ledger
+      → IfErr ended (λ fault. IfSome known (λ input. FailsSo fault (machine_on zone desk.shard (Some ledger)) input left written new (beside_run Fails held settled (state_of last))))
+  lines_fail (Ok done) known left written new h clean ledger has = tt
+  lines_fail (Err fault) None left written new h clean ledger has = tt
+  lines_fail (Err fault) (Some input) left written new h clean ledger has = run_fails input left written new clean ledger has fault h

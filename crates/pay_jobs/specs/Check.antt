@@ -9,7 +9,7 @@ use Rattle.pay_tables.specs.declared.counts.Counts.{Counts}
 use Rattle.pay_wire.specs.Words.{AppendsFront}
 use Rattle.pay_jobs.specs.Run.{IsRefused}
 use Rattle.pay_jobs.specs.declared.fault.Fault.{Fault}
-use Rattle.pay_jobs.specs.declared.fault.Fault.TheVariants.{Usage, CannotReadFares, BadZone, CannotListen, Input, Output, Refused}
+use Rattle.pay_jobs.specs.declared.fault.Fault.TheVariants.{Output, Refused}
 
 -- how many of each thing a fare file has
 abbrev pub counts_words : Counts → List (List ℕ)
@@ -36,11 +36,7 @@ StopsCounting fares held written = (line : List ℕ) × IsCounted fares line × 
 abbrev pub CheckFails : Fault → List ℕ → Option (List ℕ) → Option (List ℕ) → Type 0
 CheckFails (Refused number name) fares held written = IsRefused (Refused number name) fares × (written ≡ held)
 CheckFails Output fares held written = StopsCounting fares held written
-CheckFails Usage fares held written = ⊥
-CheckFails CannotReadFares fares held written = ⊥
-CheckFails CannotListen fares held written = ⊥
-CheckFails BadZone fares held written = ⊥
-CheckFails Input fares held written = ⊥
+CheckFails _ fares held written = ⊥
 
 -- the sample's six places, three bands, one interchange and one holiday
 sample_row : counts_line (record { places = 6; bands = 3; interchanges = 1; holidays = 1 })

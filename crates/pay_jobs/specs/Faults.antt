@@ -1,16 +1,19 @@
 -- How a program ends where it fails: its status, and the refusal that a fault is.
-use Rattle.std.specs.Prelude.{◌≡◌, ◌⊎◌, ℕ, List, codes, ⊤}
+use Rattle.std.specs.Prelude.{◌≡◌, ◌⊎◌, ℕ, Bool, true, false, List, Result, Ok, Err, codes, ⊤}
 use Rattle.std.specs.declared.io.ErrorKind.{ErrorKind}
 use Rattle.pay_jobs.specs.declared.fault.Fault.{Fault}
-use Rattle.pay_jobs.specs.declared.fault.Fault.TheVariants.{Usage, CannotReadFares, BadZone, CannotListen, Input, Output, Refused}
+use Rattle.pay_jobs.specs.declared.fault.Fault.TheVariants.{Usage, CannotReadFares, BadZone, CannotListen, Input, Output, JournalLine, Journal, Refused}
 use Rattle.pay_wire.specs.Words.{WriterCall}
 use Rattle.pay_session.specs.Words.{ReaderCall, FailsBy, IsLastFill, HasNoEnd, IsBroken}
+use Rattle.pay_session.specs.declared.replaying.ReplayFault.{ReplayFault}
+use Rattle.pay_session.specs.declared.replaying.ReplayFault.TheVariants as replaying
+use Rattle.pay_session.specs.declared.sessions.Done.{Done}
 use Rattle.pay_session.specs.declared.stop.SessionFault.{SessionFault}
 use Rattle.pay_session.specs.declared.stop.SessionFault.TheVariants.{Read, Write}
 use Rattle.pay_serve.specs.declared.fault.ServeFault.{ServeFault}
 use Rattle.pay_serve.specs.declared.fault.ServeFault.TheVariants as serving
 use Rattle.pay_jobs.specs.declared.week.WeekFault.{WeekFault}
-use Rattle.pay_jobs.specs.declared.week.WeekFault.TheVariants.{Broken, Memory}
+use Rattle.pay_jobs.specs.declared.week.WeekFault.TheVariants.{Broken, NotAccepted, Memory}
 
 -- refused words end with 2, and every other fault with 1
 abbrev pub status_of : Fault → ℕ
@@ -21,6 +24,12 @@ status_of _ = 1
 abbrev pub stream_fault : SessionFault → Fault
 stream_fault (Read _) = Input
 stream_fault (Write _) = Output
+
+-- How a session ended, or why the program fails: that something was not kept comes before the fault of a stream.
+abbrev pub told_of : Bool → Result Done SessionFault → Result Done Fault
+told_of true ended = Err Journal
+told_of false (Ok done) = Ok done
+told_of false (Err fault) = Err (stream_fault fault)
 
 -- a refusal that is printed with this number and this name
 abbrev pub IsRefusal : Fault → ℕ → List ℕ → Type 0
@@ -35,9 +44,15 @@ IsWantOfMemory fault = IsRefusal fault 90 (codes "Memory")
 abbrev pub IsWantOfLedger : Fault → Type 0
 IsWantOfLedger fault = IsRefusal fault 43 (codes "Store")
 
+-- why a journal is not accepted
+abbrev pub IsReplayFault : ReplayFault → Fault → Type 0
+IsReplayFault (replaying.Line line why) fault = fault ≡ JournalLine line why
+IsReplayFault replaying.Memory fault = IsWantOfMemory fault
+
 -- what kept the journeys of a week from being told
 abbrev pub IsWeekFault : WeekFault → Fault → Type 0
 IsWeekFault (Broken answered) fault = fault ≡ Input
+IsWeekFault (NotAccepted line why) fault = fault ≡ JournalLine line why
 IsWeekFault Memory fault = IsWantOfMemory fault
 
 -- what ended a service
@@ -57,8 +72,4 @@ module _ {R W : Type 0} (reads : R → ReaderCall → R → Type 0) (writes : W 
   abbrev pub HasCause : Fault → R → R → W → Type 0
   HasCause Input before reader writer = IsBroken reads writes (Read 0) before reader writer
   HasCause Output before reader writer = IsBroken reads writes (Write 0) before reader writer
-  HasCause Usage before reader writer = ⊤
-  HasCause CannotReadFares before reader writer = ⊤
-  HasCause BadZone before reader writer = ⊤
-  HasCause CannotListen before reader writer = ⊤
-  HasCause (Refused number name) before reader writer = ⊤
+  HasCause _ before reader writer = ⊤

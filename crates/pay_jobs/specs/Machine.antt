@@ -1,5 +1,5 @@
 -- The machine that answers a session of lines: a zone, a shard's machine over all accounts, and the ledger in which days are closed.
-use Rattle.std.specs.Prelude.{◌≡◌, ℕ, List, [], Option, Some, None, Result, Ok, Err, refl}
+use Rattle.std.specs.Prelude.{◌≡◌, ℕ, Bool, true, false, List, [], Option, Some, None, Result, Ok, Err, refl}
 use Rattle.std.specs.FinMap as map
 use Rattle.jiff.specs.declared.tz.timezone.TimeZone.{TimeZone}
 use Rattle.pay_tables.specs.Words.{FareTables}
@@ -8,7 +8,7 @@ use Rattle.pay_postings.specs.Words.{LedgerParts}
 use Rattle.pay_postings.specs.declared.fault.PostFault.{PostFault}
 use Rattle.pay_postings.specs.declared.fault.PostFault.TheVariants as post_fault
 use Rattle.pay_shard.specs.declared.asked.Asked.{Asked}
-use Rattle.pay_shard.specs.Words.{State, Step as ShardStep, step as shard_step}
+use Rattle.pay_shard.specs.Words.{State, ShardParts, state_now, Step as ShardStep, step as shard_step}
 use Rattle.pay_close.specs.Words.{close, refusal_of_posting}
 use Rattle.pay_wire.specs.declared.refusal.Refusal.{Refusal}
 use Rattle.pay_wire.specs.declared.refusal.Refusal.TheVariants as refusal
@@ -30,6 +30,10 @@ pub record Machine : Type 0 where
 abbrev pub new_machine : TimeZone → FareTables → Option LedgerParts → Machine
 new_machine zone tables ledger = record { zone = zone; tables = tables; accounts = map.empty; ledger = ledger }
 
+-- a machine that goes on from what a shard has
+abbrev pub machine_on : TimeZone → ShardParts → Option LedgerParts → Machine
+machine_on zone shard ledger = record { zone = zone; tables = shard.tables; accounts = state_now shard; ledger = ledger }
+
 -- the same with other accounts, or with another ledger
 abbrev pub with_accounts : Machine → State → Machine
 with_accounts m accounts = record { zone = m.zone; tables = m.tables; accounts = accounts; ledger = m.ledger }
@@ -44,6 +48,11 @@ pub data Failure : Type 0 where
   Store : Failure
   Desk : Failure
   Keeping : Failure
+
+-- whether what failed is what keeps the lines, as it does for no request where nothing is kept
+abbrev pub is_keeping : Option Failure → Bool
+is_keeping (Some Keeping) = true
+is_keeping _ = false
 
 -- the reply to a request, and the machine after it
 pub record Step : Type 0 where

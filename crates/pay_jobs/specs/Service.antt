@@ -13,7 +13,7 @@ use Rattle.pay_jobs.specs.Faults.{IsServeFault}
 use Rattle.pay_jobs.specs.Machine.{Machine}
 use Rattle.pay_jobs.specs.Run.{Begins, IsRefused, IsBadZone, IsUnmade}
 use Rattle.pay_jobs.specs.declared.fault.Fault.{Fault}
-use Rattle.pay_jobs.specs.declared.fault.Fault.TheVariants.{Usage, CannotReadFares, BadZone, CannotListen, Input, Output, Refused}
+use Rattle.pay_jobs.specs.declared.fault.Fault.TheVariants.{BadZone, CannotListen, Output, Refused}
 
 -- A fare file and a zone that are read. From then on what comes of a service depends on what its connections send.
 abbrev pub AreRead : List ℕ → List ℕ → Type 0
@@ -38,6 +38,4 @@ HasServiceCause writes plan Output writer = HasFault writes writer
 HasServiceCause writes plan (Refused number name) writer = number ≡ 32 → IsOutOfPlan plan
 HasServiceCause writes plan BadZone writer = ⊤
 HasServiceCause writes plan CannotListen writer = ⊤
-HasServiceCause writes plan Input writer = ⊥
-HasServiceCause writes plan Usage writer = ⊥
-HasServiceCause writes plan CannotReadFares writer = ⊥
+HasServiceCause writes plan _ writer = ⊥

@@ -1,17 +1,23 @@
--- What is told of an account's week after a run of lines.
-use Rattle.std.specs.Prelude.{◌≡◌, ◌⊎◌, ℕ, List, [], Option, None, Some}
+-- What is told of an account's week after the lines of a journal and a run of lines.
+use Rattle.std.specs.Prelude.{◌≡◌, ◌⊎◌, ℕ, List, [], Option, None, Some, IfSome, ⊤}
+use Rattle.jiff.specs.declared.tz.timezone.TimeZone.{TimeZone}
 use Rattle.pay_day.specs.Words.{monday}
 use Rattle.pay_account.specs.Words.{week_lines}
 use Rattle.pay_quotes.specs.declared.shown.Line.{Line}
 use Rattle.pay_shard.specs.Words.{accepted_of}
-use Rattle.pay_session.specs.Words.{requests_of, unread}
+use Rattle.pay_tables.specs.Words.{FareTables}
+use Rattle.pay_session.specs.Words.{line_requests, requests_of, unread}
+use Rattle.pay_session.specs.declared.replaying.ReplayFault.{ReplayFault}
+use Rattle.pay_session.specs.declared.replaying.ReplayFault.TheVariants as fault
 use Rattle.pay_session.specs.declared.stop.SessionFault.{SessionFault}
 use Rattle.pay_session.specs.declared.stop.SessionFault.TheVariants.{Read, Write}
-use Rattle.pay_jobs.specs.Machine.{Machine}
-use Rattle.pay_jobs.specs.Outcomes.{outcome}
-use Rattle.pay_jobs.specs.LineRuns.{FailsSo}
+use Rattle.pay_jobs.specs.Journals.{machine_of}
+use Rattle.pay_jobs.specs.LineRuns.{Beside, FailsSo}
+use Rattle.pay_jobs.specs.Machine.{Machine, new_machine}
+use Rattle.pay_jobs.specs.Outcomes.{outcome, AreAllPriced}
+use Rattle.pay_jobs.specs.Past.{StopsAt}
 use Rattle.pay_jobs.specs.declared.week.WeekFault.{WeekFault}
-use Rattle.pay_jobs.specs.declared.week.WeekFault.TheVariants.{Broken, Memory}
+use Rattle.pay_jobs.specs.declared.week.WeekFault.TheVariants.{Broken, NotAccepted, Memory}
 
 -- The session, in which nothing is closed, ended by itself, and memory was refused for nothing. These are the journeys of the week that holds a day, of
 -- what the account has accepted of all that the input asks for.
@@ -25,11 +31,35 @@ abbrev pub week_fault : SessionFault → WeekFault
 week_fault (Read answered) = Broken answered
 week_fault (Write answered) = Memory
 
+-- and where the journal was not accepted
+abbrev pub week_fault_of_replay : ReplayFault → WeekFault
+week_fault_of_replay (fault.Line line why) = NotAccepted line why
+week_fault_of_replay fault.Memory = Memory
+
+-- What is so beside a session without a ledger and without a keeper, which cannot fail.
+abbrev pub beside_week : Beside
+beside_week = record { Holds = λ ledger. ledger ≡ None; Keeps = λ new. ⊤; Fails = ⊥ }
+
 -- a sink that failed
 abbrev pub BreaksAtSink : Machine → List ℕ → Option (List ℕ) → Type 0
-BreaksAtSink m input left = (answered : ℕ) × FailsSo (Write answered) m input left None None (λ ledger. ledger ≡ None)
+BreaksAtSink m input left = (answered : ℕ) × FailsSo (Write answered) m input left None None beside_week
 
--- how they were not told: the reader failed, or the session ended by itself, and memory for a line or for the journeys was refused
-abbrev pub WeekFails : WeekFault → Machine → List ℕ → Option (List ℕ) → Type 0
-WeekFails (Broken answered) m input left = FailsSo (Read answered) m input left None None (λ ledger. ledger ≡ None)
-WeekFails Memory m input left = (left ≡ Some (unread input)) ⊎ BreaksAtSink m input left
+-- With a journal: the machine that it gives back, whose lines are then those of a session.
+module _ (zone : TimeZone) (tables : FareTables) (past : List ℕ) where
+  abbrev pub machine_past : Machine
+  machine_past = machine_of zone tables (line_requests past) None
+
+  -- the journal is accepted
+  abbrev pub IsPastAccepted : Type 0
+  IsPastAccepted = AreAllPriced (outcome [] (new_machine zone tables None) (line_requests past)).replies
+
+  -- from what a reader has left before and after, what is told of an account's week that holds a day
+  abbrev pub WeekTold : (reader : Option (List ℕ) × Option (List ℕ)) → (of : ℕ × ℕ) → List Line → Type 0
+  WeekTold reader of lines = IsPastAccepted × IfSome reader.0 (λ input. TellsWeek machine_past input reader.1 of.0 of.1 lines)
+
+  -- How they were not told: a line of the journal is not accepted, the reader failed, or the session ended by itself; and memory for a line, of
+  -- the journal or of the input, or for the journeys was refused.
+  abbrev pub WeekNotTold : (reader : Option (List ℕ) × Option (List ℕ)) → WeekFault → Type 0
+  WeekNotTold reader (NotAccepted line why) = StopsAt (new_machine zone tables None) (line_requests past) line why × (reader.1 ≡ reader.0)
+  WeekNotTold reader (Broken answered) = IsPastAccepted × IfSome reader.0 (λ input. FailsSo (Read answered) machine_past input reader.1 None None beside_week)
+  WeekNotTold reader Memory = (reader.1 ≡ reader.0) ⊎ IfSome reader.0 (λ input. (reader.1 ≡ Some (unread input)) ⊎ BreaksAtSink machine_past input reader.1)

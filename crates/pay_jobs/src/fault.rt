@@ -1,6 +1,6 @@
 //! Why the program fails, and the status that it ends with.
 ghost use Rattle.std.specs.Prelude.{◌≡◌};
-ghost use Rattle.pay_jobs.specs.Faults.{IsRefusal, IsWantOfMemory, IsWeekFault, IsServeFault, status_of, stream_fault};
+ghost use Rattle.pay_jobs.specs.Faults.{IsRefusal, IsWantOfMemory, IsReplayFault, IsWeekFault, IsServeFault, status_of, stream_fault};
 ghost use Rattle.pay_fare_file.specs.Words.{fault_number, fault_name};
 ghost use Rattle.pay_ledger.specs.Words.{open_fault_number, open_fault_name};
 
@@ -8,7 +8,8 @@ use crate::week::WeekFault;
 use pay_fare_file::FareFileFault;
 use pay_ledger::OpenFault;
 use pay_serve::ServeFault;
-use pay_session::SessionFault;
+use pay_session::{ReplayFault, SessionFault};
+use pay_wire::Refusal;
 use std::alloc::AllocError;
 use thiserror::Error;
 
@@ -33,9 +34,31 @@ pub enum Fault {
     /// Standard output failed.
     #[error("farebox: output fault")]
     Output,
+    /// The journal cannot be opened or read, or what stands behind its last newline cannot be cut off.
+    #[error("farebox: cannot use journal")]
+    CannotUseJournal,
+    /// The line of this number of the journal, from 1, is not accepted.
+    #[error("farebox: journal line {line}: {why}")]
+    JournalLine {
+        line: u64,
+        why: Refusal,
+    },
+    /// The line of this number of one of several journals, both from 1, is not accepted.
+    #[error("farebox: journal {journal} line {line}: {why}")]
+    JournalLineOf {
+        journal: u64,
+        line: u64,
+        why: Refusal,
+    },
+    /// Something that was accepted was not kept, or not settled.
+    #[error("farebox: journal fault")]
+    Journal,
     /// A refusal, by its number and its name.
     #[error("farebox: {number} {name}")]
-    Refused { number: u16, name: &'static str },
+    Refused {
+        number: u16,
+        name: &'static str,
+    },
 }
 
 impl Fault {
@@ -94,12 +117,24 @@ impl From<SessionFault> for Fault {
     }
 }
 
+impl From<ReplayFault> for Fault {
+    ghost from_gives = { λ of fault. IsReplayFault of fault };
+
+    fn from(fault: ReplayFault) -> Fault {
+        match fault {
+            ReplayFault::Line { line, why } => Fault::JournalLine { line, why },
+            ReplayFault::Memory => Fault::from(AllocError),
+        }
+    }
+}
+
 impl From<WeekFault> for Fault {
     ghost from_gives = { λ of fault. IsWeekFault of fault };
 
     fn from(fault: WeekFault) -> Fault {
         match fault {
             WeekFault::Broken { .. } => Fault::Input,
+            WeekFault::NotAccepted { line, why } => Fault::JournalLine { line, why },
             WeekFault::Memory => Fault::from(AllocError),
         }
     }

@@ -1,14 +1,18 @@
-//! The jobs of the program, below the reading of words and of files. [`run_lines`] answers the lines of a reader over one shard of
-//! its own, which begins with no accounts, and closes days into a ledger; [`week_by_lines`] tells what an account has of a week
-//! after such lines. [`run_texts`], [`statement_texts`] and [`check_text`] do what the programs do, by the texts of their files.
-//! `laws` says what the machine means by which lines are answered.
+//! The jobs of the program, below the reading of words and of files. [`replayed_desk`] gives a desk that has what a journal has, and
+//! [`run_lines`] answers the lines of a reader over such a desk, keeps those that it newly accepts, and closes days into a ledger;
+//! [`week_by_lines`] tells what an account has of a week after such lines. [`run_texts`], [`statement_texts`], [`replay_texts`] and
+//! [`check_text`] do what the programs do, by the texts of their files. `laws` says what the machine means by which lines are
+//! answered.
 #![tactic(auto)]
 
 mod check;
 mod fault;
+mod journal;
 pub mod laws;
 mod lines;
 mod output;
+mod past;
+mod replays;
 mod run;
 mod service;
 mod statement;
@@ -16,8 +20,11 @@ mod week;
 
 pub use check::check_text;
 pub use fault::Fault;
-pub use lines::run_lines;
+pub use journal::{Journal, JournalFile, NoJournal};
+pub use lines::{Ran, run_lines};
+pub use past::replayed_desk;
 pub use pay_serve::Plan;
+pub use replays::replay_texts;
 pub use run::run_texts;
 pub use service::serve_texts;
 pub use statement::statement_texts;

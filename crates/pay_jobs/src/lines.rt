@@ -2,12 +2,16 @@ ghost use Rattle.std.specs.Prelude.{◌≡◌, false, [], IfOk, IfErr};
 ghost use Rattle.std.specs.Arc.{arc_value};
 ghost use Rattle.std.specs.FinMap as map;
 ghost use Rattle.sqlite.specs.Held.{state};
+ghost use Rattle.pay_kept.specs.Words.{CanFail};
 ghost use Rattle.pay_session.specs.Words.{IsBroken, IsLastFill, ShowsNothing};
+ghost use Rattle.pay_jobs.specs.Faults.{told_of};
 ghost use Rattle.pay_jobs.specs.LineRuns.{LinesEnd, LinesFail};
 
+use crate::fault::Fault;
 use jiff::tz::TimeZone;
 use pay_book::Book;
 use pay_close::LedgerTill;
+use pay_kept::{Keeper, KeptDesk};
 use pay_ledger::Ledger;
 use pay_session::{Done, SessionFault, ToldReader, session};
 use pay_shard::LocalDesk;
@@ -29,32 +33,64 @@ pub(crate) fn new_desk(alloc: Global, tables: Arc<Tables>) -> LocalDesk<Book>
     }
 }
 
-/// Answers the lines of a reader, beginning with no accounts, and closes days into a ledger. This is the whole run: for a reader
-/// that tells its bytes and a writer that tells what it holds, what is written is, for the lines of the input in order, the
-/// replies of the machine to what they ask for, and the ledger is then the machine's. Both are one function of the input, the
-/// zone, the fare file and the ledger before it, where no reply is 43, 44 or 90. Where a write of the ledger's disk fails, its
-/// connection may shut: the replies are still the machine's, by what failed for each line, and nothing is said of the ledger. Where
-/// the disk does not return what was written, nothing is said of the run.
-pub fn run_lines<R: ToldReader, W: ToldWriter, S: Alter>(
+/// What came of a run of lines.
+#[derive(Drop)]
+pub struct Ran<K: Keeper> {
+    /// How its session ended.
+    pub ended: Result<Done, SessionFault>,
+    /// The desk that has what was accepted. If it is stuck, something was not kept, or not settled.
+    pub desk: KeptDesk<Book, K>,
+}
+
+impl<K: Keeper> Ran<K> {
+    /// How the session ended by itself, or why the program fails: that something was not kept is told before the fault of a stream.
+    pub fn told(self) -> Result<Done, Fault>
+        ensures { result ≡ told_of self.desk.stuck self.ended }
+    {
+        if self.desk.is_stuck() {
+            return Err(Fault::Journal);
+        }
+        match self.ended {
+            Ok(done) => Ok(done),
+            Err(fault) => Err(Fault::from(fault)),
+        }
+    }
+}
+
+/// Answers the lines of a reader, beginning with what a desk has, and closes days into a ledger. A keeper keeps the line of each tap
+/// and each correction that is newly accepted, before its reply is written, and in the end all of them are settled. This is the
+/// whole run: for a reader that tells its bytes and a writer that tells what it holds, what is written is, for the lines of the
+/// input in order, the replies of the machine to what they ask for; the ledger is then the machine's; and the keeper has the lines
+/// of what was newly accepted. All are one function of the input, the zone, the desk and the ledger before it, where no reply is
+/// 43, 44, 48 or 90. Where a write of the ledger's disk fails, its connection may shut: the replies are still the machine's, by
+/// what failed for each line, and nothing is said of the ledger. Where the disk does not return what was written, nothing is said
+/// of the run.
+pub fn run_lines<R: ToldReader, W: ToldWriter, S: Alter, K: Keeper>(
     alloc: Global,
     reader: &mut R,
     writer: &mut W,
     zone: &TimeZone<'_>,
-    tables: Arc<Tables>,
+    desk: LocalDesk<Book>,
+    keeper: K,
     ledger: &mut Ledger<S>,
-) -> Result<Done, SessionFault>
-    ensures ends { LinesEnd (state S.Store) zone.now (arc_value tables) (ledger.old, R.remaining reader.old, W.contents writer.old)
-        (ledger.new, R.remaining reader.new, W.contents writer.new) result }
-    ensures fails { LinesFail (state S.Store) zone.now (arc_value tables) (ledger.old, R.remaining reader.old, W.contents writer.old)
-        (ledger.new, R.remaining reader.new, W.contents writer.new) result }
-    ensures ended { IfOk result (λ done. done.quit ≡ false → IsLastFill R.Tells (ShowsNothing R.Tells) reader.old reader.new) }
-    ensures cause { IfErr result (λ fault. IsBroken R.Tells W.Tells fault reader.old reader.new writer.new) }
+) -> Ran<K>
+    ensures ends { LinesEnd (state S.Store) zone.now (CanFail K.HasFailed) (desk, K.holds keeper, ledger.old, R.remaining reader.old, W.contents writer.old)
+        (result.desk, ledger.new, R.remaining reader.new, W.contents writer.new) result.ended }
+    ensures fails { LinesFail (state S.Store) zone.now (CanFail K.HasFailed) (desk, K.holds keeper, ledger.old, R.remaining reader.old, W.contents writer.old)
+        (result.desk, ledger.new, R.remaining reader.new, W.contents writer.new) result.ended }
+    ensures settled { result.desk.stuck ≡ false → (settled : K) × K.IsSettled settled × (K.holds settled ≡ result.desk.holds) }
+    ensures ended { IfOk result.ended (λ done. done.quit ≡ false → IsLastFill R.Tells (ShowsNothing R.Tells) reader.old reader.new) }
+    ensures cause { IfErr result.ended (λ fault. IsBroken R.Tells W.Tells fault reader.old reader.new writer.new) }
 {
-    let mut desk = new_desk(alloc, tables);
+    let mut desk = KeptDesk::begin(desk, keeper);
     let mut till = LedgerTill::new(alloc, ledger);
     let ended = session(reader, writer, zone, &mut desk, &mut till);
-    // The journal's entries stand at their tickets, and what one shard brings for a close is of all accounts.
+    // Whether this failed the desk tells too.
+    let _ = desk.settle();
+    // The journal's entries stand at their tickets, each was asked for by its line, and what one shard brings for a close is of all
+    // accounts.
     let _ = desk.shard();
+    pay_session::laws::one_line();
     pay_close::laws::one_shard();
-    ended
+    Ran { ended, desk }
 }

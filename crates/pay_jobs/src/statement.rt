@@ -5,7 +5,7 @@ ghost use Rattle.std.specs.Arc.{arc_value};
 ghost use Rattle.pay_day.specs.Words.{IsDay};
 ghost use Rattle.pay_statement.specs.Words.{statement_text};
 ghost use Rattle.pay_jobs.specs.Faults.{HasInputFault, HasCause};
-ghost use Rattle.pay_jobs.specs.Statement.{PageFails, PageStands, StatementWritten, StatementRefused};
+ghost use Rattle.pay_jobs.specs.Statement.{PageFails, IsPage, StatementWritten, StatementRefused};
 
 use crate::fault::Fault;
 use crate::output::write_text;
@@ -19,27 +19,28 @@ use pay_wire::ToldWriter;
 use std::alloc::{AllocError, Global};
 use std::sync::Arc;
 
-/// Writes the statement of the week that holds a service day, counted from 1970-01-01, of an account that has
-/// accepted what the lines of a reader ask for. The fare file is read before the zone, both before the first
-/// line, and all of them before anything is written.
+/// Writes the statement of the week that holds a service day, counted from 1970-01-01, of an account that has accepted what a
+/// journal has, and then what the lines of a reader ask for. The fare file is read before the zone, then the journal, all three
+/// before the first line, and all of them before anything is written.
 pub fn statement_texts<R: ToldReader, W: ToldWriter>(
     alloc: Global,
     fares: &str,
     zone: &str,
+    past: &[u8],
     account: u32,
     day: u32,
     reader: &mut R,
     writer: &mut W,
 ) -> Result<(), Fault>
     requires { IsDay day }
-    ensures ends { OnOk result (StatementWritten fares.now zone.now account day (R.remaining reader.old, W.contents writer.old)
+    ensures ends { OnOk result (StatementWritten (fares.now, zone.now, past.now) (account, day) (R.remaining reader.old, W.contents writer.old)
         (R.remaining reader.new, W.contents writer.new)) }
-    ensures fails { IfErr result (StatementRefused fares.now zone.now account day (R.remaining reader.old, W.contents writer.old)
+    ensures fails { IfErr result (StatementRefused (fares.now, zone.now, past.now) (account, day) (R.remaining reader.old, W.contents writer.old)
         (R.remaining reader.new, W.contents writer.new)) }
     ensures flushed { OnOk result (IsFlushed W.Tells writer.new) }
     ensures cause { IfErr result (λ fault. HasCause R.Tells W.Tells fault reader.old reader.new writer.new) }
 {
-    let page = read_page(alloc, fares, zone, account, day, reader)?;
+    let page = read_page(alloc, fares, zone, past, account, day, reader)?;
     write_text(writer, &page)
 }
 
@@ -48,19 +49,20 @@ fn read_page<R: ToldReader>(
     alloc: Global,
     fares: &str,
     zone: &str,
+    past: &[u8],
     account: u32,
     day: u32,
     reader: &mut R,
 ) -> Result<Vec<u8>, Fault>
     requires { IsDay day }
-    ensures page { IfOk result (λ page. PageStands fares.now zone.now account day (R.remaining reader.old, R.remaining reader.new) page.items) }
-    ensures fails { IfErr result (λ fault. PageFails fault fares.now zone.now (R.remaining reader.old) (R.remaining reader.new)) }
+    ensures page { IfOk result (λ page. IsPage (fares.now, zone.now, past.now) (account, day) (R.remaining reader.old, R.remaining reader.new) page.items) }
+    ensures fails { IfErr result (λ fault. PageFails fault (fares.now, zone.now, past.now) (R.remaining reader.old, R.remaining reader.new)) }
     ensures cause { IfErr result (λ fault. fault ≡ Fault.Input → HasInputFault R.Tells reader.old reader.new) }
 {
     let tables = read_fares(alloc, fares)?;
     let zone = read_zone(zone)?;
     let shared = share(&tables)?;
-    let lines = week_by_lines(alloc, reader, &zone, shared, account, day)?;
+    let lines = week_by_lines(alloc, reader, &zone, shared, past, account, day)?;
     let page = page_of(alloc, &tables, lines.as_slice())?;
     Ok(page)
 }

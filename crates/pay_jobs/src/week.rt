@@ -1,22 +1,23 @@
 //! The journeys of an account's week, by the lines of a reader.
-ghost use Rattle.std.specs.Prelude.{◌≡◌, ◌≢◌, None, IfOk, IfErr, IfSome};
+ghost use Rattle.std.specs.Prelude.{◌≡◌, ℕ, IfOk, IfErr};
 ghost use Rattle.std.specs.Arc.{arc_value};
 ghost use Rattle.pay_day.specs.Words.{IsDay, monday};
 ghost use Rattle.pay_account.specs.Words.{week_lines};
 ghost use Rattle.pay_shard.specs.Words.{accepted_of, state_now};
 ghost use Rattle.pay_jobs.specs.Faults.{HasInputFault};
-ghost use Rattle.pay_jobs.specs.Machine.{new_machine};
-ghost use Rattle.pay_jobs.specs.Week.{TellsWeek, WeekFails, week_fault};
-ghost use Rattle.pay_jobs.specs.declared.week.WeekFault.TheVariants.{Memory};
+ghost use Rattle.pay_jobs.specs.Week.{WeekTold, WeekNotTold, week_fault, week_fault_of_replay};
+ghost use Rattle.pay_jobs.specs.declared.week.WeekFault.TheVariants.{Broken, Memory};
 
-use crate::lines::new_desk;
+use crate::past::replayed_desk;
 use jiff::tz::TimeZone;
 use pay_account::{Fares, Lines};
 use pay_book::Book;
 use pay_day::monday;
-use pay_session::{NoTill, SessionFault, ToldReader, session};
+use pay_kept::{KeptDesk, NoKeeper};
+use pay_session::{NoTill, ReplayFault, SessionFault, ToldReader, session};
 use pay_shard::Shard;
 use pay_tables::Tables;
+use pay_wire::Refusal;
 use std::alloc::{AllocError, Global};
 use std::io;
 use std::sync::Arc;
@@ -28,6 +29,9 @@ pub enum WeekFault {
     /// The reader failed, or was filled too often, after so many replies.
     #[error("input fault")]
     Broken { answered: u128 },
+    /// The line of this number of the journal, from 1, is not accepted.
+    #[error("journal line {line}: {why}")]
+    NotAccepted { line: u64, why: Refusal },
     /// 90: no memory for a line, or for the journeys.
     #[error("90 Memory")]
     Memory,
@@ -38,6 +42,17 @@ impl From<AllocError> for WeekFault {
 
     fn from(_: AllocError) -> WeekFault {
         WeekFault::Memory
+    }
+}
+
+impl From<ReplayFault> for WeekFault {
+    ghost from_gives = { λ of fault. fault ≡ week_fault_of_replay of };
+
+    fn from(fault: ReplayFault) -> WeekFault {
+        match fault {
+            ReplayFault::Line { line, why } => WeekFault::NotAccepted { line, why },
+            ReplayFault::Memory => WeekFault::Memory,
+        }
     }
 }
 
@@ -70,26 +85,29 @@ fn lines_of(
     }
 }
 
-/// The journeys of the week that holds a service day, counted from 1970-01-01, of an account that has
-/// accepted what the lines of a reader ask for. The replies to the lines are written nowhere; where one of them is
+/// The journeys of the week that holds a service day, counted from 1970-01-01, of an account that has accepted what a journal has,
+/// and then what the lines of a reader ask for. The replies to the lines are written nowhere; where one of them is
 /// `NO 90 Memory`, no journeys are given, since some may be missing.
 pub fn week_by_lines<R: ToldReader>(
     alloc: Global,
     reader: &mut R,
     zone: &TimeZone<'_>,
     tables: Arc<Tables>,
+    past: &[u8],
     account: u32,
     day: u32,
 ) -> Result<Lines, WeekFault>
     requires { IsDay day }
-    ensures week { IfOk result (λ lines. IfSome (R.remaining reader.old) (λ input.
-        TellsWeek (new_machine zone.now (arc_value tables) None) input (R.remaining reader.new) account day lines)) }
-    ensures fails { IfErr result (λ fault. IfSome (R.remaining reader.old) (λ input.
-        WeekFails fault (new_machine zone.now (arc_value tables) None) input (R.remaining reader.new))) }
-    ensures cause { IfErr result (λ fault. fault ≢ Memory → HasInputFault R.Tells reader.old reader.new) }
+    ensures week { IfOk result (λ lines. WeekTold zone.now (arc_value tables) past.now (R.remaining reader.old, R.remaining reader.new) (account, day) lines) }
+    ensures fails { IfErr result (λ fault. WeekNotTold zone.now (arc_value tables) past.now (R.remaining reader.old, R.remaining reader.new) fault) }
+    ensures cause { IfErr result (λ fault. (n : ℕ) → fault ≡ Broken n → HasInputFault R.Tells reader.old reader.new) }
 {
-    let mut desk = new_desk(alloc, tables);
+    let begun = replayed_desk(alloc, tables, zone, past)?;
+    let mut desk = KeptDesk::begin(begun.0, NoKeeper);
     let ended = session(reader, &mut io::sink(), zone, &mut desk, &mut NoTill);
+    pay_session::laws::one_line();
+    // What keeps nothing never fails.
+    let _ = desk.is_stuck();
     let shard = desk.shard();
     let done = ended?;
     if done.lacked_memory {

@@ -1,0 +1,101 @@
+-- What is told of journals, by what stands at each place of them.
+use Rattle.std.proofs.Common.{◌≡◌, ◌≤◌, ◌<◌, ◌∙◌, ℕ, zero, suc, ◌+◌, List, [], ◌∷◌, ◌++◌, length, take, drop, Option, Some, None, refl, sym, ap, subst, arith, append-nil, zero-add}
+use Rattle.std.specs.Prelude.{fold, flat_map, slice_get}
+use Rattle.std.proofs.lemmas.Grind.{flat_map-append, fold-append}
+use Rattle.std.proofs.lemmas.List.{length-take-le}
+use Rattle.std.proofs.lemmas.Option.{slice_get_within}
+use Rattle.jiff.specs.declared.tz.timezone.TimeZone.{TimeZone}
+use Rattle.pay_tables.specs.Words.{FareTables}
+use Rattle.pay_fix.specs.declared.fix.What.{What}
+use Rattle.pay_fix.specs.declared.fix.What.TheVariants as what
+use Rattle.pay_shard.specs.declared.asked.Asked.{Asked}
+use Rattle.pay_shard.specs.declared.asked.Asked.TheVariants as asked
+use Rattle.pay_wire.specs.declared.command.Command.{Command}
+use Rattle.pay_session.specs.Lines.{spelled_what}
+use Rattle.pay_session.specs.Words.{line_requests, rest_of, spelled_of}
+use Rattle.pay_session.specs.declared.request.Request.{Request}
+use Rattle.pay_jobs.specs.Replays.{IsStoppedAt, IsStoppedAmong, all_requests, instant_in, instant_in_what, instant_of, instant_of_what, rests}
+use Rattle.pay_jobs.specs.declared.fault.Fault.{Fault}
+
+-- those of the command that a line spells, if there is one
+abbrev pub instants_in : Option Command → List ℕ
+instants_in None = []
+instants_in (Some c) = instant_in c
+
+-- ---- one more
+
+some_is : {X : Type 0} (x y : X) → ◌≡◌ {A = Option X} (Some x) (Some y) → x ≡ y
+some_is x y e = cc
+
+none_some : {X : Type 0} (y : X) → ◌≡◌ {A = Option X} None (Some y) → ⊥
+none_some y e = cc
+
+taken_next : {X : Type 0} (xs : List X) (n : ℕ) (x : X) → slice_get xs n ≡ Some x → take (suc n) xs ≡ take n xs ++ x ∷ []
+taken_next [] n x e = absurd (none_some x e)
+taken_next (y ∷ xs) zero x e = ap (λ z. z ∷ []) (some_is y x e)
+taken_next (y ∷ xs) (suc n) x e = ap (λ l. y ∷ l) (taken_next xs n x e)
+
+pub taken_more : {X : Type 0} (xs : List X) (n : ℕ) (x : X) → slice_get xs n ≡ Some x → take (n + 1) xs ≡ take n xs ++ x ∷ []
+taken_more xs n x e =
+    let next : n + 1 ≡ suc n = omega arith in
+    ap (λ m. take m xs) next ∙ taken_next xs n x e
+
+-- a fold over what some items have, with one item more
+pub fold_more : {X Y A : Type 0} (f : A → Y → A) (g : X → List Y) (init : A) (xs : List X) (n : ℕ) (x : X) → slice_get xs n ≡ Some x
+    → fold f init (flat_map g (take (n + 1) xs)) ≡ fold f (fold f init (flat_map g (take n xs))) (g x)
+fold_more f g init xs n x e =
+    ap (λ l. fold f init (flat_map g l)) (taken_more xs n x e) ∙ ap (fold f init) (flat_map-append g (take n xs) (x ∷ []))
+    ∙ fold-append f init (flat_map g (take n xs)) (g x ++ []) ∙ ap (fold f (fold f init (flat_map g (take n xs)))) (append-nil (g x))
+
+-- ---- texts
+
+rests_both : (xs ys : List (List ℕ)) → rests (xs ++ ys) ≡ rests xs + rests ys
+rests_both [] ys = sym (zero-add _)
+rests_both (x ∷ xs) ys = let more = rests_both xs ys in omega (arith, more)
+
+pub rests_more : (texts : List (List ℕ)) (n : ℕ) (text : List ℕ) → slice_get texts n ≡ Some text → rests (take (n + 1) texts) ≡ rests (take n texts) + length (rest_of text)
+rests_more texts n text e =
+    let split = ap rests (taken_more texts n text e) ∙ rests_both (take n texts) (text ∷ []) in
+    omega (arith, split)
+
+pub requests_more : (texts : List (List ℕ)) (n : ℕ) (text : List ℕ) → slice_get texts n ≡ Some text → all_requests (take (n + 1) texts) ≡ all_requests (take n texts) ++ line_requests text
+requests_more texts n text e =
+    ap all_requests (taken_more texts n text e) ∙ flat_map-append line_requests (take n texts) (text ∷ []) ∙ ap (λ l. all_requests (take n texts) ++ l) (append-nil (line_requests text))
+
+-- the texts before one, that one, and the others
+pub stopped_among : (zone : TimeZone) (tables : FareTables) (texts : List (List ℕ)) (n : ℕ) (text : List ℕ) (fault : Fault) → slice_get texts n ≡ Some text → IsStoppedAt zone tables (all_requests (take n texts)) text (n + 1) fault
+    → IsStoppedAmong zone tables texts fault
+stopped_among zone tables texts n text fault e stops = record {
+  front = take n texts;
+  text = text;
+  others = drop (suc n) texts;
+  parts = split_at texts n text e;
+  stops = subst (λ m. IsStoppedAt zone tables (all_requests (take n texts)) text (m + 1) fault) (sym (length-take-le n texts (within texts n text e))) stops;
+}
+  where
+    split_at : (xs : List (List ℕ)) (n : ℕ) (x : List ℕ) → slice_get xs n ≡ Some x → xs ≡ take n xs ++ x ∷ drop (suc n) xs
+    split_at [] n x e = absurd (none_some x e)
+    split_at (y ∷ xs) zero x e = ap (λ z. z ∷ xs) (some_is y x e)
+    split_at (y ∷ xs) (suc n) x e = ap (λ l. y ∷ l) (split_at xs n x e)
+
+    within : (xs : List (List ℕ)) (n : ℕ) (x : List ℕ) → slice_get xs n ≡ Some x → n ≤ length xs
+    within xs n x e = let less = slice_get_within xs n x e in omega (arith, less)
+
+-- ---- instants
+
+-- the instant that the line of a command spells is its own
+pub by_spelling : (a : Asked) (o : Option Command) → o ≡ spelled_of a → instant_of a ≡ instants_in o
+by_spelling a o e = spelled_instant a ∙ ap instants_in (sym e)
+  where
+    spelled_what_instant : (what : What) → instant_of_what what ≡ instant_in_what (spelled_what what)
+    spelled_what_instant (what.Void reader seq) = refl
+    spelled_what_instant (what.Fill stamp place kind) = refl
+    spelled_what_instant (what.Credit credit) = refl
+    spelled_what_instant (what.Drop staff seq) = refl
+
+    spelled_instant : (a : Asked) → instant_of a ≡ instants_in (spelled_of a)
+    spelled_instant (asked.Tap tap) = refl
+    spelled_instant (asked.Fix fix) = spelled_what_instant fix.what
+    spelled_instant (asked.Due account day) = refl
+    spelled_instant (asked.Show account day) = refl
+    spelled_instant (asked.Quotes day shard of) = refl

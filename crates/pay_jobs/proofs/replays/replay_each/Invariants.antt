@@ -1,0 +1,13 @@
+use Rattle.std.proofs.Common.{◌≡◌, ◌≤◌, ◌*◌, ◌-◌, ◌^◌, [], map, take}
+use Rattle.pay_tables.specs.Words.{FareTables}
+use Rattle.pay_jobs.specs.Past.{HasReplayed}
+use Rattle.pay_jobs.specs.Replays.{all_requests, rests}
+use Rattle.pay_jobs.proofs.replays.replay_each.Given as goal
+
+-- the journals so far were replayed
+abbrev pub invariant-loop-place : goal.invariant-loop-place
+invariant-loop-place l = record {
+  rest : l.rest ≡ rests (take l.place (map (λ text. text.items) l.texts));
+  small : l.rest ≤ l.place * 18_446_744_073_709_551_615;
+  replayed : (tables : FareTables) → HasReplayed l.zone tables l.fn.desk [] → HasReplayed l.zone tables l.desk (all_requests (take l.place (map (λ text. text.items) l.texts)));
+}
