@@ -1,4 +1,4 @@
-"""The library that is loaded before the built program, or before tests, and refuses them threads, memory and room in a connection."""
+"""The library that is loaded before the built program, or before tests, and refuses them threads, memory, room in a connection and the disk."""
 
 import os
 import subprocess
@@ -7,8 +7,8 @@ import subprocess
 # which are refused the calls from number FIRST through LAST, and one in so many, drawn by SEED, as stands in the first eight bytes of the
 # file that is the descriptor ODDS, where there is one; 0 there refuses none. Each is told by an x on the descriptor TELL. Where there is
 # MARKED, only those between the marks of a test count; marks are requests of sizes that nothing else asks for, and a third such size
-# tells by an m that a call has said so. And a send that takes ROOM bytes in all, of the one connection that there is. It declares what
-# it calls: the toolchain's compiler comes without the C library's headers.
+# tells by an m that a call has said so. And a send that takes ROOM bytes in all, of the one connection that there is. And an fdatasync
+# that fails behind the first SETTLED calls. It declares what it calls: the toolchain's compiler comes without the C library's headers.
 SOURCE = r"""
 typedef unsigned long size_t;
 extern void *dlsym(void *, const char *);
@@ -23,6 +23,7 @@ extern int *__errno_location(void);
 #define RTLD_NEXT ((void *)-1l)
 #define PROT_READ 1
 #define MAP_SHARED 1
+#define EIO 5
 #define EAGAIN 11
 #define ENOMEM 12
 #define EPIPE 32
@@ -112,6 +113,15 @@ long send(int socket, const void *bytes, size_t count, int flags) {
   took = next(socket, bytes, room < (long)count ? (size_t)room : count, flags);
   if (took > 0) taken += took;
   return took;
+}
+
+int fdatasync(int file) {
+  static long calls;
+  typedef int settle(int);
+  settle *next = (settle *)dlsym(RTLD_NEXT, "fdatasync");
+  if (!getenv("SETTLED") || ++calls <= number("SETTLED")) return next(file);
+  *__errno_location() = EIO;
+  return -1;
 }
 """
 

@@ -31,7 +31,7 @@ TIME_TO_END, TIME_TO_REPLY = 120, 20
 
 
 class End(NamedTuple):
-    """What a run comes to: its status, its output and errors, and what it leaves of a file that is its input."""
+    """What a run comes to: its status, its output and errors, and what it leaves of a file, as one that is its input, or its journal."""
 
     status: object
     output: Optional[bytes] = b""

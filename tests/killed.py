@@ -1,0 +1,216 @@
+"""Sessions over a journal, and over a ledger in a file, that are killed at random moments and go on; and what has to come of them."""
+
+import contextlib
+import itertools
+import os
+import select
+import sqlite3
+import tempfile
+import threading
+import time
+
+import loads
+import rules
+from running import LONDON, MONDAY, RUN_SAMPLE, SAMPLE, TIME_TO_REPLY, End, answers, in_lines, run, started
+
+ACCOUNTS = 40
+WEEK_DAYS = range(MONDAY, MONDAY + loads.DAYS)
+# The most lines that a session is sent before it is killed, and the most seconds that pass once something is heard of it; and the most that
+# pass where nothing is heard first, which is about as long as a start takes.
+MOST_SENT, MOST_LATER, MOST_OF_A_START = 60, 0.001, 0.02
+KINDS, FORMS = ("IN", "OUT", "BUS"), ("VOID", "FILL", "CREDIT", "DROP")
+
+
+def commands_of(draw):
+    """Taps and corrections of a week as they arrive, some of them twice, and among them questions and closes of ascending days."""
+    commands = loads.corrected_week(draw, ACCOUNTS)
+    count = len(commands)
+    more = [*draw.sample(commands, count // 12), *(rules.Due(draw.randint(1, ACCOUNTS), draw.choice(WEEK_DAYS)) for _ in range(count // 12))]
+    placed = [*enumerate(commands), *((draw.uniform(0, count), it) for it in more)]
+    for at in sorted(draw.uniform(0, count) for _ in range(10)):
+        placed.append((at, rules.Close(MONDAY + int(at * loads.DAYS / count))))
+    return [it for _, it in sorted(placed, key=lambda it: it[0])]
+
+
+def killed_session(words, lines, draw):
+    """What a session comes to that is sent these lines, and is killed at a random moment."""
+    with started(words) as ran:
+
+        def give():
+            with contextlib.suppress(BrokenPipeError):
+                ran.stdin.write(lines)
+
+        giving = threading.Thread(target=give)
+        giving.start()
+        output, status = b"", "killed"
+        if draw.random() < 0.75:
+            # A reply is a line at least.
+            awaited = draw.randint(1, lines.count(b"\n"))
+            while output.count(b"\n") < awaited:
+                more = os.read(ran.stdout.fileno(), 1 << 16) if select.select([ran.stdout], [], [], TIME_TO_REPLY)[0] else b""
+                if not more:
+                    status = "silent"
+                    break
+                output += more
+            time.sleep(draw.uniform(0, MOST_LATER))
+        else:
+            time.sleep(draw.uniform(0, MOST_OF_A_START))
+        ran.kill()
+        output += ran.stdout.read()
+        giving.join()
+        return End(status, output, ran.stderr.read())
+
+
+def bytes_of(path):
+    """The bytes of a file, of which there are none where it is missing."""
+    with contextlib.suppress(FileNotFoundError), open(path, "rb") as it:
+        return it.read()
+    return b""
+
+
+def has_ledgers(folder):
+    """Whether the program keeps a ledger in a file."""
+    path = os.path.join(folder, "any")
+    run([*RUN_SAMPLE, "--ledger", path], b"TAP 1 1 7 1704697200 50 BUS\nCLOSE 19730\n")
+    return os.path.exists(path)
+
+
+class Story:
+    """Sessions one after another over the same files, and what they have accepted and posted by the rules of bench/rules.py."""
+
+    def __init__(self, folder, draw, has_ledger, more=()):
+        files = tempfile.mkdtemp(dir=folder)
+        self.journal, self.database = os.path.join(files, "journal"), os.path.join(files, "ledger") if has_ledger else None
+        self.words = [*RUN_SAMPLE, "--journal", self.journal, *more, *(["--ledger", self.database] if has_ledger else [])]
+        self.name = " ".join(["--journal", *more, *(["--ledger"] if has_ledger else [])])
+        self.draw, self.is_shuffled = draw, draw.random() < 0.5
+        # What was not answered yet, of which no more than the first may have been taken.
+        self.left = commands_of(draw)
+        self.accounts, self.postings, self.archives, self.kept = {}, {}, {}, b""
+        self.kills, self.sent = 0, 0
+
+    def begin(self):
+        """A session begins: what was posted is forgotten, unless it is in a file."""
+        if not self.database:
+            self.postings = {}
+
+    def reply(self, command):
+        """The reply to a command by the rules."""
+        reply = rules.reply(rules.SAMPLE, self.accounts, command, self.postings).encode()
+        if isinstance(command, rules.Close) and not reply.startswith(b"NO "):
+            for number, account in self.accounts.items():
+                if rules.is_quoted(account, command.day):
+                    self.archives[number] = rules.Account(dict(account.taps), dict(account.fixes))
+        if reply.startswith(b"OK "):
+            self.kept += rules.line(command).encode()
+        return reply
+
+    def killed(self):
+        """What a session came to that was killed, and what it had to come to."""
+        if self.is_shuffled:
+            first, *others = self.left
+            self.draw.shuffle(others)
+            self.left = [first, *others]
+        given = self.left[:self.draw.randint(1, MOST_SENT)]
+        came = killed_session(self.words, "".join(map(rules.line, given)).encode(), self.draw)
+        output = came.output
+        self.kills, self.sent = self.kills + 1, self.sent + len(given)
+        self.begin()
+        wanted, answered = b"", 0
+        while len(wanted) < len(output) and answered < len(given):
+            wanted += self.reply(given[answered])
+            answered += 1
+        # A reply that was cut is that of a line that was taken, and is sent again.
+        answered -= len(wanted) > len(output)
+        self.left = self.left[answered:]
+        has = bytes_of(self.journal)
+        return came._replace(left=has), End("killed", wanted[:len(output)], left=self.taken(has, answered < len(given)))
+
+    def taken(self, has, may_be_taken):
+        """What the journal has to have: what was accepted, and of the first line that was not answered all, or a front."""
+        if has == self.kept or not may_be_taken or isinstance(self.left[0], (rules.Due, rules.Close)):
+            return self.kept
+        before, next_line = self.kept, rules.line(self.left[0]).encode()
+        if has == before + next_line:
+            self.reply(self.left[0])
+            return self.kept
+        return has if has.startswith(before) and next_line.startswith(has[len(before):]) else before
+
+    def asked(self):
+        """Questions what each account owes and shows, in a session of their own."""
+        each = list(itertools.product(range(1, ACCOUNTS + 1), WEEK_DAYS))
+        lines = [line for account, day in each for line in (f"DUE {account} {day}", f"SHOW {account} {day}")]
+        replies = [
+            text for account, day in each
+            for text in (self.reply(rules.Due(account, day)), "".join(rules.shown(rules.SAMPLE, self.accounts, account, day)).encode())
+        ]
+        return self.ended(in_lines(lines), b"".join(replies))
+
+    def ended(self, lines, replies):
+        came = run(self.words, lines)
+        return came._replace(left=bytes_of(self.journal)), End(0, replies, left=self.kept)
+
+    def counted(self):
+        """What a replay has to count."""
+        instants = [tap.utc for it in self.accounts.values() for tap in it.taps.values()]
+        instants += [fix.words[0] for it in self.accounts.values() for fix in it.fixes.values() if fix.form == "FILL"]
+        return answers(f"OK lines {self.kept.count(10)} accounts {len(self.accounts)} from {min(instants)} to {max(instants)}\n".encode())
+
+    def told(self, most):
+        """Checks, by their names, of at most so many sessions that are killed and of what is there in the end. The first that fails is the last."""
+        for name, came, wanted in self.checks(most):
+            yield f"{self.name}, {name}", came, wanted
+            if came != wanted:
+                return
+
+    def checks(self, most):
+        while self.kills < most and self.left:
+            yield f"kill {self.kills + 1}", *self.killed()
+        self.begin()
+        self.sent += len(self.left)
+        lines, replies = "".join(map(rules.line, self.left)).encode(), b"".join(map(self.reply, self.left))
+        yield "the lines that were left", *self.ended(lines, replies)
+        self.begin()
+        yield "what is due and shown in the end", *self.asked()
+        yield "a replay", run(["replay", SAMPLE, LONDON, self.journal]), self.counted()
+        if self.database:
+            yield "the rows of the ledger", answers(rows_of(self.database)), answers(self.rows())
+
+    def rows(self):
+        """The rows that the ledger has to have, as `rows_of` reads them."""
+        postings = [it for _, those in sorted(self.postings.items()) for it in those]
+        rows = [("ok",), ("farebox", 1)]
+        rows += [(it.account, it.week, it.through, it.version, it.due, it.amount) for it in postings]
+        rows += [(it.account, it.version, it.through, operator, pence) for it in postings for operator, pence in it.amounts.items() if pence]
+        for number, account in sorted(self.archives.items()):
+            rows += [
+                (number, *it, tap.utc, rules.service_day(tap.utc), tap.utc % rules.A_DAY, tap.place, KINDS.index(tap.kind))
+                for it, tap in sorted(account.taps.items())
+            ]
+        for number, account in sorted(self.archives.items()):
+            rows += [(number, *it, FORMS.index(fix.form), *columns_of(fix)) for it, fix in sorted(account.fixes.items())]
+        return in_lines(map(repr, rows))
+
+
+def columns_of(fix):
+    """What of a correction stands in the last five columns of its row."""
+    if fix.form == "FILL":
+        utc, place, kind = fix.words
+        return utc, rules.service_day(utc), utc % rules.A_DAY, place, KINDS.index(kind)
+    return *fix.words, 0, 0, 0
+
+
+ASKED = (
+    "PRAGMA integrity_check",
+    "SELECT name, version FROM meta",
+    "SELECT account, week, through, version, due, amount FROM postings ORDER BY account, week, id",
+    "SELECT account, version, through, operator, shares.amount FROM shares, postings WHERE posting = id ORDER BY account, week, id, operator",
+    "SELECT account, reader, seq, utc, day, second, place, kind FROM taps ORDER BY account, reader, seq",
+    "SELECT account, staff, seq, what, a, b, c, d, e FROM fixes ORDER BY account, staff, seq",
+)
+
+
+def rows_of(path):
+    """Whether a ledger is whole, and its rows, as Python's own `sqlite3` reads them."""
+    with contextlib.closing(sqlite3.connect(path)) as ledger:
+        return in_lines(repr(row) for asked in ASKED for row in ledger.execute(asked))

@@ -1,0 +1,518 @@
+"""Journals: what a session keeps of its lines, and what the next one makes of it; journals that are cut, bad, full or another's, and kills."""
+
+import contextlib
+import itertools
+import os
+import random
+import resource
+import signal
+import socket
+import stat
+
+import loads
+import rules
+from killed import Story, has_ledgers
+from preloads import preloaded
+from running import (
+    FARES, LONDON, MISSING, MONDAY, RUN, RUN_SAMPLE, SAMPLE, SEVEN, STATE, End, answers, boardings, edited, end_of, fault, heard, in_lines, run,
+    run_file, session, started, test, written,
+)
+from themes.drawn import by_rules, drawn_dues, with_closes
+from themes.statements import A_BOARDING, rows_of_statement
+
+CANNOT_USE, JOURNAL_FAULT = fault("cannot use journal"), fault("journal fault")
+
+
+def with_journal(path, words=RUN, *more):
+    return [*words, "--journal", path, *more]
+
+
+def replayed(*paths, fares=FARES):
+    """What comes of a replay."""
+    return run(["replay", fares, LONDON, *paths])
+
+
+def counted(lines, accounts, first, last, rest=0):
+    """What a replay comes to of so many lines and accounts, from an instant to another."""
+    behind = f" rest {rest}" if rest else ""
+    return answers(f"OK lines {lines} accounts {accounts} from {first} to {last}{behind}\n".encode())
+
+
+def bytes_of(path):
+    """The bytes of a file. None where there is none."""
+    with contextlib.suppress(FileNotFoundError), open(path, "rb") as it:
+        return it.read()
+
+
+def missing(folder, name="journal"):
+    """The path of a file that is not there, or not any more."""
+    path = os.path.join(folder, name)
+    with contextlib.suppress(FileNotFoundError):
+        os.remove(path)
+    return path
+
+
+def leaving(path, came):
+    """What a run comes to, with the bytes of its journal then."""
+    return came._replace(left=bytes_of(path))
+
+
+def kept(path, lines, words=RUN, more=(), **how):
+    """What a session with a journal comes to, and leaves of it."""
+    return leaving(path, run(with_journal(path, words, *more), lines, **how))
+
+
+def newly(pairs):
+    """The lines that are newly accepted, by their replies."""
+    return in_lines(line for line, reply in pairs if reply.startswith("OK "))
+
+
+# Two sessions with examples/sample.toml, each line beside its reply, and whether the line is kept. In a new session nothing is posted.
+ONE_DAY = (
+    ("TAP 1 1 7 1704697200 10 IN", "OK 19730 860 860", True),
+    ("TAP 1 1 7 1704697200 10 IN", "AGAIN 19730 860 860", False),
+    ("TAP 1 1 7 1704697201 10 IN", "NO 20 Conflict", False),
+    ("TAP 1 2 7 1704699000 99 OUT", "NO 15 UnknownPlace", False),
+    ("TAP 1 2 7 604799 12 OUT", "NO 1 OutOfTime", False),
+    ("DUE 7 19730", "DUE 7 19730 19730 1 860 1=860", False),
+    ("TAP 1 2 7 1704699000 12 OUT", "OK 19730 340 340", True),
+    ("SHOW 7 19730", "SHOW 7 19730 1 340\nJNY RAIL 10 12 1704697200 340", False),
+    ("CLOSE 19730", "PAY 7 19730 19730 2 340 340 1=340\nDONE 19730 1", False),
+    ("FIX 3 1 7 CREDIT 19730 100", "OK 19730 340 340", True),
+    ("FIX 3 1 7 CREDIT 19730 100", "AGAIN 19730 340 340", False),
+    ("FIX 3 1 7 CREDIT 19730 50", "NO 22 FixConflict", False),
+    ("TAP 01 3 7 1704699000 12 OUT", "NO 50 BadLine", False),
+    ("", "NO 50 BadLine", False),
+    ("A" * 129, "NO 51 LongLine", False),
+    ("FIX 3 2 7 VOID 9 9", "OK 0 0 0", True),
+    ("QUIT", "BYE", False),
+)
+NEXT_DAY = (
+    ("TAP 1 1 7 1704697200 10 IN", "AGAIN 19730 340 340", False),
+    ("FIX 3 2 7 VOID 9 9", "AGAIN 0 0 0", False),
+    ("TAP 1 2 7 1704699001 12 OUT", "NO 20 Conflict", False),
+    ("DUE 7 19730", "DUE 7 19730 19730 4 240 1=240", False),
+    ("TAP 1 1 8 1704783600 50 BUS", "OK 19731 175 175", True),
+    ("TAP 1 3 7 1704718800 50 BUS", "OK 19730 515 515", True),
+    # Of 515 less 100: 415 * 340 / 515 is 273, and the rest is the bus operator's.
+    ("CLOSE 19730", "PAY 7 19730 19730 5 415 415 1=273 4=142\nDONE 19730 1", False),
+    ("FIX 3 3 7 DROP 3 1", "OK 19730 515 515", True),
+    ("CLOSE 19730", "PAY 7 19730 19730 6 515 100 1=67 4=33\nDONE 19730 1", False),  # 340 - 273, 175 - 142
+)
+# What a third session is asked, of which nothing is kept.
+ASKED_THEN = (
+    ("DUE 7 19730", "DUE 7 19730 19730 6 515 1=340 4=175"),
+    ("SHOW 7 19730", "SHOW 7 19730 2 515\nJNY RAIL 10 12 1704697200 340\nJNY BUS 50 0 1704718800 175"),
+    ("SHOW 8 19731", "SHOW 8 19731 1 175\nJNY BUS 50 0 1704783600 175"),
+    ("CLOSE 19731", "PAY 7 19730 19731 6 515 515 1=340 4=175\nPAY 8 19730 19731 1 175 175 4=175\nDONE 19731 2"),
+)
+ROWS_THEN = ("19730,RAIL,10,12,07:00:00,340,-", "19730,BUS,50,0,13:00:00,175,-")
+
+
+def lines_of(rows):
+    """The lines of rows, their replies, and the lines that are kept."""
+    lines, replies = session([row[:2] for row in rows])
+    return lines, replies, in_lines(line for line, _, is_kept in rows if is_kept)
+
+
+@test
+def sessions_that_go_on(folder):
+    """What three sessions keep one after another, line by line, and what the last one makes of it."""
+    (first, told, one), (second, told_then, two), (asked, known) = lines_of(ONE_DAY), lines_of(NEXT_DAY), session(ASKED_THEN)
+    for more in ((), ("--sync",)):
+        path = os.path.join(folder, f"journal{len(more)}")
+        words = " ".join(("--journal", *more))
+        yield f"{words}, no lines", kept(path, b"", RUN_SAMPLE, more), End(0, left=b"")
+        yield f"{words}, the first session", kept(path, first + second, RUN_SAMPLE, more), End(0, told, left=one)
+        yield f"{words}, no lines behind it", kept(path, b"", RUN_SAMPLE, more), End(0, left=one)
+        yield f"{words}, a cut line", kept(path, b"TAP 1 9 9 1704697200 50 BUS", RUN_SAMPLE, more), End(0, b"NO 50 BadLine\n", left=one)
+        yield f"{words}, the second session", kept(path, second, RUN_SAMPLE, more), End(0, told_then, left=one + two)
+        yield f"{words}, what it is asked then", kept(path, asked, RUN_SAMPLE, more), End(0, known, left=one + two)
+        # The taps of the first session and of the second: at 07:00 on Monday, and on Tuesday.
+        yield f"{words}, replayed", replayed(path, fares=SAMPLE), counted(7, 2, 1704697200, 1704783600)
+        wanted = rows_of_statement(*ROWS_THEN)._replace(left=one + two)
+        yield f"{words}, a statement of it", leaving(path, run(with_journal(path, STATE))), wanted
+
+
+@test
+def lines_by_options(folder):
+    """Options in other places, and a journal by its name alone."""
+    lines, replies = boardings(2)
+    path = os.path.join(folder, "kept")
+    for given in (
+        ["run", "--journal", path, FARES, LONDON], ["run", FARES, f"--journal={path}", LONDON], ["run", "--sync", FARES, LONDON, f"--journal={path}"],
+        ["run", FARES, LONDON, "--journal", "kept"],
+    ):
+        missing(folder, "kept")
+        yield f"the words {given}", leaving(path, run(given, lines, cwd=folder)), End(0, replies, left=lines)
+    yield "the files there", answers(" ".join(sorted(os.listdir(folder))).encode()), answers(b"kept")
+
+
+@test
+def statements_with_more_lines(folder):
+    """A statement takes a journal's lines and then those of its input. It keeps none, and makes no file."""
+    lines, _ = boardings(7)
+    path = written(folder, "journal", lines + b"TAP 1 1 8")
+    late = b"TAP 1 2 7 1704704400 50 BUS\n"
+    row = "19730,BUS,50,0,09:00:00,175,-"
+    for name, given, rows in (
+        ("no lines", b"", [A_BOARDING]), ("a line", late, [A_BOARDING, row]),
+        ("a repeat, a question and a close", lines + b"DUE 7 19730\nCLOSE 19730\n", [A_BOARDING]),
+        ("QUIT and a line", b"QUIT\n" + late, [A_BOARDING]), ("a tap that the journal has otherwise", b"TAP 1 1 7 1704697201 50 BUS\n", [A_BOARDING]),
+    ):
+        came = leaving(path, run(with_journal(path, STATE), given))
+        yield f"a statement of a journal and {name}", came, rows_of_statement(*rows)._replace(left=lines + b"TAP 1 1 8")
+    none = os.path.join(folder, "none")
+    yield "a statement of no file", leaving(none, run(with_journal(none, STATE), late)), CANNOT_USE
+    yield "a replay of no file", leaving(none, replayed(path, none)), CANNOT_USE
+
+
+def parts_of(draw, items, count):
+    """Items in so many parts, one after another."""
+    ends = sorted(draw.sample(range(1, len(items)), count - 1))
+    return [items[begin:end] for begin, end in zip([0, *ends], [*ends, len(items)])]
+
+
+@test
+def drawn_sessions(folder):
+    """A week of taps, corrections, questions and closes in several sessions with one journal, each with lines of those before it, by bench/rules.py."""
+    for seed, (words, fares) in enumerate(((RUN, rules.BUS), (RUN_SAMPLE, rules.SAMPLE))):
+        draw, accounts, has = random.Random(seed), {}, b""
+        path = os.path.join(folder, f"journal{seed}")
+        commands = list(with_closes(draw, loads.corrected_week(draw, 30)))
+        before = []
+        for number, part in enumerate(parts_of(draw, commands, 5), 1):
+            # What comes again is among the lines.
+            part = draw.sample(before, len(before) // 10) + part + drawn_dues(draw, 20, range(1, 31), range(MONDAY, MONDAY + 7))
+            before = part
+            # What was posted is forgotten with a session.
+            pairs = list(by_rules(fares, accounts, part))
+            has += newly(pairs)
+            lines, replies = session(pairs)
+            yield f"session {number} of draw {seed}", kept(path, lines, words, draw.choice(((), ("--sync",)))), End(0, replies, left=has)
+        instants = [tap.utc for it in accounts.values() for tap in it.taps.values()]
+        instants += [fix.words[0] for it in accounts.values() for fix in it.fixes.values() if fix.form == "FILL"]
+        wanted = counted(has.count(b"\n"), len(accounts), min(instants), max(instants))
+        yield f"the journal of draw {seed}, replayed", replayed(path), wanted
+        # In whatever order, in two files, and some of the lines twice.
+        mixed = draw.sample(has.splitlines(True), has.count(b"\n"))
+        halves = [written(folder, f"half{at}", b"".join(it)) for at, it in enumerate((mixed[:400], mixed[300:]))]
+        wanted = counted(len(mixed) + 100, len(accounts), min(instants), max(instants))
+        yield f"the journal of draw {seed} in two files in any order, replayed", replayed(*halves), wanted
+        asked = [rules.Due(account, day) for account in sorted(accounts) for day in range(MONDAY, MONDAY + 7)]
+        lines, replies = session(list(by_rules(fares, accounts, asked)))
+        both = written(folder, "both", b"".join(map(bytes_of, halves)))
+        yield f"the journal of draw {seed} in any order, taken", kept(both, lines, words), End(0, replies, left=bytes_of(both))
+
+
+@test
+def kept_before_replied(folder):
+    """Once a reply has come, the line that it is to is in the file."""
+    for more in ((), ("--sync",)):
+        path, has = os.path.join(folder, f"journal{len(more)}"), b""
+        with started(with_journal(path, RUN_SAMPLE, *more)) as ran:
+            for line, reply, is_kept in ONE_DAY:
+                ran.stdin.write(in_lines([line]))
+                has += in_lines([line]) if is_kept else b""
+                wanted = in_lines([reply])
+                came = answers(heard(ran.stdout, len(wanted)))
+                yield f"{line} answered {more}", leaving(path, came), answers(wanted)._replace(left=has)
+
+
+# Four boardings, each of an account of its own.
+CUT_LINES, CUT_REPLIES = (text.splitlines(True) for text in boardings(4))
+
+
+@test
+def cut_journals(folder):
+    """A journal that is cut at each byte of its last two lines: what is whole is taken, and the rest is cut off."""
+    whole = b"".join(CUT_LINES)
+    for end in range(len(b"".join(CUT_LINES[:2])), len(whole) + 1):
+        text = whole[:end]
+        has = text[:text.rfind(b"\n") + 1]
+        count, rest = has.count(b"\n"), len(text) - len(has)
+        path = written(folder, "journal", text)
+        name = f"a journal of {end} bytes"
+        yield f"{name}, replayed", leaving(path, replayed(path)), counted(count, count, SEVEN, SEVEN, rest)._replace(left=text)
+        last = [*STATE[:3], "4", "19730"]
+        yield f"{name}, a statement", leaving(path, run(with_journal(path, last))), rows_of_statement(*[A_BOARDING] * (count == 4))._replace(left=text)
+        yield f"{name}, a bad zone", leaving(path, run(with_journal(path, ["run", FARES, "no zone"]), whole)), fault("bad zone")._replace(left=text)
+        yield f"{name}, and no lines", kept(path, b""), End(0, left=has)
+        written(folder, "journal", text)
+        # Of lines in the other order, those that are new come first.
+        replies = b"".join(b"AGAIN" + reply[2:] if at < count else reply for at, reply in reversed(list(enumerate(CUT_REPLIES))))
+        wanted = End(0, replies, left=has + b"".join(reversed(CUT_LINES[count:])))
+        yield f"{name}, and all lines again", kept(path, b"".join(reversed(CUT_LINES))), wanted
+
+
+@test
+def rests(folder):
+    """What stands behind a last newline is no line, whatever it is."""
+    lines, replies = boardings(2)
+    again = replies.replace(b"OK", b"AGAIN")
+    for rest in (b"TAP 1 1 9 1704697200 50 BUS", b"QUIT", b"\0", b"\r", b"\xff" * 200, b"TAP 1 1 1 1704697201 50 BUS", b" " * 5_000):
+        for before, came in ((lines, again), (b"", replies)):
+            path = written(folder, "journal", before + rest)
+            wanted = counted(before.count(b"\n"), before.count(b"\n"), *[SEVEN if before else 0] * 2, len(rest))
+            yield f"{rest[:30]!r} behind {len(before)} bytes, replayed", replayed(path), wanted
+            yield f"{rest[:30]!r} behind {len(before)} bytes", kept(path, lines), End(0, came, left=lines)
+    # Of several files all rests count, and none is joined with the file behind it.
+    one, two = written(folder, "one", lines + b"TAP 1 1 3 17046"), written(folder, "two", b"97200 50 BUS")
+    yield "two files with rests", replayed(one, two), counted(2, 2, SEVEN, SEVEN, 15 + 12)
+    yield "an empty file and a file", replayed(written(folder, "empty", b""), one), counted(2, 2, SEVEN, SEVEN, 15)
+
+
+@test
+def a_large_journal(folder):
+    """200,000 lines that are kept in one session, replayed, and taken by the next one."""
+    lines, replies = boardings(200_000)
+    path = os.path.join(folder, "journal")
+    yield "a session of many lines", kept(path, lines), End(0, replies, left=lines)
+    yield "many lines, replayed", replayed(path), counted(200_000, 200_000, SEVEN, SEVEN)
+    last, reply = lines.splitlines(True)[-1], replies.splitlines(True)[-1]
+    yield "many lines, and the last one again", kept(path, last), End(0, b"AGAIN" + reply[2:], left=lines)
+
+
+# Lines that a journal may not have behind its first four, with why; and behind a correction.
+BAD_LINES = (
+    ("DUE 7 19730", "50 BadLine"), ("SHOW 7 19730", "50 BadLine"), ("CLOSE 19730", "50 BadLine"), ("QUIT", "50 BadLine"), ("", "50 BadLine"),
+    ("fly", "50 BadLine"), ("OK 19730 175 175", "50 BadLine"), ("\0" * 20, "50 BadLine"), ("TAP 1 1 5 1704697200 50 BUS\r", "50 BadLine"),
+    ("TAP 1 1 5 1704697200 50 BUS ", "50 BadLine"), ("tap 1 1 5 1704697200 50 BUS", "50 BadLine"), ("TAP 1 1 5 4294967296 50 BUS", "50 BadLine"),
+    ("A" * 128, "50 BadLine"), ("A" * 129, "51 LongLine"), (" " * 70_000, "51 LongLine"), ("TAP 1 1 5 604799 50 BUS", "1 OutOfTime"),
+    ("TAP 1 1 5 1704697200 51 BUS", "15 UnknownPlace"), ("TAP 1 1 5 1704697200 10 BUS", "15 UnknownPlace"), ("TAP 1 1 4 1704697201 50 BUS", "20 Conflict"),
+    ("FIX 3 1 4 CREDIT 19730 11", "22 FixConflict"), ("FIX 3 2 4 FILL 1704697200 50 IN", "15 UnknownPlace"),
+)
+
+
+def bad_line(number, why, journal=None):
+    return fault(f"journal {f'{journal} ' if journal else ''}line {number}: {why}")
+
+
+def told_as_bad(name, path, number, why, words=RUN, lines=b""):
+    """Checks that this line of a journal is told by a session, by a statement and by a replay, that the journal stays as it is, and that
+    the lines of the session stay where they are."""
+    has = bytes_of(path)
+    given = f"{path}-lines"
+    with open(given, "wb") as it:
+        it.write(lines)
+    for each in (words, ["statement", *words[1:], "7", "19730"]):
+        came = run_file(with_journal(path, each), given, leaves=True)
+        yield f"{each[0]}, {name}", came, bad_line(number, why)._replace(left=lines)
+    yield f"replay, {name}", leaving(path, run(["replay", *words[1:], path])), bad_line(number, why, 1)._replace(left=has)
+    other = f"{path}-other"
+    with open(other, "wb") as it:
+        it.write(b"FIX 9 9 9 CREDIT 19730 1\n")
+    came = leaving(path, run(["replay", *words[1:], other, other, path]))
+    yield f"replay as the third file, {name}", came, bad_line(number, why, 3)._replace(left=has)
+
+
+@test
+def bad_journals(folder):
+    """Lines that are no lines of a journal, or not of this one: the first is told by its number, and all stays as it is."""
+    good = b"".join(CUT_LINES) + b"FIX 3 1 4 CREDIT 19730 10\n"
+    more = b"TAP 1 2 1 1704697200 50 BUS\nQUIT\nTAP 1 3"
+    for line, why in BAD_LINES:
+        path = written(folder, "journal", good + in_lines([line]) + more)
+        yield from told_as_bad(f"{line[:40]!r} in the sixth line", path, 6, why, lines=more)
+    path = written(folder, "journal", b"QUIT\n")
+    yield from told_as_bad("QUIT alone", path, 1, "50 BadLine")
+    path = written(folder, "journal", good * 3 + b"fly\n")
+    yield from told_as_bad("a bad line behind lines that come three times", path, 16, "50 BadLine")
+
+
+@test
+def journals_of_another(folder):
+    """A journal of another fare file; faults that come before a bad line; and accounts that are full."""
+    bus, rail = "TAP 1 1 7 1704697200 50 BUS", "TAP 1 2 7 1704697200 12 IN"
+    for name, old, new, number in (("route", "place = 50", "place = 51", 1), ("station", "place = 12,", "place = 15,", 2)):
+        text = edited(old, new)
+        if name == "station":
+            text = text.replace(b"b = 12", b"b = 15")
+        other = written(folder, name, text)
+        path = written(folder, "journal", in_lines([bus, rail]))
+        yield from told_as_bad(f"a fare file without the {name}", path, number, "15 UnknownPlace", ["run", other, LONDON], in_lines([bus]))
+    refused = written(folder, "refused", edited("hopper = 3600", "hopper = 0"))
+    path, none = written(folder, "journal", b"fly\n"), os.path.join(folder, "no", "journal")
+    for name, each, given, wanted in (
+        ("no fare file and a bad line", path, ["run", MISSING, LONDON], fault("cannot read fares")),
+        ("no fare file and no journal", none, ["run", MISSING, "no zone"], fault("cannot read fares")),
+        ("a refused fare file and no journal", none, ["run", refused, "no zone"], CANNOT_USE),
+        ("a bad zone and no journal", none, ["run", FARES, "no zone"], CANNOT_USE),
+        ("a refused fare file and a bad line", path, ["run", refused, "no zone"], fault("13 OutOfRange")),
+        ("a bad zone and a bad line", path, ["run", FARES, "no zone"], fault("bad zone")),
+    ):
+        yield f"{name}, a session", run(with_journal(each, given)), wanted
+        yield f"{name}, a statement", run(with_journal(each, ["statement", *given[1:], "7", "19730"])), wanted
+        yield f"{name}, a replay", run(["replay", *given[1:], each]), wanted
+    taps = in_lines(f"TAP 1 {seq} 7 {SEVEN + 4_000 * (seq % 100)} 50 BUS" for seq in range(rules.MOST_TAPS + 1))
+    yield from told_as_bad("a full account", written(folder, "journal", taps + b"fly\n"), rules.MOST_TAPS + 1, "21 AccountFull")
+    fixes = in_lines(f"FIX 3 {seq} 7 CREDIT 19730 1" for seq in range(rules.MOST_FIXES + 1))
+    yield from told_as_bad("a full account of corrections", written(folder, "journal", fixes + b"fly\n"), rules.MOST_FIXES + 1, "23 FixesFull")
+
+
+# A session each of whose commands asks its desk for something, beside what they are answered once a line could not be kept.
+FULL = (
+    ("TAP 1 1 7 1704697200 50 BUS", "OK 19730 175 175", "NO 48 NotKept"),
+    ("TAP 1 1 7 1704697200 50 BUS", "AGAIN 19730 175 175", "NO 48 NotKept"),
+    ("DUE 7 19730", "DUE 7 19730 19730 1 175 4=175", "NO 48 NotKept"),
+    ("TAP 1 2 7 1704704400 50 BUS", "OK 19730 350 350", "NO 48 NotKept"),
+    ("TAP 1 2 7 1704704401 50 BUS", "NO 20 Conflict", "NO 48 NotKept"),
+    ("CLOSE 19730", "PAY 7 19730 19730 2 350 350 4=350\nDONE 19730 1", "NO 44 DeskFault"),
+    ("fly", "NO 50 BadLine", "NO 50 BadLine"),
+    ("FIX 3 1 7 CREDIT 19730 50", "OK 19730 350 350", "NO 48 NotKept"),
+    ("SHOW 7 19730", "SHOW 7 19730 2 350\nJNY BUS 50 0 1704697200 175\nJNY BUS 50 0 1704704400 175", "NO 48 NotKept"),
+    ("DUE 7 19730", "DUE 7 19730 19730 3 300 4=300", "NO 48 NotKept"),
+    ("CLOSE 19730", "PAY 7 19730 19730 3 300 -50 4=-50\nDONE 19730 1", "NO 44 DeskFault"),
+    ("QUIT", "BYE", "BYE"),
+)
+FULL_LINES, FULL_KEPT = in_lines(line for line, *_ in FULL), newly(row[:2] for row in FULL)
+
+
+def replies_with(count):
+    """The replies to that session where so many lines can be kept."""
+    newly_accepted = itertools.accumulate(reply.startswith("OK ") for _, reply, _ in FULL)
+    return in_lines(stuck if number > count else reply for (_, reply, stuck), number in zip(FULL, newly_accepted))
+
+
+def again_behind(count):
+    """The pairs of that session's newly accepted lines, of which so many were kept."""
+    accepted = [row[:2] for row in FULL if row[1].startswith("OK ")]
+    # Those that were kept are answered as they are then.
+    prices = {0: None, 1: "AGAIN 19730 175 175", 2: "AGAIN 19730 350 350", 3: "AGAIN 19730 350 350"}
+    return [(line, prices[count] if at < count else reply) for at, (line, reply) in enumerate(accepted)]
+
+
+def limited_to(room):
+    """How a program is run whose files take so many bytes."""
+
+    def limit():
+        signal.signal(signal.SIGXFSZ, signal.SIG_IGN)
+        resource.setrlimit(resource.RLIMIT_FSIZE, (room, room))
+
+    return {"preexec_fn": limit}
+
+
+@test
+def full_files(folder):
+    """A journal that has room for so many bytes: from the first line on that it has no room for none is taken, and the next session takes them."""
+    for room in range(len(FULL_KEPT) + 1):
+        count = FULL_KEPT[:room].count(b"\n")
+        status, errors = (0, b"") if room == len(FULL_KEPT) else (1, JOURNAL_FAULT.errors)
+        for more in ((), ("--sync",)):
+            path = missing(folder)
+            came = kept(path, FULL_LINES, more=more, **limited_to(room))
+            yield f"room for {room} bytes {more}", came, End(status, replies_with(count), errors, FULL_KEPT[:room])
+        lines, replies = session(again_behind(count))
+        yield f"without a limit behind {room} bytes", kept(path, lines), End(0, replies, left=FULL_KEPT)
+
+
+@test
+def journal_before_streams(folder):
+    """Where the journal and a stream fail, the journal is told."""
+    for name, words in (("a session", with_journal(missing(folder))), ("a session with --sync", with_journal(missing(folder), RUN, "--sync"))):
+        with open("/dev/full", "wb") as full:
+            came = run(words, CUT_LINES[0], stdout=full, **limited_to(0))
+        yield f"no room for the journal and for output, {name}", came, JOURNAL_FAULT._replace(output=None)
+
+
+@test
+def disks_that_fail(folder):
+    """A disk does not say that it has what it was given, from the first time on or the second: a line, a close and the end fail by that."""
+    library = preloaded(folder)
+
+    def settling(count):
+        return {"env": {"LD_PRELOAD": library, "SETTLED": str(count)}}
+
+    for count in range(2):
+        path = missing(folder)
+        # The line that could not be settled is in the file, and is a repeat then.
+        has = b"".join(FULL_KEPT.splitlines(True)[:count + 1])
+        came = kept(path, FULL_LINES, more=("--sync",), **settling(count))
+        yield f"{count} lines settled", came, End(1, replies_with(count), JOURNAL_FAULT.errors, has)
+        lines, replies = session(again_behind(count + 1))
+        yield f"the next session behind {count} lines settled", kept(path, lines), End(0, replies, left=FULL_KEPT)
+    # Two lines come before the first close.
+    replies = in_lines(reply if at < 5 else stuck for at, (_, reply, stuck) in enumerate(FULL))
+    came = kept(missing(folder), FULL_LINES, **settling(0))
+    yield "nothing settled before a close", came, End(1, replies, JOURNAL_FAULT.errors, b"".join(FULL_KEPT.splitlines(True)[:2]))
+    lines, replies = boardings(4)
+    yield "nothing settled at the end", kept(missing(folder), lines, **settling(0)), End(1, replies, JOURNAL_FAULT.errors, lines)
+
+
+def no_files(folder):
+    """Paths that are no file which a journal can be, by their names."""
+    fifo, unix, closed = os.path.join(folder, "fifo"), os.path.join(folder, "socket"), written(folder, "closed", b"")
+    os.mkfifo(fifo)
+    with socket.socket(socket.AF_UNIX) as it:
+        it.bind(unix)
+    yield "a folder", folder
+    yield "a folder with a slash", f"{folder}/"
+    yield "a device that is full", "/dev/full"
+    yield "a device that takes all", "/dev/null"
+    yield "a pipe with a name", fifo
+    yield "a socket", unix
+    yield "no name", ""
+    yield "a file in no folder", os.path.join(folder, "no", "journal")
+    yield "a file below a file", os.path.join(closed, "journal")
+    yield "a name that is too long", os.path.join(folder, "j" * 256)
+    # For who may do all no file is closed.
+    if os.geteuid():
+        os.chmod(closed, stat.S_IRUSR)
+        yield "a file that is for reading", closed
+        written(folder, "unreadable", b"")
+        os.chmod(os.path.join(folder, "unreadable"), stat.S_IWUSR)
+        yield "a file that is for writing", os.path.join(folder, "unreadable")
+        os.chmod(os.path.join(folder, "unreadable"), 0)
+        yield "a file that is for nobody", os.path.join(folder, "unreadable")
+
+
+@test
+def journals_that_cannot_be(folder):
+    """What is no file, or no file of ours: nothing is read of the input."""
+    lines, _ = boardings(2)
+    given = written(folder, "lines", lines)
+    for name, path in no_files(folder):
+        yield name, run_file(with_journal(path), given, leaves=True), CANNOT_USE._replace(left=lines)
+        yield f"{name}, and no input", run(with_journal(path, RUN, "--sync")), CANNOT_USE
+    for name, path in (("a folder", folder), ("a file in no folder", os.path.join(folder, "no", "journal"))):
+        yield f"a statement, {name}", run_file(with_journal(path, STATE), given, leaves=True), CANNOT_USE._replace(left=lines)
+        yield f"a replay, {name}", replayed(given, path), CANNOT_USE
+
+
+@test
+def one_session_at_a_time(folder):
+    """While a session has a journal, a second one is refused and leaves its input; a statement and a replay read what is there."""
+    lines, replies = boardings(3)
+    first, *others = lines.splitlines(True)
+    reply = CUT_REPLIES[0]
+    path, given = os.path.join(folder, "journal"), written(folder, "lines", lines)
+    link = os.path.join(folder, "link")
+    with started(with_journal(path)) as ran:
+        ran.stdin.write(first)
+        output = heard(ran.stdout, len(reply))
+        os.symlink("journal", link)
+        for name, each in (("its name", path), ("another name", link)):
+            for words in (with_journal(each), with_journal(each, RUN_SAMPLE, "--sync")):
+                yield f"a second session by {name}", run_file(words, given, leaves=True), CANNOT_USE._replace(left=lines)
+            yield f"a statement beside a session by {name}", run(with_journal(each, [*STATE[:3], "1", "19730"])), rows_of_statement(A_BOARDING)
+            yield f"a replay beside a session by {name}", replayed(each), counted(1, 1, SEVEN, SEVEN)
+        ran.stdin.write(b"".join(others))
+        ran.stdin.close()
+        yield "the first session", leaving(path, end_of(ran, output)), End(0, replies, left=lines)
+    yield "a session behind it", kept(path, lines), End(0, replies.replace(b"OK", b"AGAIN"), left=lines)
+    for at in range(2):
+        with started(with_journal(path)) as ran:
+            ran.stdin.write(first)
+            output = heard(ran.stdout, len(reply) + 3)
+            ran.kill()
+            ran.wait()
+        yield f"a session that is killed, {at}", answers(output), answers(b"AGAIN" + reply[2:])
+
+
+@test
+def killed_sessions(folder):
+    """Sessions that are killed at random moments and go on, by bench/rules.py: every reply, what the files have, and what is due in the end."""
+    ledgers = has_ledgers(folder)
+    for number, (with_ledger, more) in enumerate(itertools.product((False, True), ((), ("--sync",)))):
+        if ledgers or not with_ledger:
+            yield from Story(folder, random.Random(number), with_ledger, more).told(25)
