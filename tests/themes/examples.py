@@ -2,7 +2,7 @@
 
 import os
 
-from running import EXAMPLES, RUN, RUN_SAMPLE, STATE, answers, in_lines, read, run, run_file, test
+from running import EXAMPLES, RUN, RUN_SAMPLE, STATE, End, answers, heard, in_lines, read, run, run_file, started, test
 
 
 def told_in(column):
@@ -28,13 +28,15 @@ def told_replies():
 
 # The examples that are not run with examples/bus.toml.
 WITH_CAPS = {"capped-week.txt", "closes.txt", "corrections.txt", "statement.txt"}
+# Those of a session that is killed, and of the one that goes on from its journal.
+KILLED, GOES_ON = "killed.txt", "goes-on.txt"
 
 
 @test
 def replies_that_are_told(_):
     """The replies to each session, through a pipe and from the file."""
     told = told_replies()
-    for name in sorted(name for name in os.listdir(EXAMPLES) if name.endswith(".txt")):
+    for name in sorted(name for name in os.listdir(EXAMPLES) if name.endswith(".txt") and name not in (KILLED, GOES_ON)):
         given = RUN_SAMPLE if name in WITH_CAPS else RUN
         wanted = answers(told.get(name, b"nothing is told of it"))
         yield f"{name} through a pipe", run(given, read(name)), wanted
@@ -46,3 +48,14 @@ def rows_that_are_told(_):
     """The rows of each statement."""
     for name, rows in told_in("Row").items():
         yield f"the statement of {name}", run(STATE, read(name)), answers(rows)
+
+
+@test
+def sessions_that_go_on(folder):
+    """The replies to a session that is killed behind the last of them, and to the next one with the same journal."""
+    told, given = told_replies(), [*RUN, "--journal", os.path.join(folder, "taps.txt")]
+    with started(given) as ran:
+        ran.stdin.write(read(KILLED))
+        yield KILLED, End(0, heard(ran.stdout, len(told[KILLED]))), answers(told[KILLED])
+    yield GOES_ON, run_file(given, f"{EXAMPLES}/{GOES_ON}"), answers(told[GOES_ON])
+    yield "what they kept", run(["replay", *RUN[1:], given[-1]]), answers(b"OK lines 4 accounts 1 from 1704696200 to 1704702200\n")

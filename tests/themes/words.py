@@ -1,6 +1,8 @@
 """The words of the program: help, the version, words that are taken and words that are refused."""
 
-from running import CHECK, FARES, LONDON, MISSING, ROOT, RUN, STATE, USAGE, answers, boardings, fault, read, run, test, written
+import os
+
+from running import CHECK, End, FARES, LONDON, MISSING, ROOT, RUN, STATE, USAGE, answers, boardings, fault, read, run, test, written
 from themes.statements import A_BOARDING, rows_of_statement
 
 OPTIONS = ["--port", "9000", "--lanes", "2", "--shards", "4", "--sessions", "1", "--close", "19730"]
@@ -33,6 +35,8 @@ Commands:
   check      Read a fare file, and print how many places, bands, interchanges and holidays it has,
              or its first fault
   statement  Read taps and corrections from standard input, and print the statement of an account's week as CSV
+  replay     Read journals, and print how many lines and accounts they have, with the first and last
+             instant, or the first bad line
   serve      Read taps and corrections from the connections of several lanes, and then close a day
   help       Print this message or the help of the given subcommand(s)
 
@@ -40,8 +44,9 @@ Options:
   -h, --help     Print help
   -V, --version  Print version
 
-Words of run (FARES ZONE), of check (FARES), of statement (FARES ZONE ACCOUNT DAY) and of serve
-(FARES ZONE --port P --lanes L --shards N --sessions K --close DAY, its options in any order):
+Words of run (FARES ZONE), of check (FARES), of statement (FARES ZONE ACCOUNT DAY), of replay
+(FARES ZONE FILE..) and of serve (FARES ZONE --port P --lanes L --shards N --sessions K
+--close DAY), with options in any order:
   FARES    the fare file, a TOML document
   ZONE     the time zone, a POSIX rule text (a name such as Europe/London is none)
   ACCOUNT  the account, a number from 1 to 4294967295
@@ -50,11 +55,15 @@ Words of run (FARES ZONE), of check (FARES), of statement (FARES ZONE ACCOUNT DA
   L        how many lanes there are, from 1 to 15
   N        how many shards the accounts are spread over, from 1 to 16
   K        how many connections each lane serves, from 1 to 1000
+  FILE     a journal, which run wrote
+
+Further options: --journal FILE of run, and --sync with it; --journal FILE of statement, where it is
+only read.
 """ + RUN_EXAMPLE + STATUSES + RUN_FORMATS
 RUN_HELP = b"""\
 Read taps, corrections and closes from standard input, and reply to each
 
-Usage: farebox run <FARES> <ZONE>
+Usage: farebox run [OPTIONS] <FARES> <ZONE>
 
 Arguments:
   <FARES>  The fare file, a TOML document
@@ -62,7 +71,14 @@ Arguments:
            (a name such as Europe/London is none)
 
 Options:
-  -h, --help  Print help
+      --journal <FILE>  A file of the lines that were accepted. They are taken first, and each line
+                        that is accepted is added before its reply. It is made if it is missing
+      --sync            Each line is on the disk before its reply. Without it, before a close is
+                        posted, and at the end
+  -h, --help            Print help
+
+With --journal FILE the lines that were accepted before are taken first. --sync is taken with
+--journal alone.
 """ + RUN_EXAMPLE + STATUSES + RUN_FORMATS
 CHECK_HELP = b"""\
 Read a fare file, and print how many places, bands, interchanges and holidays it has,
@@ -85,7 +101,7 @@ The fare file and the faults are described in docs/FORMATS.md.
 STATEMENT_HELP = b"""\
 Read taps and corrections from standard input, and print the statement of an account's week as CSV
 
-Usage: farebox statement <FARES> <ZONE> <ACCOUNT> <DAY>
+Usage: farebox statement [OPTIONS] <FARES> <ZONE> <ACCOUNT> <DAY>
 
 Arguments:
   <FARES>    The fare file, a TOML document
@@ -95,7 +111,12 @@ Arguments:
   <DAY>      A service day of the week, counted from 1970-01-01: a number from 4 to 50000
 
 Options:
-  -h, --help  Print help
+      --journal <FILE>  A file of the lines that were accepted. They are taken first; it is only
+                        read
+  -h, --help            Print help
+
+With --journal FILE the lines that were accepted before are taken first, and then those of standard
+input. Nothing is added to the file.
 
 Example: account 7 boards a bus in London on Monday 8 January 2024 at 07:00. No replies are
 printed; at the end of input the journeys of its week are, a row for each.
@@ -105,6 +126,25 @@ printed; at the end of input the journeys of its week are, a row for each.
   19730,BUS,50,0,07:00:00,175,-
 """ + STATUSES + b"""
 The lines, the fare file, the statement and the faults are described in docs/FORMATS.md.
+"""
+REPLAY_HELP = b"""\
+Read journals, and print how many lines and accounts they have, with the first and last
+instant, or the first bad line
+
+Usage: farebox replay <FARES> <ZONE> <FILE>...
+
+Arguments:
+  <FARES>    The fare file, a TOML document
+  <ZONE>     The time zone, a POSIX rule text such as GMT0BST,M3.5.0/1,M10.5.0
+             (a name such as Europe/London is none)
+  <FILE>...  The journals, files of lines that were accepted
+
+Options:
+  -h, --help  Print help
+
+A journal is what `run --journal FILE` writes: the lines that were accepted, in their order.
+""" + STATUSES + b"""
+The lines, the journal and the faults are described in docs/FORMATS.md.
 """
 SERVE_HELP = b"""\
 Read taps and corrections from the connections of several lanes, and then close a day
@@ -150,6 +190,9 @@ def help_texts(_):
         (STATEMENT_HELP, (
             ["statement", "--help"], ["statement", "-h"], ["help", "statement"], ["statement", MISSING, "no zone", "--help"],
             ["statement", "-h", "no", "words", "of", "it"], [*STATE, "-h"],
+        )),
+        (REPLAY_HELP, (
+            ["replay", "--help"], ["replay", "-h"], ["help", "replay"], ["replay", MISSING, "no zone", MISSING, "--help"],
         )),
         (SERVE_HELP, (
             ["serve", "--help"], ["serve", "-h"], ["help", "serve"], ["serve", MISSING, "--help"], [*SERVE, "-h"],
@@ -323,3 +366,35 @@ def order_of_options(_):
         ["serve", *OPTIONS, "--", "--port", LONDON], ["serve", "-", LONDON, *OPTIONS],
     ):
         yield f"the words {given}", run(given), NO_FARES
+
+
+# The same of the options that name files, and of the words of `replay`. The fare file is missing.
+TO_RUN, TO_STATE, TO_REPLAY = ["run", MISSING, LONDON], ["statement", MISSING, LONDON, "7", "19730"], ["replay", MISSING, LONDON]
+REFUSED_FILES = (
+    [*TO_RUN, "--sync"], [*TO_RUN, "--journal"], [*TO_RUN, "--journal", "--sync"], [*TO_RUN, "--ledger", "a"],
+    [*TO_RUN, "--journal", "a", "--journal", "b"], [*TO_RUN, "--journal", "a", "--journal=a"],
+    [*TO_RUN, "--journal", "a", "--sync", "--sync"], [*TO_RUN, "--journal", "a", "--sync=true"], [*TO_RUN, "--journal", "a", "--sync", "true"],
+    [*TO_RUN, "--journal", "-a"], [*TO_RUN, "--journal", "a", "b"], [*TO_RUN, "--Journal", "a"], [*TO_RUN, "-j", "a"], [*TO_RUN, "--journals", "a"],
+    [*TO_RUN, "--", "--journal", "a"], ["run", "--journal", MISSING, LONDON], [*TO_RUN, "--port", "9000"], [*TO_RUN, "--journal", b"\xff"],
+    [*TO_STATE, "--sync"], [*TO_STATE, "--journal", "a", "--sync"], [*TO_STATE, "--journal"],
+    [*TO_STATE, "--journal", "a", "--journal", "a"], ["check", MISSING, "--journal", "a"],
+    ["replay"], TO_REPLAY[:2], TO_REPLAY, [*TO_REPLAY, "--journal", "a"], [*TO_REPLAY, "a", "--sync"], [*TO_REPLAY, "-a"], [*TO_REPLAY, "a", b"\xff"],
+    ["--", *TO_REPLAY, "a"], ["REPLAY", *TO_REPLAY[1:], "a"], [*TO_REPLAY, "--"], [*SERVE, "--journal", "a"], [*SERVE, "--sync"],
+)
+TAKEN_FILES = (
+    [*TO_RUN, "--journal", "a"], [*TO_RUN, "--journal=a"], [*TO_RUN, "--journal", "a", "--sync"], [*TO_RUN, "--sync", "--journal", "a"],
+    ["run", "--journal", "a", MISSING, "--sync", LONDON],
+    ["run", "--sync", "--journal=-a", "--", MISSING, LONDON], [*TO_RUN, "--journal", "-"], [*TO_RUN, "--journal="], [*TO_RUN, "--journal", ""],
+    [*TO_STATE, "--journal", "a"], ["statement", "--journal=a", *TO_STATE[1:]], [*TO_STATE[:3], "--journal", "a", *TO_STATE[3:]],
+    [*TO_REPLAY, "a"], [*TO_REPLAY, "a", "b", "a"], [*TO_REPLAY, "--", "-a", "--sync"], ["replay", "--", *TO_REPLAY[1:], "a"], [*TO_REPLAY, "-"], [*TO_REPLAY, ""],
+)
+
+
+@test
+def words_of_files(folder):
+    """Options that name files, and files of a replay: what is none, and in what order they may stand."""
+    for given in REFUSED_FILES:
+        yield f"the words {given}", run(given, cwd=folder), USAGE
+    for given in TAKEN_FILES:
+        yield f"the words {given}", run(given, cwd=folder), NO_FARES
+    yield "no file was made", End(0, b" ".join(name.encode() for name in os.listdir(folder))), answers(b"")

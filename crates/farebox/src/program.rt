@@ -1,31 +1,23 @@
 //! The program: its words, its streams and its statuses.
-ghost use Rattle.std.specs.Prelude.{◌≡◌, ◌≢◌};
-ghost use Rattle.std.specs.IoError.{error_kind};
-ghost use Rattle.pay_jobs.specs.Words.{IsDay, IsWantOfMemory};
+ghost use Rattle.pay_jobs.specs.Words.{IsDay};
 ghost use Rattle.farebox.specs.NoJob.{IsTextOrFault};
 
-use pay_jobs::{Fault, Plan, check_text, run_texts, serve_texts, statement_texts};
-use pay_words::{Job, RunWords, ServeWords, StatementWords, WordsFault, read_words};
+use crate::errors::memory_or;
+use crate::journal::{open_journal, read_journal};
+use pay_jobs::{
+    Fault, Journal, NoJournal, Plan, check_text, replay_texts, run_texts, serve_texts,
+    statement_texts,
+};
+use pay_words::{Job, ReplayWords, RunWords, ServeWords, StatementWords, WordsFault, read_words};
 use std::alloc::AllocError;
-use std::io::{BufReader, Eprint, ErrorKind};
+use std::fs::File;
+use std::io::{BufReader, Eprint};
 use std::net::{Net, TcpListener, TcpStream};
 use std::process::ExitCode;
 use std::rt::{Env, Files};
 use std::sync::Wait;
 use std::thread::Threads;
 use std::{env, fs, io};
-
-/// Out of memory, or else the fault that is at hand.
-fn memory_or(error: &io::Error, fault: Fault) -> Fault
-    ensures memory { error_kind error.now ≡ ErrorKind.OutOfMemory → IsWantOfMemory result }
-    ensures other { error_kind error.now ≢ ErrorKind.OutOfMemory → result ≡ fault }
-{
-    if error.kind() == ErrorKind::OutOfMemory {
-        Fault::from(AllocError)
-    } else {
-        fault
-    }
-}
 
 /// The text that is to be printed for words that give no job, or the fault that they are.
 fn text_or_fault(words: WordsFault) -> Result<String, Fault>
@@ -45,7 +37,7 @@ where
         + Threads
         + Wait
         + Env
-        + Files
+        + Files<File = File>
         + Input
         + Print
         + Eprint
@@ -67,6 +59,7 @@ where
         Ok(Job::Run(words)) => run_session(&rt, &words)?,
         Ok(Job::Check { fares }) => check_fares(&rt, fares)?,
         Ok(Job::Statement(words)) => write_statement(&rt, &words)?,
+        Ok(Job::Replay(words)) => replay_journals(&rt, &words)?,
         Ok(Job::Serve(words)) => return serve_sessions(rt, &words),
         Err(none) => {
             let text = text_or_fault(none)?;
@@ -91,24 +84,39 @@ fn check_fares<R: Files + Print + AllocGlobal>(rt: &R, path: &str) -> Result<(),
 }
 
 /// One session, from standard input to standard output.
-fn run_session<R: Files + Input + Print + AllocGlobal>(
+fn run_session<R: Files<File = File> + Input + Print + AllocGlobal>(
     rt: &R,
     words: &RunWords<'_>,
 ) -> Result<(), Fault> {
     let fares = fares_text(rt, words.fares)?;
-    let (alloc, zone) = (rt.alloc(), words.zone);
-    let mut input = rt.reader();
-    let mut writer = io::writer(rt);
-    if is_input_a_file(rt) {
-        run_texts(alloc, fares.as_str(), zone, &mut input, &mut writer)?;
+    match words.journal {
+        None => run_over(rt, fares.as_str(), words.zone, NoJournal),
+        Some(path) => {
+            let journal = open_journal(rt, path, words.syncs)?;
+            run_over(rt, fares.as_str(), words.zone, journal)
+        }
+    }
+}
+
+/// One session over a journal, or over none.
+fn run_over<R: Files + Input + Print + AllocGlobal, J: Journal>(
+    rt: &R,
+    fares: &str,
+    zone: &str,
+    journal: J,
+) -> Result<(), Fault> {
+    let (alloc, mut input, mut writer) = (rt.alloc(), rt.reader(), io::writer(rt));
+    let ran = if is_input_a_file(rt) {
+        run_texts(alloc, fares, zone, journal, &mut input, &mut writer)?
     } else {
         let mut reader = BufReader::new(alloc, input).map_err(|_| AllocError)?;
-        run_texts(alloc, fares.as_str(), zone, &mut reader, &mut writer)?;
-    }
+        run_texts(alloc, fares, zone, journal, &mut reader, &mut writer)?
+    };
+    ran.told()?;
     Ok(())
 }
 
-/// The statement of an account's week by the lines of standard input, to standard output.
+/// The statement of an account's week by the lines of a journal and of standard input, to standard output.
 fn write_statement<R: Files + Input + Print + AllocGlobal>(
     rt: &R,
     words: &StatementWords<'_>,
@@ -116,14 +124,59 @@ fn write_statement<R: Files + Input + Print + AllocGlobal>(
     requires { IsDay words.now.day }
 {
     let fares = fares_text(rt, words.fares)?;
+    let past = match words.journal {
+        None => Vec::new(rt.alloc()),
+        Some(path) => read_journal(rt, path)?,
+    };
     let (alloc, zone, account, day) = (rt.alloc(), words.zone, words.account, words.day);
-    let (fares, mut input, mut writer) = (fares.as_str(), rt.reader(), io::writer(rt));
+    let (fares, past) = (fares.as_str(), past.as_slice());
+    let (mut input, mut writer) = (rt.reader(), io::writer(rt));
     if is_input_a_file(rt) {
-        statement_texts(alloc, fares, zone, account, day, &mut input, &mut writer)
+        statement_texts(
+            alloc,
+            fares,
+            zone,
+            past,
+            account,
+            day,
+            &mut input,
+            &mut writer,
+        )
     } else {
         let mut reader = BufReader::new(alloc, input).map_err(|_| AllocError)?;
-        statement_texts(alloc, fares, zone, account, day, &mut reader, &mut writer)
+        statement_texts(
+            alloc,
+            fares,
+            zone,
+            past,
+            account,
+            day,
+            &mut reader,
+            &mut writer,
+        )
     }
+}
+
+/// How much the journals at these paths have, to standard output.
+fn replay_journals<R: Files + Print + AllocGlobal>(
+    rt: &R,
+    words: &ReplayWords<'_>,
+) -> Result<(), Fault> {
+    let fares = fares_text(rt, words.fares)?;
+    let mut texts: Vec<Vec<u8>> = Vec::new(rt.alloc());
+    for path in &words.files {
+        texts
+            .push(read_journal(rt, path)?)
+            .map_err(AllocError::from)?;
+    }
+    let (alloc, mut writer) = (rt.alloc(), io::writer(rt));
+    replay_texts(
+        alloc,
+        fares.as_str(),
+        words.zone,
+        texts.as_slice(),
+        &mut writer,
+    )
 }
 
 /// The sessions of all lanes, and then the lines of the close, to standard output. The status says whether the day was closed.

@@ -1,58 +1,70 @@
--- The words of which a job was made, in their order.
-use Rattle.std.proofs.Common.{◌≡◌, ◌∙◌, ℕ, Bool, codes, true, false, ◌==◌, eqb-true, refl, subst, ap, List, [], ◌∷◌, None, inl, inr, drop, slice_index, ◌≢◌}
-use Rattle.clap.specs.Walk.{Text}
-use Rattle.std.specs.Prelude.{⊤}
-use Rattle.pay_words.specs.Asked.{AreServeWords, Asked, Word, asked, given, serve, serve_asked, with_ports, word_kind, words_ask, option_asked, program_asked, run_asked, run, run_readers, check_asked, check, check_readers, statement_asked, statement, statement_readers, number_of, is_account, is_day}
-use Rattle.pay_words.specs.Serve.{AreInRange, ArePartsOf, Part, ServeTexts, has_ports, numbers_of, served, words_of_parts}
+-- The words of which a job was made.
+use Rattle.std.proofs.Common.{◌≡◌, ◌∙◌, ℕ, Bool, codes, true, false, refl, sym, subst, ap, List, [], ◌∷◌, Option, Some, None, inl, inr, drop, slice_index, ◌≢◌}
+use Rattle.clap.specs.Walk.{Row, Text, idle}
+use Rattle.clap.specs.Kinds.{Kinds}
 use Rattle.clap.specs.ValueTests.{is_unsigned_in}
+use Rattle.std.specs.Prelude.{⊤}
+use Rattle.std.proofs.lemmas.Bool.Decides.{eqb_tells}
+use Rattle.pay_words.specs.Asked.{AreRunWords, AreServeWords, AreStatementWords, Asked, HaveNoHyphens, Word, allowed, asked, given, many_by, many_given, word_kind, words_ask, option_asked, program_asked}
+use Rattle.pay_words.specs.Asked.{check, check_asked, check_readers, replay, replay_asked, run, run_asked, run_of, serve, serve_asked, serve_of, statement, statement_asked, statement_of}
 use Rattle.pay_words.specs.Asked.{Given, Reader, taken, all_given, given_by, with_value, values, help, refused, without_dashes}
 use Rattle.pay_words.specs.Asked as words
-use Rattle.std.proofs.lemmas.Bool.Decides.{eqb_tells}
+use Rattle.pay_words.specs.Options.{IsOption, Part, Said, Setting, StandApart, all_of, all_said, flag_value, help_wanted, not_taken, plain_words, reader_of, values_of, words_of_parts}
+use Rattle.pay_words.specs.Options.{port_option, lanes_option, shards_option, sessions_option, close_option, journal_option, sync_option}
+use Rattle.pay_words.specs.Run.{AreRunParts, Run, first_given, flags, has_journal, is_given, listed, run_grammar}
+use Rattle.pay_words.specs.Serve.{AreInRange, ArePartsOf, ServeTexts, has_ports, numbers_of, serve_grammar}
+use Rattle.pay_words.specs.Statement.{AreStatementParts, HasNumbersInRange, StatementTexts, statement_grammar, statement_of_texts}
+use Rattle.pay_words.proofs.OptionsTaken.{AreTaken, Fits, Once, no_values, not_both, parts_taken}
+use Rattle.pay_words.proofs.PartsSaid.{Says, says}
 use Rattle.pay_words.proofs.Programs.{by_program}
-use Rattle.pay_words.proofs.ServeTaken.{not_both, parts_taken}
-use Rattle.pay_words.proofs.WordsOfServe.{AreServeWordsOf, serve_words_are}
-use Rattle.pay_words.proofs.WordKinds.{Reads, reads}
-use Rattle.pay_words.proofs.WordsAfterRun.{run_long, run_rules, run_short}
+use Rattle.pay_words.proofs.WordKinds.{Reads, reads, same_bytes}
+use Rattle.pay_words.proofs.WordLevels.{Level, rows_from}
+use Rattle.pay_words.proofs.WordSteps.{stand}
+use Rattle.pay_words.proofs.WordsAfterCheck.{check_long, check_rules, check_short}
+use Rattle.pay_words.proofs.WordsAfterOptions.{Comes, Places, Under, ends}
+use Rattle.pay_words.proofs.WordsAfterRun.{run_apart, run_built, run_rules, run_shape}
+use Rattle.pay_words.proofs.WordsAfterServe.{serve_apart, serve_built, serve_rules, serve_shape}
+use Rattle.pay_words.proofs.WordsAfterStatement.{statement_apart, statement_built, statement_rules, statement_shape}
 
-abbrev listed : Given → List Text
-listed (values vs) = vs
-listed help = []
-listed refused = []
+-- ---- words that are values alone
+
+abbrev values_in : Given → List Text
+values_in (values vs) = vs
+values_in help = []
+values_in refused = []
 
 -- what is given after one value more
 one_more : (word : Text) (g : Given) (vs : List Text) → with_value word g ≡ values vs → (more : List Text) × (g ≡ values more) × (word ∷ more ≡ vs)
-one_more word (values more) vs e = (more, refl, ap listed e)
+one_more word (values more) vs e = (more, refl, ap values_in e)
 one_more word help vs e = cc
 one_more word refused vs e = cc
 
 -- a value that its reader takes, and what is given after it
 one_taken : (reads : Reader) (word : Text) (g : Given) (vs : List Text) → taken reads word g ≡ values vs
-    → (more : List Text) × (g ≡ values more) × (word ∷ more ≡ vs) × (reads word ≡ true)
+    → (more : List Text) × (g ≡ values more) × (word ∷ more ≡ vs)
 one_taken reads word g vs e = go (reads word) refl
   where
-    go : (fits : Bool) → reads word ≡ fits → (more : List Text) × (g ≡ values more) × (word ∷ more ≡ vs) × (reads word ≡ true)
-    go true is =
-        let m = one_more word g vs (rw is at e) in
-        (m.0, m.1, m.2, is)
+    go : (fits : Bool) → reads word ≡ fits → (more : List Text) × (g ≡ values more) × (word ∷ more ≡ vs)
+    go true is = one_more word g vs (rw is at e)
     go false is =
         let none : refused ≡ values vs = rw is at e in cc
 
 all_are : (readers : List Reader) (rest vs : List Text) → all_given readers rest ≡ values vs → rest ≡ vs
-all_are readers [] vs e = ap listed e
+all_are readers [] vs e = ap values_in e
 all_are [] (word ∷ rest) vs e = cc
 all_are (reads ∷ readers) (word ∷ rest) vs e =
     let m = one_taken reads word (all_given readers rest) vs e in
     ap (λ (l : List Text). word ∷ l) (all_are readers rest m.0 m.1) ∙ m.2
 
-any_row : (word : Text) → Reads run_rules false run_long run_short [] [] None (word_kind word) word
-any_row word = reads run_rules false run_long run_short [] [] None refl word
+any_row : (word : Text) → Reads check_rules false check_long check_short [] [] None (word_kind word) word
+any_row word = reads check_rules false check_long check_short [] [] None refl word
 
 -- the values are the words, but for the first `--`
 given_are : (readers : List Reader) (rest vs : List Text) → given readers rest ≡ values vs → without_dashes rest ≡ vs
-given_are readers [] vs e = ap listed e
+given_are readers [] vs e = ap values_in e
 given_are readers (word ∷ rest) vs e = go (word_kind word) (any_row word) readers e (λ others ws h. given_are others rest ws h)
   where
-    go : (k : Word) → Reads run_rules false run_long run_short [] [] None k word → (readers : List Reader) → given_by k readers word rest (λ others. given others rest) ≡ values vs
+    go : (k : Word) → Reads check_rules false check_long check_short [] [] None k word → (readers : List Reader) → given_by k readers word rest (λ others. given others rest) ≡ values vs
         → ((others : List Reader) (ws : List Text) → given others rest ≡ values ws → without_dashes rest ≡ ws) → without_dashes (word ∷ rest) ≡ vs
     go words.value r [] e next = cc
     go words.value r (reads ∷ others) e next =
@@ -63,53 +75,72 @@ given_are readers (word ∷ rest) vs e = go (word_kind word) (any_row word) read
     go words.call_for_version r readers e next = cc
     go words.option r readers e next = cc
 
--- each value is taken by its reader
-abbrev Pass : List Reader → List Text → Type 0
-Pass readers [] = ⊤
-Pass [] (word ∷ more) = ⊥
-Pass (reads ∷ readers) (word ∷ more) = (reads word ≡ true) × Pass readers more
-
-all_pass : (readers : List Reader) (rest vs : List Text) → all_given readers rest ≡ values vs → Pass readers vs
-all_pass readers [] vs e = subst (Pass readers) (ap listed e) tt
-all_pass [] (word ∷ rest) vs e = cc
-all_pass (reads ∷ readers) (word ∷ rest) vs e =
-    let m = one_taken reads word (all_given readers rest) vs e in
-    subst (Pass (reads ∷ readers)) m.2 (m.3, all_pass readers rest m.0 m.1)
-
-given_pass : (readers : List Reader) (rest vs : List Text) → given readers rest ≡ values vs → Pass readers vs
-given_pass readers [] vs e = subst (Pass readers) (ap listed e) tt
-given_pass readers (word ∷ rest) vs e = go (word_kind word) readers e (λ others ws h. given_pass others rest ws h)
+many_are : (rest vs : List Text) → many_given rest ≡ values vs → without_dashes rest ≡ vs
+many_are [] vs e = ap values_in e
+many_are (word ∷ rest) vs e = go (word_kind word) (any_row word) e (λ ws h. many_are rest ws h)
   where
-    go : (k : Word) (readers : List Reader) → given_by k readers word rest (λ others. given others rest) ≡ values vs
-        → ((others : List Reader) (ws : List Text) → given others rest ≡ values ws → Pass others ws) → Pass readers vs
-    go words.value [] e next = cc
-    go words.value (reads ∷ others) e next =
-        let m = one_taken reads word (given others rest) vs e in
-        subst (Pass (reads ∷ others)) m.2 (m.3, next others m.0 m.1)
-    go words.dashes readers e next = all_pass readers rest vs e
-    go words.call_for_help readers e next = cc
-    go words.call_for_version readers e next = cc
-    go words.option readers e next = cc
+    go : (k : Word) → Reads check_rules false check_long check_short [] [] None k word → many_by k word rest (many_given rest) ≡ values vs
+        → ((ws : List Text) → many_given rest ≡ values ws → without_dashes rest ≡ ws) → without_dashes (word ∷ rest) ≡ vs
+    go words.value r e next =
+        let m = one_more word (many_given rest) vs e in
+        rw r.0 (ap (λ (l : List Text). word ∷ l) (next m.0 m.1) ∙ m.2)
+    go words.dashes r e next = rw r (ap values_in e)
+    go words.call_for_help r e next = cc
+    go words.call_for_version r e next = cc
+    go words.option r e next = cc
+
+-- ---- the words of a job
 
 -- the words after the program's own name, of a job, and what they were where there is none
 abbrev pub AreWordsOf : Asked → List Text → Type 0
-AreWordsOf (run a b) ws = without_dashes ws ≡ codes "run" ∷ a ∷ b ∷ []
+AreWordsOf (run r) ws = AreRunWords r (without_dashes ws)
 AreWordsOf (check a) ws = without_dashes ws ≡ codes "check" ∷ a ∷ []
-AreWordsOf (statement a b account day) ws = (n : Text) × (d : Text) × (is_account n ≡ true) × (number_of n ≡ account) × (is_day d ≡ true) × (number_of d ≡ day)
-    × (without_dashes ws ≡ codes "statement" ∷ a ∷ b ∷ n ∷ d ∷ [])
+AreWordsOf (statement s) ws = AreStatementWords s (without_dashes ws)
+AreWordsOf (replay a b files) ws = (without_dashes ws ≡ codes "replay" ∷ a ∷ b ∷ files) × (files ≢ [])
 AreWordsOf (serve s) ws = AreServeWords s (without_dashes ws)
 AreWordsOf _ ws = ⊤
 
-after_run : (rest : List Text) → AreWordsOf (run_asked (given run_readers rest)) (codes "run" ∷ rest)
-after_run rest = go (given run_readers rest) refl
+-- what an option was given is the one value that it has, if it has one
+under_listed : (rows : List Row) (k : Setting) (vs : List Text) → Under rows k vs → vs ≡ listed (first_given vs)
+under_listed rows k [] h = refl
+under_listed rows k (v ∷ []) h = refl
+under_listed rows k (v ∷ w ∷ more) h = absurd h
+
+under_flags : (rows : List Row) (vs : List Text) → Under rows sync_option vs → vs ≡ flags (is_given vs)
+under_flags rows [] h = refl
+under_flags rows (v ∷ []) h = ap (λ (w : Text). w ∷ []) (same_bytes v flag_value h.1)
+under_flags rows (v ∷ w ∷ more) h = absurd h
+
+-- the one value of an option passed its reader
+under_fits : (rows : List Row) (k : Setting) (vs : List Text) (v : Text) → vs ≡ v ∷ [] → Under rows k vs → reader_of k v ≡ true
+under_fits rows k vs v is h = (subst (Under rows k) is h).1
+
+after_run : (rest : List Text) → AreWordsOf (run_asked (all_said run_grammar rest)) (codes "run" ∷ rest)
+after_run rest = go (all_said run_grammar rest) (Level run_shape [] (stand [] None idle 1 false) rest false []) (rows_from run_shape [] (stand [] None idle 1 false) rest)
+    (says run_grammar (codes "run") run_rules run_built run_apart rest) (ends run_grammar (codes "run") run_rules run_built run_apart rest)
   where
-    go : (g : Given) → given run_readers rest ≡ g → AreWordsOf (run_asked g) (codes "run" ∷ rest)
-    go (values []) e = tt
-    go (values (a ∷ [])) e = tt
-    go (values (a ∷ b ∷ [])) e = ap (λ (l : List Text). codes "run" ∷ l) (given_are run_readers rest (a ∷ b ∷ []) e)
-    go (values (a ∷ b ∷ c ∷ more)) e = tt
-    go help e = tt
-    go refused e = tt
+    made : (parts : List Part) (had : List Row) → Says run_grammar (codes "run") run_rules run_built run_apart (all_of parts) (without_dashes rest)
+        → ((k : Setting) → Under had k (values_of k parts)) → (vs : List Text) → plain_words parts ≡ vs
+        → AreWordsOf (run_of vs (values_of journal_option parts) (values_of sync_option parts)) (codes "run" ∷ rest)
+    made parts had s under [] is = tt
+    made parts had s under (a ∷ []) is = tt
+    made parts had s under (a ∷ b ∷ c ∷ more) is = tt
+    made parts had s under (a ∷ b ∷ []) is = (
+      parts,
+      ap (λ (l : List Text). codes "run" ∷ l) s.0,
+      (
+        s.1,
+        is,
+        under_listed had journal_option (values_of journal_option parts) (under journal_option),
+        under_flags had (values_of sync_option parts) (under sync_option),
+      ),
+    )
+
+    go : (x : Said) (ks : Kinds) (rows : List Row) → Says run_grammar (codes "run") run_rules run_built run_apart x (without_dashes rest)
+        → Comes run_grammar (codes "run") run_rules run_built run_apart x ks rows → AreWordsOf (run_asked x) (codes "run" ∷ rest)
+    go (all_of parts) ks rows s h = made parts h.0 s h.1.2 (plain_words parts) refl
+    go help_wanted ks rows s h = tt
+    go not_taken ks rows s h = tt
 
 after_check : (rest : List Text) → AreWordsOf (check_asked (given check_readers rest)) (codes "check" ∷ rest)
 after_check rest = go (given check_readers rest) refl
@@ -121,33 +152,100 @@ after_check rest = go (given check_readers rest) refl
     go help e = tt
     go refused e = tt
 
-after_statement : (rest : List Text) → AreWordsOf (statement_asked (given statement_readers rest)) (codes "statement" ∷ rest)
-after_statement rest = go (given statement_readers rest) refl
+after_statement : (rest : List Text) → AreWordsOf (statement_asked (all_said statement_grammar rest)) (codes "statement" ∷ rest)
+after_statement rest = go (all_said statement_grammar rest) (Level statement_shape [] (stand [] None idle 1 false) rest false []) (rows_from statement_shape [] (stand [] None idle 1 false) rest)
+    (says statement_grammar (codes "statement") statement_rules statement_built statement_apart rest)
+    (ends statement_grammar (codes "statement") statement_rules statement_built statement_apart rest)
   where
-    go : (g : Given) → given statement_readers rest ≡ g → AreWordsOf (statement_asked g) (codes "statement" ∷ rest)
+    made : (parts : List Part) (had : List Row) → Says statement_grammar (codes "statement") statement_rules statement_built statement_apart (all_of parts) (without_dashes rest)
+        → ((k : Setting) → Under had k (values_of k parts)) → (vs : List Text) → plain_words parts ≡ vs → Places statement_grammar.places vs had
+        → AreWordsOf (statement_of vs (values_of journal_option parts)) (codes "statement" ∷ rest)
+    made parts had s under [] is h = tt
+    made parts had s under (a ∷ []) is h = tt
+    made parts had s under (a ∷ b ∷ []) is h = tt
+    made parts had s under (a ∷ b ∷ n ∷ []) is h = tt
+    made parts had s under (a ∷ b ∷ n ∷ d ∷ e ∷ more) is h = tt
+    made parts had s under (a ∷ b ∷ n ∷ d ∷ []) is h = (
+      record { fares = a; zone = b; account = n; day = d; journal = first_given (values_of journal_option parts) },
+      parts,
+      ap (λ (l : List Text). codes "statement" ∷ l) s.0,
+      (s.1, is, under_listed had journal_option (values_of journal_option parts) (under journal_option)),
+      (h.2.2.1, h.2.2.2.1),
+      refl,
+    )
+
+    go : (x : Said) (ks : Kinds) (rows : List Row) → Says statement_grammar (codes "statement") statement_rules statement_built statement_apart x (without_dashes rest)
+        → Comes statement_grammar (codes "statement") statement_rules statement_built statement_apart x ks rows → AreWordsOf (statement_asked x) (codes "statement" ∷ rest)
+    go (all_of parts) ks rows s h = made parts h.0 s h.1.2 (plain_words parts) refl h.1.1
+    go help_wanted ks rows s h = tt
+    go not_taken ks rows s h = tt
+
+not_none : (f : Text) (fs : List Text) → f ∷ fs ≢ []
+not_none f fs = λ e. cc
+
+after_replay : (rest : List Text) → AreWordsOf (replay_asked (many_given rest)) (codes "replay" ∷ rest)
+after_replay rest = go (many_given rest) refl
+  where
+    go : (g : Given) → many_given rest ≡ g → AreWordsOf (replay_asked g) (codes "replay" ∷ rest)
     go (values []) e = tt
     go (values (a ∷ [])) e = tt
     go (values (a ∷ b ∷ [])) e = tt
-    go (values (a ∷ b ∷ n ∷ [])) e = tt
-    go (values (a ∷ b ∷ n ∷ d ∷ [])) e =
-        let pass = given_pass statement_readers rest (a ∷ b ∷ n ∷ d ∷ []) e in
-        (n, d, pass.1.1.0, refl, pass.1.1.1.0, refl, ap (λ (l : List Text). codes "statement" ∷ l) (given_are statement_readers rest (a ∷ b ∷ n ∷ d ∷ []) e))
-    go (values (a ∷ b ∷ n ∷ d ∷ c ∷ more)) e = tt
+    go (values (a ∷ b ∷ f ∷ fs)) e = (ap (λ (l : List Text). codes "replay" ∷ l) (many_are rest (a ∷ b ∷ f ∷ fs) e), not_none f fs)
     go help e = tt
     go refused e = tt
 
-after_serve : (rest : List Text) → AreWordsOf (serve_asked (served [] None rest)) (codes "serve" ∷ rest)
-after_serve rest = go (serve_asked (served [] None rest)) (serve_words_are rest)
+module _ (rest : List Text) (parts : List Part) (had : List Row) (s : Says serve_grammar (codes "serve") serve_rules serve_built serve_apart (all_of parts) (without_dashes rest))
+    (under : (k : Setting) → Under had k (values_of k parts)) where
+  serve_fits : (k : Setting) (v : Text) → values_of k parts ≡ v ∷ [] → reader_of k v ≡ true
+  serve_fits k v is = under_fits had k (values_of k parts) v is (under k)
+
+  serve_made : (vs ps ls ns ks ds : List Text) → plain_words parts ≡ vs → values_of port_option parts ≡ ps → values_of lanes_option parts ≡ ls
+      → values_of shards_option parts ≡ ns → values_of sessions_option parts ≡ ks → values_of close_option parts ≡ ds
+      → AreWordsOf (serve_of vs ps ls ns ks ds) (codes "serve" ∷ rest)
+  serve_made [] ps ls ns ks ds h p l n k d = tt
+  serve_made (a ∷ []) ps ls ns ks ds h p l n k d = tt
+  serve_made (a ∷ b ∷ c ∷ more) ps ls ns ks ds h p l n k d = tt
+  serve_made (a ∷ b ∷ []) [] ls ns ks ds h p l n k d = tt
+  serve_made (a ∷ b ∷ []) (pw ∷ v ∷ more) ls ns ks ds h p l n k d = tt
+  serve_made (a ∷ b ∷ []) (pw ∷ []) [] ns ks ds h p l n k d = tt
+  serve_made (a ∷ b ∷ []) (pw ∷ []) (lw ∷ v ∷ more) ns ks ds h p l n k d = tt
+  serve_made (a ∷ b ∷ []) (pw ∷ []) (lw ∷ []) [] ks ds h p l n k d = tt
+  serve_made (a ∷ b ∷ []) (pw ∷ []) (lw ∷ []) (nw ∷ v ∷ more) ks ds h p l n k d = tt
+  serve_made (a ∷ b ∷ []) (pw ∷ []) (lw ∷ []) (nw ∷ []) [] ds h p l n k d = tt
+  serve_made (a ∷ b ∷ []) (pw ∷ []) (lw ∷ []) (nw ∷ []) (kw ∷ v ∷ more) ds h p l n k d = tt
+  serve_made (a ∷ b ∷ []) (pw ∷ []) (lw ∷ []) (nw ∷ []) (kw ∷ []) [] h p l n k d = tt
+  serve_made (a ∷ b ∷ []) (pw ∷ []) (lw ∷ []) (nw ∷ []) (kw ∷ []) (dw ∷ v ∷ more) h p l n k d = tt
+  serve_made (a ∷ b ∷ []) (pw ∷ []) (lw ∷ []) (nw ∷ []) (kw ∷ []) (dw ∷ []) h p l n k d = (
+    record {
+      fares = a;
+      zone = b;
+      port = pw;
+      lanes = lw;
+      shards = nw;
+      sessions = kw;
+      close = dw;
+    },
+    parts,
+    ap (λ (l : List Text). codes "serve" ∷ l) s.0,
+    (
+      s.1,
+      h,
+      (p, l, n, k, d),
+    ),
+    (serve_fits port_option pw p, serve_fits lanes_option lw l, serve_fits shards_option nw n, serve_fits sessions_option kw k, serve_fits close_option dw d),
+    refl,
+  )
+
+after_serve : (rest : List Text) → AreWordsOf (serve_asked (all_said serve_grammar rest)) (codes "serve" ∷ rest)
+after_serve rest = go (all_said serve_grammar rest) (Level serve_shape [] (stand [] None idle 1 false) rest false []) (rows_from serve_shape [] (stand [] None idle 1 false) rest)
+    (says serve_grammar (codes "serve") serve_rules serve_built serve_apart rest) (ends serve_grammar (codes "serve") serve_rules serve_built serve_apart rest)
   where
-    go : (x : Asked) → AreServeWordsOf x (without_dashes rest) → AreWordsOf x (codes "serve" ∷ rest)
-    go (run a b) h = absurd h
-    go (check a) h = absurd h
-    go (statement a b account day) h = absurd h
-    go (serve s) h = h
-    go words.help_asked h = tt
-    go words.help_named h = tt
-    go words.version_asked h = tt
-    go words.usage h = tt
+    go : (x : Said) (ks : Kinds) (rows : List Row) → Says serve_grammar (codes "serve") serve_rules serve_built serve_apart x (without_dashes rest)
+        → Comes serve_grammar (codes "serve") serve_rules serve_built serve_apart x ks rows → AreWordsOf (serve_asked x) (codes "serve" ∷ rest)
+    go (all_of parts) ks rows s h = serve_made rest parts h.0 s h.1.2 (plain_words parts) (values_of port_option parts) (values_of lanes_option parts) (values_of shards_option parts)
+        (values_of sessions_option parts) (values_of close_option parts) refl refl refl refl refl refl
+    go help_wanted ks rows s h = tt
+    go not_taken ks rows s h = tt
 
 after_option : (k : Word) (ws : List Text) → AreWordsOf (option_asked k) ws
 after_option words.value ws = tt
@@ -156,30 +254,37 @@ after_option words.call_for_help ws = tt
 after_option words.call_for_version ws = tt
 after_option words.option ws = tt
 
--- lanes without ports are no job
-with_ports_too : (x : Asked) (ws : List Text) → AreWordsOf x ws → AreWordsOf (with_ports x) ws
-with_ports_too (run a b) ws h = h
-with_ports_too (check a) ws h = h
-with_ports_too (statement a b account day) ws h = h
-with_ports_too (serve s) ws h = go (has_ports s) refl
+-- what is not allowed is no job
+allowed_too : (x : Asked) (ws : List Text) → AreWordsOf x ws → AreWordsOf (allowed x) ws
+allowed_too (run r) ws h = go (has_journal r) refl
   where
-    go : (fits : Bool) → has_ports s ≡ fits → AreWordsOf (with_ports (serve s)) ws
+    go : (fits : Bool) → has_journal r ≡ fits → AreWordsOf (allowed (run r)) ws
     go true is = rw is h
     go false is = rw is tt
-with_ports_too words.help_asked ws h = tt
-with_ports_too words.help_named ws h = tt
-with_ports_too words.version_asked ws h = tt
-with_ports_too words.usage ws h = tt
+allowed_too (check a) ws h = h
+allowed_too (statement s) ws h = h
+allowed_too (replay a b files) ws h = h
+allowed_too (serve s) ws h = go (has_ports s) refl
+  where
+    go : (fits : Bool) → has_ports s ≡ fits → AreWordsOf (allowed (serve s)) ws
+    go true is = rw is h
+    go false is = rw is tt
+allowed_too words.help_asked ws h = tt
+allowed_too words.help_named ws h = tt
+allowed_too words.version_asked ws h = tt
+allowed_too words.usage ws h = tt
 
 said_in_order : (ws : List Text) → AreWordsOf (words_ask ws) (drop 1 ws)
 said_in_order [] = tt
 said_in_order (name ∷ []) = tt
-said_in_order (name ∷ word ∷ rest) = by_program (λ (w : Text). AreWordsOf (program_asked w rest) (w ∷ rest)) word (after_run rest) (after_check rest) (after_statement rest) (after_serve rest) tt
-    (λ no_run no_check no_statement no_serve no_help. rw (no_run, no_check, no_statement, no_serve, no_help) (after_option (word_kind word) (word ∷ rest)))
+said_in_order (name ∷ word ∷ rest) = by_program (λ (w : Text). AreWordsOf (program_asked w rest) (w ∷ rest)) word (after_run rest) (after_check rest) (after_statement rest) (after_replay rest) (after_serve rest) tt
+    (λ none. rw (none.0, none.1, none.2, none.3, none.4, none.5) (after_option (word_kind word) (word ∷ rest)))
 
 -- but for the first, and for a `--`, the words are those of the job
 pub in_order : (ws : List Text) → AreWordsOf (asked ws) (drop 1 ws)
-in_order ws = with_ports_too (words_ask ws) (drop 1 ws) (said_in_order ws)
+in_order ws = allowed_too (words_ask ws) (drop 1 ws) (said_in_order ws)
+
+-- ---- the words that are taken
 
 -- words with no hyphen before them are values
 no_hyphen : (w : Text) → slice_index w 0 ≢ 45 → word_kind w ≡ words.value
@@ -189,28 +294,119 @@ no_hyphen (b ∷ rest) ne = elim (eqb_tells b 45) [
   | inr h ↦ rw h.0 refl
 ]
 
-pub asks_run : (ws : List Text) (name fares zone : Text) → ws ≡ name ∷ codes "run" ∷ fares ∷ zone ∷ [] → slice_index fares 0 ≢ 45 → slice_index zone 0 ≢ 45
-    → asked ws ≡ run fares zone
-asks_run ws name fares zone is f z = ap asked is ∙ (rw (no_hyphen fares f, no_hyphen zone z) refl)
+-- a number that is taken has no hyphen before it
+number_has_none : (least most : ℕ) (w : Text) → is_unsigned_in least most w ≡ true → slice_index w 0 ≢ 45
+number_has_none least most [] fits = λ e. cc
+number_has_none least most (b ∷ rest) fits = λ e. absurd (not_both _ _ (rw e at fits))
+
+once_listed : (k : Setting) (o : Option Text) → ((v : Text) → reader_of k v ≡ true) → Once k (listed o)
+once_listed k None any = tt
+once_listed k (Some v) any = any v
+
+once_flags : (given : Bool) → Once sync_option (flags given)
+once_flags true = refl
+once_flags false = tt
+
+first_listed : (o : Option Text) → first_given (listed o) ≡ o
+first_listed None = refl
+first_listed (Some v) = refl
+
+given_flags : (given : Bool) → is_given (flags given) ≡ given
+given_flags true = refl
+given_flags false = refl
+
+module _ (r : Run) (parts : List Part) (are : AreRunParts r parts) where
+  none_of_run : (k : Setting) → (IsOption run_grammar k → ⊥) → Once k (values_of k parts)
+  none_of_run k none = subst (Once k) (sym (no_values run_grammar k none parts are.0)) tt
+
+  run_once : (k : Setting) → Once k (values_of k parts)
+  run_once port_option = none_of_run port_option (λ e. cc)
+  run_once lanes_option = none_of_run lanes_option (λ e. cc)
+  run_once shards_option = none_of_run shards_option (λ e. cc)
+  run_once sessions_option = none_of_run sessions_option (λ e. cc)
+  run_once close_option = none_of_run close_option (λ e. cc)
+  run_once journal_option = subst (Once journal_option) (sym are.2) (once_listed journal_option r.journal (λ v. refl))
+  run_once sync_option = subst (Once sync_option) (sym are.3) (once_flags r.syncs)
+
+  run_taken : slice_index r.fares 0 ≢ 45 → slice_index r.zone 0 ≢ 45 → AreTaken run_grammar parts
+  run_taken f z = record {
+    are = are.0;
+    fits = subst (Fits run_grammar.places) (sym are.1) (refl, (refl, tt));
+    hyphens = subst HaveNoHyphens (sym are.1) (f, (z, tt));
+    once = run_once;
+  }
+
+  run_is : run_asked (all_of parts) ≡ run r
+  run_is = rw (are.1, are.2, are.3, first_listed r.journal, given_flags r.syncs) refl
+
+pub asks_run : (ws : List Text) (name : Text) (r : Run) (parts : List Part) → ws ≡ name ∷ codes "run" ∷ words_of_parts parts → AreRunParts r parts → StandApart parts
+    → slice_index r.fares 0 ≢ 45 → slice_index r.zone 0 ≢ 45 → has_journal r ≡ true → asked ws ≡ run r
+asks_run ws name r parts is are may f z journal = ap asked is ∙ (ap (λ (x : Said). allowed (run_asked x)) (parts_taken run_grammar parts (run_taken r parts are f z) may)
+    ∙ (ap allowed (run_is r parts are) ∙ (rw journal refl)))
 
 pub asks_check : (ws : List Text) (name fares : Text) → ws ≡ name ∷ codes "check" ∷ fares ∷ [] → slice_index fares 0 ≢ 45 → asked ws ≡ check fares
 asks_check ws name fares is f = ap asked is ∙ (rw (no_hyphen fares f) refl)
 
--- a number that is taken has no hyphen before it
-number_is_value : (least most : ℕ) (w : Text) → is_unsigned_in least most w ≡ true → word_kind w ≡ words.value
-number_is_value least most [] fits = refl
-number_is_value least most (b ∷ rest) fits = go (b == 45) refl
-  where
-    go : (t : Bool) → (b == 45) ≡ t → word_kind (b ∷ rest) ≡ words.value
-    go true t = absurd (not_both _ _ (rw (eqb-true b 45 t) at fits))
-    go false t = rw t refl
+module _ (t : StatementTexts) (parts : List Part) (are : AreStatementParts t parts) where
+  none_of_statement : (k : Setting) → (IsOption statement_grammar k → ⊥) → Once k (values_of k parts)
+  none_of_statement k none = subst (Once k) (sym (no_values statement_grammar k none parts are.0)) tt
 
-pub asks_statement : (ws : List Text) (name fares zone account day : Text) → ws ≡ name ∷ codes "statement" ∷ fares ∷ zone ∷ account ∷ day ∷ []
-    → slice_index fares 0 ≢ 45 → slice_index zone 0 ≢ 45 → is_account account ≡ true → is_day day ≡ true
-    → asked ws ≡ statement fares zone (number_of account) (number_of day)
-asks_statement ws name fares zone account day is f z a d =
-    ap asked is ∙ (rw (no_hyphen fares f, no_hyphen zone z, number_is_value 1 4_294_967_295 account a, number_is_value 4 50_000 day d, a, d) refl)
+  statement_once : (k : Setting) → Once k (values_of k parts)
+  statement_once port_option = none_of_statement port_option (λ e. cc)
+  statement_once lanes_option = none_of_statement lanes_option (λ e. cc)
+  statement_once shards_option = none_of_statement shards_option (λ e. cc)
+  statement_once sessions_option = none_of_statement sessions_option (λ e. cc)
+  statement_once close_option = none_of_statement close_option (λ e. cc)
+  statement_once journal_option = subst (Once journal_option) (sym are.2) (once_listed journal_option t.journal (λ v. refl))
+  statement_once sync_option = none_of_statement sync_option (λ e. cc)
 
-pub asks_serve : (ws : List Text) (name : Text) (t : ServeTexts) (parts : List Part) → ws ≡ name ∷ codes "serve" ∷ words_of_parts parts → ArePartsOf t parts
+  statement_taken : slice_index t.fares 0 ≢ 45 → slice_index t.zone 0 ≢ 45 → HasNumbersInRange t → AreTaken statement_grammar parts
+  statement_taken f z n = record {
+    are = are.0;
+    fits = subst (Fits statement_grammar.places) (sym are.1) (refl, (refl, (n.0, (n.1, tt))));
+    hyphens = subst HaveNoHyphens (sym are.1) (f, (z, (number_has_none 1 4_294_967_295 t.account n.0, (number_has_none 4 50_000 t.day n.1, tt))));
+    once = statement_once;
+  }
+
+  statement_is : statement_asked (all_of parts) ≡ statement (statement_of_texts t)
+  statement_is = rw (are.1, are.2, first_listed t.journal) refl
+
+pub asks_statement : (ws : List Text) (name : Text) (t : StatementTexts) (parts : List Part) → ws ≡ name ∷ codes "statement" ∷ words_of_parts parts → AreStatementParts t parts → StandApart parts
+    → slice_index t.fares 0 ≢ 45 → slice_index t.zone 0 ≢ 45 → HasNumbersInRange t → asked ws ≡ statement (statement_of_texts t)
+asks_statement ws name t parts is are may f z n = ap asked is
+    ∙ (ap (λ (x : Said). allowed (statement_asked x)) (parts_taken statement_grammar parts (statement_taken t parts are f z n) may) ∙ ap allowed (statement_is t parts are))
+
+many_values : (vs : List Text) → HaveNoHyphens vs → many_given vs ≡ values vs
+many_values [] h = refl
+many_values (v ∷ vs) h = rw (no_hyphen v h.0) (ap (with_value v) (many_values vs h.1))
+
+pub asks_replay : (ws : List Text) (name fares zone file : Text) (files : List Text) → ws ≡ name ∷ codes "replay" ∷ fares ∷ zone ∷ file ∷ files
+    → slice_index fares 0 ≢ 45 → slice_index zone 0 ≢ 45 → HaveNoHyphens (file ∷ files) → asked ws ≡ replay fares zone (file ∷ files)
+asks_replay ws name fares zone file files is f z h = ap asked is
+    ∙ ap (λ (g : Given). allowed (replay_asked g)) (many_values (fares ∷ zone ∷ file ∷ files) (f, (z, h)))
+
+module _ (t : ServeTexts) (parts : List Part) (are : ArePartsOf t parts) (fits : AreInRange t) where
+  serve_once : (k : Setting) → Once k (values_of k parts)
+  serve_once port_option = subst (Once port_option) (sym are.2.0) fits.0
+  serve_once lanes_option = subst (Once lanes_option) (sym are.2.1) fits.1
+  serve_once shards_option = subst (Once shards_option) (sym are.2.2) fits.2
+  serve_once sessions_option = subst (Once sessions_option) (sym are.2.3) fits.3
+  serve_once close_option = subst (Once close_option) (sym are.2.4) fits.4
+  serve_once journal_option = subst (Once journal_option) (sym (no_values serve_grammar journal_option (λ e. cc) parts are.0)) tt
+  serve_once sync_option = subst (Once sync_option) (sym (no_values serve_grammar sync_option (λ e. cc) parts are.0)) tt
+
+  serve_taken : slice_index t.fares 0 ≢ 45 → slice_index t.zone 0 ≢ 45 → AreTaken serve_grammar parts
+  serve_taken f z = record {
+    are = are.0;
+    fits = subst (Fits serve_grammar.places) (sym are.1) (refl, (refl, tt));
+    hyphens = subst HaveNoHyphens (sym are.1) (f, (z, tt));
+    once = serve_once;
+  }
+
+  serve_is : serve_asked (all_of parts) ≡ serve (numbers_of t)
+  serve_is = rw (are.1, are.2.0, are.2.1, are.2.2, are.2.3, are.2.4) refl
+
+pub asks_serve : (ws : List Text) (name : Text) (t : ServeTexts) (parts : List Part) → ws ≡ name ∷ codes "serve" ∷ words_of_parts parts → ArePartsOf t parts → StandApart parts
     → slice_index t.fares 0 ≢ 45 → slice_index t.zone 0 ≢ 45 → AreInRange t → has_ports (numbers_of t) ≡ true → asked ws ≡ serve (numbers_of t)
-asks_serve ws name t parts is are f z fits ports = ap asked is ∙ (ap with_ports (parts_taken t f z fits parts are) ∙ (rw ports refl))
+asks_serve ws name t parts is are may f z fits ports = ap asked is ∙ (ap (λ (x : Said). allowed (serve_asked x)) (parts_taken serve_grammar parts (serve_taken t parts are fits f z) may)
+    ∙ (ap allowed (serve_is t parts are fits) ∙ (rw ports refl)))

@@ -1,94 +1,135 @@
 -- What `clap` makes of the words after `run`.
-use Rattle.std.proofs.Common.{Bool, codes, true, false, refl, sym, subst, List, [], ◌∷◌, Option, Some, None, ◌≡◌}
-use Rattle.clap.specs.Walk.{Rule, Text, Walk, walked}
+use Rattle.std.proofs.Common.{◌≡◌, ◌∙◌, ◌+◌, codes, true, false, refl, sym, ap, subst, List, [], ◌∷◌, ◌++◌, Option, Some, None}
+use Rattle.std.specs.Prelude.{fold, min, option_and_then, option_map, slice_get}
+use Rattle.clap.specs.Lexer.{usize_max}
+use Rattle.clap.specs.Walk.{Row, Rule, Text, arg_by_index, first_of, has_row, idle, one_of, with_default}
 use Rattle.clap.specs.Simple.{Shape}
-use Rattle.clap.specs.Faults.{defaults_fault, turn_fault, walk_fault}
-use Rattle.clap.specs.declared.error.kind.ErrorKind.TheVariants.{UnknownArgument}
-use Rattle.pay_words.specs.Asked.{Asked, Word, all_given, any_text, run_readers, given, given_by, word_kind, run_asked, with_value}
-use Rattle.pay_words.specs.Asked as words
-use Rattle.pay_words.proofs.WordKinds.{LongOptions, Reads, Refuses, ShortOptions, help_filled, reads}
-use Rattle.pay_words.proofs.WordLevels.{level_refuses, place, turn_value}
-use Rattle.pay_words.proofs.WordsOfProgram as program
-use Rattle.pay_words.proofs.WordsOfProgram.{after_fares, after_none, fares_pending, fares_row, place_rule, program_shape}
+use Rattle.clap.specs.Kinds.{Kinds}
+use Rattle.clap.specs.Faults.{check_fault}
+use Rattle.pay_words.specs.Asked.{run_asked, run_of}
+use Rattle.pay_words.specs.CommandLine.{flag_text}
+use Rattle.pay_words.specs.Options.{Place, Said, Setting, all_of, all_said, flag_value, help_wanted, name_of, not_taken, place_behind, plain_words, values_of}
+use Rattle.pay_words.specs.Options.{fares_place, zone_place, journal_option, sync_option}
+use Rattle.pay_words.specs.Run.{first_given, is_given, run_grammar}
+use Rattle.pay_words.proofs.OptionRows.{a_row, default_added, default_row, found, found_new, found_other, no_default_faults, no_defaults, no_row, row_with}
+use Rattle.pay_words.proofs.OptionRules.{IsBuilt, position_of, rule_at, rule_by_long, rules_for, setting_rule}
+use Rattle.pay_words.proofs.WordKinds.{same_bytes}
+use Rattle.pay_words.proofs.WordLevels.{Level, rows_from}
+use Rattle.pay_words.proofs.WordSteps.{stand}
+use Rattle.pay_words.proofs.WordsAfterOptions as options
+use Rattle.pay_words.proofs.WordsAfterOptions.{AreApart, Places, Under, ends}
+use Rattle.pay_words.proofs.WordsOfProgram.{Comes, program_shape}
 
 abbrev pub run_rules : List Rule
-run_rules = place_rule (codes "FARES") 1 ∷ place_rule (codes "ZONE") 2 ∷ help_filled ∷ []
+run_rules = rule_at fares_place ∷ rule_at zone_place ∷ rules_for (journal_option ∷ sync_option ∷ [])
 
 abbrev pub run_shape : Shape
 run_shape = program_shape (codes "run") run_rules
 
-pub run_long : LongOptions run_rules false
-run_long name = refl
+pub run_apart : AreApart run_grammar.places
+run_apart = (((refl, refl), tt), (tt, tt))
 
-pub run_short : ShortOptions run_rules false
-run_short x = refl
+run_index : (vs : List Text) → arg_by_index run_rules (position_of vs) ≡ option_map rule_at (place_behind run_grammar.places vs)
+run_index [] = refl
+run_index (a ∷ []) = refl
+run_index (a ∷ b ∷ []) = refl
+run_index (a ∷ b ∷ c ∷ []) = refl
+run_index (a ∷ b ∷ c ∷ d ∷ more) = refl
 
-abbrev zone_pending : Text → Option (Text × List Text)
-zone_pending b = Some (codes "ZONE", b ∷ [])
+run_next : (vs : List Text) (p : Place) (word : Text) → place_behind run_grammar.places vs ≡ Some p → min (position_of vs + 1) usize_max ≡ position_of (vs ++ word ∷ [])
+run_next [] p word is = refl
+run_next (a ∷ []) p word is = refl
+run_next (a ∷ b ∷ more) p word is = cc
 
--- the walk after both values
-abbrev after_zone : Text → Text → Bool → Walk
-after_zone a b t = place (fares_row a) (zone_pending b) 3 t
+pub run_built : IsBuilt run_grammar run_rules
+run_built = record {
+  by_long = λ name. rule_by_long run_grammar.options name;
+  by_short = λ x. refl;
+  by_name = (refl, (refl, tt));
+  by_place = (refl, (refl, tt));
+  by_index = run_index;
+  next = run_next;
+  defaults = λ rows. no_default_faults run_rules rows (refl, (refl, (refl, (refl, (refl, tt)))));
+}
 
-abbrev EndsFrom : Asked → Walk → List Text → Type 0
-EndsFrom = program.EndsFrom (codes "run") run_rules run_long run_short
+-- ---- the end of the words
 
--- after `--`
-trailing_two : (a b : Text) (rest : List Text) → EndsFrom (run_asked (with_value a (with_value b (all_given [] rest)))) (after_zone a b true) rest
-unfolding walked walk_fault defaults_fault
-trailing_two a b [] = (refl, refl)
-trailing_two a b (x ∷ rest) = refl
+-- the first value of a row
+abbrev row_first : Option Row → Option Text
+row_first = option_and_then (λ r. slice_get r.values 0)
 
-trailing_one : (a : Text) (rest : List Text) → EndsFrom (run_asked (with_value a (all_given (any_text ∷ []) rest))) (after_fares a true) rest
-unfolding walked walk_fault defaults_fault
-trailing_one a [] = refl
-trailing_one a (b ∷ rest) = trailing_two a b rest
+-- the first value of an option is what it was given
+pub under_first : (rows : List Row) (k : Setting) (vs : List Text) → Under rows k vs → first_of (name_of k) rows ≡ first_given vs
+under_first rows k [] h = rw h refl
+under_first rows k (v ∷ []) h = rw h.0 refl
+under_first rows k (v ∷ w ∷ more) h = absurd h
 
-trailing_none : (rest : List Text) → EndsFrom (run_asked (all_given (any_text ∷ any_text ∷ []) rest)) (after_none true) rest
-unfolding walked walk_fault defaults_fault
-trailing_none [] = refl
-trailing_none (a ∷ rest) = trailing_one a rest
+run_ended : (rows : List Row) → fold with_default rows run_rules ≡ with_default rows (setting_rule sync_option)
+run_ended rows =
+    ap (λ (r : List Row). fold with_default r (rules_for (sync_option ∷ []))) (no_defaults (rule_at fares_place ∷ rule_at zone_place ∷ setting_rule journal_option ∷ []) rows (refl, (refl, (refl, tt))))
+    ∙ no_defaults (rules_for []) (with_default rows (setting_rule sync_option)) (refl, tt)
 
--- the words from a place on, by the kind of the first
-third : (a b word : Text) (rest : List Text) (k : Word) → Reads run_rules false run_long run_short [] (fares_row a) (zone_pending b) k word
-    → EndsFrom (run_asked (with_value a (with_value b (given_by k [] word rest (λ others. given others rest))))) (after_zone a b false) (word ∷ rest)
-third a b word rest words.value r =
-    let stray : turn_fault run_shape [] (after_zone a b false) word ≡ UnknownArgument ∷ [] =
-    turn_value run_rules false run_long run_short [] run_shape [] (fares_row a) (zone_pending b) 3 word refl r in
-    level_refuses run_shape [] (after_zone a b false) word rest false [] (subst Refuses (sym stray) refl)
-third a b word rest words.dashes r = program.after_dashes (codes "run") run_rules run_long run_short (fares_row a) (zone_pending b) 3 word rest _ r (trailing_two a b rest)
-third a b word rest words.call_for_help r = program.helps (codes "run") run_rules run_long run_short (fares_row a) (zone_pending b) 3 word rest r
-third a b word rest words.option r = program.declines (codes "run") run_rules run_long run_short (fares_row a) (zone_pending b) 3 word rest r
-third a b word rest words.call_for_version r = program.declines (codes "run") run_rules run_long run_short (fares_row a) (zone_pending b) 3 word rest r
+-- a flag that was not given has its row all the same, and no other row is changed
+abbrev IsFinal : List Row → List Text → List Row → Type 0
+IsFinal had ss rows = (found (codes "FARES") rows ≡ found (codes "FARES") had) × (found (codes "ZONE") rows ≡ found (codes "ZONE") had)
+    × (found (codes "journal") rows ≡ found (codes "journal") had) × (one_of (codes "sync") rows ≡ Some (flag_text (is_given ss)))
 
-two_given : (a b : Text) (rest : List Text) → EndsFrom (run_asked (with_value a (with_value b (given [] rest)))) (after_zone a b false) rest
-unfolding defaults_fault walk_fault
-two_given a b [] = (refl, refl)
-two_given a b (word ∷ rest) = third a b word rest (word_kind word) (reads run_rules false run_long run_short [] (fares_row a) (zone_pending b) refl word)
+run_final : (had : List Row) (ss : List Text) → Under had sync_option ss → IsFinal had ss (fold with_default had run_rules)
+run_final had [] h =
+    let r : Row = default_row (codes "sync") (codes "false") in
+    let new : has_row (codes "sync") had ≡ false = no_row (codes "sync") had h in
+    let is : fold with_default had run_rules ≡ had ++ r ∷ [] = run_ended had ∙ (rw new (default_added (codes "sync") (codes "false") had h)) in
+    let sync : found (codes "sync") (had ++ r ∷ []) ≡ Some r = found_new (codes "sync") had r h refl in
+    subst (IsFinal had []) (sym is) (
+      found_other (codes "FARES") had r refl,
+      found_other (codes "ZONE") had r refl,
+      found_other (codes "journal") had r refl,
+      rw sync refl,
+    )
+run_final had (v ∷ []) h =
+    let old : has_row (codes "sync") had ≡ true = a_row (codes "sync") had (row_with (codes "sync") v) h.0 in
+    let is : fold with_default had run_rules ≡ had = run_ended had ∙ (rw old refl) in
+    let value : v ≡ flag_value = same_bytes v flag_value h.1 in
+    subst (IsFinal had (v ∷ [])) (sym is) (refl, refl, refl, rw h.0 (ap Some value))
+run_final had (v ∷ w ∷ more) h = absurd h
 
-second : (a word : Text) (rest : List Text) (k : Word) → Reads run_rules false run_long run_short [] [] (fares_pending a) k word
-    → EndsFrom (run_asked (with_value a (given_by k (any_text ∷ []) word rest (λ others. given others rest)))) (after_fares a false) (word ∷ rest)
-second a word rest words.value r = program.after_value (codes "run") run_rules run_long run_short [] (fares_pending a) 2 word rest _ (after_zone a word false) r refl refl (two_given a word rest)
-second a word rest words.dashes r = program.after_dashes (codes "run") run_rules run_long run_short [] (fares_pending a) 2 word rest _ r (trailing_one a rest)
-second a word rest words.call_for_help r = program.helps (codes "run") run_rules run_long run_short [] (fares_pending a) 2 word rest r
-second a word rest words.option r = program.declines (codes "run") run_rules run_long run_short [] (fares_pending a) 2 word rest r
-second a word rest words.call_for_version r = program.declines (codes "run") run_rules run_long run_short [] (fares_pending a) 2 word rest r
-
-one_given : (a : Text) (rest : List Text) → EndsFrom (run_asked (with_value a (given (any_text ∷ []) rest))) (after_fares a false) rest
-unfolding defaults_fault walk_fault
-one_given a [] = refl
-one_given a (word ∷ rest) = second a word rest (word_kind word) (reads run_rules false run_long run_short [] [] (fares_pending a) refl word)
-
-first : (word : Text) (rest : List Text) (k : Word) → Reads run_rules false run_long run_short [] [] None k word
-    → EndsFrom (run_asked (given_by k (any_text ∷ any_text ∷ []) word rest (λ others. given others rest))) (after_none false) (word ∷ rest)
-first word rest words.value r = program.after_value (codes "run") run_rules run_long run_short [] None 1 word rest _ (after_fares word false) r refl refl (one_given word rest)
-first word rest words.dashes r = program.after_dashes (codes "run") run_rules run_long run_short [] None 1 word rest _ r (trailing_none rest)
-first word rest words.call_for_help r = program.helps (codes "run") run_rules run_long run_short [] None 1 word rest r
-first word rest words.option r = program.declines (codes "run") run_rules run_long run_short [] None 1 word rest r
-first word rest words.call_for_version r = program.declines (codes "run") run_rules run_long run_short [] None 1 word rest r
+-- what is asked for by all that was given, and what `clap` says of it
+finish : (vs js ss : List Text) (had rows : List Row) → Places run_grammar.places vs had → Under had journal_option js
+    → IsFinal had ss rows → Comes (run_of vs js ss) (check_fault run_shape rows false) (Some (codes "run", rows))
+finish [] js ss had rows h j f =
+    let fares = f.0 ∙ h.0 in rw fares refl
+finish (a ∷ []) js ss had rows h j f =
+    let fares = f.0 ∙ h.0 in
+    let zone = f.1 ∙ h.2.0 in
+    rw (fares, zone) refl
+finish (a ∷ b ∷ c ∷ more) js ss had rows h j f = absurd h.2.2
+finish (a ∷ b ∷ []) js ss had rows h j f =
+    let fares = f.0 ∙ h.0 in
+    let zone = f.1 ∙ h.2.0 in (
+      rw (fares, zone) refl,
+      (
+        rows,
+        refl,
+        (
+          rw fares refl,
+          rw zone refl,
+          ap row_first f.2 ∙ under_first had journal_option js j,
+          f.3,
+        ),
+      ),
+    )
 
 -- what the words of `run` come to
-pub run_ends : (rest : List Text) → EndsFrom (run_asked (given run_readers rest)) (after_none false) rest
-unfolding defaults_fault walk_fault
-run_ends [] = refl
-run_ends (word ∷ rest) = first word rest (word_kind word) (reads run_rules false run_long run_short [] [] None refl word)
+pub run_ends : (rest : List Text) → Comes (run_asked (all_said run_grammar rest)) (Level run_shape [] (stand [] None idle 1 false) rest false [])
+    (Some (codes "run", rows_from run_shape [] (stand [] None idle 1 false) rest))
+run_ends rest = go (all_said run_grammar rest) (Level run_shape [] (stand [] None idle 1 false) rest false []) (rows_from run_shape [] (stand [] None idle 1 false) rest)
+    (ends run_grammar (codes "run") run_rules run_built run_apart rest)
+  where
+    go : (x : Said) (ks : Kinds) (rows : List Row) → options.Comes run_grammar (codes "run") run_rules run_built run_apart x ks rows → Comes (run_asked x) ks (Some (codes "run", rows))
+    go (all_of parts) ks rows h =
+        subst (λ (k : Kinds). Comes (run_asked (all_of parts)) k (Some (codes "run", rows))) (sym h.2)
+        (subst (λ (r : List Row). Comes (run_asked (all_of parts)) (check_fault run_shape (fold with_default h.0 run_rules) false) (Some (codes "run", r))) (sym h.3)
+        (finish (plain_words parts) (values_of journal_option parts) (values_of sync_option parts) h.0 (fold with_default h.0 run_rules)
+        h.1.1 (h.1.2 journal_option) (run_final h.0 (values_of sync_option parts) (h.1.2 sync_option))))
+    go help_wanted ks rows h = h
+    go not_taken ks rows h = h

@@ -6,18 +6,21 @@ use Rattle.clap.specs.Simple.{App, Shape, built, built_leaf, entered, help_shape
 use Rattle.clap.specs.Kinds.{Kinds, or_else}
 use Rattle.clap.specs.Faults.{check_fault, defaults_fault, entered_fault, fault_of, flags_fault, settle_fault, turn_fault, walk_fault}
 use Rattle.clap.specs.declared.error.kind.ErrorKind.TheVariants.{DisplayHelp, DisplayVersion, InvalidSubcommand, UnknownArgument}
-use Rattle.pay_words.specs.Asked.{Asked, Word, words_ask, serve_asked, check_asked, check_readers, given, word_kind, option_asked, program_asked, run_asked, run_readers, statement_asked, statement_readers}
+use Rattle.pay_words.specs.Asked.{Asked, Word, words_ask, check_asked, check_readers, given, many_given, word_kind, option_asked, program_asked, replay_asked, run_asked, serve_asked, statement_asked}
 use Rattle.pay_words.specs.Asked as words
-use Rattle.pay_words.specs.Serve.{served}
+use Rattle.pay_words.specs.Options.{all_said}
+use Rattle.pay_words.specs.Run.{run_grammar}
+use Rattle.pay_words.specs.Serve.{serve_grammar}
+use Rattle.pay_words.specs.Statement.{statement_grammar}
 use Rattle.pay_words.specs.CommandLine.{farebox_app}
 use Rattle.pay_words.proofs.Programs.{by_program}
 use Rattle.pay_words.proofs.WordKinds.{LongOptions, Reads, Refuses, ShortOptions, help_filled, reads, version_filled}
 use Rattle.pay_words.proofs.WordLevels.{Level, place, refuses_first, turn_dashes, turn_refuses, turn_shows, turn_value, walked_dashes, rows_from}
 use Rattle.pay_words.proofs.WordsOfProgram.{Comes}
 use Rattle.pay_words.proofs.WordsAfterCheck.{check_ends, check_shape}
+use Rattle.pay_words.proofs.WordsAfterReplay.{replay_ends, replay_shape}
 use Rattle.pay_words.proofs.WordsAfterRun.{run_ends, run_shape}
-use Rattle.pay_words.proofs.ServeRules.{serve_shape}
-use Rattle.pay_words.proofs.WordsAfterServe.{serve_ends}
+use Rattle.pay_words.proofs.WordsAfterServe.{serve_ends, serve_shape}
 use Rattle.pay_words.proofs.WordsAfterStatement.{statement_ends, statement_shape}
 
 abbrev top_shape : Shape
@@ -27,13 +30,13 @@ abbrev help_built : Shape
 help_built = built_leaf (record help_shape { disable_help_subcommand = true })
 
 abbrev farebox_built : App
-farebox_built = record { top = top_shape; subs = run_shape ∷ check_shape ∷ statement_shape ∷ serve_shape ∷ help_built ∷ [] }
+farebox_built = record { top = top_shape; subs = run_shape ∷ check_shape ∷ statement_shape ∷ replay_shape ∷ serve_shape ∷ help_built ∷ [] }
 
 built_farebox : built farebox_app ≡ farebox_built
 built_farebox = refl
 
 abbrev names : Names
-names = (codes "run", []) ∷ (codes "check", []) ∷ (codes "statement", []) ∷ (codes "serve", []) ∷ (codes "help", []) ∷ []
+names = (codes "run", []) ∷ (codes "check", []) ∷ (codes "statement", []) ∷ (codes "replay", []) ∷ (codes "serve", []) ∷ (codes "help", []) ∷ []
 
 top_long : LongOptions top_shape.rules true
 top_long name = refl
@@ -116,6 +119,14 @@ statement_entered : (rest : List Text) → entered farebox_built (end_of start (
 unfolding walked
 statement_entered rest = ap (λ (w : Walk). entered farebox_built w.stopped) (met_words (codes "statement") [] rest)
 
+met_replay : (rest : List Text) → whole start (codes "replay" ∷ rest) ≡ below replay_shape rest
+unfolding walked walk_fault defaults_fault
+met_replay rest = ap₂ end_kinds (no_kinds (codes "replay") [] rest) (met_words (codes "replay") [] rest) ∙ or_nothing (below replay_shape rest)
+
+replay_entered : (rest : List Text) → entered farebox_built (end_of start (codes "replay" ∷ rest)).stopped ≡ Some (codes "replay", rows_below replay_shape rest)
+unfolding walked
+replay_entered rest = ap (λ (w : Walk). entered farebox_built w.stopped) (met_words (codes "replay") [] rest)
+
 met_serve : (rest : List Text) → whole start (codes "serve" ∷ rest) ≡ below serve_shape rest
 unfolding walked walk_fault defaults_fault
 met_serve rest = ap₂ end_kinds (no_kinds (codes "serve") [] rest) (met_words (codes "serve") [] rest) ∙ or_nothing (below serve_shape rest)
@@ -128,8 +139,8 @@ lifted : (x : Asked) (ks all : Kinds) (sub entry : Option (Text × List Row)) �
 lifted x ks all sub entry same is h =
     subst (λ (k : Kinds). Comes x k entry) (sym same) (subst (λ (e : Option (Text × List Row)). Comes x ks e) (sym is) h)
 
-run_comes : (name : Text) (rest : List Text) → Comes (run_asked (given run_readers rest)) (fault_of farebox_app (name ∷ codes "run" ∷ rest)) (subcommand_of farebox_app (name ∷ codes "run" ∷ rest))
-run_comes name rest = lifted (run_asked (given run_readers rest)) (below run_shape rest) _ (Some (codes "run", rows_below run_shape rest)) _
+run_comes : (name : Text) (rest : List Text) → Comes (run_asked (all_said run_grammar rest)) (fault_of farebox_app (name ∷ codes "run" ∷ rest)) (subcommand_of farebox_app (name ∷ codes "run" ∷ rest))
+run_comes name rest = lifted (run_asked (all_said run_grammar rest)) (below run_shape rest) _ (Some (codes "run", rows_below run_shape rest)) _
     (fault_is name (codes "run" ∷ rest) ∙ met_run rest) (subcommand_is name (codes "run" ∷ rest) ∙ run_entered rest) (run_ends rest)
 
 check_comes : (name : Text) (rest : List Text) → Comes (check_asked (given check_readers rest)) (fault_of farebox_app (name ∷ codes "check" ∷ rest)) (subcommand_of farebox_app (name ∷ codes "check" ∷ rest))
@@ -137,12 +148,16 @@ check_comes name rest = lifted (check_asked (given check_readers rest)) (below c
     (fault_is name (codes "check" ∷ rest) ∙ met_check rest) (subcommand_is name (codes "check" ∷ rest) ∙ check_entered rest) (check_ends rest)
 
 statement_comes : (name : Text) (rest : List Text)
-    → Comes (statement_asked (given statement_readers rest)) (fault_of farebox_app (name ∷ codes "statement" ∷ rest)) (subcommand_of farebox_app (name ∷ codes "statement" ∷ rest))
-statement_comes name rest = lifted (statement_asked (given statement_readers rest)) (below statement_shape rest) _ (Some (codes "statement", rows_below statement_shape rest)) _
+    → Comes (statement_asked (all_said statement_grammar rest)) (fault_of farebox_app (name ∷ codes "statement" ∷ rest)) (subcommand_of farebox_app (name ∷ codes "statement" ∷ rest))
+statement_comes name rest = lifted (statement_asked (all_said statement_grammar rest)) (below statement_shape rest) _ (Some (codes "statement", rows_below statement_shape rest)) _
     (fault_is name (codes "statement" ∷ rest) ∙ met_statement rest) (subcommand_is name (codes "statement" ∷ rest) ∙ statement_entered rest) (statement_ends rest)
 
-serve_comes : (name : Text) (rest : List Text) → Comes (serve_asked (served [] None rest)) (fault_of farebox_app (name ∷ codes "serve" ∷ rest)) (subcommand_of farebox_app (name ∷ codes "serve" ∷ rest))
-serve_comes name rest = lifted (serve_asked (served [] None rest)) (below serve_shape rest) _ (Some (codes "serve", rows_below serve_shape rest)) _
+replay_comes : (name : Text) (rest : List Text) → Comes (replay_asked (many_given rest)) (fault_of farebox_app (name ∷ codes "replay" ∷ rest)) (subcommand_of farebox_app (name ∷ codes "replay" ∷ rest))
+replay_comes name rest = lifted (replay_asked (many_given rest)) (below replay_shape rest) _ (Some (codes "replay", rows_below replay_shape rest)) _
+    (fault_is name (codes "replay" ∷ rest) ∙ met_replay rest) (subcommand_is name (codes "replay" ∷ rest) ∙ replay_entered rest) (replay_ends rest)
+
+serve_comes : (name : Text) (rest : List Text) → Comes (serve_asked (all_said serve_grammar rest)) (fault_of farebox_app (name ∷ codes "serve" ∷ rest)) (subcommand_of farebox_app (name ∷ codes "serve" ∷ rest))
+serve_comes name rest = lifted (serve_asked (all_said serve_grammar rest)) (below serve_shape rest) _ (Some (codes "serve", rows_below serve_shape rest)) _
     (fault_is name (codes "serve" ∷ rest) ∙ met_serve rest) (subcommand_is name (codes "serve" ∷ rest) ∙ serve_entered rest) (serve_ends rest)
 
 -- ---- any other word
@@ -192,8 +207,8 @@ unfolding walk_fault flags_fault walked defaults_fault
 comes [] = refl
 comes (name ∷ []) = refl
 comes (name ∷ word ∷ rest) = by_program (λ (w : Text). Comes (program_asked w rest) (fault_of farebox_app (name ∷ w ∷ rest)) (subcommand_of farebox_app (name ∷ w ∷ rest)))
-    word (run_comes name rest) (check_comes name rest) (statement_comes name rest) (serve_comes name rest) refl (λ no_run no_check no_statement no_serve no_help.
-    let unmet : subcommand_met names idle word ≡ None = rw (no_run, no_check, no_statement, no_serve, no_help) refl in
-    let asks : program_asked word rest ≡ option_asked (word_kind word) = rw (no_run, no_check, no_statement, no_serve, no_help) refl in
+    word (run_comes name rest) (check_comes name rest) (statement_comes name rest) (replay_comes name rest) (serve_comes name rest) refl (λ none.
+    let unmet : subcommand_met names idle word ≡ None = rw (none.0, none.1, none.2, none.3, none.4, none.5) refl in
+    let asks : program_asked word rest ≡ option_asked (word_kind word) = rw (none.0, none.1, none.2, none.3, none.4, none.5) refl in
     subst (λ (x : Asked). Comes x (fault_of farebox_app (name ∷ word ∷ rest)) (subcommand_of farebox_app (name ∷ word ∷ rest))) (sym asks)
     (option_comes name word rest unmet (word_kind word) (reads top_shape.rules true top_long top_short [] [] None refl word)))

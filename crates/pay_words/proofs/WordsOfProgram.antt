@@ -1,20 +1,22 @@
 -- What `clap` makes of the words after the name of a program, from any place on.
-use Rattle.std.proofs.Common.{◌≡◌, ◌∙◌, ℕ, Bool, codes, true, false, sym, subst, List, [], ◌∷◌, Option, Some, None, refl}
+use Rattle.std.proofs.Common.{◌≡◌, ◌∙◌, ℕ, Bool, codes, true, false, sym, subst, List, [], ◌∷◌, ◌++◌, Option, Some, None, refl}
 use Rattle.clap.specs.Walk.{Row, Rule, Text, Walk, value, reading_by, after_step, walked}
 use Rattle.clap.specs.Simple.{Shape, new_shape}
 use Rattle.clap.specs.Kinds.{Kinds}
-use Rattle.clap.specs.Faults.{settle_fault, step_fault, turn_fault, walk_fault}
+use Rattle.clap.specs.Faults.{step_fault, turn_fault}
 use Rattle.clap.specs.declared.builder.action.ArgAction.TheVariants.{Set}
 use Rattle.clap.specs.declared.builder.range.ValueRange.{ValueRange}
 use Rattle.clap.specs.declared.builder.value_parser.ValueParser.TheVariants as vp
 use Rattle.clap.specs.declared.error.kind.ErrorKind.TheVariants.{DisplayHelp, DisplayVersion, InvalidSubcommand}
 use Rattle.clap.specs.declared.parser.matches.ValueSource.TheVariants.{CommandLine}
-use Rattle.pay_words.specs.Asked.{Asked, Word, is_account, is_day, number_of, word_kind, run, check, statement, serve, help_asked, help_named, version_asked, usage}
+use Rattle.pay_words.specs.Asked.{Asked, Word, run, check, statement, replay, serve, help_asked, help_named, version_asked, usage}
 use Rattle.pay_words.specs.Asked as words
+use Rattle.pay_words.specs.Run.{Run}
 use Rattle.pay_words.specs.Serve.{AreInRange, Serve, ServeTexts, numbers_of}
-use Rattle.pay_words.specs.CommandLine.{HaveServeTexts, required_word}
-use Rattle.pay_words.proofs.WordKinds.{LongOptions, Reads, Refuses, ShortOptions, reads}
-use Rattle.pay_words.proofs.WordLevels.{Level, level_next, level_refuses, level_shows, place, refuses_first, rows_from, rows_next, turn_dashes, turn_refuses, turn_shows, turn_value, walked_dashes, walked_value}
+use Rattle.pay_words.specs.Statement.{HasNumbersInRange, Statement, StatementTexts, statement_of_texts}
+use Rattle.pay_words.specs.CommandLine.{HaveRun, HaveServeTexts, HaveStatementTexts, required_word}
+use Rattle.pay_words.proofs.WordKinds.{LongOptions, Reads, Refuses, ShortOptions}
+use Rattle.pay_words.proofs.WordLevels.{Level, level_next, level_refuses, level_shows, place, rows_from, rows_next, turn_dashes, turn_refuses, turn_shows, turn_value, walked_dashes, walked_value}
 
 abbrev pub one_value : ValueRange
 one_value = record { start_inclusive = 1; end_inclusive = 1 }
@@ -27,10 +29,6 @@ place_rule name i = record (required_word name) {
   range = Some one_value;
   parser = Some vp.String;
 }
-
--- a number that has to be there, in its place
-abbrev pub number_rule : Text → ℕ → ℕ → ℕ → Rule
-number_rule name i least most = record (place_rule name i) { parser = Some (vp.Unsigned least most) }
 
 -- a program as it is built
 abbrev pub program_shape : Text → List Rule → Shape
@@ -45,31 +43,36 @@ fares_row a = value_row (codes "FARES") a ∷ []
 abbrev pub fares_pending : Text → Option (Text × List Text)
 fares_pending a = Some (codes "FARES", a ∷ [])
 
--- what the matches of `run` are
+-- FARES and ZONE
 abbrev pub run_rows : Text → Text → List Row
 run_rows a b = value_row (codes "FARES") a ∷ value_row (codes "ZONE") b ∷ []
 
-abbrev pub number_row : Text → Text → Row
-number_row name v = record { id = name; values = v ∷ []; count = None; source = Some CommandLine; reading = reading_by (number_rule name 1 0 0) }
+-- the files of `replay`
+abbrev pub files_row : List Text → Row
+files_row files = record { id = codes "FILE"; values = files; count = None; source = Some CommandLine; reading = reading_by (place_rule (codes "FILE") 3) }
 
--- what the matches of `statement` are
-abbrev pub statement_rows : Text → Text → Text → Text → List Row
-statement_rows a b n d = value_row (codes "FARES") a ∷ value_row (codes "ZONE") b ∷ number_row (codes "ACCOUNT") n ∷ number_row (codes "DAY") d ∷ []
+-- what the matches of `replay` are
+abbrev pub replay_rows : Text → Text → List Text → List Row
+replay_rows a b files = run_rows a b ++ files_row files ∷ []
 
--- the matches are of words for an account and a day, which are these numbers
-abbrev pub ComesWithNumbers : Text → Text → ℕ → ℕ → Option (Text × List Row) → Type 0
-ComesWithNumbers a b account day sub = (n : Text) × (d : Text) × (sub ≡ Some (codes "statement", statement_rows a b n d))
-    × (is_account n ≡ true) × (number_of n ≡ account) × (is_day d ≡ true) × (number_of d ≡ day)
+-- the matches have what `run` is asked for
+abbrev pub ComesWithRun : Run → Option (Text × List Row) → Type 0
+ComesWithRun r sub = (rows : List Row) × (sub ≡ Some (codes "run", rows)) × HaveRun rows r
 
--- the matches are of words that `serve` needs, of these numbers
+-- the matches are of words that `statement` is given, of these numbers
+abbrev pub ComesWithNumbers : Statement → Option (Text × List Row) → Type 0
+ComesWithNumbers s sub = (t : StatementTexts) × (rows : List Row) × (sub ≡ Some (codes "statement", rows)) × HaveStatementTexts rows t × HasNumbersInRange t × (statement_of_texts t ≡ s)
+
+-- the matches are of words that `serve` is given, of these numbers
 abbrev pub ComesWithOptions : Serve → Option (Text × List Row) → Type 0
 ComesWithOptions s sub = (t : ServeTexts) × (rows : List Row) × (sub ≡ Some (codes "serve", rows)) × HaveServeTexts rows t × AreInRange t × (numbers_of t ≡ s)
 
 -- what a parse comes to, by what the words ask for
 abbrev pub Comes : Asked → Kinds → Option (Text × List Row) → Type 0
-Comes (run a b) ks sub = (ks ≡ []) × (sub ≡ Some (codes "run", run_rows a b))
+Comes (run r) ks sub = (ks ≡ []) × ComesWithRun r sub
 Comes (check a) ks sub = (ks ≡ []) × (sub ≡ Some (codes "check", fares_row a))
-Comes (statement a b account day) ks sub = (ks ≡ []) × ComesWithNumbers a b account day sub
+Comes (statement s) ks sub = (ks ≡ []) × ComesWithNumbers s sub
+Comes (replay a b files) ks sub = (ks ≡ []) × (sub ≡ Some (codes "replay", replay_rows a b files))
 Comes (serve s) ks sub = (ks ≡ []) × ComesWithOptions s sub
 Comes help_asked ks sub = ks ≡ DisplayHelp ∷ []
 Comes help_named ks sub = ks ≡ DisplayHelp ∷ InvalidSubcommand ∷ []
@@ -92,7 +95,7 @@ module _ (program : Text) (rules : List Rule) (long : LongOptions rules false) (
   EndsFrom x w rest = Comes x (Level shape [] w rest false []) (Some (program, rows_from shape [] w rest))
 
   -- a word that the walk takes leaves the rest to decide
-  moved : (x : Asked) (w next : Walk) (word : Text) (rest : List Text) → turn_fault shape [] w word ≡ [] → walked rules [] w word ≡ next
+  pub moved : (x : Asked) (w next : Walk) (word : Text) (rest : List Text) → turn_fault shape [] w word ≡ [] → walked rules [] w word ≡ next
       → EndsFrom x next rest → EndsFrom x w (word ∷ rest)
   moved x w next word rest passes is h =
       let rows_are : rows_from shape [] w (word ∷ rest) ≡ rows_from shape [] next rest = rows_next shape [] w word rest false [] next is in
@@ -125,42 +128,3 @@ module _ (program : Text) (rules : List Rule) (long : LongOptions rules false) (
     after_value x next r passes is h = moved x from next word rest
         (turn_value rules false long short [] shape [] rows pending position word refl r ∙ passes)
         (walked_value rules false long short [] shape [] rows pending position word refl r ∙ is) h
-
-  -- the words behind a value that its reader refuses, where one more value would be refused too: none of them helps
-  module _ (rows : List Row) (pending : Option (Text × List Text)) (position : ℕ)
-      (bad : Refuses (settle_fault rules false (place rows pending position false).held))
-      (one_more : Refuses (step_fault shape position (place rows pending position false).held value)) where
-    stuck_values : (rest : List Text) → Refuses (Level shape [] (place rows pending position true) rest false [])
-    unfolding walk_fault
-    stuck_values [] = refuses_first (settle_fault rules false (place rows pending position false).held) _ bad
-    stuck_values (word ∷ rest) = level_refuses shape [] (place rows pending position true) word rest false [] one_more
-
-    abbrev kinds : Kinds
-    kinds = settle_fault rules false (place rows pending position false).held
-
-    by_kind : (word : Text) (rest : List Text) (k : Word) → Reads rules false long short kinds rows pending k word
-        → Refuses (Level shape [] (place rows pending position false) (word ∷ rest) false [])
-    by_kind word rest words.value r = level_refuses shape [] (place rows pending position false) word rest false []
-        (subst Refuses (sym (turn_value rules false long short kinds shape [] rows pending position word refl r)) one_more)
-    by_kind word rest words.dashes r =
-        let here = place rows pending position false in
-        let behind = place rows pending position true in
-        let same : Level shape [] here (word ∷ rest) false [] ≡ Level shape [] behind rest false [] =
-        level_next shape [] here word rest false [] behind (turn_dashes rules false long short kinds shape [] rows pending position word refl r)
-        (walked_dashes rules false long short kinds shape [] rows pending position word refl r) in
-        subst Refuses (sym same) (stuck_values rest)
-    by_kind word rest words.call_for_help r = level_refuses shape [] (place rows pending position false) word rest false []
-        (turn_refuses rules false long short kinds shape [] rows pending position word refl (r.0, subst Refuses (sym r.1) (refuses_first kinds (DisplayHelp ∷ []) bad)))
-    by_kind word rest words.call_for_version r = level_refuses shape [] (place rows pending position false) word rest false []
-        (turn_refuses rules false long short kinds shape [] rows pending position word refl r)
-    by_kind word rest words.option r = level_refuses shape [] (place rows pending position false) word rest false []
-        (turn_refuses rules false long short kinds shape [] rows pending position word refl r)
-
-    pub stuck : (rest : List Text) → Refuses (Level shape [] (place rows pending position false) rest false [])
-    unfolding walk_fault
-    stuck [] = refuses_first (settle_fault rules false (place rows pending position false).held) _ bad
-    stuck (word ∷ rest) = by_kind word rest (word_kind word) (reads rules false long short kinds rows pending refl word)
-
-    pub stuck_either_way : (t : Bool) (rest : List Text) → Refuses (Level shape [] (place rows pending position t) rest false [])
-    stuck_either_way true rest = stuck_values rest
-    stuck_either_way false rest = stuck rest

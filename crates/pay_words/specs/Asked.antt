@@ -1,19 +1,25 @@
 -- What the words of the process ask for.
-use Rattle.std.specs.Prelude.{◌≡◌, ◌≢◌, ◌≤◌, ℕ, List, [], ◌∷◌, ◌++◌, codes, slice_index, refl, Result, MatchResult, IsOkAnd}
-use Rattle.std.specs.Prelude.{◌⊎◌, ⊤, true, None, if◌then◌else◌}
+use Rattle.std.specs.Prelude.{◌≡◌, ◌≢◌, ◌≤◌, ℕ, List, [], ◌∷◌, ◌++◌, codes, option_map, refl, Result, MatchResult, IsOkAnd}
+use Rattle.std.specs.Prelude.{◌⊎◌, ⊤, true, false, Some, None, if◌then◌else◌}
 use Rattle.std.specs.Str.{bytes_eq, chars}
 use Rattle.std.specs.String.{string_bytes}
+use Rattle.clap.specs.Walk.{texts}
 use Rattle.pay_words.specs.declared.words.Job.{Job}
-use Rattle.pay_words.specs.declared.words.Job.TheVariants.{Run, Check, Statement, Serve as ServeJob}
+use Rattle.pay_words.specs.declared.words.Job.TheVariants.{Run as RunJob, Check, Statement as StatementJob, Replay, Serve as ServeJob}
+use Rattle.pay_words.specs.declared.words.RunWords.{RunWords}
+use Rattle.pay_words.specs.declared.words.StatementWords.{StatementWords}
 use Rattle.pay_words.specs.declared.words.ServeWords.{ServeWords}
 use Rattle.pay_words.specs.declared.words.WordsFault.{WordsFault}
 use Rattle.pay_words.specs.declared.words.WordsFault.TheVariants.{Help, Version, Usage, Memory}
 use Rattle.pay_words.specs.declared.limits.TheConstants.{MOST_ACCOUNT, FIRST_DAY, LAST_DAY, MOST_PORT, MOST_LANES, MOST_SHARDS, MOST_SESSIONS}
 pub use Rattle.pay_words.specs.OneWord.{Text, Word, value, dashes, call_for_help, call_for_version, option, word_kind}
 pub use Rattle.pay_words.specs.OneWord.{Reader, any_text, is_account, is_day, number_of}
-use Rattle.pay_words.specs.Serve.{AreInRange, ArePartsOf, Part, Said, Serve, ServeTexts, all_of, help_wanted, not_taken}
-use Rattle.pay_words.specs.Serve.{plain, apart, joined, has_ports, last_port, numbers_of, plain_words, served, values_of, words_of_parts}
-use Rattle.pay_words.specs.Serve.{port_option, lanes_option, shards_option, sessions_option, close_option}
+pub use Rattle.pay_words.specs.Options.{HasNoHyphen}
+use Rattle.pay_words.specs.Options.{Part, Said, StandApart, all_of, all_said, help_wanted, not_taken, plain, apart, joined, plain_words, values_of, words_of_parts}
+use Rattle.pay_words.specs.Options.{port_option, lanes_option, shards_option, sessions_option, close_option, journal_option, sync_option}
+use Rattle.pay_words.specs.Run.{AreRunParts, Run, first_given, has_journal, is_given, run_grammar}
+use Rattle.pay_words.specs.Serve.{AreInRange, ArePartsOf, Serve, ServeTexts, has_ports, last_port, numbers_of, serve_grammar}
+use Rattle.pay_words.specs.Statement.{AreStatementParts, HasNumbersInRange, Statement, StatementTexts, statement_grammar, statement_of_texts}
 
 -- ---- the words of a program that takes values alone, and help
 
@@ -52,16 +58,31 @@ abbrev pub given : List Reader → List Text → Given
 given readers [] = values []
 given readers (word ∷ rest) = given_by (word_kind word) readers word rest (λ others. given others rest)
 
+-- a word by its kind, where any number of values may come, and what the words after it give
+abbrev pub many_by : Word → Text → List Text → Given → Given
+many_by value word rest after = with_value word after
+many_by dashes word rest after = values rest
+many_by call_for_help word rest after = help
+many_by call_for_version word rest after = refused
+many_by option word rest after = refused
+
+-- the words, each of which that is a value is taken
+abbrev pub many_given : List Text → Given
+many_given [] = values []
+many_given (word ∷ rest) = many_by (word_kind word) word rest (many_given rest)
+
 -- ---- the words of the process
 
 -- what the words ask for
 pub data Asked : Type 0 where
-  -- `run` with its fare file and zone
-  run : Text → Text → Asked
+  -- `run` with its fare file and zone, and the values of its options
+  run : Run → Asked
   -- `check` with its fare file
   check : Text → Asked
-  -- `statement` with its fare file, zone, account and day
-  statement : Text → Text → ℕ → ℕ → Asked
+  -- `statement` with its fare file, zone, account and day, and the value of its option
+  statement : Statement → Asked
+  -- `replay` with its fare file, zone and journals
+  replay : Text → Text → List Text → Asked
   -- `serve` with its fare file, zone and the values of its options
   serve : Serve → Asked
   -- help, by `-h` or `--help`
@@ -73,11 +94,21 @@ pub data Asked : Type 0 where
   -- nothing that the program takes
   usage : Asked
 
--- `run FARES ZONE`
-abbrev pub run_asked : Given → Asked
-run_asked (values (fares ∷ zone ∷ [])) = run fares zone
-run_asked help = help_asked
-run_asked _ = usage
+-- two values, and what each option was given
+abbrev pub run_of : List Text → List Text → List Text → Asked
+run_of (fares ∷ zone ∷ []) j s = run (record {
+  fares = fares;
+  zone = zone;
+  journal = first_given j;
+  syncs = is_given s;
+})
+run_of _ _ _ = usage
+
+-- `run FARES ZONE` and its options
+abbrev pub run_asked : Said → Asked
+run_asked (all_of parts) = run_of (plain_words parts) (values_of journal_option parts) (values_of sync_option parts)
+run_asked help_wanted = help_asked
+run_asked not_taken = usage
 
 -- `check FARES`
 abbrev pub check_asked : Given → Asked
@@ -85,13 +116,30 @@ check_asked (values (fares ∷ [])) = check fares
 check_asked help = help_asked
 check_asked _ = usage
 
--- `statement FARES ZONE ACCOUNT DAY`
-abbrev pub statement_asked : Given → Asked
-statement_asked (values (fares ∷ zone ∷ account ∷ day ∷ [])) = statement fares zone (number_of account) (number_of day)
-statement_asked help = help_asked
-statement_asked _ = usage
+-- four values, and what the option was given
+abbrev pub statement_of : List Text → List Text → Asked
+statement_of (fares ∷ zone ∷ account ∷ day ∷ []) j = statement (statement_of_texts (record {
+  fares = fares;
+  zone = zone;
+  account = account;
+  day = day;
+  journal = first_given j;
+}))
+statement_of _ _ = usage
 
--- two values, and then one value for each option
+-- `statement FARES ZONE ACCOUNT DAY` and its option
+abbrev pub statement_asked : Said → Asked
+statement_asked (all_of parts) = statement_of (plain_words parts) (values_of journal_option parts)
+statement_asked help_wanted = help_asked
+statement_asked not_taken = usage
+
+-- `replay FARES ZONE FILE..`
+abbrev pub replay_asked : Given → Asked
+replay_asked (values (fares ∷ zone ∷ file ∷ files)) = replay fares zone (file ∷ files)
+replay_asked help = help_asked
+replay_asked _ = usage
+
+-- two values, and one value for each option
 abbrev pub serve_of : List Text → List Text → List Text → List Text → List Text → List Text → Asked
 serve_of (fares ∷ zone ∷ []) (p ∷ []) (l ∷ []) (n ∷ []) (k ∷ []) (d ∷ []) = serve (numbers_of (record {
   fares = fares;
@@ -111,15 +159,9 @@ serve_asked (all_of parts) = serve_of (plain_words parts) (values_of port_option
 serve_asked help_wanted = help_asked
 serve_asked not_taken = usage
 
--- what the values of each program have to be
-abbrev pub run_readers : List Reader
-run_readers = any_text ∷ any_text ∷ []
-
+-- what the value of `check` has to be
 abbrev pub check_readers : List Reader
 check_readers = any_text ∷ []
-
-abbrev pub statement_readers : List Reader
-statement_readers = any_text ∷ any_text ∷ is_account ∷ is_day ∷ []
 
 abbrev pub option_asked : Word → Asked
 option_asked call_for_help = help_asked
@@ -127,31 +169,50 @@ option_asked call_for_version = version_asked
 option_asked _ = usage
 
 abbrev pub program_asked : Text → List Text → Asked
-program_asked program rest = if bytes_eq (codes "run") program then run_asked (given run_readers rest)
+program_asked program rest = if bytes_eq (codes "run") program then run_asked (all_said run_grammar rest)
     else (if bytes_eq (codes "check") program then check_asked (given check_readers rest)
-    else (if bytes_eq (codes "statement") program then statement_asked (given statement_readers rest)
-    else (if bytes_eq (codes "serve") program then serve_asked (served [] None rest)
+    else (if bytes_eq (codes "statement") program then statement_asked (all_said statement_grammar rest)
+    else (if bytes_eq (codes "replay") program then replay_asked (many_given rest)
+    else (if bytes_eq (codes "serve") program then serve_asked (all_said serve_grammar rest)
     else (if bytes_eq (codes "help") program then help_named
-    else option_asked (word_kind program)))))
+    else option_asked (word_kind program))))))
 
 -- the first word is the program's own name, and the second names what it is to do
 abbrev pub words_ask : List Text → Asked
 words_ask (name ∷ program ∷ rest) = program_asked program rest
 words_ask _ = usage
 
--- lanes that have no port are not served
-abbrev pub with_ports : Asked → Asked
-with_ports (serve s) = if has_ports s then serve s else usage
-with_ports what = what
+-- lanes that have no port are not served, and a run without a journal brings no lines to the disk
+abbrev pub allowed : Asked → Asked
+allowed (run r) = if has_journal r then run r else usage
+allowed (serve s) = if has_ports s then serve s else usage
+allowed what = what
 
 abbrev pub asked : List Text → Asked
-asked words = with_ports (words_ask words)
+asked words = allowed (words_ask words)
 
 -- ---- the result
 
 -- what is written where the version is asked for
 abbrev pub version_line : Text
 version_line = codes "farebox 0.1.0\n"
+
+abbrev pub run_job : RunWords → Run
+run_job w = record {
+  fares = w.fares.now;
+  zone = w.zone.now;
+  journal = option_map (λ s. s.now) w.journal;
+  syncs = w.syncs;
+}
+
+abbrev pub statement_job : StatementWords → Statement
+statement_job w = record {
+  fares = w.fares.now;
+  zone = w.zone.now;
+  account = w.account;
+  day = w.day;
+  journal = option_map (λ s. s.now) w.journal;
+}
 
 abbrev pub served_job : ServeWords → Serve
 served_job w = record {
@@ -165,30 +226,40 @@ served_job w = record {
 }
 
 abbrev pub job_asked : Job → Asked
-job_asked (Run w) = run w.fares.now w.zone.now
+job_asked (RunJob w) = run (run_job w)
 job_asked (Check fares) = check fares.now
-job_asked (Statement w) = statement w.fares.now w.zone.now w.account w.day
+job_asked (StatementJob w) = statement (statement_job w)
+job_asked (Replay w) = replay w.fares.now w.zone.now (texts w.files.items)
 job_asked (ServeJob w) = serve (served_job w)
 
--- the words of `serve` say what it is asked for, in some order
+-- the words of `run` say what it is asked for, in some order
+abbrev pub AreRunWords : Run → List Text → Type 0
+AreRunWords r words = (parts : List Part) × (words ≡ codes "run" ∷ words_of_parts parts) × AreRunParts r parts
+
+-- the words of `statement` do; a number may be spelled in several ways
+abbrev pub AreStatementWords : Statement → List Text → Type 0
+AreStatementWords s words = (t : StatementTexts) × (parts : List Part) × (words ≡ codes "statement" ∷ words_of_parts parts)
+    × AreStatementParts t parts × HasNumbersInRange t × (statement_of_texts t ≡ s)
+
+-- the words of `serve` do
 abbrev pub AreServeWords : Serve → List Text → Type 0
 AreServeWords s words = (t : ServeTexts) × (parts : List Part) × (words ≡ codes "serve" ∷ words_of_parts parts)
     × ArePartsOf t parts × AreInRange t × (numbers_of t ≡ s)
 
--- the words that the job was made of; a number may be spelled in several ways
+-- the words that the job was made of
 abbrev pub AreJobWords : Job → List Text → Type 0
-AreJobWords (Run w) words = words ≡ codes "run" ∷ w.fares.now ∷ w.zone.now ∷ []
+AreJobWords (RunJob w) words = AreRunWords (run_job w) words
 AreJobWords (Check fares) words = words ≡ codes "check" ∷ fares.now ∷ []
-AreJobWords (Statement w) words = (account : Text) × (day : Text)
-    × (is_account account ≡ true) × (number_of account ≡ w.account) × (is_day day ≡ true) × (number_of day ≡ w.day)
-    × (words ≡ codes "statement" ∷ w.fares.now ∷ w.zone.now ∷ account ∷ day ∷ [])
+AreJobWords (StatementJob w) words = AreStatementWords (statement_job w) words
+AreJobWords (Replay w) words = words ≡ codes "replay" ∷ w.fares.now ∷ w.zone.now ∷ texts w.files.items
 AreJobWords (ServeJob w) words = AreServeWords (served_job w) words
 
--- the numbers of a job are in their ranges
+-- the numbers of a job are in their ranges, what is synced is a journal, and there is one to be replayed
 abbrev pub IsJobInRange : Job → Type 0
-IsJobInRange (Run w) = ⊤
+IsJobInRange (RunJob w) = has_journal (run_job w) ≡ true
 IsJobInRange (Check fares) = ⊤
-IsJobInRange (Statement w) = (1 ≤ w.account) × (w.account ≤ MOST_ACCOUNT) × (FIRST_DAY ≤ w.day) × (w.day ≤ LAST_DAY)
+IsJobInRange (StatementJob w) = (1 ≤ w.account) × (w.account ≤ MOST_ACCOUNT) × (FIRST_DAY ≤ w.day) × (w.day ≤ LAST_DAY)
+IsJobInRange (Replay w) = texts w.files.items ≢ []
 IsJobInRange (ServeJob w) = (1 ≤ w.port) × (1 ≤ w.lanes) × (w.lanes ≤ MOST_LANES) × (last_port w.port w.lanes ≤ MOST_PORT)
     × (1 ≤ w.shards) × (w.shards ≤ MOST_SHARDS) × (1 ≤ w.sessions) × (w.sessions ≤ MOST_SESSIONS)
     × (FIRST_DAY ≤ w.close) × (w.close ≤ LAST_DAY)
@@ -208,9 +279,9 @@ without_dashes (word ∷ rest) =
 
 -- ---- the words of each job
 
--- it does not begin with a hyphen (45)
-abbrev pub HasNoHyphen : Text → Type 0
-HasNoHyphen word = slice_index word 0 ≢ 45
+abbrev pub HaveNoHyphens : List Text → Type 0
+HaveNoHyphens [] = ⊤
+HaveNoHyphens (word ∷ rest) = HasNoHyphen word × HaveNoHyphens rest
 
 -- it is the job that is asked for
 abbrev pub IsJob : Asked → Result Job WordsFault → Type 0
@@ -224,11 +295,12 @@ IsAnswer what result = MatchResult result (λ job. job_asked job ≡ what) (λ f
 abbrev pub IsJobOrMemory : Asked → Result Job WordsFault → Type 0
 IsJobOrMemory what result = MatchResult result (λ job. job_asked job ≡ what) (λ fault. fault ≡ Memory)
 
--- two words with no hyphen before them are the values of `run`
+-- two words with no hyphen before them, and options at most once each, in whatever order, are those of
+-- `run`, where what is synced is a journal
 abbrev pub RunIsTaken : List Text → Result Job WordsFault → Type 0
-RunIsTaken words result = (name fares zone : Text) → words ≡ name ∷ codes "run" ∷ fares ∷ zone ∷ []
-    → HasNoHyphen fares → HasNoHyphen zone
-    → IsJobOrMemory (run fares zone) result
+RunIsTaken words result = (name : Text) (r : Run) (parts : List Part) → words ≡ name ∷ codes "run" ∷ words_of_parts parts
+    → AreRunParts r parts → StandApart parts → HasNoHyphen r.fares → HasNoHyphen r.zone → has_journal r ≡ true
+    → IsJobOrMemory (run r) result
 
 -- one word with no hyphen before it is the value of `check`
 abbrev pub CheckIsTaken : List Text → Result Job WordsFault → Type 0
@@ -236,17 +308,24 @@ CheckIsTaken words result = (name fares : Text) → words ≡ name ∷ codes "ch
     → HasNoHyphen fares
     → IsJobOrMemory (check fares) result
 
--- two words with no hyphen before them and two numbers in their ranges are the values of `statement`
+-- two words with no hyphen before them, two numbers in their ranges and perhaps the option, anywhere, are
+-- those of `statement`
 abbrev pub StatementIsTaken : List Text → Result Job WordsFault → Type 0
-StatementIsTaken words result = (name fares zone account day : Text) → words ≡ name ∷ codes "statement" ∷ fares ∷ zone ∷ account ∷ day ∷ []
-    → HasNoHyphen fares → HasNoHyphen zone → is_account account ≡ true → is_day day ≡ true
-    → IsJobOrMemory (statement fares zone (number_of account) (number_of day)) result
+StatementIsTaken words result = (name : Text) (t : StatementTexts) (parts : List Part) → words ≡ name ∷ codes "statement" ∷ words_of_parts parts
+    → AreStatementParts t parts → StandApart parts → HasNoHyphen t.fares → HasNoHyphen t.zone → HasNumbersInRange t
+    → IsJobOrMemory (statement (statement_of_texts t)) result
 
--- two words with no hyphen before them, and five options with numbers in their ranges, in whatever
--- order, are those of `serve`
+-- three words or more with no hyphen before them are the values of `replay`
+abbrev pub ReplayIsTaken : List Text → Result Job WordsFault → Type 0
+ReplayIsTaken words result = (name fares zone file : Text) (files : List Text) → words ≡ name ∷ codes "replay" ∷ fares ∷ zone ∷ file ∷ files
+    → HasNoHyphen fares → HasNoHyphen zone → HaveNoHyphens (file ∷ files)
+    → IsJobOrMemory (replay fares zone (file ∷ files)) result
+
+-- two words with no hyphen before them, the five options that are needed, with numbers in their ranges, and
+-- perhaps the other two, in whatever order, are those of `serve`
 abbrev pub ServeIsTaken : List Text → Result Job WordsFault → Type 0
 ServeIsTaken words result = (name : Text) (t : ServeTexts) (parts : List Part) → words ≡ name ∷ codes "serve" ∷ words_of_parts parts
-    → ArePartsOf t parts → HasNoHyphen t.fares → HasNoHyphen t.zone → AreInRange t → has_ports (numbers_of t) ≡ true
+    → ArePartsOf t parts → StandApart parts → HasNoHyphen t.fares → HasNoHyphen t.zone → AreInRange t → has_ports (numbers_of t) ≡ true
     → IsJobOrMemory (serve (numbers_of t)) result
 
 -- ---- worked rows
@@ -254,14 +333,69 @@ ServeIsTaken words result = (name : Text) (t : ServeTexts) (parts : List Part) �
 abbrev row : List Text → Asked
 row rest = asked (codes "farebox" ∷ rest)
 
-run_row : row (codes "run" ∷ codes "a" ∷ codes "b" ∷ []) ≡ run (codes "a") (codes "b")
+abbrev plain_run : Run
+plain_run = record { fares = codes "a"; zone = codes "b"; journal = None; syncs = false }
+
+run_row : row (codes "run" ∷ codes "a" ∷ codes "b" ∷ []) ≡ run plain_run
 unfolding chars
 run_row = refl
 
 dashes_row : row (codes "run" ∷ codes "a" ∷ codes "--" ∷ codes "-b" ∷ [])
-    ≡ run (codes "a") (codes "-b")
+    ≡ run (record plain_run { zone = codes "-b" })
 unfolding chars
 dashes_row = refl
+
+abbrev with_journal : Run
+with_journal = record plain_run { journal = Some (codes "j") }
+
+journal_row : row (codes "run" ∷ codes "a" ∷ codes "b" ∷ codes "--journal" ∷ codes "j" ∷ []) ≡ run with_journal
+unfolding chars
+journal_row = refl
+
+-- options before, between and behind the values
+all_options_row : row (codes "run" ∷ codes "--journal=j" ∷ codes "a" ∷ codes "--sync" ∷ codes "b" ∷ []) ≡ run (record with_journal { syncs = true })
+unfolding chars
+all_options_row = refl
+
+journal_dashes_row : row (codes "run" ∷ codes "--journal" ∷ codes "j" ∷ codes "--" ∷ codes "a" ∷ codes "b" ∷ []) ≡ run with_journal
+unfolding chars
+journal_dashes_row = refl
+
+-- without a journal nothing can be synced
+sync_row : row (codes "run" ∷ codes "a" ∷ codes "b" ∷ codes "--sync" ∷ []) ≡ usage
+unfolding chars
+sync_row = refl
+
+-- a flag has no value, and is given once
+sync_value_row : row (codes "run" ∷ codes "a" ∷ codes "b" ∷ codes "--journal" ∷ codes "j" ∷ codes "--sync=true" ∷ []) ≡ usage
+unfolding chars
+sync_value_row = refl
+
+sync_twice_row : row (codes "run" ∷ codes "a" ∷ codes "b" ∷ codes "--journal=j" ∷ codes "--sync" ∷ codes "--sync" ∷ []) ≡ usage
+unfolding chars
+sync_twice_row = refl
+
+journal_twice_row : row (codes "run" ∷ codes "a" ∷ codes "b" ∷ codes "--journal=j" ∷ codes "--journal=j" ∷ []) ≡ usage
+unfolding chars
+journal_twice_row = refl
+
+-- a file whose name begins with a hyphen stands behind an equals sign
+hyphen_row : row (codes "run" ∷ codes "a" ∷ codes "b" ∷ codes "--journal" ∷ codes "-j" ∷ []) ≡ usage
+unfolding chars
+hyphen_row = refl
+
+joined_hyphen_row : row (codes "run" ∷ codes "a" ∷ codes "b" ∷ codes "--journal=-j" ∷ []) ≡ run (record plain_run { journal = Some (codes "-j") })
+unfolding chars
+joined_hyphen_row = refl
+
+no_file_row : row (codes "run" ∷ codes "a" ∷ codes "b" ∷ codes "--journal" ∷ []) ≡ usage
+unfolding chars
+no_file_row = refl
+
+-- an option of another program is none
+port_of_run_row : row (codes "run" ∷ codes "a" ∷ codes "b" ∷ codes "--port=9000" ∷ []) ≡ usage
+unfolding chars
+port_of_run_row = refl
 
 short_row : row (codes "run" ∷ codes "a" ∷ []) ≡ usage
 unfolding chars
@@ -291,16 +425,50 @@ check_zone_row = refl
 abbrev statement_words : Text → Text → List Text
 statement_words account day = codes "statement" ∷ codes "a" ∷ codes "b" ∷ account ∷ day ∷ []
 
-statement_row : row (statement_words (codes "7") (codes "19730")) ≡ statement (codes "a") (codes "b") 7 19_730
+abbrev statement_of_7 : ℕ → Statement
+statement_of_7 day = record { fares = codes "a"; zone = codes "b"; account = 7; day = day; journal = None }
+
+statement_row : row (statement_words (codes "7") (codes "19730")) ≡ statement (statement_of_7 19_730)
 unfolding chars
 statement_row = refl
 
-greatest_account_row : row (statement_words (codes "4294967295") (codes "50000")) ≡ statement (codes "a") (codes "b") 4_294_967_295 50_000
+statement_journal_row : row (codes "statement" ∷ codes "a" ∷ codes "b" ∷ codes "7" ∷ codes "--journal" ∷ codes "j" ∷ codes "19730" ∷ [])
+    ≡ statement (record (statement_of_7 19_730) { journal = Some (codes "j") })
+unfolding chars
+statement_journal_row = refl
+
+-- which is only read
+statement_sync_row : row (codes "statement" ∷ codes "a" ∷ codes "b" ∷ codes "7" ∷ codes "19730" ∷ codes "--journal=j" ∷ codes "--sync" ∷ []) ≡ usage
+unfolding chars
+statement_sync_row = refl
+
+replay_row : row (codes "replay" ∷ codes "a" ∷ codes "b" ∷ codes "j" ∷ []) ≡ replay (codes "a") (codes "b") (codes "j" ∷ [])
+unfolding chars
+replay_row = refl
+
+replay_several_row : row (codes "replay" ∷ codes "a" ∷ codes "b" ∷ codes "j" ∷ codes "--" ∷ codes "-k" ∷ codes "l" ∷ [])
+    ≡ replay (codes "a") (codes "b") (codes "j" ∷ codes "-k" ∷ codes "l" ∷ [])
+unfolding chars
+replay_several_row = refl
+
+replay_none_row : row (codes "replay" ∷ codes "a" ∷ codes "b" ∷ []) ≡ usage
+unfolding chars
+replay_none_row = refl
+
+replay_option_row : row (codes "replay" ∷ codes "a" ∷ codes "b" ∷ codes "j" ∷ codes "--sync" ∷ []) ≡ usage
+unfolding chars
+replay_option_row = refl
+
+replay_help_row : row (codes "replay" ∷ codes "a" ∷ codes "b" ∷ codes "j" ∷ codes "-h" ∷ []) ≡ help_asked
+unfolding chars
+replay_help_row = refl
+
+greatest_account_row : row (statement_words (codes "4294967295") (codes "50000")) ≡ statement (record (statement_of_7 50_000) { account = 4_294_967_295 })
 unfolding chars
 greatest_account_row = refl
 
 -- a number may have a plus and zeros before it
-plus_row : row (statement_words (codes "+7") (codes "004")) ≡ statement (codes "a") (codes "b") 7 4
+plus_row : row (statement_words (codes "+7") (codes "004")) ≡ statement (statement_of_7 4)
 unfolding chars
 plus_row = refl
 
@@ -342,7 +510,15 @@ unfolding chars
 statement_help_row = refl
 
 abbrev example : Serve
-example = record { fares = codes "a"; zone = codes "b"; port = 9_000; lanes = 2; shards = 4; sessions = 1; close = 19_730 }
+example = record {
+  fares = codes "a";
+  zone = codes "b";
+  port = 9_000;
+  lanes = 2;
+  shards = 4;
+  sessions = 1;
+  close = 19_730;
+}
 
 abbrev options_row : List Text → List Text
 options_row rest = codes "--lanes" ∷ codes "2" ∷ codes "--shards=4" ∷ codes "--sessions" ∷ codes "1" ∷ codes "--close=19730" ∷ rest
@@ -350,6 +526,15 @@ options_row rest = codes "--lanes" ∷ codes "2" ∷ codes "--shards=4" ∷ code
 serve_row : row (codes "serve" ∷ codes "a" ∷ codes "b" ∷ codes "--port" ∷ codes "9000" ∷ options_row []) ≡ serve example
 unfolding chars
 serve_row = refl
+
+-- `serve` has no such options
+serve_journal_row : row (codes "serve" ∷ codes "a" ∷ codes "b" ∷ codes "--port=9000" ∷ options_row (codes "--journal=j" ∷ [])) ≡ usage
+unfolding chars
+serve_journal_row = refl
+
+serve_sync_row : row (codes "serve" ∷ codes "a" ∷ codes "b" ∷ codes "--sync" ∷ codes "--port=9000" ∷ options_row []) ≡ usage
+unfolding chars
+serve_sync_row = refl
 
 -- such words as parts
 usual_order_row : (t : ServeTexts) → words_of_parts (plain t.fares ∷ plain t.zone ∷ apart port_option t.port ∷ joined lanes_option t.lanes ∷ [])

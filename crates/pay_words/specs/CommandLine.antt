@@ -1,10 +1,11 @@
 -- What the command line takes, as `clap` has it, and what its matches and errors come to.
-use Rattle.std.specs.Prelude.{◌≡◌, ℕ, ⊤, true, codes, List, Option, Some, None, option_map}
+use Rattle.std.specs.Prelude.{◌≡◌, ℕ, ⊤, Bool, true, codes, List, Option, Some, option_map, if◌then◌else◌}
 use Rattle.std.specs.String.{string_bytes}
-use Rattle.clap.specs.Words.{App, Row, Rule, Text, first_of, first_value, found_of, one_text, new_app, new_rule, subcommand_rows_of}
+use Rattle.clap.specs.Words.{App, Row, Rule, Text, all_of, first_of, first_value, found_of, matched_of, new_app, new_rule, one_text, raw_values, subcommand_rows_of}
 use Rattle.clap.specs.Words.{with_rule, with_subcommand}
 use Rattle.clap.specs.Walk.{one_of}
 use Rattle.clap.specs.Simple.{on_top}
+use Rattle.clap.specs.declared.builder.action.ArgAction.TheVariants.{Append, SetTrue}
 use Rattle.clap.specs.declared.builder.value_parser.ValueParser.TheVariants as vp
 use Rattle.clap.specs.declared.error.kind.ErrorKind.{ErrorKind}
 use Rattle.clap.specs.declared.error.kind.ErrorKind.TheVariants.{DisplayHelp, DisplayVersion}
@@ -14,81 +15,138 @@ use Rattle.clap.specs.declared.parser.matches.Found.{Found}
 use Rattle.pay_words.specs.declared.words.WordsFault.{WordsFault}
 use Rattle.pay_words.specs.declared.words.WordsFault.TheVariants.{Help, Version, Usage, Memory}
 use Rattle.pay_words.specs.declared.limits.TheConstants.{MOST_ACCOUNT, FIRST_DAY, LAST_DAY, MOST_PORT, MOST_LANES, MOST_SHARDS, MOST_SESSIONS}
-use Rattle.pay_words.specs.Asked.{version_line, is_account, is_day, number_of}
+use Rattle.pay_words.specs.Asked.{version_line}
+use Rattle.pay_words.specs.Run.{Run}
 use Rattle.pay_words.specs.Serve.{AreInRange, Serve, ServeTexts, numbers_of}
+use Rattle.pay_words.specs.Statement.{HasNumbersInRange, Statement, StatementTexts, statement_of_texts}
 
 -- a word that has to be there
 abbrev pub required_word : Text → Rule
 required_word name = record (new_rule name) { required = true }
 
--- `run FARES ZONE`
-abbrev pub run_app : App
-run_app = with_rule (with_rule (new_app (codes "run")) (required_word (codes "FARES")))
-    (required_word (codes "ZONE"))
-
--- `check FARES`
-abbrev pub check_app : App
-check_app = with_rule (new_app (codes "check")) (required_word (codes "FARES"))
+-- words of which there has to be one, each a use of its own
+abbrev pub required_words : Text → Rule
+required_words name = record (required_word name) { action = Some Append }
 
 -- a number in its range, which has to be there
 abbrev pub required_number : Text → ℕ → ℕ → Rule
 required_number name least most = record (required_word name) { parser = Some (vp.Unsigned least most) }
 
--- `statement FARES ZONE ACCOUNT DAY`
-abbrev pub statement_app : App
-statement_app = with_rule (with_rule (with_rule (with_rule (new_app (codes "statement"))
-    (required_word (codes "FARES"))) (required_word (codes "ZONE")))
-    (required_number (codes "ACCOUNT") 1 MOST_ACCOUNT)) (required_number (codes "DAY") FIRST_DAY LAST_DAY)
-
 -- an option with a number in its range, which has to be there and is called by its name in the words
 abbrev pub required_option : Text → ℕ → ℕ → Rule
 required_option name least most = record (required_number name least most) { long = Some name; value_names = 1 }
 
--- the options of `serve`
-abbrev pub with_serve_options : App → App
-with_serve_options app = with_rule (with_rule (with_rule (with_rule (with_rule app
+-- an option with a text, which may be there
+abbrev pub text_option : Text → Rule
+text_option name = record (new_rule name) { long = Some name; value_names = 1 }
+
+-- an option without a value, which may be there
+abbrev pub flag_option : Text → Rule
+flag_option name = record (new_rule name) { long = Some name; action = Some SetTrue }
+
+abbrev pub with_fares_and_zone : App → App
+with_fares_and_zone app = with_rule (with_rule app (required_word (codes "FARES"))) (required_word (codes "ZONE"))
+
+-- `run FARES ZONE [--journal FILE [--sync]]`
+abbrev pub run_app : App
+run_app = with_rule (with_rule (with_fares_and_zone (new_app (codes "run"))) (text_option (codes "journal"))) (flag_option (codes "sync"))
+
+-- `check FARES`
+abbrev pub check_app : App
+check_app = with_rule (new_app (codes "check")) (required_word (codes "FARES"))
+
+-- `statement FARES ZONE ACCOUNT DAY [--journal FILE]`
+abbrev pub statement_app : App
+statement_app = with_rule (with_rule (with_rule (with_fares_and_zone (new_app (codes "statement")))
+    (required_number (codes "ACCOUNT") 1 MOST_ACCOUNT)) (required_number (codes "DAY") FIRST_DAY LAST_DAY))
+    (text_option (codes "journal"))
+
+-- `replay FARES ZONE FILE..`
+abbrev pub replay_app : App
+replay_app = with_rule (with_fares_and_zone (new_app (codes "replay"))) (required_words (codes "FILE"))
+
+-- the options that `serve` needs
+abbrev pub with_numbers : App → App
+with_numbers app = with_rule (with_rule (with_rule (with_rule (with_rule app
     (required_option (codes "port") 1 MOST_PORT)) (required_option (codes "lanes") 1 MOST_LANES))
     (required_option (codes "shards") 1 MOST_SHARDS)) (required_option (codes "sessions") 1 MOST_SESSIONS))
     (required_option (codes "close") FIRST_DAY LAST_DAY)
 
 -- `serve FARES ZONE --port P --lanes L --shards N --sessions K --close DAY`
 abbrev pub serve_app : App
-serve_app = with_serve_options (with_rule (with_rule (new_app (codes "serve")) (required_word (codes "FARES")))
-    (required_word (codes "ZONE")))
+serve_app = with_numbers (with_fares_and_zone (new_app (codes "serve")))
 
 -- the program, which has a version, and wants one of its programs named
 abbrev pub farebox_app : App
-farebox_app = with_subcommand (with_subcommand (with_subcommand (with_subcommand
+farebox_app = with_subcommand (with_subcommand (with_subcommand (with_subcommand (with_subcommand
     (on_top (λ top. record top { has_version = true; subcommand_required = true })
     (new_app (codes "farebox")))
-    run_app.top) check_app.top) statement_app.top) serve_app.top
+    run_app.top) check_app.top) statement_app.top) replay_app.top) serve_app.top
 
--- the subcommand that the matches have, with its values
-abbrev pub values_in : Text × List Row → Text × Option Text × Option Text
-values_in p = (p.0, first_of (codes "FARES") p.1, first_of (codes "ZONE") p.1)
+-- ---- the matches
+
+-- what a flag comes to
+abbrev pub flag_text : Bool → Text
+flag_text given = if given then codes "true" else codes "false"
+
+-- these rows have what `run` is asked for
+abbrev pub HaveRun : List Row → Run → Type 0
+HaveRun rows r = (first_of (codes "FARES") rows ≡ Some r.fares) × (first_of (codes "ZONE") rows ≡ Some r.zone)
+    × (first_of (codes "journal") rows ≡ r.journal) × (one_of (codes "sync") rows ≡ Some (flag_text r.syncs))
 
 -- the matches are those of `run` with these values
-abbrev pub GivesRun : ArgMatches → Text → Text → Type 0
-GivesRun m fares zone =
-    option_map values_in (subcommand_rows_of m) ≡ Some (codes "run", Some fares, Some zone)
+abbrev pub GivesRun : ArgMatches → Run → Type 0
+GivesRun m r = (rows : List Row) × (subcommand_rows_of m ≡ Some (codes "run", rows)) × HaveRun rows r
+
+-- the matches have what `run` is asked for
+abbrev pub HasRun : Found → Run → Type 0
+HasRun f r = (first_value f (codes "FARES") ≡ Some r.fares) × (first_value f (codes "ZONE") ≡ Some r.zone)
+    × (first_value f (codes "journal") ≡ r.journal) × (one_text f (codes "sync") ≡ Some (flag_text r.syncs))
+
+-- the subcommand that the matches have, with its value
+abbrev pub values_in : Text × List Row → Text × Option Text
+values_in p = (p.0, first_of (codes "FARES") p.1)
 
 -- the matches are those of `check` with this value
 abbrev pub GivesCheck : ArgMatches → Text → Type 0
 GivesCheck m fares =
-    option_map values_in (subcommand_rows_of m) ≡ Some (codes "check", Some fares, None)
+    option_map values_in (subcommand_rows_of m) ≡ Some (codes "check", Some fares)
 
--- its values with numbers among them
-abbrev pub values_with_numbers : Text × List Row → Text × Option Text × Option Text × Option Text × Option Text
-values_with_numbers p =
-    (p.0, first_of (codes "FARES") p.1, first_of (codes "ZONE") p.1, one_of (codes "ACCOUNT") p.1, one_of (codes "DAY") p.1)
+-- these rows have the words that `statement` is given
+abbrev pub HaveStatementTexts : List Row → StatementTexts → Type 0
+HaveStatementTexts rows t = (first_of (codes "FARES") rows ≡ Some t.fares) × (first_of (codes "ZONE") rows ≡ Some t.zone)
+    × (one_of (codes "ACCOUNT") rows ≡ Some t.account) × (one_of (codes "DAY") rows ≡ Some t.day)
+    × (first_of (codes "journal") rows ≡ t.journal)
 
 -- the matches are those of `statement` with these values, and words in their ranges for the numbers
-abbrev pub GivesStatement : ArgMatches → Text → Text → ℕ → ℕ → Type 0
-GivesStatement m fares zone account day = (n : Text) × (d : Text)
-    × (option_map values_with_numbers (subcommand_rows_of m) ≡ Some (codes "statement", Some fares, Some zone, Some n, Some d))
-    × (is_account n ≡ true) × (number_of n ≡ account) × (is_day d ≡ true) × (number_of d ≡ day)
+abbrev pub GivesStatement : ArgMatches → Statement → Type 0
+GivesStatement m s = (t : StatementTexts) × (rows : List Row) × (subcommand_rows_of m ≡ Some (codes "statement", rows))
+    × HaveStatementTexts rows t × HasNumbersInRange t × (statement_of_texts t ≡ s)
 
--- these rows have the words that `serve` needs
+-- the matches have the words that `statement` is given
+abbrev pub HasStatementTexts : Found → StatementTexts → Type 0
+HasStatementTexts f t = (first_value f (codes "FARES") ≡ Some t.fares) × (first_value f (codes "ZONE") ≡ Some t.zone)
+    × (one_text f (codes "ACCOUNT") ≡ Some t.account) × (one_text f (codes "DAY") ≡ Some t.day)
+    × (first_value f (codes "journal") ≡ t.journal)
+
+-- the subcommand that the matches have, with its values and its files
+abbrev pub values_and_files : Text × List Row → Text × Option Text × Option Text × Option (List Text)
+values_and_files p = (p.0, first_of (codes "FARES") p.1, first_of (codes "ZONE") p.1, all_of (codes "FILE") p.1)
+
+-- the matches are those of `replay` with these values
+abbrev pub GivesReplay : ArgMatches → Text → Text → List Text → Type 0
+GivesReplay m fares zone files =
+    option_map values_and_files (subcommand_rows_of m) ≡ Some (codes "replay", Some fares, Some zone, Some files)
+
+-- the matches have these values of FARES and ZONE
+abbrev pub HasFaresAndZone : ArgMatches → Text → Text → Type 0
+HasFaresAndZone m fares zone = (first_value (found_of m) (codes "FARES") ≡ Some fares) × (first_value (found_of m) (codes "ZONE") ≡ Some zone)
+
+-- and these words of FILE
+abbrev pub HasFiles : ArgMatches → List Text → Type 0
+HasFiles m files = option_map raw_values (matched_of (found_of m) (codes "FILE")) ≡ Some files
+
+-- these rows have the words that `serve` is given
 abbrev pub HaveServeTexts : List Row → ServeTexts → Type 0
 HaveServeTexts rows t = (first_of (codes "FARES") rows ≡ Some t.fares) × (first_of (codes "ZONE") rows ≡ Some t.zone)
     × (one_of (codes "port") rows ≡ Some t.port) × (one_of (codes "lanes") rows ≡ Some t.lanes)
@@ -100,21 +158,12 @@ abbrev pub GivesServe : ArgMatches → Serve → Type 0
 GivesServe m s = (t : ServeTexts) × (rows : List Row) × (subcommand_rows_of m ≡ Some (codes "serve", rows))
     × HaveServeTexts rows t × AreInRange t × (numbers_of t ≡ s)
 
--- the matches have the words that `serve` needs
+-- the matches have the words that `serve` is given
 abbrev pub HasServeTexts : Found → ServeTexts → Type 0
 HasServeTexts f t = (first_value f (codes "FARES") ≡ Some t.fares) × (first_value f (codes "ZONE") ≡ Some t.zone)
     × (one_text f (codes "port") ≡ Some t.port) × (one_text f (codes "lanes") ≡ Some t.lanes)
     × (one_text f (codes "shards") ≡ Some t.shards) × (one_text f (codes "sessions") ≡ Some t.sessions)
     × (one_text f (codes "close") ≡ Some t.close)
-
--- the matches have these values of FARES and ZONE
-abbrev pub HasFaresAndZone : ArgMatches → Text → Text → Type 0
-HasFaresAndZone m fares zone = (first_value (found_of m) (codes "FARES") ≡ Some fares) × (first_value (found_of m) (codes "ZONE") ≡ Some zone)
-
--- and these words of ACCOUNT and DAY, which are numbers in their ranges
-abbrev pub HasNumbers : ArgMatches → Text → Text → Type 0
-HasNumbers m account day = (one_text (found_of m) (codes "ACCOUNT") ≡ Some account) × (one_text (found_of m) (codes "DAY") ≡ Some day)
-    × (is_account account ≡ true) × (is_day day ≡ true)
 
 -- help was asked for, or memory was refused
 abbrev pub IsHelpOrMemory : WordsFault → Type 0

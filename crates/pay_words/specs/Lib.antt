@@ -1,5 +1,8 @@
 pub mod CommandLine
 pub mod Asked
 pub mod OneWord
+pub mod Options
+pub mod Run
 pub mod Serve
+pub mod Statement
 pub mod Words

@@ -15,6 +15,11 @@ or its first fault";
 pub const STATEMENT: &str = "\
 Read taps and corrections from standard input, and print the statement of an account's week as CSV";
 
+/// What `replay` does.
+pub const REPLAY: &str = "\
+Read journals, and print how many lines and accounts they have, with the first and last
+instant, or the first bad line";
+
 /// What `serve` does.
 pub const SERVE: &str =
     "Read taps and corrections from the connections of several lanes, and then close a day";
@@ -33,10 +38,28 @@ pub const ACCOUNT: &str = "The account, a number from 1 to 4294967295";
 pub const DAY: &str = "\
 A service day of the week, counted from 1970-01-01: a number from 4 to 50000";
 
+/// What the words FILE.. are.
+pub const FILES: &str = "The journals, files of lines that were accepted";
+
+/// What the option `--journal` of `run` is.
+pub const JOURNAL: &str = "\
+A file of the lines that were accepted. They are taken first, and each line
+that is accepted is added before its reply. It is made if it is missing";
+
+/// What the option `--journal` of `statement` is.
+pub const JOURNAL_READ: &str = "\
+A file of the lines that were accepted. They are taken first; it is only
+read";
+
+/// What the option `--sync` is.
+pub const SYNC: &str = "\
+Each line is on the disk before its reply. Without it, before a close is
+posted, and at the end";
+
 /// What the option `--port` is.
 pub const PORT: &str = "\
-The port of the first lane, from 1 to 65535. Each further lane has the next
-port, and none is above 65535";
+The port of the first lane, from 1 to 65535. Each further lane has the
+next port, and none is above 65535";
 
 /// What the option `--lanes` is.
 pub const LANES: &str = "How many lanes there are, from 1 to 15";
@@ -49,13 +72,14 @@ pub const SESSIONS: &str = "How many connections each lane serves, from 1 to 100
 
 /// What the option `--close` is.
 pub const CLOSE: &str = "\
-The service day that is closed at the end, counted from 1970-01-01: a number
-from 4 to 50000";
+The service day that is closed at the end, counted from 1970-01-01: a
+number from 4 to 50000";
 
 /// What stands below the program's own help.
 pub const BELOW_PROGRAM: &str = "\
-Words of run (FARES ZONE), of check (FARES), of statement (FARES ZONE ACCOUNT DAY) and of serve
-(FARES ZONE --port P --lanes L --shards N --sessions K --close DAY, its options in any order):
+Words of run (FARES ZONE), of check (FARES), of statement (FARES ZONE ACCOUNT DAY), of replay
+(FARES ZONE FILE..) and of serve (FARES ZONE --port P --lanes L --shards N --sessions K
+--close DAY), with options in any order:
   FARES    the fare file, a TOML document
   ZONE     the time zone, a POSIX rule text (a name such as Europe/London is none)
   ACCOUNT  the account, a number from 1 to 4294967295
@@ -64,6 +88,10 @@ Words of run (FARES ZONE), of check (FARES), of statement (FARES ZONE ACCOUNT DA
   L        how many lanes there are, from 1 to 15
   N        how many shards the accounts are spread over, from 1 to 16
   K        how many connections each lane serves, from 1 to 1000
+  FILE     a journal, which run wrote
+
+Further options: --journal FILE of run, and --sync with it; --journal FILE of statement, where it is
+only read.
 
 Example: account 7 boards a bus in London on Monday 8 January 2024 at 07:00. The reply names the
 day, counted from 1970-01-01, its price and that of its week, in pence.
@@ -80,6 +108,9 @@ The lines and replies, the fare file and the faults are described in docs/FORMAT
 
 /// What stands below the help of `run`.
 pub const BELOW_RUN: &str = "\
+With --journal FILE the lines that were accepted before are taken first. --sync is taken with
+--journal alone.
+
 Example: account 7 boards a bus in London on Monday 8 January 2024 at 07:00. The reply names the
 day, counted from 1970-01-01, its price and that of its week, in pence.
   $ farebox run examples/bus.toml GMT0BST,M3.5.0/1,M10.5.0
@@ -108,6 +139,9 @@ The fare file and the faults are described in docs/FORMATS.md.";
 
 /// What stands below the help of `statement`.
 pub const BELOW_STATEMENT: &str = "\
+With --journal FILE the lines that were accepted before are taken first, and then those of standard
+input. Nothing is added to the file.
+
 Example: account 7 boards a bus in London on Monday 8 January 2024 at 07:00. No replies are
 printed; at the end of input the journeys of its week are, a row for each.
   $ farebox statement examples/bus.toml GMT0BST,M3.5.0/1,M10.5.0 7 19730
@@ -121,6 +155,17 @@ Statuses:
   2  the words were refused
 
 The lines, the fare file, the statement and the faults are described in docs/FORMATS.md.";
+
+/// What stands below the help of `replay`.
+pub const BELOW_REPLAY: &str = "\
+A journal is what `run --journal FILE` writes: the lines that were accepted, in their order.
+
+Statuses:
+  0  all right
+  1  a fault, which one line on standard error names
+  2  the words were refused
+
+The lines, the journal and the faults are described in docs/FORMATS.md.";
 
 /// What stands below the help of `serve`.
 pub const BELOW_SERVE: &str = "\

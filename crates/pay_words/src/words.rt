@@ -1,23 +1,27 @@
 //! The words that the program is started with, and the job that they ask for.
-ghost use Rattle.std.specs.Prelude.{◌≡◌, ℕ, ◌<◌, ◌≤◌, true, false, codes, drop};
+ghost use Rattle.std.specs.Prelude.{◌≡◌, ℕ, ◌<◌, ◌≤◌, Bool, true, false, codes, drop, List};
 ghost use Rattle.std.specs.Prelude.{IfOk, IfErr, IsSomeAnd};
 ghost use Rattle.clap.specs.Walk.{texts};
 ghost use Rattle.clap.specs.Words.{app_of, first_value, found_of, kind_of, one_text};
 ghost use Rattle.clap.specs.declared.builder.command.Command.TheViews.{out-Command as fields_of};
-ghost use Rattle.pay_words.specs.CommandLine.{GivesCheck, GivesRun, GivesServe, GivesStatement, HasServeTexts};
-ghost use Rattle.pay_words.specs.CommandLine.{HasFaresAndZone, HasNumbers, IsFaultOfKind, IsHelpOrMemory, IsVersionOrMemory};
-ghost use Rattle.pay_words.specs.CommandLine.{check_app, farebox_app, run_app, serve_app, statement_app};
-ghost use Rattle.pay_words.specs.CommandLine.{required_number, required_option, required_word, with_serve_options};
+ghost use Rattle.pay_words.specs.CommandLine.{GivesCheck, GivesReplay, GivesRun, GivesServe, GivesStatement};
+ghost use Rattle.pay_words.specs.CommandLine.{HasFaresAndZone, HasFiles, HasRun, HasServeTexts, HasStatementTexts};
+ghost use Rattle.pay_words.specs.CommandLine.{IsFaultOfKind, IsHelpOrMemory, IsVersionOrMemory, flag_text};
+ghost use Rattle.pay_words.specs.CommandLine.{check_app, farebox_app, replay_app, run_app, serve_app, statement_app};
+ghost use Rattle.pay_words.specs.CommandLine.{flag_option, required_number, required_option, required_word};
+ghost use Rattle.pay_words.specs.CommandLine.{required_words, text_option, with_fares_and_zone, with_numbers};
 ghost use Rattle.clap.specs.Words.{shape_of, with_rule, with_subcommand};
 ghost use Rattle.clap.specs.ValueTests.{is_unsigned_in};
 ghost use Rattle.clap.specs.Walk.{rule_of};
 ghost use Rattle.pay_words.specs.Asked.{IsFaultOf, Text, asked, job_asked, AreJobWords, IsJob, IsJobInRange};
-ghost use Rattle.pay_words.specs.Asked.{RunIsTaken, CheckIsTaken, StatementIsTaken, ServeIsTaken};
-ghost use Rattle.pay_words.specs.Asked.{IsAnswer, served_job, with_ports};
+ghost use Rattle.pay_words.specs.Asked.{RunIsTaken, CheckIsTaken, StatementIsTaken, ReplayIsTaken, ServeIsTaken};
+ghost use Rattle.pay_words.specs.Asked.{IsAnswer, IsJobOrMemory, allowed, run_job, served_job, statement_job};
 ghost use Rattle.pay_words.specs.OneWord.{is_port};
+ghost use Rattle.pay_words.specs.Run.{Run, has_journal};
 ghost use Rattle.pay_words.specs.Serve.{AreInRange, Serve, ServeTexts, has_ports, numbers_of};
+ghost use Rattle.pay_words.specs.Statement.{HasNumbersInRange, Statement, StatementTexts, statement_of_texts};
 ghost use Rattle.pay_words.specs.Asked.{check as check_asked, run as run_asked, without_dashes};
-ghost use Rattle.pay_words.specs.Asked.{serve as serve_asked, statement as statement_asked, number_of};
+ghost use Rattle.pay_words.specs.Asked.{replay as replay_asked, serve as serve_asked, statement as statement_asked, number_of};
 ghost use Rattle.pay_words.specs.declared.words.WordsFault.TheVariants.{Memory};
 
 use crate::help;
@@ -26,7 +30,7 @@ use crate::limits::{
 };
 use clap::builder::ValueParser;
 use clap::error::ErrorKind;
-use clap::{Arg, ArgMatches, Command, Error};
+use clap::{Arg, ArgAction, ArgMatches, Command, Error};
 use std::alloc::{AllocError, Global};
 use thiserror::Error;
 
@@ -34,30 +38,37 @@ use thiserror::Error;
 const VERSION: &str = "0.1.0";
 
 /// The job that the words ask for, with its values.
-#[derive(Clone, Copy, Debug, PartialEq, Eq)]
+#[derive(Debug, PartialEq, Eq, Drop)]
 pub enum Job<'a> {
-    /// `run FARES ZONE`: one session, from standard input to standard output.
+    /// `run FARES ZONE` and its options: one session, from standard input to standard output.
     Run(RunWords<'a>),
     /// `check FARES`: how many of each thing the fare file of this path has.
     Check { fares: &'a str },
-    /// `statement FARES ZONE ACCOUNT DAY`: the statement of an account's week, by the lines of standard
-    /// input.
+    /// `statement FARES ZONE ACCOUNT DAY` and its option: the statement of an account's week, by the lines of
+    /// a journal and of standard input.
     Statement(StatementWords<'a>),
-    /// `serve FARES ZONE --port P --lanes L --shards N --sessions K --close DAY`: sessions of several
-    /// lanes at once, and the close of a day when all of them have ended.
+    /// `replay FARES ZONE FILE..`: whether journals can be taken again, and how many lines they have.
+    Replay(ReplayWords<'a>),
+    /// `serve FARES ZONE --port P --lanes L --shards N --sessions K --close DAY`: sessions of several lanes at
+    /// once, and the close of a day when all of them have ended.
     Serve(ServeWords<'a>),
 }
 
-/// The values of `run FARES ZONE`.
+/// The values of `run FARES ZONE [--journal FILE [--sync]]`.
 #[derive(Clone, Copy, Debug, PartialEq, Eq)]
 pub struct RunWords<'a> {
     /// The path of the fare file.
     pub fares: &'a str,
     /// The text of the time zone, a POSIX rule.
     pub zone: &'a str,
+    /// The path of the file of accepted lines, which are taken first, and to which each that is accepted is
+    /// added before its reply.
+    pub journal: Option<&'a str>,
+    /// Whether each line is on the disk before its reply. Only where there is a journal.
+    pub syncs: bool,
 }
 
-/// The values of `statement FARES ZONE ACCOUNT DAY`.
+/// The values of `statement FARES ZONE ACCOUNT DAY [--journal FILE]`.
 #[derive(Clone, Copy, Debug, PartialEq, Eq)]
 pub struct StatementWords<'a> {
     /// The path of the fare file.
@@ -68,6 +79,19 @@ pub struct StatementWords<'a> {
     pub account: u32,
     /// A service day of the week that is asked for, counted from 1970-01-01: 4 to 50,000.
     pub day: u32,
+    /// The path of the file of accepted lines, which are taken first; it is only read.
+    pub journal: Option<&'a str>,
+}
+
+/// The values of `replay FARES ZONE FILE..`.
+#[derive(Debug, PartialEq, Eq, Drop)]
+pub struct ReplayWords<'a> {
+    /// The path of the fare file.
+    pub fares: &'a str,
+    /// The text of the time zone, a POSIX rule.
+    pub zone: &'a str,
+    /// The paths of the journals, in the order in which they were given: at least one.
+    pub files: Vec<&'a str>,
 }
 
 /// The values of `serve FARES ZONE --port P --lanes L --shards N --sessions K --close DAY`.
@@ -117,8 +141,9 @@ impl From<AllocError> for WordsFault {
 /// Reads the words of the process, of which the first is the program's own name.
 ///
 /// A word that begins with a hyphen and goes on is an option: help, in the place of a program the
-/// version, one of the five of `serve`, and no other. The value of an option of `serve` is the next word,
-/// or stands behind an equals sign in the same; each is given once, before, between or behind FARES and ZONE.
+/// version, one of the options of its program, and no other. The value of an option is the next word, or
+/// stands behind an equals sign in the same; `--sync` has none, and is taken with `--journal` alone. Each
+/// is given once, before, between or behind the other values.
 /// `--` says that each word after it is a value. Numbers are decimal digits, which may have a plus and zeros
 /// before them; one outside its range is refused as `Usage`, and so are lanes with a port above 65,535.
 pub fn read_words<'a>(alloc: Global, words: &'a [&'a str]) -> Result<Job<'a>, WordsFault>
@@ -127,27 +152,32 @@ pub fn read_words<'a>(alloc: Global, words: &'a [&'a str]) -> Result<Job<'a>, Wo
 
     ensures in_range { IfOk result IsJobInRange }
 
-    // But for the program's own name and a `--`, the words are the job's: in order, but that the options of `serve`
-    // may stand anywhere.
+    // But for the program's own name and a `--`, the words are the job's: in order, but that options may stand
+    // anywhere.
     ensures words { IfOk result (λ job.
         AreJobWords job (without_dashes (drop 1 (texts words.entry.now)))) }
 
-    // Two words with no hyphen (45) before them are the values of `run`.
+    // Two words with no hyphen (45) before them, and options at most once each, in any order, are the values of
+    // `run`, where what is synced is a journal.
     ensures run { RunIsTaken (texts words.entry.now) result }
 
     // One word with no hyphen before it is the value of `check`.
     ensures check { CheckIsTaken (texts words.entry.now) result }
 
-    // Two words with no hyphen before them and two numbers in their ranges are the values of `statement`.
+    // Two words with no hyphen before them, two numbers in their ranges, and perhaps a journal, anywhere, are the
+    // values of `statement`.
     ensures statement { StatementIsTaken (texts words.entry.now) result }
 
-    // Two words with no hyphen before them and five options with numbers in their ranges, in any order, are the values
-    // of `serve`, where each lane has a port.
+    // Three words or more with no hyphen before them are the values of `replay`.
+    ensures replay { ReplayIsTaken (texts words.entry.now) result }
+
+    // Two words with no hyphen before them and five options with numbers in their ranges, in any order, are the
+    // values of `serve`, where each lane has a port.
     ensures serve { ServeIsTaken (texts words.entry.now) result }
 {
     let command = farebox_command(alloc)?;
     match command.try_get_matches_from(words) {
-        Ok(matches) => job_of(&matches),
+        Ok(matches) => job_of(alloc, &matches),
         Err(error) => Err(fault_of(alloc, &error)),
     }
 }
@@ -158,16 +188,26 @@ fn farebox_command<'a>(alloc: Global) -> Result<Command<'a>, AllocError>
     let run = run_command(alloc)?;
     let check = check_command(alloc)?;
     let statement = statement_command(alloc)?;
+    let replay = replay_command(alloc)?;
     let serve = serve_command(alloc)?;
     let farebox = Command::new(alloc, "farebox")
         .version(VERSION)
         .about(help::PROGRAM)
         .after_help(help::BELOW_PROGRAM)
         .subcommand_required(true);
-    with_programs(with_programs(farebox, run, check)?, statement, serve)
+    let most = with_programs(with_programs(farebox, run, check)?, statement, replay)?;
+    with_program(most, serve)
 }
 
-/// A command with two programs more.
+/// A command with a program more.
+fn with_program<'a>(command: Command<'a>, program: Command<'a>) -> Result<Command<'a>, AllocError>
+    requires local { (fields_of program).has_globals ≡ false }
+    ensures { IfOk result (λ r. app_of r ≡ with_subcommand (app_of command.entry) (shape_of program.entry)) }
+{
+    command.subcommand(program)
+}
+
+/// And with two.
 fn with_programs<'a>(
     command: Command<'a>,
     first: Command<'a>,
@@ -188,14 +228,15 @@ fn run_command<'a>(alloc: Global) -> Result<Command<'a>, AllocError>
     let command = Command::new(alloc, "run")
         .about(help::RUN)
         .after_help(help::BELOW_RUN);
-    with_fares_and_zone(alloc, command)
+    with_fares_and_zone(alloc, command)?
+        .arg(text_option(alloc, "journal", "FILE", help::JOURNAL))?
+        .arg(flag_option(alloc, "sync", help::SYNC))
 }
 
 /// A command with the words FARES and ZONE, after those that it has.
 fn with_fares_and_zone<'a>(alloc: Global, command: Command<'a>) -> Result<Command<'a>, AllocError>
     requires { (fields_of command).has_globals ≡ false }
-    ensures app { IfOk result (λ r. app_of r ≡ with_rule
-        (with_rule (app_of command.entry) (required_word (codes "FARES"))) (required_word (codes "ZONE"))) }
+    ensures app { IfOk result (λ r. app_of r ≡ with_fares_and_zone (app_of command.entry)) }
     ensures local { IfOk result (λ r. (fields_of r).has_globals ≡ false) }
 {
     command
@@ -222,7 +263,18 @@ fn statement_command<'a>(alloc: Global) -> Result<Command<'a>, AllocError>
         .after_help(help::BELOW_STATEMENT);
     with_fares_and_zone(alloc, command)?
         .arg(number_word(alloc, "ACCOUNT", help::ACCOUNT, 1, MOST_ACCOUNT))?
-        .arg(number_word(alloc, "DAY", help::DAY, FIRST_DAY, LAST_DAY))
+        .arg(number_word(alloc, "DAY", help::DAY, FIRST_DAY, LAST_DAY))?
+        .arg(text_option(alloc, "journal", "FILE", help::JOURNAL_READ))
+}
+
+fn replay_command<'a>(alloc: Global) -> Result<Command<'a>, AllocError>
+    ensures app { IfOk result (λ command. app_of command ≡ replay_app) }
+    ensures local { IfOk result (λ command. (fields_of command).has_globals ≡ false) }
+{
+    let command = Command::new(alloc, "replay")
+        .about(help::REPLAY)
+        .after_help(help::BELOW_REPLAY);
+    with_fares_and_zone(alloc, command)?.arg(text_words(alloc, "FILE", help::FILES))
 }
 
 fn serve_command<'a>(alloc: Global) -> Result<Command<'a>, AllocError>
@@ -232,13 +284,13 @@ fn serve_command<'a>(alloc: Global) -> Result<Command<'a>, AllocError>
     let command = Command::new(alloc, "serve")
         .about(help::SERVE)
         .after_help(help::BELOW_SERVE);
-    with_options(alloc, with_fares_and_zone(alloc, command)?)
+    with_numbers(alloc, with_fares_and_zone(alloc, command)?)
 }
 
 /// A command with the options of `serve`, after the words that it has.
-fn with_options<'a>(alloc: Global, command: Command<'a>) -> Result<Command<'a>, AllocError>
+fn with_numbers<'a>(alloc: Global, command: Command<'a>) -> Result<Command<'a>, AllocError>
     requires { (fields_of command).has_globals ≡ false }
-    ensures app { IfOk result (λ r. app_of r ≡ with_serve_options (app_of command.entry)) }
+    ensures app { IfOk result (λ r. app_of r ≡ with_numbers (app_of command.entry)) }
     ensures local { IfOk result (λ r. (fields_of r).has_globals ≡ false) }
 {
     command
@@ -255,6 +307,36 @@ fn text_word<'a>(alloc: Global, name: &'a str, help: &'a str) -> Arg<'a>
     ensures local { result.global ≡ false }
 {
     Arg::new(alloc, name).required(true).help(help)
+}
+
+/// Words of which one at least has to be there.
+fn text_words<'a>(alloc: Global, name: &'a str, help: &'a str) -> Arg<'a>
+    ensures rule { rule_of result ≡ required_words name.entry.now }
+    ensures local { result.global ≡ false }
+{
+    text_word(alloc, name, help).action(ArgAction::Append)
+}
+
+/// An option with a text, which may be there; help calls the text `value`.
+fn text_option<'a>(alloc: Global, name: &'a str, value: &'a str, help: &'a str) -> Arg<'a>
+    ensures rule { rule_of result ≡ text_option name.entry.now }
+    ensures local { result.global ≡ false }
+{
+    Arg::new(alloc, name)
+        .long(name)
+        .value_name(value)
+        .help(help)
+}
+
+/// An option without a value, which may be there.
+fn flag_option<'a>(alloc: Global, name: &'a str, help: &'a str) -> Arg<'a>
+    ensures rule { rule_of result ≡ flag_option name.entry.now }
+    ensures local { result.global ≡ false }
+{
+    Arg::new(alloc, name)
+        .long(name)
+        .action(ArgAction::SetTrue)
+        .help(help)
 }
 
 /// A number in its range, which has to be there.
@@ -282,29 +364,67 @@ fn number_option<'a>(
         .value_name(value)
 }
 
-fn job_of<'a>(matches: &ArgMatches<'a>) -> Result<Job<'a>, WordsFault>
-    ensures run { (fares zone : Text) → GivesRun matches.now fares zone → IsJob (run_asked fares zone) result }
+fn job_of<'a>(alloc: Global, matches: &ArgMatches<'a>) -> Result<Job<'a>, WordsFault>
+    ensures run { (r : Run) → GivesRun matches.now r → IsAnswer (allowed (run_asked r)) result }
     ensures check { (fares : Text) → GivesCheck matches.now fares → IsJob (check_asked fares) result }
-    ensures statement { (fares zone : Text) (account day : ℕ)
-        → GivesStatement matches.now fares zone account day → IsJob (statement_asked fares zone account day) result }
-    ensures serve { (s : Serve) → GivesServe matches.now s → IsAnswer (with_ports (serve_asked s)) result }
+    ensures statement { (s : Statement) → GivesStatement matches.now s → IsJob (statement_asked s) result }
+    ensures replay { (fares zone : Text) (files : List Text)
+        → GivesReplay matches.now fares zone files → IsJobOrMemory (replay_asked fares zone files) result }
+    ensures serve { (s : Serve) → GivesServe matches.now s → IsAnswer (allowed (serve_asked s)) result }
 {
     match matches.subcommand() {
         Some(("run", run)) => run_job(run),
         Some(("check", check)) => check_job(check),
         Some(("statement", statement)) => statement_job(statement),
+        Some(("replay", replay)) => replay_job(alloc, replay),
         Some(("serve", serve)) => serve_job(serve),
         _ => Err(WordsFault::Usage),
     }
 }
 
 fn run_job<'a>(run: &ArgMatches<'a>) -> Result<Job<'a>, WordsFault>
-    ensures { (fares zone : Text) → HasFaresAndZone run.now fares zone → IsJob (run_asked fares zone) result }
+    ensures { (r : Run) → HasRun (found_of run.now) r → IsAnswer (allowed (run_asked r)) result }
 {
-    match (run.get_str("FARES"), run.get_str("ZONE")) {
-        (Some(fares), Some(zone)) => Ok(Job::Run(RunWords { fares, zone })),
-        _ => Err(WordsFault::Usage),
+    match run_words(run) {
+        Some(words) => job_with_journal(words),
+        None => Err(WordsFault::Usage),
     }
+}
+
+fn run_words<'a>(run: &ArgMatches<'a>) -> Option<RunWords<'a>>
+    ensures { (r : Run) → HasRun (found_of run.now) r → IsSomeAnd result (λ words. run_job words ≡ r) }
+{
+    Some(RunWords {
+        fares: run.get_str("FARES")?,
+        zone: run.get_str("ZONE")?,
+        journal: run.get_str("journal"),
+        syncs: is_flagged(run, "sync"),
+    })
+}
+
+/// Whether the flag of this name was given.
+fn is_flagged(matches: &ArgMatches<'_>, name: &str) -> bool
+    ensures { (given : Bool) → one_text (found_of matches.now) name.now ≡ Some (flag_text given) → result ≡ given }
+{
+    matches.get_flag(name)
+}
+
+/// The job of `run`, where what is synced is a journal.
+fn job_with_journal(words: RunWords<'_>) -> Result<Job<'_>, WordsFault>
+    ensures { IsAnswer (allowed (run_asked (run_job words.entry))) result }
+{
+    if has_journal(&words) {
+        Ok(Job::Run(words))
+    } else {
+        Err(WordsFault::Usage)
+    }
+}
+
+/// Whether there is a journal, if one is to be synced.
+fn has_journal(words: &RunWords<'_>) -> bool
+    ensures { result ≡ has_journal (run_job words.now) }
+{
+    !words.syncs || words.journal.is_some()
 }
 
 fn check_job<'a>(check: &ArgMatches<'a>) -> Result<Job<'a>, WordsFault>
@@ -318,42 +438,61 @@ fn check_job<'a>(check: &ArgMatches<'a>) -> Result<Job<'a>, WordsFault>
 }
 
 fn statement_job<'a>(statement: &ArgMatches<'a>) -> Result<Job<'a>, WordsFault>
-    ensures { (fares zone account day : Text)
-        → HasFaresAndZone statement.now fares zone → HasNumbers statement.now account day
-        → IsJob (statement_asked fares zone (number_of account) (number_of day)) result }
+    ensures { (t : StatementTexts) → HasStatementTexts (found_of statement.now) t → HasNumbersInRange t
+        → IsJob (statement_asked (statement_of_texts t)) result }
 {
-    let account = number_of(statement, "ACCOUNT");
-    let day = number_of(statement, "DAY");
-    match (statement.get_str("FARES"), statement.get_str("ZONE")) {
-        (Some(fares), Some(zone)) => statement_of(fares, zone, account, day),
+    match statement_words(statement) {
+        Some(words) => Ok(Job::Statement(words)),
+        None => Err(WordsFault::Usage),
+    }
+}
+
+fn statement_words<'a>(statement: &ArgMatches<'a>) -> Option<StatementWords<'a>>
+    ensures { (t : StatementTexts) → HasStatementTexts (found_of statement.now) t → HasNumbersInRange t
+        → IsSomeAnd result (λ words. statement_job words ≡ statement_of_texts t) }
+{
+    Some(StatementWords {
+        fares: statement.get_str("FARES")?,
+        zone: statement.get_str("ZONE")?,
+        account: number_of(statement, "ACCOUNT")?,
+        day: number_of(statement, "DAY")?,
+        journal: statement.get_str("journal"),
+    })
+}
+
+fn replay_job<'a>(alloc: Global, replay: &ArgMatches<'a>) -> Result<Job<'a>, WordsFault>
+    ensures { (fares zone : Text) (files : List Text) → HasFaresAndZone replay.now fares zone → HasFiles replay.now files
+        → IsJobOrMemory (replay_asked fares zone files) result }
+{
+    match (
+        replay.get_str("FARES"),
+        replay.get_str("ZONE"),
+        replay.get_strs("FILE"),
+    ) {
+        (Some(fares), Some(zone), Some(files)) => replay_of(alloc, fares, zone, files),
         _ => Err(WordsFault::Usage),
     }
 }
 
-/// The job of a statement, where its numbers were read.
-fn statement_of<'a>(
+/// The job of `replay`, where its words were found.
+fn replay_of<'a>(
+    alloc: Global,
     fares: &'a str,
     zone: &'a str,
-    account: Option<u32>,
-    day: Option<u32>,
+    files: &[&'a str],
 ) -> Result<Job<'a>, WordsFault>
-    ensures { (a d : ℕ) → account ≡ Some a → day ≡ Some d
-        → IsJob (statement_asked fares.entry.now zone.entry.now a d) result }
+    ensures { IsJobOrMemory (replay_asked fares.entry.now zone.entry.now (texts files.now)) result }
 {
-    match (account, day) {
-        (Some(account), Some(day)) => Ok(Job::Statement(StatementWords {
-            fares,
-            zone,
-            account,
-            day,
-        })),
-        _ => Err(WordsFault::Usage),
-    }
+    Ok(Job::Replay(ReplayWords {
+        fares,
+        zone,
+        files: files.to_vec(alloc)?,
+    }))
 }
 
 fn serve_job<'a>(serve: &ArgMatches<'a>) -> Result<Job<'a>, WordsFault>
     ensures { (t : ServeTexts) → HasServeTexts (found_of serve.now) t → AreInRange t
-        → IsAnswer (with_ports (serve_asked (numbers_of t))) result }
+        → IsAnswer (allowed (serve_asked (numbers_of t))) result }
 {
     match serve_words(serve) {
         Some(words) => job_with_ports(words),
@@ -363,7 +502,7 @@ fn serve_job<'a>(serve: &ArgMatches<'a>) -> Result<Job<'a>, WordsFault>
 
 /// The job of `serve`, where there is a port for each lane.
 fn job_with_ports(words: ServeWords<'_>) -> Result<Job<'_>, WordsFault>
-    ensures { IsAnswer (with_ports (serve_asked (served_job words.entry))) result }
+    ensures { IsAnswer (allowed (serve_asked (served_job words.entry))) result }
 {
     if has_ports(&words) {
         Ok(Job::Serve(words))

@@ -10,8 +10,9 @@ returns c =
     let top : app_of c.subcommand_required-farebox.result ≡ on_top (λ top. record top { has_version = true; subcommand_required = true }) (new_app (codes "farebox")) = search rules in
     let first = c.in_ok-with_programs.ensures
     ∙ ap₂ with_subcommand (ap₂ with_subcommand top (ap (λ (a : App). a.top) c.in_ok-run.ensures.app)) (ap (λ (a : App). a.top) c.in_ok-check.ensures.app) in
-    IfOk-weaker c.with_programs-2.result (λ command. app_of command
-    ≡ with_subcommand (with_subcommand (app_of c.in_ok-with_programs.field-0) (shape_of c.in_ok-statement.statement)) (shape_of c.in_ok-serve.serve))
+    let second = c.in_ok-most.ensures
+    ∙ ap₂ with_subcommand (ap₂ with_subcommand first (ap (λ (a : App). a.top) c.in_ok-statement.ensures.app)) (ap (λ (a : App). a.top) c.in_ok-replay.ensures.app) in
+    IfOk-weaker c.with_program.result (λ command. app_of command ≡ with_subcommand (app_of c.in_ok-most.most) (shape_of c.in_ok-serve.serve))
     (λ command. app_of command ≡ farebox_app)
-    (λ command is. is ∙ ap₂ with_subcommand (ap₂ with_subcommand first (ap (λ (a : App). a.top) c.in_ok-statement.ensures.app)) (ap (λ (a : App). a.top) c.in_ok-serve.ensures.app))
-    c.with_programs-2.ensures
+    (λ command is. is ∙ ap₂ with_subcommand second (ap (λ (a : App). a.top) c.in_ok-serve.ensures.app))
+    c.with_program.ensures

@@ -1,20 +1,25 @@
 use Rattle.clap.specs.Words.{found_of}
-use Rattle.pay_words.proofs.Results.{check_value, run_values, serve_texts, statement_values}
+use Rattle.pay_words.proofs.Results.{check_value, replay_values, run_values, serve_texts, statement_texts}
 use Rattle.pay_words.proofs.words.job_of.Goals as goal
 
 pub returns-in-Some-run-default-clause-run : goal.returns-in-Some-run-default-clause-run
-returns-in-Some-run-default-clause-run c = λ fares zone gives.
-    c.run_job.ensures fares zone (run_values c.args.matches.now (found_of c.in-Some-run-default.run'.now) fares zone c.in-Some-run-default.ensures.rows gives)
+returns-in-Some-run-default-clause-run c = λ r gives.
+    c.run_job.ensures r (run_values c.args.matches.now (found_of c.in-Some-run-default.run'.now) r c.in-Some-run-default.ensures.rows gives)
 
 pub returns-in-Some-check-default-clause-check : goal.returns-in-Some-check-default-clause-check
 returns-in-Some-check-default-clause-check c = λ fares gives.
     c.check_job.ensures fares (check_value c.args.matches.now (found_of c.in-Some-check-default.check.now) fares c.in-Some-check-default.ensures.rows gives)
 
 pub returns-in-Some-statement-default-clause-statement : goal.returns-in-Some-statement-default-clause-statement
-returns-in-Some-statement-default-clause-statement c = λ fares zone account day gives.
+returns-in-Some-statement-default-clause-statement c = λ s gives.
     let found = found_of c.in-Some-statement-default.statement.now in
-    let values = statement_values c.args.matches.now found fares zone account day c.in-Some-statement-default.ensures.rows gives in
-    rw (← gives.4, ← gives.6) (c.statement_job.ensures fares zone gives.0 gives.1 (values.0, values.1) (values.2, values.3, gives.3, gives.5))
+    rw (← gives.5) (c.statement_job.ensures gives.0 (statement_texts c.args.matches.now found s c.in-Some-statement-default.ensures.rows gives) gives.4)
+
+pub returns-in-Some-replay-default-clause-replay : goal.returns-in-Some-replay-default-clause-replay
+returns-in-Some-replay-default-clause-replay c = λ fares zone files gives.
+    let found = found_of c.in-Some-replay-default.replay.now in
+    let values = replay_values c.args.matches.now found fares zone files c.in-Some-replay-default.ensures.rows gives in
+    c.replay_job.ensures fares zone files (values.0, values.1) values.2
 
 pub returns-in-Some-serve-default-clause-serve : goal.returns-in-Some-serve-default-clause-serve
 returns-in-Some-serve-default-clause-serve c = λ s gives.

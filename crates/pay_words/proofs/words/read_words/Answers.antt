@@ -3,7 +3,7 @@ use Rattle.clap.specs.Words.{App, HasMatchesOf, HasKind, Text, app_of, fault_of,
 use Rattle.clap.specs.Walk.{texts}
 use Rattle.pay_words.specs.Asked.{asked, words_ask}
 use Rattle.pay_words.specs.CommandLine.{farebox_app}
-use Rattle.pay_words.proofs.Results.{job_read, matched, refused_as, result_check, result_in_range, result_job, result_refused, result_run, result_serve, result_statement, result_words}
+use Rattle.pay_words.proofs.Results.{job_read, matched, refused_as, result_check, result_in_range, result_job, result_refused, result_replay, result_run, result_serve, result_statement, result_words}
 use Rattle.pay_words.proofs.words.read_words.Goals as goal
 
 pub returns-in-Ok-clause-job : goal.returns-in-Ok-clause-job
@@ -12,7 +12,13 @@ returns-in-Ok-clause-job c =
     let app_is : app_of c.in_ok-command.command ≡ farebox_app = c.in_ok-command.ensures in
     let none : fault_of farebox_app ws ≡ [] = subst (λ (a : App). fault_of a ws ≡ []) app_is (c.in-Ok.ensures.kinds (ap is_simple_and_free app_is)) in
     let gives = matched ws c.in-Ok.matches none (subst (λ (a : App). HasMatchesOf a ws c.in-Ok.matches) app_is c.in-Ok.ensures.matches) in
-    result_job c.job_of.result (asked ws) (job_read c.in-Ok.matches (words_ask ws) c.job_of.result gives c.job_of.ensures.run c.job_of.ensures.check c.job_of.ensures.statement c.job_of.ensures.serve)
+    result_job c.job_of.result (asked ws) (job_read c.in-Ok.matches (words_ask ws) c.job_of.result gives (record {
+      of_run = c.job_of.ensures.run;
+      of_check = c.job_of.ensures.check;
+      of_statement = c.job_of.ensures.statement;
+      of_replay = c.job_of.ensures.replay;
+      of_serve = c.job_of.ensures.serve;
+    }))
 
 pub returns-in-Ok-clause-refused : goal.returns-in-Ok-clause-refused
 returns-in-Ok-clause-refused c =
@@ -20,22 +26,19 @@ returns-in-Ok-clause-refused c =
     let app_is : app_of c.in_ok-command.command ≡ farebox_app = c.in_ok-command.ensures in
     let none : fault_of farebox_app ws ≡ [] = subst (λ (a : App). fault_of a ws ≡ []) app_is (c.in-Ok.ensures.kinds (ap is_simple_and_free app_is)) in
     let gives = matched ws c.in-Ok.matches none (subst (λ (a : App). HasMatchesOf a ws c.in-Ok.matches) app_is c.in-Ok.ensures.matches) in
-    result_refused c.job_of.result (asked ws) (job_read c.in-Ok.matches (words_ask ws) c.job_of.result gives c.job_of.ensures.run c.job_of.ensures.check c.job_of.ensures.statement c.job_of.ensures.serve)
+    result_refused c.job_of.result (asked ws) (job_read c.in-Ok.matches (words_ask ws) c.job_of.result gives (record {
+      of_run = c.job_of.ensures.run;
+      of_check = c.job_of.ensures.check;
+      of_statement = c.job_of.ensures.statement;
+      of_replay = c.job_of.ensures.replay;
+      of_serve = c.job_of.ensures.serve;
+    }))
 
 pub returns-in-Ok-clause-in_range : goal.returns-in-Ok-clause-in_range
 returns-in-Ok-clause-in_range c = result_in_range c.job_of.result (texts c.args.words.now) (returns-in-Ok-clause-job c)
 
 pub returns-in-Ok-clause-words : goal.returns-in-Ok-clause-words
 returns-in-Ok-clause-words c = result_words c.job_of.result (texts c.args.words.now) (returns-in-Ok-clause-job c)
-
-pub returns-in-Ok-clause-run : goal.returns-in-Ok-clause-run
-returns-in-Ok-clause-run c = result_run c.job_of.result (texts c.args.words.now) (returns-in-Ok-clause-job c) (returns-in-Ok-clause-refused c)
-
-pub returns-in-Ok-clause-check : goal.returns-in-Ok-clause-check
-returns-in-Ok-clause-check c = result_check c.job_of.result (texts c.args.words.now) (returns-in-Ok-clause-job c) (returns-in-Ok-clause-refused c)
-
-pub returns-in-Ok-clause-statement : goal.returns-in-Ok-clause-statement
-returns-in-Ok-clause-statement c = result_statement c.job_of.result (texts c.args.words.now) (returns-in-Ok-clause-job c) (returns-in-Ok-clause-refused c)
 
 pub returns-in-Err-clause-refused : goal.returns-in-Err-clause-refused
 returns-in-Err-clause-refused c =
@@ -44,14 +47,29 @@ returns-in-Err-clause-refused c =
     let kinds : HasKind (fault_of farebox_app ws) c.in-Err.error = subst (λ (a : App). HasKind (fault_of a ws) c.in-Err.error) app_is (c.in-Err.ensures.kinds (ap is_simple_and_free app_is)) in
     refused_as ws (kind_of c.in-Err.error) c.fault_of.result kinds c.fault_of.ensures
 
+pub returns-in-Ok-clause-run : goal.returns-in-Ok-clause-run
+returns-in-Ok-clause-run c = result_run c.job_of.result (texts c.args.words.now) (returns-in-Ok-clause-job c) (returns-in-Ok-clause-refused c)
+
 pub returns-in-Err-clause-run : goal.returns-in-Err-clause-run
 returns-in-Err-clause-run c = result_run (Err c.fault_of.result) (texts c.args.words.now) tt (returns-in-Err-clause-refused c)
+
+pub returns-in-Ok-clause-check : goal.returns-in-Ok-clause-check
+returns-in-Ok-clause-check c = result_check c.job_of.result (texts c.args.words.now) (returns-in-Ok-clause-job c) (returns-in-Ok-clause-refused c)
 
 pub returns-in-Err-clause-check : goal.returns-in-Err-clause-check
 returns-in-Err-clause-check c = result_check (Err c.fault_of.result) (texts c.args.words.now) tt (returns-in-Err-clause-refused c)
 
+pub returns-in-Ok-clause-statement : goal.returns-in-Ok-clause-statement
+returns-in-Ok-clause-statement c = result_statement c.job_of.result (texts c.args.words.now) (returns-in-Ok-clause-job c) (returns-in-Ok-clause-refused c)
+
 pub returns-in-Err-clause-statement : goal.returns-in-Err-clause-statement
 returns-in-Err-clause-statement c = result_statement (Err c.fault_of.result) (texts c.args.words.now) tt (returns-in-Err-clause-refused c)
+
+pub returns-in-Ok-clause-replay : goal.returns-in-Ok-clause-replay
+returns-in-Ok-clause-replay c = result_replay c.job_of.result (texts c.args.words.now) (returns-in-Ok-clause-job c) (returns-in-Ok-clause-refused c)
+
+pub returns-in-Err-clause-replay : goal.returns-in-Err-clause-replay
+returns-in-Err-clause-replay c = result_replay (Err c.fault_of.result) (texts c.args.words.now) tt (returns-in-Err-clause-refused c)
 
 pub returns-in-Ok-clause-serve : goal.returns-in-Ok-clause-serve
 returns-in-Ok-clause-serve c = result_serve c.job_of.result (texts c.args.words.now) (returns-in-Ok-clause-job c) (returns-in-Ok-clause-refused c)

@@ -2,11 +2,11 @@
 use Rattle.std.proofs.Common.{◌≡◌, ◌∙◌, Bool, cond, true, false, refl, ap, List, [], ◌∷◌, ◌++◌, Option, Some, None, append-nil}
 use Rattle.std.specs.Prelude.{⊤, find, fold, if◌then◌else◌}
 use Rattle.std.specs.Str.{bytes_eq}
-use Rattle.clap.specs.Walk.{Row, Rule, Text, at_row, default_rows, has_row, more_values, reading_by, with_default, with_values, without}
+use Rattle.clap.specs.Walk.{Row, Rule, Text, at_row, default_rows, has_row, is_empty, more_values, reading_by, with_default, with_values, without}
 use Rattle.clap.specs.Kinds.{Kinds, or_else}
-use Rattle.clap.specs.Faults.{default_fault, defaults_fault}
+use Rattle.clap.specs.Faults.{default_fault, defaults_fault, given_default_fault}
 use Rattle.clap.specs.declared.builder.value_parser.Reading.TheVariants as reading
-use Rattle.clap.specs.declared.parser.matches.ValueSource.TheVariants.{CommandLine}
+use Rattle.clap.specs.declared.parser.matches.ValueSource.TheVariants.{CommandLine, DefaultValue}
 
 -- the first row of a name
 abbrev pub found : Text → List Row → Option Row
@@ -15,6 +15,10 @@ found id rows = find (λ r. bytes_eq r.id id) rows
 -- the row of a name that was given one word
 abbrev pub row_with : Text → Text → Row
 row_with id word = record { id = id; values = word ∷ []; count = None; source = Some CommandLine; reading = reading.AsWritten }
+
+-- the row of a name that has this value by default
+abbrev pub default_row : Text → Text → Row
+default_row id word = record { id = id; values = word ∷ []; count = None; source = Some DefaultValue; reading = reading.AsWritten }
 
 -- a row of another name changes nothing
 pub found_other : (id : Text) (rows : List Row) (r : Row) → bytes_eq r.id id ≡ false → found id (rows ++ r ∷ []) ≡ found id rows
@@ -67,6 +71,10 @@ row_added id word rows none =
     let same : without id rows ≡ rows = at_end id (λ r. []) [] rows none ∙ append-nil rows in
     ap (with_values id reading.AsWritten CommandLine (word ∷ [])) same ∙ at_end id (more_values CommandLine (word ∷ [])) (row_with id word ∷ []) rows none
 
+-- and a default value where a name has no row adds its row
+pub default_added : (id word : Text) (rows : List Row) → found id rows ≡ None → default_rows id reading.AsWritten (word ∷ []) rows ≡ rows ++ default_row id word ∷ []
+default_added id word rows none = at_end id (more_values DefaultValue (word ∷ [])) (default_row id word ∷ []) rows none
+
 -- no argument has a default value
 abbrev pub HaveNoDefaults : List Rule → Type 0
 HaveNoDefaults [] = ⊤
@@ -83,16 +91,23 @@ pub no_defaults : (rules : List Rule) (rows : List Row) → HaveNoDefaults rules
 no_defaults [] rows h = refl
 no_defaults (a ∷ rules) rows h = ap (λ (r : List Row). fold with_default r rules) (without_default rows a h.0) ∙ no_defaults rules rows h.1
 
-no_default_fault : (rows : List Row) (a : Rule) → a.defaults ≡ [] → default_fault rows a ≡ []
-no_default_fault rows a none = go (has_row a.id rows) refl
+-- the default values of these arguments are all right
+abbrev default_judged : Rule → Kinds
+default_judged a = if is_empty a.defaults then [] else given_default_fault a a.defaults
+
+abbrev pub HaveGoodDefaults : List Rule → Type 0
+HaveGoodDefaults [] = ⊤
+HaveGoodDefaults (a ∷ rules) = (default_judged a ≡ []) × HaveGoodDefaults rules
+
+good_default : (rows : List Row) (a : Rule) → default_judged a ≡ [] → default_fault rows a ≡ []
+good_default rows a good = go (has_row a.id rows) refl
   where
     go : (t : Bool) → has_row a.id rows ≡ t → default_fault rows a ≡ []
     go true is = rw is refl
-    go false is = rw (is, none) refl
+    go false is = rw is good
 
-pub no_default_faults : (rules : List Rule) (rows : List Row) → HaveNoDefaults rules → defaults_fault rows rules ≡ []
+pub no_default_faults : (rules : List Rule) (rows : List Row) → HaveGoodDefaults rules → defaults_fault rows rules ≡ []
 unfolding defaults_fault
 no_default_faults [] rows h = refl
 no_default_faults (a ∷ rules) rows h =
-    ap (λ (k : Kinds). or_else k (defaults_fault (with_default rows a) rules)) (no_default_fault rows a h.0)
-    ∙ (ap (λ (r : List Row). defaults_fault r rules) (without_default rows a h.0) ∙ no_default_faults rules rows h.1)
+    ap (λ (k : Kinds). or_else k (defaults_fault (with_default rows a) rules)) (good_default rows a h.0) ∙ no_default_faults rules (with_default rows a) h.1

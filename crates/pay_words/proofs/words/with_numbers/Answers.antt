@@ -4,8 +4,8 @@ use Rattle.clap.specs.Words.{AddsArg, app_of, with_rule}
 use Rattle.clap.specs.declared.builder.arg.Arg.{Arg}
 use Rattle.clap.specs.declared.builder.command.Command.{Command}
 use Rattle.clap.specs.declared.builder.command.Command.TheViews.{out-Command as fields_of}
-use Rattle.pay_words.specs.CommandLine.{with_serve_options}
-use Rattle.pay_words.proofs.words.with_options.Goals as goal
+use Rattle.pay_words.specs.CommandLine.{with_numbers}
+use Rattle.pay_words.proofs.words.with_numbers.Goals as goal
 
 pub returns-clause-app : goal.returns-clause-app
 returns-clause-app c =
@@ -13,7 +13,7 @@ returns-clause-app c =
     let two = c.in_ok-arg-2.ensures.shape c.number_option-2.ensures.local ∙ ap₂ with_rule one c.number_option-2.ensures.rule in
     let three = c.in_ok-arg-3.ensures.shape c.number_option-3.ensures.local ∙ ap₂ with_rule two c.number_option-3.ensures.rule in
     let four = c.in_ok-arg-4.ensures.shape c.number_option-4.ensures.local ∙ ap₂ with_rule three c.number_option-4.ensures.rule in
-    IfOk-weaker c.arg-5.result (AddsArg c.in_ok-arg-4.field-0 c.number_option-5.result) (λ r. app_of r ≡ with_serve_options (app_of c.args.command))
+    IfOk-weaker c.arg-5.result (AddsArg c.in_ok-arg-4.field-0 c.number_option-5.result) (λ r. app_of r ≡ with_numbers (app_of c.args.command))
     (λ r adds. adds.shape c.number_option-5.ensures.local ∙ ap₂ with_rule four c.number_option-5.ensures.rule) c.arg-5.ensures
 
 local_still : (old new : Command) (a : Arg) → AddsArg old a new → (fields_of old).has_globals ≡ false → a.global ≡ false → (fields_of new).has_globals ≡ false

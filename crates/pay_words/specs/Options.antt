@@ -1,0 +1,248 @@
+-- What the words of a program with options say, in whatever order.
+use Rattle.std.specs.Prelude.{◌≡◌, List, [], ◌∷◌, ◌++◌, codes, Bool, true, false, ⊤, Option, Some, None, option_and_then, option_map, slice_index, ◌≢◌, if◌then◌else◌}
+use Rattle.std.specs.Str.{bytes_eq}
+use Rattle.clap.specs.Lexer.{long_of}
+use Rattle.pay_words.specs.OneWord.{Reader, Text, Word, value, dashes, call_for_help, call_for_version, option, any_text, word_kind}
+use Rattle.pay_words.specs.OneWord.{is_account, is_day, is_lanes, is_port, is_sessions, is_shards}
+
+-- ---- values in their places, and options
+
+-- a value that is no option's
+pub data Place : Type 0 where
+  fares_place : Place
+  zone_place : Place
+  account_place : Place
+  day_place : Place
+
+-- what it has to be
+abbrev pub place_reader : Place → Reader
+place_reader fares_place = any_text
+place_reader zone_place = any_text
+place_reader account_place = is_account
+place_reader day_place = is_day
+
+-- an option, which has a value if it is no flag
+pub data Setting : Type 0 where
+  port_option : Setting
+  lanes_option : Setting
+  shards_option : Setting
+  sessions_option : Setting
+  close_option : Setting
+  journal_option : Setting
+  sync_option : Setting
+
+abbrev pub name_of : Setting → Text
+name_of port_option = codes "port"
+name_of lanes_option = codes "lanes"
+name_of shards_option = codes "shards"
+name_of sessions_option = codes "sessions"
+name_of close_option = codes "close"
+name_of journal_option = codes "journal"
+name_of sync_option = codes "sync"
+
+abbrev pub is_flag : Setting → Bool
+is_flag port_option = false
+is_flag lanes_option = false
+is_flag shards_option = false
+is_flag sessions_option = false
+is_flag close_option = false
+is_flag journal_option = false
+is_flag sync_option = true
+
+-- the value that a flag is given with
+abbrev pub flag_value : Text
+flag_value = codes "true"
+
+abbrev is_flag_value : Reader
+is_flag_value word = bytes_eq word flag_value
+
+-- what the value of an option has to be
+abbrev pub reader_of : Setting → Reader
+reader_of port_option = is_port
+reader_of lanes_option = is_lanes
+reader_of shards_option = is_shards
+reader_of sessions_option = is_sessions
+reader_of close_option = is_day
+reader_of journal_option = any_text
+reader_of sync_option = is_flag_value
+
+-- what a program takes: values in these places, in order, and these options, in any
+pub record Grammar : Type 0 where
+  pub places : List Place
+  pub options : List Setting
+
+-- the option of a name
+abbrev pub setting_named : List Setting → Text → Option Setting
+setting_named [] name = None
+setting_named (k ∷ options) name = if bytes_eq (name_of k) name then Some k else setting_named options name
+
+-- ---- what words say
+
+-- one thing that the words say: a value that is no option's; an option with its value, which is the
+-- next word (`--port 9000`) or stands behind an equals sign in the same (`--port=9000`); or a flag
+pub data Part : Type 0 where
+  plain : Text → Part
+  apart : Setting → Text → Part
+  joined : Setting → Text → Part
+  alone : Setting → Part
+
+-- the words that say it
+abbrev pub words_of_part : Part → List Text
+words_of_part (plain word) = word ∷ []
+words_of_part (apart k word) = (codes "--" ++ name_of k) ∷ word ∷ []
+words_of_part (joined k word) = (codes "--" ++ (name_of k ++ (codes "=" ++ word))) ∷ []
+words_of_part (alone k) = (codes "--" ++ name_of k) ∷ []
+
+abbrev pub words_of_parts : List Part → List Text
+words_of_parts [] = []
+words_of_parts (part ∷ rest) = words_of_part part ++ words_of_parts rest
+
+-- the values that are no option's, in their order
+abbrev pub plain_words : List Part → List Text
+plain_words [] = []
+plain_words (plain word ∷ rest) = word ∷ plain_words rest
+plain_words (apart k word ∷ rest) = plain_words rest
+plain_words (joined k word ∷ rest) = plain_words rest
+plain_words (alone k ∷ rest) = plain_words rest
+
+abbrev pub value_for : Setting → Setting → Text → List Text
+value_for k given word = if bytes_eq (name_of given) (name_of k) then word ∷ [] else []
+
+-- the values that an option was given
+abbrev pub values_of : Setting → List Part → List Text
+values_of k [] = []
+values_of k (plain word ∷ rest) = values_of k rest
+values_of k (apart given word ∷ rest) = value_for k given word ++ values_of k rest
+values_of k (joined given word ∷ rest) = value_for k given word ++ values_of k rest
+values_of k (alone given ∷ rest) = value_for k given flag_value ++ values_of k rest
+
+-- ---- the words, one after another
+
+-- what the words behind the name of a program come to
+pub data Said : Type 0 where
+  -- these parts
+  all_of : List Part → Said
+  -- a call for help, before any word that is refused
+  help_wanted : Said
+  -- nothing that is taken
+  not_taken : Said
+
+-- the place of the next value, behind these
+abbrev pub place_behind : List Place → List Text → Option Place
+place_behind [] before = None
+place_behind (p ∷ places) [] = Some p
+place_behind (p ∷ places) (b ∷ before) = place_behind places before
+
+abbrev pub placed : Option Place → Text → Said → Said
+placed None word after = not_taken
+placed (Some p) word after = if place_reader p word then after else not_taken
+
+-- one value more than these: there is a place for it, and it passes the reader of that place
+abbrev pub one_more_plain : Grammar → List Text → Text → Said → Said
+one_more_plain g before word after = placed (place_behind g.places before) word after
+
+-- a value of an option that was given these before: it is given once, and its value passes its reader
+abbrev pub one_more_value : Setting → Text → List Text → Said → Said
+one_more_value k word [] after = if reader_of k word then after else not_taken
+one_more_value k word (before ∷ more) after = not_taken
+
+-- what a word behind the name of a program is
+pub data ProgramWord : Type 0 where
+  -- an option of the program, perhaps with a value behind an equals sign
+  setting : Setting → Option Text → ProgramWord
+  other : Word → ProgramWord
+
+abbrev pub setting_in : List Setting → Text × Option Text → Option (Setting × Option Text)
+setting_in options long = option_map (λ k. (k, long.1)) (setting_named options long.0)
+
+abbrev pub setting_or : Word → Option (Setting × Option Text) → ProgramWord
+setting_or kind None = other kind
+setting_or kind (Some s) = setting s.0 s.1
+
+abbrev pub program_word : Grammar → Text → ProgramWord
+program_word g word = setting_or (word_kind word) (option_and_then (setting_in g.options) (long_of word))
+
+-- words that are all values, behind what these parts say
+abbrev pub all_plain : Grammar → List Part → List Text → Said
+all_plain g parts [] = all_of parts
+all_plain g parts (word ∷ rest) = one_more_plain g (plain_words parts) word (all_plain g (parts ++ plain word ∷ []) rest)
+
+-- what the words come to behind some parts, where an option may wait for its value
+abbrev pub After : Type 0
+After = List Part → Option Setting → Said
+
+-- an option with nothing behind it in its word: a flag is given, and any other waits for its value
+abbrev pub next_alone : Bool → Setting → List Part → After → Said
+next_alone true k parts after = one_more_value k flag_value (values_of k parts) (after (parts ++ alone k ∷ []) None)
+next_alone false k parts after = after parts (Some k)
+
+-- an option with a value behind an equals sign, which a flag has not
+abbrev pub next_joined : Bool → Setting → Text → List Part → After → Said
+next_joined true k given parts after = not_taken
+next_joined false k given parts after = one_more_value k given (values_of k parts) (after (parts ++ joined k given ∷ []) None)
+
+-- a word by what it is, and the words after it
+abbrev pub next_part : Grammar → ProgramWord → List Part → Text → List Text → After → Said
+next_part g (setting k None) parts word rest after = next_alone (is_flag k) k parts after
+next_part g (setting k (Some given)) parts word rest after = next_joined (is_flag k) k given parts after
+next_part g (other value) parts word rest after = one_more_plain g (plain_words parts) word (after (parts ++ plain word ∷ []) None)
+next_part g (other dashes) parts word rest after = all_plain g parts rest
+next_part g (other call_for_help) parts word rest after = help_wanted
+next_part g (other call_for_version) parts word rest after = not_taken
+next_part g (other option) parts word rest after = not_taken
+
+-- a word behind an option that waits for its value
+abbrev pub next_value : ProgramWord → Setting → List Part → Text → After → Said
+next_value (other value) k parts word after =
+    one_more_value k word (values_of k parts) (after (parts ++ apart k word ∷ []) None)
+next_value _ k parts word after = not_taken
+
+abbrev pub next_word : Grammar → Option Setting → List Part → Text → List Text → After → Said
+next_word g None parts word rest after = next_part g (program_word g word) parts word rest after
+next_word g (Some k) parts word rest after = next_value (program_word g word) k parts word after
+
+abbrev pub no_more_words : Option Setting → List Part → Said
+no_more_words None parts = all_of parts
+no_more_words (Some k) parts = not_taken
+
+-- what the words behind the name of a program come to, behind what these parts say and where this option
+-- waits for its value: options stand before, between and behind the values
+abbrev pub said : Grammar → List Part → Option Setting → List Text → Said
+said g parts waits [] = no_more_words waits parts
+said g parts waits (word ∷ rest) = next_word g waits parts word rest (λ more now_waits. said g more now_waits rest)
+
+-- what all the words come to
+abbrev pub all_said : Grammar → List Text → Said
+all_said g words = said g [] None words
+
+-- ---- parts of a program
+
+-- an option of the program
+abbrev pub IsOption : Grammar → Setting → Type 0
+IsOption g k = setting_named g.options (name_of k) ≡ Some k
+
+-- a value, an option of the program that has one, or a flag of the program
+abbrev pub IsPart : Grammar → Part → Type 0
+IsPart g (plain word) = ⊤
+IsPart g (apart k word) = IsOption g k × (is_flag k ≡ false)
+IsPart g (joined k word) = IsOption g k × (is_flag k ≡ false)
+IsPart g (alone k) = IsOption g k × (is_flag k ≡ true)
+
+abbrev pub AreParts : Grammar → List Part → Type 0
+AreParts g [] = ⊤
+AreParts g (part ∷ rest) = IsPart g part × AreParts g rest
+
+-- it does not begin with a hyphen (45)
+abbrev pub HasNoHyphen : Text → Type 0
+HasNoHyphen word = slice_index word 0 ≢ 45
+
+-- the value of an option may be a word of its own: a number does not begin with a hyphen
+abbrev pub MayStandApart : Setting → Text → Type 0
+MayStandApart journal_option word = HasNoHyphen word
+MayStandApart _ word = ⊤
+
+-- each value that is the next word behind its option may be
+abbrev pub StandApart : List Part → Type 0
+StandApart [] = ⊤
+StandApart (apart k word ∷ rest) = MayStandApart k word × StandApart rest
+StandApart (_ ∷ rest) = StandApart rest

@@ -1,0 +1,46 @@
+-- What the words of `statement` say.
+use Rattle.std.specs.Prelude.{◌≡◌, ℕ, List, [], ◌∷◌, Option, true}
+use Rattle.pay_words.specs.OneWord.{Text, is_account, is_day, number_of}
+use Rattle.pay_words.specs.Options.{AreParts, Grammar, Part, plain_words, values_of}
+use Rattle.pay_words.specs.Options.{fares_place, zone_place, account_place, day_place, journal_option}
+use Rattle.pay_words.specs.Run.{listed}
+
+-- what `statement` is asked for
+pub record Statement : Type 0 where
+  pub fares : Text
+  pub zone : Text
+  pub account : ℕ
+  pub day : ℕ
+  pub journal : Option Text
+
+-- the words that `statement` is given
+pub record StatementTexts : Type 0 where
+  pub fares : Text
+  pub zone : Text
+  pub account : Text
+  pub day : Text
+  pub journal : Option Text
+
+abbrev pub statement_grammar : Grammar
+statement_grammar = record {
+  places = fares_place ∷ zone_place ∷ account_place ∷ day_place ∷ [];
+  options = journal_option ∷ [];
+}
+
+abbrev pub statement_of_texts : StatementTexts → Statement
+statement_of_texts t = record {
+  fares = t.fares;
+  zone = t.zone;
+  account = number_of t.account;
+  day = number_of t.day;
+  journal = t.journal;
+}
+
+-- its numbers are in their ranges
+abbrev pub HasNumbersInRange : StatementTexts → Type 0
+HasNumbersInRange t = (is_account t.account ≡ true) × (is_day t.day ≡ true)
+
+-- these parts are four values, in order, and the option at most once
+abbrev pub AreStatementParts : StatementTexts → List Part → Type 0
+AreStatementParts t parts = AreParts statement_grammar parts
+    × (plain_words parts ≡ t.fares ∷ t.zone ∷ t.account ∷ t.day ∷ []) × (values_of journal_option parts ≡ listed t.journal)
