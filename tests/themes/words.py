@@ -157,13 +157,13 @@ Arguments:
            (a name such as Europe/London is none)
 
 Options:
-      --port <P>      The port of the first lane, from 1 to 65535. Each further lane has the next
-                      port, and none is above 65535
+      --port <P>      The port of the first lane, from 1 to 65535. Each further lane has the
+                      next port, and none is above 65535
       --lanes <L>     How many lanes there are, from 1 to 15
       --shards <N>    How many shards the accounts are spread over, from 1 to 16
       --sessions <K>  How many connections each lane serves, from 1 to 1000
-      --close <DAY>   The service day that is closed at the end, counted from 1970-01-01: a number
-                      from 4 to 50000
+      --close <DAY>   The service day that is closed at the end, counted from 1970-01-01: a
+                      number from 4 to 50000
   -h, --help          Print help
 
 Lane l, from 0 to L - 1, listens on port P + l of 127.0.0.1 and serves K connections, one after
