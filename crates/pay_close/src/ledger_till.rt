@@ -1,8 +1,10 @@
 //! The close of a day over a desk and a ledger.
-ghost use Rattle.std.specs.Prelude.{◌≡◌, ◌≤◌};
+ghost use Rattle.std.specs.Prelude.{◌≡◌, ◌≤◌, OnOk};
 ghost use Rattle.sqlite.specs.Held.{state};
+ghost use Rattle.sqlite.specs.State.{HasCleanDisk};
 ghost use Rattle.pay_day.specs.declared.limits.TheConstants.{FIRST_DAY, LAST_DAY};
 ghost use Rattle.pay_shard.specs.Words.{AreKept};
+ghost use Rattle.pay_ledger.specs.Words.{IsOnDisk};
 ghost use Rattle.pay_session.specs.Words.{AreQuotes};
 ghost use Rattle.pay_close.specs.Closes.{IsClosedSoAt};
 ghost use Rattle.pay_close.specs.Gathers.{IsAskedAt};
@@ -28,6 +30,7 @@ pub fn close<D: Desk, S: Alter>(
     requires { (FIRST_DAY ≤ day) × (day ≤ LAST_DAY) }
     ensures closed { IsAskedAt D.parts desk.old desk.new (AreQuotes day (D.parts desk.old).standing.shards 0)
         (IsClosedSoAt D.parts desk.old (state S.Store ledger.old) (state S.Store ledger.new) result) }
+    ensures lasts { HasCleanDisk (state S.Store ledger.new) → OnOk result (IsOnDisk (state S.Store ledger.new)) }
     ensures transcript { AreKept (D.parts desk.old).transcript (D.parts desk.new).transcript }
     ensures same_desk { (D.parts desk.new).standing ≡ (D.parts desk.old).standing }
 {

@@ -4,6 +4,8 @@ pub mod OneReading
 pub mod Keeps
 pub mod Opening
 pub mod Steps
+pub mod Bare
+pub mod Files
 pub mod Calls
 pub mod WorkedRows
 pub mod Words

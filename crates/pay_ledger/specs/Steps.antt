@@ -58,11 +58,16 @@ IsRefused fault answer = IsTrue (is_of_store fault) ⊎ ((why : PostFault) × (f
 abbrev pub BecomesPosted : Database → Database → List QuoteParts × List SetsParts → List Posting → Type 0
 BecomesPosted old new asked given = (ledger : LedgerParts) → IsLedger old ledger → (after : LedgerParts) × (posted ledger asked.0 asked.1 ≡ Ok (given, after)) × IsLedger new after × KeepsOthers old new
 
--- quotes were posted and sets archived, and it is committed
+-- every crash leaves just what is there
+unfoldable pub IsOnDisk : State → Type 0
+IsOnDisk s = (trees : Trees) → s.may_leave trees → trees ≡ s.now.trees
+
+-- quotes were posted and sets archived, and it is committed and on the disk
 pub record Posts (old new : State) (quotes : List QuoteParts) (sets : List SetsParts) (given : List Posting) : Type 0 where
   pub was_open : IsTrue old.is_open
   pub is_open : IsTrue new.is_open
   pub committed : new.committed ≡ new.now
+  pub lasts : IsOnDisk new
   pub ledger : BecomesPosted old.now new.now (quotes, sets) given
 
 -- nothing was

@@ -9,7 +9,7 @@ use thiserror::Error;
 /// Why a database is not opened as a ledger.
 #[derive(Clone, Copy, Debug, PartialEq, Eq, Error)]
 pub enum OpenFault {
-    /// 40: it has some of a ledger's tables and not all, or its one row that names it is missing.
+    /// 40: it has some of a ledger's tables and not all, its one row that names it is missing, or its file holds no database.
     #[error("40 NotALedger")]
     NotALedger,
     /// 41: it is a ledger of another version.

@@ -8,10 +8,12 @@ ghost use Rattle.pay_postings.specs.declared.fault.PostFault.TheVariants.{BadArc
 ghost use Rattle.pay_restore.specs.Words.{ArePriced, restored};
 ghost use Rattle.pay_records.specs.Words.{OnCleanDisk, LeavesAsBeforeOr, LeavesAsBefore, Answers, IsFree};
 ghost use Rattle.pay_ledger.specs.Opening.{HasNoView, IsWhy, IsOpened, BlankJustGrows, MayLeaveOpened};
-ghost use Rattle.pay_ledger.specs.Steps.{Posts, MayLeave};
+ghost use Rattle.pay_ledger.specs.Steps.{IsOnDisk, Posts, MayLeave};
+ghost use Rattle.pay_ledger.specs.Bare.{is_bare, has_bare_rows};
 ghost use Rattle.pay_ledger.specs.BadRows.{ReadsAs, net_said, asked};
-ghost use Rattle.pay_ledger.specs.Calls.{ChangesNothing, ChangesNothingIfRefused, AnswersOfLedger, AnswersOfRows, AnswersOfReadable, FailsByStoreAlone, RefusesAsDefined, RefusesOpenAlone, RefusesBadRows, RefusesBadAmounts, RefusesBadRowsFirst, AreAccountsOf, RestoresRows, RestoresLedger};
+ghost use Rattle.pay_ledger.specs.Calls.{ChangesNothing, ChangesNothingIfRefused, AnswersOfLedger, AnswersOfRows, AnswersOfReadable, FailsByStoreAlone, FailsByStoreAloneOfRows, RefusesAsDefined, RefusesOpenAlone, RefusesBadRows, RefusesBadAmounts, RefusesBadRowsFirst, AreAccountsOf, RestoresRows, RestoresLedger};
 
+use crate::crashes::settled;
 use crate::fault::{LedgerFault, OpenFault};
 use crate::lookup::{Archive, archive_of, net_of, of_week, posted_of};
 use crate::opening::prepare;
@@ -66,6 +68,7 @@ impl<S: Alter> Ledger<S> {
         requires { conn.in_transaction ≡ false }
         ensures opened { IfOk result (λ ledger. OnCleanDisk S.Store conn ledger IsOpened) }
         ensures grows { IfOk result (λ ledger. OnCleanDisk S.Store conn ledger (λ old new. BlankJustGrows old.now new.now)) }
+        ensures lasts { IfOk result (λ ledger. OnCleanDisk S.Store conn ledger (λ _ new. IsOnDisk new)) }
         ensures no_view { IfOk result (λ ledger. OnCleanDisk S.Store conn ledger (λ old _. HasNoView old.now)) }
         ensures refused { IfErr result (λ e. OnCleanDisk S.Store conn e.1 (λ old _. IsWhy e.0 old.now)) }
         ensures of_blank { IfErr result (λ e. OnCleanDisk S.Store conn e.1 (λ old _. IsFree old.now → e.0 ≡ OpenFault.Store)) }
@@ -75,7 +78,10 @@ impl<S: Alter> Ledger<S> {
         ensures survives_err { IfErr result (λ e. LeavesAsBeforeOr S.Store conn e.1 MayLeaveOpened) }
     {
         match prepare(&mut conn) {
-            Ok(()) => Ok(Ledger { alloc, conn }),
+            Ok(()) => {
+                settled(&conn);
+                Ok(Ledger { alloc, conn })
+            }
             Err(fault) => Err((fault, conn)),
         }
     }
@@ -139,6 +145,18 @@ impl<S: Alter> Ledger<S> {
     {
         let archive = archive_of(self.alloc, &mut self.conn)?;
         accounts_of(self.alloc, tables, &archive)
+    }
+
+    /// Whether nothing is archived, so that there is no account to restore. The rows of the whole archive are read.
+    pub fn archives_nothing(&mut self) -> Result<bool, LedgerFault>
+        ensures told { AnswersOfLedger S.Store self.old self.new result (λ ledger none. none ≡ is_bare ledger) }
+        ensures rows { AnswersOfRows S.Store self.old self.new result (λ rows none. none ≡ has_bare_rows rows) }
+        ensures never_bad { FailsByStoreAloneOfRows S.Store self.old self.new result }
+        ensures kept { ChangesNothing S.Store self.old self.new }
+        ensures survives { LeavesAsBefore S.Store self.old self.new }
+    {
+        let archive = archive_of(self.alloc, &mut self.conn)?;
+        Ok(archive.is_bare())
     }
 
     /// The connection.

@@ -1,7 +1,9 @@
-//! The ledger in a database: what was posted, and the archive of what it was priced by.
+//! The ledger in a database: what was posted, and the archive of what it was priced by. [`open_file`] opens one in a file.
 #![tactic(auto)]
 
+mod crashes;
 mod fault;
+mod file;
 mod ledger;
 mod lookup;
 mod opening;
@@ -10,4 +12,5 @@ mod read;
 mod write;
 
 pub use fault::{LedgerFault, OpenFault};
+pub use file::{Ledgers, open_file};
 pub use ledger::Ledger;

@@ -3,6 +3,7 @@ ghost use Rattle.pay_postings.specs.Words.{postings_of, net_from_rows};
 ghost use Rattle.pay_postings.specs.AccountRows.{of_account};
 ghost use Rattle.pay_records.specs.Words.{LeavesAsBefore};
 ghost use Rattle.pay_ledger.specs.BadRows.{ReadsAs, net_said, IsNetOf};
+ghost use Rattle.pay_ledger.specs.Bare.{are_none};
 ghost use Rattle.pay_ledger.specs.Calls.{ChangesNothing, GoesOnIfDone, StaysIfRefused, AnswersOfLedger, AnswersOfRows, FailsByStoreAlone, FailsByStoreAloneOfRows, RefusesBadRows, RefusesBadAmounts};
 
 use crate::fault::LedgerFault;
@@ -115,6 +116,15 @@ pub(crate) fn of_week(
 pub(crate) struct Archive {
     pub(crate) taps: Vec<(i64, TapRow)>,
     pub(crate) fixes: Vec<(i64, FixRow)>,
+}
+
+impl Archive {
+    /// Neither a tap nor a correction is archived.
+    pub(crate) fn is_bare(&self) -> bool
+        ensures { result ≡ are_none self.now.taps.items self.now.fixes.items }
+    {
+        self.taps.is_empty() && self.fixes.is_empty()
+    }
 }
 
 fn read_archive<S: Alter>(

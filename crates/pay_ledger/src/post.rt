@@ -8,6 +8,7 @@ ghost use Rattle.pay_ledger.specs.BadRows.{asked};
 ghost use Rattle.pay_ledger.specs.Steps.{BecomesPosted, Posts, MayLeave};
 ghost use Rattle.pay_ledger.specs.Calls.{ChangesNothingIfRefused, GoesOnIfDone, StaysIfRefused, GrowsInside, FindsInLedger, AnswersOfReadable, RefusesAsDefined, RefusesOpenAlone, RefusesBadRowsFirst};
 
+use crate::crashes::settled;
 use crate::fault::LedgerFault;
 use crate::read::{ask, read_quoted, read_sets};
 use crate::write::{write_fixes, write_postings, write_taps};
@@ -136,5 +137,6 @@ pub(crate) fn post<S: Alter>(
     let mut tx = conn.transaction();
     let given = post_in(alloc, &mut tx, quotes, sets)?;
     tx.commit()?;
+    settled(conn);
     Ok(given)
 }

@@ -10,10 +10,10 @@ use crate::ledger::{
 };
 use crate::lines::expect_run;
 use pay_account::{Account, Fares};
-use pay_ledger::{Ledger, LedgerFault, OpenFault};
+use pay_ledger::{Ledger, LedgerFault, Ledgers, OpenFault};
 use pay_postings::PostFault;
 use pay_taps::Kind;
-use sqlite::{Alter, Connection, Error, MemStore};
+use sqlite::{Alter, Connection, Error, MemStore, Wary};
 use std::fs;
 use std::process::Abort;
 
@@ -255,4 +255,29 @@ fn stays_in_a_file(rt: HostRuntime) {
     expect_restored(&rt, &mut ledger, &sample(&rt), &[(7, 2, 340)]);
     let closed = ledger.into_connection().close();
     closed.expect(&rt, "the file once more");
+}
+
+/// Another file there, which is made anew.
+const OTHER: &str = "other.db";
+
+/// Its log.
+const OTHER_LOG: &str = "other.db-wal";
+
+// It is in use by the first, then dropped with all that was posted still in its log, and at last no database.
+#[test]
+fn opens_a_file_by_its_path(rt: HostRuntime) {
+    let _ = fs::remove_file(&rt, OTHER);
+    let _ = fs::remove_file(&rt, OTHER_LOG);
+    let mut ledger = rt.ledger(OTHER, Wary).expect(&rt, "a new file");
+    expect_same(&rt, ledger.archives_nothing(), Ok(true));
+    expect_run(&rt, &mut ledger, LINES, 4, REPLIES);
+    expect_same(&rt, rt.ledger(OTHER, Wary).err(), Some(OpenFault::Store));
+    drop(ledger);
+    let mut again = rt.ledger(OTHER, Wary).expect(&rt, "the file again");
+    expect_same(&rt, again.archives_nothing(), Ok(false));
+    rt.close(expect_rows(&rt, again, JOURNEY));
+    let no_database = fs::write(&rt, OTHER, b"no database".as_slice());
+    no_database.expect(&rt, "a file of text");
+    expect_same(&rt, rt.ledger(OTHER, Wary).err(), Some(OpenFault::NotALedger));
+    expect_same(&rt, rt.ledger(".", Wary).err(), Some(OpenFault::Store));
 }

@@ -1,0 +1,94 @@
+//! A ledger in a file.
+ghost use Rattle.std.specs.Prelude.{◌≡◌, false, [], IfOk, IfErr};
+ghost use Rattle.sqlite.specs.Files.{file_state, over_files};
+ghost use Rattle.sqlite.specs.Start.{FindsIn};
+ghost use Rattle.sqlite.specs.State.{HasCleanDisk, Opens};
+ghost use Rattle.sqlite.specs.Steps.{IsEmpty};
+ghost use Rattle.sqlite.specs.WalFiles.{image_at};
+ghost use Rattle.pay_ledger.specs.Files.{fault_of_file, IsUnopened, IsOpenedOf, IsNotOpenedFrom};
+ghost use Rattle.pay_ledger.specs.Keeps.{IsLedger};
+ghost use Rattle.pay_ledger.specs.Opening.{nothing};
+
+use crate::fault::OpenFault;
+use crate::ledger::Ledger;
+use pay_disk::open_database;
+use sqlite::{Connection, Error, ErrorCode, FileFrom, FileStore, Start};
+
+/// Why there is no ledger where no database was opened.
+fn fault_of_file(error: Error) -> OpenFault
+    ensures { result ≡ fault_of_file error }
+{
+    match error {
+        Error::SqliteFailure(ErrorCode::NotADatabase) => OpenFault::NotALedger,
+        _ => OpenFault::Store,
+    }
+}
+
+/// The database in the file at a path, or why there is no ledger.
+fn database_at<S: Start>(
+    rt: &HostRuntime,
+    path: &str,
+    start: S,
+) -> Result<Connection<FileStore<FileFrom<S>>>, OpenFault>
+    ensures opened { IfOk result (λ c. HasCleanDisk (file_state c) → Opens (file_state c) × FindsIn (image_at S.Start) (file_state c)) }
+    ensures empty { IfOk result (λ c. HasCleanDisk (file_state c) → S.Start.db ≡ [] → IsEmpty (file_state c)) }
+    ensures autocommit { IfOk result (λ c. c.in_transaction ≡ false) }
+    ensures refused { IfErr result IsUnopened }
+{
+    match open_database(rt, path, start) {
+        Ok(conn) => Ok(conn),
+        Err(error) => Err(fault_of_file(error)),
+    }
+}
+
+/// Opens the file at a path as a ledger, which is made where there is none: the file and the log beside it too. `S` stands for what
+/// the two held. `NotALedger` also where the file holds no database that keeps its own rules, and `Store` where it is in use, a page
+/// of it is damaged, or it is not to be made, read or written.
+pub fn open_file<S: Start>(
+    rt: &HostRuntime,
+    path: &str,
+    start: S,
+) -> Result<Ledger<FileStore<FileFrom<S>>>, OpenFault>
+    ensures opened { IfOk result (λ ledger. IsOpenedOf over_files (FindsIn (image_at S.Start)) ledger) }
+    ensures empty { IfOk result (λ ledger. HasCleanDisk (file_state ledger) → S.Start.db ≡ [] → IsLedger (file_state ledger).now nothing) }
+    ensures refused { IsNotOpenedFrom (image_at S.Start) result }
+{
+    let conn = database_at(rt, path, start)?;
+    match Ledger::open(rt.alloc(), conn) {
+        Ok(ledger) => Ok(ledger),
+        Err((fault, _)) => Err(fault),
+    }
+}
+
+/// What opens a ledger at a path.
+pub trait Ledgers {
+    /// Opens the file at a path as a ledger, which is made where there is none. `S` stands for what the file and the log beside it
+    /// held: a program passes `Wary`.
+    fn ledger<S: Start>(
+        &self,
+        path: &str,
+        start: S,
+    ) -> Result<Ledger<FileStore<FileFrom<S>>>, OpenFault>
+        ensures opened { IfOk result (λ ledger. IsOpenedOf over_files (FindsIn (image_at S.Start)) ledger) }
+        ensures empty { IfOk result (λ ledger. HasCleanDisk (file_state ledger) → S.Start.db ≡ [] → IsLedger (file_state ledger).now nothing) }
+        ensures refused { IsNotOpenedFrom (image_at S.Start) result };
+
+    /// Ends with a ledger. What its log has is copied into the file, which then has all by itself; where that fails, the two have it
+    /// together, as they had before.
+    fn close<S: Start>(&self, ledger: Ledger<FileStore<FileFrom<S>>>);
+}
+
+/// The files of the system.
+impl Ledgers for HostRuntime {
+    fn ledger<S: Start>(
+        &self,
+        path: &str,
+        start: S,
+    ) -> Result<Ledger<FileStore<FileFrom<S>>>, OpenFault> {
+        open_file(self, path, start)
+    }
+
+    fn close<S: Start>(&self, ledger: Ledger<FileStore<FileFrom<S>>>) {
+        let _ = ledger.into_connection().close();
+    }
+}
