@@ -1,5 +1,5 @@
 -- What a crash leaves of an open connection outside a transaction.
-use Rattle.std.proofs.Common.{◌≡◌, Bool, true, false, not, IsTrue, refl, sym, ap, ◌∙◌}
+use Rattle.std.proofs.Common.{◌≡◌, Bool, false, not, IsTrue, sym, ap, ◌∙◌}
 use Rattle.sqlite.specs.State.{State}
 use Rattle.sqlite.specs.Tree.{Trees}
 use Rattle.pay_ledger.specs.Steps.{IsOnDisk}
