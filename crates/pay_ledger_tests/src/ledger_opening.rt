@@ -278,6 +278,10 @@ fn opens_a_file_by_its_path(rt: HostRuntime) {
     rt.close(expect_rows(&rt, again, JOURNEY));
     let no_database = fs::write(&rt, OTHER, b"no database".as_slice());
     no_database.expect(&rt, "a file of text");
-    expect_same(&rt, rt.ledger(OTHER, Wary).err(), Some(OpenFault::NotALedger));
+    expect_same(
+        &rt,
+        rt.ledger(OTHER, Wary).err(),
+        Some(OpenFault::NotALedger),
+    );
     expect_same(&rt, rt.ledger(".", Wary).err(), Some(OpenFault::Store));
 }
