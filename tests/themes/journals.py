@@ -474,7 +474,8 @@ def journals_that_cannot_be(folder):
     for name, path in no_files(folder):
         yield name, run_file(with_journal(path), given, leaves=True), CANNOT_USE._replace(left=lines)
         yield f"{name}, and no input", run(with_journal(path, RUN, "--sync")), CANNOT_USE
-    for name, path in (("a folder", folder), ("a file in no folder", os.path.join(folder, "no", "journal"))):
+    fifo, no = os.path.join(folder, "fifo"), os.path.join(folder, "no", "journal")
+    for name, path in (("a folder", folder), ("a file in no folder", no), ("a pipe with a name", fifo), ("a device that takes all", "/dev/null")):
         yield f"a statement, {name}", run_file(with_journal(path, STATE), given, leaves=True), CANNOT_USE._replace(left=lines)
         yield f"a replay, {name}", replayed(given, path), CANNOT_USE
 

@@ -23,10 +23,18 @@ pub fn open_journal<R: Files<File = File> + AllocGlobal>(
 
 /// The bytes of the journal at a path, which is only read.
 pub fn read_journal<R: Files + AllocGlobal>(rt: &R, path: &str) -> Result<Vec<u8>, Fault> {
-    match fs::read(rt, path) {
+    match bytes_of(rt, path) {
         Ok(past) => Ok(past),
         Err(error) => Err(memory_or(&error, Fault::CannotUseJournal)),
     }
+}
+
+/// The bytes of the file at a path. What is no file is not opened, since that could wait for another program.
+fn bytes_of<R: Files + AllocGlobal>(rt: &R, path: &str) -> io::Result<Vec<u8>> {
+    if !fs::metadata(rt, path)?.is_file() {
+        return Err(io::Error::from(ErrorKind::InvalidInput));
+    }
+    fs::read(rt, path)
 }
 
 /// The bytes of the file at a path, and the file, at whose end lines are added.
