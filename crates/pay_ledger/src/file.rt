@@ -72,10 +72,6 @@ pub trait Ledgers {
         ensures opened { IfOk result (λ ledger. IsOpenedOf over_files (FindsIn (image_at S.Start)) ledger) }
         ensures empty { IfOk result (λ ledger. HasCleanDisk (file_state ledger) → S.Start.db ≡ [] → IsLedger (file_state ledger).now nothing) }
         ensures refused { IsNotOpenedFrom (image_at S.Start) result };
-
-    /// Ends with a ledger. What its log has is copied into the file, which then has all by itself; where that fails, the two have it
-    /// together, as they had before.
-    fn close<S: Start>(&self, ledger: Ledger<FileStore<FileFrom<S>>>);
 }
 
 /// The files of the system.
@@ -86,9 +82,5 @@ impl Ledgers for HostRuntime {
         start: S,
     ) -> Result<Ledger<FileStore<FileFrom<S>>>, OpenFault> {
         open_file(self, path, start)
-    }
-
-    fn close<S: Start>(&self, ledger: Ledger<FileStore<FileFrom<S>>>) {
-        let _ = ledger.into_connection().close();
     }
 }

@@ -275,7 +275,8 @@ fn opens_a_file_by_its_path(rt: HostRuntime) {
     drop(ledger);
     let mut again = rt.ledger(OTHER, Wary).expect(&rt, "the file again");
     expect_same(&rt, again.archives_nothing(), Ok(false));
-    rt.close(expect_rows(&rt, again, JOURNEY));
+    let closed = expect_rows(&rt, again, JOURNEY).into_connection().close();
+    closed.expect(&rt, "the file once more");
     let no_database = fs::write(&rt, OTHER, b"no database".as_slice());
     no_database.expect(&rt, "a file of text");
     expect_same(
