@@ -170,7 +170,7 @@ impl<R: Threads + Wait + Abort + AllocGlobal + Copy> Desked<R> {
     }
 
     // Shuts the office.
-    fn shut(self, rt: R) -> Ended {
+    fn shut(self, rt: R) -> Ended<Counting> {
         laws::still_together();
         laws::same_workers();
         let Desked { office, desk } = self;
@@ -181,7 +181,7 @@ impl<R: Threads + Wait + Abort + AllocGlobal + Copy> Desked<R> {
 }
 
 // How many items the journal of a shard has.
-fn journal_len<R: Abort>(rt: &R, ended: &Ended, shard: usize) -> usize {
+fn journal_len<R: Abort>(rt: &R, ended: &Ended<Counting>, shard: usize) -> usize {
     ended.journals.get(shard).expect(rt, "a journal").len()
 }
 

@@ -4,7 +4,7 @@ ghost use Rattle.pay_lanes.specs.Words.{LaneParts, WorkerParts, AreTogether, IsS
 
 use crate::given::{bus_tap, expect_same, opened};
 use pay_account::Fares;
-use pay_lanes::{EndFault, Ended, Gate, Lane, Opened, Turn, Worker, end, laws};
+use pay_lanes::{EndFault, Ended, Gate, Lane, OpenGate, Opened, Turn, Worker, end, laws};
 use pay_shard::{Asked, Entry};
 use std::process::Abort;
 use std::sync::Wait;
@@ -81,7 +81,7 @@ fn first_turn<F: Fares, G: Gate, R: Abort + Wait>(rt: &R, workers: &mut Vec<Work
 }
 
 // What stands when one of two lanes has sent the taps, and the worker of the first of two shards has answered one.
-fn ended_early<R: Abort + Wait + AllocGlobal>(rt: &R) -> Ended {
+fn ended_early<R: Abort + Wait + AllocGlobal>(rt: &R) -> Ended<OpenGate> {
     let Opened { mut workers, lanes } = opened(rt, 2, 2);
     let lanes = sent(rt, lanes);
     expect_same(rt, first_turn(rt, &mut workers), Turn::Did(0));
@@ -97,14 +97,14 @@ fn account(entry: &Entry) -> Option<u32> {
 }
 
 // How many items the journal of a shard has, and the account of the first.
-fn journal<R: Abort>(rt: &R, ended: &Ended, shard: usize) -> (usize, Option<u32>) {
+fn journal<R: Abort>(rt: &R, ended: &Ended<OpenGate>, shard: usize) -> (usize, Option<u32>) {
     let journal = ended.journals.get(shard).expect(rt, "a journal");
     let first = journal.get(0).and_then(|item| account(&item.entry));
     (journal.len(), first)
 }
 
 // So what was left of a shard are taps of these accounts, in order.
-fn expect_left<R: Abort>(rt: &R, ended: &Ended, shard: usize, accounts: &[u32]) {
+fn expect_left<R: Abort>(rt: &R, ended: &Ended<OpenGate>, shard: usize, accounts: &[u32]) {
     let left = ended.left.get(shard).expect(rt, "what was left");
     expect_same(rt, left.len(), accounts.len());
     for (entry, number) in left.iter().zip(accounts) {

@@ -1,7 +1,7 @@
 //! Gates that count, and wait until a count is high enough.
 
 use pay_lanes::Gate;
-use pay_shard::Entry;
+use pay_shard::{Answer, Entry};
 use std::process::Abort;
 use std::sync::atomic::{AtomicU64, Ordering};
 use std::sync::{Arc, Wait};
@@ -111,15 +111,38 @@ pub struct Counting {
     opens_at: u64,
     // How often it looks at most; or else it waits until it is opened.
     looks: Option<u64>,
+    // How many answers it lets pass still.
+    passes: u64,
+}
+
+impl Counting {
+    /// How many answers it lets pass still.
+    pub fn passes(&self) -> u64 {
+        self.passes
+    }
 }
 
 impl Gate for Counting {
+    ghost use Rattle.std.specs.Prelude.{⊤, None};
+
+    ghost Holds = { λ _ _. ⊤ };
+
+    ghost began = { λ _. None };
+
     fn before_job<R: Wait>(&mut self, rt: &R, _shard: u8, _entry: &Entry) {
         self.counts.entered.fetch_add(1, Ordering::SeqCst);
         match self.looks {
             Some(looks) => self.counts.look(self.opens_at, looks),
             None => self.counts.rest(rt, self.opens_at),
         }
+    }
+
+    fn after_job<R: Wait>(&mut self, _rt: &R, _entry: &Entry, _answer: &Answer) -> bool {
+        if self.passes == 0 {
+            return false;
+        }
+        self.passes -= 1;
+        true
     }
 }
 
@@ -136,8 +159,22 @@ pub fn gates<R: Abort + AllocGlobal>(
             counts: counts.again(rt),
             opens_at: *opens_at,
             looks,
+            passes: u64::MAX,
         };
         gates.push(gate).expect(rt, "memory");
     }
+    gates
+}
+
+/// One gate, which waits for nothing and lets so many answers pass.
+pub fn passing<R: Abort + AllocGlobal>(rt: &R, passes: u64) -> Vec<Counting> {
+    let gate = Counting {
+        counts: Counts::new(rt),
+        opens_at: 0,
+        looks: Some(1),
+        passes,
+    };
+    let mut gates = Vec::new(rt.alloc());
+    gates.push(gate).expect(rt, "memory");
     gates
 }

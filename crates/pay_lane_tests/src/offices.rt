@@ -3,7 +3,7 @@ ghost use Rattle.std.specs.Prelude.{ℕ, List, length};
 ghost use Rattle.pay_lanes.specs.Words.{WorkerParts, AreTogether, IsSameLane};
 ghost use Rattle.pay_shard.specs.Words.{IsForShards};
 
-use crate::gates::{Counting, Counts, gates};
+use crate::gates::{Counting, Counts, gates, passing};
 use crate::given::{bus_tap, due, expect_same, one_route, pence};
 use pay_book::Book;
 use pay_lanes::{Lane, SendFault, laws};
@@ -125,14 +125,14 @@ impl Begun {
     }
 
     // Shuts the office.
-    fn shut<R: Abort + Threads + Wait + AllocGlobal>(self, rt: &R) -> Ended {
+    fn shut<R: Abort + Threads + Wait + AllocGlobal>(self, rt: &R) -> Ended<Counting> {
         let Begun { office, lanes } = self;
         shut(rt, office, lanes).ok().expect(rt, "all lanes")
     }
 }
 
 // So a shard was asked one command, by this lane.
-fn expect_job<R: Abort>(rt: &R, ended: &Ended, shard: usize, lane: u8, command: Command) {
+fn expect_job<R: Abort>(rt: &R, ended: &Ended<Counting>, shard: usize, lane: u8, command: Command) {
     let journal = ended.journals.get(shard).expect(rt, "a journal");
     let entry = journal.get(0).expect(rt, "an item").entry;
     expect_same(
@@ -271,4 +271,27 @@ fn a_lane_is_missing(rt: HostRuntime) {
     let ended = begun.shut(&rt);
     let journal = ended.journals.first().expect(&rt, "a journal");
     expect_same(&rt, journal.len(), 2);
+}
+
+// How many answers the gate of the first shard lets pass still.
+fn still_passes<R: Abort>(rt: &R, ended: &Ended<Counting>) -> u64 {
+    ended.gates.first().expect(rt, "a gate").passes()
+}
+
+// Where the gate does not let the third answer pass, the lane gets two, and nothing more is popped.
+#[test]
+fn a_gate_that_holds_the_third_answer(rt: HostRuntime) {
+    let mut begun = begin(rt, 1, passing(&rt, 2));
+    for ticket in 0..5u32 {
+        let tap = bus_tap(&rt, 7, 1, ticket.saturating_mul(7_200));
+        expect_same(&rt, begun.send(&rt, 0, tap), Ok(u64::from(ticket)));
+    }
+    expect_same(&rt, begun.take(&rt, 0, LONG), Some((0, Some(175))));
+    expect_same(&rt, begun.take(&rt, 0, LONG), Some((1, Some(350))));
+    expect_same(&rt, begun.take(&rt, 0, 100), None);
+    let ended = begun.shut(&rt);
+    expect_same(&rt, still_passes(&rt, &ended), 0);
+    let journal = ended.journals.get(0).expect(&rt, "a journal");
+    let left = ended.left.get(0).expect(&rt, "what was left");
+    expect_same(&rt, (journal.len(), left.len()), (3, 2));
 }

@@ -29,6 +29,12 @@ struct Yielding {
 }
 
 impl Gate for Yielding {
+    ghost use Rattle.std.specs.Prelude.{⊤, None};
+
+    ghost Holds = { λ _ _. ⊤ };
+
+    ghost began = { λ _. None };
+
     fn before_job<R: Wait>(&mut self, _rt: &R, _shard: u8, _entry: &Entry) {
         self.state = self
             .state
@@ -37,6 +43,10 @@ impl Gate for Yielding {
         for _ in 0..self.state >> 30 {
             thread::yield_now();
         }
+    }
+
+    fn after_job<R: Wait>(&mut self, _rt: &R, _entry: &Entry, _answer: &Answer) -> bool {
+        true
     }
 }
 
@@ -108,13 +118,17 @@ fn run_lane<R: Wait + Abort>(rt: &R, alloc: Global, mut lane: Lane) -> (Lane, Ve
     (lane, taken)
 }
 
-// Takes turns until all taps are answered.
+// Takes turns until all taps are answered. Where a lane has no room it lets others run, which have to take what is there.
 fn run_worker<F: Fares, G: Gate, R: Wait>(rt: &R, mut worker: Worker<F, G>) -> Worker<F, G>
     ensures { IsSameWorker worker result }
 {
     laws::same_workers();
     for _ in rt.forever() {
-        if worker.turn(rt) == Turn::Idle {
+        let turn = worker.turn(rt);
+        if turn == Turn::Held {
+            thread::yield_now();
+        }
+        if turn == Turn::Idle {
             if worker.shard().journal().len() >= 2 * TAPS as usize {
                 break;
             }
@@ -139,7 +153,7 @@ fn run_all<F: Fares, G: Gate, R>(
     rt: R,
     alloc: Global,
     opened: Opened<F, G>,
-) -> (Ended, Vec<Answer>, Vec<Answer>)
+) -> (Ended<G>, Vec<Answer>, Vec<Answer>)
 where
     R: Threads + Wait + Abort + Copy + Send + 'static,
     requires together { AreTogether opened.workers.items opened.lanes.items }

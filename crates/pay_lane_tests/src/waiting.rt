@@ -1,8 +1,9 @@
 //! What waits, and what is refused while it does.
 
+use crate::gates::{Counting, passing};
 use crate::given::{due, expect_same, gates, one_route, opened, pence};
 use pay_book::Book;
-use pay_lanes::{Lane, OpenFault, OpenGate, Opened, SendFault, Turn, open};
+use pay_lanes::{Lane, OpenFault, OpenGate, Opened, SendFault, Turn, Worker, open};
 use std::process::Abort;
 use std::sync::Wait;
 
@@ -73,4 +74,28 @@ fn sixteen_of_a_lane_and_sixty_four_of_a_shard(rt: HostRuntime) {
     }
     expect_same(&rt, asked(&rt, &mut lanes, 0), Ok(16));
     expect_same(&rt, asked(&rt, &mut lanes, 4), Ok(0));
+}
+
+#[test]
+fn nothing_after_an_answer_that_is_held(rt: HostRuntime) {
+    let Opened {
+        mut workers,
+        mut lanes,
+    } = open(rt.alloc(), one_route(&rt), 1, 1, passing(&rt, 2))
+        .ok()
+        .expect(&rt, "memory");
+    let worker: &mut Worker<Book, Counting> = workers.first_mut().expect(&rt, "a worker");
+    for ticket in 0..4 {
+        expect_same(&rt, asked(&rt, &mut lanes, 0), Ok(ticket));
+    }
+    for place in 0..3 {
+        expect_same(&rt, worker.turn(&rt), Turn::Did(place));
+    }
+    for _ in 0..2 {
+        expect_same(&rt, worker.turn(&rt), Turn::Shut);
+    }
+    expect_same(&rt, worker.shard().journal().len(), 3);
+    expect_same(&rt, taken(&rt, &mut lanes, 0), Some((0, Some(0))));
+    expect_same(&rt, taken(&rt, &mut lanes, 0), Some((1, Some(0))));
+    expect_same(&rt, taken(&rt, &mut lanes, 0), None);
 }

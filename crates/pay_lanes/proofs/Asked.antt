@@ -1,10 +1,10 @@
 -- What lanes send to a shard is asked of it, and so is what stands in its journal.
-use Rattle.std.proofs.Common.{◌≡◌, ℕ, zero, suc, ◌+◌, ◌<◌, ◌≤◌, ◌⊎◌, ⊎_elim, eqb, Bool, true, if◌then◌else◌, List, [], ◌∷◌, ◌++◌, All, map, length, get_or, false, refl, sym, ap, ◌∙◌, subst, arith, eq-eqb}
+use Rattle.std.proofs.Common.{◌≡◌, ℕ, zero, suc, ◌+◌, ◌<◌, ◌≤◌, ⊎_elim, eqb, Bool, true, if◌then◌else◌, List, [], ◌∷◌, ◌++◌, All, map, length, get_or, false, refl, sym, ap, ◌∙◌, subst, arith, eq-eqb}
 use Rattle.std.specs.Prelude.{⊤}
 use Rattle.std.proofs.lemmas.Bool.{cases_lt}
 use Rattle.std.specs.List.{range_with_len}
 use Rattle.std.proofs.lemmas.List.Elements.{All-nil, All-cons, All-head, All-tail, All-push, All-weaker}
-use Rattle.pay_mailbox.specs.Words.{SenderParts, having_sent, of}
+use Rattle.pay_mailbox.specs.Words.{SenderParts, of}
 use Rattle.pay_shard.specs.Words.{IsAskedOf, IsForShards}
 use Rattle.pay_shard.specs.declared.asked.Asked.{Asked}
 use Rattle.pay_shard.specs.declared.asked.Asked.TheVariants as asked

@@ -3,6 +3,7 @@ use denote.RattleType.{RattleType}
 use denote.Param.Send.{IsSend, sendable}
 use Rattle.std.proofs.Crossing.{crosses}
 use Rattle.pay_account.specs.declared.fares.Fares as fares
+use Rattle.pay_lanes.specs.declared.gate.Gate as gates
 use Rattle.pay_shard.specs.contracts.shard.Shard as shard
 use Rattle.pay_lanes.specs.contracts.worker.Worker as worker
 use Rattle.pay_shard.proofs.accounts.Accounts.TheSendSync as accounts
@@ -17,5 +18,5 @@ module _ (F : RattleType) (g : fares.Ghosts F.Denot) where
   Shard-send : IsSend F → IsSend (shard.the_row F g)
   Shard-send s = search (accounts.the_send, journal.the_send, crosses, sendable) depth 8
 
-  pub Worker-send : (G : RattleType) → IsSend F → IsSend G → IsSend (worker.the_row F G g)
-  Worker-send G s t = search (Shard-send, inbox.the_send, outbox.the_send, outgoing.the_send, entry.the_send, answer.the_send, crosses, sendable) depth 14
+  pub Worker-send : (G : RattleType) (h : gates.Ghosts G.Denot) → IsSend F → IsSend G → IsSend (worker.the_row F G g h)
+  Worker-send G h s t = search (Shard-send, inbox.the_send, outbox.the_send, outgoing.the_send, entry.the_send, answer.the_send, crosses, sendable) depth 14

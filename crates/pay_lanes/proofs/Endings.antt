@@ -1,16 +1,20 @@
 -- Workers that end one after another, and the lanes meanwhile.
-use Rattle.std.proofs.Common.{◌≡◌, ℕ, zero, suc, ◌+◌, ◌<◌, ◌≤◌, List, [], ◌∷◌, ◌++◌, All, map, length, take, drop, get_or, Some, slice_get, IsPermutation, refl, sym, ap, ◌∙◌, subst, append_assoc, append-nil, arith, add-one}
+use Rattle.std.proofs.Common.{◌≡◌, ℕ, zero, suc, ◌+◌, ◌<◌, ◌≤◌, List, [], ◌∷◌, ◌++◌, All, map, length, take, drop, get_or, Option, Some, slice_get, IsPermutation, refl, sym, ap, ◌∙◌, subst, append_assoc, append-nil, arith, add-one}
 use Rattle.std.specs.List.{range_with_len, AllZip}
 use Rattle.std.proofs.lemmas.List.Elements.{All-nil, All-cons, All-head, All-tail, All-push, All-weaker}
+use Rattle.std.proofs.lemmas.List.{length_push}
 use Rattle.std.proofs.lemmas.List.FromFn.{length-range_with_len}
 use Rattle.std.proofs.lemmas.List.Sorted.{All-permutation, IsPermutation-sym}
 use Rattle.pay_mailbox.specs.Words.{MailboxParts, SenderParts, of}
 use Rattle.pay_shard.specs.declared.item.Entry.{Entry}
 use Rattle.pay_shard.specs.declared.item.Item.{Item}
 use Rattle.pay_shard.specs.declared.reply.Answer.{Answer}
+use Rattle.pay_lanes.specs.Passing.{Passed}
 use Rattle.pay_lanes.specs.Parts.{LaneParts, WorkerParts}
 use Rattle.pay_lanes.specs.Working.{mailboxes, entries_of, answers_for, IsOfShards}
 use Rattle.pay_lanes.specs.Turns.{by_lane, by_shard}
+use Rattle.pay_lanes.specs.Openings.{began_of}
+use Rattle.pay_lanes.specs.Gates.{passed_to, IsFirstOf, HasPassed, HavePassed, IsNextGate}
 use Rattle.pay_lanes.specs.Ends.{lanes_of, numbers, AreTogether, IsLaneOf, IsWorkerOf, arrived, sent_by, IsAnswered, exchanged, all_exchanged, IsNext, HasLeft, IsKnown, AreKnown, IsRight, AreJournalsFrom}
 use Rattle.pay_lanes.proofs.Asked.{journals_asked}
 use Rattle.pay_lanes.proofs.Exchanges.{as_many, numbered_at, each_length, each_and, whole}
@@ -165,6 +169,41 @@ module _ (done : List WorkerParts) (lefts : List (List Entry)) (w : WorkerParts)
     each_after ls now ways (omega arith) h.1 (All-tail (HasLeft w left) m now has) (All-tail (λ (x : LaneParts). IsAnswered x w) m now answered),
   )
 
+-- ---- what gates have let pass
+
+zip_push : {X Y : Type 0} (R : X → Y → Type 0) (xs : List X) (ys : List Y) (x : X) (y : Y) → AllZip R xs ys → R x y → AllZip R (xs ++ x ∷ []) (ys ++ y ∷ [])
+zip_push R [] [] x y all one = (one, tt)
+zip_push R [] (b ∷ ys) x y all one = absurd all
+zip_push R (a ∷ xs) [] x y all one = absurd all
+zip_push R (a ∷ xs) (b ∷ ys) x y all one = (all.0, zip_push R xs ys x y all.1 one)
+
+-- what was taken of lanes as they have become was taken of them as they were
+taken_before : (done : List WorkerParts) (lefts : List (List Entry)) (n : ℕ) (passed : List Passed) (ls now : List LaneParts) → AllZip (IsAfter done lefts) ls now → All (IsFirstOf n passed) now → All (IsFirstOf n passed) ls
+taken_before done lefts n passed [] now all first = All-nil (IsFirstOf n passed)
+taken_before done lefts n passed (l ∷ ls) [] all first = absurd all
+taken_before done lefts n passed (l ∷ ls) (m ∷ now) all first =
+    let one = All-head (IsFirstOf n passed) m now first in
+    All-cons (IsFirstOf n passed) l ls (one.0, ap (λ g. of by_shard n g ++ one.0) (sym all.0.got) ∙ (one.1 ∙ ap (λ k. passed_to k passed) all.0.number))
+    (taken_before done lefts n passed ls now all.1 (All-tail (IsFirstOf n passed) m now first))
+
+module _ {G : Type 0} (Holds : G → List Passed → Type 0) where
+  -- the same of other lanes, that took no other answers
+  other_lanes : (ls ks : List LaneParts) → ((n : ℕ) (passed : List Passed) → All (IsFirstOf n passed) ls → All (IsFirstOf n passed) ks) → (w : WorkerParts) (gate : G) → HasPassed (Holds gate) ls w → HasPassed (Holds gate) ks w
+  other_lanes ls ks same w gate h = record { passed = h.passed; are = h.are; gate = h.gate; taken = same w.shard.number h.passed h.taken }
+
+  all_other_lanes : (ls ks : List LaneParts) → ((n : ℕ) (passed : List Passed) → All (IsFirstOf n passed) ls → All (IsFirstOf n passed) ks) → (ws : List WorkerParts) (gates : List G) → HavePassed Holds ls ws gates → HavePassed Holds ks ws gates
+  all_other_lanes ls ks same [] [] h = tt
+  all_other_lanes ls ks same [] (gate ∷ gates) h = absurd h
+  all_other_lanes ls ks same (w ∷ ws) [] h = absurd h
+  all_other_lanes ls ks same (w ∷ ws) (gate ∷ gates) h = (other_lanes ls ks same w gate h.0, all_other_lanes ls ks same ws gates h.1)
+
+pub one_gate_more : {G : Type 0} (Holds : G → List Passed → Type 0) (lanes : List LaneParts) (w : WorkerParts) (gates after : List G) (n m : ℕ) → length gates ≡ n → m ≡ n + 1 → IsNextGate Holds lanes w gates after → length after ≡ m
+one_gate_more Holds lanes w gates after n m long more one = let pushed = ap length one.pushed ∙ length_push gates one.gate in omega (arith, pushed, long, more)
+
+-- one more gate, which began as its worker says
+pub began_behind : {G : Type 0} (began : G → Option (List ℕ)) (gates after : List G) (gate : G) (b : Option (List ℕ)) → after ≡ gates ++ gate ∷ [] → began gate ≡ b → map began after ≡ map began gates ++ b ∷ []
+began_behind began gates after gate b more its = ap (map began) more ∙ (each_and began gates gate ∙ ap (λ x. map began gates ++ x ∷ []) its)
+
 -- ---- the loop over the workers
 
 abbrev pub IsEmpty : List Entry → Type 0
@@ -235,6 +274,18 @@ module _ (ws : List WorkerParts) (ls : List LaneParts) (n : ℕ) (now : List Lan
         one_longer (y ∷ xs) x zero e = cc
         one_longer (y ∷ xs) x (suc k) e = ap suc (one_longer xs x k (omega arith))
 
+    pub one_passed : {G : Type 0} (Holds : G → List Passed → Type 0) (m : ℕ) (gates after : List G) → m ≡ n + 1 → HavePassed Holds ls (take n ws) gates → IsNextGate Holds now w gates after → HavePassed Holds ls (take m ws) after
+    one_passed Holds m gates after more so_far one = subst (λ k. HavePassed Holds ls (take k ws) after) (sym (more ∙ add-one n))
+        (subst (λ d. HavePassed Holds ls d after) (sym (take_here n ws w lt is))
+        (subst (λ a. HavePassed Holds ls (take n ws ++ w ∷ []) a) (sym one.pushed)
+        (zip_push (λ v gate. HasPassed (Holds gate) ls v) (take n ws) gates w one.gate so_far (other_lanes Holds now ls (λ k passed. taken_before (take n ws) lefts k passed ls now h.lanes) w one.gate one.passed))))
+
+    pub one_began : {G : Type 0} (began : G → Option (List ℕ)) (m : ℕ) (gates after : List G) → m ≡ n + 1 → map began gates ≡ began_of (take n ws) → map began after ≡ map began gates ++ w.began ∷ [] → map began after ≡ began_of (take m ws)
+    one_began began m gates after more so_far one =
+        one
+        ∙ (ap (λ l. l ++ w.began ∷ []) so_far
+        ∙ (sym (each_and (λ (v : WorkerParts). v.began) (take n ws) w) ∙ (ap began_of (sym (take_here n ws w lt is)) ∙ ap (λ k. began_of (take k ws)) (sym (more ∙ add-one n)))))
+
   module _ (end : n ≡ length ws) where
     every : take n ws ≡ ws
     every = ap (λ k. take k ws) end ∙ whole ws
@@ -288,6 +339,13 @@ module _ (ws : List WorkerParts) (ls : List LaneParts) (n : ℕ) (now : List Lan
 
     pub answered_end : (before : List LaneParts) → IsPermutation before ls → All (λ (l : LaneParts). All (IsAnswered l) ws) before
     answered_end before moved = All-permutation AreAnswered ls before (IsPermutation-sym before ls moved) (all_told ls now lanes_end)
+
+    pub gates_end : {G : Type 0} (Holds : G → List Passed → Type 0) (gates : List G) (before : List LaneParts) → IsPermutation before ls → HavePassed Holds ls (take n ws) gates → HavePassed Holds before ws gates
+    gates_end Holds gates before moved so_far =
+        all_other_lanes Holds ls before (λ k passed. All-permutation (IsFirstOf k passed) ls before (IsPermutation-sym before ls moved)) ws gates (subst (λ d. HavePassed Holds ls d gates) every so_far)
+
+    pub began_end : {G : Type 0} (began : G → Option (List ℕ)) (gates : List G) → map began gates ≡ began_of (take n ws) → map began gates ≡ began_of ws
+    began_end began gates so_far = so_far ∙ ap began_of every
 
     pub asked_end : (before : List LaneParts) → AreTogether ws before → IsPermutation before ls → numbers ls ≡ range_with_len 0 (lanes_of ws) → AreJournalsFrom (length ws) 0 (map (λ (w : WorkerParts). w.shard.journal) ws)
     asked_end before together moved order =

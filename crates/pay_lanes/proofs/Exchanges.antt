@@ -8,9 +8,12 @@ use Rattle.pay_mailbox.specs.Words.{MailboxParts, SenderParts, ReceiverParts, ha
 use Rattle.pay_shard.specs.declared.item.Entry.{Entry}
 use Rattle.pay_shard.specs.declared.reply.Answer.{Answer}
 use Rattle.pay_lanes.specs.Parts.{LaneParts, WorkerParts}
+use Rattle.pay_lanes.specs.Passing.{Passed}
 use Rattle.pay_lanes.specs.Working.{mailboxes, entries_of, answers_for, held_for, IsWorking}
+use Rattle.pay_lanes.specs.Gates.{passed_to, IsGated, IsFirstOf, HasPassed}
 use Rattle.pay_lanes.specs.Turns.{by_lane, by_shard}
 use Rattle.pay_lanes.specs.Ends.{numbers, exchanged, all_exchanged, IsNext, HasLeft, IsKnown, IsAnswered}
+use Rattle.pay_lanes.proofs.Gated.{first_sent}
 
 all_last : {X : Type 0} (P : X → Type 0) (xs : List X) (x : X) → All P (xs ++ x ∷ []) → P x
 all_last P [] x h = All-head P x [] h
@@ -280,3 +283,21 @@ module _ (w : WorkerParts) (ls : List LaneParts) (next : IsNext w ls) (i : ℕ) 
           subst (λ n. IsPrefix (of by_shard w.shard.number l.answers.got) (answers_for n w.shard)) (sym place)
           (subst (λ n. IsPrefix (of by_shard n l.answers.got) (answers_for k w.shard)) number
           (taken.0 ++ held_for k w.held, sym (append_assoc (of by_shard way.number l.answers.got) taken.0 (held_for k w.held)) ∙ (ap (λ x. x ++ held_for k w.held) taken.1 ∙ told)))
+
+  pub all_passed : (Holds : List Passed → Type 0) → IsGated Holds w.shard w.shut w.lanes → HasPassed Holds ls w
+  all_passed Holds gated = record {
+    passed = gated.passed;
+    are = gated.are;
+    gate = gated.gate;
+    taken = λ k d lt.
+        let way = there w.lanes k (omega (arith, as_many w ls next)) in
+        let first : IsTaken (get_or ls k d) way.0 = subst (λ y. IsTaken (get_or ls k d) y) way.2 (h.taken k (omega arith) d way.0) in
+        passed_by (get_or ls k d) way.0 k (omega (arith, numbered_at 0 ls (length w.lanes) k d next.in_order lt)) (works.told k way.0 way.1).0
+        (first_sent Holds w.shard w.held w.shut w.lanes works.told gated k way.0 way.1) first;
+  }
+    where
+      passed_by : (l : LaneParts) (way : SenderParts Answer) (k : ℕ) → l.number ≡ k → way.number ≡ w.shard.number → IsPrefix way.sent (passed_to k gated.passed) → IsTaken l way → IsFirstOf w.shard.number gated.passed l
+      passed_by l way k place number sent taken =
+          subst (λ n. IsPrefix (of by_shard w.shard.number l.answers.got) (passed_to n gated.passed)) (sym place)
+          (subst (λ n. IsPrefix (of by_shard n l.answers.got) (passed_to k gated.passed)) number
+          (taken.0 ++ sent.0, sym (append_assoc (of by_shard way.number l.answers.got) taken.0 sent.0) ∙ (ap (λ x. x ++ sent.0) taken.1 ∙ sent.1)))

@@ -2,6 +2,7 @@ pub mod Asked
 pub mod Crossing
 pub mod Endings
 pub mod Exchanges
+pub mod Gated
 pub mod Going
 pub mod Numbers
 pub mod Openings

@@ -17,8 +17,8 @@ use Rattle.pay_shard.specs.declared.limits.TheConstants.{MOST_SHARDS}
 use Rattle.pay_lanes.specs.Parts.{LaneParts, WorkerParts}
 use Rattle.pay_lanes.specs.Working.{mailboxes, at_lane, AreTold}
 use Rattle.pay_lanes.proofs.Asked.{new_of_shards}
-use Rattle.pay_lanes.specs.Ends.{lanes_of, numbers, IsWayTo, IsLaneOf, IsWorkerOf, AreTogether}
-use Rattle.pay_lanes.specs.Openings.{IsNewWorker, IsNewLane, IsNewReceiver, IsNewSender, AreNewSenders, IsReady, shard_numbers, requests_of, ways_of, having_made_more, senders_after, lanes_from}
+use Rattle.pay_lanes.specs.Ends.{lanes_of, numbers, IsWayTo, IsWorkerOf, AreTogether}
+use Rattle.pay_lanes.specs.Openings.{IsNewWorker, IsNewLane, IsNewReceiver, IsNewSender, AreNewSenders, IsReady, shard_numbers, began_of, requests_of, ways_of, having_made_more, senders_after, lanes_from}
 use Rattle.pay_lanes.specs.declared.limits.TheConstants.{MOST_LANES, MOST_REQUESTS, MOST_ANSWERS}
 
 next_place : (place : ℕ) → suc place ≡ place + 1
@@ -201,6 +201,17 @@ pub record WorkersLeft (fares : FareTables) (made : List WorkerParts) (number : 
   pub ready : AllZip IsReadyFor left.0 left.1
   pub own : AreNewSenders number left.0
 
+pub workers_begin : (fares : FareTables) (made : List WorkerParts) (left all : Ways) → made ≡ [] → left.0 ≡ all.0 → left.1 ≡ all.1 → AllZip IsReadyFor all.0 all.1 → AreNewSenders 0 all.0 → WorkersLeft fares made 0 left all
+workers_begin fares made left all none lists rs ready own = subst (λ m. WorkersLeft fares m 0 left all) (sym none) (record {
+  numbers = refl;
+  requests = rs;
+  ways = lists;
+  new = All-nil (IsNew fares);
+  count = let many = ap length rs in omega (arith, many);
+  ready = subst (λ l. AllZip IsReadyFor l left.1) (sym lists) (subst (AllZip IsReadyFor all.0) (sym rs) ready);
+  own = subst (AreNewSenders 0) (sym lists) own;
+})
+
 -- the next worker
 pub record IsNext (fares : FareTables) (number : ℕ) (s : List (SenderParts Answer)) (r : ReceiverParts Entry) (w : WorkerParts) : Type 0 where
   pub its_number : w.shard.number ≡ number
@@ -276,6 +287,31 @@ none_left (x ∷ xs) n long none = absurd (impossible (sym long ∙ none))
 pub of_either : {A B C : Type 0} → A ⊎ B → (A → C) → (B → C) → C
 of_either (inl a) f h = f a
 of_either (inr b) f h = h b
+
+-- ---- what gates begin with
+
+ended_too : {G : Type 0} (lists : List (List (SenderParts Answer))) (rs : List (ReceiverParts Entry)) (left : List G) → (lists ≡ []) ⊎ (rs ≡ []) → AllZip IsReadyFor lists rs → length left ≡ length rs → left ≡ []
+ended_too [] [] left end ready long = none_left left 0 (sym long) refl
+ended_too [] (r ∷ rs) left end ready long = absurd ready
+ended_too (s ∷ lists) [] left end ready long = absurd ready
+ended_too (s ∷ lists) (r ∷ rs) left (inl none) ready long = cc
+ended_too (s ∷ lists) (r ∷ rs) left (inr none) ready long = cc
+
+module _ {G : Type 0} (began : G → Option (List ℕ)) (gates : List G) where
+  pub began_first : (made : List WorkerParts) (left : List G) → made ≡ [] → left ≡ gates → began_of made ++ map began left ≡ map began gates
+  began_first made left none same = ap (λ m. began_of m ++ map began left) none ∙ ap (map began) same
+
+  pub began_more : (made now : List WorkerParts) (w : WorkerParts) (left after : List G) (gate : G) → now ≡ made ++ w ∷ [] → w.began ≡ began gate → left ≡ gate ∷ after
+      → began_of made ++ map began left ≡ map began gates → began_of now ++ map began after ≡ map began gates
+  began_more made now w left after gate more its took was =
+      ap (λ m. began_of m ++ map began after) more
+      ∙ (ap (λ l. l ++ map began after) (map_push (λ (v : WorkerParts). v.began) made w)
+      ∙ (append_assoc (began_of made) (w.began ∷ []) (map began after)
+      ∙ (ap (λ b. began_of made ++ b ∷ map began after) its ∙ (ap (λ l. began_of made ++ map began l) (sym took) ∙ was))))
+
+  pub began_all : (made : List WorkerParts) (left : List G) (lists : List (List (SenderParts Answer))) (rs : List (ReceiverParts Entry)) → (lists ≡ []) ⊎ (rs ≡ []) → AllZip IsReadyFor lists rs → length left ≡ length rs
+      → began_of made ++ map began left ≡ map began gates → began_of made ≡ map began gates
+  began_all made left lists rs end ready long was = sym (append-nil (began_of made)) ∙ (ap (λ l. began_of made ++ map began l) (sym (ended_too lists rs left end ready long)) ∙ was)
 
 -- ---- all that is opened
 

@@ -1,5 +1,5 @@
 -- What a worker is after a turn.
-use Rattle.std.proofs.Common.{◌≡◌, ℕ, true, false, List, [], ◌∷◌, ◌++◌, length, Option, Some, None, IfSome, is_some, sym, ap, ◌∙◌}
+use Rattle.std.proofs.Common.{◌≡◌, ℕ, Bool, true, false, List, [], ◌∷◌, ◌++◌, length, Option, Some, None, IfSome, is_some, sym, ap, ◌∙◌}
 use Rattle.std.proofs.lemmas.List.{length-map}
 use Rattle.pay_mailbox.specs.Words.{SenderParts, ReceiverParts, having_got}
 use Rattle.pay_shard.specs.Words.{ShardParts, with_room, item_of}
@@ -26,7 +26,7 @@ none_offerable (Some o) ways none = cc
 -- it popped nothing
 pub rested : (w : WorkerParts) (s : ShardParts) (r : ReceiverParts Entry) (ways : List (SenderParts Answer)) (held : Option Outgoing) (room : ℕ)
     → IsWorking w → s ≡ with_room w.shard room → r ≡ w.requests → AreTold w.shard held ways → mailboxes ways ≡ mailboxes w.lanes → is_some held ≡ false
-    → IsWorking (record { shard = s; requests = r; lanes = ways; held = held })
+    → IsWorking (record { shard = s; requests = r; lanes = ways; held = held; shut = w.shut; began = w.began })
 rested w s r ways held room was same none told kept no_held = record {
   popped = ap (λ u. u.got) none ∙ (was.popped ∙ ap entries_of (sym (ap (λ u. u.journal) same)));
   made = ap (λ u. u.made) none ∙ (was.made ∙ sym (same_length ways w.lanes kept));
@@ -35,10 +35,10 @@ rested w s r ways held room was same none told kept no_held = record {
 }
 
 -- it popped one entry
-pub done : (w : WorkerParts) (s t : ShardParts) (r : ReceiverParts Entry) (ways : List (SenderParts Answer)) (held : Option Outgoing) (entry : Entry) (room many place : ℕ)
+pub done : (w : WorkerParts) (s t : ShardParts) (r : ReceiverParts Entry) (ways : List (SenderParts Answer)) (held : Option Outgoing) (shut : Bool) (began : Option (List ℕ)) (entry : Entry) (room many place : ℕ)
     → s ≡ with_room w.shard room → HasItem s entry t → r ≡ having_got w.requests (entry ∷ []) → many ≡ length s.journal → turns.Did many ≡ turns.Did place
-    → HasDone w place (record { shard = t; requests = r; lanes = ways; held = held })
-done w s t r ways held entry room many place same item got is did =
+    → HasDone w place (record { shard = t; requests = r; lanes = ways; held = held; shut = shut; began = began })
+done w s t r ways held shut began entry room many place same item got is did =
     let at : place ≡ many = cc in
     let journal : s.journal ≡ w.shard.journal = ap (λ u. u.journal) same in record {
       next = at ∙ (is ∙ ap length journal);
@@ -50,9 +50,9 @@ done w s t r ways held entry room many place same item got is did =
 -- it holds an answer
 pub held_up : (w : WorkerParts) (ways : List (SenderParts Answer)) (held : Option Outgoing) → is_some held ≡ true
     → IfSome held (λ o. (w.held ≡ Some o) × (ways ≡ w.lanes) × WasFullAt by_shard w.lanes o.lane)
-    → ((record { shard = w.shard; requests = w.requests; lanes = ways; held = held }) ≡ w) × IsHeldUp w
+    → ((record { shard = w.shard; requests = w.requests; lanes = ways; held = held; shut = w.shut; began = w.began }) ≡ w) × IsHeldUp w
 held_up w ways None is h = cc
 held_up w ways (Some o) is h = (
-  ap (λ l. record { shard = w.shard; requests = w.requests; lanes = l; held = Some o }) h.1 ∙ ap (λ x. record { shard = w.shard; requests = w.requests; lanes = w.lanes; held = x }) (sym h.0),
+  ap (λ l. record { shard = w.shard; requests = w.requests; lanes = l; held = Some o; shut = w.shut; began = w.began }) h.1 ∙ ap (λ x. record { shard = w.shard; requests = w.requests; lanes = w.lanes; held = x; shut = w.shut; began = w.began }) (sym h.0),
   (o, h.0, h.2),
 )

@@ -1,5 +1,5 @@
 -- What is opened.
-use Rattle.std.specs.Prelude.{◌≡◌, ℕ, ◌+◌, ◌<◌, ◌≢◌, ◌⊎◌, List, [], ◌∷◌, All, length, map, None, ⊤}
+use Rattle.std.specs.Prelude.{◌≡◌, ℕ, ◌+◌, ◌<◌, ◌≢◌, ◌⊎◌, List, [], ◌∷◌, All, length, map, false, Option, None, ⊤}
 use Rattle.std.specs.FinMap.{empty}
 use Rattle.pay_tables.specs.Words.{FareTables}
 use Rattle.pay_mailbox.specs.Words.{SenderParts, ReceiverParts, sender_of, receiver_of}
@@ -17,6 +17,10 @@ IsOutOfCount shards lanes gates = (shards ≡ 0) ⊎ (MOST_SHARDS < shards) ⊎ 
 abbrev pub shard_numbers : List WorkerParts → List ℕ
 shard_numbers workers = map (λ (w : WorkerParts). w.shard.number) workers
 
+-- what the gates of workers began with
+abbrev pub began_of : List WorkerParts → List (Option (List ℕ))
+began_of workers = map (λ (w : WorkerParts). w.began) workers
+
 -- a worker of so many lanes over a shard without accounts and with an empty journal, by this fare file, which has popped and sent nothing
 pub record IsNewWorker (fares : FareTables) (lane_count : ℕ) (w : WorkerParts) : Type 0 where
   pub tables : w.shard.tables ≡ fares
@@ -28,6 +32,7 @@ pub record IsNewWorker (fares : FareTables) (lane_count : ℕ) (w : WorkerParts)
   pub back : w.requests.back ≡ []
   pub lanes : length w.lanes ≡ lane_count
   pub held : w.held ≡ None
+  pub not_shut : w.shut ≡ false
 
 -- a lane to so many shards, which has sent and taken nothing
 pub record IsNewLane (shard_count : ℕ) (l : LaneParts) : Type 0 where

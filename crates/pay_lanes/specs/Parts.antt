@@ -1,6 +1,6 @@
 -- What contracts see of a lane and of a worker.
-use Rattle.std.specs.Prelude.{◌≡◌, ℕ, zero, suc, ◌+◌, ◌-◌, ◌%◌, ◌^◌, max, min, List, [], ◌∷◌, length, Option, Some, slice_get, refl}
-use Rattle.std.specs.Coded.{Coded, code_by, coded×, coded_ℕ, coded_list, coded_option}
+use Rattle.std.specs.Prelude.{◌≡◌, Bool, ℕ, zero, suc, ◌+◌, ◌-◌, ◌%◌, ◌^◌, max, min, List, [], ◌∷◌, length, Option, Some, slice_get, refl}
+use Rattle.std.specs.Coded.{Coded, code_by, coded×, coded_ℕ, coded_bool, coded_list, coded_option}
 use Rattle.pay_mailbox.specs.Words.{SenderParts, ReceiverParts, sender_code, receiver_code, having_sent, having_got, WasFull}
 use Rattle.pay_shard.specs.Words.{ShardParts, shard_code}
 use Rattle.pay_shard.specs.contracts.item.Entry as entries
@@ -25,17 +25,20 @@ lane_code =
     code_by (ℕ × (List (SenderParts Entry) × (ReceiverParts Answer × (ℕ × ℕ)))) (coded× coded_ℕ (coded× (coded_list (sender_code entries.the_row.coded)) (coded× (receiver_code answers.the_row.coded) (coded× coded_ℕ coded_ℕ))))
     (λ l. (l.number, (l.shards, (l.answers, (l.tickets, l.next))))) (λ p. record { number = p.0; shards = p.1.0; answers = p.1.1.0; tickets = p.1.1.1.0; next = p.1.1.1.1 }) (λ _. refl)
 
--- a worker: its shard, what it popped, what it sent to each lane, and the last answer, if its lane had no room for it
+-- a worker: its shard, what it popped, what it sent to each lane, the last answer, if it is held, whether that is for good, and what its gate began with
 pub record WorkerParts : Type 0 where
   pub shard : ShardParts
   pub requests : ReceiverParts Entry
   pub lanes : List (SenderParts Answer)
   pub held : Option Outgoing
+  pub shut : Bool
+  pub began : Option (List ℕ)
 
 abbrev pub worker_code : Coded WorkerParts
 worker_code =
-    code_by (ShardParts × (ReceiverParts Entry × (List (SenderParts Answer) × Option Outgoing))) (coded× shard_code (coded× (receiver_code entries.the_row.coded) (coded× (coded_list (sender_code answers.the_row.coded)) (coded_option outgoing.the_row.coded))))
-    (λ w. (w.shard, (w.requests, (w.lanes, w.held)))) (λ p. record { shard = p.0; requests = p.1.0; lanes = p.1.1.0; held = p.1.1.1 }) (λ _. refl)
+    code_by (ShardParts × (ReceiverParts Entry × (List (SenderParts Answer) × (Option Outgoing × (Bool × Option (List ℕ))))))
+    (coded× shard_code (coded× (receiver_code entries.the_row.coded) (coded× (coded_list (sender_code answers.the_row.coded)) (coded× (coded_option outgoing.the_row.coded) (coded× coded_bool (coded_option (coded_list coded_ℕ)))))))
+    (λ w. (w.shard, (w.requests, (w.lanes, (w.held, (w.shut, w.began)))))) (λ p. record { shard = p.0; requests = p.1.0; lanes = p.1.1.0; held = p.1.1.1.0; shut = p.1.1.1.1.0; began = p.1.1.1.1.1 }) (λ _. refl)
 
 -- of several shards the one that answers: that of the account, or the one that is named
 abbrev pub shard_of : ℕ → Asked → ℕ

@@ -81,7 +81,7 @@ pub record IsSameLane (before after : LaneParts) : Type 0 where
   pub answers : after.answers.mailbox ≡ before.answers.mailbox
   pub of_shards : IsOfShards before → IsOfShards after
 
--- a worker that goes on is the same end of the same queues, over a shard of the same number, fare file and beginning
+-- a worker that goes on is the same end of the same queues, over a shard of the same number, fare file and beginning, and its gate began as it did
 pub record IsSameWorker (before after : WorkerParts) : Type 0 where
   pub number : after.shard.number ≡ before.shard.number
   pub tables : after.shard.tables ≡ before.shard.tables
@@ -89,3 +89,4 @@ pub record IsSameWorker (before after : WorkerParts) : Type 0 where
   pub requests : after.requests.mailbox ≡ before.requests.mailbox
   pub back : after.requests.back ≡ before.requests.back
   pub lanes : mailboxes after.lanes ≡ mailboxes before.lanes
+  pub began : after.began ≡ before.began

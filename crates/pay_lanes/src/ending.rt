@@ -1,10 +1,13 @@
 //! Takes workers and lanes back once their threads have returned.
-ghost use Rattle.std.specs.Prelude.{◌≡◌, ◌<◌, ◌∷◌, All, length, map as each, IsTrue, ◌↔◌, IfOk, IfErr, OnOk, OnErr, IsPermutation, vec_items};
+ghost use Rattle.std.specs.Prelude.{◌≡◌, ◌<◌, ◌≤◌, ◌⊎◌, [], ◌∷◌, ◌++◌, All, length, map as each, IsTrue, ◌↔◌, IfOk, IfErr, OnOk, OnErr, IsPermutation, vec_items, vec_capacity};
 ghost use Rattle.std.specs.List.{range_with_len};
 ghost use mathlib.Core.List.{IsPrefix};
 ghost use Rattle.pay_mailbox.specs.Words.{of};
+ghost use Rattle.pay_lanes.specs.Gates.{HavePassed, IsNextGate};
+ghost use Rattle.pay_lanes.specs.Openings.{began_of};
 ghost use Rattle.pay_lanes.specs.Turns.{by_shard};
 ghost use Rattle.pay_lanes.specs.Ends.{lanes_of, numbers, AreAll, AreTogether, arrived, sent_by, IsAnswered, exchanged, all_exchanged, IsNext, HasLeft, IsKnown, AreKnown, AreJournalsFrom, IsRight};
+ghost use Rattle.pay_lanes.specs.declared.limits.TheConstants.{MOST_JOURNALS};
 
 use crate::gate::Gate;
 use crate::lane::Lane;
@@ -29,11 +32,13 @@ pub enum EndFault {
 
 /// What the shards were asked, and what they were not asked any more. Each list has the shards in the order of their workers.
 #[derive(Drop)]
-pub struct Ended {
+pub struct Ended<G: Gate> {
     /// The journal of each shard.
     pub journals: ArrayVec<Journal, MOST_JOURNALS, Global>,
     /// The entries that each shard did not pop, those of each lane in its order.
     pub left: ArrayVec<Vec<Entry>, MOST_JOURNALS, Global>,
+    /// The gate of each shard.
+    pub gates: Vec<G>,
 }
 
 /// How many lanes were opened with these workers.
@@ -82,27 +87,51 @@ fn exchange(lane: &mut Lane, way: Outbox<Answer, ByShard>) -> Outbox<Entry, ByLa
     lane.shards.remove(0)
 }
 
+/// Puts a gate behind others. Where there are none it takes the room for all.
+fn keep_gate<G: Gate>(gates: &mut Vec<G>, room: Vec<G>, gate: G)
+    requires few { length gates.old.items < MOST_JOURNALS }
+    requires empty { room.items ≡ [] }
+    requires room { MOST_JOURNALS ≤ vec_capacity room }
+    requires has_room { (gates.old.items ≡ []) ⊎ (MOST_JOURNALS ≤ vec_capacity gates.old) }
+    ensures items { gates.new.items ≡ gates.old.items ++ gate ∷ [] }
+    ensures has_room { MOST_JOURNALS ≤ vec_capacity gates.new }
+{
+    if gates.is_empty() {
+        *gates = room;
+    }
+    gates.push_reserved(gate);
+}
+
 /// Ends a worker: each lane gives its way to it back, and gets the worker's way to it.
 fn end_worker<F: Fares, G: Gate, R: Wait>(
     rt: &R,
     worker: Worker<F, G>,
     lanes: &mut Vec<Lane>,
+    gates: &mut Vec<G>,
 ) -> (Journal, Vec<Entry>)
-    requires { IsNext worker lanes.old.items }
+    requires next { IsNext worker lanes.old.items }
+    requires few { length gates.old.items < MOST_JOURNALS }
+    requires has_room { (gates.old.items ≡ []) ⊎ (MOST_JOURNALS ≤ vec_capacity gates.old) }
     ensures journal { result.0.items ≡ worker.shard.journal }
     ensures right { IsRight worker }
     ensures lanes { lanes.new.items ≡ all_exchanged lanes.old.items worker.lanes }
     ensures sent { All (HasLeft worker result.1.items) lanes.old.items }
     ensures known { IsKnown worker result.1.items }
     ensures answered { All (λ l. IsAnswered l worker) lanes.old.items }
+    ensures passed { IsNextGate G.Holds lanes.old.items worker gates.old.items gates.new.items }
+    ensures began { each G.began gates.new.items ≡ each G.began gates.old.items ++ worker.began ∷ [] }
+    ensures has_room { MOST_JOURNALS ≤ vec_capacity gates.new }
 {
     let Worker {
         shard,
         mut requests,
         lanes: mut ways,
         mut left,
+        gate,
+        gates: room,
         ..
     } = worker;
+    keep_gate(gates, room, gate);
     for place in 0..lanes.len() {
         let way = ways.remove(0);
         requests.rejoin(exchange(&mut lanes[place], way));
@@ -117,7 +146,7 @@ pub fn end<F: Fares, G: Gate, R: Wait>(
     rt: &R,
     workers: Vec<Worker<F, G>>,
     lanes: Vec<Lane>,
-) -> Result<Ended, (EndFault, Vec<Worker<F, G>>, Vec<Lane>)>
+) -> Result<Ended<G>, (EndFault, Vec<Worker<F, G>>, Vec<Lane>)>
     requires { AreTogether workers.items lanes.items }
     ensures all { OnOk result (AreAll workers.items lanes.items) }
     ensures missing { OnErr result (AreAll workers.items lanes.items → ⊥) }
@@ -136,6 +165,10 @@ pub fn end<F: Fares, G: Gate, R: Wait>(
 
     // What each lane took from a shard is the first of what the run of its journal answers at the lane's items.
     ensures answered { OnOk result (All (λ l. All (IsAnswered l) workers.items) lanes.items) }
+
+    // Each gate holds what it let pass of that run, and what a lane took is the first of that. It began with what it began with.
+    ensures gates { IfOk result (λ ended. HavePassed G.Holds lanes.items workers.items ended.gates.items) }
+    ensures began { IfOk result (λ ended. each G.began ended.gates.items ≡ began_of workers.items) }
 {
     let mut lanes = lanes;
     let count = lanes_of(&workers);
@@ -146,9 +179,10 @@ pub fn end<F: Fares, G: Gate, R: Wait>(
     let mut ended = Ended {
         journals: ArrayVec::new_in(alloc),
         left: ArrayVec::new_in(alloc),
+        gates: Vec::new(alloc),
     };
     for worker in workers {
-        let (journal, left) = end_worker(rt, worker, &mut lanes);
+        let (journal, left) = end_worker(rt, worker, &mut lanes, &mut ended.gates);
         ended.journals.push(journal);
         ended.left.push(left);
     }

@@ -1,11 +1,28 @@
-use pay_shard::Entry;
+ghost use Rattle.std.specs.Prelude.{◌≡◌, ℕ, List, ◌++◌, Option};
+ghost use Rattle.pay_lanes.specs.Passing.{Passed, passing};
+
+use pay_shard::{Answer, Entry};
 use std::sync::Wait;
 
-/// What a worker passes with each entry, once the entry is popped and before it is applied. It changes nothing of the
-/// answer.
+/// What a worker passes with each entry: once the entry is popped and before it is applied, and once more with the answer,
+/// before its lane can have it. It changes nothing of the answer.
 pub trait Gate: Drop {
+    /// Since it began it has let pass just these entries with their answers, in order.
+    ghost Holds: { Self → List Passed → Type 0 };
+
+    /// The bytes that stood behind it when it began, if they are known. These stay the same.
+    ghost began: { Self → Option (List ℕ) };
+
     /// Is called by the worker of this shard.
-    fn before_job<R: Wait>(&mut self, rt: &R, shard: u8, entry: &Entry);
+    fn before_job<R: Wait>(&mut self, rt: &R, shard: u8, entry: &Entry)
+        ensures same { (passed : List Passed) → Holds self.old passed → Holds self.new passed }
+        ensures began { began self.new ≡ began self.old };
+
+    /// Is called with each answer, before its lane can have it. Where it says false the answer is held for good, and the worker takes no
+    /// more entries.
+    fn after_job<R: Wait>(&mut self, rt: &R, entry: &Entry, answer: &Answer) -> bool
+        ensures passed { (passed : List Passed) → Holds self.old passed → Holds self.new (passed ++ passing result entry.now answer.now) }
+        ensures began { began self.new ≡ began self.old };
 }
 
 /// A gate that is always open.
@@ -13,5 +30,15 @@ pub trait Gate: Drop {
 pub struct OpenGate;
 
 impl Gate for OpenGate {
+    ghost use Rattle.std.specs.Prelude.{⊤, None};
+
+    ghost Holds = { λ _ _. ⊤ };
+
+    ghost began = { λ _. None };
+
     fn before_job<R: Wait>(&mut self, _rt: &R, _shard: u8, _entry: &Entry) {}
+
+    fn after_job<R: Wait>(&mut self, _rt: &R, _entry: &Entry, _answer: &Answer) -> bool {
+        true
+    }
 }

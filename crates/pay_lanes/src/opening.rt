@@ -3,14 +3,14 @@ ghost use Rattle.std.specs.Prelude.{◌≡◌, ◌<◌, ◌≤◌, ◌↔◌, []
 ghost use Rattle.std.specs.Arc.{arc_value};
 ghost use Rattle.std.specs.List.{range_with_len, AllZip};
 ghost use Rattle.pay_lanes.specs.Ends.{numbers, AreTogether};
-ghost use Rattle.pay_lanes.specs.Openings.{IsOutOfCount, IsNewWorker, IsNewLane, IsNewReceiver, IsNewSender, AreNewSenders, IsReady, shard_numbers, requests_of, ways_of, having_made_more, senders_after, lanes_from};
+ghost use Rattle.pay_lanes.specs.Openings.{IsOutOfCount, IsNewWorker, IsNewLane, IsNewReceiver, IsNewSender, AreNewSenders, IsReady, shard_numbers, began_of, requests_of, ways_of, having_made_more, senders_after, lanes_from};
 ghost use Rattle.pay_shard.specs.declared.limits.TheConstants.{MOST_SHARDS};
 ghost use Rattle.pay_lanes.specs.declared.limits.TheConstants.{MOST_LANES, MOST_REQUESTS};
 ghost use Rattle.pay_lanes.specs.declared.opening.OpenFault.TheVariants.{Count};
 
 use crate::gate::Gate;
 use crate::lane::Lane;
-use crate::limits::{MOST_ANSWERS, MOST_LANES, MOST_REQUESTS};
+use crate::limits::{MOST_ANSWERS, MOST_JOURNALS, MOST_LANES, MOST_REQUESTS};
 use crate::senders::{ByLane, ByShard};
 use crate::worker::Worker;
 use pay_account::Fares;
@@ -133,17 +133,20 @@ fn worker<F: Fares, G: Gate>(
 ) -> Result<Worker<F, G>, AllocError>
     requires requests { IsReady MOST_REQUESTS (length lanes.items) requests }
     requires lanes { All (IsNewSender number) lanes.items }
+    requires gate { G.Holds gate [] }
     ensures number { IfOk result (λ made. made.shard.number ≡ number) }
     ensures requests { IfOk result (λ made. made.requests ≡ requests) }
     ensures lanes { IfOk result (λ made. made.lanes ≡ lanes.items) }
     ensures new { IfOk result (IsNewWorker (arc_value tables.now) (length lanes.items)) }
+    ensures began { IfOk result (λ made. made.began ≡ G.began gate) }
 {
     let tables = Arc::try_clone(tables)?;
     let Ok(shard) = Shard::new(alloc, number, tables, Vec::new(alloc)) else {
         return Err(AllocError);
     };
     let left = Vec::with_capacity(alloc, MOST_REQUESTS)?;
-    Ok(Worker::new(shard, requests, lanes, gate, left))
+    let gates = Vec::with_capacity(alloc, MOST_JOURNALS)?;
+    Ok(Worker::new(shard, requests, lanes, gate, left, gates))
 }
 
 /// A worker for each of these mailboxes, with a list of senders to the lanes.
@@ -156,12 +159,14 @@ fn all_workers<F: Fares, G: Gate>(
 ) -> Result<Vec<Worker<F, G>>, AllocError>
     requires few { length requests.items ≤ MOST_SHARDS }
     requires gates { length gates.items ≡ length requests.items }
+    requires none { All (λ gate. G.Holds gate []) gates.items }
     requires requests { AllZip (λ senders r. IsReady MOST_REQUESTS (length senders) r) (each vec_items lanes.items) requests.items }
     requires lanes { AreNewSenders 0 (each vec_items lanes.items) }
     ensures numbers { IfOk result (λ made. shard_numbers made.items ≡ range_with_len 0 (length requests.items)) }
     ensures requests { IfOk result (λ made. requests_of made.items ≡ requests.items) }
     ensures lanes { IfOk result (λ made. ways_of made.items ≡ each vec_items lanes.items) }
     ensures new { IfOk result (λ made. All (λ w. IsNewWorker (arc_value tables.now) (length w.lanes) w) made.items) }
+    ensures began { IfOk result (λ made. began_of made.items ≡ each G.began gates.items) }
 {
     let mut made = Vec::new(alloc);
     let mut number = 0;
@@ -173,7 +178,7 @@ fn all_workers<F: Fares, G: Gate>(
 }
 
 /// Opens so many shards, which have no accounts and price by this fare file, and so many lanes, from 1 to 16 each. Each shard
-/// has a gate. Where it is refused, the gates are dropped.
+/// has a gate, which has let nothing pass yet. Where it is refused, the gates are dropped.
 pub fn open<F: Fares, G: Gate>(
     alloc: Global,
     tables: Arc<Tables>,
@@ -181,9 +186,11 @@ pub fn open<F: Fares, G: Gate>(
     lanes: u8,
     gates: Vec<G>,
 ) -> Result<Opened<F, G>, OpenFault>
+    requires { All (λ gate. G.Holds gate []) gates.items }
     ensures count { (result ≡ Err Count) ↔ IsOutOfCount shards lanes (length gates.items) }
     ensures workers { IfOk result (λ opened. shard_numbers opened.workers.items ≡ range_with_len 0 shards) }
     ensures new_workers { IfOk result (λ opened. All (IsNewWorker (arc_value tables) lanes) opened.workers.items) }
+    ensures began { IfOk result (λ opened. began_of opened.workers.items ≡ each G.began gates.items) }
     ensures lanes { IfOk result (λ opened. numbers opened.lanes.items ≡ range_with_len 0 lanes) }
     ensures new_lanes { IfOk result (λ opened. All (IsNewLane shards) opened.lanes.items) }
     ensures together { IfOk result (λ opened. AreTogether opened.workers.items opened.lanes.items) }

@@ -1,11 +1,13 @@
 //! The worker of a shard.
-ghost use Rattle.std.specs.Prelude.{◌≡◌, ℕ, ◌<◌, ◌≤◌, [], None, Some, All, length, IfSome, OnSome, IfNone, vec_capacity};
+ghost use Rattle.std.specs.Prelude.{◌≡◌, ℕ, ◌<◌, ◌≤◌, false, IsTrue, [], None, Some, All, length, IfSome, OnSome, IfNone, vec_capacity};
 ghost use Rattle.pay_mailbox.specs.Words.{HasAll};
 ghost use Rattle.pay_shard.specs.Words.{ShardParts};
+ghost use Rattle.pay_lanes.specs.Gates.{all_answered, IsGated};
 ghost use Rattle.pay_lanes.specs.Openings.{IsNewSender};
 ghost use Rattle.pay_lanes.specs.Parts.{sent_at, WasFullAt};
 ghost use Rattle.pay_lanes.specs.Turns.{by_lane, by_shard, HasDone, HasPoppedNone, IsHeldUp};
 ghost use Rattle.pay_lanes.specs.Working.{HasItem, IsOfferable, AreTold, mailboxes, IsSameWorker};
+ghost use Rattle.pay_lanes.specs.declared.limits.TheConstants.{MOST_JOURNALS};
 ghost use Rattle.pay_lanes.specs.declared.worker.Turn.TheVariants as turns;
 
 use crate::gate::Gate;
@@ -30,37 +32,49 @@ pub enum Turn {
     Held,
     /// It popped nothing, since there is no memory for an item of the journal. An answer that was held is sent.
     Starved,
+    /// Nothing, and nothing any more, since the gate did not let the last answer pass.
+    Shut,
 }
 
 /// An end of the queues, which one thread has at a time: it answers what the lanes send to its shard. In a contract it is
-/// its shard, what it popped, what it sent to each lane, and the answer that is held.
+/// its shard, what it popped, what it sent to each lane, the answer that is held, whether it is held for good, and what its gate
+/// began with.
 #[derive(Drop)]
 pub struct Worker<F: Fares, G: Gate> {
     pub(crate) shard: Shard<F>,
     pub(crate) requests: Inbox<Entry, ByLane>,
     // At each place the way to the lane of that number.
     pub(crate) lanes: Vec<Outbox<Answer, ByShard>>,
-    // The last answer, if its lane had no room for it.
+    // The last answer, if its lane had no room for it, or the gate did not let it pass.
     held: Option<Outgoing>,
-    gate: G,
+    // Whether it did not.
+    shut: bool,
+    pub(crate) gate: G,
     // Empty, with room for all entries that may be left when the threads have returned.
     pub(crate) left: Vec<Entry>,
+    // Empty, with room for the gates of all workers.
+    pub(crate) gates: Vec<G>,
 }
 
 impl<F: Fares, G: Gate> Model for Worker<F, G> {
     ghost use Rattle.std.specs.Prelude.{◌≡◌, ◌≤◌, [], vec_capacity};
+    ghost use Rattle.pay_lanes.specs.Gates.{IsGated};
     ghost use Rattle.pay_lanes.specs.Parts.{WorkerParts, worker_code};
     ghost use Rattle.pay_lanes.specs.Working.{IsWorking};
+    ghost use Rattle.pay_lanes.specs.declared.limits.TheConstants.{MOST_JOURNALS};
 
     ghost Value = { WorkerParts };
 
     ghost coded = { worker_code };
 
-    ghost view = { λ w. record { shard = w.shard; requests = w.requests; lanes = w.lanes.items; held = w.held } };
+    ghost view = { λ w. record { shard = w.shard; requests = w.requests; lanes = w.lanes.items; held = w.held; shut = w.shut; began = G.began w.gate } };
 
-    ghost invariant = { λ w. IsWorking (record { shard = w.shard; requests = w.requests; lanes = w.lanes.items; held = w.held })
+    ghost invariant = { λ w. IsWorking (record { shard = w.shard; requests = w.requests; lanes = w.lanes.items; held = w.held; shut = w.shut; began = G.began w.gate })
         × (w.left.items ≡ [])
-        × (w.requests.mailbox.capacity ≤ vec_capacity w.left) };
+        × (w.requests.mailbox.capacity ≤ vec_capacity w.left)
+        × IsGated (G.Holds w.gate) w.shard w.shut w.lanes.items
+        × (w.gates.items ≡ [])
+        × (MOST_JOURNALS ≤ vec_capacity w.gates) };
 }
 
 /// Sends an answer to its lane. It comes back only if the lane's queue was full at one moment of the call.
@@ -97,25 +111,35 @@ fn offer_held<R: Wait>(
     }
 }
 
-/// Passes the gate with an entry that was popped, and answers it. The answer comes back if its lane had no room for it.
+/// Passes the gate with an entry that was popped, and answers it. The answer comes back if its lane had no room for it, or if
+/// the gate did not let it pass: then the worker is shut.
 fn answer<F: Fares, G: Gate, R: Wait>(
     rt: &R,
     shard: &mut Shard<F>,
     gate: &mut G,
     lanes: &mut Vec<Outbox<Answer, ByShard>>,
     entry: Entry,
+    shut: &mut bool,
 ) -> Option<Outgoing>
     requires room { 0 < shard.old.room }
     requires lane { entry.lane < length lanes.old.items }
     requires told { AreTold shard.old None lanes.old.items }
+    requires not_shut { shut.old ≡ false }
+    requires gate { G.Holds gate.old (all_answered shard.old) }
     ensures item { HasItem shard.old entry shard.new }
     ensures told { AreTold shard.new result lanes.new.items }
     ensures held { IfSome result (IsOfferable lanes.new.items) }
     ensures mailboxes { mailboxes lanes.new.items ≡ mailboxes lanes.old.items }
+    ensures gated { IsGated (G.Holds gate.new) shard.new shut.new lanes.new.items }
+    ensures began { G.began gate.new ≡ G.began gate.old }
 {
     gate.before_job(rt, shard.number(), &entry);
     let answer = shard.apply(entry);
     let lane = entry.lane;
+    if !gate.after_job(rt, &entry, &answer) {
+        *shut = true;
+        return Some(Outgoing { lane, answer });
+    }
     offer(rt, lanes, Outgoing { lane, answer })
 }
 
@@ -127,20 +151,25 @@ impl<F: Fares, G: Gate> Worker<F, G> {
         lanes: Vec<Outbox<Answer, ByShard>>,
         gate: G,
         left: Vec<Entry>,
+        gates: Vec<G>,
     ) -> Worker<F, G>
         requires shard { shard.journal ≡ [] }
         requires requests { (requests.got ≡ []) × (requests.made ≡ length lanes.items) }
         requires lanes { All (IsNewSender shard.number) lanes.items }
+        requires gate { G.Holds gate [] }
         requires left { (left.items ≡ []) × (requests.mailbox.capacity ≤ vec_capacity left) }
-        ensures { result ≡ record { shard = shard; requests = requests; lanes = lanes.items; held = None } }
+        requires gates { (gates.items ≡ []) × (MOST_JOURNALS ≤ vec_capacity gates) }
+        ensures { result ≡ record { shard = shard; requests = requests; lanes = lanes.items; held = None; shut = false; began = G.began gate } }
     {
         Worker {
             shard,
             requests,
             lanes,
             held: None,
+            shut: false,
             gate,
             left,
+            gates,
         }
     }
 
@@ -160,7 +189,7 @@ impl<F: Fares, G: Gate> Worker<F, G> {
     }
 
     /// Answers the oldest entry that waits. It offers an answer first that its lane had no room for, and it pops no entry
-    /// before the journal has room for it.
+    /// before the journal has room for it. Once the gate did not let an answer pass, it does nothing.
     pub fn turn<R: Wait>(&mut self, rt: &R) -> Turn
         ensures same { IsSameWorker self.old self.new }
         ensures did { (place : ℕ) → result ≡ turns.Did place → HasDone self.old place self.new }
@@ -169,15 +198,21 @@ impl<F: Fares, G: Gate> Worker<F, G> {
         ensures idle { result ≡ turns.Idle → HasPoppedNone self.old self.new × HasAll by_lane self.old.requests }
         ensures held { result ≡ turns.Held → (self.new ≡ self.old) × IsHeldUp self.old }
         ensures starved { result ≡ turns.Starved → HasPoppedNone self.old self.new × (self.old.shard.room ≡ 0) }
+        ensures shut { result ≡ turns.Shut → (self.new ≡ self.old) × IsTrue self.old.shut }
+        ensures stays_shut { IsTrue self.old.shut → result ≡ turns.Shut }
     {
         let Worker {
             shard,
             requests,
             lanes,
             held,
+            shut,
             gate,
             ..
         } = self;
+        if *shut {
+            return Turn::Shut;
+        }
         offer_held(rt, lanes, held);
         if held.is_some() {
             return Turn::Held;
@@ -189,7 +224,7 @@ impl<F: Fares, G: Gate> Worker<F, G> {
             return Turn::Idle;
         };
         let place = shard.journal().len();
-        *held = answer(rt, shard, gate, lanes, entry);
+        *held = answer(rt, shard, gate, lanes, entry, shut);
         Turn::Did(place)
     }
 }

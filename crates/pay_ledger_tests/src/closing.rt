@@ -13,7 +13,7 @@ use pay_ledger::Ledger;
 use pay_office::{Ended, LaneDesk, Office, shut, start};
 use pay_quotes::{Posting, Postings, Quote};
 use pay_session::{Done, NoTill, SessionFault, session};
-use pay_shard::{Asked, Batch, Command, Desk, DeskFault, Entry, Reply, Shard};
+use pay_shard::{Answer, Asked, Batch, Command, Desk, DeskFault, Entry, Reply, Shard};
 use sqlite::MemStore;
 use std::io::BufRead;
 use std::marker::Model;
@@ -72,7 +72,7 @@ impl Counts {
 
 /// A gate that counts each entry, and waits with it until so many have come, or it has looked so often.
 #[derive(Drop)]
-struct Counting {
+pub struct Counting {
     counts: Counts,
     opens_at: u64,
     looks: u64,
@@ -91,9 +91,19 @@ impl Counting {
 }
 
 impl Gate for Counting {
+    ghost use Rattle.std.specs.Prelude.{⊤, None};
+
+    ghost Holds = { λ _ _. ⊤ };
+
+    ghost began = { λ _. None };
+
     fn before_job<R: Wait>(&mut self, _rt: &R, _shard: u8, _entry: &Entry) {
         self.counts.entered.fetch_add(1, Ordering::SeqCst);
         self.look();
+    }
+
+    fn after_job<R: Wait>(&mut self, _rt: &R, _entry: &Entry, _answer: &Answer) -> bool {
+        true
     }
 }
 
@@ -219,7 +229,7 @@ impl<R: Threads + Wait + Abort + AllocGlobal + Copy> Closer<R> {
     }
 
     /// Shuts the office.
-    pub fn shut(self, rt: R) -> Ended {
+    pub fn shut(self, rt: R) -> Ended<Counting> {
         laws::still_together();
         laws::same_lanes();
         laws::same_workers();
@@ -381,7 +391,7 @@ where
 }
 
 // What the run of a shard's journal gives to each Quotes in it.
-fn batches_of<R: Abort + AllocGlobal>(rt: &R, ended: &Ended, number: u8) -> Vec<Batch> {
+fn batches_of<R: Abort + AllocGlobal>(rt: &R, ended: &Ended<Counting>, number: u8) -> Vec<Batch> {
     let (tables, _) = sample_in_london(rt);
     let none: Vec<Book> = Vec::new(rt.alloc());
     let mut shard = Shard::new(rt.alloc(), number, tables, none)

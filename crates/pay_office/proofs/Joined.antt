@@ -9,10 +9,12 @@ use Rattle.pay_shard.specs.declared.item.Item.{Item}
 use Rattle.pay_lanes.specs.Parts.{LaneParts, WorkerParts}
 use Rattle.pay_lanes.specs.Working.{IsSameLane, IsSameWorker}
 use Rattle.pay_lanes.specs.Ends.{lanes_of, numbers, AreAll, AreTogether, IsLaneOf, arrived, sent_by, AreKnown, IsAnswered, AreJournalsFrom, IsRight}
-use Rattle.pay_lanes.specs.Openings.{IsOutOfCount, IsNewWorker, shard_numbers}
+use Rattle.pay_lanes.specs.Openings.{IsOutOfCount, IsNewWorker, shard_numbers, began_of}
 use Rattle.pay_lanes.proofs.Going.{same_count, all_together_still}
 use Rattle.pay_lanes.proofs.Same.{lane_itself}
-use Rattle.pay_office.specs.Offices.{HasEnded}
+use Rattle.pay_lanes.specs.Passing.{Passed}
+use Rattle.pay_lanes.specs.Gates.{IsFirstOf, HavePassed}
+use Rattle.pay_office.specs.Offices.{HasEnded, HaveLetPass}
 
 -- ---- workers are joined
 
@@ -41,6 +43,12 @@ lanes_begun fares (suc shards) lanes gates [] some order new = cc
 lanes_begun fares (suc shards) lanes gates (w ∷ ws) some order new = (All-head (IsNewWorker fares lanes) w ws new).lanes
 
 -- ---- an office ends
+
+pub same_began : (ws vs : List WorkerParts) → AllZip IsSameWorker ws vs → began_of vs ≡ began_of ws
+same_began [] [] same = refl
+same_began [] (v ∷ vs) same = absurd same
+same_began (w ∷ ws) [] same = absurd same
+same_began (w ∷ ws) (v ∷ vs) same = λ i. same.0.began i ∷ same_began ws vs same.1 i
 
 itself : (ls : List LaneParts) → AllZip IsSameLane ls ls
 itself [] = tt
@@ -77,3 +85,21 @@ module _ (office ws vs : List WorkerParts) (ls sorted : List LaneParts) (begun :
       right = right;
     };
   }
+
+  module _ {G : Type 0} (Holds : G → List Passed → Type 0) where
+    any_order : (ws : List WorkerParts) (gates : List G) → HavePassed Holds sorted ws gates → HavePassed Holds ls ws gates
+    any_order [] [] h = tt
+    any_order [] (gate ∷ gates) h = absurd h
+    any_order (w ∷ ws) [] h = absurd h
+    any_order (w ∷ ws) (gate ∷ gates) h = (
+      record {
+        passed = h.0.passed;
+        are = h.0.are;
+        gate = h.0.gate;
+        taken = All-permutation (IsFirstOf w.shard.number h.0.passed) sorted ls (IsPermutation-sym ls sorted moved) h.0.taken;
+      },
+      any_order ws gates h.1,
+    )
+
+    pub have_let_pass : (journals : List (List Item)) (gates : List G) → journals ≡ map (λ (w : WorkerParts). w.shard.journal) vs → HavePassed Holds sorted vs gates → HaveLetPass Holds office ls journals gates
+    have_let_pass journals gates are passed = record { workers = vs; same = same_office; journals_are = are; passed = any_order vs gates passed }

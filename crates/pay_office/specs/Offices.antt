@@ -3,7 +3,7 @@ use Rattle.std.specs.Prelude.{◌≡◌, List, All, length, map}
 use Rattle.std.specs.List.{AllZip}
 use Rattle.pay_shard.specs.declared.item.Entry.{Entry}
 use Rattle.pay_shard.specs.declared.item.Item.{Item}
-use Rattle.pay_lanes.specs.Words.{LaneParts, WorkerParts, IsSameWorker, arrived, sent_by, AreKnown, IsAnswered, AreJournalsFrom, IsRight}
+use Rattle.pay_lanes.specs.Words.{LaneParts, WorkerParts, IsSameWorker, arrived, sent_by, AreKnown, IsAnswered, AreJournalsFrom, IsRight, Passed, HavePassed}
 use Rattle.pay_lanes.specs.declared.opening.OpenFault.{OpenFault}
 use Rattle.pay_lanes.specs.declared.opening.OpenFault.TheVariants as opening
 use Rattle.pay_office.specs.declared.office.StartFault.{StartFault}
@@ -40,3 +40,11 @@ pub record HasEnded (office : List WorkerParts) (lanes : List LaneParts) (journa
   pub workers : List WorkerParts
   pub same : AllZip IsSameWorker office workers
   pub ends : IsEndOf workers lanes journals left
+
+-- An office of these workers has ended with these lanes and these gates: each holds what it let pass of what its journal's run answers, and what each
+-- lane took is the first of that.
+pub record HaveLetPass {G : Type 0} (Holds : G → List Passed → Type 0) (office : List WorkerParts) (lanes : List LaneParts) (journals : List (List Item)) (gates : List G) : Type 0 where
+  pub workers : List WorkerParts
+  pub same : AllZip IsSameWorker office workers
+  pub journals_are : journals ≡ map (λ (w : WorkerParts). w.shard.journal) workers
+  pub passed : HavePassed Holds lanes workers gates

@@ -2,8 +2,8 @@
 ghost use Rattle.std.specs.Prelude.{◌≡◌, ◌↔◌, ◌≢◌, All, length, map as each, vec_items, Err, IfOk, IfErr, OnOk, IsPermutation, ◌≤◌, [], vec_capacity};
 ghost use Rattle.std.specs.Arc.{arc_value};
 ghost use Rattle.std.specs.List.{range_with_len, AllZip};
-ghost use Rattle.pay_lanes.specs.Words.{IsOutOfCount, IsNewWorker, IsNewLane, AreTogether, AreAll, IsSameWorker, numbers, shard_numbers};
-ghost use Rattle.pay_office.specs.Offices.{HasEnded};
+ghost use Rattle.pay_lanes.specs.Words.{IsOutOfCount, IsNewWorker, IsNewLane, AreTogether, AreAll, IsSameWorker, numbers, shard_numbers, began_of};
+ghost use Rattle.pay_office.specs.Offices.{HasEnded, HaveLetPass};
 ghost use Rattle.pay_office.specs.declared.office.StartFault.TheVariants.{Count};
 ghost use Rattle.pay_office.specs.declared.office.ShutFault.TheVariants.{LaneMissing};
 
@@ -138,7 +138,8 @@ where
 }
 
 /// Begins so many shards, which have no accounts and price by this fare file, each in a thread of its own, and opens so many lanes
-/// to them, from 1 to 16 each. Each shard has a gate. Where it is refused, no thread is left, and the gates are dropped.
+/// to them, from 1 to 16 each. Each shard has a gate, which has let nothing pass yet. Where it is refused, no thread is left, and the
+/// gates are dropped.
 pub fn start<F, G, R>(
     rt: R,
     alloc: Global,
@@ -151,9 +152,11 @@ where
     F: Fares + Send + 'static,
     G: Gate + Send + 'static,
     R: Threads + Wait + Copy + Send + 'static,
+    requires { All (λ gate. G.Holds gate []) gates.items }
     ensures count { (result ≡ Err Count) ↔ IsOutOfCount shards lanes (length gates.items) }
     ensures workers { IfOk result (λ begun. shard_numbers begun.0 ≡ range_with_len 0 shards) }
     ensures new_workers { IfOk result (λ begun. All (IsNewWorker (arc_value tables) lanes) begun.0) }
+    ensures began { IfOk result (λ begun. began_of begun.0 ≡ each G.began gates.items) }
     ensures lanes { IfOk result (λ begun. numbers begun.1.items ≡ range_with_len 0 lanes) }
     ensures new_lanes { IfOk result (λ begun. All (IsNewLane shards) begun.1.items) }
     ensures together { IfOk result (λ begun. AreTogether begun.0 begun.1.items) }
@@ -195,12 +198,14 @@ pub fn shut<F: Fares, G: Gate, R: Threads + Wait>(
     rt: &R,
     office: Office<F, G>,
     lanes: Vec<Lane>,
-) -> Result<Ended, (ShutFault, Office<F, G>, Vec<Lane>)>
+) -> Result<Ended<G>, (ShutFault, Office<F, G>, Vec<Lane>)>
     requires { AreTogether office lanes.items }
     ensures all { OnOk result (AreAll office lanes.items) }
     ensures missing { IfErr result (λ back. (back.0 ≡ LaneMissing) × (AreAll office lanes.items → ⊥)) }
     ensures given_back { IfErr result (λ back. (back.1 ≡ office) × IsPermutation lanes.items back.2.items) }
     ensures ended { IfOk result (λ ended. HasEnded office lanes.items (each (λ j. j.items) ended.journals.items) (each vec_items ended.left.items)) }
+    ensures gates { IfOk result (λ ended. HaveLetPass G.Holds office lanes.items (each (λ j. j.items) ended.journals.items) ended.gates.items) }
+    ensures began { IfOk result (λ ended. each G.began ended.gates.items ≡ began_of office) }
 {
     let mut lanes = lanes;
     if !put_in_order(&mut lanes, office.lanes) {

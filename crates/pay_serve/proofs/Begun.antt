@@ -1,17 +1,18 @@
 -- An office that has begun, its lanes, and the one lane more.
-use Rattle.std.proofs.Common.{◌≡◌, inl, inr, Bool, false, true, ℕ, zero, suc, ◌+◌, ◌<◌, ◌≤◌, List, [], ◌∷◌, ◌++◌, All, length, min, Option, Some, None, option_to_list, refl, sym, ap, ◌∙◌, subst, append_assoc, arith}
-use Rattle.std.specs.Prelude.{IsPermutation, IsSome}
+use Rattle.std.proofs.Common.{◌≡◌, inl, inr, ℕ, zero, suc, ◌+◌, ◌<◌, ◌≤◌, List, [], ◌∷◌, ◌++◌, All, length, min, refl, sym, ap, ◌∙◌, subst, append_assoc, arith}
+use Rattle.std.specs.Prelude.{IsPermutation, remove, slice_index_or}
 use Rattle.std.specs.FinMap.{empty}
 use Rattle.std.specs.List.{range_with_len}
 use Rattle.std.proofs.Math.Nat.{lt_of_not-le}
-use Rattle.std.proofs.lemmas.List.{length-append}
 use Rattle.std.proofs.lemmas.List.Elements.{All-cons, All-head, All-tail, All-weaker}
 use Rattle.std.proofs.lemmas.List.FromFn.{length-range_with_len}
-use Rattle.std.proofs.lemmas.List.Sorted.{IsPermutation-refl}
+use Rattle.std.proofs.lemmas.List.Sorted.{All-permutation, IsPermutation-refl, IsPermutation-trans, IsPermutation-map, IsPermutation-append_comm}
 use Rattle.pay_tables.specs.Words.{FareTables}
 use Rattle.pay_shard.specs.declared.limits.TheConstants.{MOST_SHARDS}
 use Rattle.pay_lanes.specs.declared.limits.TheConstants.{MOST_LANES}
-use Rattle.pay_lanes.specs.Words.{LaneParts, WorkerParts, AreTogether, AreAll, lanes_of, numbers, shard_numbers, IsOutOfCount, IsNewLane, IsNewWorker}
+use Rattle.pay_lanes.specs.Words.{LaneParts, WorkerParts, AreTogether, lanes_of, numbers, shard_numbers, IsOutOfCount, IsNewLane, IsNewWorker}
+use Rattle.pay_keeping.specs.declared.limits.TheConstants.{SPARED_LANE}
+use Rattle.pay_lanes.specs.Ends.{IsLaneOf}
 use Rattle.pay_lanes.proofs.Exchanges.{each_length}
 use Rattle.pay_serve.specs.Lanes.{HasShards, AreAllWith}
 use Rattle.pay_serve.specs.Machines.{IsNewOffice}
@@ -39,10 +40,11 @@ in_count shards lanes gates never = record {
   few_lanes = most lanes MOST_LANES (λ e. never (inr (inr (inr (inl e)))));
 }
 
--- ---- the last of a list
+-- ---- the first of a list
 
-pub popped : {X : Type 0} (all rest : List X) (o : Option X) (x : X) → all ≡ rest ++ option_to_list o → o ≡ Some x → all ≡ rest ++ x ∷ []
-popped all rest o x is some = is ∙ ap (λ p. rest ++ option_to_list p) some
+pub removed : {X : Type 0} (all rest : List X) (x : X) → 0 < length all → x ≡ slice_index_or all 0 x → rest ≡ remove all 0 → all ≡ x ∷ rest
+removed [] rest x some first is = absurd (omega (arith, some))
+removed (a ∷ all) rest x some first is = let one : x ≡ a = first in let others : rest ≡ all = is in λ i. sym one i ∷ sym others i
 
 module _ {X : Type 0} (P : X → Type 0) where
   none : All P []
@@ -60,41 +62,59 @@ module _ {X : Type 0} (P : X → Type 0) where
 count_of : (n : ℕ) (ls : List LaneParts) → numbers ls ≡ range_with_len 0 n → length ls ≡ n
 count_of n ls are = sym (each_length (λ (l : LaneParts). l.number) ls) ∙ (ap length are ∙ length-range_with_len 0 n)
 
--- there is a last one
-pub some_lane : (n : ℕ) (ls : List LaneParts) (o : Option LaneParts) → 1 ≤ n → numbers ls ≡ range_with_len 0 n → (0 < length ls → IsSome o) → o ≡ None → ⊥
-some_lane n ls o some are there is =
-    let many = count_of n ls are in
-    let found : ◌≡◌ {A = Bool} false true = subst IsSome is (there (omega (arith, some, many))) in
-    absurd (cc)
+-- there is a first one
+pub some_lane : (n : ℕ) (ls : List LaneParts) → 1 ≤ n → numbers ls ≡ range_with_len 0 n → 0 < length ls
+some_lane n ls some are = let many = count_of n ls are in omega (arith, some, many)
 
 pub one_more : (n lanes : ℕ) → n ≡ min (lanes + 1) 255 → n ≤ MOST_LANES → n ≡ lanes + 1
 one_more n lanes is few = omega (arith, is, few)
 
--- how many there are beside the last
-pub others : (n lanes : ℕ) (ls rest : List LaneParts) (l : LaneParts) → n ≡ lanes + 1 → numbers ls ≡ range_with_len 0 n → ls ≡ rest ++ l ∷ [] → length rest ≡ lanes
+-- how many there are beside the first
+pub others : (n lanes : ℕ) (ls rest : List LaneParts) (l : LaneParts) → n ≡ lanes + 1 → numbers ls ≡ range_with_len 0 n → ls ≡ l ∷ rest → length rest ≡ lanes
 others n lanes ls rest l more are parts =
     let many = count_of n ls are in
-    let long = ap length parts ∙ length-append rest (l ∷ []) in
+    let long : length ls ≡ suc (length rest) = ap length parts in
     omega (arith, more, many, long)
+
+-- its number
+pub first_number : (n : ℕ) (ls rest : List LaneParts) (l : LaneParts) → 1 ≤ n → numbers ls ≡ range_with_len 0 n → ls ≡ l ∷ rest → l.number ≡ SPARED_LANE
+first_number zero ls rest l some are parts = absurd (omega (arith, some))
+first_number (suc n) ls rest l some are parts =
+    let both : l.number ∷ numbers rest ≡ 0 ∷ range_with_len 1 n = ap numbers (sym parts) ∙ are in cc
 
 new_has : (shards : ℕ) → 1 ≤ shards → shards ≤ MOST_SHARDS → (l : LaneParts) → IsNewLane shards l → HasShards l
 new_has shards some few l is = (subst (λ n. 1 ≤ n) (sym is.shards) some, subst (λ n. n ≤ MOST_SHARDS) (sym is.shards) few)
 
-pub all_have : (shards : ℕ) (ls rest : List LaneParts) (l : LaneParts) → 1 ≤ shards → shards ≤ MOST_SHARDS → All (IsNewLane shards) ls → ls ≡ rest ++ l ∷ [] → All HasShards rest × HasShards l
+pub all_have : (shards : ℕ) (ls rest : List LaneParts) (l : LaneParts) → 1 ≤ shards → shards ≤ MOST_SHARDS → All (IsNewLane shards) ls → ls ≡ l ∷ rest → HasShards l × All HasShards rest
 all_have shards ls rest l some few all parts =
-    of_last HasShards rest l (subst (All HasShards) parts (All-weaker (IsNewLane shards) HasShards (λ m is. new_has shards some few m is) ls all))
+    let each = subst (All HasShards) parts (All-weaker (IsNewLane shards) HasShards (λ m is. new_has shards some few m is) ls all) in
+    (All-head HasShards l rest each, All-tail HasShards l rest each)
+
+pub first_new : (shards count : ℕ) (ls rest : List LaneParts) (l : LaneParts) → shards ≡ count → All (IsNewLane shards) ls → ls ≡ l ∷ rest → IsNewLane count l
+first_new shards count ls rest l same all parts = subst (λ n. IsNewLane n l) same (All-head (IsNewLane shards) l rest (subst (All (IsNewLane shards)) parts all))
+
+pub others_new : (shards count : ℕ) (ls rest : List LaneParts) (l : LaneParts) → shards ≡ count → All (IsNewLane shards) ls → ls ≡ l ∷ rest → All (IsNewLane count) rest
+others_new shards count ls rest l same all parts = subst (λ n. All (IsNewLane n) rest) same (All-tail (IsNewLane shards) l rest (subst (All (IsNewLane shards)) parts all))
 
 lanes_are : (tables : FareTables) (shards lanes : ℕ) (office : List WorkerParts) → 1 ≤ shards → shard_numbers office ≡ range_with_len 0 shards → All (IsNewWorker tables lanes) office → lanes_of office ≡ lanes
 lanes_are tables shards lanes [] some are all =
     let none : 0 ≡ shards = ap length are ∙ length-range_with_len 0 shards in absurd (omega (arith, some, none))
 lanes_are tables shards lanes (w ∷ office) some are all = (All-head (IsNewWorker tables lanes) w office all).lanes
 
+pub office_count : (shards : ℕ) (office : List WorkerParts) → shard_numbers office ≡ range_with_len 0 shards → shards ≡ length office
+office_count shards office are = sym (length-range_with_len 0 shards) ∙ (sym (ap length are) ∙ each_length (λ (w : WorkerParts). w.shard.number) office)
+
+-- the first one behind the others
 pub all_with : (tables : FareTables) (shards lanes : ℕ) (office : List WorkerParts) (ls rest : List LaneParts) (l : LaneParts)
-    → 1 ≤ shards → shard_numbers office ≡ range_with_len 0 shards → All (IsNewWorker tables lanes) office → numbers ls ≡ range_with_len 0 lanes → AreTogether office ls → ls ≡ rest ++ l ∷ [] → AreAllWith office rest l
+    → 1 ≤ shards → shard_numbers office ≡ range_with_len 0 shards → All (IsNewWorker tables lanes) office → numbers ls ≡ range_with_len 0 lanes → AreTogether office ls → ls ≡ l ∷ rest → AreAllWith office rest l
 all_with tables shards lanes office ls rest l some workers new are together parts =
     let count : lanes_of office ≡ lanes = lanes_are tables shards lanes office some workers new in
-    let all : AreAll office ls = subst (λ ns. IsPermutation (range_with_len 0 (lanes_of office)) ns) (ap (range_with_len 0) count ∙ sym are) (IsPermutation-refl (range_with_len 0 (lanes_of office))) in
-    (subst (AreTogether office) parts together, subst (AreAll office) parts all)
+    let moved : IsPermutation ls (rest ++ l ∷ []) = subst (λ ks. IsPermutation ks (rest ++ l ∷ [])) (sym parts) (IsPermutation-append_comm (l ∷ []) rest) in
+    let all : IsPermutation (range_with_len 0 (lanes_of office)) (numbers ls) =
+    subst (λ ns. IsPermutation (range_with_len 0 (lanes_of office)) ns) (ap (range_with_len 0) count ∙ sym are) (IsPermutation-refl (range_with_len 0 (lanes_of office))) in (
+      record { few = together.few; workers_of = together.workers_of; lanes_of_them = All-permutation (IsLaneOf office) ls (rest ++ l ∷ []) moved together.lanes_of_them },
+      IsPermutation-trans _ _ _ all (IsPermutation-map (λ (m : LaneParts). m.number) ls (rest ++ l ∷ []) moved),
+    )
 
 -- the office of which the lanes were opened
 pub new_office : (tables : FareTables) (shards lanes : ℕ) (office : List WorkerParts) → 1 ≤ shards → shard_numbers office ≡ range_with_len 0 shards → All (IsNewWorker tables lanes) office → IsNewOffice tables office

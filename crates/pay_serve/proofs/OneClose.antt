@@ -222,7 +222,7 @@ module _ (fares : FareTables) (office workers : List WorkerParts) (l : LaneParts
     of_shards each (suc k) ts all.1 (λ n m less is. are (suc n) m (omega (arith, less)) (omega (arith, is))),
   )
 
-  one_close : ShardsCloseAsMerge → (put : List Taken) → 1 ≤ shards → AreQuotes day shards 0 put → AreAnswered transcript put → IsWhole shards put → IsOneClose fares day workers put
+  pub one_close : ShardsCloseAsMerge → (put : List Taken) → 1 ≤ shards → AreQuotes day shards 0 put → AreAnswered transcript put → IsWhole shards put → IsOneClose fares day workers put
   one_close law put some quotes its whole =
       let all = all_brought 0 put quotes whole.1 its in
       let long = whole.0 in
@@ -237,11 +237,11 @@ module _ (fares : FareTables) (office workers : List WorkerParts) (l : LaneParts
 
 -- ---- an office that has ended
 
-some_worker : (ws : List WorkerParts) → 1 ≤ length ws → WorkerParts
+pub some_worker : (ws : List WorkerParts) → 1 ≤ length ws → WorkerParts
 some_worker [] some = absurd (omega (arith, some))
 some_worker (w ∷ ws) some = w
 
-pub over_as_one : ShardsCloseAsMerge → (office : List WorkerParts) (ls : List LaneParts) (l : LaneParts) (day shards : ℕ) (put : List Taken) → AreAllWith office ls l → shards ≡ length l.shards
+unfoldable pub over_as_one : ShardsCloseAsMerge → (office : List WorkerParts) (ls : List LaneParts) (l : LaneParts) (day shards : ℕ) (put : List Taken) → AreAllWith office ls l → shards ≡ length l.shards
     → AreQuotes day shards 0 put → AreAnswered (λ ticket. answer_to ticket l.answers.got) put → IsOver office (ls ++ l ∷ []) → IsOverAsOne office (ls ++ l ∷ []) day shards put
 over_as_one law office ls l day shards put all count quotes its over = record {
   over = over;

@@ -1,21 +1,27 @@
 -- The close of a day, and what is written of it.
-use Rattle.std.specs.Prelude.{◌≡◌, ◌⊎◌, ℕ, Bool, List, [], ◌∷◌, ◌++◌, length, Option, Result, Ok, Err, IsErr, is_ok}
+use Rattle.std.specs.Prelude.{◌≡◌, ◌⊎◌, ℕ, Bool, List, [], ◌∷◌, ◌++◌, All, length, map, Option, Result, Ok, Err, IsErr, is_ok, ⊤}
 use Rattle.std.specs.Io.KnownBytes.{Appends}
+use Rattle.std.specs.List.{AllZip}
 use Rattle.sqlite.specs.State.{State}
 use Rattle.pay_account.specs.Words.{Posting}
+use Rattle.jiff.specs.declared.tz.timezone.TimeZone.{TimeZone}
 use Rattle.pay_shard.specs.Words.{DeskParts}
+use Rattle.pay_shard.specs.declared.item.Item.{Item}
 use Rattle.pay_tables.specs.Words.{FareTables}
-use Rattle.pay_lanes.specs.Words.{LaneParts, WorkerParts}
-use Rattle.pay_office.specs.Words.{LaneDeskParts, desk_parts}
+use Rattle.pay_lanes.specs.Words.{LaneParts, WorkerParts, IsNewLane, Passed}
+use Rattle.pay_keeping.specs.Words.{GateParts, HasKept, HasKeptNone}
+use Rattle.pay_keeping.specs.declared.limits.TheConstants.{SPARED_LANE}
+use Rattle.pay_office.specs.Words.{LaneDeskParts, desk_parts, HaveLetPass}
 use Rattle.pay_wire.specs.Words.{AppendsFront, spelling_of_reply}
 use Rattle.pay_wire.specs.declared.output.WriteFault.{WriteFault}
 use Rattle.pay_wire.specs.declared.refusal.Refusal.{Refusal}
 use Rattle.pay_session.specs.Words.{said_of_close, IsClosedAt}
 use Rattle.pay_close.specs.Words.{Closes}
+use Rattle.pay_serve.specs.Journals.{AreTakenThrough, is_one_stuck, told_with}
 use Rattle.pay_serve.specs.Lanes.{AreAllWith}
 use Rattle.pay_serve.specs.Machines.{IsOverAsOne, IsNewOffice}
 use Rattle.pay_serve.specs.declared.fault.ServeFault.{ServeFault}
-use Rattle.pay_serve.specs.declared.fault.ServeFault.TheVariants.{Output}
+use Rattle.pay_serve.specs.declared.fault.ServeFault.TheVariants.{CannotListen, Count, NoThread, Memory, Journal, JournalLine, Output}
 
 -- The lines of a close were written: whether it was closed is told where all of them were.
 abbrev pub IsWritten : ℕ → Result (List Posting) Refusal → Option (List ℕ) → Option (List ℕ) → Result Bool WriteFault → Type 0
@@ -48,23 +54,68 @@ IsTold _ _ = ⊥
 -- The day was closed over this lane, the last of an office, or not, and the lines of that were written; and the office has ended, with the
 -- other lanes and this one. Before are the lane, the ledger, and what the writer holds; after, the ledger and what the
 -- writer holds.
-pub record IsDayClosed (office : List WorkerParts) (others : List LaneParts) (day : ℕ) (before : LaneParts × State × Option (List ℕ)) (after : State × Option (List ℕ)) (result : Result Bool ServeFault) : Type 0 where
+pub record IsDayClosed (Passed : List LaneParts → List (List Item) → Type 0) (office : List WorkerParts) (others : List LaneParts) (day : ℕ) (before : LaneParts × State × Option (List ℕ)) (after : State × Option (List ℕ) × Result Bool ServeFault) : Type 0 where
   pub lane : LaneParts
   pub closed : Result Bool WriteFault
   pub through : IsClosedThrough day before (lane, after.0, after.1) closed
-  pub told : IsTold closed result
+  pub told : IsTold closed after.2
   pub one : IsOverAsOne office (others ++ lane ∷ []) day (length before.0.shards) through.closed.closed.put
+  -- the gates let pass what the lanes took
+  pub gates : Passed (others ++ lane ∷ []) one.over.0
 
--- All connections were served over a new office, and the day was closed over its last lane, or not. Before and after are the ledger and
--- what the writer holds.
-pub record IsServedBy (fares : FareTables) (day : ℕ) (before after : State × Option (List ℕ)) (result : Result Bool ServeFault) : Type 0 where
+-- what a service serves by: its fare file and its zone, the texts of its journals, what its keepers hold, and the day that it closes
+pub record Terms : Type 0 where
+  pub fares : FareTables
+  pub zone : TimeZone
+  pub texts : List (List ℕ)
+  pub held : List (Option (List ℕ))
+  pub day : ℕ
+
+abbrev pub terms : FareTables → TimeZone → List (List ℕ) → List (Option (List ℕ)) → ℕ → Terms
+terms fares zone texts held day = record { fares = fares; zone = zone; texts = texts; held = held; day = day }
+
+-- Over a new office, all that its journals had was taken again over one lane, which had asked for nothing; all connections were served over
+-- the others; and the day was closed over the first one, or not. Of each shard its gate, behind what its keeper held, has kept what it newly
+-- accepted, but what the first lane asked. Before and after are the ledger and what the writer holds.
+pub record IsServedBy (Holds : GateParts → List Passed → Type 0) (terms : Terms) (before after : State × Option (List ℕ)) (result : Result Bool ServeFault) : Type 0 where
   pub office : List WorkerParts
-  pub new : IsNewOffice fares office
-  pub others : List LaneParts
+  pub new : IsNewOffice terms.fares office
+  pub first : LaneParts
+  pub spared : (first.number ≡ SPARED_LANE) × IsNewLane (length office) first
   pub last : LaneParts
+  pub past : AreTakenThrough terms.zone terms.texts first last (Ok tt)
+  pub others : List LaneParts
   pub all : AreAllWith office others last
-  pub closed : IsDayClosed office others day (last, before.0, before.1) after result
+  pub gates : List GateParts
+  pub began : map (λ (g : GateParts). g.held_first) gates ≡ terms.held
+  pub told : Result Bool ServeFault
+  pub closed : IsDayClosed (λ lanes journals. HaveLetPass Holds office lanes journals gates) office others terms.day (last, before.0, before.1) (after.0, after.1, told)
+  pub kept : AllZip (HasKept (others ++ closed.lane ∷ [])) closed.gates.workers gates
+  pub is : result ≡ told_with (is_one_stuck gates) told
 
 -- All connections were served, and the day was closed, or not; or it was not come to, and all is untouched.
-abbrev pub IsServed : FareTables → ℕ → State × Option (List ℕ) → State × Option (List ℕ) → Result Bool ServeFault → Type 0 → Type 0
-IsServed fares day before after result Untouched = IsServedBy fares day before after result ⊎ (IsErr result × Untouched)
+abbrev pub IsServed : (GateParts → List Passed → Type 0) → Terms → State × Option (List ℕ) → State × Option (List ℕ) → Result Bool ServeFault → Type 0 → Type 0
+IsServed Holds terms before after result Untouched = IsServedBy Holds terms before after result ⊎ (IsErr result × Untouched)
+
+-- A line of a journal is not accepted: over a new office all lines before it were taken again over one lane, which had asked for nothing,
+-- and it was not. No gate has kept a line.
+pub record IsRefusedAgain (terms : Terms) (journal line : ℕ) (why : Refusal) : Type 0 where
+  pub office : List WorkerParts
+  pub new : IsNewOffice terms.fares office
+  pub first : LaneParts
+  pub spared : (first.number ≡ SPARED_LANE) × IsNewLane (length office) first
+  pub last : LaneParts
+  pub past : AreTakenThrough terms.zone terms.texts first last (Err (JournalLine journal line why))
+  pub gates : List GateParts
+  pub began : map (λ (g : GateParts). g.held_first) gates ≡ terms.held
+  pub none : All HasKeptNone gates
+
+-- a fault that tells of a line tells what came of it
+abbrev pub IsStopped : Terms → ServeFault → Type 0
+IsStopped terms (JournalLine journal line why) = IsRefusedAgain terms journal line why
+IsStopped terms CannotListen = ⊤
+IsStopped terms Count = ⊤
+IsStopped terms NoThread = ⊤
+IsStopped terms Memory = ⊤
+IsStopped terms Journal = ⊤
+IsStopped terms Output = ⊤

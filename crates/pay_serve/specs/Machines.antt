@@ -8,8 +8,8 @@ use Rattle.pay_postings.specs.Words.{LedgerParts}
 use Rattle.pay_shard.specs.Words.{replay, items_of, all_items, AreAskedOf}
 use Rattle.pay_shard.specs.declared.item.Entry.{Entry}
 use Rattle.pay_shard.specs.declared.item.Item.{Item}
-use Rattle.pay_lanes.specs.Words.{LaneParts, WorkerParts, shard_numbers}
-use Rattle.pay_office.specs.Words.{HasEnded}
+use Rattle.pay_lanes.specs.Words.{LaneParts, WorkerParts, shard_numbers, Passed}
+use Rattle.pay_office.specs.Words.{HasEnded, HaveLetPass}
 use Rattle.pay_session.specs.Words.{Taken}
 use Rattle.pay_close.specs.Words.{IsWhole, posted_of, close}
 
@@ -37,6 +37,10 @@ pub record IsNewOffice (fares : FareTables) (office : List WorkerParts) : Type 0
 -- an office has ended with these lanes, by some journals and what was left
 abbrev pub IsOver : List WorkerParts → List LaneParts → Type 0
 IsOver office lanes = (journals : List (List Item)) × (left : List (List Entry)) × HasEnded office lanes journals left
+
+-- and with these gates, which hold what they let pass of it
+abbrev pub IsOverWith : {G : Type 0} → (G → List Passed → Type 0) → List WorkerParts → List LaneParts → List G → Type 0
+IsOverWith Holds office lanes gates = (over : IsOver office lanes) × HaveLetPass Holds office lanes over.0 gates
 
 -- An office has ended, and if it was new, and all its shards gave their quotes for a close, that was the close of one machine.
 pub record IsOverAsOne (office : List WorkerParts) (lanes : List LaneParts) (day shards : ℕ) (put : List Taken) : Type 0 where

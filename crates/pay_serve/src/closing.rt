@@ -1,13 +1,14 @@
 //! The close of a day over one lane, once all others have ended.
-ghost use Rattle.std.specs.Prelude.{◌≡◌, ◌≤◌, ◌<◌, [], ◌∷◌, ◌++◌, length, vec_capacity, OnOk, OnErr, IfErr};
+ghost use Rattle.std.specs.Prelude.{◌≡◌, ◌≤◌, ◌<◌, [], ◌∷◌, ◌++◌, length, map as each, vec_capacity, OnOk, OnErr, IfErr};
 ghost use Rattle.sqlite.specs.Held.{state};
 ghost use Rattle.pay_day.specs.declared.limits.TheConstants.{FIRST_DAY, LAST_DAY};
 ghost use Rattle.pay_shard.specs.Words.{AreKept};
 ghost use Rattle.pay_wire.specs.Words.{IsFlushed, IsCaused, HasFault};
-ghost use Rattle.pay_lanes.specs.Words.{IsSameLane};
+ghost use Rattle.pay_lanes.specs.Words.{IsSameLane, began_of};
 ghost use Rattle.pay_serve.specs.Closes.{IsClosedOver, IsClosedThrough, IsTold, IsDayClosed};
 ghost use Rattle.pay_serve.specs.Lanes.{HasShards, AreAllWith};
-ghost use Rattle.pay_serve.specs.Machines.{IsOver};
+ghost use Rattle.pay_office.specs.Words.{HaveLetPass};
+ghost use Rattle.pay_serve.specs.Machines.{IsOverWith};
 
 use crate::fault::ServeFault;
 use pay_account::Fares;
@@ -74,21 +75,22 @@ fn close_through<R: Wait + Copy, S: Alter, W: ToldWriter>(
     (closed, desk.into_lane())
 }
 
-/// Ends the threads of an office, all of whose lanes are back.
+/// Ends the threads of an office, all of whose lanes are back. The gates are given back.
 pub(crate) fn end<F: Fares, G: Gate, R: Threads + Wait>(
     rt: &R,
     office: Office<F, G>,
     lanes: Vec<Lane>,
     last: Lane,
-)
+) -> Vec<G>
     requires room { length lanes.items < vec_capacity lanes }
     requires all { AreAllWith office lanes.items last }
-    ensures { IsOver office (lanes.items ++ last ∷ []) }
+    ensures over { IsOverWith G.Holds office (lanes.items ++ last ∷ []) result.items }
+    ensures began { each G.began result.items ≡ began_of office }
 {
     let mut lanes = lanes;
     lanes.push_reserved(last);
     match shut(rt, office, lanes) {
-        Ok(_) => {}
+        Ok(ended) => ended.gates,
         Err(_) => unreachable!(),
     }
 }
@@ -101,8 +103,9 @@ fn told(closed: Result<bool, WriteFault>) -> Result<bool, ServeFault>
 }
 
 /// Closes a service day, counted from 1970-01-01, into a ledger over the last lane of an office, whose other lanes are back; writes
-/// what came of it; and ends the threads of the office. Whether the day was closed; if not, its refusal is written. Over a new office
-/// whose shards all gave their quotes it is the close of one machine that was asked what stands in their journals.
+/// what came of it; and ends the threads of the office, whose gates are given back. Whether the day was closed; if not, its refusal is
+/// written. Over a new office whose shards all gave their quotes it is the close of one machine that was asked what stands in their
+/// journals.
 pub fn close_day<F: Fares, G: Gate, R: Threads + Wait + Copy, S: Alter, W: ToldWriter>(
     rt: R,
     alloc: Global,
@@ -112,20 +115,22 @@ pub fn close_day<F: Fares, G: Gate, R: Threads + Wait + Copy, S: Alter, W: ToldW
     ledger: &mut Ledger<S>,
     day: u32,
     writer: &mut W,
-) -> Result<bool, ServeFault>
+) -> (Result<bool, ServeFault>, Vec<G>)
     requires day { (FIRST_DAY ≤ day) × (day ≤ LAST_DAY) }
     requires shards { HasShards last }
     requires room { length lanes.items < vec_capacity lanes }
     requires all { AreAllWith office lanes.items last }
-    ensures closed { IsDayClosed office lanes.items day (last, state S.Store ledger.old, W.contents writer.old) (state S.Store ledger.new, W.contents writer.new) result }
-    ensures flushed { OnOk result (IsFlushed W.Tells writer.new) }
-    ensures cause { OnErr result (HasFault W.Tells writer.new) }
+    ensures closed { IsDayClosed (λ ls journals. HaveLetPass G.Holds office ls journals result.1.items) office lanes.items day
+        (last, state S.Store ledger.old, W.contents writer.old) (state S.Store ledger.new, W.contents writer.new, result.0) }
+    ensures began { each G.began result.1.items ≡ began_of office }
+    ensures flushed { OnOk result.0 (IsFlushed W.Tells writer.new) }
+    ensures cause { OnErr result.0 (HasFault W.Tells writer.new) }
 {
     pay_lanes::laws::still_together();
     pay_lanes::laws::same_lanes();
     pay_lanes::laws::same_workers();
     pay_close::laws::any_shards();
     let (closed, last) = close_through(rt, alloc, last, ledger, day, writer);
-    end(&rt, office, lanes, last);
-    told(closed)
+    let gates = end(&rt, office, lanes, last);
+    (told(closed), gates)
 }

@@ -2,7 +2,7 @@
 
 use crate::begins::LaneFault;
 use pay_office::StartFault;
-use pay_wire::WriteFault;
+use pay_wire::{Refusal, WriteFault};
 use std::alloc::AllocError;
 use thiserror::Error;
 
@@ -21,6 +21,16 @@ pub enum ServeFault {
     /// 90: no memory.
     #[error("90 Memory")]
     Memory,
+    /// The line of this number, from 1, of the journal of this one, from 0, is not accepted once more.
+    #[error("journal {journal} line {line}: {why}")]
+    JournalLine {
+        journal: u64,
+        line: u64,
+        why: Refusal,
+    },
+    /// Something that was accepted is not kept, or not settled.
+    #[error("journal fault")]
+    Journal,
     /// The lines of the close cannot be written.
     #[error("output fault")]
     Output,

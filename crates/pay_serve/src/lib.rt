@@ -1,11 +1,14 @@
 //! Serves sessions at sockets: [`listen`] takes a port for each lane, and [`serve`] answers the connections of each lane in a thread of
-//! its own, over an office of several shards, until all have ended. [`close_day`] then closes a day, and shuts the office.
+//! its own, over an office of several shards, until all have ended. What journals have is taken again before, and what the shards newly
+//! accept is kept behind it. [`close_day`] then closes a day, and shuts the office.
 #![tactic(auto)]
 
 mod begins;
 mod closing;
 mod connection;
 mod fault;
+mod gates;
+mod journals;
 mod lanes;
 pub mod limits;
 mod listening;
@@ -16,6 +19,7 @@ mod sides;
 pub use closing::{close_day, close_over};
 pub use connection::{serve_connections, serve_lane};
 pub use fault::ServeFault;
+pub use journals::{take_again, take_through};
 pub use listening::listen;
 pub use plan::Plan;
 pub use service::serve;

@@ -1,23 +1,32 @@
 //! The whole service.
-ghost use Rattle.std.specs.Prelude.{◌≡◌, ◌≤◌, All, length, IfOk, IfErr, OnOk};
+ghost use Rattle.std.specs.Prelude.{◌≡◌, ◌≤◌, ◌<◌, true, All, length, map as each, vec_items, vec_capacity, IfOk, IfErr, OnOk};
 ghost use Rattle.std.specs.Arc.{arc_value};
 ghost use Rattle.sqlite.specs.Held.{state};
 ghost use Rattle.pay_day.specs.declared.limits.TheConstants.{FIRST_DAY, LAST_DAY};
 ghost use Rattle.pay_wire.specs.Words.{IsFlushed};
-ghost use Rattle.pay_serve.specs.Causes.{IsOutOfPlan, IsUnserved, IsServeCause};
-ghost use Rattle.pay_serve.specs.Closes.{IsServed};
+ghost use Rattle.pay_kept.specs.Words.{CanFail};
+ghost use Rattle.pay_lanes.specs.Words.{IsNewLane, began_of};
+ghost use Rattle.pay_keeping.specs.Words.{HoldsPassed};
+ghost use Rattle.pay_keeping.specs.declared.limits.TheConstants.{SPARED_LANE};
+ghost use Rattle.pay_serve.specs.Causes.{IsOutOfPlan, IsUnopened, IsServeCause};
+ghost use Rattle.pay_serve.specs.Closes.{IsServed, IsStopped, terms};
+ghost use Rattle.pay_serve.specs.Journals.{is_one_stuck, told_with};
 ghost use Rattle.pay_serve.specs.Lanes.{HasShards, AreAllWith};
 ghost use Rattle.pay_serve.specs.Machines.{IsNewOffice};
 
 use crate::begins::Begins;
 use crate::closing::{close_day, end};
 use crate::fault::ServeFault;
+use crate::gates::{all_gates, is_one_stuck};
+use crate::journals::take_through;
 use crate::lanes::{Service, begin_all, end_all};
 use crate::plan::Plan;
 use jiff::tz::TimeZone;
 use pay_book::Book;
+use pay_keeping::KeepingGate;
+use pay_kept::Keeper;
 use pay_ledger::Ledger;
-use pay_office::{Lane, Office, OpenGate, start};
+use pay_office::{Lane, Office, start};
 use pay_tables::Tables;
 use pay_wire::ToldWriter;
 use sqlite::Alter;
@@ -26,69 +35,84 @@ use std::net::TcpListener;
 use std::sync::{Arc, Wait};
 use std::thread::Threads;
 
-/// So many open gates.
-fn open_gates(alloc: Global, count: u8) -> Result<Vec<OpenGate>, AllocError>
-    ensures { IfOk result (λ gates. length gates.items ≡ count) }
-{
-    let mut gates = Vec::new(alloc);
-    for _ in 0..count {
-        gates.push(OpenGate)?;
-    }
-    Ok(gates)
-}
-
-/// Begins the shards of a plan, and opens its lanes and one more to them.
-fn open_office<R>(
+/// Begins the shards of a plan, each with a keeper, and opens its lanes to them and, before these, the one that is spared.
+fn open_office<R, K>(
     rt: R,
     alloc: Global,
     tables: Arc<Tables>,
     plan: &Plan,
-) -> Result<(Office<Book, OpenGate>, Vec<Lane>, Lane), ServeFault>
+    keepers: Vec<K>,
+) -> Result<(Office<Book, KeepingGate<K>>, Lane, Vec<Lane>), ServeFault>
 where
     R: Threads + Wait + Copy + Send + 'static,
-    ensures count { IfOk result (λ opened. length opened.1.items ≡ plan.now.lanes) }
-    ensures shards { IfOk result (λ opened. All HasShards opened.1.items × HasShards opened.2) }
-    ensures all { IfOk result (λ opened. AreAllWith opened.0 opened.1.items opened.2) }
+    K: Keeper + Send + 'static,
+    requires { length keepers.items ≡ plan.now.shards }
+    ensures count { IfOk result (λ opened. length opened.2.items ≡ plan.now.lanes) }
+    ensures room { IfOk result (λ opened. length opened.2.items < vec_capacity opened.2) }
+    ensures shards { IfOk result (λ opened. HasShards opened.1 × All HasShards opened.2.items) }
+    ensures spared { IfOk result (λ opened. (opened.1.number ≡ SPARED_LANE) × IsNewLane (length opened.0) opened.1) }
+    ensures others { IfOk result (λ opened. All (IsNewLane (length opened.0)) opened.2.items) }
+    ensures all { IfOk result (λ opened. AreAllWith opened.0 opened.2.items opened.1) }
     ensures new { IfOk result (λ opened. IsNewOffice (arc_value tables) opened.0) }
+    ensures began { IfOk result (λ opened. began_of opened.0 ≡ each K.holds keepers.items) }
     ensures within { OnOk result (IsOutOfPlan plan.now → ⊥) }
-    ensures cause { IfErr result (IsUnserved plan.now) }
+    ensures cause { IfErr result (IsUnopened plan.now) }
 {
-    let gates = open_gates(alloc, plan.shards)?;
+    let gates = all_gates(alloc, keepers)?;
     let lanes = plan.lanes.saturating_add(1);
     let (office, mut lanes) = start(rt, alloc, tables, plan.shards, lanes, gates)?;
-    let Some(last) = lanes.pop() else {
-        unreachable!()
-    };
-    Ok((office, lanes, last))
+    let spared = lanes.remove(0);
+    Ok((office, spared, lanes))
 }
 
-/// Serves the connections of a plan's lanes, each lane's at the listener beside it and in a thread of its own, one after another,
-/// until all have ended. Then it closes the plan's day into a ledger over one further lane, and writes what came of it: what one machine
-/// says that was asked what all lanes asked. Whether the day was closed; if not, its refusal is written. Where a lane gets no thread,
-/// no connection is served, and the day is not closed.
-pub fn serve<R, S: Alter, W: ToldWriter>(
+/// What is told of a service whose gates are back.
+fn told_with<K: Keeper>(
+    told: Result<bool, ServeFault>,
+    gates: &[KeepingGate<K>],
+) -> Result<bool, ServeFault>
+    ensures told { result ≡ told_with (is_one_stuck gates.now) told }
+    ensures cause { is_one_stuck gates.now ≡ true → CanFail K.HasFailed }
+{
+    if is_one_stuck(gates) {
+        return Err(ServeFault::Journal);
+    }
+    told
+}
+
+/// Takes all lines of journals again over one lane, and then serves the connections of a plan's lanes, each lane's at the listener
+/// beside it and in a thread of its own, one after another, until all have ended. The line of what a shard newly accepts is kept by its
+/// keeper before any lane can have the answer. Then it closes the plan's day into a ledger over the first lane, and writes what came of
+/// it: what one machine says that was asked what all lanes asked. Whether the day was closed; if not, its refusal is written. Where a
+/// line of a journal is not accepted, or a lane gets no thread, no connection is served, no line is kept, and the day is not closed.
+pub fn serve<R, K, S: Alter, W: ToldWriter>(
     rt: R,
     alloc: Global,
     listeners: Vec<TcpListener>,
     tables: Arc<Tables>,
     zone: TimeZone<'static>,
     plan: &Plan,
+    texts: &[Vec<u8>],
+    keepers: Vec<K>,
     ledger: &mut Ledger<S>,
     writer: &mut W,
 ) -> Result<bool, ServeFault>
 where
     R: Threads + Wait + Copy + Send + 'static,
+    K: Keeper + Send + 'static,
+    requires keepers { length keepers.items ≡ plan.now.shards }
     requires day { (FIRST_DAY ≤ plan.now.close) × (plan.now.close ≤ LAST_DAY) }
     requires listeners { length listeners.items ≡ plan.now.lanes }
-    ensures served { IsServed (arc_value tables) plan.now.close (state S.Store ledger.old, W.contents writer.old) (state S.Store ledger.new, W.contents writer.new)
-        result ((ledger.new ≡ ledger.old) × (writer.new ≡ writer.old)) }
+    ensures served { IsServed (HoldsPassed K.holds K.HasFailed K.IsSettled) (terms (arc_value tables) zone.entry (each vec_items texts.now) (each K.holds keepers.items) plan.now.close)
+        (state S.Store ledger.old, W.contents writer.old) (state S.Store ledger.new, W.contents writer.new) result ((ledger.new ≡ ledger.old) × (writer.new ≡ writer.old)) }
+    ensures stopped { IfErr result (IsStopped (terms (arc_value tables) zone.entry (each vec_items texts.now) (each K.holds keepers.items) plan.now.close)) }
     ensures flushed { OnOk result (IsFlushed W.Tells writer.new) }
     ensures within { OnOk result (IsOutOfPlan plan.now → ⊥) }
-    ensures cause { IfErr result (λ fault. IsServeCause W.Tells plan.now fault writer.new) }
+    ensures cause { IfErr result (λ fault. IsServeCause W.Tells (CanFail K.HasFailed) plan.now fault writer.new) }
 {
     pay_lanes::laws::still_together();
     pay_lanes::laws::same_lanes();
     pay_lanes::laws::same_workers();
+    pay_keeping::laws::passed_are_kept::<K>();
     let service = Service {
         alloc,
         sessions: plan.sessions,
@@ -98,7 +122,15 @@ where
     let service = Arc::new(alloc, service).map_err(AllocError::from)?;
     let mut tried = Vec::with_capacity(alloc, plan.lanes as usize)?;
     let mut back = Vec::with_capacity(alloc, plan.lanes as usize + 1)?;
-    let (office, lanes, last) = open_office(rt, alloc, tables, plan)?;
+    let (office, first, lanes) = open_office(rt, alloc, tables, plan, keepers)?;
+    let (taken, last) = take_through(rt, alloc, texts, &zone, first);
+    match taken {
+        Ok(()) => {}
+        Err(fault) => {
+            end(&rt, office, lanes, last);
+            return Err(fault);
+        }
+    }
     begin_all(rt, &service, listeners, lanes, &mut tried);
     let refused = service.begins.tell();
     end_all(&rt, tried, &mut back);
@@ -106,5 +138,6 @@ where
         end(&rt, office, back, last);
         return Err(ServeFault::from(fault));
     }
-    close_day(rt, alloc, office, back, last, ledger, plan.close, writer)
+    let (closed, gates) = close_day(rt, alloc, office, back, last, ledger, plan.close, writer);
+    told_with(closed, gates.as_slice())
 }

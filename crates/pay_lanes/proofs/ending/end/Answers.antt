@@ -1,14 +1,15 @@
-use Rattle.std.proofs.Common.{◌<◌, rules, sym, ◌∙◌, subst, IsPermutation, arith}
+use Rattle.std.proofs.Common.{◌<◌, [], inl, inr, length, ap, rules, sym, ◌∙◌, subst, IsPermutation, arith}
+use Rattle.std.proofs.Common.{map as each}
 use Rattle.std.proofs.lemmas.Iterator.Adapters.{YieldsList-from_vec}
 use Rattle.std.proofs.lemmas.Iterator.Consumers.{YieldsList-turn, YieldsList-end}
 use Rattle.std.proofs.lemmas.List.{length_push}
 use Rattle.std.specs.List.{range_with_len}
 use Rattle.arrayvec.specs.ArrayVec.{array_vec_len}
-use Rattle.pay_lanes.specs.Parts.{LaneParts}
 use Rattle.pay_lanes.specs.Ends.{lanes_of, numbers}
+use Rattle.pay_lanes.specs.Gates.{HavePassed}
 use Rattle.pay_lanes.proofs.Numbers.{in_order_all, count, order_at}
 use Rattle.pay_lanes.proofs.Exchanges.{each_length}
-use Rattle.pay_lanes.proofs.Endings.{none_ended, next_here, one_ended, pushed, journals_end, many_end, known_end, asked_end, right_end, sent_end, answered_end}
+use Rattle.pay_lanes.proofs.Endings.{none_ended, next_here, one_ended, pushed, journals_end, many_end, known_end, asked_end, right_end, sent_end, answered_end, one_passed, one_gate_more, gates_end, one_began, began_end}
 use Rattle.pay_lanes.proofs.ending.end.Goals as goal
 
 pub returns-then-not-put_in_order-clause-missing :
@@ -25,12 +26,21 @@ loop-worker-init g c = (
       _ _ _ _ c.new_in.ensures c.new_in-2.ensures,
   search rules,
   search rules,
+  subst (λ gates. HavePassed g.G.Gate.Holds c.put_in_order.new.lanes.items [] gates) (sym c.new.ensures.items) tt,
+  ap length c.new.ensures.items,
+  inl c.new.ensures.items,
+  ap (each g.G.Gate.began) c.new.ensures.items,
 )
 
-pub end_worker-journal-requires : goal.end_worker-journal-requires
-end_worker-journal-requires g c =
+pub end_worker-journal-requires-clause-next : goal.end_worker-journal-requires-clause-next
+end_worker-journal-requires-clause-next g c =
     let turn = (YieldsList-turn (YieldsList-from_vec {s = c.into_iter-worker-iterator.result} c.args.workers.items c.into_iter-worker-iterator.ensures.into_iter_gives.0 (c.into_iter-worker-iterator.ensures.into_iter_gives.1 ∙ c.args.workers.ok.0)) c.loop-worker.yielded c.loop-worker.worker-iterator c.loop-worker.yielded_by c.next.result c.next.new.self c.in-Some.worker c.in-Some.is c.next.ensures.steps) in
     next_here _ _ _ _ _ _ c.loop-worker.invariant.0 c.in-Some.worker turn.0 turn.1
+
+pub end_worker-journal-requires-clause-few : goal.end_worker-journal-requires-clause-few
+end_worker-journal-requires-clause-few g c =
+    let turn = (YieldsList-turn (YieldsList-from_vec {s = c.into_iter-worker-iterator.result} c.args.workers.items c.into_iter-worker-iterator.ensures.into_iter_gives.0 (c.into_iter-worker-iterator.ensures.into_iter_gives.1 ∙ c.args.workers.ok.0)) c.loop-worker.yielded c.loop-worker.worker-iterator c.loop-worker.yielded_by c.next.result c.next.new.self c.in-Some.worker c.in-Some.is c.next.ensures.steps) in
+    omega (arith, c.loop-worker.invariant.4, turn.0, c.requires.few)
 
 pub push-requires : goal.push-requires
 push-requires g c =
@@ -53,6 +63,10 @@ loop-worker-preserved g c =
           (pushed _ c.loop-worker.ended.journals.items c.push.new.self.items c.end_worker-journal.result.0 c.push.ensures.items) (pushed _ c.loop-worker.ended.left.items c.push-in-loop-worker.new.self.items c.end_worker-journal.result.1 c.push-in-loop-worker.ensures.items),
       omega (arith, c.loop-worker.invariant.1, more, c.push.ensures.len),
       omega (arith, c.loop-worker.invariant.2, more, c.push-in-loop-worker.ensures.len),
+      one_passed _ _ _ _ _ _ c.loop-worker.invariant.0 c.in-Some.worker turn.0 turn.1 g.G.Gate.Holds _ _ _ more c.loop-worker.invariant.3 c.end_worker-journal.ensures.passed,
+      one_gate_more _ _ _ _ _ _ _ c.loop-worker.invariant.4 more c.end_worker-journal.ensures.passed,
+      inr c.end_worker-journal.ensures.has_room,
+      one_began _ _ _ _ _ _ c.loop-worker.invariant.0 c.in-Some.worker turn.0 turn.1 g.G.Gate.began _ _ _ more c.loop-worker.invariant.6 c.end_worker-journal.ensures.began,
     )
 
 pub returns-clause-all : goal.returns-clause-all
@@ -95,3 +109,13 @@ pub returns-clause-answered : goal.returns-clause-answered
 returns-clause-answered g c =
     let end = (YieldsList-end (YieldsList-from_vec {s = c.into_iter-worker-iterator.result} c.args.workers.items c.into_iter-worker-iterator.ensures.into_iter_gives.0 (c.into_iter-worker-iterator.ensures.into_iter_gives.1 ∙ c.args.workers.ok.0)) c.loop-worker.yielded c.loop-worker.worker-iterator c.loop-worker.yielded_by c.next.result c.next.new.self c.in-None.is c.next.ensures.steps) in
     answered_end _ _ _ _ _ _ c.loop-worker.invariant.0 end.1 c.args.lanes.items c.put_in_order.ensures.moved
+
+pub returns-clause-gates : goal.returns-clause-gates
+returns-clause-gates g c =
+    let end = (YieldsList-end (YieldsList-from_vec {s = c.into_iter-worker-iterator.result} c.args.workers.items c.into_iter-worker-iterator.ensures.into_iter_gives.0 (c.into_iter-worker-iterator.ensures.into_iter_gives.1 ∙ c.args.workers.ok.0)) c.loop-worker.yielded c.loop-worker.worker-iterator c.loop-worker.yielded_by c.next.result c.next.new.self c.in-None.is c.next.ensures.steps) in
+    gates_end _ _ _ _ _ _ c.loop-worker.invariant.0 end.1 g.G.Gate.Holds c.loop-worker.ended.gates.items c.args.lanes.items c.put_in_order.ensures.moved c.loop-worker.invariant.3
+
+pub returns-clause-began : goal.returns-clause-began
+returns-clause-began g c =
+    let end = (YieldsList-end (YieldsList-from_vec {s = c.into_iter-worker-iterator.result} c.args.workers.items c.into_iter-worker-iterator.ensures.into_iter_gives.0 (c.into_iter-worker-iterator.ensures.into_iter_gives.1 ∙ c.args.workers.ok.0)) c.loop-worker.yielded c.loop-worker.worker-iterator c.loop-worker.yielded_by c.next.result c.next.new.self c.in-None.is c.next.ensures.steps) in
+    began_end _ _ _ _ _ _ c.loop-worker.invariant.0 end.1 g.G.Gate.began c.loop-worker.ended.gates.items c.loop-worker.invariant.6

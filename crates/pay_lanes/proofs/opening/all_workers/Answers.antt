@@ -1,11 +1,26 @@
-use Rattle.std.proofs.Common.{◌≡◌, ◌⊎◌, inl, inr, ◌∙◌, [], length, ap, sym, vec_items}
+use Rattle.std.proofs.Common.{◌≡◌, ◌⊎◌, inl, inr, ◌∙◌, [], All, length, ap, rules, sym, subst, vec_items}
+use Rattle.std.proofs.lemmas.List.Elements.{All-head, All-tail}
 use Rattle.std.proofs.Common.{map as each}
 use Rattle.std.specs.Arc.{arc_value}
-use Rattle.pay_lanes.proofs.Openings.{workers_then, workers_done, one_less, none_left, of_either}
+use Rattle.pay_lanes.proofs.Openings.{workers_begin, workers_then, workers_done, began_first, began_more, began_all, one_less, none_left, of_either}
 use Rattle.std.specs.List.{range_with_len}
 use Rattle.pay_lanes.specs.Openings.{shard_numbers, requests_of, ways_of}
 use Rattle.pay_lanes.proofs.opening.all_workers.Given as given
 use Rattle.pay_lanes.proofs.opening.all_workers.Goals as goal
+
+-- no gate has let anything pass yet
+pub loop-requests-init : goal.loop-requests-init
+loop-requests-init g c =
+    let it = c.into_iter-requests-iterator.result in
+    let gates : it.b.rest.items ≡ c.args.gates.items = search rules in
+    let lanes : it.a.b.rest.items ≡ c.args.lanes.items = search rules in
+    let requests : it.a.a.rest.items ≡ c.args.requests.items = search rules in (
+      workers_begin (arc_value c.args.tables.now) c.new-made.result.items (each vec_items it.a.b.rest.items, it.a.a.rest.items) (each vec_items c.args.lanes.items, c.args.requests.items)
+          c.new-made.ensures.items (ap (each vec_items) lanes) requests c.requires.requests c.requires.lanes,
+      ap length gates ∙ (c.requires.gates ∙ sym (ap length requests)),
+      subst (All (λ gate. g.G.Gate.Holds gate [])) (sym gates) c.requires.none,
+      began_first g.G.Gate.began c.args.gates.items c.new-made.result.items it.b.rest.items c.new-made.ensures.items gates,
+    )
 
 -- one more worker
 pub loop-requests-preserved : goal.loop-requests-preserved
@@ -20,7 +35,16 @@ loop-requests-preserved g c =
           (record { its_number = c.in_ok-worker.ensures.number; its_requests = c.in_ok-worker.ensures.requests; its_lanes = c.in_ok-worker.ensures.lanes; its_new = c.in_ok-worker.ensures.new })
           c.in_ok-push.ensures.items c.loop-requests.invariant.0,
       one_less was.b.rest.items is.b.rest.items was.a.a.rest.items is.a.a.rest.items c.in-Some.gate c.in-Some.requests took.1.0 took.0.0.0 c.loop-requests.invariant.1,
+      All-tail (λ gate. g.G.Gate.Holds gate []) c.in-Some.gate is.b.rest.items (subst (All (λ gate. g.G.Gate.Holds gate [])) took.1.0 c.loop-requests.invariant.2),
+      began_more g.G.Gate.began c.args.gates.items c.loop-requests.made.items c.push.new.self.items c.in_ok-worker.field-0 was.b.rest.items is.b.rest.items c.in-Some.gate
+          c.in_ok-push.ensures.items c.in_ok-worker.ensures.began took.1.0 c.loop-requests.invariant.3,
     )
+
+-- its gate has let nothing pass
+pub worker-requires-clause-gate : goal.worker-requires-clause-gate
+worker-requires-clause-gate g c =
+    All-head (λ gate. g.G.Gate.Holds gate []) c.in-Some.gate c.next.new.self.b.rest.items
+    (subst (All (λ gate. g.G.Gate.Holds gate [])) c.in-Some.ensures.steps.1.0 c.loop-requests.invariant.2)
 
 -- the lists, or the receivers, have come to their end
 abbrev Ended : (g : given.Over) → goal.After-drop-requests-iterator-4 g → Type 0
@@ -53,3 +77,8 @@ returns-clause-requests g c = (done g c).1
 
 pub returns-clause-lanes : goal.returns-clause-lanes
 returns-clause-lanes g c = (done g c).2
+
+pub returns-clause-began : goal.returns-clause-began
+returns-clause-began g c =
+    let left = c.loop-requests.requests-iterator in
+    began_all g.G.Gate.began c.args.gates.items c.loop-requests.made.items left.b.rest.items (each vec_items left.a.b.rest.items) left.a.a.rest.items (ended g c) c.loop-requests.invariant.0.ready c.loop-requests.invariant.1 c.loop-requests.invariant.3

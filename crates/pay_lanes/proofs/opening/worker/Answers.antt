@@ -28,4 +28,5 @@ returns-clause-new g c = record {
   back = ap (λ (w : WorkerParts). w.requests.back) c.new-3.ensures ∙ c.requires.requests.back;
   lanes = ap (λ (w : WorkerParts). length w.lanes) c.new-3.ensures;
   held = ap (λ (w : WorkerParts). w.held) c.new-3.ensures;
+  not_shut = ap (λ (w : WorkerParts). w.shut) c.new-3.ensures;
 }

@@ -1,5 +1,6 @@
-use Rattle.std.proofs.Common.{rules, ◌∙◌, vec_items}
-use Rattle.pay_office.proofs.Joined.{as_many, together_at_end, all_at_end, has_ended}
+use Rattle.std.proofs.Common.{rules, ap, ◌∙◌, vec_items}
+use Rattle.pay_lanes.specs.Words.{began_of}
+use Rattle.pay_office.proofs.Joined.{as_many, same_began, together_at_end, all_at_end, has_ended, have_let_pass}
 use Rattle.pay_office.proofs.office.shut.Goals as goal
 
 pub end-requires : goal.end-requires
@@ -15,3 +16,11 @@ pub returns-clause-ended : goal.returns-clause-ended
 returns-clause-ended g c =
     has_ended c.args.office _ c.join_all.new.workers.items c.args.lanes.items c.put_in_order.new.lanes.items c.office.view_is c.requires c.join_all.ensures c.put_in_order.ensures.moved
     _ _ c.in-Ok.ensures.journals (as_many vec_items c.in-Ok.ended.left.items ∙ c.in-Ok.ensures.many) c.in-Ok.ensures.sent c.in-Ok.ensures.known c.in-Ok.ensures.answered c.in-Ok.ensures.asked c.in-Ok.ensures.right
+
+pub returns-clause-gates : goal.returns-clause-gates
+returns-clause-gates g c =
+    have_let_pass c.args.office _ c.join_all.new.workers.items c.args.lanes.items c.put_in_order.new.lanes.items c.office.view_is c.requires c.join_all.ensures c.put_in_order.ensures.moved
+    g.G.Gate.Holds _ c.in-Ok.ended.gates.items c.in-Ok.ensures.journals c.in-Ok.ensures.gates
+
+pub returns-clause-began : goal.returns-clause-began
+returns-clause-began g c = c.in-Ok.ensures.began ∙ (same_began _ c.join_all.new.workers.items c.join_all.ensures ∙ ap began_of c.office.view_is)

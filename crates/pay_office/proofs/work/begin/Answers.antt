@@ -15,11 +15,11 @@ all_send : (ν : Sym) (A B C : RattleType) → IsSend A → IsSend B → IsSend 
 all_send ν A B C a b c = search sendable depth 8
 
 pub spawn_with-requires-send-T : goal.spawn_with-requires-send-T
-spawn_with-requires-send-T g c κs within = param_send _ _ (arg_send _ yes _ (Worker-send (param 0 g.row.F) g.F.Fares (param 1 g.row.G) c.type_bounds.send-F c.type_bounds.send-G))
+spawn_with-requires-send-T g c κs within = param_send _ _ (arg_send _ yes _ (Worker-send (param 0 g.row.F) g.F.Fares (param 1 g.row.G) g.G.Gate c.type_bounds.send-F c.type_bounds.send-G))
 
 pub spawn_with-requires-send-F : goal.spawn_with-requires-send-F
 spawn_with-requires-send-F g c κs within =
     param_send _ _
     (arg_send _ no _
-    (all_send _ (copied 2 g.row.R) stop.the_row (worker.the_row (param 0 g.row.F) (param 1 g.row.G) g.F.Fares) c.type_bounds.send-R told.the_send
-    (Worker-send (param 0 g.row.F) g.F.Fares (param 1 g.row.G) c.type_bounds.send-F c.type_bounds.send-G)))
+    (all_send _ (copied 2 g.row.R) stop.the_row (worker.the_row (param 0 g.row.F) (param 1 g.row.G) g.F.Fares g.G.Gate) c.type_bounds.send-R told.the_send
+    (Worker-send (param 0 g.row.F) g.F.Fares (param 1 g.row.G) g.G.Gate c.type_bounds.send-F c.type_bounds.send-G)))

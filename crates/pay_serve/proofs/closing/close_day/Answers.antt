@@ -9,13 +9,14 @@ use Rattle.pay_serve.proofs.ToldCloses.{told_flushed, told_cause}
 use Rattle.pay_serve.proofs.closing.close_day.Goals as goal
 
 -- the last lane has gone on
-pub end-requires-clause-all : goal.end-requires-clause-all
-end-requires-clause-all g c =
+pub end-gates-requires-clause-all : goal.end-gates-requires-clause-all
+end-gates-requires-clause-all g c =
     all_back c.still_together.ensures.in_order c.same_workers.ensures.itself c.args.office c.args.lanes.items c.args.lanes.items c.args.last c.close_through-closed.result.1
     (lanes_same c.same_lanes.ensures.itself c.args.lanes.items) c.close_through-closed.ensures.same c.requires.all
 
 -- the close of all shards
 pub returns-clause-closed : goal.returns-clause-closed
+unfolding over_as_one
 returns-clause-closed g c =
     let through = c.close_through-closed.ensures.closed in
     let l : LaneParts = c.close_through-closed.result.1 in
@@ -30,7 +31,8 @@ returns-clause-closed g c =
       closed = c.close_through-closed.result.0;
       through = through;
       told = c.told.ensures;
-      one = over_as_one c.any_shards.ensures.merged c.args.office ls l c.args.day shards put all (sym (c.same_lanes.ensures.shards c.args.last l c.close_through-closed.ensures.same)) through.closed.closed.close.quotes its c.end.ensures;
+      one = over_as_one c.any_shards.ensures.merged c.args.office ls l c.args.day shards put all (sym (c.same_lanes.ensures.shards c.args.last l c.close_through-closed.ensures.same)) through.closed.closed.close.quotes its c.end-gates.ensures.over.0;
+      gates = c.end-gates.ensures.over.1;
     }
 
 pub returns-clause-flushed : goal.returns-clause-flushed

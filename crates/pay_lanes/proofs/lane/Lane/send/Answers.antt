@@ -1,5 +1,5 @@
-use Rattle.std.proofs.Common.{◌+◌, All, refl, sym, ap, ◌∙◌, subst, rules}
-use Rattle.pay_lanes.specs.Working.{IsOwn, IsSameLane, mailboxes}
+use Rattle.std.proofs.Common.{◌+◌, All, refl, sym, subst, rules}
+use Rattle.pay_lanes.specs.Working.{IsOwn, IsSameLane}
 use Rattle.pay_lanes.proofs.Owned.{own_sent}
 use Rattle.pay_lanes.proofs.Asked.{same_asked, given_more}
 use Rattle.pay_lanes.proofs.lane.Lane.send.Goals as goal

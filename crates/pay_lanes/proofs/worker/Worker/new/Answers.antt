@@ -1,5 +1,6 @@
 use Rattle.std.proofs.Common.{◌∙◌, sym, ap}
 use Rattle.pay_lanes.specs.Working.{entries_of}
+use Rattle.pay_lanes.proofs.Gated.{none_passed}
 use Rattle.pay_lanes.proofs.Openings.{new_told}
 use Rattle.pay_lanes.proofs.worker.Worker.new.Goals as goal
 
@@ -13,4 +14,7 @@ invariant_of-result g c = (
   },
   c.requires.left.0,
   c.requires.left.1,
+  none_passed (g.G.Gate.Holds c.args.gate) c.args.shard c.args.lanes.items c.requires.shard c.requires.gate,
+  c.requires.gates.0,
+  c.requires.gates.1,
 )

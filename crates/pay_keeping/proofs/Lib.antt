@@ -1,0 +1,6 @@
+pub mod Crossing
+pub mod GatesKept
+pub mod LateKept
+pub mod MergedNew
+pub mod Runs
+pub mod WholeLines

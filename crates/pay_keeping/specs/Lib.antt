@@ -1,0 +1,6 @@
+pub mod Keeping
+pub mod Kept
+pub mod KeepingGates
+pub mod LateKeeping
+pub mod Laws
+pub mod Words

@@ -1,0 +1,56 @@
+-- Texts of journals that are taken again, one after another, and gates that are looked at.
+use Rattle.std.proofs.Common.{◌≡◌, inl, inr, ℕ, ◌+◌, ◌<◌, ◌≤◌, zero, suc, Bool, true, false, ◌||◌, List, [], ◌∷◌, map, drop, length, get_or, Result, Ok, Err, refl, sym, ap, ◌∙◌, subst, arith}
+use Rattle.std.specs.Prelude.{⊤}
+use Rattle.std.proofs.lemmas.List.{drop_more, drop_all, get_or-map}
+use Rattle.std.proofs.lemmas.List.Folds.{list_any_none}
+use Rattle.jiff.specs.declared.tz.timezone.TimeZone.{TimeZone}
+use Rattle.pay_shard.specs.Words.{DeskParts}
+use Rattle.pay_session.specs.Words.{IsReplayed, IsEnded}
+use Rattle.pay_session.specs.declared.replaying.Replayed.{Replayed}
+use Rattle.pay_session.specs.declared.replaying.ReplayFault.{ReplayFault}
+use Rattle.pay_lanes.proofs.Exchanges.{each_length, same_item}
+use Rattle.pay_keeping.specs.Words.{GateParts}
+use Rattle.pay_serve.specs.Journals.{AreTakenAgain, journal_fault, is_one_stuck}
+use Rattle.pay_serve.specs.declared.fault.ServeFault.{ServeFault}
+
+-- ---- texts
+
+module _ {D O V : Type 0} (items : V → List ℕ) (zone : TimeZone) (parts : D → DeskParts O) (vs : List V) (place : ℕ) where
+  module _ (v : V) (less : place < length vs) (is : v ≡ get_or vs place v) where
+    whole : drop place (map items vs) ≡ items v ∷ drop (place + 1) (map items vs)
+    whole =
+        let many = each_length items vs in
+        drop_more (map items vs) place (items v) (omega (arith, many, less)) ∙ ap (λ t. t ∷ drop (place + 1) (map items vs)) (get_or-map items vs place v (items v) less ∙ ap items (sym is))
+
+    pub next_taken : (old new end : D) (it : Replayed) (result : Result ⊤ ServeFault) → IsReplayed zone parts old new (items v) it
+        → AreTakenAgain zone parts (place + 1) (drop (place + 1) (map items vs)) (new, end) result → AreTakenAgain zone parts place (drop place (map items vs)) (old, end) result
+    next_taken old new end it result replayed later = subst (λ ts. AreTakenAgain zone parts place ts (old, end) result) (sym whole) (inl (new, it, replayed, later))
+
+    pub not_taken : (old new : D) (why : ReplayFault) (result : Result ⊤ ServeFault) → IsEnded zone parts old new (items v) why → result ≡ Err (journal_fault place why)
+        → AreTakenAgain zone parts place (drop place (map items vs)) (old, new) result
+    not_taken old new why result ended told = subst (λ ts. AreTakenAgain zone parts place ts (old, new) result) (sym whole) (inr (why, ended, told))
+
+  pub none_left : (desk : D) → length vs ≤ place → AreTakenAgain zone parts place (drop place (map items vs)) (desk, desk) (Ok tt)
+  none_left desk most =
+      let many = each_length items vs in subst (λ ts. AreTakenAgain zone parts place ts (desk, desk) (Ok tt)) (sym (drop_all place (map items vs) (omega (arith, many, most)))) refl
+
+-- ---- gates
+
+pub one_is : (gates : List GateParts) (place : ℕ) (gate : GateParts) → place < length gates → gate ≡ get_or gates place gate → gate.stuck ≡ true → is_one_stuck gates ≡ true
+one_is [] place gate less is stuck = absurd (omega (arith, less))
+one_is (g ∷ gates) zero gate less is stuck = by g.stuck (ap (λ (x : GateParts). x.stuck) (sym is) ∙ stuck)
+  where
+    by : (b : Bool) → b ≡ true → (b || is_one_stuck gates) ≡ true
+    by true e = refl
+    by false e = absurd (cc)
+one_is (g ∷ gates) (suc place) gate less is stuck = by g.stuck (one_is gates place gate (omega (arith, less)) is stuck)
+  where
+    by : (b : Bool) → is_one_stuck gates ≡ true → (b || is_one_stuck gates) ≡ true
+    by true e = refl
+    by false e = e
+
+pub none_is : (gates : List GateParts) (place : ℕ) → length gates ≤ place → ((k : ℕ) → k < place → (d : GateParts) → (get_or gates k d).stuck ≡ false) → false ≡ is_one_stuck gates
+none_is gates place most each = sym (list_any_none (λ (g : GateParts). g.stuck) gates (λ k d less. each k (omega (arith, most, less)) d))
+
+pub free_too : (gates : List GateParts) (place : ℕ) (gate : GateParts) → place < length gates → gate ≡ get_or gates place gate → gate.stuck ≡ false → (d : GateParts) → (get_or gates place d).stuck ≡ false
+free_too gates place gate less is free d = ap (λ (x : GateParts). x.stuck) (same_item gates place d gate less ∙ sym is) ∙ free
