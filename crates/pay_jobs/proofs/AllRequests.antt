@@ -102,7 +102,7 @@ request_before false r new = refl
 
 module _ {T : Type 0} (Refuses : DeskFault → Type 0) (Late Fails : Type 0) (Closes : T → ℕ → ℕ → List Taken → Result (List Posting) Refusal → T → Type 0) (Sound : T → Type 0) (Tells : T → Option LedgerParts → Type 0) (plain : IsPlain Refuses Late Fails Closes Sound Tells) (by_line : AskedByItsLine) (zone : TimeZone) where
   -- what a till keeps could be told all along where it can be in the end
-  sound_before : (requests : List Request) (events : List Event) (before after : T) → AreServed 1 Refuses Late Closes zone before requests events after → Sound after → Sound before
+  pub sound_before : (requests : List Request) (events : List Event) (before after : T) → AreServed 1 Refuses Late Closes zone before requests events after → Sound after → Sound before
   sound_before [] [] before after served sound = subst Sound served sound
   sound_before [] (e ∷ es) before after served sound = absurd served
   sound_before (r ∷ rs) [] before after served sound = absurd served

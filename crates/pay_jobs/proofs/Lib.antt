@@ -21,4 +21,5 @@ pub mod ToldReplays
 pub mod WeekRuns
 mod Statements
 mod StreamCauses
+mod HaveLines
 mod ServiceCauses

@@ -1,77 +1,63 @@
--- How the job run ends where no session was held, and what is so beside one that was.
-use Rattle.std.proofs.Common.{◌≡◌, ◌∙◌, ℕ, List, [], Option, None, Some, IfSome, inl, inr, refl, sym, ap, subst}
-use Rattle.std.specs.Prelude.{Result, Ok, Err, IfOk, IfErr, ⊤}
-use Rattle.sqlite.specs.State.{State}
+-- How the job run ends, by what came of its desk over the ledger that was opened.
+use Rattle.std.proofs.Common.{◌≡◌, ◌∙◌, ℕ, List, [], ◌∷◌, Option, None, Some, IfSome, inl, inr, refl, sym, ap, subst}
+use Rattle.std.specs.Prelude.{Result, Ok, Err, IfOk, IfErr, length}
+use Rattle.sqlite.specs.Held.{Held, state}
+use Rattle.sqlite.specs.State.{HasCleanDisk}
+use Rattle.sqlite.specs.Store.{Ghosts}
 use Rattle.jiff.specs.Placed.{IsPosixZone}
 use Rattle.jiff.specs.ZoneView.{plain_zone}
 use Rattle.jiff.specs.declared.tz.timezone.TimeZone.{TimeZone}
 use Rattle.pay_fare_file.specs.Words.{fare_text}
 use Rattle.pay_kept.specs.Words.{KeptParts, IsCutTo}
 use Rattle.pay_postings.specs.Words.{LedgerParts}
-use Rattle.pay_shard.specs.Words.{ShardParts}
+use Rattle.pay_shard.specs.Words.{ShardParts, LocalParts}
 use Rattle.pay_tables.specs.Words.{FareTables}
 use Rattle.pay_session.specs.Words.{line_requests}
+use Rattle.pay_session.specs.declared.replaying.Replayed.{Replayed}
 use Rattle.pay_session.specs.declared.replaying.ReplayFault.{ReplayFault}
 use Rattle.pay_session.specs.declared.replaying.ReplayFault.TheVariants as replaying
 use Rattle.pay_session.specs.declared.request.Request.{Request}
 use Rattle.pay_session.specs.declared.sessions.Done.{Done}
 use Rattle.pay_session.specs.declared.stop.SessionFault.{SessionFault}
-use Rattle.pay_session.specs.declared.stop.SessionFault.TheVariants.{Read, Write}
-use Rattle.pay_jobs.specs.Faults.{IsReplayFault}
+use Rattle.pay_jobs.specs.Begun.{IsTakenBeside, HasRun, HasNotRun}
+use Rattle.pay_jobs.specs.Faults.{IsRefusal, IsReplayFault, IsOpenFault}
 use Rattle.pay_jobs.specs.Journals.{GivesBack}
-use Rattle.pay_jobs.specs.LineRuns.{Beside, beside_run, ComesTo, Ends, FailsSo}
 use Rattle.pay_jobs.specs.Machine.{Machine, new_machine, machine_on, with_ledger}
-use Rattle.pay_jobs.specs.Outcomes.{Outcome, outcome, AreAllPriced}
-use Rattle.pay_jobs.specs.Past.{StopsAt, IsNotReplayed, whole_bytes}
-use Rattle.pay_jobs.specs.Run.{Begins, Resumes, IsRefused, HasNoLedger, RunFails, beside_job}
+use Rattle.pay_jobs.specs.Outcomes.{Outcome, AreAllPriced}
+use Rattle.pay_jobs.specs.Past.{IsNotReplayed, whole_bytes}
+use Rattle.pay_jobs.specs.Places.{Place}
+use Rattle.pay_jobs.specs.Run.{Begins, Resumes, IsRefused, IsNotBegun, HasBegun, HasOpened, IsTaken, JobRan, RunFails}
 use Rattle.pay_jobs.specs.declared.fault.Fault.{Fault}
-use Rattle.pay_jobs.specs.declared.fault.Fault.TheVariants.{Usage, CannotReadFares, BadZone, CannotListen, Input, Output, CannotUseJournal, JournalLine, JournalLineOf, Journal, Refused}
+use Rattle.pay_jobs.specs.declared.fault.Fault.TheVariants.{Usage, CannotReadFares, BadZone, CannotListen, Input, Output, CannotUseJournal, JournalLine, JournalLineOf, Journal, LedgerAlone, Refused}
 use Rattle.pay_jobs.proofs.Asked.{ends_behind}
 use Rattle.pay_jobs.proofs.NewRequests.{over_ledger}
 
--- ---- no session was held
+-- ---- there is no desk
 
-pub fails_refused : (fault : Fault) (texts : List ℕ × List ℕ × List ℕ) (Fails : Type 0) → IsRefused fault texts.0 → RunFails fault texts Fails
-fails_refused (Refused number name) texts Fails h = inl h
-fails_refused Usage texts Fails (inl told) = absurd told
-fails_refused Usage texts Fails (inr (of, says, told)) = absurd told
-fails_refused CannotReadFares texts Fails (inl told) = absurd told
-fails_refused CannotReadFares texts Fails (inr (of, says, told)) = absurd told
-fails_refused BadZone texts Fails (inl told) = absurd told
-fails_refused BadZone texts Fails (inr (of, says, told)) = absurd told
-fails_refused CannotListen texts Fails (inl told) = absurd told
-fails_refused CannotListen texts Fails (inr (of, says, told)) = absurd told
-fails_refused Input texts Fails (inl told) = absurd told
-fails_refused Input texts Fails (inr (of, says, told)) = absurd told
-fails_refused Output texts Fails (inl told) = absurd told
-fails_refused Output texts Fails (inr (of, says, told)) = absurd told
-fails_refused CannotUseJournal texts Fails (inl told) = absurd told
-fails_refused CannotUseJournal texts Fails (inr (of, says, told)) = absurd told
-fails_refused (JournalLine line why) texts Fails (inl told) = absurd told
-fails_refused (JournalLine line why) texts Fails (inr (of, says, told)) = absurd told
-fails_refused (JournalLineOf journal line why) texts Fails (inl told) = absurd told
-fails_refused (JournalLineOf journal line why) texts Fails (inr (of, says, told)) = absurd told
-fails_refused Journal texts Fails (inl told) = absurd told
-fails_refused Journal texts Fails (inr (of, says, told)) = absurd told
+module _ (texts : List ℕ × List ℕ × List ℕ) where
+  -- what is told as a refusal is one
+  by_refusal : (fault : Fault) (number : ℕ) (name : List ℕ) → IsRefusal fault number name → IsRefused fault texts.0 → IsNotBegun texts fault
+  by_refusal (Refused number name) n text told h = h
+  by_refusal Usage n text told h = absurd told
+  by_refusal CannotReadFares n text told h = absurd told
+  by_refusal BadZone n text told h = absurd told
+  by_refusal CannotListen n text told h = absurd told
+  by_refusal Input n text told h = absurd told
+  by_refusal Output n text told h = absurd told
+  by_refusal CannotUseJournal n text told h = absurd told
+  by_refusal (JournalLine line why) n text told h = absurd told
+  by_refusal (JournalLineOf journal line why) n text told h = absurd told
+  by_refusal Journal n text told h = absurd told
+  by_refusal LedgerAlone n text told h = absurd told
 
-pub fails_unmade : (fault : Fault) (texts : List ℕ × List ℕ × List ℕ) (Fails : Type 0) → HasNoLedger fault texts → RunFails fault texts Fails
-fails_unmade (Refused number name) texts Fails h = inr h
-fails_unmade Usage texts Fails (m, resumes, told) = absurd told
-fails_unmade CannotReadFares texts Fails (m, resumes, told) = absurd told
-fails_unmade BadZone texts Fails (m, resumes, told) = absurd told
-fails_unmade CannotListen texts Fails (m, resumes, told) = absurd told
-fails_unmade Input texts Fails (m, resumes, told) = absurd told
-fails_unmade Output texts Fails (m, resumes, told) = absurd told
-fails_unmade CannotUseJournal texts Fails (m, resumes, told) = absurd told
-fails_unmade (JournalLine line why) texts Fails (m, resumes, told) = absurd told
-fails_unmade (JournalLineOf journal line why) texts Fails (m, resumes, told) = absurd told
-fails_unmade Journal texts Fails (m, resumes, told) = absurd told
+  pub begun_refused : (fault : Fault) → IsRefused fault texts.0 → IsNotBegun texts fault
+  begun_refused fault (inl told) = by_refusal fault _ _ told (inl told)
+  begun_refused fault (inr (of, says, told)) = by_refusal fault _ _ told (inr (of, says, told))
 
--- where a line of the journal is not accepted, or memory was wanting for one
-pub fails_past : (of : ReplayFault) (fault : Fault) (texts : List ℕ × List ℕ × List ℕ) (Fails : Type 0) (m : Machine) (past : List ℕ) → IsReplayFault of fault → Begins texts.0 texts.1 None m → past ≡ texts.2 → IsNotReplayed m (line_requests past) of → RunFails fault texts Fails
-fails_past (replaying.Line line why) fault texts Fails m past is begins same h =
-    subst (λ f. RunFails f texts Fails) (sym is) (m, begins, subst (λ l. StopsAt m (line_requests l) line why) same h)
-fails_past replaying.Memory fault texts Fails m past is begins same h = fails_refused fault texts Fails (inl is)
+  -- where a line of the journal is not accepted, or memory was wanting for one
+  pub begun_past : (of : ReplayFault) (fault : Fault) (m : Machine) → IsReplayFault of fault → Begins texts.0 texts.1 None m → IsNotReplayed m (line_requests texts.2) of → IsNotBegun texts fault
+  begun_past (replaying.Line line why) fault m is begins h = subst (λ f. IsNotBegun texts f) (sym is) (m, begins, h)
+  begun_past replaying.Memory fault m is begins h = begun_refused fault (inl is)
 
 -- ---- the machine that a journal gives back, over a ledger
 
@@ -95,33 +81,87 @@ module _ (zone : TimeZone) (tables : FareTables) (shard : ShardParts) (past : Li
     posted = refl;
   }
 
--- what was cut off stood behind the whole lines
-pub cut_of : (past text : List ℕ) (whole : ℕ) (held first : Option (List ℕ)) → whole ≡ whole_bytes past → past ≡ text → IsCutTo whole held first → IsCutTo (whole_bytes text) held first
-cut_of past text whole held first is same h = subst (λ n. IsCutTo n held first) (is ∙ ap whole_bytes same) h
+-- ---- a session was held, or not, over the ledger that was opened
 
--- ---- what becomes of a ledger that ends with its session is not told
+-- no line was replayed where there is none
+none_of : (past text : List ℕ) (lines : ℕ) → lines ≡ length (line_requests past) → past ≡ text → line_requests text ≡ [] → lines ≡ 0
+none_of past text lines is same none = is ∙ ap (λ l. length (line_requests l)) same ∙ ap length none
 
-module _ (Fails : Type 0) (first : Option (List ℕ)) (desk : KeptParts) (database : State) where
-  comes_alone : (m : Machine) (requests : List Request) (came : Outcome) → ComesTo m requests (beside_run Fails first desk database) came → ComesTo m requests (beside_job Fails first desk) came
-  comes_alone m requests came h = record { marks = h.marks; run = h.run; ample = h.ample; ledger = tt; kept = h.kept; never = h.never }
+-- and there is none where none was replayed
+no_lines : (past text : List ℕ) (lines : ℕ) → lines ≡ length (line_requests past) → past ≡ text → lines ≡ 0 → line_requests text ≡ []
+no_lines past text lines is same none = ap line_requests (sym same) ∙ nothing_in (line_requests past) (sym is ∙ none)
+  where
+    nothing_in : (l : List Request) → length l ≡ 0 → l ≡ []
+    nothing_in [] e = refl
+    nothing_in (r ∷ rs) e = absurd (cc)
 
-  ends_of : (m : Machine) (input : List ℕ) (left held new : Option (List ℕ)) (done : Done) → Ends m input left held new (beside_run Fails first desk database) done.answered done.quit done.lacked_memory → Ends m input left held new (beside_job Fails first desk) done.answered done.quit done.lacked_memory
-  ends_of m input left held new done h = record { came = h.came; comes = comes_alone m _ h.came h.comes; written = h.written; counted = h.counted; lacked = h.lacked; ended = h.ended; unread = h.unread }
+-- where the input is known this is so of it, if that is
+if_known : (known : Option (List ℕ)) (A B : Type 0) → IfSome known (λ _. A) → (A → B) → IfSome known (λ _. B)
+if_known None A B h f = tt
+if_known (Some input) A B h f = f h
 
-  fails_of : (fault : SessionFault) (m : Machine) (input : List ℕ) (left held new : Option (List ℕ)) → FailsSo fault m input left held new (beside_run Fails first desk database) → FailsSo fault m input left held new (beside_job Fails first desk)
-  fails_of (Read answered) m input left held new h = record { front = h.front; back = h.back; parts = h.parts; unread = h.unread; goes_on = h.goes_on; came = h.came; comes = comes_alone m _ h.came h.comes; written = h.written; counted = h.counted }
-  fails_of (Write answered) m input left held new h = record { done = h.done; others = h.others; requests = h.requests; came = h.came; comes = comes_alone m _ h.came h.comes; told = h.told; next = h.next; replies = h.replies; whole = h.whole; written = h.written; broken = h.broken; counted = h.counted }
+-- a run is told where the input is known, and so it may rest on what is so then
+ok_if_known : (ended : Result Done SessionFault) (known : Option (List ℕ)) (A : Type 0) (Told : Done → List ℕ → Type 0)
+    → IfSome known (λ _. A) → (A → IfOk ended (λ done. IfSome known (Told done))) → IfOk ended (λ done. IfSome known (Told done))
+ok_if_known (Err fault) known A Told h f = tt
+ok_if_known (Ok done) None A Told h f = tt
+ok_if_known (Ok done) (Some input) A Told h f = f h
 
-  pub ends_alone : (ended : Result Done SessionFault) (remaining : Option (List ℕ)) (m : Machine) (left held new : Option (List ℕ))
-      → IfOk ended (λ done. IfSome remaining (λ input. Ends m input left held new (beside_run Fails first desk database) done.answered done.quit done.lacked_memory))
-      → IfOk ended (λ done. IfSome remaining (λ input. Ends m input left held new (beside_job Fails first desk) done.answered done.quit done.lacked_memory))
-  ends_alone (Err fault) remaining m left held new h = tt
-  ends_alone (Ok done) None m left held new h = tt
-  ends_alone (Ok done) (Some input) m left held new h = ends_of m input left held new done h
+err_if_known : (ended : Result Done SessionFault) (known : Option (List ℕ)) (A : Type 0) (Told : SessionFault → List ℕ → Type 0)
+    → IfSome known (λ _. A) → (A → IfErr ended (λ fault. IfSome known (Told fault))) → IfErr ended (λ fault. IfSome known (Told fault))
+err_if_known (Ok done) known A Told h f = tt
+err_if_known (Err fault) None A Told h f = tt
+err_if_known (Err fault) (Some input) A Told h f = f h
 
-  pub fails_alone : (ended : Result Done SessionFault) (remaining : Option (List ℕ)) (m : Machine) (left held new : Option (List ℕ))
-      → IfErr ended (λ fault. IfSome remaining (λ input. FailsSo fault m input left held new (beside_run Fails first desk database)))
-      → IfErr ended (λ fault. IfSome remaining (λ input. FailsSo fault m input left held new (beside_job Fails first desk)))
-  fails_alone (Ok done) remaining m left held new h = tt
-  fails_alone (Err fault) None m left held new h = tt
-  fails_alone (Err fault) (Some input) m left held new h = fails_of fault m input left held new h
+-- A desk that has what a journal gives back, and a place of a ledger.
+module _ {S : Type 0} {store : Ghosts S} (place : Place store) (sound_is_clean : (ledger : Held S) → place.IsSound ledger → HasCleanDisk (state store ledger)) (Fails : Type 0)
+    (fares rule past text : List ℕ) (is : past ≡ text) (begun : TimeZone × LocalParts × Replayed) (has : HasBegun (fares, rule, past) begun) where
+  abbrev texts : List ℕ × List ℕ × List ℕ
+  texts = (fares, rule, text)
+
+  resumed : (ledger : Option LedgerParts) → Resumes texts ledger (machine_on begun.0 begun.1.shard ledger)
+  resumed ledger = resumes begun.0 has.tables begun.1.shard past has.replay.gives_back texts ledger has.says has.rule is
+
+  pub fails_unopened : (fault : Fault) → IsOpenFault place.Refuses fault → RunFails place texts Fails fault
+  fails_unopened fault told = inr (inl (record { resumed = (machine_on begun.0 begun.1.shard None, resumed None); told = told }))
+
+  module _ (opened : Held S) (opens : place.Opens opened) where
+    abbrev has_opened : HasOpened place texts
+    has_opened = record { resumed = (machine_on begun.0 begun.1.shard None, resumed None); opened = opened; opens = opens }
+
+    taken_up : (later : Held S) → IsTakenBeside store begun.2.lines opened later → HasCleanDisk (state store later) → IsTaken store texts opened
+    taken_up later beside clean = record {
+      clean = beside.clean clean;
+      bare = λ none. beside.bare (none_of past text begun.2.lines has.replay.lines is none) clean;
+    }
+
+    -- the ledger was not taken beside the journal, or it was, and this could not be cut
+    pub fails_behind : (last : Held S) (fault : Fault) → HasNotRun store Fails begun.2.lines opened last fault → RunFails place texts Fails fault
+    fails_behind last fault h = elim h [
+      | inl cut ↦ inr (inr (inr (cut.0, record { has = has_opened; last = last; taken = λ sound. taken_up last cut.1 (sound_is_clean last sound) }, cut.2)))
+      | inr alone ↦ inr (inr (inl (record {
+        has = has_opened;
+        no_lines = no_lines past text begun.2.lines has.replay.lines is alone.no_lines;
+        last = last;
+        clean = λ sound. let clean = sound_is_clean last sound in (alone.clean clean, clean);
+        why = alone.why;
+      })))
+    ]
+
+    pub job_ran : (held left written left_after written_after : Option (List ℕ)) (kept : KeptParts) (last : Held S) (ended : Result Done SessionFault)
+        → HasRun store Fails (begun, held, opened, left, written) (kept, last, left_after, written_after) ended
+        → JobRan place texts Fails (held, left, written) (kept, left_after, written_after) ended
+    job_ran held left written left_after written_after kept last ended ran = record {
+      first = ran.first;
+      cut = subst (λ n. IsCutTo n held ran.first) (has.replay.bytes ∙ ap whole_bytes is) ran.cut;
+      opened = opened;
+      opens = opens;
+      last = last;
+      taken = λ sound. if_known left _ _ ran.clean (λ before. taken_up ran.taken ran.beside (before (sound_is_clean last sound)));
+      over = λ sound found has. record {
+        machine = machine_on begun.0 begun.1.shard (Some found);
+        resumes = resumed (Some found);
+        ends = ok_if_known ended left _ _ ran.clean (λ before. let clean = sound_is_clean last sound in ran.ends clean found (ran.beside.same (before clean) found has));
+        fails = err_if_known ended left _ _ ran.clean (λ before. let clean = sound_is_clean last sound in ran.fails clean found (ran.beside.same (before clean) found has));
+      };
+    }

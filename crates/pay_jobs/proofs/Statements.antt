@@ -18,7 +18,7 @@ use Rattle.pay_jobs.specs.Run.{Begins, Resumes}
 use Rattle.pay_jobs.specs.Statement.{WeekBreaks, PageFails, IsPage, StatementWritten, StatementRefused}
 use Rattle.pay_jobs.specs.Week.{machine_past, IsPastAccepted, WeekTold, WeekNotTold}
 use Rattle.pay_jobs.specs.declared.fault.Fault.{Fault}
-use Rattle.pay_jobs.specs.declared.fault.Fault.TheVariants.{Usage, CannotReadFares, BadZone, CannotListen, Input, Output, CannotUseJournal, JournalLine, JournalLineOf, Journal, Refused}
+use Rattle.pay_jobs.specs.declared.fault.Fault.TheVariants.{Usage, CannotReadFares, BadZone, CannotListen, Input, Output, CannotUseJournal, JournalLine, JournalLineOf, Journal, LedgerAlone, Refused}
 use Rattle.pay_jobs.specs.declared.week.WeekFault.{WeekFault}
 use Rattle.pay_jobs.specs.declared.week.WeekFault.TheVariants.{Broken, NotAccepted, Memory}
 use Rattle.pay_jobs.proofs.Asked.{ends_behind, same_ledger}
@@ -37,6 +37,7 @@ not_told Memory CannotUseJournal texts reader is breaks = absurd is
 not_told Memory (JournalLine line why) texts reader is breaks = absurd is
 not_told Memory (JournalLineOf journal line why) texts reader is breaks = absurd is
 not_told Memory Journal texts reader is breaks = absurd is
+not_told Memory LedgerAlone texts reader is breaks = absurd is
 
 -- the texts by which a page is made: a fare file and a zone that are read
 module _ (texts : List ℕ × List ℕ × List ℕ) (zone : TimeZone) (tables : FareTables) (says : fare_text texts.0 ≡ Ok tables) (rule : IsPosixZone texts.1 (plain_zone zone)) (reader : Option (List ℕ) × Option (List ℕ)) where
@@ -95,6 +96,7 @@ no_page CannotUseJournal texts of remaining left held fails = (fails, refl)
 no_page (JournalLine line why) texts of remaining left held fails = (fails, refl)
 no_page (JournalLineOf journal line why) texts of remaining left held fails = (fails, refl)
 no_page Journal texts of remaining left held fails = (fails, refl)
+no_page LedgerAlone texts of remaining left held fails = (fails, refl)
 
 pub page_written : {T E : Type 0} (r : Result T E) (texts : List ℕ × List ℕ × List ℕ) (of : ℕ × ℕ) (text : List ℕ) (remaining left held written : Option (List ℕ)) → IsPage texts of (remaining, left) text
     → OnOk r (Appends held written text) → OnOk r (StatementWritten texts of (remaining, held) (left, written))

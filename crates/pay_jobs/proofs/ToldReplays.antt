@@ -11,7 +11,7 @@ use Rattle.pay_jobs.specs.Machine.{new_machine}
 use Rattle.pay_jobs.specs.Replays.{IsFaultOf, IsStoppedAmong, IsSummed, IsNotSummed, ReplayWritten, ReplayRefused}
 use Rattle.pay_jobs.specs.Run.{Begins, IsRefused}
 use Rattle.pay_jobs.specs.declared.fault.Fault.{Fault}
-use Rattle.pay_jobs.specs.declared.fault.Fault.TheVariants.{Usage, CannotReadFares, BadZone, CannotListen, Input, Output, CannotUseJournal, JournalLine, JournalLineOf, Journal, Refused}
+use Rattle.pay_jobs.specs.declared.fault.Fault.TheVariants.{Usage, CannotReadFares, BadZone, CannotListen, Input, Output, CannotUseJournal, JournalLine, JournalLineOf, Journal, LedgerAlone, Refused}
 
 -- ---- there is no line
 
@@ -37,6 +37,8 @@ unsummed_refused (JournalLineOf journal line why) fares zone texts (inl told) = 
 unsummed_refused (JournalLineOf journal line why) fares zone texts (inr (of, says, told)) = absurd told
 unsummed_refused Journal fares zone texts (inl told) = absurd told
 unsummed_refused Journal fares zone texts (inr (of, says, told)) = absurd told
+unsummed_refused LedgerAlone fares zone texts (inl told) = absurd told
+unsummed_refused LedgerAlone fares zone texts (inr (of, says, told)) = absurd told
 
 pub unsummed_memory : (fault : Fault) (fares zone : List ℕ) (texts : List (List ℕ)) → IsWantOfMemory fault → IsNotSummed fares zone texts fault
 unsummed_memory fault fares zone texts h = unsummed_refused fault fares zone texts (inl h)
@@ -65,6 +67,7 @@ unsummed CannotUseJournal fares zone texts held h = (h, refl)
 unsummed (JournalLine line why) fares zone texts held h = (h, refl)
 unsummed (JournalLineOf journal line why) fares zone texts held h = (h, refl)
 unsummed Journal fares zone texts held h = (h, refl)
+unsummed LedgerAlone fares zone texts held h = (h, refl)
 
 pub not_output : (fault : Fault) (fares zone : List ℕ) (texts : List (List ℕ)) → IsNotSummed fares zone texts fault → fault ≡ Output → ⊥
 not_output fault fares zone texts h is = subst (IsNotSummed fares zone texts) is h

@@ -23,7 +23,6 @@ use Rattle.pay_session.specs.declared.stop.SessionFault.TheVariants.{Read, Write
 use Rattle.pay_wire.specs.declared.refusal.Refusal.{Refusal}
 use Rattle.pay_wire.specs.declared.refusal.Refusal.TheVariants.{NotHere}
 use Rattle.pay_session.specs.declared.till.NoTill.{NoTill}
-use Rattle.pay_ledger.specs.Words.{IsLedger}
 use Rattle.pay_close.specs.Words.{OneShardGathersAll}
 use Rattle.pay_close.specs.Closes.{Closes as LedgerCloses}
 use Rattle.pay_jobs.specs.Journals.{new_requests}
@@ -32,7 +31,7 @@ use Rattle.pay_jobs.specs.Ledgers.{HasLedger}
 use Rattle.pay_jobs.specs.Machine.{Machine, Failure, machine_on, stays, step_close, step}
 use Rattle.pay_jobs.specs.Outcomes.{Outcome, outcome, reply_then, text_of}
 use Rattle.pay_jobs.specs.LineRuns.{Beside, beside_run, ComesTo, Ends, StopsReading, StopsWriting, FailsSo}
-use Rattle.pay_jobs.proofs.AllRequests.{RunsTo, replies_of, all_run}
+use Rattle.pay_jobs.proofs.AllRequests.{RunsTo, replies_of, sound_before, all_run}
 use Rattle.pay_jobs.proofs.Asked.{accounts_kept}
 use Rattle.pay_jobs.proofs.LedgerCloses.{ledger_closes, was_clean}
 use Rattle.pay_jobs.proofs.OneRequest.{machine_at, lines_new}
@@ -305,12 +304,12 @@ module _ {T H : Type 0} (state_of : H → DatabaseState) (lent : T → H) (gathe
   abbrev HasFailedSo : (input : List ℕ) (left written new : Option (List ℕ)) → SessionFault → Sides T → Type 0
   HasFailedSo input left written new fault s = SessionFailsSo zone 1 (Refuses Fails begun) (Late Fails begun) Closes fault s input left written new
 
-  module _ (input : List ℕ) (left written new : Option (List ℕ)) (clean : HasCleanDisk (state_of last)) (ledger : LedgerParts) (has : IsLedger (state_of old).now ledger) where
+  module _ (input : List ℕ) (left written new : Option (List ℕ)) (clean : HasCleanDisk (state_of last)) (ledger : LedgerParts) (has : HasLedger (state_of old) (Some ledger)) where
     clean_after : HasCleanDisk (state_of (lent after))
     clean_after = subst (λ (l : H). HasCleanDisk (state_of l)) became clean
 
     has_before : HasLedger (state_of (lent before)) (Some ledger)
-    has_before live = subst (λ (l : H). IsLedger (state_of l).now ledger) was has
+    has_before = subst (λ (l : H). HasLedger (state_of l) (Some ledger)) was has
 
     plain : IsPlain (Refuses Fails begun) (Late Fails begun) Fails Closes (λ till. HasCleanDisk (state_of (lent till))) (λ till. HasLedger (state_of (lent till)))
     plain = kept_plain (λ till. state_of (lent till)) Fails (kept_parts Fails begun).standing gathers
@@ -333,16 +332,33 @@ module _ {T H : Type 0} (state_of : H → DatabaseState) (lent : T → H) (gathe
         (KeepsNew settled.held_first settled.holds settled.stuck) (keeps_new settled lines) clean_after has_before fault input left written new
         (subst (HasFailedSo input left written new fault) (same_sides Fails begun now settled desk held before after is seen origin) h)))
 
+  was_clean_behind : (requests : List Request) (events : List Event) → IsSession zone 1 (Refuses Fails begun) (Late Fails begun) Closes (sides_from begun.seen.shard.journal now.seen.shard before after) requests events
+      → HasCleanDisk (state_of last) → HasCleanDisk (state_of old)
+  was_clean_behind requests events s clean =
+      subst (λ (l : H). HasCleanDisk (state_of l)) (sym was)
+      (sound_before (Refuses Fails begun) (Late Fails begun) Fails Closes (λ till. HasCleanDisk (state_of (lent till))) (λ till. HasLedger (state_of (lent till)))
+      (kept_plain (λ till. state_of (lent till)) Fails (kept_parts Fails begun).standing gathers) by_line zone requests events before after s.served
+      (subst (λ (l : H). HasCleanDisk (state_of l)) became clean))
+
   pub lines_end : (ended : Result Done SessionFault) (known left written new : Option (List ℕ)) → IfOk ended (λ done. IfSome known (λ input. IsEnded input left written new done (sides_from begun.seen.shard.journal now.seen.shard before after)))
-      → HasCleanDisk (state_of last) → (ledger : LedgerParts) → IsLedger (state_of old).now ledger
+      → HasCleanDisk (state_of last) → (ledger : LedgerParts) → HasLedger (state_of old) (Some ledger)
       → IfOk ended (λ done. IfSome known (λ input. Ends (machine_on zone desk.shard (Some ledger)) input left written new (beside_run Fails held settled (state_of last)) done.answered done.quit done.lacked_memory))
   lines_end (Err fault) known left written new h clean ledger has = tt
   lines_end (Ok done) None left written new h clean ledger has = tt
   lines_end (Ok done) (Some input) left written new h clean ledger has = run_ends input left written new clean ledger has done h
 
   pub lines_fail : (ended : Result Done SessionFault) (known left written new : Option (List ℕ)) → IfErr ended (λ fault. IfSome known (λ input. HasFailedSo input left written new fault (sides_from begun.seen.shard.journal now.seen.shard before after)))
-      → HasCleanDisk (state_of last) → (ledger : LedgerParts) → IsLedger (state_of old).now ledger
+      → HasCleanDisk (state_of last) → (ledger : LedgerParts) → HasLedger (state_of old) (Some ledger)
       → IfErr ended (λ fault. IfSome known (λ input. FailsSo fault (machine_on zone desk.shard (Some ledger)) input left written new (beside_run Fails held settled (state_of last))))
   lines_fail (Ok done) known left written new h clean ledger has = tt
   lines_fail (Err fault) None left written new h clean ledger has = tt
   lines_fail (Err fault) (Some input) left written new h clean ledger has = run_fails input left written new clean ledger has fault h
+
+  -- the disk returned what was written before too
+  pub lines_clean : (ended : Result Done SessionFault) (known left written new : Option (List ℕ)) → IfOk ended (λ done. IfSome known (λ input. IsEnded input left written new done (sides_from begun.seen.shard.journal now.seen.shard before after)))
+      → IfErr ended (λ fault. IfSome known (λ input. HasFailedSo input left written new fault (sides_from begun.seen.shard.journal now.seen.shard before after)))
+      → IfSome known (λ _. HasCleanDisk (state_of last) → HasCleanDisk (state_of old))
+  lines_clean ended None left written new ends fails = tt
+  lines_clean (Ok done) (Some input) left written new ends fails = λ clean. was_clean_behind (requests_of input) ends.events ends.session clean
+  lines_clean (Err (Read answered)) (Some input) left written new ends fails = λ clean. was_clean_behind (line_requests fails.front) fails.events fails.session clean
+  lines_clean (Err (Write answered)) (Some input) left written new ends fails = λ clean. was_clean_behind fails.done (fails.events ++ fails.next ∷ []) fails.session clean

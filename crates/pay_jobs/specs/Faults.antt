@@ -2,7 +2,12 @@
 use Rattle.std.specs.Prelude.{◌≡◌, ◌⊎◌, ℕ, Bool, true, false, List, Result, Ok, Err, codes, ⊤}
 use Rattle.std.specs.declared.io.ErrorKind.{ErrorKind}
 use Rattle.pay_jobs.specs.declared.fault.Fault.{Fault}
-use Rattle.pay_jobs.specs.declared.fault.Fault.TheVariants.{Usage, CannotReadFares, BadZone, CannotListen, Input, Output, JournalLine, Journal, Refused}
+use Rattle.pay_jobs.specs.declared.fault.Fault.TheVariants.{Usage, CannotListen, Input, Output, JournalLine, JournalLineOf, Journal, Refused}
+use Rattle.pay_postings.specs.declared.fault.PostFault.TheVariants as post_fault
+use Rattle.pay_ledger.specs.Words.{open_fault_number, open_fault_name}
+use Rattle.pay_ledger.specs.declared.fault.LedgerFault.{LedgerFault}
+use Rattle.pay_ledger.specs.declared.fault.LedgerFault.TheVariants as ledger_fault
+use Rattle.pay_ledger.specs.declared.fault.OpenFault.{OpenFault}
 use Rattle.pay_wire.specs.Words.{WriterCall}
 use Rattle.pay_session.specs.Words.{ReaderCall, FailsBy, IsLastFill, HasNoEnd, IsBroken}
 use Rattle.pay_session.specs.declared.replaying.ReplayFault.{ReplayFault}
@@ -40,9 +45,19 @@ IsRefusal _ n text = ⊥
 abbrev pub IsWantOfMemory : Fault → Type 0
 IsWantOfMemory fault = IsRefusal fault 90 (codes "Memory")
 
--- the store of a ledger in memory failed, for want of memory too
+-- the store of a ledger failed, for want of memory too
 abbrev pub IsWantOfLedger : Fault → Type 0
 IsWantOfLedger fault = IsRefusal fault 43 (codes "Store")
+
+-- no ledger was opened, for one of these causes
+abbrev pub IsOpenFault : (OpenFault → Type 0) → Fault → Type 0
+IsOpenFault Refuses fault = (why : OpenFault) × Refuses why × IsRefusal fault (open_fault_number why) (open_fault_name why)
+
+-- what a ledger archives was not read: for its store, for want of memory, or as it is no account's
+abbrev pub IsUnread : LedgerFault → Fault → Type 0
+IsUnread ledger_fault.Store fault = IsWantOfLedger fault
+IsUnread (ledger_fault.Refused post_fault.Memory) fault = IsWantOfMemory fault
+IsUnread (ledger_fault.Refused _) fault = IsRefusal fault 45 (codes "BadArchive")
 
 -- why a journal is not accepted
 abbrev pub IsReplayFault : ReplayFault → Fault → Type 0
@@ -61,6 +76,8 @@ IsServeFault serving.CannotListen fault = fault ≡ CannotListen
 IsServeFault serving.Count fault = IsRefusal fault 32 (codes "Count")
 IsServeFault serving.NoThread fault = IsRefusal fault 35 (codes "NoThread")
 IsServeFault serving.Memory fault = IsWantOfMemory fault
+IsServeFault (serving.JournalLine journal line why) fault = fault ≡ JournalLineOf journal line why
+IsServeFault serving.Journal fault = fault ≡ Journal
 IsServeFault serving.Output fault = fault ≡ Output
 
 -- With what a reader may answer, from before to after: its last fill failed and was not interrupted, or it was filled too often.

@@ -1,3 +1,5 @@
+pub mod Alone
+pub mod Begun
 pub mod Check
 pub mod Faults
 pub mod Journals
@@ -8,6 +10,7 @@ pub mod LineRuns
 pub mod Machine
 pub mod Outcomes
 pub mod Past
+pub mod Places
 pub mod Replays
 pub mod Run
 pub mod Service

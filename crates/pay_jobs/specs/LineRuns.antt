@@ -7,7 +7,6 @@ use Rattle.sqlite.specs.State.{State, HasCleanDisk}
 use Rattle.pay_kept.specs.Words.{KeptParts}
 use Rattle.pay_postings.specs.Words.{LedgerParts}
 use Rattle.pay_shard.specs.Words.{LocalParts}
-use Rattle.pay_ledger.specs.Words.{IsLedger}
 use Rattle.pay_wire.specs.Words.{AppendsFront, spelling_of_reply}
 use Rattle.pay_wire.specs.declared.reply.Reply.{Reply}
 use Rattle.pay_session.specs.Words.{line_requests, quits, requests_of, unread, lacks_memory}
@@ -89,16 +88,16 @@ beside_run Fails held desk database = record { Holds = HasLedger database; Keeps
 -- A run from before to after. Before: a desk, what a keeper holds, a ledger, what the reader has left, and what the writer holds, each
 -- but the desk and the ledger where it is known. After: the desk that keeps lines, the ledger, and the two streams. With `state` for what
 -- a ledger's database is, and with `Fails` for that the keeper can fail. Nothing is said where it was no ledger before, or where its
--- disk has not returned what was written.
+-- disk has not returned what was written. Where its connection was shut before, it may be any ledger: nothing is read of it.
 module _ {L : Type 0} (state : L → State) (zone : TimeZone) (Fails : Type 0) where
   -- if it ended by itself
   abbrev pub LinesEnd : (before : LocalParts × Option (List ℕ) × L × Option (List ℕ) × Option (List ℕ)) → (after : KeptParts × L × Option (List ℕ) × Option (List ℕ)) → Result Done SessionFault → Type 0
-  LinesEnd before after ended = HasCleanDisk (state after.1) → (ledger : LedgerParts) → IsLedger (state before.2).now ledger
+  LinesEnd before after ended = HasCleanDisk (state after.1) → (ledger : LedgerParts) → HasLedger (state before.2) (Some ledger)
       → IfOk ended (λ done. IfSome before.3 (λ input.
       Ends (machine_on zone before.0.shard (Some ledger)) input after.2 before.4 after.3 (beside_run Fails before.1 after.0 (state after.1)) done.answered done.quit done.lacked_memory))
 
   -- and if it did not
   abbrev pub LinesFail : (before : LocalParts × Option (List ℕ) × L × Option (List ℕ) × Option (List ℕ)) → (after : KeptParts × L × Option (List ℕ) × Option (List ℕ)) → Result Done SessionFault → Type 0
-  LinesFail before after ended = HasCleanDisk (state after.1) → (ledger : LedgerParts) → IsLedger (state before.2).now ledger
+  LinesFail before after ended = HasCleanDisk (state after.1) → (ledger : LedgerParts) → HasLedger (state before.2) (Some ledger)
       → IfErr ended (λ fault. IfSome before.3 (λ input.
       FailsSo fault (machine_on zone before.0.shard (Some ledger)) input after.2 before.4 after.3 (beside_run Fails before.1 after.0 (state after.1))))

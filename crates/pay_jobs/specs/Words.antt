@@ -1,8 +1,10 @@
 -- Words for the program above: how its jobs end, what its faults are, what a service day is, the machine that answers lines, and what
 -- is kept of these.
-pub use Rattle.pay_jobs.specs.Faults.{status_of, stream_fault, told_of, IsRefusal, IsWantOfMemory, IsServeFault}
-pub use Rattle.pay_jobs.specs.Run.{IsRefused, Resumes, JobRan, RunFails}
-pub use Rattle.pay_jobs.specs.Service.{AreRead, ServiceEnds, ServiceFails, HasServiceCause}
+pub use Rattle.pay_jobs.specs.Faults.{status_of, stream_fault, told_of, IsRefusal, IsWantOfMemory, IsOpenFault, IsUnread, IsServeFault}
+pub use Rattle.pay_jobs.specs.Places.{Place, in_memory, in_file}
+pub use Rattle.pay_jobs.specs.Run.{IsRefused, Resumes, RanOver, IsTaken, JobRan, HasNoLedger, HasOpened, HasTaken, IsLeftAlone, IsNotBegun, RunFails}
+pub use Rattle.pay_jobs.specs.Alone.{IsBare, IsFoundBare, IsTakenWith, IsNotTakenAlone}
+pub use Rattle.pay_jobs.specs.Service.{Setup, AreRead, terms_of, have_line, IsToldAs, IsServedInto, IsRefusedWithout, IsUnserved, IsHeld, Serves, IsBehindTexts, ServiceFails, HasServiceCause}
 pub use Rattle.pay_jobs.specs.Check.{CheckEnds, CheckFails}
 pub use Rattle.pay_jobs.specs.Statement.{StatementWritten, StatementRefused}
 pub use Rattle.pay_day.specs.Words.{IsDay}

@@ -1,12 +1,13 @@
 //! Why the program fails, and the status that it ends with.
 ghost use Rattle.std.specs.Prelude.{◌≡◌};
-ghost use Rattle.pay_jobs.specs.Faults.{IsRefusal, IsWantOfMemory, IsReplayFault, IsWeekFault, IsServeFault, status_of, stream_fault};
+ghost use Rattle.pay_jobs.specs.Faults.{IsRefusal, IsWantOfMemory, IsUnread, IsReplayFault, IsWeekFault, IsServeFault, status_of, stream_fault};
 ghost use Rattle.pay_fare_file.specs.Words.{fault_number, fault_name};
 ghost use Rattle.pay_ledger.specs.Words.{open_fault_number, open_fault_name};
 
 use crate::week::WeekFault;
 use pay_fare_file::FareFileFault;
-use pay_ledger::OpenFault;
+use pay_ledger::{LedgerFault, OpenFault};
+use pay_postings::PostFault;
 use pay_serve::ServeFault;
 use pay_session::{ReplayFault, SessionFault};
 use pay_wire::Refusal;
@@ -43,7 +44,7 @@ pub enum Fault {
         line: u64,
         why: Refusal,
     },
-    /// The line of this number of one of several journals, both from 1, is not accepted.
+    /// The line of this number, from 1, of one of several journals, which is named by its own number, is not accepted.
     #[error("farebox: journal {journal} line {line}: {why}")]
     JournalLineOf {
         journal: u64,
@@ -53,6 +54,9 @@ pub enum Fault {
     /// Something that was accepted was not kept, or not settled.
     #[error("farebox: journal fault")]
     Journal,
+    /// A ledger archives something, and its journal has no line.
+    #[error("farebox: ledger without its journal")]
+    LedgerAlone,
     /// A refusal, by its number and its name.
     #[error("farebox: {number} {name}")]
     Refused {
@@ -106,6 +110,22 @@ impl From<OpenFault> for Fault {
     }
 }
 
+/// What is read of a ledger and is no account's is refused by 45.
+impl From<LedgerFault> for Fault {
+    ghost from_gives = { λ of fault. IsUnread of fault };
+
+    fn from(fault: LedgerFault) -> Fault {
+        match fault {
+            LedgerFault::Store => Fault::from(OpenFault::Store),
+            LedgerFault::Refused(PostFault::Memory) => Fault::from(AllocError),
+            LedgerFault::Refused(_) => Fault::Refused {
+                number: 45,
+                name: "BadArchive",
+            },
+        }
+    }
+}
+
 impl From<SessionFault> for Fault {
     ghost from_gives = { λ of fault. fault ≡ stream_fault of };
 
@@ -155,6 +175,10 @@ impl From<ServeFault> for Fault {
                 name: "NoThread",
             },
             ServeFault::Memory => Fault::from(AllocError),
+            ServeFault::JournalLine { journal, line, why } => {
+                Fault::JournalLineOf { journal, line, why }
+            }
+            ServeFault::Journal => Fault::Journal,
             ServeFault::Output => Fault::Output,
         }
     }

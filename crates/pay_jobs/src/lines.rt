@@ -1,7 +1,8 @@
-ghost use Rattle.std.specs.Prelude.{◌≡◌, false, [], IfOk, IfErr};
+ghost use Rattle.std.specs.Prelude.{◌≡◌, false, [], IfOk, IfErr, IfSome};
 ghost use Rattle.std.specs.Arc.{arc_value};
 ghost use Rattle.std.specs.FinMap as map;
 ghost use Rattle.sqlite.specs.Held.{state};
+ghost use Rattle.sqlite.specs.State.{HasCleanDisk};
 ghost use Rattle.pay_kept.specs.Words.{CanFail};
 ghost use Rattle.pay_session.specs.Words.{IsBroken, IsLastFill, ShowsNothing};
 ghost use Rattle.pay_jobs.specs.Faults.{told_of};
@@ -78,6 +79,7 @@ pub fn run_lines<R: ToldReader, W: ToldWriter, S: Alter, K: Keeper>(
         (result.desk, ledger.new, R.remaining reader.new, W.contents writer.new) result.ended }
     ensures fails { LinesFail (state S.Store) zone.now (CanFail K.HasFailed) (desk, K.holds keeper, ledger.old, R.remaining reader.old, W.contents writer.old)
         (result.desk, ledger.new, R.remaining reader.new, W.contents writer.new) result.ended }
+    ensures clean { IfSome (R.remaining reader.old) (λ _. HasCleanDisk (state S.Store ledger.new) → HasCleanDisk (state S.Store ledger.old)) }
     ensures settled { result.desk.stuck ≡ false → (settled : K) × K.IsSettled settled × (K.holds settled ≡ result.desk.holds) }
     ensures ended { IfOk result.ended (λ done. done.quit ≡ false → IsLastFill R.Tells (ShowsNothing R.Tells) reader.old reader.new) }
     ensures cause { IfErr result.ended (λ fault. IsBroken R.Tells W.Tells fault reader.old reader.new writer.new) }
