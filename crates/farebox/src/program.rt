@@ -1,17 +1,19 @@
 //! The program: its words, its streams and its statuses.
+ghost use Rattle.std.specs.Prelude.{◌≡◌, length, IfOk};
 ghost use Rattle.pay_jobs.specs.Words.{IsDay};
 ghost use Rattle.farebox.specs.NoJob.{IsTextOrFault};
 
 use crate::errors::memory_or;
-use crate::journal::{open_journal, read_journal};
+use crate::journal::{Journals, open_journal, open_journals, read_journal, refuse_journal};
 use pay_jobs::{
-    Fault, Journal, NoJournal, Plan, check_text, replay_texts, run_texts, serve_texts,
+    Fault, Journal, Keeper, LedgerFile, Ledgers, NoJournal, NoKeeper, Plan, Wary, check_text,
+    replay_texts, run_texts, run_texts_into_file, serve_texts, serve_texts_into_file,
     statement_texts,
 };
 use pay_words::{Job, ReplayWords, RunWords, ServeWords, StatementWords, WordsFault, read_words};
-use std::alloc::AllocError;
+use std::alloc::{AllocError, Global};
 use std::fs::File;
-use std::io::{BufReader, Eprint};
+use std::io::{BufRead, BufReader, Eprint};
 use std::net::{Net, TcpListener, TcpStream};
 use std::process::ExitCode;
 use std::rt::{Env, Files};
@@ -38,6 +40,7 @@ where
         + Wait
         + Env
         + Files<File = File>
+        + Ledgers
         + Input
         + Print
         + Eprint
@@ -84,33 +87,56 @@ fn check_fares<R: Files + Print + AllocGlobal>(rt: &R, path: &str) -> Result<(),
 }
 
 /// One session, from standard input to standard output.
-fn run_session<R: Files<File = File> + Input + Print + AllocGlobal>(
+fn run_session<R: Files<File = File> + Ledgers + Input + Print + AllocGlobal>(
     rt: &R,
     words: &RunWords<'_>,
 ) -> Result<(), Fault> {
     let fares = fares_text(rt, words.fares)?;
     match words.journal {
-        None => run_over(rt, fares.as_str(), words.zone, NoJournal),
+        None => run_over(rt, words, fares.as_str(), NoJournal),
         Some(path) => {
             let journal = open_journal(rt, path, words.syncs)?;
-            run_over(rt, fares.as_str(), words.zone, journal)
+            run_over(rt, words, fares.as_str(), journal)
         }
     }
 }
 
 /// One session over a journal, or over none.
-fn run_over<R: Files + Input + Print + AllocGlobal, J: Journal>(
+fn run_over<R: Files<File = File> + Ledgers + Input + Print + AllocGlobal, J: Journal>(
     rt: &R,
+    words: &RunWords<'_>,
     fares: &str,
-    zone: &str,
     journal: J,
 ) -> Result<(), Fault> {
-    let (alloc, mut input, mut writer) = (rt.alloc(), rt.reader(), io::writer(rt));
-    let ran = if is_input_a_file(rt) {
-        run_texts(alloc, fares, zone, journal, &mut input, &mut writer)?
+    refuse_journal(rt, words.ledger)?;
+    let mut input = rt.reader();
+    if is_input_a_file(rt) {
+        run_from(rt, words, fares, journal, &mut input)
     } else {
-        let mut reader = BufReader::new(alloc, input).map_err(|_| AllocError)?;
-        run_texts(alloc, fares, zone, journal, &mut reader, &mut writer)?
+        let mut reader = BufReader::new(rt.alloc(), input).map_err(|_| AllocError)?;
+        run_from(rt, words, fares, journal, &mut reader)
+    }
+}
+
+/// One session from a reader, over a ledger in memory, or in a file.
+fn run_from<R: Ledgers + Print + AllocGlobal, J: Journal, I: BufRead>(
+    rt: &R,
+    words: &RunWords<'_>,
+    fares: &str,
+    journal: J,
+    reader: &mut I,
+) -> Result<(), Fault> {
+    let (alloc, zone, mut writer) = (rt.alloc(), words.zone, io::writer(rt));
+    let ran = match words.ledger {
+        None => run_texts(alloc, fares, zone, journal, reader, &mut writer)?,
+        Some(path) => {
+            let file = LedgerFile {
+                rt,
+                path,
+                start: Wary,
+            };
+            run_texts_into_file(alloc, fares, zone, journal, file, reader, &mut writer)?
+        }
     };
     ran.told()?;
     Ok(())
@@ -185,7 +211,8 @@ where
     R: Net<Listener = TcpListener, Stream = TcpStream>
         + Threads
         + Wait
-        + Files
+        + Files<File = File>
+        + Ledgers
         + Print
         + Eprint
         + AllocGlobal
@@ -195,6 +222,63 @@ where
     requires { IsDay words.now.close }
 {
     let fares = fares_text(&rt, words.fares)?;
+    let is_closed = match words.journal {
+        None => {
+            let keepers = no_keepers(rt.alloc(), words.shards)?;
+            serve_over(rt, words, fares.as_str(), &[], keepers)?
+        }
+        Some(folder) => {
+            let Journals {
+                texts,
+                keepers,
+                others: _held,
+            } = open_journals(&rt, folder, words.shards)?;
+            serve_over(rt, words, fares.as_str(), texts.as_slice(), keepers)?
+        }
+    };
+    if is_closed {
+        Ok(ExitCode::SUCCESS)
+    } else {
+        Ok(ExitCode::FAILURE)
+    }
+}
+
+/// A keeper that keeps nothing for each shard.
+fn no_keepers(alloc: Global, shards: u8) -> Result<Vec<NoKeeper>, AllocError>
+    ensures { IfOk result (λ keepers. length keepers.items ≡ shards) }
+{
+    let mut keepers = Vec::new(alloc);
+    for _ in 0..shards {
+        keepers.push(NoKeeper).map_err(AllocError::from)?;
+    }
+    Ok(keepers)
+}
+
+/// The sessions and the close over what journals have, and a ledger in a file, or in memory. Whether the day was closed.
+fn serve_over<R, K>(
+    rt: R,
+    words: &ServeWords<'_>,
+    fares: &str,
+    texts: &[Vec<u8>],
+    keepers: Vec<K>,
+) -> Result<bool, Fault>
+where
+    R: Net<Listener = TcpListener, Stream = TcpStream>
+        + Threads
+        + Wait
+        + Files<File = File>
+        + Ledgers
+        + Print
+        + Eprint
+        + AllocGlobal
+        + Copy
+        + Send
+        + 'static,
+    K: Keeper + Send + 'static,
+    requires day { IsDay words.now.close }
+    requires keepers { length keepers.items ≡ words.now.shards }
+{
+    refuse_journal(&rt, words.ledger)?;
     let plan = Plan {
         port: words.port,
         lanes: words.lanes,
@@ -202,11 +286,27 @@ where
         sessions: words.sessions,
         close: words.close,
     };
-    let (alloc, mut writer) = (rt.alloc(), io::writer(&rt));
-    if serve_texts(rt, alloc, fares.as_str(), words.zone, &plan, &mut writer)? {
-        Ok(ExitCode::SUCCESS)
-    } else {
-        Ok(ExitCode::FAILURE)
+    let (alloc, zone, mut writer) = (rt.alloc(), words.zone, io::writer(&rt));
+    match words.ledger {
+        None => serve_texts(rt, alloc, fares, zone, &plan, texts, keepers, &mut writer),
+        Some(path) => {
+            let file = LedgerFile {
+                rt: &rt,
+                path,
+                start: Wary,
+            };
+            serve_texts_into_file(
+                rt,
+                alloc,
+                fares,
+                zone,
+                &plan,
+                texts,
+                keepers,
+                file,
+                &mut writer,
+            )
+        }
     }
 }
 

@@ -10,7 +10,7 @@ use Rattle.pay_words.specs.Asked.{check, check_asked, check_readers, replay, rep
 use Rattle.pay_words.specs.Asked.{Given, Reader, taken, all_given, given_by, with_value, values, help, refused, without_dashes}
 use Rattle.pay_words.specs.Asked as words
 use Rattle.pay_words.specs.Options.{IsOption, Part, Said, Setting, StandApart, all_of, all_said, flag_value, help_wanted, not_taken, plain_words, reader_of, values_of, words_of_parts}
-use Rattle.pay_words.specs.Options.{port_option, lanes_option, shards_option, sessions_option, close_option, journal_option, sync_option}
+use Rattle.pay_words.specs.Options.{port_option, lanes_option, shards_option, sessions_option, close_option, journal_option, sync_option, ledger_option}
 use Rattle.pay_words.specs.Run.{AreRunParts, Run, first_given, flags, has_journal, is_given, listed, run_grammar}
 use Rattle.pay_words.specs.Serve.{AreInRange, ArePartsOf, ServeTexts, has_ports, numbers_of, serve_grammar}
 use Rattle.pay_words.specs.Statement.{AreStatementParts, HasNumbersInRange, StatementTexts, statement_grammar, statement_of_texts}
@@ -121,7 +121,7 @@ after_run rest = go (all_said run_grammar rest) (Level run_shape [] (stand [] No
   where
     made : (parts : List Part) (had : List Row) → Says run_grammar (codes "run") run_rules run_built run_apart (all_of parts) (without_dashes rest)
         → ((k : Setting) → Under had k (values_of k parts)) → (vs : List Text) → plain_words parts ≡ vs
-        → AreWordsOf (run_of vs (values_of journal_option parts) (values_of sync_option parts)) (codes "run" ∷ rest)
+        → AreWordsOf (run_of vs (values_of journal_option parts) (values_of sync_option parts) (values_of ledger_option parts)) (codes "run" ∷ rest)
     made parts had s under [] is = tt
     made parts had s under (a ∷ []) is = tt
     made parts had s under (a ∷ b ∷ c ∷ more) is = tt
@@ -133,6 +133,7 @@ after_run rest = go (all_said run_grammar rest) (Level run_shape [] (stand [] No
         is,
         under_listed had journal_option (values_of journal_option parts) (under journal_option),
         under_flags had (values_of sync_option parts) (under sync_option),
+        under_listed had ledger_option (values_of ledger_option parts) (under ledger_option),
       ),
     )
 
@@ -201,7 +202,7 @@ module _ (rest : List Text) (parts : List Part) (had : List Row) (s : Says serve
 
   serve_made : (vs ps ls ns ks ds : List Text) → plain_words parts ≡ vs → values_of port_option parts ≡ ps → values_of lanes_option parts ≡ ls
       → values_of shards_option parts ≡ ns → values_of sessions_option parts ≡ ks → values_of close_option parts ≡ ds
-      → AreWordsOf (serve_of vs ps ls ns ks ds) (codes "serve" ∷ rest)
+      → AreWordsOf (serve_of vs ps ls ns ks ds (values_of journal_option parts) (values_of ledger_option parts)) (codes "serve" ∷ rest)
   serve_made [] ps ls ns ks ds h p l n k d = tt
   serve_made (a ∷ []) ps ls ns ks ds h p l n k d = tt
   serve_made (a ∷ b ∷ c ∷ more) ps ls ns ks ds h p l n k d = tt
@@ -224,6 +225,8 @@ module _ (rest : List Text) (parts : List Part) (had : List Row) (s : Says serve
       shards = nw;
       sessions = kw;
       close = dw;
+      journal = first_given (values_of journal_option parts);
+      ledger = first_given (values_of ledger_option parts);
     },
     parts,
     ap (λ (l : List Text). codes "serve" ∷ l) s.0,
@@ -231,6 +234,8 @@ module _ (rest : List Text) (parts : List Part) (had : List Row) (s : Says serve
       s.1,
       h,
       (p, l, n, k, d),
+      under_listed had journal_option (values_of journal_option parts) (under journal_option),
+      under_listed had ledger_option (values_of ledger_option parts) (under ledger_option),
     ),
     (serve_fits port_option pw p, serve_fits lanes_option lw l, serve_fits shards_option nw n, serve_fits sessions_option kw k, serve_fits close_option dw d),
     refl,
@@ -327,6 +332,7 @@ module _ (r : Run) (parts : List Part) (are : AreRunParts r parts) where
   run_once close_option = none_of_run close_option (λ e. cc)
   run_once journal_option = subst (Once journal_option) (sym are.2) (once_listed journal_option r.journal (λ v. refl))
   run_once sync_option = subst (Once sync_option) (sym are.3) (once_flags r.syncs)
+  run_once ledger_option = subst (Once ledger_option) (sym are.4) (once_listed ledger_option r.ledger (λ v. refl))
 
   run_taken : slice_index r.fares 0 ≢ 45 → slice_index r.zone 0 ≢ 45 → AreTaken run_grammar parts
   run_taken f z = record {
@@ -337,7 +343,7 @@ module _ (r : Run) (parts : List Part) (are : AreRunParts r parts) where
   }
 
   run_is : run_asked (all_of parts) ≡ run r
-  run_is = rw (are.1, are.2, are.3, first_listed r.journal, given_flags r.syncs) refl
+  run_is = rw (are.1, are.2, are.3, are.4, first_listed r.journal, given_flags r.syncs, first_listed r.ledger) refl
 
 pub asks_run : (ws : List Text) (name : Text) (r : Run) (parts : List Part) → ws ≡ name ∷ codes "run" ∷ words_of_parts parts → AreRunParts r parts → StandApart parts
     → slice_index r.fares 0 ≢ 45 → slice_index r.zone 0 ≢ 45 → has_journal r ≡ true → asked ws ≡ run r
@@ -359,6 +365,7 @@ module _ (t : StatementTexts) (parts : List Part) (are : AreStatementParts t par
   statement_once close_option = none_of_statement close_option (λ e. cc)
   statement_once journal_option = subst (Once journal_option) (sym are.2) (once_listed journal_option t.journal (λ v. refl))
   statement_once sync_option = none_of_statement sync_option (λ e. cc)
+  statement_once ledger_option = none_of_statement ledger_option (λ e. cc)
 
   statement_taken : slice_index t.fares 0 ≢ 45 → slice_index t.zone 0 ≢ 45 → HasNumbersInRange t → AreTaken statement_grammar parts
   statement_taken f z n = record {
@@ -392,8 +399,9 @@ module _ (t : ServeTexts) (parts : List Part) (are : ArePartsOf t parts) (fits :
   serve_once shards_option = subst (Once shards_option) (sym are.2.2) fits.2
   serve_once sessions_option = subst (Once sessions_option) (sym are.2.3) fits.3
   serve_once close_option = subst (Once close_option) (sym are.2.4) fits.4
-  serve_once journal_option = subst (Once journal_option) (sym (no_values serve_grammar journal_option (λ e. cc) parts are.0)) tt
+  serve_once journal_option = subst (Once journal_option) (sym are.3) (once_listed journal_option t.journal (λ v. refl))
   serve_once sync_option = subst (Once sync_option) (sym (no_values serve_grammar sync_option (λ e. cc) parts are.0)) tt
+  serve_once ledger_option = subst (Once ledger_option) (sym are.4) (once_listed ledger_option t.ledger (λ v. refl))
 
   serve_taken : slice_index t.fares 0 ≢ 45 → slice_index t.zone 0 ≢ 45 → AreTaken serve_grammar parts
   serve_taken f z = record {
@@ -404,7 +412,7 @@ module _ (t : ServeTexts) (parts : List Part) (are : ArePartsOf t parts) (fits :
   }
 
   serve_is : serve_asked (all_of parts) ≡ serve (numbers_of t)
-  serve_is = rw (are.1, are.2.0, are.2.1, are.2.2, are.2.3, are.2.4) refl
+  serve_is = rw (are.1, are.2.0, are.2.1, are.2.2, are.2.3, are.2.4, are.3, are.4, first_listed t.journal, first_listed t.ledger) refl
 
 pub asks_serve : (ws : List Text) (name : Text) (t : ServeTexts) (parts : List Part) → ws ≡ name ∷ codes "serve" ∷ words_of_parts parts → ArePartsOf t parts → StandApart parts
     → slice_index t.fares 0 ≢ 45 → slice_index t.zone 0 ≢ 45 → AreInRange t → has_ports (numbers_of t) ≡ true → asked ws ≡ serve (numbers_of t)

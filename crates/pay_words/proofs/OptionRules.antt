@@ -15,7 +15,7 @@ use Rattle.clap.specs.declared.builder.value_parser.ValueParser.{ValueParser}
 use Rattle.clap.specs.declared.builder.value_parser.ValueParser.TheVariants as vp
 use Rattle.clap.specs.declared.builder.value_parser.Reading.TheVariants as reading
 use Rattle.pay_words.specs.Options.{Grammar, Place, Setting, flag_value, is_flag, name_of, place_behind, place_reader, reader_of, setting_named}
-use Rattle.pay_words.specs.Options.{port_option, lanes_option, shards_option, sessions_option, close_option, journal_option, sync_option}
+use Rattle.pay_words.specs.Options.{port_option, lanes_option, shards_option, sessions_option, close_option, journal_option, sync_option, ledger_option}
 use Rattle.pay_words.specs.Options.{fares_place, zone_place, account_place, day_place}
 use Rattle.pay_words.proofs.OptionRows.{a_row, found, no_row, row_added, row_with}
 use Rattle.pay_words.proofs.WordKinds.{LongOptionsBut, Refuses, ShortOptions, help_filled, is_refusal}
@@ -67,6 +67,7 @@ parser_for sessions_option = vp.Unsigned 1 1_000
 parser_for close_option = vp.Unsigned 4 50_000
 parser_for journal_option = vp.String
 parser_for sync_option = vp.Bool
+parser_for ledger_option = vp.String
 
 abbrev is_needed : Setting → Bool
 is_needed port_option = true
@@ -76,6 +77,7 @@ is_needed sessions_option = true
 is_needed close_option = true
 is_needed journal_option = false
 is_needed sync_option = false
+is_needed ledger_option = false
 
 abbrev no_values : ValueRange
 no_values = record { start_inclusive = 0; end_inclusive = 0 }
@@ -101,6 +103,7 @@ option_reads sessions_option word value = refl
 option_reads close_option word value = refl
 option_reads journal_option word value = refl
 option_reads sync_option word value = cc
+option_reads ledger_option word value = refl
 
 option_reading : (k : Setting) → reading_by (setting_rule k) ≡ reading.AsWritten
 option_reading port_option = refl
@@ -110,6 +113,7 @@ option_reading sessions_option = refl
 option_reading close_option = refl
 option_reading journal_option = refl
 option_reading sync_option = refl
+option_reading ledger_option = refl
 
 -- ---- names
 
@@ -121,6 +125,7 @@ same_name sessions_option = refl
 same_name close_option = refl
 same_name journal_option = refl
 same_name sync_option = refl
+same_name ledger_option = refl
 
 -- options of one name are one
 pub same_setting : (j k : Setting) → (j ≡ k) ⊎ (bytes_eq (name_of j) (name_of k) ≡ false)
@@ -131,6 +136,7 @@ same_setting sessions_option sessions_option = inl refl
 same_setting close_option close_option = inl refl
 same_setting journal_option journal_option = inl refl
 same_setting sync_option sync_option = inl refl
+same_setting ledger_option ledger_option = inl refl
 same_setting _ _ = inr refl
 
 -- no option has the name of a value
@@ -142,6 +148,7 @@ no_place sessions_option fares_place = (refl, refl)
 no_place close_option fares_place = (refl, refl)
 no_place journal_option fares_place = (refl, refl)
 no_place sync_option fares_place = (refl, refl)
+no_place ledger_option fares_place = (refl, refl)
 no_place _ _ = (refl, refl)
 
 pub same_place : (p : Place) → bytes_eq (place_name p) (place_name p) ≡ true
@@ -236,6 +243,7 @@ only_flag sessions_option flag = cc
 only_flag close_option flag = cc
 only_flag journal_option flag = cc
 only_flag sync_option flag = refl
+only_flag ledger_option flag = cc
 
 flag_reads : (k : Setting) → is_flag k ≡ true → accepts false (parser_for k) flag_value ≡ true
 flag_reads k flag =
@@ -256,6 +264,7 @@ refuses_value sessions_option = refl
 refuses_value close_option = refl
 refuses_value journal_option = refl
 refuses_value sync_option = refl
+refuses_value ledger_option = refl
 
 refuses_place : (p : Place) → is_refusal (refused_kind (place_parser p)) ≡ true
 refuses_place fares_place = refl

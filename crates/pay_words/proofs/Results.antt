@@ -134,6 +134,7 @@ run_values m f r same gives =
       first_value-rows f (codes "ZONE") ∙ (ap (first_of (codes "ZONE")) rows_are ∙ h.1),
       first_value-rows f (codes "journal") ∙ (ap (first_of (codes "journal")) rows_are ∙ h.2),
       one_text-rows f (codes "sync") ∙ (ap (one_of (codes "sync")) rows_are ∙ h.3),
+      first_value-rows f (codes "ledger") ∙ (ap (first_of (codes "ledger")) rows_are ∙ h.4),
     )
 
 -- the matches of `check` have its value
@@ -194,6 +195,8 @@ serve_texts m f s same gives =
       one_text-rows f (codes "shards") ∙ (ap (one_of (codes "shards")) rows_are ∙ h.4),
       one_text-rows f (codes "sessions") ∙ (ap (one_of (codes "sessions")) rows_are ∙ h.5),
       one_text-rows f (codes "close") ∙ (ap (one_of (codes "close")) rows_are ∙ h.6),
+      first_value-rows f (codes "journal") ∙ (ap (first_of (codes "journal")) rows_are ∙ h.7),
+      first_value-rows f (codes "ledger") ∙ (ap (first_of (codes "ledger")) rows_are ∙ h.8),
     )
 
 -- ---- the clauses

@@ -9,7 +9,7 @@ use Rattle.clap.specs.Faults.{check_fault}
 use Rattle.pay_words.specs.Asked.{run_asked, run_of}
 use Rattle.pay_words.specs.CommandLine.{flag_text}
 use Rattle.pay_words.specs.Options.{Place, Said, Setting, all_of, all_said, flag_value, help_wanted, name_of, not_taken, place_behind, plain_words, values_of}
-use Rattle.pay_words.specs.Options.{fares_place, zone_place, journal_option, sync_option}
+use Rattle.pay_words.specs.Options.{fares_place, zone_place, journal_option, sync_option, ledger_option}
 use Rattle.pay_words.specs.Run.{first_given, is_given, run_grammar}
 use Rattle.pay_words.proofs.OptionRows.{a_row, default_added, default_row, found, found_new, found_other, no_default_faults, no_defaults, no_row, row_with}
 use Rattle.pay_words.proofs.OptionRules.{IsBuilt, position_of, rule_at, rule_by_long, rules_for, setting_rule}
@@ -21,7 +21,7 @@ use Rattle.pay_words.proofs.WordsAfterOptions.{AreApart, Places, Under, ends}
 use Rattle.pay_words.proofs.WordsOfProgram.{Comes, program_shape}
 
 abbrev pub run_rules : List Rule
-run_rules = rule_at fares_place ∷ rule_at zone_place ∷ rules_for (journal_option ∷ sync_option ∷ [])
+run_rules = rule_at fares_place ∷ rule_at zone_place ∷ rules_for (journal_option ∷ sync_option ∷ ledger_option ∷ [])
 
 abbrev pub run_shape : Shape
 run_shape = program_shape (codes "run") run_rules
@@ -45,11 +45,11 @@ pub run_built : IsBuilt run_grammar run_rules
 run_built = record {
   by_long = λ name. rule_by_long run_grammar.options name;
   by_short = λ x. refl;
-  by_name = (refl, (refl, tt));
+  by_name = (refl, (refl, (refl, tt)));
   by_place = (refl, (refl, tt));
   by_index = run_index;
   next = run_next;
-  defaults = λ rows. no_default_faults run_rules rows (refl, (refl, (refl, (refl, (refl, tt)))));
+  defaults = λ rows. no_default_faults run_rules rows (refl, (refl, (refl, (refl, (refl, (refl, tt))))));
 }
 
 -- ---- the end of the words
@@ -66,13 +66,14 @@ under_first rows k (v ∷ w ∷ more) h = absurd h
 
 run_ended : (rows : List Row) → fold with_default rows run_rules ≡ with_default rows (setting_rule sync_option)
 run_ended rows =
-    ap (λ (r : List Row). fold with_default r (rules_for (sync_option ∷ []))) (no_defaults (rule_at fares_place ∷ rule_at zone_place ∷ setting_rule journal_option ∷ []) rows (refl, (refl, (refl, tt))))
-    ∙ no_defaults (rules_for []) (with_default rows (setting_rule sync_option)) (refl, tt)
+    ap (λ (r : List Row). fold with_default r (rules_for (sync_option ∷ ledger_option ∷ []))) (no_defaults (rule_at fares_place ∷ rule_at zone_place ∷ setting_rule journal_option ∷ []) rows (refl, (refl, (refl, tt))))
+    ∙ no_defaults (rules_for (ledger_option ∷ [])) (with_default rows (setting_rule sync_option)) (refl, (refl, tt))
 
 -- a flag that was not given has its row all the same, and no other row is changed
 abbrev IsFinal : List Row → List Text → List Row → Type 0
 IsFinal had ss rows = (found (codes "FARES") rows ≡ found (codes "FARES") had) × (found (codes "ZONE") rows ≡ found (codes "ZONE") had)
-    × (found (codes "journal") rows ≡ found (codes "journal") had) × (one_of (codes "sync") rows ≡ Some (flag_text (is_given ss)))
+    × (found (codes "journal") rows ≡ found (codes "journal") had) × (found (codes "ledger") rows ≡ found (codes "ledger") had)
+    × (one_of (codes "sync") rows ≡ Some (flag_text (is_given ss)))
 
 run_final : (had : List Row) (ss : List Text) → Under had sync_option ss → IsFinal had ss (fold with_default had run_rules)
 run_final had [] h =
@@ -84,26 +85,27 @@ run_final had [] h =
       found_other (codes "FARES") had r refl,
       found_other (codes "ZONE") had r refl,
       found_other (codes "journal") had r refl,
+      found_other (codes "ledger") had r refl,
       rw sync refl,
     )
 run_final had (v ∷ []) h =
     let old : has_row (codes "sync") had ≡ true = a_row (codes "sync") had (row_with (codes "sync") v) h.0 in
     let is : fold with_default had run_rules ≡ had = run_ended had ∙ (rw old refl) in
     let value : v ≡ flag_value = same_bytes v flag_value h.1 in
-    subst (IsFinal had (v ∷ [])) (sym is) (refl, refl, refl, rw h.0 (ap Some value))
+    subst (IsFinal had (v ∷ [])) (sym is) (refl, refl, refl, refl, rw h.0 (ap Some value))
 run_final had (v ∷ w ∷ more) h = absurd h
 
 -- what is asked for by all that was given, and what `clap` says of it
-finish : (vs js ss : List Text) (had rows : List Row) → Places run_grammar.places vs had → Under had journal_option js
-    → IsFinal had ss rows → Comes (run_of vs js ss) (check_fault run_shape rows false) (Some (codes "run", rows))
-finish [] js ss had rows h j f =
+finish : (vs js ss ls : List Text) (had rows : List Row) → Places run_grammar.places vs had → Under had journal_option js → Under had ledger_option ls
+    → IsFinal had ss rows → Comes (run_of vs js ss ls) (check_fault run_shape rows false) (Some (codes "run", rows))
+finish [] js ss ls had rows h j l f =
     let fares = f.0 ∙ h.0 in rw fares refl
-finish (a ∷ []) js ss had rows h j f =
+finish (a ∷ []) js ss ls had rows h j l f =
     let fares = f.0 ∙ h.0 in
     let zone = f.1 ∙ h.2.0 in
     rw (fares, zone) refl
-finish (a ∷ b ∷ c ∷ more) js ss had rows h j f = absurd h.2.2
-finish (a ∷ b ∷ []) js ss had rows h j f =
+finish (a ∷ b ∷ c ∷ more) js ss ls had rows h j l f = absurd h.2.2
+finish (a ∷ b ∷ []) js ss ls had rows h j l f =
     let fares = f.0 ∙ h.0 in
     let zone = f.1 ∙ h.2.0 in (
       rw (fares, zone) refl,
@@ -114,7 +116,8 @@ finish (a ∷ b ∷ []) js ss had rows h j f =
           rw fares refl,
           rw zone refl,
           ap row_first f.2 ∙ under_first had journal_option js j,
-          f.3,
+          f.4,
+          ap row_first f.3 ∙ under_first had ledger_option ls l,
         ),
       ),
     )
@@ -129,7 +132,7 @@ run_ends rest = go (all_said run_grammar rest) (Level run_shape [] (stand [] Non
     go (all_of parts) ks rows h =
         subst (λ (k : Kinds). Comes (run_asked (all_of parts)) k (Some (codes "run", rows))) (sym h.2)
         (subst (λ (r : List Row). Comes (run_asked (all_of parts)) (check_fault run_shape (fold with_default h.0 run_rules) false) (Some (codes "run", r))) (sym h.3)
-        (finish (plain_words parts) (values_of journal_option parts) (values_of sync_option parts) h.0 (fold with_default h.0 run_rules)
-        h.1.1 (h.1.2 journal_option) (run_final h.0 (values_of sync_option parts) (h.1.2 sync_option))))
+        (finish (plain_words parts) (values_of journal_option parts) (values_of sync_option parts) (values_of ledger_option parts) h.0 (fold with_default h.0 run_rules)
+        h.1.1 (h.1.2 journal_option) (h.1.2 ledger_option) (run_final h.0 (values_of sync_option parts) (h.1.2 sync_option))))
     go help_wanted ks rows h = h
     go not_taken ks rows h = h

@@ -16,7 +16,7 @@ pub use Rattle.pay_words.specs.OneWord.{Text, Word, value, dashes, call_for_help
 pub use Rattle.pay_words.specs.OneWord.{Reader, any_text, is_account, is_day, number_of}
 pub use Rattle.pay_words.specs.Options.{HasNoHyphen}
 use Rattle.pay_words.specs.Options.{Part, Said, StandApart, all_of, all_said, help_wanted, not_taken, plain, apart, joined, plain_words, values_of, words_of_parts}
-use Rattle.pay_words.specs.Options.{port_option, lanes_option, shards_option, sessions_option, close_option, journal_option, sync_option}
+use Rattle.pay_words.specs.Options.{port_option, lanes_option, shards_option, sessions_option, close_option, journal_option, sync_option, ledger_option}
 use Rattle.pay_words.specs.Run.{AreRunParts, Run, first_given, has_journal, is_given, run_grammar}
 use Rattle.pay_words.specs.Serve.{AreInRange, ArePartsOf, Serve, ServeTexts, has_ports, last_port, numbers_of, serve_grammar}
 use Rattle.pay_words.specs.Statement.{AreStatementParts, HasNumbersInRange, Statement, StatementTexts, statement_grammar, statement_of_texts}
@@ -95,18 +95,19 @@ pub data Asked : Type 0 where
   usage : Asked
 
 -- two values, and what each option was given
-abbrev pub run_of : List Text → List Text → List Text → Asked
-run_of (fares ∷ zone ∷ []) j s = run (record {
+abbrev pub run_of : List Text → List Text → List Text → List Text → Asked
+run_of (fares ∷ zone ∷ []) j s l = run (record {
   fares = fares;
   zone = zone;
   journal = first_given j;
   syncs = is_given s;
+  ledger = first_given l;
 })
-run_of _ _ _ = usage
+run_of _ _ _ _ = usage
 
 -- `run FARES ZONE` and its options
 abbrev pub run_asked : Said → Asked
-run_asked (all_of parts) = run_of (plain_words parts) (values_of journal_option parts) (values_of sync_option parts)
+run_asked (all_of parts) = run_of (plain_words parts) (values_of journal_option parts) (values_of sync_option parts) (values_of ledger_option parts)
 run_asked help_wanted = help_asked
 run_asked not_taken = usage
 
@@ -139,9 +140,9 @@ replay_asked (values (fares ∷ zone ∷ file ∷ files)) = replay fares zone (f
 replay_asked help = help_asked
 replay_asked _ = usage
 
--- two values, and one value for each option
-abbrev pub serve_of : List Text → List Text → List Text → List Text → List Text → List Text → Asked
-serve_of (fares ∷ zone ∷ []) (p ∷ []) (l ∷ []) (n ∷ []) (k ∷ []) (d ∷ []) = serve (numbers_of (record {
+-- two values, one value for each option that is needed, and what each other was given
+abbrev pub serve_of : List Text → List Text → List Text → List Text → List Text → List Text → List Text → List Text → Asked
+serve_of (fares ∷ zone ∷ []) (p ∷ []) (l ∷ []) (n ∷ []) (k ∷ []) (d ∷ []) j g = serve (numbers_of (record {
   fares = fares;
   zone = zone;
   port = p;
@@ -149,13 +150,16 @@ serve_of (fares ∷ zone ∷ []) (p ∷ []) (l ∷ []) (n ∷ []) (k ∷ []) (d 
   shards = n;
   sessions = k;
   close = d;
+  journal = first_given j;
+  ledger = first_given g;
 }))
-serve_of _ _ _ _ _ _ = usage
+serve_of _ _ _ _ _ _ _ _ = usage
 
 -- `serve FARES ZONE` and its options
 abbrev pub serve_asked : Said → Asked
 serve_asked (all_of parts) = serve_of (plain_words parts) (values_of port_option parts) (values_of lanes_option parts)
     (values_of shards_option parts) (values_of sessions_option parts) (values_of close_option parts)
+    (values_of journal_option parts) (values_of ledger_option parts)
 serve_asked help_wanted = help_asked
 serve_asked not_taken = usage
 
@@ -203,6 +207,7 @@ run_job w = record {
   zone = w.zone.now;
   journal = option_map (λ s. s.now) w.journal;
   syncs = w.syncs;
+  ledger = option_map (λ s. s.now) w.ledger;
 }
 
 abbrev pub statement_job : StatementWords → Statement
@@ -223,6 +228,8 @@ served_job w = record {
   shards = w.shards;
   sessions = w.sessions;
   close = w.close;
+  journal = option_map (λ s. s.now) w.journal;
+  ledger = option_map (λ s. s.now) w.ledger;
 }
 
 abbrev pub job_asked : Job → Asked
@@ -334,7 +341,7 @@ abbrev row : List Text → Asked
 row rest = asked (codes "farebox" ∷ rest)
 
 abbrev plain_run : Run
-plain_run = record { fares = codes "a"; zone = codes "b"; journal = None; syncs = false }
+plain_run = record { fares = codes "a"; zone = codes "b"; journal = None; syncs = false; ledger = None }
 
 run_row : row (codes "run" ∷ codes "a" ∷ codes "b" ∷ []) ≡ run plain_run
 unfolding chars
@@ -353,13 +360,14 @@ unfolding chars
 journal_row = refl
 
 -- options before, between and behind the values
-all_options_row : row (codes "run" ∷ codes "--journal=j" ∷ codes "a" ∷ codes "--sync" ∷ codes "b" ∷ []) ≡ run (record with_journal { syncs = true })
+all_options_row : row (codes "run" ∷ codes "--ledger=l" ∷ codes "a" ∷ codes "--sync" ∷ codes "b" ∷ codes "--journal" ∷ codes "j" ∷ [])
+    ≡ run (record with_journal { syncs = true; ledger = Some (codes "l") })
 unfolding chars
 all_options_row = refl
 
-journal_dashes_row : row (codes "run" ∷ codes "--journal" ∷ codes "j" ∷ codes "--" ∷ codes "a" ∷ codes "b" ∷ []) ≡ run with_journal
+ledger_row : row (codes "run" ∷ codes "--ledger" ∷ codes "l" ∷ codes "--" ∷ codes "a" ∷ codes "b" ∷ []) ≡ run (record plain_run { ledger = Some (codes "l") })
 unfolding chars
-journal_dashes_row = refl
+ledger_row = refl
 
 -- without a journal nothing can be synced
 sync_row : row (codes "run" ∷ codes "a" ∷ codes "b" ∷ codes "--sync" ∷ []) ≡ usage
@@ -438,9 +446,9 @@ unfolding chars
 statement_journal_row = refl
 
 -- which is only read
-statement_sync_row : row (codes "statement" ∷ codes "a" ∷ codes "b" ∷ codes "7" ∷ codes "19730" ∷ codes "--journal=j" ∷ codes "--sync" ∷ []) ≡ usage
+statement_ledger_row : row (codes "statement" ∷ codes "a" ∷ codes "b" ∷ codes "7" ∷ codes "19730" ∷ codes "--ledger=l" ∷ []) ≡ usage
 unfolding chars
-statement_sync_row = refl
+statement_ledger_row = refl
 
 replay_row : row (codes "replay" ∷ codes "a" ∷ codes "b" ∷ codes "j" ∷ []) ≡ replay (codes "a") (codes "b") (codes "j" ∷ [])
 unfolding chars
@@ -518,6 +526,8 @@ example = record {
   shards = 4;
   sessions = 1;
   close = 19_730;
+  journal = None;
+  ledger = None;
 }
 
 abbrev options_row : List Text → List Text
@@ -527,12 +537,13 @@ serve_row : row (codes "serve" ∷ codes "a" ∷ codes "b" ∷ codes "--port" �
 unfolding chars
 serve_row = refl
 
--- `serve` has no such options
-serve_journal_row : row (codes "serve" ∷ codes "a" ∷ codes "b" ∷ codes "--port=9000" ∷ options_row (codes "--journal=j" ∷ [])) ≡ usage
+serve_files_row : row (codes "serve" ∷ codes "a" ∷ codes "b" ∷ codes "--ledger=l" ∷ codes "--port=9000" ∷ options_row (codes "--journal" ∷ codes "j" ∷ []))
+    ≡ serve (record example { journal = Some (codes "j"); ledger = Some (codes "l") })
 unfolding chars
-serve_journal_row = refl
+serve_files_row = refl
 
-serve_sync_row : row (codes "serve" ∷ codes "a" ∷ codes "b" ∷ codes "--sync" ∷ codes "--port=9000" ∷ options_row []) ≡ usage
+-- `serve` has no such flag
+serve_sync_row : row (codes "serve" ∷ codes "a" ∷ codes "b" ∷ codes "--sync" ∷ codes "--port=9000" ∷ options_row (codes "--journal=j" ∷ [])) ≡ usage
 unfolding chars
 serve_sync_row = refl
 

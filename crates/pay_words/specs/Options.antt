@@ -30,6 +30,7 @@ pub data Setting : Type 0 where
   close_option : Setting
   journal_option : Setting
   sync_option : Setting
+  ledger_option : Setting
 
 abbrev pub name_of : Setting → Text
 name_of port_option = codes "port"
@@ -39,6 +40,7 @@ name_of sessions_option = codes "sessions"
 name_of close_option = codes "close"
 name_of journal_option = codes "journal"
 name_of sync_option = codes "sync"
+name_of ledger_option = codes "ledger"
 
 abbrev pub is_flag : Setting → Bool
 is_flag port_option = false
@@ -48,6 +50,7 @@ is_flag sessions_option = false
 is_flag close_option = false
 is_flag journal_option = false
 is_flag sync_option = true
+is_flag ledger_option = false
 
 -- the value that a flag is given with
 abbrev pub flag_value : Text
@@ -65,6 +68,7 @@ reader_of sessions_option = is_sessions
 reader_of close_option = is_day
 reader_of journal_option = any_text
 reader_of sync_option = is_flag_value
+reader_of ledger_option = any_text
 
 -- what a program takes: values in these places, in order, and these options, in any
 pub record Grammar : Type 0 where
@@ -239,6 +243,7 @@ HasNoHyphen word = slice_index word 0 ≢ 45
 -- the value of an option may be a word of its own: a number does not begin with a hyphen
 abbrev pub MayStandApart : Setting → Text → Type 0
 MayStandApart journal_option word = HasNoHyphen word
+MayStandApart ledger_option word = HasNoHyphen word
 MayStandApart _ word = ⊤
 
 -- each value that is the next word behind its option may be

@@ -51,10 +51,20 @@ pub const JOURNAL_READ: &str = "\
 A file of the lines that were accepted. They are taken first; it is only
 read";
 
+/// What the option `--journal` of `serve` is.
+pub const JOURNALS: &str = "\
+A folder of the lines that were accepted, a file for each shard. They are
+taken first, and each line that is accepted is added before its reply. The
+files are made if they are missing, the folder is not";
+
 /// What the option `--sync` is.
 pub const SYNC: &str = "\
 Each line is on the disk before its reply. Without it, before a close is
 posted, and at the end";
+
+/// What the option `--ledger` is.
+pub const LEDGER: &str = "\
+The SQLite file that days are closed into. It is made if it is missing";
 
 /// What the option `--port` is.
 pub const PORT: &str = "\
@@ -88,10 +98,10 @@ Words of run (FARES ZONE), of check (FARES), of statement (FARES ZONE ACCOUNT DA
   L        how many lanes there are, from 1 to 15
   N        how many shards the accounts are spread over, from 1 to 16
   K        how many connections each lane serves, from 1 to 1000
-  FILE     a journal, which run wrote
+  FILE     a journal, which run or serve wrote
 
-Further options: --journal FILE of run, and --sync with it; --journal FILE of statement, where it is
-only read.
+Further options: --journal FILE and --ledger FILE of run, and --sync with --journal; --journal FILE
+of statement, where it is only read; --journal FOLDER and --ledger FILE of serve.
 
 Example: account 7 boards a bus in London on Monday 8 January 2024 at 07:00. The reply names the
 day, counted from 1970-01-01, its price and that of its week, in pence.
@@ -108,8 +118,8 @@ The lines and replies, the fare file and the faults are described in docs/FORMAT
 
 /// What stands below the help of `run`.
 pub const BELOW_RUN: &str = "\
-With --journal FILE the lines that were accepted before are taken first. --sync is taken with
---journal alone.
+With --journal FILE the lines that were accepted before are taken first, and with --ledger FILE days
+are closed into a file. --sync is taken with --journal alone.
 
 Example: account 7 boards a bus in London on Monday 8 January 2024 at 07:00. The reply names the
 day, counted from 1970-01-01, its price and that of its week, in pence.
@@ -158,7 +168,8 @@ The lines, the fare file, the statement and the faults are described in docs/FOR
 
 /// What stands below the help of `replay`.
 pub const BELOW_REPLAY: &str = "\
-A journal is what `run --journal FILE` writes: the lines that were accepted, in their order.
+A journal is what `run --journal FILE` writes: the lines that were accepted, in their order. In the
+folder of `serve --journal FOLDER` there is one for each shard.
 
 Statuses:
   0  all right
@@ -173,7 +184,8 @@ Lane l, from 0 to L - 1, listens on port P + l of 127.0.0.1 and serves K connect
 another, in a thread of its own. On a connection lines come in, and the reply to each goes out; a
 CLOSE is refused by 34. The accounts are spread over N shards, each in a thread of its own. When
 all connections of all lanes have ended, DAY is closed, the lines of that close are printed, and
-the program ends.
+the program ends. With --journal FOLDER the lines that were accepted before are taken first, and
+with --ledger FILE the day is closed into a file.
 
 Example: two lanes, on ports 9000 and 9001, serve a connection each, and day 19730 is closed.
   $ farebox serve examples/bus.toml GMT0BST,M3.5.0/1,M10.5.0 --port 9000 --lanes 2 --shards 4 \\

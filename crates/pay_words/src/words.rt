@@ -49,12 +49,12 @@ pub enum Job<'a> {
     Statement(StatementWords<'a>),
     /// `replay FARES ZONE FILE..`: whether journals can be taken again, and how many lines they have.
     Replay(ReplayWords<'a>),
-    /// `serve FARES ZONE --port P --lanes L --shards N --sessions K --close DAY`: sessions of several lanes at
-    /// once, and the close of a day when all of them have ended.
+    /// `serve FARES ZONE --port P --lanes L --shards N --sessions K --close DAY` and the options that may be
+    /// left out: sessions of several lanes at once, and the close of a day when all of them have ended.
     Serve(ServeWords<'a>),
 }
 
-/// The values of `run FARES ZONE [--journal FILE [--sync]]`.
+/// The values of `run FARES ZONE [--journal FILE [--sync]] [--ledger FILE]`.
 #[derive(Clone, Copy, Debug, PartialEq, Eq)]
 pub struct RunWords<'a> {
     /// The path of the fare file.
@@ -66,6 +66,8 @@ pub struct RunWords<'a> {
     pub journal: Option<&'a str>,
     /// Whether each line is on the disk before its reply. Only where there is a journal.
     pub syncs: bool,
+    /// The path of the SQLite file that days are closed into.
+    pub ledger: Option<&'a str>,
 }
 
 /// The values of `statement FARES ZONE ACCOUNT DAY [--journal FILE]`.
@@ -94,7 +96,8 @@ pub struct ReplayWords<'a> {
     pub files: Vec<&'a str>,
 }
 
-/// The values of `serve FARES ZONE --port P --lanes L --shards N --sessions K --close DAY`.
+/// The values of `serve FARES ZONE --port P --lanes L --shards N --sessions K --close DAY
+/// [--journal FOLDER] [--ledger FILE]`.
 #[derive(Clone, Copy, Debug, PartialEq, Eq)]
 pub struct ServeWords<'a> {
     /// The path of the fare file.
@@ -111,6 +114,10 @@ pub struct ServeWords<'a> {
     pub sessions: u32,
     /// The service day that is closed at the end, counted from 1970-01-01: 4 to 50,000.
     pub close: u32,
+    /// The path of the folder of the shards' journals.
+    pub journal: Option<&'a str>,
+    /// The path of the SQLite file that the day is closed into.
+    pub ledger: Option<&'a str>,
 }
 
 /// Why the words give no job.
@@ -171,8 +178,8 @@ pub fn read_words<'a>(alloc: Global, words: &'a [&'a str]) -> Result<Job<'a>, Wo
     // Three words or more with no hyphen before them are the values of `replay`.
     ensures replay { ReplayIsTaken (texts words.entry.now) result }
 
-    // Two words with no hyphen before them and five options with numbers in their ranges, in any order, are the
-    // values of `serve`, where each lane has a port.
+    // Two words with no hyphen before them, five options with numbers in their ranges, and perhaps two others, in
+    // any order, are the values of `serve`, where each lane has a port.
     ensures serve { ServeIsTaken (texts words.entry.now) result }
 {
     let command = farebox_command(alloc)?;
@@ -230,7 +237,8 @@ fn run_command<'a>(alloc: Global) -> Result<Command<'a>, AllocError>
         .after_help(help::BELOW_RUN);
     with_fares_and_zone(alloc, command)?
         .arg(text_option(alloc, "journal", "FILE", help::JOURNAL))?
-        .arg(flag_option(alloc, "sync", help::SYNC))
+        .arg(flag_option(alloc, "sync", help::SYNC))?
+        .arg(text_option(alloc, "ledger", "FILE", help::LEDGER))
 }
 
 /// A command with the words FARES and ZONE, after those that it has.
@@ -284,10 +292,12 @@ fn serve_command<'a>(alloc: Global) -> Result<Command<'a>, AllocError>
     let command = Command::new(alloc, "serve")
         .about(help::SERVE)
         .after_help(help::BELOW_SERVE);
-    with_numbers(alloc, with_fares_and_zone(alloc, command)?)
+    with_numbers(alloc, with_fares_and_zone(alloc, command)?)?
+        .arg(text_option(alloc, "journal", "FOLDER", help::JOURNALS))?
+        .arg(text_option(alloc, "ledger", "FILE", help::LEDGER))
 }
 
-/// A command with the options of `serve`, after the words that it has.
+/// A command with the options that `serve` needs, after the words that it has.
 fn with_numbers<'a>(alloc: Global, command: Command<'a>) -> Result<Command<'a>, AllocError>
     requires { (fields_of command).has_globals ≡ false }
     ensures app { IfOk result (λ r. app_of r ≡ with_numbers (app_of command.entry)) }
@@ -399,6 +409,7 @@ fn run_words<'a>(run: &ArgMatches<'a>) -> Option<RunWords<'a>>
         zone: run.get_str("ZONE")?,
         journal: run.get_str("journal"),
         syncs: is_flagged(run, "sync"),
+        ledger: run.get_str("ledger"),
     })
 }
 
@@ -530,6 +541,8 @@ fn serve_words<'a>(serve: &ArgMatches<'a>) -> Option<ServeWords<'a>>
         shards: count_of(serve, "shards")?,
         sessions: number_of(serve, "sessions")?,
         close: number_of(serve, "close")?,
+        journal: serve.get_str("journal"),
+        ledger: serve.get_str("ledger"),
     })
 }
 
