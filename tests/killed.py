@@ -68,31 +68,13 @@ def bytes_of(path):
     return b""
 
 
-def has_ledgers(folder):
-    """Whether the program keeps a ledger in a file."""
-    path = os.path.join(folder, "any")
-    run([*RUN_SAMPLE, "--ledger", path], b"TAP 1 1 7 1704697200 50 BUS\nCLOSE 19730\n")
-    return os.path.exists(path)
+class Kept:
+    """What was accepted and posted, by the rules of bench/rules.py."""
 
-
-class Story:
-    """Sessions one after another over the same files, and what they have accepted and posted by the rules of bench/rules.py."""
-
-    def __init__(self, folder, draw, has_ledger, more=()):
-        files = tempfile.mkdtemp(dir=folder)
-        self.journal, self.database = os.path.join(files, "journal"), os.path.join(files, "ledger") if has_ledger else None
-        self.words = [*RUN_SAMPLE, "--journal", self.journal, *more, *(["--ledger", self.database] if has_ledger else [])]
-        self.name = " ".join(["--journal", *more, *(["--ledger"] if has_ledger else [])])
-        self.draw, self.is_shuffled = draw, draw.random() < 0.5
-        # What was not answered yet, of which no more than the first may have been taken.
-        self.left = commands_of(draw)
-        self.accounts, self.postings, self.archives, self.kept = {}, {}, {}, b""
-        self.kills, self.sent = 0, 0
-
-    def begin(self):
-        """A session begins: what was posted is forgotten, unless it is in a file."""
-        if not self.database:
-            self.postings = {}
+    def __init__(self):
+        self.accounts, self.postings, self.archives = {}, {}, {}
+        # The lines that were newly accepted, in order.
+        self.lines = b""
 
     def reply(self, command):
         """The reply to a command by the rules."""
@@ -102,79 +84,17 @@ class Story:
                 if rules.is_quoted(account, command.day):
                     self.archives[number] = rules.Account(dict(account.taps), dict(account.fixes))
         if reply.startswith(b"OK "):
-            self.kept += rules.line(command).encode()
+            self.lines += rules.line(command).encode()
         return reply
 
-    def killed(self):
-        """What a session came to that was killed, and what it had to come to."""
-        if self.is_shuffled:
-            first, *others = self.left
-            self.draw.shuffle(others)
-            self.left = [first, *others]
-        given = self.left[:self.draw.randint(1, MOST_SENT)]
-        came = killed_session(self.words, "".join(map(rules.line, given)).encode(), self.draw)
-        output = came.output
-        self.kills, self.sent = self.kills + 1, self.sent + len(given)
-        self.begin()
-        wanted, answered = b"", 0
-        while len(wanted) < len(output) and answered < len(given):
-            wanted += self.reply(given[answered])
-            answered += 1
-        # A reply that was cut is that of a line that was taken, and is sent again.
-        answered -= len(wanted) > len(output)
-        self.left = self.left[answered:]
-        has = bytes_of(self.journal)
-        return came._replace(left=has), End("killed", wanted[:len(output)], left=self.taken(has, answered < len(given)))
-
-    def taken(self, has, may_be_taken):
-        """What the journal has to have: what was accepted, and of the first line that was not answered all, or a front."""
-        if has == self.kept or not may_be_taken or isinstance(self.left[0], (rules.Due, rules.Close)):
-            return self.kept
-        before, next_line = self.kept, rules.line(self.left[0]).encode()
-        if has == before + next_line:
-            self.reply(self.left[0])
-            return self.kept
-        return has if has.startswith(before) and next_line.startswith(has[len(before):]) else before
-
-    def asked(self):
-        """Questions what each account owes and shows, in a session of their own."""
-        each = list(itertools.product(range(1, ACCOUNTS + 1), WEEK_DAYS))
-        lines = [line for account, day in each for line in (f"DUE {account} {day}", f"SHOW {account} {day}")]
-        replies = [
-            text for account, day in each
-            for text in (self.reply(rules.Due(account, day)), "".join(rules.shown(rules.SAMPLE, self.accounts, account, day)).encode())
-        ]
-        return self.ended(in_lines(lines), b"".join(replies))
-
-    def ended(self, lines, replies):
-        came = run(self.words, lines)
-        return came._replace(left=bytes_of(self.journal)), End(0, replies, left=self.kept)
+    def shown(self, account, day):
+        return "".join(rules.shown(rules.SAMPLE, self.accounts, account, day)).encode()
 
     def counted(self):
         """What a replay has to count."""
         instants = [tap.utc for it in self.accounts.values() for tap in it.taps.values()]
         instants += [fix.words[0] for it in self.accounts.values() for fix in it.fixes.values() if fix.form == "FILL"]
-        return answers(f"OK lines {self.kept.count(10)} accounts {len(self.accounts)} from {min(instants)} to {max(instants)}\n".encode())
-
-    def told(self, most):
-        """Checks, by their names, of at most so many sessions that are killed and of what is there in the end. The first that fails is the last."""
-        for name, came, wanted in self.checks(most):
-            yield f"{self.name}, {name}", came, wanted
-            if came != wanted:
-                return
-
-    def checks(self, most):
-        while self.kills < most and self.left:
-            yield f"kill {self.kills + 1}", *self.killed()
-        self.begin()
-        self.sent += len(self.left)
-        lines, replies = "".join(map(rules.line, self.left)).encode(), b"".join(map(self.reply, self.left))
-        yield "the lines that were left", *self.ended(lines, replies)
-        self.begin()
-        yield "what is due and shown in the end", *self.asked()
-        yield "a replay", run(["replay", SAMPLE, LONDON, self.journal]), self.counted()
-        if self.database:
-            yield "the rows of the ledger", answers(rows_of(self.database)), answers(self.rows())
+        return answers(f"OK lines {self.lines.count(10)} accounts {len(self.accounts)} from {min(instants)} to {max(instants)}\n".encode())
 
     def rows(self):
         """The rows that the ledger has to have, as `rows_of` reads them."""
@@ -190,6 +110,95 @@ class Story:
         for number, account in sorted(self.archives.items()):
             rows += [(number, *it, FORMS.index(fix.form), *columns_of(fix)) for it, fix in sorted(account.fixes.items())]
         return in_lines(map(repr, rows))
+
+
+EACH_DAY = list(itertools.product(range(1, ACCOUNTS + 1), WEEK_DAYS))
+# Questions what each account owes and shows.
+QUESTIONS = [line for account, day in EACH_DAY for line in (f"DUE {account} {day}", f"SHOW {account} {day}")]
+
+
+def answered(kept):
+    """The replies to these questions, by what is kept."""
+    return b"".join(text for account, day in EACH_DAY for text in (kept.reply(rules.Due(account, day)), kept.shown(account, day)))
+
+
+class Story:
+    """Sessions one after another over the same files, and what they have accepted and posted."""
+
+    def __init__(self, folder, draw, has_ledger, more=()):
+        files = tempfile.mkdtemp(dir=folder)
+        self.journal, self.database = os.path.join(files, "journal"), os.path.join(files, "ledger") if has_ledger else None
+        self.words = [*RUN_SAMPLE, "--journal", self.journal, *more, *(["--ledger", self.database] if has_ledger else [])]
+        self.name = " ".join(["--journal", *more, *(["--ledger"] if has_ledger else [])])
+        self.draw, self.is_shuffled = draw, draw.random() < 0.5
+        # What was not answered yet, of which no more than the first may have been taken.
+        self.left = commands_of(draw)
+        self.kept, self.kills, self.sent = Kept(), 0, 0
+
+    @property
+    def accepted(self):
+        return self.kept.lines.count(b"\n")
+
+    def begin(self):
+        """A session begins: what was posted is forgotten, unless it is in a file."""
+        if not self.database:
+            self.kept.postings = {}
+
+    def killed(self):
+        """What a session came to that was killed, and what it had to come to."""
+        if self.is_shuffled:
+            first, *others = self.left
+            self.draw.shuffle(others)
+            self.left = [first, *others]
+        given = self.left[:self.draw.randint(1, MOST_SENT)]
+        came = killed_session(self.words, "".join(map(rules.line, given)).encode(), self.draw)
+        output = came.output
+        self.kills, self.sent = self.kills + 1, self.sent + len(given)
+        self.begin()
+        wanted, answered = b"", 0
+        while len(wanted) < len(output) and answered < len(given):
+            wanted += self.kept.reply(given[answered])
+            answered += 1
+        # A reply that was cut is that of a line that was taken, and is sent again.
+        answered -= len(wanted) > len(output)
+        self.left = self.left[answered:]
+        has = bytes_of(self.journal)
+        return came._replace(left=has), End("killed", wanted[:len(output)], left=self.taken(has, answered < len(given)))
+
+    def taken(self, has, may_be_taken):
+        """What the journal has to have: what was accepted, and of the first line that was not answered all, or a front."""
+        before = self.kept.lines
+        if has == before or not may_be_taken or isinstance(self.left[0], (rules.Due, rules.Close)):
+            return before
+        next_line = rules.line(self.left[0]).encode()
+        if has == before + next_line:
+            self.kept.reply(self.left[0])
+            return self.kept.lines
+        return has if has.startswith(before) and next_line.startswith(has[len(before):]) else before
+
+    def ended(self, lines, replies):
+        came = run(self.words, lines)
+        return came._replace(left=bytes_of(self.journal)), End(0, replies, left=self.kept.lines)
+
+    def told(self, most):
+        """Checks, by their names, of at most so many sessions that are killed and of what is there in the end. The first that fails is the last."""
+        for name, came, wanted in self.checks(most):
+            yield f"{self.name}, {name}", came, wanted
+            if came != wanted:
+                return
+
+    def checks(self, most):
+        while self.kills < most and self.left:
+            yield f"kill {self.kills + 1}", *self.killed()
+        self.begin()
+        self.sent += len(self.left)
+        lines, replies = "".join(map(rules.line, self.left)).encode(), b"".join(map(self.kept.reply, self.left))
+        yield "the lines that were left", *self.ended(lines, replies)
+        self.begin()
+        yield "what is due and shown in the end", *self.ended(in_lines(QUESTIONS), answered(self.kept))
+        yield "a replay", run(["replay", SAMPLE, LONDON, self.journal]), self.kept.counted()
+        if self.database:
+            yield "the rows of the ledger", answers(rows_of(self.database)), answers(self.kept.rows())
 
 
 def columns_of(fix):

@@ -60,11 +60,11 @@ def run(words, lines=b"", stdin=None, stdout=subprocess.PIPE, stderr=subprocess.
     return End(ran.returncode, ran.stdout, ran.stderr)
 
 
-def run_file(words, path, start=0, leaves=False):
+def run_file(words, path, start=0, leaves=False, **how):
     """The same with a file as its input, from this byte on; and, if asked, what is left of it to whoever has it open."""
     with open(path, "rb", buffering=0) as given:
         given.seek(start)
-        came = run(words, stdin=given)
+        came = run(words, stdin=given, **how)
         return came._replace(left=given.read()) if leaves else came
 
 

@@ -11,7 +11,7 @@ import stat
 
 import loads
 import rules
-from killed import Story, has_ledgers
+from killed import Story
 from preloads import preloaded
 from running import (
     FARES, LONDON, MISSING, MONDAY, RUN, RUN_SAMPLE, SAMPLE, SEVEN, STATE, End, answers, boardings, edited, end_of, fault, heard, in_lines, run,
@@ -382,12 +382,12 @@ def again_behind(count):
     return [(line, prices[count] if at < count else reply) for at, (line, reply) in enumerate(accepted)]
 
 
-def limited_to(room):
-    """How a program is run whose files take so many bytes."""
+def limited_to(room, most=None):
+    """How a program is run whose files take so many bytes, or that may be given room for this many."""
 
     def limit():
         signal.signal(signal.SIGXFSZ, signal.SIG_IGN)
-        resource.setrlimit(resource.RLIMIT_FSIZE, (room, room))
+        resource.setrlimit(resource.RLIMIT_FSIZE, (room, room if most is None else most))
 
     return {"preexec_fn": limit}
 
@@ -513,7 +513,5 @@ def one_session_at_a_time(folder):
 @test
 def killed_sessions(folder):
     """Sessions that are killed at random moments and go on, by bench/rules.py: every reply, what the files have, and what is due in the end."""
-    ledgers = has_ledgers(folder)
-    for number, (with_ledger, more) in enumerate(itertools.product((False, True), ((), ("--sync",)))):
-        if ledgers or not with_ledger:
-            yield from Story(folder, random.Random(number), with_ledger, more).told(25)
+    for number, (has_ledger, more) in enumerate(itertools.product((False, True), ((), ("--sync",)))):
+        yield from Story(folder, random.Random(number), has_ledger, more).told(15)

@@ -57,10 +57,10 @@ def listening(port, lanes):
 
 
 @contextlib.contextmanager
-def serving(lanes, shards, sessions, fares=FARES, close=MONDAY, stdin=subprocess.DEVNULL, **how):
+def serving(lanes, shards, sessions, fares=FARES, close=MONDAY, more=(), stdin=subprocess.DEVNULL, **how):
     """A service that listens, its first port, and what it said."""
     port = free_ports(lanes)
-    with started(words_of(port, lanes, shards, sessions, close, fares), stdin=stdin, **how) as ran:
+    with started([*words_of(port, lanes, shards, sessions, close, fares), *more], stdin=stdin, **how) as ran:
         said = heard(ran.stderr, len(listening(port, lanes)))
         yield ran, port, said
 

@@ -55,10 +55,10 @@ Words of run (FARES ZONE), of check (FARES), of statement (FARES ZONE ACCOUNT DA
   L        how many lanes there are, from 1 to 15
   N        how many shards the accounts are spread over, from 1 to 16
   K        how many connections each lane serves, from 1 to 1000
-  FILE     a journal, which run wrote
+  FILE     a journal, which run or serve wrote
 
-Further options: --journal FILE of run, and --sync with it; --journal FILE of statement, where it is
-only read.
+Further options: --journal FILE and --ledger FILE of run, and --sync with --journal; --journal FILE
+of statement, where it is only read; --journal FOLDER and --ledger FILE of serve.
 """ + RUN_EXAMPLE + STATUSES + RUN_FORMATS
 RUN_HELP = b"""\
 Read taps, corrections and closes from standard input, and reply to each
@@ -75,10 +75,11 @@ Options:
                         that is accepted is added before its reply. It is made if it is missing
       --sync            Each line is on the disk before its reply. Without it, before a close is
                         posted, and at the end
+      --ledger <FILE>   The SQLite file that days are closed into. It is made if it is missing
   -h, --help            Print help
 
-With --journal FILE the lines that were accepted before are taken first. --sync is taken with
---journal alone.
+With --journal FILE the lines that were accepted before are taken first, and with --ledger FILE days
+are closed into a file. --sync is taken with --journal alone.
 """ + RUN_EXAMPLE + STATUSES + RUN_FORMATS
 CHECK_HELP = b"""\
 Read a fare file, and print how many places, bands, interchanges and holidays it has,
@@ -142,14 +143,15 @@ Arguments:
 Options:
   -h, --help  Print help
 
-A journal is what `run --journal FILE` writes: the lines that were accepted, in their order.
+A journal is what `run --journal FILE` writes: the lines that were accepted, in their order. In the
+folder of `serve --journal FOLDER` there is one for each shard.
 """ + STATUSES + b"""
 The lines, the journal and the faults are described in docs/FORMATS.md.
 """
 SERVE_HELP = b"""\
 Read taps and corrections from the connections of several lanes, and then close a day
 
-Usage: farebox serve --port <P> --lanes <L> --shards <N> --sessions <K> --close <DAY> <FARES> <ZONE>
+Usage: farebox serve [OPTIONS] --port <P> --lanes <L> --shards <N> --sessions <K> --close <DAY> <FARES> <ZONE>
 
 Arguments:
   <FARES>  The fare file, a TOML document
@@ -157,20 +159,25 @@ Arguments:
            (a name such as Europe/London is none)
 
 Options:
-      --port <P>      The port of the first lane, from 1 to 65535. Each further lane has the
-                      next port, and none is above 65535
-      --lanes <L>     How many lanes there are, from 1 to 15
-      --shards <N>    How many shards the accounts are spread over, from 1 to 16
-      --sessions <K>  How many connections each lane serves, from 1 to 1000
-      --close <DAY>   The service day that is closed at the end, counted from 1970-01-01: a
-                      number from 4 to 50000
-  -h, --help          Print help
+      --port <P>          The port of the first lane, from 1 to 65535. Each further lane has the
+                          next port, and none is above 65535
+      --lanes <L>         How many lanes there are, from 1 to 15
+      --shards <N>        How many shards the accounts are spread over, from 1 to 16
+      --sessions <K>      How many connections each lane serves, from 1 to 1000
+      --close <DAY>       The service day that is closed at the end, counted from 1970-01-01: a
+                          number from 4 to 50000
+      --journal <FOLDER>  A folder of the lines that were accepted, a file for each shard. They are
+                          taken first, and each line that is accepted is added before its reply. The
+                          files are made if they are missing, the folder is not
+      --ledger <FILE>     The SQLite file that days are closed into. It is made if it is missing
+  -h, --help              Print help
 
 Lane l, from 0 to L - 1, listens on port P + l of 127.0.0.1 and serves K connections, one after
 another, in a thread of its own. On a connection lines come in, and the reply to each goes out; a
 CLOSE is refused by 34. The accounts are spread over N shards, each in a thread of its own. When
 all connections of all lanes have ended, DAY is closed, the lines of that close are printed, and
-the program ends.
+the program ends. With --journal FOLDER the lines that were accepted before are taken first, and
+with --ledger FILE the day is closed into a file.
 
 Example: two lanes, on ports 9000 and 9001, serve a connection each, and day 19730 is closed.
   $ farebox serve examples/bus.toml GMT0BST,M3.5.0/1,M10.5.0 --port 9000 --lanes 2 --shards 4 \\
@@ -370,8 +377,12 @@ def order_of_options(_):
 
 # The same of the options that name files, and of the words of `replay`. The fare file is missing.
 TO_RUN, TO_STATE, TO_REPLAY = ["run", MISSING, LONDON], ["statement", MISSING, LONDON, "7", "19730"], ["replay", MISSING, LONDON]
+TO_SERVE = ["serve", MISSING, LONDON, *OPTIONS]
 REFUSED_FILES = (
-    [*TO_RUN, "--sync"], [*TO_RUN, "--journal"], [*TO_RUN, "--journal", "--sync"], [*TO_RUN, "--ledger", "a"],
+    [*TO_RUN, "--sync"], [*TO_RUN, "--journal"], [*TO_RUN, "--journal", "--sync"], [*TO_RUN, "--ledger"], [*TO_RUN, "--ledger", "a", "--sync"],
+    [*TO_RUN, "--ledger", "a", "--ledger", "b"], [*TO_RUN, "--ledger", "-a"], [*TO_RUN, "--ledger", "--journal", "a"], [*TO_RUN, "--Ledger", "a"],
+    [*TO_RUN, "--ledgers", "a"], [*TO_RUN, "-l", "a"], [*TO_RUN, "--ledger", b"\xff"], ["run", "--ledger", MISSING, LONDON],
+    [*TO_STATE, "--ledger", "a"], ["check", MISSING, "--ledger", "a"],
     [*TO_RUN, "--journal", "a", "--journal", "b"], [*TO_RUN, "--journal", "a", "--journal=a"],
     [*TO_RUN, "--journal", "a", "--sync", "--sync"], [*TO_RUN, "--journal", "a", "--sync=true"], [*TO_RUN, "--journal", "a", "--sync", "true"],
     [*TO_RUN, "--journal", "-a"], [*TO_RUN, "--journal", "a", "b"], [*TO_RUN, "--Journal", "a"], [*TO_RUN, "-j", "a"], [*TO_RUN, "--journals", "a"],
@@ -379,12 +390,19 @@ REFUSED_FILES = (
     [*TO_STATE, "--sync"], [*TO_STATE, "--journal", "a", "--sync"], [*TO_STATE, "--journal"],
     [*TO_STATE, "--journal", "a", "--journal", "a"], ["check", MISSING, "--journal", "a"],
     ["replay"], TO_REPLAY[:2], TO_REPLAY, [*TO_REPLAY, "--journal", "a"], [*TO_REPLAY, "a", "--sync"], [*TO_REPLAY, "-a"], [*TO_REPLAY, "a", b"\xff"],
-    ["--", *TO_REPLAY, "a"], ["REPLAY", *TO_REPLAY[1:], "a"], [*TO_REPLAY, "--"], [*SERVE, "--journal", "a"], [*SERVE, "--sync"],
+    ["--", *TO_REPLAY, "a"], ["REPLAY", *TO_REPLAY[1:], "a"], [*TO_REPLAY, "--"], [*TO_REPLAY, "a", "--ledger", "a"],
+    [*TO_SERVE, "--sync"], [*TO_SERVE, "--journal", "a", "--sync"], [*TO_SERVE, "--journal"], [*TO_SERVE, "--ledger"], [*TO_SERVE, "--journal", "-a"],
+    [*TO_SERVE, "--journal", "a", "--journal", "a"], [*TO_SERVE, "--ledger=a", "--ledger", "a"], [*TO_SERVE, "--journal", "--ledger", "a"],
+    ["serve", MISSING, LONDON, *OPTIONS[2:], "--journal", "a"],
 )
 TAKEN_FILES = (
     [*TO_RUN, "--journal", "a"], [*TO_RUN, "--journal=a"], [*TO_RUN, "--journal", "a", "--sync"], [*TO_RUN, "--sync", "--journal", "a"],
     ["run", "--journal", "a", MISSING, "--sync", LONDON],
     ["run", "--sync", "--journal=-a", "--", MISSING, LONDON], [*TO_RUN, "--journal", "-"], [*TO_RUN, "--journal="], [*TO_RUN, "--journal", ""],
+    [*TO_RUN, "--ledger", "a"], [*TO_RUN, "--ledger=-a"], [*TO_RUN, "--ledger="], [*TO_RUN, "--ledger", "a", "--journal", "b", "--sync"],
+    ["run", "--sync", MISSING, "--ledger", "b", LONDON, "--journal=a"], [*TO_RUN, "--ledger", "a", "--journal", "a"],
+    [*TO_SERVE, "--journal", "a"], [*TO_SERVE, "--ledger", "a"], ["serve", "--ledger=b", *OPTIONS[:4], MISSING, "--journal", "a", *OPTIONS[4:], LONDON],
+    ["serve", *OPTIONS, "--journal=-a", "--ledger=-b", "--", MISSING, LONDON], [*TO_SERVE, "--journal=", "--ledger", ""],
     [*TO_STATE, "--journal", "a"], ["statement", "--journal=a", *TO_STATE[1:]], [*TO_STATE[:3], "--journal", "a", *TO_STATE[3:]],
     [*TO_REPLAY, "a"], [*TO_REPLAY, "a", "b", "a"], [*TO_REPLAY, "--", "-a", "--sync"], ["replay", "--", *TO_REPLAY[1:], "a"], [*TO_REPLAY, "-"], [*TO_REPLAY, ""],
 )

@@ -1,0 +1,499 @@
+"""Ledgers in files: what closes post there and the next session finds, files that are none, in use, without their journal or full."""
+
+import contextlib
+import copy
+import os
+import random
+import resource
+import shutil
+import sqlite3
+import stat
+import tempfile
+
+import loads
+import rules
+from killed import Kept, rows_of
+from preloads import preloaded
+from running import (
+    FARES, LONDON, MISSING, RUN, RUN_SAMPLE, STATE, End, answers, boardings, end_of, fault, heard, in_lines, run, run_file, session, started, test, written,
+)
+from themes.drawn import with_closes
+from themes.journals import CANNOT_USE, JOURNAL_FAULT, bad_line, bytes_of, limited_to, missing, parts_of, replayed
+from themes.statements import rows_of_statement
+
+ALONE, STORE, NO_LEDGER, OTHER_VERSION = fault("ledger without its journal"), fault("43 Store"), fault("40 NotALedger"), fault("41 Version")
+# What each ledger begins with, as rows_of tells it.
+WHOLE = (("ok",), ("farebox", 1))
+
+
+def with_ledger(ledger, journal=None, words=RUN, *more):
+    return [*words, *(["--journal", journal] if journal else []), *more, "--ledger", ledger]
+
+
+def copied_rows(path, folder):
+    """The rows of a ledger by its file alone, without its log."""
+    return rows_of(shutil.copyfile(path, os.path.join(folder, "copied")))
+
+
+def rows(*those):
+    """A ledger's rows as they are told: those of meta, and these of the postings, the shares, the taps and the corrections."""
+    return in_lines(map(repr, (*WHOLE, *those)))
+
+
+def closing(path, folder, came):
+    """What a session comes to, with the rows that it leaves in the file of its ledger."""
+    return came._replace(left=copied_rows(path, folder))
+
+
+# Three sessions with one journal and one ledger, with examples/sample.toml, and the rows behind each of them. Of account 7 in the first an In
+# alone is charged; its Out comes in the second, and the rest is given back. In the third a boarding is filled in, and 40 pence are
+# credited: of 475, which are due, 475 * 340 / 515 is 313, and the rest is the bus operator's.
+FIRST_SESSION = (
+    ("TAP 1 1 7 1704697200 10 IN", "OK 19730 860 860"),
+    ("CLOSE 19730", "PAY 7 19730 19730 1 860 860 1=860\nDONE 19730 1"),
+    ("QUIT", "BYE"),
+)
+FIRST_POSTING, FIRST_SHARE, FIRST_TAP = (7, 19730, 19730, 1, 860, 860), (7, 1, 19730, 1, 860), (7, 1, 1, 1704697200, 19730, 25200, 10, 0)
+ROWS_BEHIND_FIRST = rows(FIRST_POSTING, FIRST_SHARE, FIRST_TAP)
+SECOND_SESSION = (
+    ("CLOSE 19730", "PAY 7 19730 19730 1 860 860 1=860\nDONE 19730 1"),
+    ("TAP 1 1 7 1704697200 10 IN", "AGAIN 19730 860 860"),
+    ("TAP 1 2 7 1704699000 12 OUT", "OK 19730 340 340"),
+    ("CLOSE 19730", "PAY 7 19730 19730 2 340 -520 1=-520\nDONE 19730 1"),
+    ("CLOSE 19730", "PAY 7 19730 19730 2 340 -520 1=-520\nDONE 19730 1"),
+)
+SECOND_POSTING, SECOND_SHARE, SECOND_TAP = (7, 19730, 19730, 2, 340, -520), (7, 2, 19730, 1, -520), (7, 1, 2, 1704699000, 19730, 27000, 12, 1)
+ROWS_BEHIND_SECOND = rows(FIRST_POSTING, SECOND_POSTING, FIRST_SHARE, SECOND_SHARE, FIRST_TAP, SECOND_TAP)
+THIRD_SESSION = (
+    ("CLOSE 19730", "PAY 7 19730 19730 2 340 -520 1=-520\nDONE 19730 1"),
+    ("FIX 3 1 7 CREDIT 19730 40", "OK 19730 340 340"),
+    ("FIX 3 2 7 VOID 9 9", "OK 0 0 0"),
+    ("FIX 3 3 7 FILL 1704718800 50 BUS", "OK 19730 515 515"),
+    ("FIX 3 4 7 DROP 3 2", "OK 0 0 0"),
+    ("TAP 1 1 8 1704783600 50 BUS", "OK 19731 175 175"),
+    ("CLOSE 19731", "PAY 7 19730 19731 6 475 135 1=-27 4=162\nPAY 8 19730 19731 1 175 175 4=175\nDONE 19731 2"),
+    ("CLOSE 19730", "NO 42 StaleQuote"),
+)
+ROWS_BEHIND_THIRD = rows(
+    FIRST_POSTING, SECOND_POSTING, (7, 19730, 19731, 6, 475, 135), (8, 19730, 19731, 1, 175, 175),
+    FIRST_SHARE, SECOND_SHARE, (7, 6, 19731, 1, -27), (7, 6, 19731, 4, 162), (8, 1, 19731, 4, 175),
+    FIRST_TAP, SECOND_TAP, (8, 1, 1, 1704783600, 19731, 25200, 50, 2),
+    (7, 3, 1, 2, 19730, 40, 0, 0, 0), (7, 3, 2, 0, 9, 9, 0, 0, 0), (7, 3, 3, 1, 1704718800, 19730, 46800, 50, 2), (7, 3, 4, 3, 3, 2, 0, 0, 0),
+)
+# The last session asks for what was posted, and posts nothing.
+LAST_SESSION = (
+    ("CLOSE 19731", "PAY 7 19730 19731 6 475 135 1=-27 4=162\nPAY 8 19730 19731 1 175 175 4=175\nDONE 19731 2"),
+    ("DUE 7 19731", "DUE 7 19730 19731 6 475 1=313 4=162"),
+)
+
+
+@test
+def sessions_that_go_on(folder):
+    """What closes of four sessions post one after another, and the rows behind each."""
+    for more in ((), ("--sync",)):
+        path, journal = os.path.join(folder, f"ledger{len(more)}"), os.path.join(folder, f"journal{len(more)}")
+        words, name = with_ledger(path, journal, RUN_SAMPLE, *more), " ".join(("--ledger", *more))
+        yield f"{name}, no lines", closing(path, folder, run(words)), End(0, left=rows())
+        for number, (pairs, left) in enumerate((
+            (FIRST_SESSION, ROWS_BEHIND_FIRST), (SECOND_SESSION, ROWS_BEHIND_SECOND), (THIRD_SESSION, ROWS_BEHIND_THIRD),
+            (LAST_SESSION, ROWS_BEHIND_THIRD),
+        ), 1):
+            lines, replies = session(pairs)
+            yield f"{name}, session {number}", closing(path, folder, run(words, lines)), End(0, replies, left=left)
+    there = " ".join(sorted(it for it in os.listdir(folder) if it != "copied"))
+    yield "the files there", answers(there.encode()), answers(b"journal0 journal1 ledger0 ledger0-wal ledger1 ledger1-wal")
+
+
+@test
+def ledgers_without_a_journal(folder):
+    """A ledger and no journal: the session posts, and the next one is refused once something is archived. Nothing is read of its input then."""
+    path = os.path.join(folder, "ledger")
+    words = with_ledger(path)
+    for name, lines, replies in (
+        ("no close", b"TAP 1 1 7 1704697200 50 BUS\n", b"OK 19730 175 175\n"),
+        ("a close of nothing", b"CLOSE 19730\n", b"DONE 19730 0\n"),
+        ("a close of another week", b"TAP 1 1 7 1704697200 50 BUS\nCLOSE 19729\n", b"OK 19730 175 175\nDONE 19729 0\n"),
+    ):
+        yield f"without a journal, {name}", closing(path, folder, run(words, lines)), End(0, replies, left=rows())
+    lines, replies = session((
+        ("TAP 1 1 7 1704697200 50 BUS", "OK 19730 175 175"), ("CLOSE 19730", "PAY 7 19730 19730 1 175 175 4=175\nDONE 19730 1"),
+    ))
+    left = rows((7, 19730, 19730, 1, 175, 175), (7, 1, 19730, 4, 175), (7, 1, 1, 1704697200, 19730, 25200, 50, 2))
+    yield "without a journal, a close", closing(path, folder, run(words, lines)), End(0, replies, left=left)
+    given = written(folder, "lines", lines)
+    for name, journal, text in (
+        ("no journal", None, None), ("a journal that is made", "journal", None), ("an empty journal", "journal", b""),
+        ("a journal of a cut line", "journal", b"TAP 1 1 7 1704697200 50 BUS"),
+    ):
+        kept = missing(folder, journal) if journal else None
+        if text is not None:
+            written(folder, journal, text)
+        came = run_file(with_ledger(path, kept), given, leaves=True)
+        yield f"a ledger that archives something, and {name}", came, ALONE._replace(left=lines)
+        yield f"the journal then, {name}", answers(kept and bytes_of(kept)), answers(kept and (text or b""))
+        yield f"the ledger then, {name}", answers(copied_rows(path, folder)), answers(left)
+    # Its journal is the line of the tap; more lines may come with it.
+    journal = written(folder, "journal", lines.splitlines(True)[0])
+    lines, replies = session((
+        ("CLOSE 19730", "PAY 7 19730 19730 1 175 175 4=175\nDONE 19730 1"), ("TAP 1 2 7 1704704400 50 BUS", "OK 19730 350 350"),
+        ("CLOSE 19730", "PAY 7 19730 19730 2 350 175 4=175\nDONE 19730 1"),
+    ))
+    yield "a ledger and its journal", run(with_ledger(path, journal), lines), answers(replies)
+
+
+def replies_of(path, journal, pairs, words=RUN):
+    """What a session over these files comes to, and what it has to come to."""
+    lines, replies = session(pairs)
+    return run(with_ledger(path, journal, words), lines), answers(replies)
+
+
+@test
+def journals_of_another(folder):
+    """A ledger beside a journal that is not its own, or has lost lines: a close that contradicts what was posted is refused, and posts nothing."""
+    path = os.path.join(folder, "ledger")
+    journal = os.path.join(folder, "journal")
+    yield "the ledger's own", *replies_of(path, journal, (
+        ("TAP 1 1 7 1704697200 50 BUS", "OK 19730 175 175"), ("TAP 1 2 7 1704704400 50 BUS", "OK 19730 350 350"),
+        ("CLOSE 19730", "PAY 7 19730 19730 2 350 350 4=350\nDONE 19730 1"),
+    ))
+    left = copied_rows(path, folder)
+    other = "TAP 1 1 7 1704697200 10 IN"
+    for name, text, pairs in (
+        ("another tap of that number", other, (
+            ("TAP 1 2 7 1704704400 50 BUS", "OK 19730 1035 1035"), ("CLOSE 19730", "NO 47 QuoteDiffers"),
+            ("TAP 1 3 7 1704711600 50 BUS", "OK 19730 1210 1210"), ("CLOSE 19730", "NO 46 ArchiveConflict"), ("CLOSE 19731", "NO 46 ArchiveConflict"),
+            ("DUE 7 19730", "DUE 7 19730 19730 3 1210 1=860 4=350"),
+        )),
+        ("a line less", "TAP 1 1 7 1704697200 50 BUS", (
+            ("CLOSE 19730", "NO 42 StaleQuote"), ("CLOSE 19731", "NO 42 StaleQuote"), ("TAP 1 1 8 1704697200 50 BUS", "OK 19730 175 175"),
+            ("CLOSE 19730", "NO 42 StaleQuote"),
+        )),
+        ("another line in its place", "TAP 1 1 7 1704697200 50 BUS", (
+            ("TAP 1 3 7 1704697201 50 BUS", "OK 19730 175 175"), ("CLOSE 19730", "NO 47 QuoteDiffers"),
+        )),
+    ):
+        yield f"{name}, closed", *replies_of(path, written(folder, "other", in_lines([text])), pairs)
+        yield f"{name}, the ledger then", answers(copied_rows(path, folder)), answers(left)
+    # Once the line that was lost is there again, the close is as it was.
+    yield "a line less, which is sent again", *replies_of(path, written(folder, "other", b"TAP 1 2 7 1704704400 50 BUS\n"), (
+        ("CLOSE 19730", "NO 42 StaleQuote"), ("TAP 1 1 7 1704697200 50 BUS", "OK 19730 350 350"),
+        ("CLOSE 19730", "PAY 7 19730 19730 2 350 350 4=350\nDONE 19730 1"),
+    ))
+    yield "a line less, which is sent again, the ledger then", answers(copied_rows(path, folder)), answers(left)
+    # With another fare file the same taps cost something else: as 350 were charged for two boardings, the caps of a day change nothing.
+    dearer = written(folder, "dearer", bytes_of(FARES).replace(b"bus = 175", b"bus = 176"))
+    yield "another fare file", *replies_of(path, journal, (
+        ("CLOSE 19730", "NO 47 QuoteDiffers"), ("TAP 1 3 7 1704711600 50 BUS", "OK 19730 528 528"),
+        ("CLOSE 19730", "PAY 7 19730 19730 3 528 178 4=178\nDONE 19730 1"),
+    ), ["run", dearer, LONDON])
+
+
+@test
+def drawn_sessions(folder):
+    """A week of taps, corrections and closes of 30 accounts in several sessions with one ledger, each with lines of those before it."""
+    for seed in range(2):
+        draw, kept, before = random.Random(seed), Kept(), []
+        path, journal = os.path.join(folder, f"ledger{seed}"), os.path.join(folder, f"journal{seed}")
+        for number, part in enumerate(parts_of(draw, list(with_closes(draw, loads.corrected_week(draw, 30))), 6), 1):
+            part = draw.sample(before, len(before) // 10) + part
+            before = part
+            lines = "".join(map(rules.line, part)).encode()
+            came = run(with_ledger(path, journal, RUN_SAMPLE, *draw.choice(((), ("--sync",)))), lines)
+            wanted = b"".join(map(kept.reply, part))
+            yield f"session {number} of draw {seed}", came._replace(left=copied_rows(path, folder)), End(0, wanted, left=kept.rows())
+        yield f"the journal of draw {seed}", answers(bytes_of(journal)), answers(kept.lines)
+
+
+def others_database(path, *statements):
+    """Has Python's own `sqlite3` write a database."""
+    with contextlib.closing(sqlite3.connect(path)) as it:
+        it.executescript(";".join(statements))
+    return path
+
+
+def opened_ledger(folder, name):
+    """The path of a ledger of one posting, and of its journal."""
+    path, journal = os.path.join(folder, name), os.path.join(folder, f"{name}.lines")
+    run(with_ledger(path, journal, RUN_SAMPLE), session(FIRST_SESSION)[0])
+    return path, journal
+
+
+def refused_ledgers(folder):
+    """Files that are no ledger, by their names, and the fault that each of them is."""
+    yield "a text", written(folder, "text", b"day,kind,from,to,start,fare,band\n"), NO_LEDGER
+    yield "a journal", written(folder, "lines", b"TAP 1 1 7 1704697200 50 BUS\n" * 1_000), NO_LEDGER
+    yield "the head of a database alone", written(folder, "head", b"SQLite format 3\0" + b"\0" * 4_080), NO_LEDGER
+    postings = "CREATE TABLE postings (id INTEGER PRIMARY KEY, amount INTEGER)"
+    yield "a database with one of the tables", others_database(os.path.join(folder, "one"), postings), NO_LEDGER
+    meta = "CREATE VIEW meta AS SELECT 'farebox' AS name, 1 AS version"
+    yield "a database with a view in the place of a table", others_database(os.path.join(folder, "view"), meta), NO_LEDGER
+    for name, statement, wanted in (
+        ("another version", "UPDATE meta SET version = 2", OTHER_VERSION), ("a version before", "UPDATE meta SET version = 0", OTHER_VERSION),
+        ("another's name", "UPDATE meta SET name = 'fares'", NO_LEDGER), ("no name", "DELETE FROM meta", NO_LEDGER),
+        ("a table less", "DROP TABLE fixes", NO_LEDGER), ("another column", "ALTER TABLE taps RENAME COLUMN place TO stop", NO_LEDGER),
+    ):
+        path, _ = opened_ledger(folder, name.replace(" ", "-").replace("'", ""))
+        yield f"a ledger of {name}", others_database(path, statement), wanted
+
+
+@test
+def files_that_are_no_ledger(folder):
+    """What is no ledger, or one of another version, stays as it is; a journal beside it too, and nothing is read of the input."""
+    lines, _ = boardings(2)
+    given = written(folder, "given", lines)
+    for name, path, wanted in refused_ledgers(folder):
+        has = bytes_of(path)
+        journal = written(folder, "journal", lines + b"TAP 1 1 3 17046")
+        for words in (with_ledger(path), with_ledger(path, journal)):
+            yield name, run_file(words, given, leaves=True), wanted._replace(left=lines)
+        yield f"{name}, the journal then", answers(bytes_of(journal)), answers(lines + b"TAP 1 1 3 17046")
+        yield f"{name}, the file then", answers(bytes_of(path)), answers(has)
+
+
+@test
+def databases_of_others(folder):
+    """A ledger is made in a database that has none of its tables, and in an empty file; what is there stays."""
+    lines, replies = session(FIRST_SESSION)
+    path = others_database(os.path.join(folder, "other"), "CREATE TABLE notes (text TEXT)", "INSERT INTO notes VALUES ('as it was')")
+    for name, it in (("a database of others", path), ("an empty file", written(folder, "empty", b""))):
+        came = closing(it, folder, run(with_ledger(it, os.path.join(folder, f"{os.path.basename(it)}.lines"), RUN_SAMPLE), lines))
+        yield name, came, End(0, replies, left=ROWS_BEHIND_FIRST)
+    with contextlib.closing(sqlite3.connect(path)) as it:
+        notes = it.execute("SELECT text FROM notes").fetchall()
+    yield "what others have in it", answers(repr(notes).encode()), answers(b"[('as it was',)]")
+
+
+@test
+def ledgers_that_cannot_be(folder):
+    """What cannot be made, opened or locked: nothing is read of the input."""
+    lines, _ = boardings(2)
+    given = written(folder, "given", lines)
+    no_files = [("a folder", folder), ("a file in no folder", os.path.join(folder, "no", "ledger")), ("no name", "")]
+    no_files += [("a file below a file", os.path.join(given, "ledger")), ("a name that is too long", os.path.join(folder, "l" * 256))]
+    # For who may do all no file is closed.
+    if os.geteuid():
+        os.chmod(written(folder, "unreadable", b""), stat.S_IWUSR)
+        no_files.append(("a file that is for writing", os.path.join(folder, "unreadable")))
+    for name, path in no_files:
+        yield name, run_file(with_ledger(path), given, leaves=True), STORE._replace(left=lines)
+
+
+@test
+def journals_as_ledgers(folder):
+    """No ledger is opened in the file of a journal, nor where that is its log, by whatever name it is called: nothing is read or written."""
+    lines, _ = boardings(2)
+    given, line = written(folder, "given", lines), lines[:lines.index(b"\n") + 1]
+    os.symlink("linked", os.path.join(folder, "link"))
+    for name, journal, ledger in (("its file", "same", "same"), ("its log", "other-wal", "other"), ("a link", "linked", "link")):
+        journal, ledger = os.path.join(folder, journal), os.path.join(folder, ledger)
+        yield f"{name}, which is made", run_file(with_ledger(ledger, journal), given, leaves=True), STORE._replace(left=lines)
+        yield f"{name}, as it is left", answers(bytes_of(journal)), answers(b"")
+        written(folder, os.path.basename(journal), line)
+        yield f"{name} with a line", run_file(with_ledger(ledger, journal), given, leaves=True), STORE._replace(left=lines)
+        yield f"{name} with a line, as it is left", answers(bytes_of(journal)), answers(line)
+    beside = os.path.join(folder, "beside")
+    with started([*RUN, "--journal", beside]) as ran:
+        ran.stdin.write(line)
+        output = heard(ran.stdout, len(b"OK 19730 175 175\n"))
+        yield "that of another session", run_file(with_ledger(beside), given, leaves=True), STORE._replace(left=lines)
+        ran.stdin.close()
+        yield "the other session", end_of(ran, output)._replace(left=bytes_of(beside)), End(0, b"OK 19730 175 175\n", left=line)
+
+
+@test
+def one_session_at_a_time(folder):
+    """While a session has a ledger no other one opens it, nor while SQLite writes it; a statement of its journal is told all the same."""
+    (lines, replies), (path, journal) = session(SECOND_SESSION), opened_ledger(folder, "ledger")
+    given = written(folder, "given", lines)
+    with started(with_ledger(path, journal, RUN_SAMPLE)) as ran:
+        ran.stdin.write(lines)
+        output = heard(ran.stdout, len(replies))
+        for name, words in (("no journal", with_ledger(path)), ("a journal of its own", with_ledger(path, os.path.join(folder, "other")))):
+            yield f"a second session with {name}", run_file(words, given, leaves=True), STORE._replace(left=lines)
+        yield "a second session with its journal", run_file(with_ledger(path, journal), given, leaves=True), CANNOT_USE._replace(left=lines)
+        # Both taps of the journal, at 07:00 and at 07:30.
+        yield "a replay beside a session", replayed(journal), answers(b"OK lines 2 accounts 1 from 1704697200 to 1704699000\n")
+        wanted = rows_of_statement("19730,RAIL,10,12,07:00:00,340,-")
+        yield "a statement beside a session", run([*STATE, "--journal", journal]), wanted
+        ran.stdin.close()
+        yield "the first session", closing(path, folder, end_of(ran, output)), End(0, replies, left=ROWS_BEHIND_SECOND)
+    with contextlib.closing(sqlite3.connect(path)) as writer:
+        writer.execute("BEGIN EXCLUSIVE")
+        yield "beside SQLite", run_file(with_ledger(path, journal, RUN_SAMPLE), given, leaves=True), STORE._replace(left=lines)
+
+
+@test
+def killed_behind_a_close(folder):
+    """What was posted by a session that is killed stands in the file and its log, which SQLite reads together and no one else opens meanwhile."""
+    (path, journal), (lines, replies) = opened_ledger(folder, "ledger"), session(SECOND_SESSION)
+    with started(with_ledger(path, journal, RUN_SAMPLE)) as ran:
+        ran.stdin.write(lines)
+        yield "a session that is killed", answers(heard(ran.stdout, len(replies))), answers(replies)
+        with contextlib.closing(sqlite3.connect(path, timeout=0)) as other, contextlib.suppress(sqlite3.OperationalError):
+            yield "SQLite beside it", answers(repr(other.execute("SELECT * FROM postings").fetchall()).encode()), answers(b"it is locked")
+        ran.kill()
+        ran.wait()
+    yield "the rows by SQLite", answers(rows_of(path)), answers(ROWS_BEHIND_SECOND)
+    lines, replies = session(THIRD_SESSION)
+    yield "the next session", closing(path, folder, run(with_ledger(path, journal, RUN_SAMPLE), lines)), End(0, replies, left=ROWS_BEHIND_THIRD)
+
+
+@test
+def first_fault(folder):
+    """A ledger is opened behind the fare file, the zone and the journal, of which a line that is not accepted is told first."""
+    text, lines = written(folder, "text", b"no ledger"), boardings(2)[0]
+    good, bad, none = written(folder, "good", lines), written(folder, "bad", lines + b"fly\n"), os.path.join(folder, "no", "journal")
+    path, _ = opened_ledger(folder, "ledger")
+    for name, words, wanted in (
+        ("no fare file", ["run", MISSING, LONDON, "--journal", bad, "--ledger", text], fault("cannot read fares")),
+        ("no journal", ["run", FARES, "no zone", "--journal", none, "--ledger", text], CANNOT_USE),
+        ("a bad zone", ["run", FARES, "no zone", "--journal", bad, "--ledger", text], fault("bad zone")),
+        ("a bad line", with_ledger(text, bad), bad_line(3, "50 BadLine")), ("no ledger", with_ledger(text, good), NO_LEDGER),
+        ("a bad line of an empty journal's ledger", with_ledger(path, written(folder, "first", b"fly\n")), bad_line(1, "50 BadLine")),
+    ):
+        yield f"{name}, and a file that is no ledger", run(words, lines), wanted
+    made = missing(folder, "made")
+    yield "a bad line, and no ledger", run(with_ledger(made, bad)), bad_line(3, "50 BadLine")
+    yield "a bad line, and no ledger: none is made", answers(bytes_of(made)), answers(None)
+
+
+MANY = 1_000
+
+
+@test
+def full_files(folder):
+    """A close for which its ledger has no room is refused by 43, and posts nothing; the session goes on, and posts it once there is room."""
+    path, journal = opened_ledger(folder, "ledger")
+    accounts = range(8, MANY + 8)
+    lines = in_lines(f"TAP 2 1 {account} 1704697200 50 BUS" for account in accounts)
+    replies = b"OK 19730 175 175\n" * MANY
+    paid = b"".join(b"PAY %d 19730 19730 1 175 175 4=175\n" % account for account in accounts)
+    paid = b"PAY 7 19730 19730 1 860 860 1=860\n" + paid + b"DONE 19730 %d\n" % (MANY + 1)
+    # The journal has room for all lines, and the ledger not for what is posted: a row of each account in three tables.
+    room = max(2 * len(lines), os.path.getsize(path) + (32 << 10))
+    asked, told = b"CLOSE 19730\nDUE 7 19730\nCLOSE 19730\n", b"NO 43 Store\nDUE 7 19730 19730 1 860 1=860\nNO 43 Store\n"
+    yield "a close without room", run(with_ledger(path, journal, RUN_SAMPLE), lines + asked, **limited_to(room)), answers(replies + told)
+    yield "a close without room, the rows then", answers(copied_rows(path, folder)), answers(ROWS_BEHIND_FIRST)
+    with started(with_ledger(path, journal, RUN_SAMPLE), **limited_to(room, resource.RLIM_INFINITY)) as ran:
+        ran.stdin.write(b"CLOSE 19730\n")
+        output = heard(ran.stdout, len(b"NO 43 Store\n"))
+        resource.prlimit(ran.pid, resource.RLIMIT_FSIZE, (resource.RLIM_INFINITY, resource.RLIM_INFINITY))
+        ran.stdin.write(b"CLOSE 19730\n")
+        ran.stdin.close()
+        yield "a close without room, and one with room", end_of(ran, output), answers(b"NO 43 Store\n" + paid)
+    left = rows(
+        FIRST_POSTING, *((it, 19730, 19730, 1, 175, 175) for it in accounts), FIRST_SHARE, *((it, 1, 19730, 4, 175) for it in accounts),
+        FIRST_TAP, *((it, 2, 1, 1704697200, 19730, 25200, 50, 2) for it in accounts),
+    )
+    yield "with room, the rows then", answers(copied_rows(path, folder)), answers(left)
+    yield "the next session", run(with_ledger(path, journal, RUN_SAMPLE), b"CLOSE 19730\n"), answers(paid)
+
+
+@test
+def no_room_for_a_ledger(folder):
+    """Where a ledger cannot be made for want of room, the session does not begin."""
+    lines, _ = boardings(2)
+    given = written(folder, "given", lines)
+    for room in (0, 100, 5_000):
+        path = missing(folder, "ledger")
+        missing(folder, "ledger-wal")
+        yield f"room for {room} bytes", run_file(with_ledger(path), given, leaves=True, **limited_to(room)), STORE._replace(left=lines)
+    yield "and then room for all", run(with_ledger(path), lines), answers(boardings(2)[1])
+
+
+# Two closes with a tap before each; and the ways in which a session may end whose disk fails from some moment on, in the order of these
+# moments, each with whether the first close may be posted: none begins; and then, by the replies, the journal is not settled before a close,
+# or the ledger does not keep what is posted, which it may have all the same; at last the journal is not settled in the end, or only what
+# the ledger's log has is not copied.
+TWO_CLOSES = (
+    ("TAP 1 1 7 1704697200 10 IN", "OK 19730 860 860"),
+    ("CLOSE 19730", "PAY 7 19730 19730 1 860 860 1=860\nDONE 19730 1"),
+    ("TAP 1 2 7 1704699000 12 OUT", "OK 19730 340 340"),
+    ("CLOSE 19730", "PAY 7 19730 19730 2 340 -520 1=-520\nDONE 19730 1"),
+)
+CLOSE_LINES, (TAPPED, PAID, MORE, REFUNDED) = session(TWO_CLOSES)[0], (reply for _, reply in TWO_CLOSES)
+CHARGED = "PAY 7 19730 19730 2 340 340 1=340\nDONE 19730 1"
+
+
+def with_journal_fault(*replies):
+    return End(1, in_lines(replies), JOURNAL_FAULT.errors)
+
+
+ENDS_OF_DISKS = (
+    (STORE, [REFUNDED]),
+    (with_journal_fault(TAPPED, "NO 44 DeskFault", "NO 48 NotKept", "NO 44 DeskFault"), [REFUNDED]),
+    (with_journal_fault(TAPPED, "NO 43 Store", MORE, "NO 44 DeskFault"), [REFUNDED, CHARGED]),
+    (with_journal_fault(TAPPED, PAID, MORE, "NO 44 DeskFault"), [REFUNDED]),
+    (with_journal_fault(TAPPED, PAID, MORE, "NO 43 Store"), [REFUNDED]),
+    (with_journal_fault(TAPPED, PAID, MORE, REFUNDED), [REFUNDED]),
+    (answers(in_lines((TAPPED, PAID, MORE, REFUNDED))), [REFUNDED]),
+)
+
+
+@test
+def disks_that_fail(folder):
+    """A disk that fails from some moment on, the first, the second, ..: a close that is answered stays, and the next session goes on."""
+    library, ends, count = preloaded(folder), [end for end, _ in ENDS_OF_DISKS], 0
+    seen, is_copied = [], False
+    while not is_copied:
+        path, journal = (os.path.join(folder, f"{name}{count}") for name in ("ledger", "journal"))
+        with_disk = {"env": {"LD_PRELOAD": library, "SETTLED": str(count)}}
+        came = run(with_ledger(path, journal, RUN_SAMPLE), CLOSE_LINES, **with_disk)
+        # It comes to what it came to with a sync less, or to the next that it may come to.
+        at = ends.index(came) if came in ends else len(ends)
+        last = seen[-1] if seen else 0
+        yield f"{count} syncs", came, came if at < len(ends) and at in (last, last + 1) else ends[last]
+        if at == len(ends):
+            return
+        seen.append(at)
+        is_copied = at == len(ends) - 1 and os.path.getsize(f"{path}-wal") < os.path.getsize(path)
+        again = run(with_ledger(path, journal, RUN_SAMPLE), CLOSE_LINES)
+        right = [answers(reply.encode()) for reply in ENDS_OF_DISKS[at][1]]
+        told = again._replace(output=b"\n".join(again.output.splitlines()[-2:]))
+        yield f"{count} syncs, and then the same lines once more", told, told if told in right else right[0]
+        count += 1
+    yield "each way to end was seen", answers(repr(sorted(set(seen))).encode()), answers(repr(list(range(len(ends)))).encode())
+
+
+# By what a tap and a close for which memory is refused may be answered.
+NO_MEMORY, NOT_CLOSED = b"NO 90 Memory\n", (b"NO 90 Memory\n", b"NO 43 Store\n", b"NO 44 DeskFault\n")
+CLOSE_COMMANDS = (
+    rules.Tap(1704697200, 1, 1, 7, 10, "IN"), rules.Close(19730), rules.Tap(1704699000, 1, 2, 7, 12, "OUT"), rules.Close(19730),
+)
+
+
+def ends_without_memory():
+    """How a session of these lines may end, one of which is refused for memory, or none; beside what is then kept. A close that is refused
+    for want of the store may be posted all the same."""
+    for refused, answer in ((None, b""), *((at, answer) for at in range(4) for answer in (NOT_CLOSED if at % 2 else [NO_MEMORY]))):
+        for is_posted in (False, True)[:1 + answer.startswith(b"NO 43")]:
+            kept, replies = Kept(), b""
+            for at, command in enumerate(CLOSE_COMMANDS):
+                reply = kept.reply(command) if at != refused or is_posted else b""
+                replies += answer if at == refused else reply
+            yield answers(replies), kept
+    for start in (fault("90 Memory"), STORE):
+        yield start, Kept()
+
+
+# How many allocations are passed over behind one that is refused, of some five thousand.
+PASSED = 61
+
+
+@test
+def memory_that_is_refused(folder):
+    """Memory is refused once: a line is refused, or the session does not begin; and the next one is right."""
+    library, number, was_refused, all_ends = preloaded(folder), 1, True, list(ends_without_memory())
+    while was_refused:
+        path, journal = os.path.join(folder, f"ledger{number}"), os.path.join(folder, f"journal{number}")
+        with tempfile.TemporaryFile() as told:
+            around = {"LD_PRELOAD": library, "FIRST": str(number), "LAST": str(number), "TELL": str(told.fileno())}
+            came = run(with_ledger(path, journal, RUN_SAMPLE), CLOSE_LINES, env=around, pass_fds=[told.fileno()])
+            was_refused = os.fstat(told.fileno()).st_size > 0
+        ends = [copy.deepcopy(kept) for end, kept in all_ends if end == came]
+        right = answers(session(TWO_CLOSES)[1])
+        yield f"allocation {number} is refused", came, came if ends and was_refused else right
+        again = run(with_ledger(path, journal, RUN_SAMPLE), CLOSE_LINES)
+        rights = [answers(b"".join(map(kept.reply, CLOSE_COMMANDS))) for kept in ends]
+        yield f"the next session, when allocation {number} was", again, again if again in rights else right
+        number += PASSED

@@ -1,0 +1,459 @@
+"""Services with journals in a folder, and with a ledger in a file: what they keep, how others go on with it, and what is refused."""
+
+import itertools
+import os
+import random
+import stat
+import subprocess
+from typing import NamedTuple
+
+import loads
+import rules
+from killed import Kept, rows_of
+from killed_services import ServedStory
+from running import (
+    MISSING, MONDAY, RUN_SAMPLE, SAMPLE, SEVEN, STATE, End, answers, end_of, fault, heard, in_lines, run, session, started, test, written,
+)
+from themes.journals import CANNOT_USE, bad_line, bytes_of, limited_to, replayed, with_journal
+from themes.ledgers import ALONE, ROWS_BEHIND_FIRST, ROWS_BEHIND_SECOND, STORE, opened_ledger, refused_ledgers, rows, with_ledger
+from themes.serve import (
+    WEEK_DAYS, boarding, closed, connected, ended, failed, free_ports, listening, paid, serving, side_by_side, talk, talk_ahead, words_of,
+)
+from themes.statements import A_BOARDING, rows_of_statement
+
+FROM_EACH = range(16)
+
+
+def new_folder(folder, name="journals"):
+    """An empty folder."""
+    path = os.path.join(folder, name)
+    os.mkdir(path)
+    return path
+
+
+def path_of(journals, number):
+    return os.path.join(journals, f"{number}.lines")
+
+
+def texts_of(journals):
+    """What the journals of a folder have, each behind its name."""
+    names = sorted(os.listdir(journals), key=lambda name: int(name.split(".")[0]))
+    return b"".join(b"== %s\n%s" % (name.encode(), bytes_of(os.path.join(journals, name))) for name in names)
+
+
+def texts(*those):
+    """The same of these, from number 0 on."""
+    return b"".join(b"== %d.lines\n%s" % (number, text.encode()) for number, text in enumerate(those))
+
+
+def with_journals(journals, *more):
+    return ["--journal", journals, *more]
+
+
+def with_both(journals, ledger):
+    return ["--journal", journals, "--ledger", ledger]
+
+
+def leaving(journals, came):
+    """What a service comes to, with what its journals have then."""
+    return came._replace(left=texts_of(journals))
+
+
+def done(count, day=MONDAY):
+    return f"DONE {day} {count}\n"
+
+
+class Served(NamedTuple):
+    """A service: how many shards it has, what is said on its lanes line by line with the replies, what its journals have then, and the accounts
+    but account 7 that its close charges for a boarding."""
+
+    shards: int
+    lanes: tuple
+    left: bytes
+    accounts: tuple
+
+
+BOARDED, AGAIN = "OK 19730 175 175", "AGAIN 19730 175 175"
+CREDIT, DUE = "FIX 3 1 7 CREDIT 19730 25\n", ("DUE 7 19730\n", "DUE 7 19730 19730 2 150 4=150")
+# Of two shards the second has account 7 and 9, of three 7 and 10; account 31 is in the last of sixteen.
+FIRST_TWO = boarding(8), boarding(7) + CREDIT + boarding(9)
+THEN_TWO = FIRST_TWO[0] + boarding(12), FIRST_TWO[1] + boarding(10)
+SERVICES = (
+    Served(2, (
+        (
+            (boarding(7), BOARDED), (boarding(8), BOARDED), (boarding(7), AGAIN), (CREDIT, BOARDED), DUE, ("fly\n", "NO 50 BadLine"),
+            ("CLOSE 19730\n", "NO 34 NotHere"),
+        ),
+        ((boarding(9), BOARDED), (f"TAP 1 1 9 {SEVEN + 1} 50 BUS\n", "NO 20 Conflict"), (f"TAP 1 2 9 {SEVEN} 51 BUS\n", "NO 15 UnknownPlace")),
+    ), texts(*FIRST_TWO), (8, 9)),
+    Served(3, (
+        (
+            (boarding(7), AGAIN), (boarding(10), BOARDED), (CREDIT, AGAIN), (boarding(12), BOARDED), (f"TAP 1 1 8 {SEVEN + 1} 50 BUS\n", "NO 20 Conflict"),
+            DUE,
+        ),
+    ), texts(*THEN_TWO, ""), (8, 9, 10, 12)),
+    Served(16, (
+        ((boarding(31), BOARDED),), ((boarding(12), AGAIN),), ((boarding(29), BOARDED), (boarding(9), AGAIN)),
+    ), texts(*THEN_TWO, *[""] * 11, boarding(29), "", boarding(31)), (8, 9, 10, 12, 29, 31)),
+    Served(1, (
+        ((boarding(29), AGAIN), (boarding(31), AGAIN), (boarding(1), BOARDED), (boarding(10), AGAIN), DUE),
+    ), texts(THEN_TWO[0] + boarding(1), THEN_TWO[1], *[""] * 11, boarding(29), "", boarding(31)), (1, 8, 9, 10, 12, 29, 31)),
+)
+
+
+def written_of_close(accounts):
+    """The lines of the close: account 7 owes 150, and each of these a boarding."""
+    lines = [(7, f"PAY 7 {MONDAY} {MONDAY} 2 150 150 4=150\n"), *((account, paid(account)) for account in accounts)]
+    return "".join(line for _, line in sorted(lines)) + done(len(lines))
+
+
+@test
+def services_that_go_on(folder):
+    """Services one after another with one folder, each with other numbers of lanes and of shards."""
+    journals = new_folder(folder)
+    for number, service in enumerate(SERVICES, 1):
+        count = len(service.lanes)
+        with serving(count, service.shards, 1, more=with_journals(journals)) as (ran, port, said):
+            for lane, pairs in enumerate(service.lanes):
+                replies = talk(port + lane, "".join(line for line, _ in pairs).encode() + b"QUIT\n")
+                yield f"service {number}, lane {lane}", answers(replies), answers(in_lines(reply for _, reply in pairs) + b"BYE\n")
+            wanted = closed(port, count, written_of_close(service.accounts).encode())._replace(left=service.left)
+            yield f"service {number}, its close and its journals", leaving(journals, ended(ran, said)), wanted
+    paths = [path_of(journals, number) for number in FROM_EACH]
+    yield "a replay of all", replayed(*paths), answers(b"OK lines 9 accounts 8 from 1704697200 to 1704697200\n")
+    yield "a statement of the second", run(with_journal(paths[1], [*STATE[:3], "9", "19730"])), rows_of_statement(A_BOARDING)
+    both = written(folder, "both", b"".join(map(bytes_of, reversed(paths))))
+    lines, replies = boarding(31) + "DUE 7 19730\nDUE 29 19730\n", (AGAIN, DUE[1], "DUE 29 19730 19730 1 175 4=175")
+    yield "a session that has all of them", run(with_journal(both), lines.encode()), answers(in_lines(replies))
+
+
+@test
+def two_clients(folder):
+    """What examples/README.md tells of two clients of a service that is then killed, and of the next one."""
+    more = ["--journal", folder]
+    with serving(2, 2, 1, more=more) as (ran, port, said), connected(port) as first, connected(port + 1) as second:
+        for peer, lines, replies in (
+            (first, (boarding(7), "CLOSE 19730\n"), ("OK 19730 175 175\n", "NO 34 NotHere\n")),
+            (second, (boarding(8), "DUE 7 19730\n"), ("OK 19730 175 175\n", "DUE 7 19730 19730 1 175 4=175\n")),
+        ):
+            for line, reply in zip(lines, replies):
+                peer.sendall(line.encode())
+                yield f"{line.rstrip()} before the service is killed", answers(heard(peer, len(reply))), answers(reply.encode())
+        ran.kill()
+    with serving(1, 3, 1, more=more) as (ran, port, said):
+        yield "the next service", answers(talk(port, b"DUE 8 19730\nQUIT\n")), answers(b"DUE 8 19730 19730 1 175 4=175\nBYE\n")
+        yield "its close", ended(ran, said), closed(port, 1, (paid(7) + paid(8) + "DONE 19730 2\n").encode())
+
+
+@test
+def kept_before_replied(folder):
+    """Once a reply has come, the line that it is to is in its journal."""
+    journals = new_folder(folder)
+    with serving(1, 2, 1, more=with_journals(journals)) as (ran, port, said), connected(port) as peer:
+        has = ["", ""]
+        for line, reply, is_kept in (
+            (boarding(7), "OK 19730 175 175\n", True), (boarding(8), "OK 19730 175 175\n", True), (boarding(7), "AGAIN 19730 175 175\n", False),
+            (CREDIT, "OK 19730 175 175\n", True), ("FIX 3 2 8 VOID 9 9\n", "OK 0 0 0\n", True), ("FIX 3 2 8 VOID 9 8\n", "NO 22 FixConflict\n", False),
+        ):
+            peer.sendall(line.encode())
+            came = answers(heard(peer, len(reply)))
+            has[int(line.split()[3]) % 2] += line if is_kept else ""
+            yield f"{line.rstrip()} answered", leaving(journals, came), answers(reply.encode())._replace(left=texts(*has))
+
+
+MANY = 20_000
+
+
+@test
+def a_client_that_waits(folder):
+    """A client that connects while a service takes many lines of sixteen journals is answered once all of them are taken."""
+    journals = new_folder(folder)
+    for number in FROM_EACH:
+        written(journals, f"{number}.lines", "".join(map(boarding, range(1 + number, MANY + 1, 16))).encode())
+    with serving(2, 3, 1, close=MONDAY - 7, more=with_journals(journals)) as (ran, port, said):
+        for lane, account in enumerate((MANY, 1)):
+            replies = talk(port + lane, f"DUE {account} {MONDAY}\n{boarding(account)}QUIT\n".encode())
+            wanted = f"DUE {account} {MONDAY} {MONDAY} 1 175 4=175\n{AGAIN}\nBYE\n"
+            yield f"what lane {lane} answers", answers(replies), answers(wanted.encode())
+        # A week without a tap: what is written of its close fits into a pipe.
+        yield "how it ends", ended(ran, said), closed(port, 2, done(0, MONDAY - 7).encode())
+
+
+# The rests of journals, which are no lines.
+RESTS = ("TAP 1 1 12 1704697200 50 BUS", "T", "fly\0", " " * 500)
+
+
+@test
+def cut_lines(folder):
+    """What stands behind a last newline is no line: it is cut off before the first line is kept there, and stays where none is."""
+    for number, rest in enumerate(RESTS):
+        journals = new_folder(folder, f"journals{number}")
+        for at in range(3):
+            written(journals, f"{at}.lines", (boarding(7 + at) + rest).encode())
+        before = texts(boarding(7) + rest, boarding(8) + rest, boarding(9) + rest)
+        with serving(1, 2, 1, more=with_journals(journals)) as (ran, port, said):
+            replies = talk(port, (boarding(7) + boarding(8) + boarding(9) + "DUE 12 19730\nQUIT\n").encode())
+            yield f"{rest[:20]!r} behind lines", answers(replies), answers(b"AGAIN 19730 175 175\n" * 3 + b"DUE 12 19730 19730 0 0\nBYE\n")
+            wanted = closed(port, 1, (paid(7) + paid(8) + paid(9) + done(3)).encode())._replace(left=before)
+            yield f"{rest[:20]!r}, and no new line", leaving(journals, ended(ran, said)), wanted
+        with serving(1, 2, 1, more=with_journals(journals)) as (ran, port, said):
+            replies = talk(port, (boarding(11) + boarding(9) + "QUIT\n").encode())
+            yield f"{rest[:20]!r}, a new line", answers(replies), answers(b"OK 19730 175 175\nAGAIN 19730 175 175\nBYE\n")
+            # Account 11 is in shard 1, and the third journal is no shard's.
+            left = texts(boarding(7) + rest, boarding(8) + boarding(11), boarding(9) + rest)
+            wanted = closed(port, 1, (paid(7) + paid(8) + paid(9) + paid(11) + done(4)).encode())._replace(left=left)
+            yield f"{rest[:20]!r}, a new line, and the journals", leaving(journals, ended(ran, said)), wanted
+
+
+def refused_start(journals, shards, wanted, *more):
+    """What a service comes to that is refused once it listens, beside what it has to come to; a peer that waits hears nothing."""
+    port = free_ports(1)
+    came = run([*words_of(port, 1, shards), *with_journals(journals, *more)])
+    return came, wanted._replace(errors=listening(port, 1) + wanted.errors)
+
+
+# Lines that may not stand behind a boarding and a Credit of account 7.
+BAD_LINES = (
+    ("fly", "50 BadLine"), ("DUE 7 19730", "50 BadLine"), ("CLOSE 19730", "50 BadLine"), ("QUIT", "50 BadLine"), ("", "50 BadLine"),
+    ("A" * 129, "51 LongLine"), (f"TAP 1 1 7 {SEVEN + 1} 50 BUS", "20 Conflict"), (f"TAP 1 3 7 {SEVEN} 51 BUS", "15 UnknownPlace"),
+    ("FIX 3 1 7 CREDIT 19730 26", "22 FixConflict"),
+)
+
+
+@test
+def bad_journals(folder):
+    """A line that is not accepted is told by the number of its journal and its own; no connection is served, nothing is written, all stays."""
+    good = boarding(7) + CREDIT
+    for number, (bad, why) in itertools.product((0, 1, 2, 9, 15), BAD_LINES):
+        journals = new_folder(folder, f"journals{len(os.listdir(folder))}")
+        for at in FROM_EACH:
+            written(journals, f"{at}.lines", (boarding(20 + at) if at != number else f"{good}{bad}\n{boarding(9)}fly\n").encode() + b"TAP 1")
+        # A later journal may have a bad line of its own.
+        if number < 15:
+            written(journals, "15.lines", b"fly\n")
+        has = texts_of(journals)
+        came, wanted = refused_start(journals, 2, bad_line(3, why, f"{number}"))
+        yield f"{bad[:30]!r} in journal {number}", leaving(journals, came), wanted._replace(left=has)
+    # Two journals, each of which is good by itself.
+    journals = new_folder(folder, "two")
+    written(journals, "0.lines", boarding(7).encode())
+    written(journals, "3.lines", f"{boarding(8)}TAP 1 1 7 {SEVEN + 1} 50 BUS\n".encode())
+    for shards in (1, 4, 16):
+        came, wanted = refused_start(journals, shards, bad_line(2, "20 Conflict", "3"))
+        yield f"two journals that contradict each other, {shards} shards", came, wanted
+    with started([*words_of(free_ports(1)), "--journal", journals], stdin=subprocess.DEVNULL) as ran:
+        yield "what is written of it", answers(end_of(ran).output), answers(b"")
+
+
+@test
+def folders_that_cannot_be(folder):
+    """What is no folder of journals: no port is taken."""
+    fifo = new_folder(folder, "fifo")
+    os.mkfifo(path_of(fifo, 0))
+    later_fifo = new_folder(folder, "later-fifo")
+    os.mkfifo(path_of(later_fifo, 7))
+    nested, later_nested = new_folder(folder, "nested"), new_folder(folder, "later-nested")
+    os.mkdir(path_of(nested, 1))
+    os.mkdir(path_of(later_nested, 15))
+    device, later_device = new_folder(folder, "device"), new_folder(folder, "later-device")
+    os.symlink("/dev/null", path_of(device, 0))
+    os.symlink("/dev/null", path_of(later_device, 2))
+    given = [
+        ("a missing folder", os.path.join(folder, "no")), ("a file", written(folder, "file", b"")), ("no name", ""), ("a device", "/dev/null"),
+        ("a pipe with a name", path_of(fifo, 0)), ("a pipe in the place of a journal", fifo), ("a pipe in the place of a further journal", later_fifo),
+        ("a folder in the place of a journal", nested), ("a folder in the place of a further journal", later_nested),
+        ("a device in the place of a journal", device), ("a device in the place of a further journal", later_device),
+        ("a name that is too long", os.path.join(folder, "j" * 256)),
+    ]
+    # For who may do all no file is closed.
+    if os.geteuid():
+        for name, mode in (("unreadable", 0), ("for reading", stat.S_IRUSR)):
+            closed_one = new_folder(folder, name.replace(" ", "-"))
+            os.chmod(written(closed_one, "0.lines", b""), mode)
+            given.append((f"a journal that is {name}", closed_one))
+    with serving(1, 1, 1) as (ran, port, said):
+        for name, path in given:
+            # The port is another's, which would be told later.
+            yield name, run([*words_of(port, 1, 2), *with_journals(path)]), CANNOT_USE
+        yield "a session beside services that do not begin", answers(talk(port, b"QUIT\n")), answers(b"BYE\n")
+
+
+@test
+def one_service_at_a_time(folder):
+    """While a service has a folder no other one begins over it, nor a session over one of its journals; they are read all the same."""
+    journals = new_folder(folder)
+    written(journals, "0.lines", boarding(8).encode())
+    written(journals, "5.lines", boarding(9).encode())
+    other = os.path.join(folder, "other")
+    os.symlink("journals", other)
+    with serving(2, 2, 1, more=with_journals(journals)) as (ran, port, said):
+        for name, path, shards in itertools.product(("its name", "another name"), (journals, other), (1, 2, 16)):
+            yield f"a second service by {name} with {shards} shards", run([*words_of(free_ports(1), 1, shards), *with_journals(path)]), CANNOT_USE
+        for number in (0, 1, 5):
+            yield f"a session over journal {number}", run(with_journal(path_of(journals, number)), boarding(7).encode()), CANNOT_USE
+        both = replayed(path_of(journals, 0), path_of(journals, 5))
+        yield "a replay beside it", both, answers(b"OK lines 2 accounts 2 from 1704697200 to 1704697200\n")
+        yield "a statement beside it", run(with_journal(path_of(journals, 5), [*STATE[:3], "9", "19730"])), rows_of_statement(A_BOARDING)
+        for lane in range(2):
+            yield f"lane {lane} beside them", answers(talk(port + lane, b"QUIT\n")), answers(b"BYE\n")
+        left = texts(boarding(8), "") + b"== 5.lines\n" + boarding(9).encode()
+        wanted = closed(port, 2, (paid(8) + paid(9) + done(2)).encode())._replace(left=left)
+        yield "the service beside them", leaving(journals, ended(ran, said)), wanted
+    # While a session has one of them, no service begins.
+    for number in (0, 1, 5):
+        with started(with_journal(path_of(journals, number))) as ran:
+            ran.stdin.write(boarding(8 if number == 0 else 9).encode())
+            heard(ran.stdout, 5)
+            came = run([*words_of(free_ports(1), 1, 2), *with_journals(journals)])
+            yield f"a service beside a session over journal {number}", came, CANNOT_USE
+    with serving(1, 1, 1, more=with_journals(journals)) as (ran, port, said):
+        ran.kill()
+        ran.wait()
+    with serving(1, 1, 1, more=with_journals(journals)) as (ran, port, said):
+        yield "behind a service that is killed", answers(talk(port, b"QUIT\n")), answers(b"BYE\n")
+
+
+LATE = "NO 52 Late\n"
+
+
+@test
+def full_journals(folder):
+    """A journal that has no room for a line: its shard answers nothing any more, and the others go on; no day is closed, and all that was
+    answered is there in the next service."""
+    journals, room = new_folder(folder), 2 * len(boarding(10)) + 4
+    lines = boarding(10) + boarding(12) + boarding(11) + boarding(14) + "DUE 11 19730\n" + boarding(13) + "QUIT\n"
+    # Account 14 is in shard 0, whose journal is full. Its lane waits some ten seconds for the reply, and the close as long.
+    with serving(1, 2, 1, more=with_journals(journals), **limited_to(room)) as (ran, port, said):
+        replies = talk(port, lines.encode())
+        wanted = 3 * "OK 19730 175 175\n" + LATE + "DUE 11 19730 19730 1 175 4=175\n" + "OK 19730 175 175\nBYE\n"
+        yield "lines of a full journal and of another", answers(replies), answers(wanted.encode())
+        left = texts(boarding(10) + boarding(12) + boarding(14)[:4], boarding(11) + boarding(13))
+        wanted = failed(port, 1, "journal fault", b"NO 44 DeskFault\n")._replace(left=left)
+        yield "how it ends", leaving(journals, ended(ran, said)), wanted
+    with serving(1, 2, 1, more=with_journals(journals)) as (ran, port, said):
+        replies = talk(port, lines.encode())
+        wanted = 3 * "AGAIN 19730 175 175\n" + "OK 19730 175 175\nDUE 11 19730 19730 1 175 4=175\nAGAIN 19730 175 175\nBYE\n"
+        yield "the same lines in the next service", answers(replies), answers(wanted.encode())
+        left = texts(boarding(10) + boarding(12) + boarding(14), boarding(11) + boarding(13))
+        wanted = closed(port, 1, ("".join(map(paid, range(10, 15))) + done(5)).encode())._replace(left=left)
+        yield "how the next service ends", leaving(journals, ended(ran, said)), wanted
+
+
+def served(journals, ledger, lines, close=MONDAY, shards=2):
+    """A service of one lane over these files that is sent these lines: its port, what it replied, and what it came to."""
+    with serving(1, shards, 1, SAMPLE, close, with_both(journals, ledger)) as (ran, port, said):
+        return port, talk(port, lines.encode() + b"QUIT\n"), ended(ran, said)
+
+
+TAP_IN, TAP_OUT = f"TAP 1 1 7 {SEVEN} 10 IN\n", f"TAP 1 2 7 {SEVEN + 1_800} 12 OUT\n"
+CHARGED, REFUNDED = "PAY 7 19730 19730 1 860 860 1=860\nDONE 19730 1\n", "PAY 7 19730 19730 2 340 -520 1=-520\nDONE 19730 1\n"
+
+
+@test
+def ledgers_of_services(folder):
+    """What services close into one ledger in a file, one after another: what was posted is told again, and what came later given back."""
+    journals, ledger = new_folder(folder), os.path.join(folder, "ledger")
+    for number, (lines, replies, shards, output, left) in enumerate((
+        (TAP_IN, "OK 19730 860 860\n", 2, CHARGED, ROWS_BEHIND_FIRST), ("", "", 3, CHARGED, ROWS_BEHIND_FIRST),
+        (TAP_OUT, "OK 19730 340 340\n", 1, REFUNDED, ROWS_BEHIND_SECOND), (TAP_IN, "AGAIN 19730 340 340\n", 16, REFUNDED, ROWS_BEHIND_SECOND),
+    ), 1):
+        port, came, end = served(journals, ledger, lines, shards=shards)
+        yield f"service {number}, its lane", answers(came), answers(replies.encode() + b"BYE\n")
+        yield f"service {number}, its close", end, closed(port, 1, output.encode())
+        yield f"service {number}, the rows", answers(rows_of(ledger)), answers(left)
+    # A later day of the week, and then an earlier one, which is refused.
+    port, _, end = served(journals, ledger, "", MONDAY + 1)
+    yield "a later day", end, closed(port, 1, b"PAY 7 19730 19731 2 340 0\nDONE 19731 1\n")
+    port, _, end = served(journals, ledger, "")
+    yield "an earlier day", end, End(1, b"NO 42 StaleQuote\n", listening(port, 1))
+    # A session goes on with what the services have kept and posted.
+    both = written(folder, "both", b"".join(bytes_of(path_of(journals, number)) or b"" for number in FROM_EACH))
+    lines, replies = session((("CLOSE 19731", "PAY 7 19730 19731 2 340 0\nDONE 19731 1"), ("DUE 7 19731", "DUE 7 19730 19731 2 340 1=340")))
+    yield "a session behind them", run(with_ledger(ledger, both, RUN_SAMPLE), lines), answers(replies)
+
+
+@test
+def ledgers_that_are_refused(folder):
+    """A ledger that is none, in use, or without its journals: no port is taken, and the journals stay as they are."""
+    journals, empty = new_folder(folder), new_folder(folder, "empty")
+    written(journals, "0.lines", boarding(8).encode() + b"TAP 1")
+    rests = new_folder(folder, "rests")
+    written(rests, "3.lines", boarding(8).rstrip().encode())
+    ledger, _ = opened_ledger(folder, "ledger")
+    has = texts_of(journals)
+    with serving(1, 1, 1) as (ran, port, said):
+        for name, path, wanted in refused_ledgers(folder):
+            yield name, run([*words_of(port, 1, 1), *with_both(journals, path)]), wanted
+            yield f"{name}, without journals", run([*words_of(port, 1, 1), "--ledger", path]), wanted
+        for name, path in (("a folder", folder), ("a file in no folder", os.path.join(folder, "no", "ledger")), ("no name", "")):
+            yield name, run([*words_of(port, 1, 1), *with_both(journals, path)]), STORE
+        yield "a journal of its own as its ledger", run([*words_of(port, 1, 1), *with_both(journals, path_of(journals, 0))]), STORE
+        for name, more in (("no journals", []), ("an empty folder", ["--journal", empty]), ("a folder of cut lines", ["--journal", rests])):
+            yield f"a ledger that archives something, and {name}", run([*words_of(port, 1, 2), *more, "--ledger", ledger]), ALONE
+        with started(with_ledger(os.path.join(folder, "used"))) as other:
+            other.stdin.write(boarding(7).encode())
+            heard(other.stdout, 5)
+            yield "a ledger that a session has", run([*words_of(port, 1, 1), "--ledger", os.path.join(folder, "used")]), STORE
+        for name, words, wanted in (
+            ("no fare file", words_of(port, fares=MISSING, zone="no zone"), fault("cannot read fares")),
+            ("a bad zone", words_of(port, zone="no zone"), fault("bad zone")),
+        ):
+            text = written(folder, "text", b"no ledger")
+            yield f"{name}, and a ledger that is none", run([*words, *with_both(journals, text)]), wanted
+            missing = with_both(os.path.join(folder, "no"), text)
+            yield f"{name}, and no folder", run([*words, *missing]), wanted if name == "no fare file" else CANNOT_USE
+        made = os.path.join(folder, "made")
+        yield "a port that is taken", run([*words_of(port), *with_both(journals, made)]), fault("cannot listen")
+        yield "a session beside services that do not begin", answers(talk(port, b"QUIT\n")), answers(b"BYE\n")
+    yield "the journals then", answers(texts_of(journals)), answers(has)
+    # It is opened, and shut again, where the port is not to be had.
+    yield "the ledger that was made beside a port that is taken", answers(rows_of(made)), answers(rows())
+
+
+def shuffled_parts(draw, items, count):
+    """Items in so many parts, which have some items in common."""
+    parts = [items[at::count] for at in range(count)]
+    return [part + draw.sample(items, len(items) // 20) for part in parts]
+
+
+# The lanes and shards of services one after another, and the day that each closes.
+PLANS = ((4, 4, MONDAY + 2), (3, 16, MONDAY + 4), (1, 1, MONDAY + 4), (2, 7, MONDAY + 6))
+
+
+@test
+def crowd(folder):
+    """A week of 200 accounts over four services, dealt over their lanes in any order, with a ledger: what is due, shown and posted in the end."""
+    draw, kept = random.Random(29), Kept()
+    journals, ledger = new_folder(folder), os.path.join(folder, "ledger")
+    accounts = range(1, 201)
+    commands = loads.corrected_week(draw, len(accounts))
+    for (lanes, shards, day), part in zip(PLANS, shuffled_parts(draw, commands, len(PLANS))):
+        draw.shuffle(part)
+        dealt = [[rules.line(it).encode() for it in part[lane::lanes]] for lane in range(lanes)]
+        with serving(lanes, shards, 1, SAMPLE, day, with_both(journals, ledger)) as (ran, port, said):
+            replies = side_by_side([lambda lane=lane: talk_ahead(port + lane, dealt[lane]) for lane in range(lanes)])
+            came = ended(ran, said)
+        verbs = b" ".join(sorted({it.split()[0] for text in replies for it in text.splitlines()}))
+        yield f"{lanes} lanes and {shards} shards, how they answer", answers(verbs), answers(b"AGAIN BYE OK")
+        count = sum(text.count(b"OK ") for text in replies)
+        before = kept.lines.count(b"\n")
+        for it in part:
+            kept.reply(it)
+        yield f"{lanes} lanes and {shards} shards, what is new", answers(b"%d" % count), answers(b"%d" % (kept.lines.count(b"\n") - before))
+        yield f"{lanes} lanes and {shards} shards, the close", came, closed(port, lanes, kept.reply(rules.Close(day)))
+    lines = b"".join(sorted(b"".join(bytes_of(path_of(journals, number)) for number in FROM_EACH).splitlines(True)))
+    yield "the journals' lines", answers(lines), answers(b"".join(sorted(kept.lines.splitlines(True))))
+    asked = [line for account in accounts for day in WEEK_DAYS for line in (f"SHOW {account} {day}\n", f"DUE {account} {day}\n")]
+    wanted = b"".join(kept.shown(account, day) + kept.reply(rules.Due(account, day)) for account in accounts for day in WEEK_DAYS)
+    with serving(1, 5, 1, SAMPLE, MONDAY + 6, with_both(journals, ledger)) as (ran, port, said):
+        told = talk_ahead(port, [it.encode() for it in asked])
+        yield "what is due and shown in the end", answers(told), answers(wanted + b"BYE\n")
+        yield "the same close again", ended(ran, said), closed(port, 1, kept.reply(rules.Close(MONDAY + 6)))
+    yield "the rows in the end", answers(rows_of(ledger)), answers(kept.rows())
+
+
+@test
+def killed_services(folder):
+    """Services that are killed at random moments and go on with other numbers of lanes and shards, by bench/rules.py."""
+    for number in range(2):
+        yield from ServedStory(folder, random.Random(number), number == 1).told(15)
