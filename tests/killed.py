@@ -21,13 +21,13 @@ MOST_SENT, MOST_LATER, MOST_OF_A_START = 60, 0.001, 0.02
 KINDS, FORMS = ("IN", "OUT", "BUS"), ("VOID", "FILL", "CREDIT", "DROP")
 
 
-def commands_of(draw):
-    """Taps and corrections of a week as they arrive, some of them twice, and among them questions and closes of ascending days."""
+def commands_of(draw, closes):
+    """Taps and corrections of a week as they arrive, some of them twice, and among them questions and so many closes of ascending days."""
     commands = loads.corrected_week(draw, ACCOUNTS)
     count = len(commands)
     more = [*draw.sample(commands, count // 12), *(rules.Due(draw.randint(1, ACCOUNTS), draw.choice(WEEK_DAYS)) for _ in range(count // 12))]
     placed = [*enumerate(commands), *((draw.uniform(0, count), it) for it in more)]
-    for at in sorted(draw.uniform(0, count) for _ in range(10)):
+    for at in sorted(draw.uniform(0, count) for _ in range(closes)):
         placed.append((at, rules.Close(MONDAY + int(at * loads.DAYS / count))))
     return [it for _, it in sorted(placed, key=lambda it: it[0])]
 
@@ -123,21 +123,34 @@ def answered(kept):
 
 
 class Story:
-    """Sessions one after another over the same files, and what they have accepted and posted."""
+    """What is told over the same files to programs that are killed one after another, and what they have accepted and posted."""
 
-    def __init__(self, folder, draw, has_ledger, more=()):
-        files = tempfile.mkdtemp(dir=folder)
-        self.journal, self.database = os.path.join(files, "journal"), os.path.join(files, "ledger") if has_ledger else None
-        self.words = [*RUN_SAMPLE, "--journal", self.journal, *more, *(["--ledger", self.database] if has_ledger else [])]
-        self.name = " ".join(["--journal", *more, *(["--ledger"] if has_ledger else [])])
-        self.draw, self.is_shuffled = draw, draw.random() < 0.5
-        # What was not answered yet, of which no more than the first may have been taken.
-        self.left = commands_of(draw)
+    def __init__(self, name, draw, closes):
+        # What was not answered yet.
+        self.name, self.draw, self.left = name, draw, commands_of(draw, closes)
         self.kept, self.kills, self.sent = Kept(), 0, 0
 
     @property
     def accepted(self):
         return self.kept.lines.count(b"\n")
+
+    def told(self, most):
+        """Checks, by their names, of at most so many programs that are killed and of what is there in the end. The first that fails is the last."""
+        for name, came, wanted in self.checks(most):
+            yield f"{self.name}, {name}", came, wanted
+            if came != wanted:
+                return
+
+
+class SessionStory(Story):
+    """Sessions. Of what was not answered no more than the first line may have been taken."""
+
+    def __init__(self, folder, draw, has_ledger, more=()):
+        files = tempfile.mkdtemp(dir=folder)
+        self.journal, self.database = os.path.join(files, "journal"), os.path.join(files, "ledger") if has_ledger else None
+        self.words = [*RUN_SAMPLE, "--journal", self.journal, *more, *(["--ledger", self.database] if has_ledger else [])]
+        self.is_shuffled = draw.random() < 0.5
+        super().__init__(" ".join(["--journal", *more, *(["--ledger"] if has_ledger else [])]), draw, closes=10)
 
     def begin(self):
         """A session begins: what was posted is forgotten, unless it is in a file."""
@@ -179,13 +192,6 @@ class Story:
     def ended(self, lines, replies):
         came = run(self.words, lines)
         return came._replace(left=bytes_of(self.journal)), End(0, replies, left=self.kept.lines)
-
-    def told(self, most):
-        """Checks, by their names, of at most so many sessions that are killed and of what is there in the end. The first that fails is the last."""
-        for name, came, wanted in self.checks(most):
-            yield f"{self.name}, {name}", came, wanted
-            if came != wanted:
-                return
 
     def checks(self, most):
         while self.kills < most and self.left:

@@ -8,9 +8,8 @@ import subprocess
 import tempfile
 import time
 
-import loads
 import rules
-from killed import ACCOUNTS, MOST_LATER, QUESTIONS, WEEK_DAYS, Kept, answered, bytes_of, rows_of
+from killed import MOST_LATER, QUESTIONS, WEEK_DAYS, Story, answered, bytes_of, rows_of
 from running import LONDON, SAMPLE, TIME_TO_REPLY, End, answers, heard, run, started
 from themes.serve import closed, connected, ended, free_ports, listening, side_by_side, talk_ahead, words_of
 
@@ -18,15 +17,6 @@ MOST_LANES, MOST_SHARDS = 5, 16
 # The most lines that each lane is sent before a service is killed; and the most seconds that pass where nothing is heard first, and where all
 # is heard, and a day is being closed.
 MOST_SENT, MOST_OF_A_START, MOST_OF_A_CLOSE = 12, 0.03, 0.03
-
-
-def commands_of(draw):
-    """Taps and corrections of a week as they arrive, some of them twice, and among them questions."""
-    commands = loads.corrected_week(draw, ACCOUNTS)
-    count = len(commands)
-    more = [*draw.sample(commands, count // 12), *(rules.Due(draw.randint(1, ACCOUNTS), draw.choice(WEEK_DAYS)) for _ in range(count // 12))]
-    placed = [*enumerate(commands), *((draw.uniform(0, count), it) for it in more)]
-    return [it for _, it in sorted(placed, key=lambda it: it[0])]
 
 
 def whole(text):
@@ -70,8 +60,8 @@ def killed_service(words, port, texts, all_are_heard, draw):
         return list(taken.values()) or [b""] * len(texts), End("killed", ran.stdout.read(), errors + ran.stderr.read())
 
 
-class ServedStory:
-    """Services one after another over the same files. On each lane of a service other accounts are spoken of."""
+class ServedStory(Story):
+    """Services. On each lane of one other accounts are spoken of; the day is closed behind all of them."""
 
     def __init__(self, folder, draw, has_ledger):
         self.files = tempfile.mkdtemp(dir=folder)
@@ -79,13 +69,8 @@ class ServedStory:
         os.mkdir(self.folder)
         self.database = os.path.join(self.files, "ledger") if has_ledger else None
         self.more = ["--journal", self.folder, *(["--ledger", self.database] if has_ledger else [])]
-        self.name = " ".join(["serve --journal", *(["--ledger"] if has_ledger else [])])
-        self.draw, self.left, self.kept, self.kills, self.sent = draw, commands_of(draw), Kept(), 0, 0
+        super().__init__(" ".join(["serve --journal", *(["--ledger"] if has_ledger else [])]), draw, closes=0)
         self.count = len(self.left)
-
-    @property
-    def accepted(self):
-        return self.kept.lines.count(b"\n")
 
     def day(self):
         """The day that a service closes: the later, the fewer lines are left."""
@@ -109,13 +94,6 @@ class ServedStory:
 
     def wanted_lines(self):
         return b"".join(sorted(self.kept.lines.splitlines(True)))
-
-    def told(self, most):
-        """Checks, by their names, of at most so many services that are killed and of what is there in the end. The first that fails is the last."""
-        for name, came, wanted in self.checks(most):
-            yield f"{self.name}, {name}", came, wanted
-            if came != wanted:
-                return
 
     def checks(self, most):
         while self.kills < most and self.left:

@@ -11,7 +11,7 @@ import stat
 
 import loads
 import rules
-from killed import Story
+from killed import SessionStory
 from preloads import preloaded
 from running import (
     FARES, LONDON, MISSING, MONDAY, RUN, RUN_SAMPLE, SAMPLE, SEVEN, STATE, End, answers, boardings, edited, end_of, fault, heard, in_lines, run,
@@ -514,4 +514,4 @@ def one_session_at_a_time(folder):
 def killed_sessions(folder):
     """Sessions that are killed at random moments and go on, by bench/rules.py: every reply, what the files have, and what is due in the end."""
     for number, (has_ledger, more) in enumerate(itertools.product((False, True), ((), ("--sync",)))):
-        yield from Story(folder, random.Random(number), has_ledger, more).told(15)
+        yield from SessionStory(folder, random.Random(number), has_ledger, more).told(15)
