@@ -1,3 +1,4 @@
+pub mod AskedFor
 pub mod BegunLines
 pub mod CommandLines
 pub mod Fills

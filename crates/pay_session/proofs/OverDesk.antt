@@ -5,11 +5,14 @@ use Rattle.pay_quotes.specs.declared.posting.Posting.{Posting}
 use Rattle.pay_shard.specs.declared.reply.Answer.{Answer}
 use Rattle.pay_shard.specs.Words.{AreKept, Standing, DeskParts}
 use Rattle.pay_session.specs.Asks.{asks_of}
+use Rattle.pay_session.specs.AskedFor.{AreAllAskedIn, AreAskedIn}
 use Rattle.pay_session.specs.Events.{Taken, Event, all_put, commands_of, IsAnswerTo, AreAnswered}
+use Rattle.pay_session.specs.Requests.{IsAsked}
 use Rattle.pay_session.specs.Served.{AreServed}
 use Rattle.pay_session.specs.Serving.{IsStep, MaySometimeRefuse, MaySometimeBeLate}
 use Rattle.pay_session.specs.Session.{Sides, IsSession, EndsSo, FailsSo, sides}
 use Rattle.pay_session.specs.SessionSteps.{Runs, Ran, RunsToEnd, RunsSo}
+use Rattle.pay_session.proofs.AskedFor.{all_both, taken_for}
 use Rattle.pay_session.specs.declared.request.Request.{Request}
 use Rattle.pay_session.specs.declared.service.Service.{Service}
 use Rattle.pay_session.specs.declared.stop.SessionFault.{SessionFault}
@@ -42,6 +45,7 @@ module _ {D O T K : Type 0} (parts : D → DeskParts O) (Closes : T → ℕ → 
   Serves before request event after =
       IsStep parts Closes (asks_of before.zone.now request) event (before.desk.now, before.till.now) (after.desk.now, after.till.now)
       × (after.desk.ghost_name ≡ before.desk.ghost_name) × (after.till.ghost_name ≡ before.till.ghost_name) × (after.zone ≡ before.zone) × (till_origin after.till.now ≡ till_origin before.till.now)
+      × IsAsked request
 
   abbrev Answered : TimeZone → Standing O → T → List Request → List Event → T → Type 0
   Answered z stands = AreServed stands.shards (MaySometimeRefuse parts stands) (MaySometimeBeLate parts stands) Closes z
@@ -51,6 +55,7 @@ module _ {D O T K : Type 0} (parts : D → DeskParts O) (Closes : T → ℕ → 
     pub served : Answered a.zone.now (parts a.desk.now).standing a.till.now rs es b.till.now
     pub added : (parts b.desk.now).taken ≡ (parts a.desk.now).taken ++ commands_of (all_put es)
     pub said : AreAnswered (parts b.desk.now).transcript (all_put es)
+    pub asked : AreAllAskedIn a.zone.now (commands_of (all_put es))
     pub kept : AreKept (parts a.desk.now).transcript (parts b.desk.now).transcript
     pub same : (parts b.desk.now).standing ≡ (parts a.desk.now).standing
     pub same_till : till_origin b.till.now ≡ till_origin a.till.now
@@ -62,6 +67,7 @@ module _ {D O T K : Type 0} (parts : D → DeskParts O) (Closes : T → ℕ → 
     served = refl;
     added = sym (append-nil (parts a.desk.now).taken);
     said = tt;
+    asked = tt;
     kept = λ ticket answer h. h;
     same = refl;
     same_till = refl;
@@ -86,6 +92,10 @@ module _ {D O T K : Type 0} (parts : D → DeskParts O) (Closes : T → ℕ → 
         added = again.added ∙ ap (λ l. l ++ commands_of (all_put es)) s.added ∙ append_assoc (parts a.desk.now).taken (commands_of e.put) (commands_of (all_put es))
             ∙ ap (λ l. (parts a.desk.now).taken ++ l) (sym (commands_both e.put (all_put es)));
         said = answered_both (parts b.desk.now).transcript e.put (all_put es) (answered_kept (parts f.0.desk.now).transcript (parts b.desk.now).transcript e.put again.kept s.said) again.said;
+        asked = subst (AreAllAskedIn a.zone.now) (sym (commands_both e.put (all_put es)))
+            (all_both a.zone.now (commands_of e.put) (commands_of (all_put es))
+            (taken_for a.zone.now (MaySometimeRefuse parts (parts a.desk.now).standing) (MaySometimeBeLate parts (parts a.desk.now).standing) (parts a.desk.now).standing.shards Closes r e a.till.now f.0.till.now f.1.5 s.served)
+            (subst (λ z. AreAllAskedIn z.now (commands_of (all_put es))) f.1.3 again.asked));
         kept = λ ticket answer h. again.kept ticket answer (s.kept ticket answer h);
         same = again.same ∙ s.same;
         same_till = again.same_till ∙ f.1.4;
@@ -96,6 +106,11 @@ module _ {D O T K : Type 0} (parts : D → DeskParts O) (Closes : T → ℕ → 
   -- whatever the requests were
   pub ran : (a b : Service D T) (f : Ran Serves a b) → Leads a f.requests f.events b
   ran a b f = leads f.requests f.events a b f.runs
+
+  -- what the desk took for them
+  pub asked_in : (a b : Service D T) → Ran Serves a b → AreAskedIn a.zone.now (parts a.desk.now).taken (parts b.desk.now).taken
+  unfolding AreAskedIn
+  asked_in a b f = let led = ran a b f in (commands_of (all_put f.events), led.added, led.asked)
 
   -- ---- a whole session
 

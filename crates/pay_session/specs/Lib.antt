@@ -1,6 +1,7 @@
 pub mod Requests
 pub mod Replays
 pub mod Asks
+pub mod AskedFor
 pub mod Calls
 pub mod CommandLines
 pub mod Events

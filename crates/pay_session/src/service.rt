@@ -50,11 +50,13 @@ impl<'a, D: Desk, T: Till> Service<'a, D, T> {
 
 impl<'a, D: Desk, T: Till> Answers for Service<'a, D, T> {
     ghost use Rattle.pay_session.specs.Asks.{asks_of};
+    ghost use Rattle.pay_session.specs.Requests.{IsAsked};
     ghost use Rattle.pay_session.specs.Serving.{IsStep};
 
     ghost Serves = { λ before request event after.
         IsStep D.parts T.Closes (asks_of before.zone.now request) event (before.desk.now, before.till.now) (after.desk.now, after.till.now)
-        × (after.desk.ghost_name ≡ before.desk.ghost_name) × (after.till.ghost_name ≡ before.till.ghost_name) × (after.zone ≡ before.zone) × (T.origin after.till.now ≡ T.origin before.till.now) };
+        × (after.desk.ghost_name ≡ before.desk.ghost_name) × (after.till.ghost_name ≡ before.till.ghost_name) × (after.zone ≡ before.zone) × (T.origin after.till.now ≡ T.origin before.till.now)
+        × IsAsked request };
 
     fn answer(&mut self, request: Request) -> Reply {
         match asks_of(self.zone, request) {

@@ -1,4 +1,4 @@
-use Rattle.pay_session.proofs.OverDesk.{ran, ends, fails}
+use Rattle.pay_session.proofs.OverDesk.{ran, asked_in, ends, fails}
 use Rattle.pay_session.proofs.ReaderCalls.{broken}
 use Rattle.pay_session.proofs.sessions.session_by.Goals as goal
 
@@ -7,6 +7,9 @@ returns-in-Ok-clause-desk_name g c = (ran g.D.Desk.parts g.T.Till.Closes g.T.Til
 
 pub returns-in-Ok-clause-till_name : goal.returns-in-Ok-clause-till_name
 returns-in-Ok-clause-till_name g c = (ran g.D.Desk.parts g.T.Till.Closes g.T.Till.origin _ _ c.serve.ensures.ran).till_name
+
+pub returns-in-Ok-clause-asked : goal.returns-in-Ok-clause-asked
+returns-in-Ok-clause-asked g c = asked_in g.D.Desk.parts g.T.Till.Closes g.T.Till.origin _ _ c.serve.ensures.ran
 
 pub returns-in-Ok-clause-transcript : goal.returns-in-Ok-clause-transcript
 returns-in-Ok-clause-transcript g c = (ran g.D.Desk.parts g.T.Till.Closes g.T.Till.origin _ _ c.serve.ensures.ran).kept
@@ -22,6 +25,9 @@ returns-in-Err-clause-desk_name g c = (ran g.D.Desk.parts g.T.Till.Closes g.T.Ti
 
 pub returns-in-Err-clause-till_name : goal.returns-in-Err-clause-till_name
 returns-in-Err-clause-till_name g c = (ran g.D.Desk.parts g.T.Till.Closes g.T.Till.origin _ _ c.serve.ensures.ran).till_name
+
+pub returns-in-Err-clause-asked : goal.returns-in-Err-clause-asked
+returns-in-Err-clause-asked g c = asked_in g.D.Desk.parts g.T.Till.Closes g.T.Till.origin _ _ c.serve.ensures.ran
 
 pub returns-in-Err-clause-transcript : goal.returns-in-Err-clause-transcript
 returns-in-Err-clause-transcript g c = (ran g.D.Desk.parts g.T.Till.Closes g.T.Till.origin _ _ c.serve.ensures.ran).kept
