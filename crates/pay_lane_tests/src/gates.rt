@@ -125,7 +125,7 @@ impl Counting {
 impl Gate for Counting {
     ghost use Rattle.std.specs.Prelude.{⊤, None};
 
-    ghost Holds = { λ _ _. ⊤ };
+    ghost Holds = { λ _ _ _. ⊤ };
 
     ghost began = { λ _. None };
 

@@ -31,7 +31,7 @@ struct Yielding {
 impl Gate for Yielding {
     ghost use Rattle.std.specs.Prelude.{⊤, None};
 
-    ghost Holds = { λ _ _. ⊤ };
+    ghost Holds = { λ _ _ _. ⊤ };
 
     ghost began = { λ _. None };
 

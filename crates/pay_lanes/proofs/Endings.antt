@@ -1,5 +1,5 @@
 -- Workers that end one after another, and the lanes meanwhile.
-use Rattle.std.proofs.Common.{◌≡◌, ℕ, zero, suc, ◌+◌, ◌<◌, ◌≤◌, List, [], ◌∷◌, ◌++◌, All, map, length, take, drop, get_or, Option, Some, slice_get, IsPermutation, refl, sym, ap, ◌∙◌, subst, append_assoc, append-nil, arith, add-one}
+use Rattle.std.proofs.Common.{◌≡◌, Bool, ℕ, zero, suc, ◌+◌, ◌<◌, ◌≤◌, List, [], ◌∷◌, ◌++◌, All, map, length, take, drop, get_or, Option, Some, slice_get, IsPermutation, refl, sym, ap, ◌∙◌, subst, append_assoc, append-nil, arith, add-one}
 use Rattle.std.specs.List.{range_with_len, AllZip}
 use Rattle.std.proofs.lemmas.List.Elements.{All-nil, All-cons, All-head, All-tail, All-push, All-weaker}
 use Rattle.std.proofs.lemmas.List.{length_push}
@@ -186,7 +186,7 @@ taken_before done lefts n passed (l ∷ ls) (m ∷ now) all first =
     All-cons (IsFirstOf n passed) l ls (one.0, ap (λ g. of by_shard n g ++ one.0) (sym all.0.got) ∙ (one.1 ∙ ap (λ k. passed_to k passed) all.0.number))
     (taken_before done lefts n passed ls now all.1 (All-tail (IsFirstOf n passed) m now first))
 
-module _ {G : Type 0} (Holds : G → List Passed → Type 0) where
+module _ {G : Type 0} (Holds : G → List Passed → Bool → Type 0) where
   -- the same of other lanes, that took no other answers
   other_lanes : (ls ks : List LaneParts) → ((n : ℕ) (passed : List Passed) → All (IsFirstOf n passed) ls → All (IsFirstOf n passed) ks) → (w : WorkerParts) (gate : G) → HasPassed (Holds gate) ls w → HasPassed (Holds gate) ks w
   other_lanes ls ks same w gate h = record { passed = h.passed; are = h.are; gate = h.gate; taken = same w.shard.number h.passed h.taken }
@@ -197,7 +197,7 @@ module _ {G : Type 0} (Holds : G → List Passed → Type 0) where
   all_other_lanes ls ks same (w ∷ ws) [] h = absurd h
   all_other_lanes ls ks same (w ∷ ws) (gate ∷ gates) h = (other_lanes ls ks same w gate h.0, all_other_lanes ls ks same ws gates h.1)
 
-pub one_gate_more : {G : Type 0} (Holds : G → List Passed → Type 0) (lanes : List LaneParts) (w : WorkerParts) (gates after : List G) (n m : ℕ) → length gates ≡ n → m ≡ n + 1 → IsNextGate Holds lanes w gates after → length after ≡ m
+pub one_gate_more : {G : Type 0} (Holds : G → List Passed → Bool → Type 0) (lanes : List LaneParts) (w : WorkerParts) (gates after : List G) (n m : ℕ) → length gates ≡ n → m ≡ n + 1 → IsNextGate Holds lanes w gates after → length after ≡ m
 one_gate_more Holds lanes w gates after n m long more one = let pushed = ap length one.pushed ∙ length_push gates one.gate in omega (arith, pushed, long, more)
 
 -- one more gate, which began as its worker says
@@ -274,7 +274,7 @@ module _ (ws : List WorkerParts) (ls : List LaneParts) (n : ℕ) (now : List Lan
         one_longer (y ∷ xs) x zero e = cc
         one_longer (y ∷ xs) x (suc k) e = ap suc (one_longer xs x k (omega arith))
 
-    pub one_passed : {G : Type 0} (Holds : G → List Passed → Type 0) (m : ℕ) (gates after : List G) → m ≡ n + 1 → HavePassed Holds ls (take n ws) gates → IsNextGate Holds now w gates after → HavePassed Holds ls (take m ws) after
+    pub one_passed : {G : Type 0} (Holds : G → List Passed → Bool → Type 0) (m : ℕ) (gates after : List G) → m ≡ n + 1 → HavePassed Holds ls (take n ws) gates → IsNextGate Holds now w gates after → HavePassed Holds ls (take m ws) after
     one_passed Holds m gates after more so_far one = subst (λ k. HavePassed Holds ls (take k ws) after) (sym (more ∙ add-one n))
         (subst (λ d. HavePassed Holds ls d after) (sym (take_here n ws w lt is))
         (subst (λ a. HavePassed Holds ls (take n ws ++ w ∷ []) a) (sym one.pushed)
@@ -340,7 +340,7 @@ module _ (ws : List WorkerParts) (ls : List LaneParts) (n : ℕ) (now : List Lan
     pub answered_end : (before : List LaneParts) → IsPermutation before ls → All (λ (l : LaneParts). All (IsAnswered l) ws) before
     answered_end before moved = All-permutation AreAnswered ls before (IsPermutation-sym before ls moved) (all_told ls now lanes_end)
 
-    pub gates_end : {G : Type 0} (Holds : G → List Passed → Type 0) (gates : List G) (before : List LaneParts) → IsPermutation before ls → HavePassed Holds ls (take n ws) gates → HavePassed Holds before ws gates
+    pub gates_end : {G : Type 0} (Holds : G → List Passed → Bool → Type 0) (gates : List G) (before : List LaneParts) → IsPermutation before ls → HavePassed Holds ls (take n ws) gates → HavePassed Holds before ws gates
     gates_end Holds gates before moved so_far =
         all_other_lanes Holds ls before (λ k passed. All-permutation (IsFirstOf k passed) ls before (IsPermutation-sym before ls moved)) ws gates (subst (λ d. HavePassed Holds ls d gates) every so_far)
 

@@ -1,5 +1,5 @@
 -- Lanes and a worker that give their ways to each other back.
-use Rattle.std.proofs.Common.{◌≡◌, ℕ, zero, suc, ◌+◌, ◌<◌, ◌≤◌, List, [], ◌∷◌, ◌++◌, All, map, length, take, drop, get_or, set, Some, slice_get, refl, sym, ap, ◌∙◌, subst, append_assoc, arith, add-one, below_more}
+use Rattle.std.proofs.Common.{◌≡◌, Bool, ℕ, zero, suc, ◌+◌, ◌<◌, ◌≤◌, List, [], ◌∷◌, ◌++◌, All, map, length, take, drop, get_or, set, Some, slice_get, refl, sym, ap, ◌∙◌, subst, append_assoc, arith, add-one, below_more}
 use Rattle.std.proofs.lemmas.List.Elements.{All-nil, All-cons, All-head, All-tail}
 use Rattle.std.proofs.lemmas.List.FromFn.{length-range_with_len}
 use Rattle.std.specs.List.{range_with_len}
@@ -284,7 +284,7 @@ module _ (w : WorkerParts) (ls : List LaneParts) (next : IsNext w ls) (i : ℕ) 
           (subst (λ n. IsPrefix (of by_shard n l.answers.got) (answers_for k w.shard)) number
           (taken.0 ++ held_for k w.held, sym (append_assoc (of by_shard way.number l.answers.got) taken.0 (held_for k w.held)) ∙ (ap (λ x. x ++ held_for k w.held) taken.1 ∙ told)))
 
-  pub all_passed : (Holds : List Passed → Type 0) → IsGated Holds w.shard w.shut w.lanes → HasPassed Holds ls w
+  pub all_passed : (Holds : List Passed → Bool → Type 0) → IsGated Holds w.shard w.shut w.lanes → HasPassed Holds ls w
   all_passed Holds gated = record {
     passed = gated.passed;
     are = gated.are;

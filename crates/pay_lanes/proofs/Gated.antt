@@ -1,5 +1,5 @@
 -- What gates have let pass.
-use Rattle.std.proofs.Common.{◌≡◌, ℕ, eqb, Bool, true, false, if◌then◌else◌, List, [], ◌∷◌, ◌++◌, length, zip, Option, Some, None, slice_get, refl, sym, ap, ◌∙◌, subst, append-nil, arith}
+use Rattle.std.proofs.Common.{◌≡◌, ℕ, eqb, Bool, true, false, not, if◌then◌else◌, List, [], ◌∷◌, ◌++◌, length, zip, Option, Some, None, slice_get, refl, sym, ap, ◌∙◌, subst, append-nil, arith}
 use Rattle.std.proofs.lemmas.List.{map_push, length-map}
 use mathlib.Core.List.{IsPrefix}
 use Rattle.pay_mailbox.specs.Words.{SenderParts}
@@ -43,8 +43,8 @@ sent_all s ways told lane way at = sym (append-nil way.sent) ∙ ((told lane way
 
 -- ---- a worker's gate
 
-module _ (Holds : List Passed → Type 0) where
-  pub none_passed : (s : ShardParts) (ways : List (SenderParts Answer)) → s.journal ≡ [] → Holds [] → IsGated Holds s false ways
+module _ (Holds : List Passed → Bool → Type 0) where
+  pub none_passed : (s : ShardParts) (ways : List (SenderParts Answer)) → s.journal ≡ [] → Holds [] false → IsGated Holds s false ways
   none_passed s ways none holds = record {
     passed = [];
     are = ap (λ j. zip (entries_of j) (answers_given s)) none;
@@ -62,24 +62,24 @@ module _ (Holds : List Passed → Type 0) where
     sent = λ yes lane way at. cc;
   }
 
-  pub holds_all : (s t : ShardParts) (shut : Bool) (ways : List (SenderParts Answer)) (room : ℕ) → t ≡ with_room s room → shut ≡ false → IsGated Holds s shut ways → Holds (all_answered t)
+  pub holds_all : (s t : ShardParts) (shut : Bool) (ways : List (SenderParts Answer)) (room : ℕ) → t ≡ with_room s room → shut ≡ false → IsGated Holds s shut ways → Holds (all_answered t) false
   holds_all s t true ways room same is_open g = cc
-  holds_all s t false ways room same is_open g = subst Holds (sym g.are ∙ ap all_answered (sym same)) g.gate
+  holds_all s t false ways room same is_open g = subst (λ ps. Holds ps false) (sym g.are ∙ ap all_answered (sym same)) g.gate
 
   -- the gate did not let the answer pass
   pub now_shut : (s t : ShardParts) (item : Item) (answer : Answer) (ways : List (SenderParts Answer)) (passes : Bool) → HasAnswered s item answer t → AreTold s None ways → passes ≡ false
-      → Holds (all_answered s ++ passing passes item.entry answer) → IsGated Holds t true ways
+      → Holds (all_answered s ++ passing passes item.entry answer) (not passes) → IsGated Holds t true ways
   now_shut s t item answer ways true h told off holds = cc
   now_shut s t item answer ways false h told off holds = record {
     passed = all_answered s;
     are = ((item.entry, answer), one_more_answered s t item answer h);
-    gate = subst Holds (append-nil (all_answered s)) holds;
+    gate = subst (λ ps. Holds ps true) (append-nil (all_answered s)) holds;
     sent = λ yes. sent_all s ways told;
   }
 
   -- it did
   pub now_passed : (s t : ShardParts) (item : Item) (answer : Answer) (ways : List (SenderParts Answer)) (shut passes : Bool) → HasAnswered s item answer t → shut ≡ false → passes ≡ true
-      → Holds (all_answered s ++ passing passes item.entry answer) → IsGated Holds t shut ways
+      → Holds (all_answered s ++ passing passes item.entry answer) (not passes) → IsGated Holds t shut ways
   now_passed s t item answer ways true passes h is_open lets holds = cc
   now_passed s t item answer ways false false h is_open lets holds = cc
   now_passed s t item answer ways false true h is_open lets holds = record {

@@ -1,5 +1,6 @@
 -- Worked rows: three commands of the lanes 0 and 1, which one shard answers.
 use Rattle.std.proofs.Common.{◌≡◌, ℕ, List, [], ◌∷◌, Some, false, refl}
+use Rattle.std.specs.List.{IsDistinct}
 use Rattle.pay_mailbox.specs.Words.{MailboxParts, sender_of, receiver_of, having_got}
 use Rattle.pay_shard.specs.declared.asked.Asked.{Asked}
 use Rattle.pay_shard.specs.declared.asked.Asked.TheVariants as asked
@@ -8,7 +9,7 @@ use Rattle.pay_shard.specs.declared.item.Item.{Item}
 use Rattle.pay_shard.specs.declared.reply.Answer.{Answer}
 use Rattle.pay_shard.specs.declared.reply.Reply.TheVariants as replies
 use Rattle.pay_lanes.specs.Parts.{LaneParts, shard_of, unanswered, having_asked, having_taken}
-use Rattle.pay_lanes.specs.Working.{at_lane, held_for}
+use Rattle.pay_lanes.specs.Working.{at_lane, held_for, all_sent, AreSingle}
 
 abbrev due : Asked
 due = asked.Due 7 19_730
@@ -66,6 +67,13 @@ module _ (m n o : MailboxParts) where
     next = 3;
   }
 
+  pub three_sent : all_sent lane.shards ≡ entry 1 0 ∷ entry 1 1 ∷ entry 1 2 ∷ []
+  three_sent = refl
+
+  pub three_single : AreSingle (all_sent lane.shards)
+  unfolding IsDistinct
+  three_single = ((refl, (refl, tt)), ((refl, tt), (tt, tt)))
+
   pub two_unanswered : unanswered lane ≡ 2
   two_unanswered = refl
 
@@ -80,3 +88,8 @@ module _ (m n o : MailboxParts) where
 
   pub takes : unanswered (having_taken lane (answer 1 1)) ≡ 1
   takes = refl
+
+-- the second of these tickets is given again
+pub given_twice : AreSingle (entry 1 0 ∷ entry 1 1 ∷ entry 1 1 ∷ []) → ⊥
+unfolding IsDistinct
+given_twice single = let off = single.1.0.0 in absurd (cc)

@@ -24,25 +24,27 @@ abbrev pub IsLetPass : ShardParts → Bool → List Passed → Type 0
 IsLetPass s false passed = all_answered s ≡ passed
 IsLetPass s true passed = (last : Passed) × (all_answered s ≡ passed ++ last ∷ [])
 
--- The gate of a worker holds what was let pass; and where the worker is shut, it has sent all of that to the lanes, and nothing else.
-pub record IsGated (Holds : List Passed → Type 0) (s : ShardParts) (shut : Bool) (ways : List (SenderParts Answer)) : Type 0 where
+-- The gate of a worker holds what was let pass, and that it then refused one more, exactly if the worker is shut: all that was let pass has been
+-- sent to the lanes then, and nothing else.
+pub record IsGated (Holds : List Passed → Bool → Type 0) (s : ShardParts) (shut : Bool) (ways : List (SenderParts Answer)) : Type 0 where
   pub passed : List Passed
   pub are : IsLetPass s shut passed
-  pub gate : Holds passed
+  pub gate : Holds passed shut
   pub sent : IsTrue shut → (lane : ℕ) (way : SenderParts Answer) → slice_get ways lane ≡ Some way → way.sent ≡ passed_to lane passed
 
 -- what a lane took from the shard of this number is the first of what was let pass to it
 abbrev pub IsFirstOf : ℕ → List Passed → LaneParts → Type 0
 IsFirstOf shard passed l = IsPrefix (of by_shard shard l.answers.got) (passed_to l.number passed)
 
--- The gate of a worker holds what was let pass, and each lane took the first of that.
-pub record HasPassed (Holds : List Passed → Type 0) (lanes : List LaneParts) (w : WorkerParts) : Type 0 where
+-- The gate of a worker holds what was let pass, and that it then refused one more, exactly if the worker is shut. Each lane took the first of what
+-- was let pass.
+pub record HasPassed (Holds : List Passed → Bool → Type 0) (lanes : List LaneParts) (w : WorkerParts) : Type 0 where
   pub passed : List Passed
   pub are : IsLetPass w.shard w.shut passed
-  pub gate : Holds passed
+  pub gate : Holds passed w.shut
   pub taken : All (IsFirstOf w.shard.number passed) lanes
 
-module _ {G : Type 0} (Holds : G → List Passed → Type 0) (lanes : List LaneParts) where
+module _ {G : Type 0} (Holds : G → List Passed → Bool → Type 0) (lanes : List LaneParts) where
   -- each worker has such a gate
   abbrev pub HavePassed : List WorkerParts → List G → Type 0
   HavePassed workers gates = AllZip (λ w gate. HasPassed (Holds gate) lanes w) workers gates

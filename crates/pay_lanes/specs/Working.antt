@@ -1,5 +1,6 @@
 -- What a lane and a worker keep.
-use Rattle.std.specs.Prelude.{◌≡◌, ℕ, ◌+◌, ◌<◌, eqb, Bool, if◌then◌else◌, List, [], ◌∷◌, ◌++◌, All, length, map, Option, Some, None, IfSome, slice_get, ⊤}
+use Rattle.std.specs.Prelude.{◌≡◌, ℕ, ◌+◌, ◌<◌, ◌==◌, eqb, Bool, if◌then◌else◌, List, [], ◌∷◌, ◌++◌, All, length, map, Option, Some, None, IfSome, slice_get, ⊤}
+use Rattle.std.specs.List.{IsDistinct}
 use Rattle.pay_mailbox.specs.Words.{MailboxParts, SenderParts}
 use Rattle.pay_shard.specs.Words.{ShardParts, answers_given, item_of, with_item, IsAskedOf}
 use Rattle.pay_shard.specs.declared.item.Entry.{Entry}
@@ -58,6 +59,15 @@ pub record IsWorking (w : WorkerParts) : Type 0 where
 -- what a lane of this number sends it sends as itself, and under tickets below that of the next
 abbrev pub IsOwn : ℕ → ℕ → SenderParts Entry → Type 0
 IsOwn number next s = (s.number ≡ number) × All (λ (entry : Entry). entry.ticket < next) s.sent
+
+-- all that was sent, shard by shard
+abbrev pub all_sent : List (SenderParts Entry) → List Entry
+all_sent [] = []
+all_sent (s ∷ senders) = s.sent ++ all_sent senders
+
+-- no two entries are under one ticket
+abbrev pub AreSingle : List Entry → Type 0
+AreSingle entries = IsDistinct (λ (x y : Entry). y.ticket == x.ticket) entries
 
 -- each answer is to a ticket below that of the next, or none is given any more
 abbrev pub AreGiven : ℕ → List Answer → Type 0

@@ -74,6 +74,7 @@ pub fn put_in_order(lanes: &mut Vec<Lane>, count: usize) -> bool
 }
 
 /// Takes the first way of a lane, and gives the way to it back.
+#[tactic(auto, using(crate::proofs::Owned::single_rest))]
 fn exchange(lane: &mut Lane, way: Outbox<Answer, ByShard>) -> Outbox<Entry, ByLane>
     requires some { 0 < length lane.old.shards }
     requires own { way.mailbox ≡ lane.old.answers.mailbox }
@@ -166,7 +167,8 @@ pub fn end<F: Fares, G: Gate, R: Wait>(
     // What each lane took from a shard is the first of what the run of its journal answers at the lane's items.
     ensures answered { OnOk result (All (λ l. All (IsAnswered l) workers.items) lanes.items) }
 
-    // Each gate holds what it let pass of that run, and what a lane took is the first of that. It began with what it began with.
+    // Each gate holds what it let pass of that run, and that it then refused one more, exactly if its worker is shut. What a lane took is
+    // the first of what was let pass. It began with what it began with.
     ensures gates { IfOk result (λ ended. HavePassed G.Holds lanes.items workers.items ended.gates.items) }
     ensures began { IfOk result (λ ended. each G.began ended.gates.items ≡ began_of workers.items) }
 {

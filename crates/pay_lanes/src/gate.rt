@@ -1,4 +1,4 @@
-ghost use Rattle.std.specs.Prelude.{◌≡◌, ℕ, List, ◌++◌, Option};
+ghost use Rattle.std.specs.Prelude.{◌≡◌, ℕ, Bool, false, not, List, ◌++◌, Option};
 ghost use Rattle.pay_lanes.specs.Passing.{Passed, passing};
 
 use pay_shard::{Answer, Entry};
@@ -7,21 +7,21 @@ use std::sync::Wait;
 /// What a worker passes with each entry: once the entry is popped and before it is applied, and once more with the answer,
 /// before its lane can have it. It changes nothing of the answer.
 pub trait Gate: Drop {
-    /// Since it began it has let pass just these entries with their answers, in order.
-    ghost Holds: { Self → List Passed → Type 0 };
+    /// Since it began it has let pass just these entries with their answers, in order; then it refused one more, or did not.
+    ghost Holds: { Self → List Passed → Bool → Type 0 };
 
     /// The bytes that stood behind it when it began, if they are known. These stay the same.
     ghost began: { Self → Option (List ℕ) };
 
     /// Is called by the worker of this shard.
     fn before_job<R: Wait>(&mut self, rt: &R, shard: u8, entry: &Entry)
-        ensures same { (passed : List Passed) → Holds self.old passed → Holds self.new passed }
+        ensures same { (passed : List Passed) → Holds self.old passed false → Holds self.new passed false }
         ensures began { began self.new ≡ began self.old };
 
     /// Is called with each answer, before its lane can have it. Where it says false the answer is held for good, and the worker takes no
     /// more entries.
     fn after_job<R: Wait>(&mut self, rt: &R, entry: &Entry, answer: &Answer) -> bool
-        ensures passed { (passed : List Passed) → Holds self.old passed → Holds self.new (passed ++ passing result entry.now answer.now) }
+        ensures passed { (passed : List Passed) → Holds self.old passed false → Holds self.new (passed ++ passing result entry.now answer.now) (not result) }
         ensures began { began self.new ≡ began self.old };
 }
 
@@ -30,9 +30,9 @@ pub trait Gate: Drop {
 pub struct OpenGate;
 
 impl Gate for OpenGate {
-    ghost use Rattle.std.specs.Prelude.{⊤, None};
+    ghost use Rattle.std.specs.Prelude.{◌≡◌, false, None};
 
-    ghost Holds = { λ _ _. ⊤ };
+    ghost Holds = { λ _ _ shut. shut ≡ false };
 
     ghost began = { λ _. None };
 

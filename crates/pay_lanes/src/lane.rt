@@ -4,7 +4,7 @@ ghost use Rattle.pay_mailbox.specs.Words.{HasAll};
 ghost use Rattle.pay_shard.specs.Words.{IsForShards};
 ghost use Rattle.pay_lanes.specs.Openings.{IsNewSender};
 ghost use Rattle.pay_lanes.specs.Parts.{shard_of, unanswered, having_asked, having_taken, WasFullAt};
-ghost use Rattle.pay_lanes.specs.Working.{IsOwn, IsSameLane};
+ghost use Rattle.pay_lanes.specs.Working.{IsOwn, all_sent, AreSingle, IsSameLane};
 ghost use Rattle.pay_lanes.specs.Turns.{by_lane, by_shard};
 ghost use Rattle.pay_lanes.specs.declared.lane.SendFault.TheVariants.{Window, Busy};
 ghost use Rattle.pay_lanes.specs.declared.limits.TheConstants.{WINDOW, MOST_TICKETS};
@@ -49,7 +49,7 @@ pub struct Lane {
 impl Model for Lane {
     ghost use Rattle.std.specs.Prelude.{◌≡◌, ◌≤◌, ◌-◌, ◌^◌, All, length, min};
     ghost use Rattle.pay_lanes.specs.Parts.{LaneParts, lane_code};
-    ghost use Rattle.pay_lanes.specs.Working.{IsOwn, AreGiven};
+    ghost use Rattle.pay_lanes.specs.Working.{IsOwn, all_sent, AreSingle, AreGiven};
     ghost use Rattle.pay_lanes.specs.declared.limits.TheConstants.{MOST_TICKETS};
 
     ghost Value = { LaneParts };
@@ -59,6 +59,7 @@ impl Model for Lane {
     ghost view = { λ l. record { number = l.number; shards = l.shards.items; answers = l.answers; tickets = l.tickets; next = l.next } };
 
     ghost invariant = { λ l. All (IsOwn l.number l.next) l.shards.items
+        × AreSingle (all_sent l.shards.items)
         × AreGiven l.next l.answers.got
         × (l.tickets ≤ l.next)
         × (l.taken ≡ min (length l.answers.got) (2 ^ 64 - 1)) };
@@ -98,10 +99,11 @@ impl Lane {
         }
     }
 
-    /// Its number. What it sent it sent under that, and under tickets below that of the next.
+    /// Its number. What it sent it sent under that, and under tickets below that of the next, no two under one.
     pub fn number(&self) -> u8
         ensures value { result ≡ self.now.number }
         ensures own { All (IsOwn self.now.number self.now.next) self.now.shards }
+        ensures single { AreSingle (all_sent self.now.shards) }
     {
         self.number
     }

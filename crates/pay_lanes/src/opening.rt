@@ -1,5 +1,5 @@
 //! Makes lanes and workers, with the queues between them.
-ghost use Rattle.std.specs.Prelude.{◌≡◌, ◌<◌, ◌≤◌, ◌↔◌, [], All, length, map as each, vec_items, Err, IfOk, OnOk};
+ghost use Rattle.std.specs.Prelude.{◌≡◌, ◌<◌, ◌≤◌, ◌↔◌, false, [], All, length, map as each, vec_items, Err, IfOk, OnOk};
 ghost use Rattle.std.specs.Arc.{arc_value};
 ghost use Rattle.std.specs.List.{range_with_len, AllZip};
 ghost use Rattle.pay_lanes.specs.Ends.{numbers, AreTogether};
@@ -133,7 +133,7 @@ fn worker<F: Fares, G: Gate>(
 ) -> Result<Worker<F, G>, AllocError>
     requires requests { IsReady MOST_REQUESTS (length lanes.items) requests }
     requires lanes { All (IsNewSender number) lanes.items }
-    requires gate { G.Holds gate [] }
+    requires gate { G.Holds gate [] false }
     ensures number { IfOk result (λ made. made.shard.number ≡ number) }
     ensures requests { IfOk result (λ made. made.requests ≡ requests) }
     ensures lanes { IfOk result (λ made. made.lanes ≡ lanes.items) }
@@ -159,7 +159,7 @@ fn all_workers<F: Fares, G: Gate>(
 ) -> Result<Vec<Worker<F, G>>, AllocError>
     requires few { length requests.items ≤ MOST_SHARDS }
     requires gates { length gates.items ≡ length requests.items }
-    requires none { All (λ gate. G.Holds gate []) gates.items }
+    requires none { All (λ gate. G.Holds gate [] false) gates.items }
     requires requests { AllZip (λ senders r. IsReady MOST_REQUESTS (length senders) r) (each vec_items lanes.items) requests.items }
     requires lanes { AreNewSenders 0 (each vec_items lanes.items) }
     ensures numbers { IfOk result (λ made. shard_numbers made.items ≡ range_with_len 0 (length requests.items)) }
@@ -186,7 +186,7 @@ pub fn open<F: Fares, G: Gate>(
     lanes: u8,
     gates: Vec<G>,
 ) -> Result<Opened<F, G>, OpenFault>
-    requires { All (λ gate. G.Holds gate []) gates.items }
+    requires { All (λ gate. G.Holds gate [] false) gates.items }
     ensures count { (result ≡ Err Count) ↔ IsOutOfCount shards lanes (length gates.items) }
     ensures workers { IfOk result (λ opened. shard_numbers opened.workers.items ≡ range_with_len 0 shards) }
     ensures new_workers { IfOk result (λ opened. All (IsNewWorker (arc_value tables) lanes) opened.workers.items) }

@@ -125,7 +125,7 @@ fn answer<F: Fares, G: Gate, R: Wait>(
     requires lane { entry.lane < length lanes.old.items }
     requires told { AreTold shard.old None lanes.old.items }
     requires not_shut { shut.old ≡ false }
-    requires gate { G.Holds gate.old (all_answered shard.old) }
+    requires gate { G.Holds gate.old (all_answered shard.old) false }
     ensures item { HasItem shard.old entry shard.new }
     ensures told { AreTold shard.new result lanes.new.items }
     ensures held { IfSome result (IsOfferable lanes.new.items) }
@@ -156,7 +156,7 @@ impl<F: Fares, G: Gate> Worker<F, G> {
         requires shard { shard.journal ≡ [] }
         requires requests { (requests.got ≡ []) × (requests.made ≡ length lanes.items) }
         requires lanes { All (IsNewSender shard.number) lanes.items }
-        requires gate { G.Holds gate [] }
+        requires gate { G.Holds gate [] false }
         requires left { (left.items ≡ []) × (requests.mailbox.capacity ≤ vec_capacity left) }
         requires gates { (gates.items ≡ []) × (MOST_JOURNALS ≤ vec_capacity gates) }
         ensures { result ≡ record { shard = shard; requests = requests; lanes = lanes.items; held = None; shut = false; began = G.began gate } }

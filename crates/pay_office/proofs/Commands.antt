@@ -1,13 +1,15 @@
 -- The commands that a lane sent, by ticket.
-use Rattle.std.proofs.Common.{◌≡◌, ℕ, zero, suc, ◌+◌, ◌-◌, ◌<◌, ◌≤◌, ◌==◌, cond, Bool, true, false, if◌then◌else◌, List, [], ◌∷◌, ◌++◌, All, length, Option, Some, None, refl, sym, ap, ◌∙◌, subst, append_assoc, append-nil, arith, eq-eqb, eqb-true, add-one}
-use Rattle.std.specs.List.{AllByRecursion, find}
-use Rattle.std.proofs.lemmas.List.Elements.{All-head, All-tail}
-use Rattle.pay_mailbox.specs.Words.{SenderParts}
+use Rattle.std.proofs.Common.{◌≡◌, inl, inr, ℕ, zero, suc, ◌+◌, ◌-◌, ◌<◌, ◌≤◌, ◌==◌, cond, Bool, true, false, if◌then◌else◌, List, [], ◌∷◌, ◌++◌, All, length, Option, Some, None, refl, sym, ap, ◌∙◌, subst, append-nil, arith, eq-eqb, eqb-true, add-one}
+use Rattle.std.specs.List.{AllByRecursion, IsDistinct, find}
+use Rattle.std.proofs.lemmas.Bool.{cases_lt}
 use Rattle.pay_shard.specs.Words.{IsAfterAll, command_under}
 use Rattle.pay_shard.specs.declared.asked.Asked.{Asked}
 use Rattle.pay_shard.specs.declared.item.Entry.{Entry}
-use Rattle.pay_lanes.specs.Parts.{LaneParts, sent_at, shard_of, next_entry, having_asked}
-use Rattle.pay_office.specs.Waits.{all_sent, entry_under, command_beside, commands_below, commands_sent, AreBelow}
+use Rattle.pay_lanes.specs.Parts.{LaneParts, shard_of, next_entry, having_asked}
+use Rattle.pay_lanes.specs.Working.{IsOwn, all_sent, AreSingle}
+use Rattle.pay_lanes.proofs.Owned.{other, other_too, all_before}
+use Rattle.pay_lanes.proofs.Sent.{split}
+use Rattle.pay_office.specs.Waits.{entry_under, command_beside, commands_below, commands_sent, NoneIsHidden, AreBelow}
 
 -- ---- the first that passes a test
 
@@ -45,21 +47,6 @@ module _ {X : Type 0} (test : X → Bool) where
 
 -- ---- tickets
 
--- no test of another ticket is passed
-pub other : (a b : ℕ) → a < b → (a == b) ≡ false
-other a b less = by (a == b) refl
-  where
-    by : (c : Bool) → (a == b) ≡ c → c ≡ false
-    by true same = let is = eqb-true a b same in absurd (omega (arith, is, less))
-    by false off = refl
-
-pub other_too : (a b : ℕ) → b < a → (a == b) ≡ false
-other_too a b less = by (a == b) refl
-  where
-    by : (c : Bool) → (a == b) ≡ c → c ≡ false
-    by true same = let is = eqb-true a b same in absurd (omega (arith, is, less))
-    by false off = refl
-
 none_at : (next ticket : ℕ) (entries : List Entry) → AreBelow next entries → next ≤ ticket → AllByRecursion (λ (e : Entry). (e.ticket == ticket) ≡ false) entries
 none_at next ticket [] below far = tt
 none_at next ticket (e ∷ entries) below far = (let less = below.0 in other e.ticket ticket (omega (arith, less, far)), none_at next ticket entries below.1 far)
@@ -81,33 +68,8 @@ one_below n front back e is below =
     (λ i. same_below n front back e (omega (arith, is)) i
     ++ command_beside n (find_here (λ (x : Entry). x.ticket == n) front e back (none_at n n front (below_front n front back below) (omega arith)) (eq-eqb e.ticket n is) i))
 
-pub record Split (before after : List Entry) (e : Entry) : Type 0 where
-  pub front : List Entry
-  pub back : List Entry
-  pub was : before ≡ front ++ back
-  pub now : after ≡ front ++ e ∷ back
-
-split : (place : ℕ) (e : Entry) (xs : List (SenderParts Entry)) → place < length xs → Split (all_sent xs) (all_sent (sent_at place e xs)) e
-split place e [] there = absurd (omega (arith, there))
-split zero e (s ∷ xs) there = record { front = s.sent; back = all_sent xs; was = refl; now = append_assoc s.sent (e ∷ []) (all_sent xs) }
-split (suc place) e (s ∷ xs) there =
-    let rest = split place e xs (omega (arith, there)) in record {
-      front = s.sent ++ rest.front;
-      back = rest.back;
-      was = ap (λ l. s.sent ++ l) rest.was ∙ sym (append_assoc s.sent rest.front rest.back);
-      now = ap (λ l. s.sent ++ l) rest.now ∙ sym (append_assoc s.sent rest.front (e ∷ rest.back));
-    }
-
--- what each sender sent, all of it
-pub all_below : (next : ℕ) (xs : List (SenderParts Entry)) → All (λ (s : SenderParts Entry). All (λ (e : Entry). e.ticket < next) s.sent) xs → AreBelow next (all_sent xs)
-all_below next [] all = tt
-all_below next (s ∷ xs) all =
-    both s.sent (all_sent xs) (All-head (λ (t : SenderParts Entry). All (λ (e : Entry). e.ticket < next) t.sent) s xs all)
-    (all_below next xs (All-tail (λ (t : SenderParts Entry). All (λ (e : Entry). e.ticket < next) t.sent) s xs all))
-  where
-    both : (es fs : List Entry) → All (λ (e : Entry). e.ticket < next) es → AreBelow next fs → AreBelow next (es ++ fs)
-    both [] fs all rest = rest
-    both (e ∷ es) fs all rest = (All-head (λ (e : Entry). e.ticket < next) e es all, both es fs (All-tail (λ (e : Entry). e.ticket < next) e es all) rest)
+pub own_below : (l : LaneParts) → All (IsOwn l.number l.next) l.shards → AreBelow l.next (all_sent l.shards)
+own_below l own = all_before l.number l.next l.shards own
 
 below_more : (n : ℕ) (es : List Entry) → AreBelow n es → AreBelow (n + 1) es
 below_more n [] below = tt
@@ -189,3 +151,46 @@ under_last ticket a [] after = ap (λ (b : Bool). if b then Some a else None) (e
 under_last ticket a (t ∷ ts) after =
     let less = after.0 in
     ap (λ (b : Bool). if b then Some t.1 else command_under ticket (ts ++ (ticket, a) ∷ [])) (other t.0 ticket less) ∙ under_last ticket a ts after.1
+
+-- ---- none is hidden
+
+under_below : (n ticket : ℕ) (es : List Entry) (e : Entry) → ticket < n → entry_under ticket es ≡ Some e → command_under ticket (commands_below n es) ≡ Some e.command
+under_below zero ticket es e less found = absurd (omega (arith, less))
+under_below (suc n) ticket es e less found = elim (cases_lt ticket n) [
+  | inl before ↦ under_kept ticket (commands_below n es) (command_beside n (entry_under n es)) e.command (under_below n ticket es e before found)
+  | inr behind ↦ (let here : ticket ≡ n = omega (arith, less, behind) in subst (λ t. command_under t (commands_below (suc n) es) ≡ Some e.command) (sym here) (last (subst (λ t. entry_under t es ≡ Some e) here found)))
+]
+  where
+    last : entry_under n es ≡ Some e → command_under n (commands_below (suc n) es) ≡ Some e.command
+    last its = ap (λ o. command_under n (commands_below n es ++ command_beside n o)) its ∙ under_last n e.command (commands_below n es) (after_all n es)
+
+pub not_its : (x y : ℕ) → (x == y) ≡ false → (y == x) ≡ false
+not_its x y off = by (y == x) refl
+  where
+    by : (b : Bool) → (y == x) ≡ b → b ≡ false
+    by true same = let is = eq-eqb x y (sym (eqb-true y x same)) in absurd (cc)
+    by false e = refl
+
+abbrev IsFirst : List Entry → Entry → Type 0
+IsFirst entries e = entry_under e.ticket entries ≡ Some e
+
+-- behind an entry of another ticket
+behind_one : (x : Entry) (es entries : List Entry) → AllByRecursion (λ (y : Entry). (y.ticket == x.ticket) ≡ false) entries → AllByRecursion (IsFirst es) entries → AllByRecursion (IsFirst (x ∷ es)) entries
+behind_one x es [] off first = tt
+behind_one x es (e ∷ entries) off first = (
+  ap (λ (b : Bool). cond b (Some x) (entry_under e.ticket es)) (not_its e.ticket x.ticket off.0) ∙ first.0,
+  behind_one x es entries off.1 first.1,
+)
+
+-- each is the first under its ticket
+each_first : (es : List Entry) → AreSingle es → AllByRecursion (IsFirst es) es
+unfolding IsDistinct
+each_first [] single = tt
+each_first (e ∷ es) single = (ap (λ (b : Bool). cond b (Some e) (entry_under e.ticket es)) (eq-eqb e.ticket e.ticket refl), behind_one e es es single.0 (each_first es single.1))
+
+pub none_hidden : (l : LaneParts) → All (IsOwn l.number l.next) l.shards → AreSingle (all_sent l.shards) → NoneIsHidden l
+none_hidden l own single = by (all_sent l.shards) (own_below l own) (each_first (all_sent l.shards) single)
+  where
+    by : (entries : List Entry) → AreBelow l.next entries → AllByRecursion (IsFirst (all_sent l.shards)) entries → AllByRecursion (λ (e : Entry). command_under e.ticket (commands_sent l) ≡ Some e.command) entries
+    by [] below first = tt
+    by (e ∷ entries) below first = (under_below l.next e.ticket (all_sent l.shards) e below.0 first.0, by entries below.1 first.1)

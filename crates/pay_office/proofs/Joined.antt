@@ -1,5 +1,5 @@
 -- An office that begins and ends.
-use Rattle.std.proofs.Common.{◌≡◌, ℕ, zero, suc, List, [], ◌∷◌, ◌++◌, All, map, length, IsPermutation, refl, sym, ap, ◌∙◌, subst, inl}
+use Rattle.std.proofs.Common.{◌≡◌, ℕ, zero, suc, Bool, List, [], ◌∷◌, ◌++◌, All, map, length, IsPermutation, refl, sym, ap, ◌∙◌, subst, inl}
 use Rattle.std.specs.List.{range_with_len, AllZip}
 use Rattle.std.proofs.lemmas.List.Elements.{All-head}
 use Rattle.std.proofs.lemmas.List.Sorted.{All-permutation, IsPermutation-sym, IsPermutation-refl}
@@ -86,7 +86,7 @@ module _ (office ws vs : List WorkerParts) (ls sorted : List LaneParts) (begun :
     };
   }
 
-  module _ {G : Type 0} (Holds : G → List Passed → Type 0) where
+  module _ {G : Type 0} (Holds : G → List Passed → Bool → Type 0) where
     any_order : (ws : List WorkerParts) (gates : List G) → HavePassed Holds sorted ws gates → HavePassed Holds ls ws gates
     any_order [] [] h = tt
     any_order [] (gate ∷ gates) h = absurd h

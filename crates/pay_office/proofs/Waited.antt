@@ -3,17 +3,18 @@ use Rattle.std.proofs.Common.{◌≡◌, inl, inr, ℕ, zero, suc, ◌+◌, ◌<
 use Rattle.std.specs.List.{AllByRecursion, IsDistinct, find, position, position_or_len, remove, refill, slice_index_or, slice_set}
 use Rattle.std.specs.Option.{is_none}
 use Rattle.std.proofs.lemmas.Bool.{lt-ltb, eqb-true, eq-eqb}
-use Rattle.std.proofs.lemmas.List.Elements.{All-head, All-tail, All-weaker}
+use Rattle.std.proofs.lemmas.List.Elements.{All-head, All-tail}
 use Rattle.pay_numbered.specs.Words.{IsIn}
 use Rattle.pay_shard.specs.Words.{IsNoneOf, without, command_under, IsReplyTo, AreKept}
 use Rattle.pay_shard.specs.declared.asked.Asked.{Asked}
 use Rattle.pay_shard.specs.declared.reply.Answer.{Answer}
 use Rattle.pay_shard.specs.declared.reply.Reply.{Reply}
 use Rattle.pay_lanes.specs.Parts.{LaneParts, shard_of, next_above, having_asked, having_taken}
-use Rattle.pay_lanes.specs.Words.{IsOwn}
-use Rattle.pay_office.specs.Waits.{all_sent, commands_below, commands_sent, AreBelow, answer_to, having_taken_all, HasTaken, tickets_of, IsWaiting, AreDistinct, AreWaiting, first_of, having_answer, waiting_without, IsToldOf, IsUntoldOf}
+use Rattle.pay_lanes.specs.Words.{IsOwn, all_sent}
+use Rattle.pay_lanes.proofs.Owned.{other, other_too}
+use Rattle.pay_office.specs.Waits.{commands_below, commands_sent, AreBelow, answer_to, having_taken_all, HasTaken, tickets_of, IsWaiting, AreDistinct, AreWaiting, first_of, having_answer, waiting_without, IsToldOf, IsUntoldOf}
 use Rattle.pay_office.specs.declared.waiting.Waiting.{Waiting}
-use Rattle.pay_office.proofs.Commands.{find_none, find_kept, find_passes, other, other_too, all_below, sent_below, below_later, commands_put, commands_later, after_all, under_kept, under_last}
+use Rattle.pay_office.proofs.Commands.{find_none, find_kept, find_passes, not_its, own_below, sent_below, below_later, commands_put, commands_later, after_all, under_kept, under_last}
 
 -- ---- an answer came
 
@@ -30,13 +31,6 @@ append_find test (x ∷ xs) a none = by (test x) (append_find test xs a) none
     by : (b : Bool) → (find test xs ≡ None → find test (xs ++ a ∷ []) ≡ find test (a ∷ [])) → cond b (Some x) (find test xs) ≡ None → cond b (Some x) (find test (xs ++ a ∷ [])) ≡ find test (a ∷ [])
     by true rest none = absurd (cc)
     by false rest none = rest none
-
-not_its : (x y : ℕ) → (x == y) ≡ false → (y == x) ≡ false
-not_its x y off = by (y == x) refl
-  where
-    by : (b : Bool) → (y == x) ≡ b → b ≡ false
-    by true same = let is = eq-eqb x y (sym (eqb-true y x same)) in absurd (cc)
-    by false e = refl
 
 -- an answer to another ticket
 answer_other : (ticket : ℕ) (got : List Answer) (a : Answer) → (a.ticket == ticket) ≡ false → answer_to ticket (got ++ a ∷ []) ≡ answer_to ticket got
@@ -98,7 +92,7 @@ waiting_taken l now a ws left are is kept =
 
 pub none_waits : (l : LaneParts) (ws : List Waiting) → All (IsOwn l.number l.next) l.shards → ws ≡ [] → AreWaiting l ws
 unfolding IsDistinct
-none_waits l ws own none = subst (AreWaiting l) (sym none) (record { sent = all_below l.next l.shards (All-weaker (IsOwn l.number l.next) (λ s. All (λ e. e.ticket < l.next) s.sent) (λ s o. o.1) l.shards own); each = tt; distinct = tt })
+none_waits l ws own none = subst (AreWaiting l) (sym none) (record { sent = own_below l own; each = tt; distinct = tt })
 
 -- ---- more answers came
 

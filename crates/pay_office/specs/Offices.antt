@@ -1,5 +1,5 @@
 -- An office: its workers as they were when their threads began, and what stands when they have ended.
-use Rattle.std.specs.Prelude.{◌≡◌, List, All, length, map}
+use Rattle.std.specs.Prelude.{◌≡◌, Bool, List, All, length, map}
 use Rattle.std.specs.List.{AllZip}
 use Rattle.pay_shard.specs.declared.item.Entry.{Entry}
 use Rattle.pay_shard.specs.declared.item.Item.{Item}
@@ -43,7 +43,7 @@ pub record HasEnded (office : List WorkerParts) (lanes : List LaneParts) (journa
 
 -- An office of these workers has ended with these lanes and these gates: each holds what it let pass of what its journal's run answers, and what each
 -- lane took is the first of that.
-pub record HaveLetPass {G : Type 0} (Holds : G → List Passed → Type 0) (office : List WorkerParts) (lanes : List LaneParts) (journals : List (List Item)) (gates : List G) : Type 0 where
+pub record HaveLetPass {G : Type 0} (Holds : G → List Passed → Bool → Type 0) (office : List WorkerParts) (lanes : List LaneParts) (journals : List (List Item)) (gates : List G) : Type 0 where
   pub workers : List WorkerParts
   pub same : AllZip IsSameWorker office workers
   pub journals_are : journals ≡ map (λ (w : WorkerParts). w.shard.journal) workers

@@ -1,20 +1,14 @@
 -- Commands that wait at a desk over a lane, and the answers that the lane took.
 use Rattle.std.specs.Prelude.{◌≡◌, ℕ, zero, suc, ◌<◌, ◌==◌, cond, List, [], ◌∷◌, ◌++◌, map, Option, Some, None, refl}
 use Rattle.std.specs.List.{AllByRecursion, IsDistinct, find}
-use Rattle.pay_mailbox.specs.Words.{SenderParts}
 use Rattle.pay_shard.specs.Words.{command_under}
 use Rattle.pay_shard.specs.declared.asked.Asked.{Asked}
 use Rattle.pay_shard.specs.declared.item.Entry.{Entry}
 use Rattle.pay_shard.specs.declared.reply.Answer.{Answer}
-use Rattle.pay_lanes.specs.Words.{LaneParts, having_taken}
+use Rattle.pay_lanes.specs.Words.{LaneParts, having_taken, all_sent}
 use Rattle.pay_office.specs.declared.waiting.Waiting.{Waiting}
 
 -- ---- what a lane sent and took
-
--- all that was sent, shard by shard
-abbrev pub all_sent : List (SenderParts Entry) → List Entry
-all_sent [] = []
-all_sent (s ∷ senders) = s.sent ++ all_sent senders
 
 -- the first entry under a ticket
 abbrev pub entry_under : ℕ → List Entry → Option Entry
@@ -33,6 +27,10 @@ commands_below (suc ticket) entries = commands_below ticket entries ++ command_b
 -- the commands that a lane sent, each beside its ticket, in ascending order of ticket
 abbrev pub commands_sent : LaneParts → List (ℕ × Asked)
 commands_sent l = commands_below l.next (all_sent l.shards)
+
+-- Each entry that a lane sent stands among its commands, since no two are under one ticket.
+abbrev pub NoneIsHidden : LaneParts → Type 0
+NoneIsHidden l = AllByRecursion (λ (e : Entry). command_under e.ticket (commands_sent l) ≡ Some e.command) (all_sent l.shards)
 
 -- the first of answers that is to a ticket
 abbrev pub answer_to : ℕ → List Answer → Option Answer
@@ -102,3 +100,7 @@ IsUntoldOf ticket waiting = (answer : Answer) → IsToldOf ticket waiting answer
 -- two entries, of which that of the second shard was sent first
 two_sent : (first second : Asked) → commands_below 2 (record { lane = 3; ticket = 1; command = second } ∷ record { lane = 3; ticket = 0; command = first } ∷ []) ≡ (0, first) ∷ (1, second) ∷ []
 two_sent first second = refl
+
+-- of two entries under one ticket the second is hidden
+one_hidden : (first second : Asked) → commands_below 2 (record { lane = 3; ticket = 1; command = first } ∷ record { lane = 3; ticket = 1; command = second } ∷ []) ≡ (1, first) ∷ []
+one_hidden first second = refl

@@ -5,7 +5,7 @@ ghost use Rattle.pay_lanes.specs.Words.{IsSameLane};
 ghost use Rattle.pay_numbered.specs.Words.{IsIn};
 ghost use Rattle.pay_shard.specs.Words.{IsForShards, IsAfterAll, IsNoneOf, IsReplyTo, AreKept, with_waiting, without};
 ghost use Rattle.pay_shard.specs.declared.desk.DeskFault.TheVariants.{Busy, Late};
-ghost use Rattle.pay_office.specs.Waits.{commands_sent};
+ghost use Rattle.pay_office.specs.Waits.{commands_sent, NoneIsHidden};
 ghost use Rattle.pay_office.specs.LaneDesks.{desk_parts, refusal_of, MayRefuse, WasBusy, HasNoReply};
 
 use crate::waiting::{AllWaiting, Waiting, take_all, take_out, take_until};
@@ -56,11 +56,14 @@ impl<R: Wait + Copy> LaneDesk<R> {
         }
     }
 
-    /// Its lane. What was not got is dropped.
+    /// Its lane. What was not got is dropped. All that the lane sent stands among its commands.
+    #[tactic(auto, using(crate::proofs::Commands::none_hidden))]
     pub fn into_lane(self) -> Lane
         ensures lane { result ≡ self.lane }
         ensures same { IsSameLane self.began result }
+        ensures none_hidden { NoneIsHidden result }
     {
+        let _ = self.lane.number();
         self.lane
     }
 }

@@ -1,5 +1,5 @@
 //! Begins the threads of all shards, and ends them.
-ghost use Rattle.std.specs.Prelude.{◌≡◌, ◌↔◌, ◌≢◌, All, length, map as each, vec_items, Err, IfOk, IfErr, OnOk, IsPermutation, ◌≤◌, [], vec_capacity};
+ghost use Rattle.std.specs.Prelude.{◌≡◌, ◌↔◌, ◌≢◌, false, All, length, map as each, vec_items, Err, IfOk, IfErr, OnOk, IsPermutation, ◌≤◌, [], vec_capacity};
 ghost use Rattle.std.specs.Arc.{arc_value};
 ghost use Rattle.std.specs.List.{range_with_len, AllZip};
 ghost use Rattle.pay_lanes.specs.Words.{IsOutOfCount, IsNewWorker, IsNewLane, AreTogether, AreAll, IsSameWorker, numbers, shard_numbers, began_of};
@@ -152,7 +152,7 @@ where
     F: Fares + Send + 'static,
     G: Gate + Send + 'static,
     R: Threads + Wait + Copy + Send + 'static,
-    requires { All (λ gate. G.Holds gate []) gates.items }
+    requires { All (λ gate. G.Holds gate [] false) gates.items }
     ensures count { (result ≡ Err Count) ↔ IsOutOfCount shards lanes (length gates.items) }
     ensures workers { IfOk result (λ begun. shard_numbers begun.0 ≡ range_with_len 0 shards) }
     ensures new_workers { IfOk result (λ begun. All (IsNewWorker (arc_value tables) lanes) begun.0) }

@@ -1,5 +1,6 @@
+use Rattle.std.proofs.Common.{refl}
 use Rattle.pay_lane_tests.proofs.given.opened.Goals as goal
 
--- of an open gate nothing is asked
+-- an open gate has refused nothing
 pub open-requires : goal.open-requires
-open-requires g c = λ k d within. tt
+open-requires g c = λ k d within. refl

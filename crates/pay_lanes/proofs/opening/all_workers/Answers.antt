@@ -1,4 +1,4 @@
-use Rattle.std.proofs.Common.{◌≡◌, ◌⊎◌, inl, inr, ◌∙◌, [], All, length, ap, rules, sym, subst, vec_items}
+use Rattle.std.proofs.Common.{◌≡◌, ◌⊎◌, inl, inr, ◌∙◌, false, [], All, length, ap, rules, sym, subst, vec_items}
 use Rattle.std.proofs.lemmas.List.Elements.{All-head, All-tail}
 use Rattle.std.proofs.Common.{map as each}
 use Rattle.std.specs.Arc.{arc_value}
@@ -18,7 +18,7 @@ loop-requests-init g c =
       workers_begin (arc_value c.args.tables.now) c.new-made.result.items (each vec_items it.a.b.rest.items, it.a.a.rest.items) (each vec_items c.args.lanes.items, c.args.requests.items)
           c.new-made.ensures.items (ap (each vec_items) lanes) requests c.requires.requests c.requires.lanes,
       ap length gates ∙ (c.requires.gates ∙ sym (ap length requests)),
-      subst (All (λ gate. g.G.Gate.Holds gate [])) (sym gates) c.requires.none,
+      subst (All (λ gate. g.G.Gate.Holds gate [] false)) (sym gates) c.requires.none,
       began_first g.G.Gate.began c.args.gates.items c.new-made.result.items it.b.rest.items c.new-made.ensures.items gates,
     )
 
@@ -35,7 +35,7 @@ loop-requests-preserved g c =
           (record { its_number = c.in_ok-worker.ensures.number; its_requests = c.in_ok-worker.ensures.requests; its_lanes = c.in_ok-worker.ensures.lanes; its_new = c.in_ok-worker.ensures.new })
           c.in_ok-push.ensures.items c.loop-requests.invariant.0,
       one_less was.b.rest.items is.b.rest.items was.a.a.rest.items is.a.a.rest.items c.in-Some.gate c.in-Some.requests took.1.0 took.0.0.0 c.loop-requests.invariant.1,
-      All-tail (λ gate. g.G.Gate.Holds gate []) c.in-Some.gate is.b.rest.items (subst (All (λ gate. g.G.Gate.Holds gate [])) took.1.0 c.loop-requests.invariant.2),
+      All-tail (λ gate. g.G.Gate.Holds gate [] false) c.in-Some.gate is.b.rest.items (subst (All (λ gate. g.G.Gate.Holds gate [] false)) took.1.0 c.loop-requests.invariant.2),
       began_more g.G.Gate.began c.args.gates.items c.loop-requests.made.items c.push.new.self.items c.in_ok-worker.field-0 was.b.rest.items is.b.rest.items c.in-Some.gate
           c.in_ok-push.ensures.items c.in_ok-worker.ensures.began took.1.0 c.loop-requests.invariant.3,
     )
@@ -43,8 +43,8 @@ loop-requests-preserved g c =
 -- its gate has let nothing pass
 pub worker-requires-clause-gate : goal.worker-requires-clause-gate
 worker-requires-clause-gate g c =
-    All-head (λ gate. g.G.Gate.Holds gate []) c.in-Some.gate c.next.new.self.b.rest.items
-    (subst (All (λ gate. g.G.Gate.Holds gate [])) c.in-Some.ensures.steps.1.0 c.loop-requests.invariant.2)
+    All-head (λ gate. g.G.Gate.Holds gate [] false) c.in-Some.gate c.next.new.self.b.rest.items
+    (subst (All (λ gate. g.G.Gate.Holds gate [] false)) c.in-Some.ensures.steps.1.0 c.loop-requests.invariant.2)
 
 -- the lists, or the receivers, have come to their end
 abbrev Ended : (g : given.Over) → goal.After-drop-requests-iterator-4 g → Type 0

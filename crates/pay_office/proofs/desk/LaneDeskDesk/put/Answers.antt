@@ -3,7 +3,8 @@ use Rattle.pay_shard.specs.Words.{AreKept, IsAfterAll, IsNoneOf}
 use Rattle.pay_shard.specs.declared.limits.TheConstants.{MOST_SHARDS}
 use Rattle.pay_lanes.specs.Parts.{LaneParts}
 use Rattle.pay_lanes.proofs.Same.{lane_then, lane_shards}
-use Rattle.pay_office.specs.Waits.{all_sent, commands_sent, answer_to, tickets_of}
+use Rattle.pay_lanes.specs.Words.{all_sent}
+use Rattle.pay_office.specs.Waits.{commands_sent, answer_to, tickets_of}
 use Rattle.pay_office.specs.LaneDesks.{LaneDeskParts, MayRefuse, WasBusy}
 use Rattle.pay_office.proofs.Commands.{commands_put, after_all}
 use Rattle.pay_office.proofs.Waited.{stays, commands_stay, answers_stay, waiting_put, none_of}
