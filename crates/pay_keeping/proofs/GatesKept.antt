@@ -64,21 +64,22 @@ rest_of_none false rest e is = is
 rest_of_none true rest e is = absurd (cc)
 
 module _ {K : Type 0} (holds : K → Option (List ℕ)) (HasFailed IsSettled : K → Type 0) where
-  pub holds_none : (held : Option (List ℕ)) → HoldsPassed holds HasFailed IsSettled (record { held_first = held; holds = held; stuck = false }) []
+  pub holds_none : (held : Option (List ℕ)) → HoldsPassed holds HasFailed IsSettled (record { held_first = held; holds = held; stuck = false }) [] false
   holds_none held = record {
     rest = [];
     bytes = Appends-nil held;
     is_rest = refl;
     settled = λ front p later e quotes. absurd (none_there front p later e);
+    is_stuck = refl;
     cause = λ stuck. absurd (cc);
   }
 
   -- just the lines of what passed, where it is not stuck
-  known : (g : GateParts) (passed : List Passed) → g.stuck ≡ false → HoldsPassed holds HasFailed IsSettled g passed → Appends g.held_first g.holds (kept_lines passed)
+  known : (g : GateParts) (passed : List Passed) → g.stuck ≡ false → HoldsPassed holds HasFailed IsSettled g passed false → Appends g.held_first g.holds (kept_lines passed)
   known g passed free it =
       subst (Appends g.held_first g.holds) (ap (λ l. kept_lines passed ++ l) (rest_of_none g.stuck it.rest free it.is_rest) ∙ append-nil (kept_lines passed)) it.bytes
 
-  module _ (g : GateParts) (keeper : K) (entry : Entry) (answer : Answer) (passed : List Passed) (free : g.stuck ≡ false) (it : HoldsPassed holds HasFailed IsSettled g passed) where
+  module _ (g : GateParts) (keeper : K) (entry : Entry) (answer : Answer) (passed : List Passed) (free : g.stuck ≡ false) (it : HoldsPassed holds HasFailed IsSettled g passed false) where
     abbrev p : Passed
     p = (entry, answer)
 
@@ -96,19 +97,20 @@ module _ {K : Type 0} (holds : K → Option (List ℕ)) (HasFailed IsSettled : K
 
     -- the answer passes
     pub holds_more : Appends g.holds (holds keeper) (kept_line p) → (is_quotes entry.command ≡ true → IsSettled keeper)
-        → HoldsPassed holds HasFailed IsSettled (record { held_first = g.held_first; holds = holds keeper; stuck = g.stuck }) (passed ++ passing true entry answer)
+        → HoldsPassed holds HasFailed IsSettled (record { held_first = g.held_first; holds = holds keeper; stuck = g.stuck }) (passed ++ passing true entry answer) false
     holds_more line settles =
         let all : Appends g.held_first (holds keeper) (kept_lines passed ++ kept_line p) = Appends-trans g.held_first g.holds (holds keeper) _ _ (known g passed free it) line in record {
           rest = [];
           bytes = subst (Appends g.held_first (holds keeper)) (sym (one_line_more passed p) ∙ sym (append-nil (kept_lines (passed ++ p ∷ [])))) all;
           is_rest = subst (λ b. IsRest b []) (sym free) refl;
           settled = settled_then line settles;
+          is_stuck = free;
           cause = it.cause;
         }
 
     -- it does not
     pub holds_no_more : AppendsFront g.holds (holds keeper) (line_of entry.command) → HasFailed keeper
-        → HoldsPassed holds HasFailed IsSettled (record { held_first = g.held_first; holds = holds keeper; stuck = true }) (passed ++ passing false entry answer)
+        → HoldsPassed holds HasFailed IsSettled (record { held_first = g.held_first; holds = holds keeper; stuck = true }) (passed ++ passing false entry answer) true
     holds_no_more front failed =
         let rest = take front.0 (line_of entry.command) in
         let all : Appends g.held_first (holds keeper) (kept_lines passed ++ rest) = Appends-trans g.held_first g.holds (holds keeper) _ _ (known g passed free it) front.1 in record {
@@ -116,9 +118,10 @@ module _ {K : Type 0} (holds : K → Option (List ℕ)) (HasFailed IsSettled : K
           bytes = subst (λ l. Appends g.held_first (holds keeper) (kept_lines l ++ rest)) (sym (append-nil passed)) all;
           is_rest = (entry.command, front.0, refl);
           settled = λ before q later e quotes. it.settled before q later (sym (append-nil passed) ∙ e) quotes;
+          is_stuck = refl;
           cause = λ stuck. (keeper, failed);
         }
 
-  -- nothing passes any more
-  pub holds_as_before : (g : GateParts) (passed : List Passed) (entry : Entry) (answer : Answer) → HoldsPassed holds HasFailed IsSettled g passed → HoldsPassed holds HasFailed IsSettled g (passed ++ passing false entry answer)
-  holds_as_before g passed entry answer it = subst (HoldsPassed holds HasFailed IsSettled g) (sym (append-nil passed)) it
+  -- what is stuck has refused
+  pub never_asked : (g : GateParts) (passed : List Passed) → g.stuck ≡ true → HoldsPassed holds HasFailed IsSettled g passed false → ⊥
+  never_asked g passed stuck it = let free = it.is_stuck in cc

@@ -1,6 +1,9 @@
 pub mod Crossing
 pub mod GatesKept
+pub mod KeptAgain
 pub mod LateKept
 pub mod MergedNew
+pub mod Repeats
 pub mod Runs
+pub mod TextsAgain
 pub mod WholeLines

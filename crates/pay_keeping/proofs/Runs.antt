@@ -68,8 +68,9 @@ module _ {K : Type 0} (holds : K → Option (List ℕ)) (HasFailed IsSettled : K
       subst (λ l. Appends g.held_first g.holds (l ++ rest)) (ap kept_lines are ∙ kept_are_new w.shard.number w.shard.tables w.shard.base items) bytes
 
   as_items : (lanes : List LaneParts) (w : WorkerParts) (g : GateParts) (items : List Item) (passed : List Passed) → IsAllOrButLast w.shut items w.shard.journal → passed ≡ answered_of w items
-      → HoldsPassed holds HasFailed IsSettled g passed → All (IsFirstOf w.shard.number passed) lanes → HasKept lanes w g
+      → HoldsPassed holds HasFailed IsSettled g passed w.shut → All (IsFirstOf w.shard.number passed) lanes → HasKept lanes w g
   as_items lanes w g items passed are same it taken = record {
+    is_stuck = it.is_stuck;
     items = items;
     are = are;
     rest = it.rest;

@@ -27,11 +27,13 @@ WereSettled {K = K} holds IsSettled held_first lines = (keeper : K) × IsSettled
 -- With what the keepers of a type hold, how they have failed, and what it is that one was settled.
 module _ {K : Type 0} (holds : K → Option (List ℕ)) (HasFailed IsSettled : K → Type 0) where
   -- A gate has let pass just these: its keeper holds what it held first, and the line of each that is newly accepted, once and in order.
-  -- Behind these lines there is nothing, or where the gate is stuck, a front of one line more.
-  pub record HoldsPassed (g : GateParts) (passed : List Passed) : Type 0 where
+  -- Behind these lines there is nothing, or where the gate is stuck, a front of one line more. It is stuck exactly if it then refused
+  -- one more.
+  pub record HoldsPassed (g : GateParts) (passed : List Passed) (refused : Bool) : Type 0 where
     pub rest : List ℕ
     pub bytes : Appends g.held_first g.holds (kept_lines passed ++ rest)
     pub is_rest : IsRest g.stuck rest
     -- what stands before an answer to a close was settled
     pub settled : (front : List Passed) (p : Passed) (later : List Passed) → passed ≡ front ++ p ∷ later → is_quotes p.0.command ≡ true → WereSettled holds IsSettled g.held_first (kept_lines front)
+    pub is_stuck : g.stuck ≡ refused
     pub cause : IsTrue g.stuck → CanFail HasFailed

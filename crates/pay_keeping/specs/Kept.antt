@@ -19,8 +19,10 @@ abbrev pub answered_of : WorkerParts → List Item → List Passed
 answered_of w items = zip (entries_of items) (answers w.shard.number w.shard.tables w.shard.base items)
 
 -- With these lanes, a gate has kept the line of each newly accepted item of a worker's journal, but those of the spared lane, once and in
--- order. If the worker takes nothing more, that is so of all items but the last one, to which no lane had an answer.
+-- order. If the worker takes nothing more, that is so of all items but the last one, to which no lane had an answer; it takes nothing more
+-- exactly if the gate is stuck.
 pub record HasKept (lanes : List LaneParts) (w : WorkerParts) (g : GateParts) : Type 0 where
+  pub is_stuck : g.stuck ≡ w.shut
   pub items : List Item
   pub are : IsAllOrButLast w.shut items w.shard.journal
   -- behind the lines there is nothing, or where the gate is stuck, a front of one more

@@ -1,3 +1,4 @@
+pub mod Again
 pub mod Keeping
 pub mod Kept
 pub mod KeepingGates

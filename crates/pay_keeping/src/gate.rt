@@ -50,7 +50,7 @@ impl<K: Keeper> KeepingGate<K> {
     /// A gate that keeps lines behind what a keeper holds, but not those of the spared lane.
     pub fn begin(keeper: K) -> KeepingGate<K>
         ensures is { result ≡ record { held_first = K.holds keeper; holds = K.holds keeper; stuck = false } }
-        ensures none { HoldsPassed K.holds K.HasFailed K.IsSettled result [] }
+        ensures none { HoldsPassed K.holds K.HasFailed K.IsSettled result [] false }
     {
         KeepingGate {
             began: Snapshot::of(&keeper),
@@ -123,8 +123,8 @@ impl<K: Keeper> Gate for KeepingGate<K> {
 
     // The trait's clauses, and when it is false.
     fn after_job<R: Wait>(&mut self, _rt: &R, entry: &Entry, answer: &Answer) -> bool
-        ensures passed { (passed : List Passed) → HoldsPassed K.holds K.HasFailed K.IsSettled self.old passed
-            → HoldsPassed K.holds K.HasFailed K.IsSettled self.new (passed ++ passing result entry.now answer.now) }
+        ensures passed { (passed : List Passed) → HoldsPassed K.holds K.HasFailed K.IsSettled self.old passed false
+            → HoldsPassed K.holds K.HasFailed K.IsSettled self.new (passed ++ passing result entry.now answer.now) (not result) }
         ensures shut { self.new.stuck ≡ not result }
         ensures stays_shut { IsTrue self.old.stuck → self.new ≡ self.old }
         ensures began { self.new.held_first ≡ self.old.held_first }

@@ -1,5 +1,6 @@
-//! What a gate keeps of a shard's journal. Each law is the contract of a function that does nothing: a caller whose proof needs a
+//! What a gate keeps of a shard's journal, and what journals give back that are taken again. Each law is the contract of a function that does nothing: a caller whose proof needs a
 //! law calls its function.
+ghost use Rattle.pay_keeping.specs.Again.{RepeatsAreOfNew, KeptGivesBack, TornAskAlike, WholeIsHeld};
 ghost use Rattle.pay_keeping.specs.Kept.{PassedAreKept};
 ghost use Rattle.pay_keeping.specs.Laws.{KeptAreNew, NewGivesBack};
 
@@ -25,3 +26,31 @@ pub fn new_gives_back()
     pay_shard::laws::accepted_alone();
     pay_shard::laws::order_forgets_arrival();
 }
+
+/// What a run from no accounts answers by prices was newly accepted in it once: a repeat repeats that.
+pub fn repeats_are_of_new()
+    ensures { RepeatsAreOfNew }
+{
+    pay_shard::laws::accepted_alone();
+}
+
+/// By bytes: what gates have kept behind the whole lines of their journals, and the journals that have no gate, give back just the
+/// accounts of all shards, in whatever order the lines are taken again and however often.
+pub fn kept_gives_back()
+    ensures { KeptGivesBack }
+{
+    pay_session::laws::one_line();
+    pay_session::laws::read_back();
+    repeats_are_of_new();
+    new_gives_back();
+}
+
+/// A line that was torn asks for nothing: what stands behind the last newline of a journal makes no difference.
+pub fn torn_ask_alike()
+    ensures { TornAskAlike }
+{}
+
+/// What [`whole_bytes`](crate::whole_bytes) counts of a text are its whole lines: a [`LateKeeper`](crate::LateKeeper) that begins by it holds these.
+pub fn whole_is_held()
+    ensures { WholeIsHeld }
+{}

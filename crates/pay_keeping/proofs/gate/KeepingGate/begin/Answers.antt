@@ -6,5 +6,5 @@ use Rattle.pay_keeping.proofs.gate.KeepingGate.begin.Goals as goal
 pub returns-clause-none : goal.returns-clause-none
 returns-clause-none g c =
     let K = g.K.Keeper in
-    subst (λ first. HoldsPassed K.holds K.HasFailed K.IsSettled (record { held_first = K.holds first; holds = K.holds c.args.keeper; stuck = false }) []) (sym c.of.ensures)
+    subst (λ first. HoldsPassed K.holds K.HasFailed K.IsSettled (record { held_first = K.holds first; holds = K.holds c.args.keeper; stuck = false }) [] false) (sym c.of.ensures)
     (holds_none K.holds K.HasFailed K.IsSettled (K.holds c.args.keeper))
