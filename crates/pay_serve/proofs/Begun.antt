@@ -1,11 +1,12 @@
 -- An office that has begun, its lanes, and the one lane more.
-use Rattle.std.proofs.Common.{◌≡◌, inl, inr, ℕ, zero, suc, ◌+◌, ◌<◌, ◌≤◌, List, [], ◌∷◌, ◌++◌, All, length, min, refl, sym, ap, ◌∙◌, subst, append_assoc, arith}
+use Rattle.std.proofs.Common.{◌≡◌, inl, inr, ℕ, zero, suc, ◌+◌, ◌<◌, ◌≤◌, List, [], ◌∷◌, ◌++◌, All, length, min, refl, sym, ap, ◌∙◌, subst, append_assoc, append-nil, arith, length-append}
 use Rattle.std.specs.Prelude.{IsPermutation, remove, slice_index_or}
 use Rattle.std.specs.FinMap.{empty}
-use Rattle.std.specs.List.{range_with_len}
+use Rattle.std.specs.List.{AllZip, range_with_len}
 use Rattle.std.proofs.Math.Nat.{lt_of_not-le}
 use Rattle.std.proofs.lemmas.List.Elements.{All-cons, All-head, All-tail, All-weaker}
 use Rattle.std.proofs.lemmas.List.FromFn.{length-range_with_len}
+use Rattle.std.proofs.lemmas.Slice.Zip.{AllZip-long}
 use Rattle.std.proofs.lemmas.List.Sorted.{All-permutation, IsPermutation-refl, IsPermutation-trans, IsPermutation-map, IsPermutation-append_comm}
 use Rattle.pay_tables.specs.Words.{FareTables}
 use Rattle.pay_shard.specs.declared.limits.TheConstants.{MOST_SHARDS}
@@ -128,13 +129,45 @@ new_office tables shards lanes office some are new =
 
 -- ---- lanes that are tried one after another
 
-module _ {A B : Type 0} (P : B → Type 0) where
-  pub next_tried : (now new all : List B) (fs more : List A) (bs rest : List B) (a : A) (b made : B) → fs ≡ a ∷ more → bs ≡ b ∷ rest → made ≡ b → new ≡ now ++ made ∷ []
-      → now ++ bs ≡ all → length fs ≡ length bs → All P bs → (new ++ rest ≡ all) × (length more ≡ length rest) × All P rest
-  next_tried now new all fs more bs rest a b made first second same added parts alike holds =
-      let one : length fs ≡ suc (length more) = ap length first in
-      let other : length bs ≡ suc (length rest) = ap length second in (
-        ap (λ xs. xs ++ rest) added ∙ (append_assoc now (made ∷ []) rest ∙ (ap (λ x. now ++ x ∷ rest) same ∙ (ap (λ xs. now ++ xs) (sym second) ∙ parts))),
-        omega (arith, one, other, alike),
-        All-tail P b rest (subst (All P) second holds),
-      )
+-- a list beside another, and one more of each
+pub one_more_of_each : {A B : Type 0} (R : A → B → Type 0) (xs : List A) (ys : List B) (x : A) (y : B) → AllZip R xs ys → R x y → AllZip R (xs ++ x ∷ []) (ys ++ y ∷ [])
+one_more_of_each R [] [] x y all one = (one, tt)
+one_more_of_each R [] (z ∷ ys) x y all one = absurd all
+one_more_of_each R (z ∷ xs) [] x y all one = absurd all
+one_more_of_each R (z ∷ xs) (w ∷ ys) x y all one = (all.0, one_more_of_each R xs ys x y all.1 one)
+
+-- some of all were tried, and the others have what each is tried with
+pub record AreTriedSoFar {A B C : Type 0} (P : B → Type 0) (R : B → C → Type 0) (all : List B) (now : List C) (fs : List A) (bs : List B) : Type 0 where
+  pub done : List B
+  pub parts : done ++ bs ≡ all
+  pub alike : length fs ≡ length bs
+  pub holds : All P bs
+  pub tried : AllZip R done now
+
+module _ {A B C : Type 0} (P : B → Type 0) (R : B → C → Type 0) where
+  pub none_tried : (now : List C) (fs : List A) (bs all : List B) → now ≡ [] → bs ≡ all → length fs ≡ length bs → All P bs → AreTriedSoFar P R all now fs bs
+  none_tried now fs bs all none same alike holds = record { done = []; parts = same; alike = alike; holds = holds; tried = subst (AllZip R []) (sym none) tt }
+
+  pub next_tried : (now new : List C) (all : List B) (fs more : List A) (bs rest : List B) (a : A) (b : B) (made : C) → fs ≡ a ∷ more → bs ≡ b ∷ rest → R b made → new ≡ now ++ made ∷ []
+      → AreTriedSoFar P R all now fs bs → AreTriedSoFar P R all new more rest
+  next_tried now new all fs more bs rest a b made first second one added was =
+      let here : length fs ≡ suc (length more) = ap length first in
+      let there : length bs ≡ suc (length rest) = ap length second in
+      let alike = was.alike in
+      record {
+        done = was.done ++ b ∷ [];
+        parts = append_assoc was.done (b ∷ []) rest ∙ (ap (λ xs. was.done ++ xs) (sym second) ∙ was.parts);
+        alike = omega (arith, here, there, alike);
+        holds = All-tail P b rest (subst (All P) second was.holds);
+        tried = subst (AllZip R (was.done ++ b ∷ [])) (sym added) (one_more_of_each R was.done now b made was.tried one);
+      }
+
+  pub room_left : (now : List C) (all : List B) (fs : List A) (bs rest : List B) (b : B) → bs ≡ b ∷ rest → AreTriedSoFar P R all now fs bs → length now < length all
+  room_left now all fs bs rest b is was =
+      let many = AllZip-long R was.done now was.tried in
+      let whole : length (was.done ++ bs) ≡ length all = ap length was.parts in
+      let more : length bs ≡ suc (length rest) = ap length is in
+      omega (arith, many, whole, more, length-append was.done bs)
+
+  pub all_tried : (now : List C) (all : List B) (fs : List A) (bs : List B) → bs ≡ [] → AreTriedSoFar P R all now fs bs → AllZip R all now
+  all_tried now all fs bs none was = subst (λ xs. AllZip R xs now) (sym (append-nil was.done) ∙ (ap (λ xs. was.done ++ xs) (sym none) ∙ was.parts)) was.tried

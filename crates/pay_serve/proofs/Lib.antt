@@ -1,8 +1,11 @@
 pub mod Begun
+pub mod GivenBack
 pub mod Going
+pub mod LinesAsked
 pub mod NoneKept
 pub mod OneClose
 pub mod ServeCauses
 pub mod Served
 pub mod TakenAgain
+pub mod TextsTaken
 pub mod ToldCloses

@@ -127,7 +127,7 @@ gates_kept_none lanes (w ∷ ws) (g ∷ gates) kept spared =
     (gates_kept_none lanes ws gates kept.1 (All-tail (λ (v : WorkerParts). All IsSpared v.shard.journal) w ws spared))
 
 -- an office has ended that was asked over its last lane alone, whose commands are spared
-pub none_kept : (Holds : GateParts → List Passed → Type 0) (office : List WorkerParts) (others : List LaneParts) (last : LaneParts) (shards : ℕ) (gates : List GateParts) (journals : List (List Item)) (left : List (List Entry))
+pub none_kept : (Holds : GateParts → List Passed → Bool → Type 0) (office : List WorkerParts) (others : List LaneParts) (last : LaneParts) (shards : ℕ) (gates : List GateParts) (journals : List (List Item)) (left : List (List Entry))
     → AreAll office (others ++ last ∷ []) → All (IsNewLane shards) others → last.number ≡ SPARED_LANE → HasEnded office (others ++ last ∷ []) journals left
     → (passed : HaveLetPass Holds office (others ++ last ∷ []) journals gates) → AllZip (HasKept (others ++ last ∷ [])) passed.workers gates → All HasKeptNone gates
 none_kept Holds office others last shards gates journals left all new spared ended passed kept =

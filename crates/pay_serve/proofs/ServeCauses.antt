@@ -108,7 +108,7 @@ pub taken_cause : {D O : Type 0} (zone : TimeZone) (parts : D → DeskParts O) (
     → AreTakenAgain zone parts journal texts desk result → result ≡ Err fault → IsUnserved plan fault
 taken_cause zone parts plan journal [] desk (Ok done) fault taken is = absurd (cc)
 taken_cause zone parts plan journal [] desk (Err other) fault taken is = absurd taken
-taken_cause zone parts plan journal (text ∷ texts) desk result fault (inl (between, it, replayed, later)) is = taken_cause zone parts plan (journal + 1) texts (between, desk.1) result fault later is
+taken_cause zone parts plan journal (text ∷ texts) desk result fault (inl (between, it, replayed, kept, later)) is = taken_cause zone parts plan (journal + 1) texts (between, desk.1) result fault later is
 taken_cause zone parts plan journal (text ∷ texts) desk result fault (inr (why, ended, same)) is =
     let one : fault ≡ journal_fault journal why = cc in subst (IsUnserved plan) (sym one) (journal_cause plan journal why)
 

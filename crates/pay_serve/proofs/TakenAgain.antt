@@ -4,7 +4,7 @@ use Rattle.std.specs.Prelude.{⊤}
 use Rattle.std.proofs.lemmas.List.{drop_more, drop_all, get_or-map}
 use Rattle.std.proofs.lemmas.List.Folds.{list_any_none}
 use Rattle.jiff.specs.declared.tz.timezone.TimeZone.{TimeZone}
-use Rattle.pay_shard.specs.Words.{DeskParts}
+use Rattle.pay_shard.specs.Words.{DeskParts, AreKept}
 use Rattle.pay_session.specs.Words.{IsReplayed, IsEnded}
 use Rattle.pay_session.specs.declared.replaying.Replayed.{Replayed}
 use Rattle.pay_session.specs.declared.replaying.ReplayFault.{ReplayFault}
@@ -22,9 +22,9 @@ module _ {D O V : Type 0} (items : V → List ℕ) (zone : TimeZone) (parts : D 
         let many = each_length items vs in
         drop_more (map items vs) place (items v) (omega (arith, many, less)) ∙ ap (λ t. t ∷ drop (place + 1) (map items vs)) (get_or-map items vs place v (items v) less ∙ ap items (sym is))
 
-    pub next_taken : (old new end : D) (it : Replayed) (result : Result ⊤ ServeFault) → IsReplayed zone parts old new (items v) it
+    pub next_taken : (old new end : D) (it : Replayed) (result : Result ⊤ ServeFault) → IsReplayed zone parts old new (items v) it → AreKept (parts old).transcript (parts new).transcript
         → AreTakenAgain zone parts (place + 1) (drop (place + 1) (map items vs)) (new, end) result → AreTakenAgain zone parts place (drop place (map items vs)) (old, end) result
-    next_taken old new end it result replayed later = subst (λ ts. AreTakenAgain zone parts place ts (old, end) result) (sym whole) (inl (new, it, replayed, later))
+    next_taken old new end it result replayed kept later = subst (λ ts. AreTakenAgain zone parts place ts (old, end) result) (sym whole) (inl (new, it, replayed, kept, later))
 
     pub not_taken : (old new : D) (why : ReplayFault) (result : Result ⊤ ServeFault) → IsEnded zone parts old new (items v) why → result ≡ Err (journal_fault place why)
         → AreTakenAgain zone parts place (drop place (map items vs)) (old, new) result

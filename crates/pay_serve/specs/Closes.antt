@@ -5,20 +5,20 @@ use Rattle.std.specs.List.{AllZip}
 use Rattle.sqlite.specs.State.{State}
 use Rattle.pay_account.specs.Words.{Posting}
 use Rattle.jiff.specs.declared.tz.timezone.TimeZone.{TimeZone}
-use Rattle.pay_shard.specs.Words.{DeskParts}
+use Rattle.pay_shard.specs.Words.{DeskParts, AreKept}
 use Rattle.pay_shard.specs.declared.item.Item.{Item}
 use Rattle.pay_tables.specs.Words.{FareTables}
-use Rattle.pay_lanes.specs.Words.{LaneParts, WorkerParts, IsNewLane, Passed}
+use Rattle.pay_lanes.specs.Words.{LaneParts, WorkerParts, IsNewLane, IsSameLane, Passed}
 use Rattle.pay_keeping.specs.Words.{GateParts, HasKept, HasKeptNone}
 use Rattle.pay_keeping.specs.declared.limits.TheConstants.{SPARED_LANE}
-use Rattle.pay_office.specs.Words.{LaneDeskParts, desk_parts, HaveLetPass}
+use Rattle.pay_office.specs.Words.{LaneDeskParts, desk_parts, NoneIsHidden, HaveLetPass}
 use Rattle.pay_wire.specs.Words.{AppendsFront, spelling_of_reply}
 use Rattle.pay_wire.specs.declared.output.WriteFault.{WriteFault}
 use Rattle.pay_wire.specs.declared.refusal.Refusal.{Refusal}
 use Rattle.pay_session.specs.Words.{said_of_close, IsClosedAt}
 use Rattle.pay_close.specs.Words.{Closes}
 use Rattle.pay_serve.specs.Journals.{AreTakenThrough, is_one_stuck, told_with}
-use Rattle.pay_serve.specs.Lanes.{AreAllWith}
+use Rattle.pay_serve.specs.Lanes.{AreAllWith, HasAskedIn}
 use Rattle.pay_serve.specs.Machines.{IsOverAsOne, IsNewOffice}
 use Rattle.pay_serve.specs.declared.fault.ServeFault.{ServeFault}
 use Rattle.pay_serve.specs.declared.fault.ServeFault.TheVariants.{CannotListen, Count, NoThread, Memory, Journal, JournalLine, Output}
@@ -39,10 +39,11 @@ pub record IsClosedOver {D O : Type 0} (parts : D → DeskParts O) (day : ℕ) (
 abbrev pub new_desk : LaneParts → LaneDeskParts
 new_desk l = record { began = l; lane = l; waiting = [] }
 
--- the same over a desk that begins with a lane: before and after are the lane, the ledger, and what the writer holds
+-- the same over a desk that begins with a lane, and loses no answer: before and after are the lane, the ledger, and what the writer holds
 pub record IsClosedThrough (day : ℕ) (before after : LaneParts × State × Option (List ℕ)) (result : Result Bool WriteFault) : Type 0 where
   pub desk : LaneDeskParts
   pub lane : after.0 ≡ desk.lane
+  pub kept : AreKept (desk_parts (new_desk before.0)).transcript (desk_parts desk).transcript
   pub closed : IsClosedOver desk_parts day (new_desk before.0, before.1, before.2) (desk, after.1, after.2) result
 
 -- what is told of a close whose lines were written, or not
@@ -52,12 +53,15 @@ IsTold (Err why) (Err fault) = fault ≡ Output
 IsTold _ _ = ⊥
 
 -- The day was closed over this lane, the last of an office, or not, and the lines of that were written; and the office has ended, with the
--- other lanes and this one. Before are the lane, the ledger, and what the writer holds; after, the ledger and what the
+-- other lanes and this one, which is the same end still. Before are the lane, the ledger, and what the writer holds; after, the ledger and what the
 -- writer holds.
 pub record IsDayClosed (Passed : List LaneParts → List (List Item) → Type 0) (office : List WorkerParts) (others : List LaneParts) (day : ℕ) (before : LaneParts × State × Option (List ℕ)) (after : State × Option (List ℕ) × Result Bool ServeFault) : Type 0 where
   pub lane : LaneParts
+  pub same : IsSameLane before.0 lane
   pub closed : Result Bool WriteFault
   pub through : IsClosedThrough day before (lane, after.0, after.1) closed
+  -- all that it sent stands among the commands of its desk
+  pub none_hidden : NoneIsHidden lane
   pub told : IsTold closed after.2
   pub one : IsOverAsOne office (others ++ lane ∷ []) day (length before.0.shards) through.closed.closed.put
   -- the gates let pass what the lanes took
@@ -75,9 +79,9 @@ abbrev pub terms : FareTables → TimeZone → List (List ℕ) → List (Option 
 terms fares zone texts held day = record { fares = fares; zone = zone; texts = texts; held = held; day = day }
 
 -- Over a new office, all that its journals had was taken again over one lane, which had asked for nothing; all connections were served over
--- the others; and the day was closed over the first one, or not. Of each shard its gate, behind what its keeper held, has kept what it newly
+-- the others, which asked for nothing but what lines ask for; and the day was closed over the first one, or not. Of each shard its gate, behind what its keeper held, has kept what it newly
 -- accepted, but what the first lane asked. Before and after are the ledger and what the writer holds.
-pub record IsServedBy (Holds : GateParts → List Passed → Type 0) (terms : Terms) (before after : State × Option (List ℕ)) (result : Result Bool ServeFault) : Type 0 where
+pub record IsServedBy (Holds : GateParts → List Passed → Bool → Type 0) (terms : Terms) (before after : State × Option (List ℕ)) (result : Result Bool ServeFault) : Type 0 where
   pub office : List WorkerParts
   pub new : IsNewOffice terms.fares office
   pub first : LaneParts
@@ -86,6 +90,7 @@ pub record IsServedBy (Holds : GateParts → List Passed → Type 0) (terms : Te
   pub past : AreTakenThrough terms.zone terms.texts first last (Ok tt)
   pub others : List LaneParts
   pub all : AreAllWith office others last
+  pub asked : All (HasAskedIn terms.zone) others
   pub gates : List GateParts
   pub began : map (λ (g : GateParts). g.held_first) gates ≡ terms.held
   pub told : Result Bool ServeFault
@@ -94,7 +99,7 @@ pub record IsServedBy (Holds : GateParts → List Passed → Type 0) (terms : Te
   pub is : result ≡ told_with (is_one_stuck gates) told
 
 -- All connections were served, and the day was closed, or not; or it was not come to, and all is untouched.
-abbrev pub IsServed : (GateParts → List Passed → Type 0) → Terms → State × Option (List ℕ) → State × Option (List ℕ) → Result Bool ServeFault → Type 0 → Type 0
+abbrev pub IsServed : (GateParts → List Passed → Bool → Type 0) → Terms → State × Option (List ℕ) → State × Option (List ℕ) → Result Bool ServeFault → Type 0 → Type 0
 IsServed Holds terms before after result Untouched = IsServedBy Holds terms before after result ⊎ (IsErr result × Untouched)
 
 -- A line of a journal is not accepted: over a new office all lines before it were taken again over one lane, which had asked for nothing,

@@ -1,7 +1,14 @@
 -- The lanes of a service.
 use Rattle.std.specs.Prelude.{◌≤◌, List, ◌∷◌, [], ◌++◌, length}
+use Rattle.std.specs.List.{AllByRecursion}
+use Rattle.jiff.specs.declared.tz.timezone.TimeZone.{TimeZone}
 use Rattle.pay_shard.specs.declared.limits.TheConstants.{MOST_SHARDS}
-use Rattle.pay_lanes.specs.Words.{LaneParts, WorkerParts, AreTogether, AreAll}
+use Rattle.pay_mailbox.specs.Words.{ReceiverParts}
+use Rattle.pay_shard.specs.declared.item.Entry.{Entry}
+use Rattle.pay_shard.specs.declared.reply.Answer.{Answer}
+use Rattle.pay_session.specs.Words.{IsAskedIn}
+use Rattle.pay_lanes.specs.Words.{LaneParts, WorkerParts, IsSameLane, AreTogether, AreAll}
+use Rattle.pay_office.specs.Words.{all_sent}
 use Rattle.pay_office.specs.declared.office.StartFault.{StartFault}
 use Rattle.pay_office.specs.declared.office.StartFault.TheVariants as starting
 use Rattle.pay_serve.specs.declared.begins.LaneFault.{LaneFault}
@@ -17,6 +24,15 @@ HasShards l = (1 ≤ length l.shards) × (length l.shards ≤ MOST_SHARDS)
 abbrev pub AreAllWith : List WorkerParts → List LaneParts → LaneParts → Type 0
 AreAllWith office lanes last = AreTogether office (lanes ++ last ∷ []) × AreAll office (lanes ++ last ∷ [])
 
+-- all that a lane sent is asked for in a zone, by lines or by a close
+abbrev pub HasAskedIn : TimeZone → LaneParts → Type 0
+HasAskedIn zone l = AllByRecursion (λ (e : Entry). IsAskedIn zone e.command) (all_sent l.shards)
+
+-- A lane has gone on in a zone: it is the same end, and if all that it had sent is asked for there, so is all that it has.
+pub record HasGoneOn (zone : TimeZone) (before after : LaneParts) : Type 0 where
+  pub same : IsSameLane before after
+  pub asked : HasAskedIn zone before → HasAskedIn zone after
+
 -- why nothing is served where no office begins
 abbrev pub serve_fault : StartFault → ServeFault
 serve_fault starting.Count = Count
@@ -27,3 +43,9 @@ serve_fault starting.Memory = Memory
 abbrev pub lane_fault : LaneFault → ServeFault
 lane_fault lane.NoThread = NoThread
 lane_fault lane.Memory = Memory
+
+-- ---- worked rows
+
+-- a lane without shards has asked for nothing
+nothing_asked : (zone : TimeZone) (answers : ReceiverParts Answer) → HasAskedIn zone (record { number = 1; shards = []; answers = answers; tickets = 0; next = 0 })
+nothing_asked zone answers = tt

@@ -1,5 +1,5 @@
 -- A close over all shards of an office as the close of one machine over all accounts.
-use Rattle.std.specs.Prelude.{◌≡◌, ◌≤◌, ◌<◌, ℕ, suc, List, [], ◌∷◌, All, length, ⊤}
+use Rattle.std.specs.Prelude.{◌≡◌, ◌≤◌, ◌<◌, ℕ, suc, Bool, List, [], ◌∷◌, All, length, ⊤}
 use Rattle.std.specs.FinMap.{empty}
 use Rattle.std.specs.List.{range_with_len}
 use mathlib.Core.List.{IsPrefix}
@@ -39,7 +39,7 @@ abbrev pub IsOver : List WorkerParts → List LaneParts → Type 0
 IsOver office lanes = (journals : List (List Item)) × (left : List (List Entry)) × HasEnded office lanes journals left
 
 -- and with these gates, which hold what they let pass of it
-abbrev pub IsOverWith : {G : Type 0} → (G → List Passed → Type 0) → List WorkerParts → List LaneParts → List G → Type 0
+abbrev pub IsOverWith : {G : Type 0} → (G → List Passed → Bool → Type 0) → List WorkerParts → List LaneParts → List G → Type 0
 IsOverWith Holds office lanes gates = (over : IsOver office lanes) × HaveLetPass Holds office lanes over.0 gates
 
 -- An office has ended, and if it was new, and all its shards gave their quotes for a close, that was the close of one machine.

@@ -7,7 +7,7 @@ ghost use Rattle.pay_wire.specs.Words.{IsFlushed, IsCaused, HasFault};
 ghost use Rattle.pay_lanes.specs.Words.{IsSameLane, began_of};
 ghost use Rattle.pay_serve.specs.Closes.{IsClosedOver, IsClosedThrough, IsTold, IsDayClosed};
 ghost use Rattle.pay_serve.specs.Lanes.{HasShards, AreAllWith};
-ghost use Rattle.pay_office.specs.Words.{HaveLetPass};
+ghost use Rattle.pay_office.specs.Words.{NoneIsHidden, HaveLetPass};
 ghost use Rattle.pay_serve.specs.Machines.{IsOverWith};
 
 use crate::fault::ServeFault;
@@ -69,6 +69,7 @@ fn close_through<R: Wait + Copy, S: Alter, W: ToldWriter>(
     ensures flushed { OnOk result.0 (IsFlushed W.Tells writer.new) }
     ensures cause { IfErr result.0 (λ fault. IsCaused W.Tells fault writer.new) }
     ensures same { IsSameLane lane result.1 }
+    ensures none_hidden { NoneIsHidden result.1 }
 {
     let mut desk = LaneDesk::new(rt, alloc, lane);
     let closed = close_over(alloc, &mut desk, ledger, day, writer);

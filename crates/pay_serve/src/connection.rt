@@ -1,7 +1,8 @@
 //! The connections of a lane, one after another.
 ghost use Rattle.std.specs.Prelude.{◌≡◌};
+ghost use Rattle.pay_session.specs.Words.{AreAskedIn};
 ghost use Rattle.pay_lanes.specs.Words.{IsSameLane};
-ghost use Rattle.pay_serve.specs.Lanes.{HasShards};
+ghost use Rattle.pay_serve.specs.Lanes.{HasShards, HasAskedIn};
 
 use crate::limits::{LAST_BYTES, LAST_READS, LAST_WAIT};
 use crate::sides::{ReadSide, Unsent, WriteSide};
@@ -16,8 +17,10 @@ use std::sync::Wait;
 use std::time::Duration;
 
 /// Answers the lines of a connection over a desk, until it ends or fails. There it closes no day.
+#[tactic(auto, using(crate::proofs::LinesAsked::asked_none))]
 fn answer_lines<D: Desk>(alloc: Global, stream: &TcpStream, zone: &TimeZone<'_>, desk: &mut D)
-    ensures { (D.parts desk.new).standing ≡ (D.parts desk.old).standing }
+    ensures same_desk { (D.parts desk.new).standing ≡ (D.parts desk.old).standing }
+    ensures asked { AreAskedIn zone.now (D.parts desk.old).taken (D.parts desk.new).taken }
 {
     let Ok(unsent) = Unsent::new(alloc, stream) else {
         return;
@@ -51,13 +54,15 @@ fn take_rest(mut stream: &TcpStream) {
 }
 
 /// Serves the next connection of a listener over a desk. One that is not to be had counts as served.
+#[tactic(auto, using(crate::proofs::LinesAsked::asked_none))]
 fn serve_connection<D: Desk>(
     alloc: Global,
     listener: &TcpListener,
     zone: &TimeZone<'_>,
     desk: &mut D,
 )
-    ensures { (D.parts desk.new).standing ≡ (D.parts desk.old).standing }
+    ensures same_desk { (D.parts desk.new).standing ≡ (D.parts desk.old).standing }
+    ensures asked { AreAskedIn zone.now (D.parts desk.old).taken (D.parts desk.new).taken }
 {
     let Ok((stream, _)) = listener.accept() else {
         return;
@@ -70,7 +75,7 @@ fn serve_connection<D: Desk>(
     }
 }
 
-/// Serves so many connections of a listener, one after another, over a desk.
+/// Serves so many connections of a listener, one after another, over a desk, which takes nothing but what their lines ask for.
 pub fn serve_connections<D: Desk>(
     alloc: Global,
     listener: &TcpListener,
@@ -78,14 +83,15 @@ pub fn serve_connections<D: Desk>(
     zone: &TimeZone<'_>,
     desk: &mut D,
 )
-    ensures { (D.parts desk.new).standing ≡ (D.parts desk.old).standing }
+    ensures same_desk { (D.parts desk.new).standing ≡ (D.parts desk.old).standing }
+    ensures asked { AreAskedIn zone.now (D.parts desk.old).taken (D.parts desk.new).taken }
 {
     for _ in 0..sessions {
         serve_connection(alloc, listener, zone, desk);
     }
 }
 
-/// Serves so many connections of a listener, one after another, over a lane.
+/// Serves so many connections of a listener, one after another, over a lane, which sends nothing but what their lines ask for.
 pub fn serve_lane<R: Wait + Copy>(
     rt: R,
     alloc: Global,
@@ -95,7 +101,8 @@ pub fn serve_lane<R: Wait + Copy>(
     lane: Lane,
 ) -> Lane
     requires { HasShards lane }
-    ensures { IsSameLane lane result }
+    ensures same { IsSameLane lane result }
+    ensures asked { HasAskedIn zone.now lane → HasAskedIn zone.now result }
 {
     let mut desk = LaneDesk::new(rt, alloc, lane);
     serve_connections(alloc, listener, sessions, zone, &mut desk);

@@ -1,5 +1,5 @@
 //! The gates of the shards of a service.
-ghost use Rattle.std.specs.Prelude.{◌≡◌, [], All, length, map as each, IfOk, IsTrue};
+ghost use Rattle.std.specs.Prelude.{◌≡◌, false, [], All, length, map as each, IfOk, IsTrue};
 ghost use Rattle.pay_kept.specs.Words.{CanFail};
 ghost use Rattle.pay_keeping.specs.Words.{HoldsPassed};
 ghost use Rattle.pay_serve.specs.Journals.{is_one_stuck};
@@ -14,7 +14,7 @@ pub fn all_gates<K: Keeper>(
     keepers: Vec<K>,
 ) -> Result<Vec<KeepingGate<K>>, AllocError>
     ensures count { IfOk result (λ gates. length gates.items ≡ length keepers.items) }
-    ensures none { IfOk result (λ gates. All (λ gate. HoldsPassed K.holds K.HasFailed K.IsSettled gate []) gates.items) }
+    ensures none { IfOk result (λ gates. All (λ gate. HoldsPassed K.holds K.HasFailed K.IsSettled gate [] false) gates.items) }
     ensures first { IfOk result (λ gates. each (λ gate. gate.held_first) gates.items ≡ each K.holds keepers.items) }
 {
     let mut gates = Vec::with_capacity(alloc, keepers.len())?;

@@ -1,6 +1,7 @@
 //! What journals have is taken again before the first connection is served.
 ghost use Rattle.std.specs.Prelude.{◌≡◌, map as each, vec_items};
 ghost use Rattle.pay_lanes.specs.Words.{IsSameLane};
+ghost use Rattle.pay_office.specs.Words.{NoneIsHidden};
 ghost use Rattle.pay_serve.specs.Journals.{AreTakenAgain, AreTakenThrough, journal_fault};
 ghost use Rattle.pay_serve.specs.Lanes.{HasShards};
 
@@ -52,6 +53,7 @@ pub fn take_through<R: Wait + Copy>(
     requires { HasShards lane }
     ensures taken { AreTakenThrough zone.now (each vec_items texts.now) lane result.1 result.0 }
     ensures same { IsSameLane lane result.1 }
+    ensures none_hidden { NoneIsHidden result.1 }
 {
     let mut desk = LaneDesk::new(rt, alloc, lane);
     let taken = take_again(texts, zone, &mut desk);

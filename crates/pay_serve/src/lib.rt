@@ -10,6 +10,7 @@ mod fault;
 mod gates;
 mod journals;
 mod lanes;
+pub mod laws;
 pub mod limits;
 mod listening;
 mod plan;

@@ -116,7 +116,6 @@ where
     let service = Service {
         alloc,
         sessions: plan.sessions,
-        zone,
         begins: Begins::new(),
     };
     let service = Arc::new(alloc, service).map_err(AllocError::from)?;
@@ -131,7 +130,7 @@ where
             return Err(fault);
         }
     }
-    begin_all(rt, &service, listeners, lanes, &mut tried);
+    begin_all(rt, &service, zone, listeners, lanes, &mut tried);
     let refused = service.begins.tell();
     end_all(&rt, tried, &mut back);
     if let Some(fault) = refused {

@@ -28,8 +28,10 @@ returns-clause-closed g c =
     let its = subst (λ (m : LaneParts). AreAnswered (λ ticket. answer_to ticket m.answers.got) put) (sym through.lane) through.closed.closed.answered in
     record {
       lane = l;
+      same = c.close_through-closed.ensures.same;
       closed = c.close_through-closed.result.0;
       through = through;
+      none_hidden = c.close_through-closed.ensures.none_hidden;
       told = c.told.ensures;
       one = over_as_one c.any_shards.ensures.merged c.args.office ls l c.args.day shards put all (sym (c.same_lanes.ensures.shards c.args.last l c.close_through-closed.ensures.same)) through.closed.closed.close.quotes its c.end-gates.ensures.over.0;
       gates = c.end-gates.ensures.over.1;

@@ -11,7 +11,7 @@ loop-place-preserved g c = (
   λ end result later.
       c.loop-place.invariant.0 end result
       (next_taken vec_items c.args.zone.now g.D.Desk.parts c.args.texts.now c.loop-place.place c.index-texts-place.result c.loop-place-test.true c.index-texts-place.is c.loop-place.desk c.replay.new.desk end c.in-Ok.field-0 result
-      (subst (λ text. IsReplayed c.args.zone.now g.D.Desk.parts c.loop-place.desk c.replay.new.desk text c.in-Ok.field-0) c.as_slice.ensures.value c.in-Ok.ensures.replayed) later),
+      (subst (λ text. IsReplayed c.args.zone.now g.D.Desk.parts c.loop-place.desk c.replay.new.desk text c.in-Ok.field-0) c.as_slice.ensures.value c.in-Ok.ensures.replayed) c.replay.ensures.transcript later),
   c.replay.ensures.same_desk ∙ c.loop-place.invariant.1,
 )
 

@@ -1,14 +1,15 @@
-use Rattle.std.proofs.Common.{◌≡◌, inl, List, map, vec_items, length, ap, ◌∙◌, subst, arith}
-use Rattle.std.specs.List.{AllZip}
+use Rattle.std.proofs.Common.{◌≡◌, ◌≤◌, inl, List, map, vec_items, length, ◌∙◌, sym, subst, arith}
 use Rattle.std.proofs.lemmas.Result.{err_from_is_err_and}
-use Rattle.std.proofs.lemmas.List.Elements.{length_all_zip}
+use Rattle.std.proofs.lemmas.Slice.Zip.{AllZip-long}
 use Rattle.std.specs.Arc.{arc_value}
+use Rattle.pay_shard.specs.declared.limits.TheConstants.{MOST_SHARDS}
 use Rattle.pay_kept.specs.Words.{CanFail}
-use Rattle.pay_lanes.specs.Words.{IsSameLane}
 use Rattle.pay_keeping.specs.Words.{GateParts, HoldsPassed}
 use Rattle.pay_serve.specs.Closes.{terms}
+use Rattle.pay_serve.specs.TriedLanes.{IsTried, GivesBack}
 use Rattle.pay_serve.specs.Journals.{AreTakenThrough, is_one_stuck, told_with}
 use Rattle.pay_serve.proofs.Going.{all_back, lanes_same}
+use Rattle.pay_serve.proofs.LinesAsked.{all_gone, all_same, all_asked}
 use Rattle.pay_serve.proofs.NoneKept.{none_kept}
 use Rattle.pay_serve.proofs.ServeCauses.{within_plan, no_memory, unopened, unopened_stopped, lane_stopped, line_stopped, told_stopped, unserved_cause, lane_cause, taken_cause, told_cause, told_on_ok}
 use Rattle.pay_serve.proofs.Served.{all_kept}
@@ -23,26 +24,51 @@ end-requires-clause-all g c =
 -- all lanes are back, and there is room for the last
 pub end-requires-in-Some-clause-all : goal.end-requires-in-Some-clause-all
 end-requires-in-Some-clause-all g c =
+    let gone = all_gone c.args.zone c.in_ok-office.lanes.items c.end_all.new.lanes.items c.begin_all.new.tried.items c.begin_all.ensures c.end_all.ensures.lanes in
     all_back c.still_together.ensures.in_order c.same_workers.ensures.itself c.in_ok-office.office c.in_ok-office.lanes.items c.end_all.new.lanes.items c.in_ok-office.first c.take_through-taken.result.1
-    (subst (λ ls. AllZip IsSameLane ls c.end_all.new.lanes.items) c.begin_all.ensures c.end_all.ensures.lanes) c.take_through-taken.ensures.same c.in_ok-office.ensures.all
+    (all_same c.args.zone _ _ gone) c.take_through-taken.ensures.same c.in_ok-office.ensures.all
 
-pub close_day-closed-requires-clause-room : goal.close_day-closed-requires-clause-room
-close_day-closed-requires-clause-room g c =
-    let many = length_all_zip IsSameLane _ _ c.end_all.ensures.lanes in
-    let tried = ap length c.begin_all.ensures in
+pub end_all-requires-clause-room : goal.end_all-requires-clause-room
+end_all-requires-clause-room g c =
+    let tried = AllZip-long (IsTried c.args.zone) _ _ c.begin_all.ensures in
+    let count = c.in_ok-office.ensures.count in
+    let room = c.in_ok-back.ensures.exact in
+    omega (arith, tried, count, room)
+
+pub end-requires-in-Some-clause-room : goal.end-requires-in-Some-clause-room
+end-requires-in-Some-clause-room g c =
+    let many = AllZip-long GivesBack _ _ c.end_all.ensures.lanes in
+    let tried = AllZip-long (IsTried c.args.zone) _ _ c.begin_all.ensures in
     let count = c.in_ok-office.ensures.count in
     let room = c.in_ok-back.ensures.exact in
     let same = c.end_all.ensures.room in
     omega (arith, many, tried, count, room, same)
 
+pub close_day-closed-requires-clause-room : goal.close_day-closed-requires-clause-room
+close_day-closed-requires-clause-room g c =
+    let many = AllZip-long GivesBack _ _ c.end_all.ensures.lanes in
+    let tried = AllZip-long (IsTried c.args.zone) _ _ c.begin_all.ensures in
+    let count = c.in_ok-office.ensures.count in
+    let room = c.in_ok-back.ensures.exact in
+    let same = c.end_all.ensures.room in
+    omega (arith, many, tried, count, room, same)
+
+pub close_day-closed-requires-clause-shards : goal.close_day-closed-requires-clause-shards
+close_day-closed-requires-clause-shards g c =
+    let shards = c.in_ok-office.ensures.shards.0 in
+    let same = c.same_lanes.ensures.shards c.in_ok-office.first c.take_through-taken.result.1 c.take_through-taken.ensures.same in
+    (subst (λ n. 1 ≤ n) (sym same) shards.0, subst (λ n. n ≤ MOST_SHARDS) (sym same) shards.1)
+
 pub close_day-closed-requires-clause-all : goal.close_day-closed-requires-clause-all
 close_day-closed-requires-clause-all g c =
+    let gone = all_gone c.args.zone c.in_ok-office.lanes.items c.end_all.new.lanes.items c.begin_all.new.tried.items c.begin_all.ensures c.end_all.ensures.lanes in
     all_back c.still_together.ensures.in_order c.same_workers.ensures.itself c.in_ok-office.office c.in_ok-office.lanes.items c.end_all.new.lanes.items c.in_ok-office.first c.take_through-taken.result.1
-    (subst (λ ls. AllZip IsSameLane ls c.end_all.new.lanes.items) c.begin_all.ensures c.end_all.ensures.lanes) c.take_through-taken.ensures.same c.in_ok-office.ensures.all
+    (all_same c.args.zone _ _ gone) c.take_through-taken.ensures.same c.in_ok-office.ensures.all
 
 pub returns-clause-served : goal.returns-clause-served
 returns-clause-served g c =
     let K = g.K.Keeper in
+    let gone = all_gone c.args.zone c.in_ok-office.lanes.items c.end_all.new.lanes.items c.begin_all.new.tried.items c.begin_all.ensures c.end_all.ensures.lanes in
     let closed = c.close_day-closed.ensures.closed in
     inl (record {
       office = c.in_ok-office.office;
@@ -53,7 +79,8 @@ returns-clause-served g c =
       past = subst (AreTakenThrough c.args.zone (map vec_items c.args.texts.now) c.in_ok-office.first c.take_through-taken.result.1) c.in-Ok.is c.take_through-taken.ensures.taken;
       others = c.end_all.new.lanes.items;
       all = all_back c.still_together.ensures.in_order c.same_workers.ensures.itself c.in_ok-office.office c.in_ok-office.lanes.items c.end_all.new.lanes.items c.in_ok-office.first c.take_through-taken.result.1
-          (subst (λ ls. AllZip IsSameLane ls c.end_all.new.lanes.items) c.begin_all.ensures c.end_all.ensures.lanes) c.take_through-taken.ensures.same c.in_ok-office.ensures.all;
+          (all_same c.args.zone _ _ gone) c.take_through-taken.ensures.same c.in_ok-office.ensures.all;
+      asked = all_asked c.args.zone (length c.in_ok-office.office) c.in_ok-office.lanes.items c.end_all.new.lanes.items c.in_ok-office.ensures.others gone;
       gates = c.close_day-closed.result.1.items;
       began = c.close_day-closed.ensures.began ∙ c.in_ok-office.ensures.began;
       told = c.close_day-closed.result.0;
