@@ -10,6 +10,7 @@ pub mod MarkedRequests
 pub mod Asked
 pub mod ArrivalOrder
 pub mod NewRequests
+pub mod KeptBytes
 mod Counting
 pub mod Openings
 pub mod Runs

@@ -1,6 +1,7 @@
 -- How the job run ends, by what came of its desk over the ledger that was opened.
-use Rattle.std.proofs.Common.{◌≡◌, ◌∙◌, ℕ, List, [], ◌∷◌, Option, None, Some, IfSome, inl, inr, refl, sym, ap, subst}
-use Rattle.std.specs.Prelude.{Result, Ok, Err, IfOk, IfErr, length}
+use Rattle.std.proofs.Common.{◌≡◌, ◌∙◌, ℕ, ◌<◌, zero, suc, Bool, true, false, List, [], ◌∷◌, Option, None, Some, IfSome, inl, inr, refl, sym, ap, subst, arith}
+use Rattle.std.proofs.lemmas.Bool.{lt-ltb}
+use Rattle.std.specs.Prelude.{nat_lt, Result, Ok, Err, IfOk, IfErr, length}
 use Rattle.sqlite.specs.Held.{Held, state}
 use Rattle.sqlite.specs.State.{HasCleanDisk}
 use Rattle.sqlite.specs.Store.{Ghosts}
@@ -9,7 +10,9 @@ use Rattle.jiff.specs.ZoneView.{plain_zone}
 use Rattle.jiff.specs.declared.tz.timezone.TimeZone.{TimeZone}
 use Rattle.pay_fare_file.specs.Words.{fare_text}
 use Rattle.pay_kept.specs.Words.{KeptParts, IsCutTo}
+use Rattle.pay_ledger.specs.Words.{IsLedger}
 use Rattle.pay_postings.specs.Words.{LedgerParts}
+use Rattle.pay_records.specs.Words.{LeavesAsBefore}
 use Rattle.pay_shard.specs.Words.{ShardParts, LocalParts}
 use Rattle.pay_tables.specs.Words.{FareTables}
 use Rattle.pay_session.specs.Words.{line_requests}
@@ -19,14 +22,16 @@ use Rattle.pay_session.specs.declared.replaying.ReplayFault.TheVariants as repla
 use Rattle.pay_session.specs.declared.request.Request.{Request}
 use Rattle.pay_session.specs.declared.sessions.Done.{Done}
 use Rattle.pay_session.specs.declared.stop.SessionFault.{SessionFault}
-use Rattle.pay_jobs.specs.Begun.{IsTakenBeside, HasRun, HasNotRun}
+use Rattle.pay_jobs.specs.Alone.{IsBare, IsTakenWith, IsNotTakenAlone, IsNotTakenWith}
+use Rattle.pay_jobs.specs.Begun.{HasRun, HasNotRun}
 use Rattle.pay_jobs.specs.Faults.{IsRefusal, IsReplayFault, IsOpenFault}
 use Rattle.pay_jobs.specs.Journals.{GivesBack}
+use Rattle.pay_jobs.specs.Ledgers.{HasLedger}
 use Rattle.pay_jobs.specs.Machine.{Machine, new_machine, machine_on, with_ledger}
 use Rattle.pay_jobs.specs.Outcomes.{Outcome, AreAllPriced}
 use Rattle.pay_jobs.specs.Past.{IsNotReplayed, whole_bytes}
 use Rattle.pay_jobs.specs.Places.{Place}
-use Rattle.pay_jobs.specs.Run.{Begins, Resumes, IsRefused, IsNotBegun, HasBegun, HasOpened, IsTaken, JobRan, RunFails}
+use Rattle.pay_jobs.specs.Run.{Begins, Resumes, IsRefused, IsNotBegun, HasBegun, HasOpened, IsTaken, IsLeftAlone, JobRan, RunFails}
 use Rattle.pay_jobs.specs.declared.fault.Fault.{Fault}
 use Rattle.pay_jobs.specs.declared.fault.Fault.TheVariants.{Usage, CannotReadFares, BadZone, CannotListen, Input, Output, CannotUseJournal, JournalLine, JournalLineOf, Journal, LedgerAlone, Refused}
 use Rattle.pay_jobs.proofs.Asked.{ends_behind}
@@ -95,6 +100,28 @@ no_lines past text lines is same none = ap line_requests (sym same) ∙ nothing_
     nothing_in [] e = refl
     nothing_in (r ∷ rs) e = absurd (cc)
 
+-- a ledger that was taken is as it was, and without a line it archives nothing
+module _ {S : Type 0} (store : Ghosts S) (old new : Held S) where
+  was_clean : LeavesAsBefore store old new → HasCleanDisk (state store new) → HasCleanDisk (state store old)
+  was_clean survives clean = let less = survives.clean in omega (arith, less, clean)
+
+  clean_before : (has_line : Bool) → IsTakenWith store old new has_line → HasCleanDisk (state store new) → HasCleanDisk (state store old)
+  clean_before true taken clean = subst (λ h. HasCleanDisk (state store h)) taken clean
+  clean_before false taken clean = was_clean taken.survives clean
+
+  same_ledger : (has_line : Bool) → IsTakenWith store old new has_line → HasCleanDisk (state store new) → (found : LedgerParts) → IsLedger (state store old).now found → HasLedger (state store new) (Some found)
+  same_ledger true taken clean found is live = subst (λ h. IsLedger (state store h).now found) (sym taken) is
+  same_ledger false taken clean found is live = subst (λ db. IsLedger db found) (sym (taken.kept clean live).now) is
+
+  bare_without : (lines : ℕ) → lines ≡ 0 → IsTakenWith store old new (nat_lt 0 lines) → IsBare store old new true
+  bare_without lines none taken = (subst (λ n. IsTakenWith store old new (nat_lt 0 n)) none taken).bare
+
+  not_taken : (lines : ℕ) (fault : Fault) → IsNotTakenWith store old new (nat_lt 0 lines) fault → (lines ≡ 0) × IsNotTakenAlone store old new fault
+  not_taken zero fault why = (refl, why)
+  not_taken (suc lines) fault why =
+      let some : 0 < suc lines = omega arith in
+      absurd (subst (λ b. IsNotTakenWith store old new b fault) (lt-ltb 0 (suc lines) some) why)
+
 -- where the input is known this is so of it, if that is
 if_known : (known : Option (List ℕ)) (A B : Type 0) → IfSome known (λ _. A) → (A → B) → IfSome known (λ _. B)
 if_known None A B h f = tt
@@ -129,23 +156,26 @@ module _ {S : Type 0} {store : Ghosts S} (place : Place store) (sound_is_clean :
     abbrev has_opened : HasOpened place texts
     has_opened = record { resumed = (machine_on begun.0 begun.1.shard None, resumed None); opened = opened; opens = opens }
 
-    taken_up : (later : Held S) → IsTakenBeside store begun.2.lines opened later → HasCleanDisk (state store later) → IsTaken store texts opened
+    taken_up : (later : Held S) → IsTakenWith store opened later (nat_lt 0 begun.2.lines) → HasCleanDisk (state store later) → IsTaken store texts opened
     taken_up later beside clean = record {
-      clean = beside.clean clean;
-      bare = λ none. beside.bare (none_of past text begun.2.lines has.replay.lines is none) clean;
+      clean = clean_before store opened later (nat_lt 0 begun.2.lines) beside clean;
+      bare = λ none. bare_without store opened later begun.2.lines (none_of past text begun.2.lines has.replay.lines is none) beside clean;
+    }
+
+    left_alone : (last : Held S) (fault : Fault) → (begun.2.lines ≡ 0) × IsNotTakenAlone store opened last fault → IsLeftAlone place texts fault
+    left_alone last fault alone = record {
+      has = has_opened;
+      no_lines = no_lines past text begun.2.lines has.replay.lines is alone.0;
+      last = last;
+      clean = λ sound. let clean = sound_is_clean last sound in (was_clean store opened last alone.1.survives clean, clean);
+      why = alone.1;
     }
 
     -- the ledger was not taken beside the journal, or it was, and this could not be cut
-    pub fails_behind : (last : Held S) (fault : Fault) → HasNotRun store Fails begun.2.lines opened last fault → RunFails place texts Fails fault
+    pub fails_behind : (last : Held S) (fault : Fault) → HasNotRun store Fails (nat_lt 0 begun.2.lines) opened last fault → RunFails place texts Fails fault
     fails_behind last fault h = elim h [
       | inl cut ↦ inr (inr (inr (cut.0, record { has = has_opened; last = last; taken = λ sound. taken_up last cut.1 (sound_is_clean last sound) }, cut.2)))
-      | inr alone ↦ inr (inr (inl (record {
-        has = has_opened;
-        no_lines = no_lines past text begun.2.lines has.replay.lines is alone.no_lines;
-        last = last;
-        clean = λ sound. let clean = sound_is_clean last sound in (alone.clean clean, clean);
-        why = alone.why;
-      })))
+      | inr alone ↦ inr (inr (inl (left_alone last fault (not_taken store opened last begun.2.lines fault alone))))
     ]
 
     pub job_ran : (held left written left_after written_after : Option (List ℕ)) (kept : KeptParts) (last : Held S) (ended : Result Done SessionFault)
@@ -161,7 +191,7 @@ module _ {S : Type 0} {store : Ghosts S} (place : Place store) (sound_is_clean :
       over = λ sound found has. record {
         machine = machine_on begun.0 begun.1.shard (Some found);
         resumes = resumed (Some found);
-        ends = ok_if_known ended left _ _ ran.clean (λ before. let clean = sound_is_clean last sound in ran.ends clean found (ran.beside.same (before clean) found has));
-        fails = err_if_known ended left _ _ ran.clean (λ before. let clean = sound_is_clean last sound in ran.fails clean found (ran.beside.same (before clean) found has));
+        ends = ok_if_known ended left _ _ ran.clean (λ before. let clean = sound_is_clean last sound in ran.ends clean found (same_ledger store opened ran.taken (nat_lt 0 begun.2.lines) ran.beside (before clean) found has));
+        fails = err_if_known ended left _ _ ran.clean (λ before. let clean = sound_is_clean last sound in ran.fails clean found (same_ledger store opened ran.taken (nat_lt 0 begun.2.lines) ran.beside (before clean) found has));
       };
     }

@@ -22,7 +22,7 @@ module _ {S : Type 0} (store : Ghosts S) (old new : Held S) where
     pub kept : ChangesNothing store old new
     pub survives : LeavesAsBefore store old new
 
-  -- Whether a journal has a line decides how it is taken: with one, as it is; with none, if it is found bare.
+  -- Whether a journal has a whole line decides how it is taken: with one, as it is; with none, if it is found bare.
   abbrev pub IsTakenWith : Bool → Type 0
   IsTakenWith true = new ≡ old
   IsTakenWith false = IsFoundBare
@@ -33,6 +33,13 @@ module _ {S : Type 0} (store : Ghosts S) (old new : Held S) where
     pub told : IsUnread why fault
     pub of_rows : OnCleanDisk store old new (λ old _. (rows : LedgerRows) → HoldsRows old.now rows → IsTrue (is_of_store why))
 
-  -- why it is not taken without its journal: it archives something, or what it archives was not read
-  abbrev pub IsNotTakenAlone : Fault → Type 0
-  IsNotTakenAlone fault = ((fault ≡ LedgerAlone) × IsBare false) ⊎ IsNotRead fault
+  -- Why it is not taken without its journal: it archives something, or what it archives was not read. All is as it was.
+  pub record IsNotTakenAlone (fault : Fault) : Type 0 where
+    pub why : ((fault ≡ LedgerAlone) × IsBare false) ⊎ IsNotRead fault
+    pub kept : ChangesNothing store old new
+    pub survives : LeavesAsBefore store old new
+
+  -- why it is not taken: it always is with a line of a journal
+  abbrev pub IsNotTakenWith : Bool → Fault → Type 0
+  IsNotTakenWith true fault = ⊥
+  IsNotTakenWith false fault = IsNotTakenAlone fault

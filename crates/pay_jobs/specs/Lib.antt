@@ -3,6 +3,7 @@ pub mod Begun
 pub mod Check
 pub mod Faults
 pub mod Journals
+pub mod KeptBytes
 pub mod KeptLines
 pub mod Laws
 pub mod Ledgers

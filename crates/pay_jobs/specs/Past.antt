@@ -13,7 +13,7 @@ use Rattle.pay_session.specs.declared.replaying.ReplayFault.{ReplayFault}
 use Rattle.pay_session.specs.declared.replaying.ReplayFault.TheVariants as fault
 use Rattle.pay_session.specs.declared.request.Request.{Request}
 use Rattle.pay_jobs.specs.Journals.{GivesBack}
-use Rattle.pay_jobs.specs.Machine.{Machine, new_machine, machine_on, step}
+use Rattle.pay_jobs.specs.Machine.{Machine, machine_on, step}
 use Rattle.pay_jobs.specs.Outcomes.{outcome, AreAllPriced}
 
 -- how many bytes of a text are whole lines

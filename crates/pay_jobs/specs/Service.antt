@@ -8,6 +8,7 @@ use Rattle.sqlite.specs.Held.{Held, state}
 use Rattle.sqlite.specs.Store.{Ghosts}
 use Rattle.pay_tables.specs.Words.{FareTables}
 use Rattle.pay_fare_file.specs.Words.{fare_text}
+use Rattle.pay_records.specs.Words.{LeavesAsBefore}
 use Rattle.pay_session.specs.Words.{has_newline}
 use Rattle.pay_kept.specs.declared.keeper.Keeper.{Ghosts as Keeping}
 use Rattle.pay_keeping.specs.Words.{HoldsPassed}
@@ -15,7 +16,7 @@ use Rattle.pay_wire.specs.Words.{WriterCall, HasFault}
 use Rattle.pay_serve.specs.Words.{IsOutOfPlan, Terms, terms, IsServedBy, IsStopped}
 use Rattle.pay_serve.specs.declared.fault.ServeFault.{ServeFault}
 use Rattle.pay_serve.specs.declared.plan.Plan.{Plan}
-use Rattle.pay_jobs.specs.Alone.{IsTakenWith, IsNotTakenAlone}
+use Rattle.pay_jobs.specs.Alone.{IsTakenWith, IsNotTakenWith}
 use Rattle.pay_jobs.specs.Faults.{IsOpenFault, IsServeFault}
 use Rattle.pay_jobs.specs.Places.{Place}
 use Rattle.pay_jobs.specs.Run.{IsRefused, IsBadZone}
@@ -55,18 +56,15 @@ module _ {K S : Type 0} (keeper : Keeping K) (store : Ghosts S) where
     pub served : IsServedBy (HoldsPassed keeper.holds keeper.HasFailed keeper.IsSettled) terms (state store begun, before.1) (state store after.0, after.1) ended
     pub told : IsToldAs ended result
 
-  -- Or this was not come to, and nothing was written.
+  -- Or this was not come to, nothing was written, and the ledger is as it was.
   abbrev pub IsServedOrNot : Terms → Held S × Option (List ℕ) → Held S × Option (List ℕ) → Result Bool Fault → Type 0
-  IsServedOrNot terms before after result = IsServedInto terms before after result ⊎ (IsErr result × (after.1 ≡ before.1))
+  IsServedOrNot terms before after result = IsServedInto terms before after result ⊎ (IsErr result × (after.1 ≡ before.1) × LeavesAsBefore store before.0 after.0)
 
--- no journal has a line, and a ledger is not taken without
-abbrev pub IsRefusedWithout : {S : Type 0} → Ghosts S → List (List ℕ) → Held S → Fault → Type 0
-IsRefusedWithout {S} store journals opened fault = (have_line journals ≡ false) × (read : Held S) × IsNotTakenAlone store opened read fault
-
--- Why nothing is served over a ledger by these terms, or what a service ended with. If it tells of a line of a journal, it tells what
+-- Why nothing is served over a ledger by these terms, which is not taken with the journals, or what a service ended with. If this tells of a line of a journal, it tells what
 -- came of it.
-abbrev pub IsUnserved : {S : Type 0} → Ghosts S → Terms → Held S → Fault → Type 0
-IsUnserved store terms opened fault = IsRefusedWithout store terms.texts opened fault ⊎ ((why : ServeFault) × IsServeFault why fault × IsStopped terms why)
+abbrev pub FailsToServe : {S : Type 0} → Ghosts S → Terms → Held S → Fault → Type 0
+FailsToServe {S} store terms opened fault =
+    ((read : Held S) × IsNotTakenWith store opened read (have_line terms.texts) fault) ⊎ ((why : ServeFault) × IsServeFault why fault × IsStopped terms why)
 
 -- The texts were read, a ledger was opened at its place, and the service was held. The streams are what the writer held and what it holds.
 pub record IsHeld {K S : Type 0} {store : Ghosts S} (keeper : Keeping K) (place : Place store) (setup : Setup K) (streams : Option (List ℕ) × Option (List ℕ)) (result : Result Bool Fault) : Type 0 where
@@ -85,7 +83,7 @@ module _ {K S : Type 0} {store : Ghosts S} (keeper : Keeping K) (place : Place s
 
   -- no ledger was opened, or one was, and nothing is served over it any more
   abbrev pub IsBehindTexts : Terms → Fault → Type 0
-  IsBehindTexts terms fault = IsOpenFault place.Refuses fault ⊎ ((opened : Held S) × place.Opens opened × IsUnserved store terms opened fault)
+  IsBehindTexts terms fault = IsOpenFault place.Refuses fault ⊎ ((opened : Held S) × place.Opens opened × FailsToServe store terms opened fault)
 
   -- Why nothing is served any more: the fare file; or, if it is read, the zone; or, if that is read too, the ledger, a port or the service.
   abbrev pub ServiceFails : Setup K → Fault → Type 0

@@ -3,8 +3,8 @@
 pub use Rattle.pay_jobs.specs.Faults.{status_of, stream_fault, told_of, IsRefusal, IsWantOfMemory, IsOpenFault, IsUnread, IsServeFault}
 pub use Rattle.pay_jobs.specs.Places.{Place, in_memory, in_file}
 pub use Rattle.pay_jobs.specs.Run.{IsRefused, Resumes, RanOver, IsTaken, JobRan, HasNoLedger, HasOpened, HasTaken, IsLeftAlone, IsNotBegun, RunFails}
-pub use Rattle.pay_jobs.specs.Alone.{IsBare, IsFoundBare, IsTakenWith, IsNotTakenAlone}
-pub use Rattle.pay_jobs.specs.Service.{Setup, AreRead, terms_of, have_line, IsToldAs, IsServedInto, IsRefusedWithout, IsUnserved, IsHeld, Serves, IsBehindTexts, ServiceFails, HasServiceCause}
+pub use Rattle.pay_jobs.specs.Alone.{IsBare, IsFoundBare, IsTakenWith, IsNotTakenAlone, IsNotTakenWith}
+pub use Rattle.pay_jobs.specs.Service.{Setup, AreRead, terms_of, have_line, IsToldAs, IsServedInto, FailsToServe, IsHeld, Serves, IsBehindTexts, ServiceFails, HasServiceCause}
 pub use Rattle.pay_jobs.specs.Check.{CheckEnds, CheckFails}
 pub use Rattle.pay_jobs.specs.Statement.{StatementWritten, StatementRefused}
 pub use Rattle.pay_day.specs.Words.{IsDay}

@@ -18,6 +18,9 @@ pub trait Journal: Drop {
     /// What keeps its lines may be refused.
     ghost CanFail: { Type 0 };
 
+    /// What keeps its lines does so as it says, beside which bytes there are.
+    ghost IsKeptBy: { Self → Self.Keeper → Type 0 };
+
     /// The bytes that it has: lines, and perhaps the front of one that was cut.
     fn past(&self) -> &[u8]
         ensures { result.now ≡ bytes self.now };
@@ -25,6 +28,7 @@ pub trait Journal: Drop {
     /// What keeps lines behind the first `whole` bytes. All that stands behind these is cut off.
     fn keeper(self, whole: u64) -> Result<Self::Keeper, NotKept>
         ensures cut { IfOk result (λ keeper. IsCutTo whole (holds self) (Self.Keeper.Keeper.holds keeper)) }
+        ensures its { IfOk result (IsKeptBy self) }
         ensures failed { OnErr result CanFail };
 }
 
@@ -33,7 +37,7 @@ pub trait Journal: Drop {
 pub struct NoJournal;
 
 impl Journal for NoJournal {
-    ghost use Rattle.std.specs.Prelude.{None, []};
+    ghost use Rattle.std.specs.Prelude.{None, [], ⊤};
 
     type Keeper = NoKeeper;
 
@@ -42,6 +46,8 @@ impl Journal for NoJournal {
     ghost holds = { λ _. None };
 
     ghost CanFail = { ⊥ };
+
+    ghost IsKeptBy = { λ _ _. ⊤ };
 
     fn past(&self) -> &[u8] {
         &[]
@@ -73,6 +79,9 @@ impl<W: Lasting> Journal for JournalFile<W> {
     ghost holds = { λ j. W.contents j.writer };
 
     ghost CanFail = { ⊤ };
+
+    // Each line is settled at once, or not.
+    ghost IsKeptBy = { λ j k. k.syncs ≡ j.syncs };
 
     fn past(&self) -> &[u8] {
         self.past.as_slice()

@@ -1,14 +1,21 @@
 //! Laws of the machine by which lines are answered. Each law is the contract of a function that does nothing: a caller whose
 //! proof needs a law calls its function.
 ghost use Rattle.std.specs.Prelude.{◌≡◌, Some};
+ghost use Rattle.sqlite.specs.Held.{state};
+ghost use Rattle.pay_kept.specs.Words.{CanFail};
 ghost use Rattle.pay_shard.specs.declared.asked.Asked.{Asked};
 ghost use Rattle.pay_wire.specs.declared.reply.Reply.TheVariants.{No};
 ghost use Rattle.pay_session.specs.Words.{asks_of};
 ghost use Rattle.pay_session.specs.declared.asks.Asks.TheVariants.{Put};
 ghost use Rattle.pay_session.specs.declared.request.Request.{Request};
+ghost use Rattle.pay_jobs.specs.KeptBytes.{LinesAskInRange, FrontsAskInRange, KeptBytesGiveBack, WholeBytesGiveBack, CutBytesGiveBack};
+ghost use Rattle.pay_jobs.specs.KeptBytes.{EndedIsHeld, StoppedReadingIsHeld, StoppedWritingIsHeld};
 ghost use Rattle.pay_jobs.specs.Machine.{Machine, Failure, refusal_of_command, stays, step};
 ghost use Rattle.pay_jobs.specs.Laws.{FailedCloseTells, OthersNeverFail, FailuresLeaveAccounts, AskedAlikeEndsAlike, AcceptedAlikeEndsAlike};
 ghost use Rattle.pay_jobs.specs.Laws.{NewReplayAlone, NewStayNew, NewReplayInAnyOrder, CutLeavesFront, FrontReplaysAsCut, KeptGivesBack, KeptInAnyOrder};
+
+use pay_kept::Keeper;
+use sqlite::Alter;
 
 /// Where memory, the store, the desk or what keeps lines fails for a request, no tap and no correction is in the accounts, and
 /// nothing is posted. A command is then answered by `NO 48 NotKept` or `NO 90 Memory`, a close by what failed, and all else as ever.
@@ -63,4 +70,40 @@ pub fn journals()
 {
     order_forgets_arrival();
     pay_shard::laws::accepted_alone();
+}
+
+/// The file of a session's journal, taken again line by line, is the machine that the session ended with: a journal that gives a machine
+/// back, cut to its whole lines, and behind them the lines that a keeper has of what was newly accepted. And a file that was cut is
+/// the machine where the session was cut.
+pub fn kept_bytes_give_back()
+    // All that a session is asked is in its ranges, so that each request has one line,
+    ensures lines { LinesAskInRange }
+
+    // and so are the first of them, where a session ended before the others.
+    ensures fronts { FrontsAskInRange }
+
+    // What a keeper holds gives back the machine that there is then, if it has no more behind it than a line that was cut.
+    ensures kept { KeptBytesGiveBack }
+
+    // So it does where the keeper did not fail, and then its bytes are whole lines.
+    ensures whole { WholeBytesGiveBack }
+
+    // Wherever it is cut, the whole lines that are left give back where the run was cut.
+    ensures cut { CutBytesGiveBack }
+{
+    journals();
+    pay_wire::laws::read_as_spelled();
+    pay_session::laws::cut_at_newlines();
+    pay_session::laws::read_back();
+    pay_session::laws::cut();
+}
+
+/// A session of the job `run` leaves its machine in its journal: where its keeper began behind the whole lines of this, and did not
+/// fail, what it holds is the machine with which the session ended, however that was.
+pub fn journal_is_the_machine<K: Keeper, S: Alter>()
+    ensures ended { EndedIsHeld (state S.Store) (CanFail K.HasFailed) }
+    ensures reading { StoppedReadingIsHeld (state S.Store) (CanFail K.HasFailed) }
+    ensures writing { StoppedWritingIsHeld (state S.Store) (CanFail K.HasFailed) }
+{
+    kept_bytes_give_back();
 }

@@ -1,8 +1,7 @@
 //! Where the ledger lies that days are closed into: in memory, or in a file.
 ghost use Rattle.std.specs.Prelude.{IfOk, IfErr, OnOk};
 ghost use Rattle.sqlite.specs.WalFiles.{image_at};
-ghost use Rattle.pay_records.specs.Words.{LeavesAsBefore};
-ghost use Rattle.pay_jobs.specs.Alone.{IsFoundBare, IsNotTakenAlone};
+ghost use Rattle.pay_jobs.specs.Alone.{IsTakenWith, IsNotTakenWith};
 ghost use Rattle.pay_jobs.specs.Places.{in_memory, in_file};
 
 use crate::fault::Fault;
@@ -45,12 +44,15 @@ pub(crate) fn new_ledger(alloc: Global) -> Result<Ledger<FileStore<ScratchFile>>
     }
 }
 
-/// Refuses a ledger that archives something, which needs the journal of what it archives.
-pub(crate) fn refuse_alone<S: Alter>(ledger: &mut Ledger<S>) -> Result<(), Fault>
-    ensures bare { OnOk result (IsFoundBare S.Store ledger.old ledger.new) }
-    ensures refused { IfErr result (IsNotTakenAlone S.Store ledger.old ledger.new) }
-    ensures survives { LeavesAsBefore S.Store ledger.old ledger.new }
+/// Takes a ledger with journals that have a whole line, or have none. One that archives something needs the journal of what it
+/// archives, and is not taken without.
+pub(crate) fn take_with<S: Alter>(ledger: &mut Ledger<S>, has_line: bool) -> Result<(), Fault>
+    ensures taken { OnOk result (IsTakenWith S.Store ledger.old ledger.new has_line) }
+    ensures refused { IfErr result (IsNotTakenWith S.Store ledger.old ledger.new has_line) }
 {
+    if has_line {
+        return Ok(());
+    }
     match ledger.archives_nothing() {
         Ok(true) => Ok(()),
         Ok(false) => Err(Fault::LedgerAlone),

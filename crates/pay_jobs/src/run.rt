@@ -1,5 +1,5 @@
 //! The job `run`, by the texts of its fare file and its zone, and its journal: all that the program does below the reading of files.
-ghost use Rattle.std.specs.Prelude.{◌≡◌, false, None, Ok, IfOk, IfErr, OnOk, OnErr};
+ghost use Rattle.std.specs.Prelude.{◌≡◌, false, nat_lt, None, Ok, IfOk, IfErr, OnErr};
 ghost use Rattle.std.specs.Arc.{arc_value};
 ghost use Rattle.jiff.specs.Placed.{IsPosixZone};
 ghost use Rattle.jiff.specs.Words.{read_whole};
@@ -8,13 +8,13 @@ ghost use Rattle.sqlite.specs.WalFiles.{image_at};
 ghost use Rattle.pay_fare_file.specs.Words.{fare_text};
 ghost use Rattle.pay_kept.specs.Words.{CanFail, IsCutTo};
 ghost use Rattle.pay_session.specs.Words.{IsBroken, IsLastFill, ShowsNothing};
-ghost use Rattle.pay_jobs.specs.Begun.{IsTakenBeside, IsNotTakenBeside, HasRun, HasNotRun};
+ghost use Rattle.pay_jobs.specs.Begun.{HasRun, HasNotRun};
 ghost use Rattle.pay_jobs.specs.Places.{in_memory, in_file};
 ghost use Rattle.pay_jobs.specs.Run.{IsRefused, JobRan, RunFails, HasBegun, IsNotBegun};
 
 use crate::fault::Fault;
 use crate::journal::Journal;
-use crate::ledger::{LedgerFile, new_ledger, refuse_alone};
+use crate::ledger::{LedgerFile, new_ledger, take_with};
 use crate::lines::{Ran, run_lines};
 use crate::past::replayed_desk;
 use jiff::tz::TimeZone;
@@ -112,27 +112,16 @@ fn run_begun<R: ToldReader, W: ToldWriter, J: Journal, T: Alter>(
 ) -> Result<Ran<J::Keeper>, Fault>
     ensures ran { IfOk result (λ ran. HasRun T.Store (CanFail J.Keeper.Keeper.HasFailed)
         (begun.entry, J.holds journal, ledger.old, R.remaining reader.old, W.contents writer.old) (ran.desk, ledger.new, R.remaining reader.new, W.contents writer.new) ran.ended) }
-    ensures fails { IfErr result (HasNotRun T.Store J.CanFail begun.entry.2.lines ledger.old ledger.new) }
+    ensures fails { IfErr result (HasNotRun T.Store J.CanFail (nat_lt 0 begun.entry.2.lines) ledger.old ledger.new) }
     ensures settled { IfOk result (λ ran. ran.desk.stuck ≡ false → (it : J.Keeper) × J.Keeper.Keeper.IsSettled it × (J.Keeper.Keeper.holds it ≡ ran.desk.holds)) }
     ensures untouched { OnErr result ((reader.new ≡ reader.old) × (writer.new ≡ writer.old)) }
     ensures ended { IfOk result (λ ran. IfOk ran.ended (λ done. done.quit ≡ false → IsLastFill R.Tells (ShowsNothing R.Tells) reader.old reader.new)) }
     ensures cause { IfOk result (λ ran. IfErr ran.ended (λ fault. IsBroken R.Tells W.Tells fault reader.old reader.new writer.new)) }
 {
     let (zone, desk, replayed) = begun;
-    take_beside(ledger, replayed.lines)?;
+    take_with(ledger, replayed.lines > 0)?;
     let keeper = keeper_of(journal, replayed.bytes)?;
     Ok(run_lines(alloc, reader, writer, &zone, desk, keeper, ledger))
-}
-
-/// Takes a ledger beside a journal of so many lines.
-fn take_beside<T: Alter>(ledger: &mut Ledger<T>, lines: u64) -> Result<(), Fault>
-    ensures taken { OnOk result (IsTakenBeside T.Store lines ledger.old ledger.new) }
-    ensures refused { IfErr result (IsNotTakenBeside T.Store lines ledger.old ledger.new) }
-{
-    if lines > 0 {
-        return Ok(());
-    }
-    refuse_alone(ledger)
 }
 
 /// What keeps lines behind the whole ones of a journal.

@@ -7,12 +7,11 @@ ghost use Rattle.pay_day.specs.Words.{IsDay};
 ghost use Rattle.pay_kept.specs.Words.{CanFail};
 ghost use Rattle.pay_session.specs.Words.{has_newline};
 ghost use Rattle.pay_serve.specs.Words.{IsOutOfPlan, terms};
-ghost use Rattle.pay_jobs.specs.Alone.{IsTakenWith};
 ghost use Rattle.pay_jobs.specs.Places.{in_memory, in_file};
-ghost use Rattle.pay_jobs.specs.Service.{have_line, IsRefusedWithout, IsServedOrNot, IsUnserved, Serves, ServiceFails, HasServiceCause};
+ghost use Rattle.pay_jobs.specs.Service.{have_line, IsServedOrNot, FailsToServe, Serves, ServiceFails, HasServiceCause};
 
 use crate::fault::Fault;
-use crate::ledger::{LedgerFile, new_ledger, refuse_alone};
+use crate::ledger::{LedgerFile, new_ledger, take_with};
 use crate::run::{read_fares, read_zone};
 use jiff::tz::TimeZone;
 use pay_disk::ScratchFile;
@@ -60,17 +59,6 @@ fn has_one_line(texts: &[Vec<u8>]) -> bool
     false
 }
 
-/// Refuses a ledger that archives something where none of these journals has a whole line.
-fn refuse_without<S: Alter>(texts: &[Vec<u8>], ledger: &mut Ledger<S>) -> Result<(), Fault>
-    ensures taken { OnOk result (IsTakenWith S.Store ledger.old ledger.new (have_line (map vec_items texts.now))) }
-    ensures refused { IfErr result (IsRefusedWithout S.Store (map vec_items texts.now) ledger.old) }
-{
-    if has_one_line(texts) {
-        return Ok(());
-    }
-    refuse_alone(ledger)
-}
-
 /// Serves the connections of a plan over a ledger that was opened, and closes the plan's day into it when all have ended.
 fn serve_over<R, K, S: Alter, W: ToldWriter>(
     rt: R,
@@ -96,12 +84,12 @@ where
     requires keepers { length keepers.items ≡ plan.now.shards }
     ensures served { IsServedOrNot K.Keeper S.Store (terms (arc_value tables) zone.entry (map vec_items texts.now) (map K.holds keepers.items) plan.now.close)
         (ledger.old, W.contents writer.old) (ledger.new, W.contents writer.new) result }
-    ensures fails { IfErr result (IsUnserved S.Store (terms (arc_value tables) zone.entry (map vec_items texts.now) (map K.holds keepers.items) plan.now.close) ledger.old) }
+    ensures fails { IfErr result (FailsToServe S.Store (terms (arc_value tables) zone.entry (map vec_items texts.now) (map K.holds keepers.items) plan.now.close) ledger.old) }
     ensures flushed { OnOk result (IsFlushed W.Tells writer.new) }
     ensures within { OnOk result (IsOutOfPlan plan.now → ⊥) }
     ensures cause { IfErr result (λ fault. HasServiceCause W.Tells (CanFail K.HasFailed) plan.now fault writer.new) }
 {
-    refuse_without(texts, ledger)?;
+    take_with(ledger, has_one_line(texts))?;
     let listeners = listen(&rt, alloc, plan)?;
     tell_ports(&rt, plan);
     let closed = serve(
