@@ -8,7 +8,8 @@ import subprocess
 # file that is the descriptor ODDS, where there is one; 0 there refuses none. Each is told by an x on the descriptor TELL. Where there is
 # MARKED, only those between the marks of a test count; marks are requests of sizes that nothing else asks for, and a third such size
 # tells by an m that a call has said so. And a send that takes ROOM bytes in all, of the one connection that there is. And an fdatasync
-# that fails behind the first SETTLED calls. It declares what it calls: the toolchain's compiler comes without the C library's headers.
+# that fails behind the first SETTLED calls, and an fsync behind the first NAMED ones. It declares what it calls: the toolchain's compiler
+# comes without the C library's headers.
 SOURCE = r"""
 typedef unsigned long size_t;
 extern void *dlsym(void *, const char *);
@@ -115,13 +116,21 @@ long send(int socket, const void *bytes, size_t count, int flags) {
   return took;
 }
 
-int fdatasync(int file) {
-  static long calls;
+static int settled(const char *call, const char *most, long *calls, int file) {
   typedef int settle(int);
-  settle *next = (settle *)dlsym(RTLD_NEXT, "fdatasync");
-  if (!getenv("SETTLED") || ++calls <= number("SETTLED")) return next(file);
+  if (!getenv(most) || ++*calls <= number(most)) return ((settle *)dlsym(RTLD_NEXT, call))(file);
   *__errno_location() = EIO;
   return -1;
+}
+
+int fdatasync(int file) {
+  static long calls;
+  return settled("fdatasync", "SETTLED", &calls, file);
+}
+
+int fsync(int file) {
+  static long calls;
+  return settled("fsync", "NAMED", &calls, file);
 }
 """
 

@@ -247,15 +247,16 @@ def cut_journals(folder):
 
 @test
 def rests(folder):
-    """What stands behind a last newline is no line, whatever it is."""
+    """What stands behind a last newline is no line, whatever it is; but what has no newline, and is longer than a line, is no journal."""
     lines, replies = boardings(2)
     again = replies.replace(b"OK", b"AGAIN")
-    for rest in (b"TAP 1 1 9 1704697200 50 BUS", b"QUIT", b"\0", b"\r", b"\xff" * 200, b"TAP 1 1 1 1704697201 50 BUS", b" " * 5_000):
+    for rest in (b"TAP 1 1 9 1704697200 50 BUS", b"QUIT", b"\0", b"\r", b"\xff" * 128, b"TAP 1 1 1 1704697201 50 BUS", b" " * 129, b"\0" * 4_096):
         for before, came in ((lines, again), (b"", replies)):
             path = written(folder, "journal", before + rest)
             wanted = counted(before.count(b"\n"), before.count(b"\n"), *[SEVEN if before else 0] * 2, len(rest))
             yield f"{rest[:30]!r} behind {len(before)} bytes, replayed", replayed(path), wanted
-            yield f"{rest[:30]!r} behind {len(before)} bytes", kept(path, lines), End(0, came, left=lines)
+            wanted = End(0, came, left=lines) if before or len(rest) <= 128 else CANNOT_USE._replace(left=rest)
+            yield f"{len(rest)} bytes, {rest[:30]!r}, behind {len(before)} bytes", kept(path, lines), wanted
     # Of several files all rests count, and none is joined with the file behind it.
     one, two = written(folder, "one", lines + b"TAP 1 1 3 17046"), written(folder, "two", b"97200 50 BUS")
     yield "two files with rests", replayed(one, two), counted(2, 2, SEVEN, SEVEN, 15 + 12)
@@ -508,6 +509,49 @@ def one_session_at_a_time(folder):
             ran.kill()
             ran.wait()
         yield f"a session that is killed, {at}", answers(output), answers(b"AGAIN" + reply[2:])
+
+
+@test
+def links(folder):
+    """A journal by a link: to a file, and to none, which is made where the link leads."""
+    (first, second), (reply, _) = (text.splitlines(True) for text in boardings(2))
+    os.mkdir(os.path.join(folder, "there"))
+    file, link = os.path.join(folder, "there", "file"), os.path.join(folder, "link")
+    os.symlink("there/file", link)
+    yield "a replay of a link to no file", replayed(link), CANNOT_USE
+    yield "a statement of it", run(with_journal(link, STATE)), CANNOT_USE
+    yield "a session with it", kept(link, first), End(0, reply, left=first)
+    yield "the file that was made", answers(bytes_of(file)), answers(first)
+    yield "a replay of a link to a file", replayed(link), counted(1, 1, SEVEN, SEVEN)
+    yield "a session with it then", kept(link, first + second), End(0, b"AGAIN" + reply[2:] + reply, left=first + second)
+    with started(with_journal(link)) as ran:
+        ran.stdin.write(first)
+        heard(ran.stdout, len(reply) + 3)
+        yield "a second session, with the file", run(with_journal(file)), CANNOT_USE
+    for name, to in (("a link to a file in no folder", "no/file"), ("a link to itself", "astray"), ("a link to a folder", "there")):
+        os.symlink(to, missing(folder, "astray"))
+        yield name, run(with_journal(os.path.join(folder, "astray")), first), CANNOT_USE
+
+
+def naming(library, count):
+    """How a program is run for which the disk takes the names of so many folders, and of no more."""
+    return {"env": {"LD_PRELOAD": library, "NAMED": str(count)}}
+
+
+@test
+def names_on_the_disk(folder):
+    """Each start has the name of its journal on the disk, also if the file is there, which a start may have made that was cut off behind that."""
+    library, (lines, replies) = preloaded(folder), boardings(1)
+    given = written(folder, "given", lines)
+    os.mkdir(os.path.join(folder, "there"))
+    os.symlink("there/file", os.path.join(folder, "link"))
+    for name, count in (("made", 1), ("link", 2)):
+        path = os.path.join(folder, name)
+        for named, at in itertools.product(range(count), range(2)):
+            came = leaving(path, run_file(with_journal(path), given, **naming(library, named)))
+            yield f"{name}, {named} folders named, start {at}", came, CANNOT_USE._replace(left=b"")
+        yield f"{name}, {count} folders named", kept(path, lines, **naming(library, count)), End(0, replies, left=lines)
+        yield f"{name}, and no folder named", kept(path, b"", **naming(library, 0)), CANNOT_USE._replace(left=lines)
 
 
 @test

@@ -291,6 +291,17 @@ def journals_as_ledgers(folder):
         written(folder, os.path.basename(journal), line)
         yield f"{name} with a line", run_file(with_ledger(ledger, journal), given, leaves=True), STORE._replace(left=lines)
         yield f"{name} with a line, as it is left", answers(bytes_of(journal)), answers(line)
+    # A ledger's log lies beside the file to which a link leads.
+    alias, log = os.path.join(folder, "alias"), os.path.join(folder, "aliased-wal")
+    os.symlink("aliased", alias)
+    run(with_ledger(os.path.join(folder, "aliased")))
+    written(folder, "aliased-wal", line)
+    yield "its log by a link", run_file(with_ledger(alias, log), given, leaves=True), STORE._replace(left=lines)
+    with started([*RUN, "--journal", log]) as ran:
+        ran.stdin.write(line)
+        heard(ran.stdout, len(b"AGAIN 19730 175 175\n"))
+        yield "its log by a link, of another session", run_file(with_ledger(alias), given, leaves=True), STORE._replace(left=lines)
+    yield "its log by a link, as it is left", answers(bytes_of(log)), answers(line)
     beside = os.path.join(folder, "beside")
     with started([*RUN, "--journal", beside]) as ran:
         ran.stdin.write(line)

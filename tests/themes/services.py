@@ -11,10 +11,11 @@ import loads
 import rules
 from killed import Kept, rows_of
 from killed_services import ServedStory
+from preloads import preloaded
 from running import (
     MISSING, MONDAY, RUN_SAMPLE, SAMPLE, SEVEN, STATE, End, answers, end_of, fault, heard, in_lines, run, session, started, test, written,
 )
-from themes.journals import CANNOT_USE, bad_line, bytes_of, limited_to, replayed, with_journal
+from themes.journals import CANNOT_USE, bad_line, bytes_of, limited_to, naming, replayed, with_journal
 from themes.ledgers import ALONE, ROWS_BEHIND_FIRST, ROWS_BEHIND_SECOND, STORE, opened_ledger, refused_ledgers, rows, with_ledger
 from themes.serve import (
     WEEK_DAYS, boarding, closed, connected, ended, failed, free_ports, listening, paid, serving, side_by_side, talk, talk_ahead, words_of,
@@ -42,8 +43,8 @@ def texts_of(journals):
 
 
 def texts(*those):
-    """The same of these, from number 0 on."""
-    return b"".join(b"== %d.lines\n%s" % (number, text.encode()) for number, text in enumerate(those))
+    """The same of these, from number 0 on, and of the others without a line."""
+    return b"".join(b"== %d.lines\n%s" % (number, "".join(those[number:number + 1]).encode()) for number in FROM_EACH)
 
 
 def with_journals(journals, *more):
@@ -91,7 +92,7 @@ SERVICES = (
             (boarding(7), AGAIN), (boarding(10), BOARDED), (CREDIT, AGAIN), (boarding(12), BOARDED), (f"TAP 1 1 8 {SEVEN + 1} 50 BUS\n", "NO 20 Conflict"),
             DUE,
         ),
-    ), texts(*THEN_TWO, ""), (8, 9, 10, 12)),
+    ), texts(*THEN_TWO), (8, 9, 10, 12)),
     Served(16, (
         ((boarding(31), BOARDED),), ((boarding(12), AGAIN),), ((boarding(29), BOARDED), (boarding(9), AGAIN)),
     ), texts(*THEN_TWO, *[""] * 11, boarding(29), "", boarding(31)), (8, 9, 10, 12, 29, 31)),
@@ -238,9 +239,10 @@ def bad_journals(folder):
     journals = new_folder(folder, "two")
     written(journals, "0.lines", boarding(7).encode())
     written(journals, "3.lines", f"{boarding(8)}TAP 1 1 7 {SEVEN + 1} 50 BUS\n".encode())
+    has = texts(boarding(7), "", "", f"{boarding(8)}TAP 1 1 7 {SEVEN + 1} 50 BUS\n")
     for shards in (1, 4, 16):
         came, wanted = refused_start(journals, shards, bad_line(2, "20 Conflict", "3"))
-        yield f"two journals that contradict each other, {shards} shards", came, wanted
+        yield f"two journals that contradict each other, {shards} shards", leaving(journals, came), wanted._replace(left=has)
     with started([*words_of(free_ports(1)), "--journal", journals], stdin=subprocess.DEVNULL) as ran:
         yield "what is written of it", answers(end_of(ran).output), answers(b"")
 
@@ -258,19 +260,26 @@ def folders_that_cannot_be(folder):
     device, later_device = new_folder(folder, "device"), new_folder(folder, "later-device")
     os.symlink("/dev/null", path_of(device, 0))
     os.symlink("/dev/null", path_of(later_device, 2))
+    astray, later_astray = new_folder(folder, "astray"), new_folder(folder, "later-astray")
+    os.symlink("no/file", path_of(astray, 1))
+    os.symlink("no/file", path_of(later_astray, 9))
+    twice = new_folder(folder, "twice")
+    os.symlink("9.lines", path_of(twice, 3))
     given = [
         ("a missing folder", os.path.join(folder, "no")), ("a file", written(folder, "file", b"")), ("no name", ""), ("a device", "/dev/null"),
         ("a pipe with a name", path_of(fifo, 0)), ("a pipe in the place of a journal", fifo), ("a pipe in the place of a further journal", later_fifo),
         ("a folder in the place of a journal", nested), ("a folder in the place of a further journal", later_nested),
         ("a device in the place of a journal", device), ("a device in the place of a further journal", later_device),
+        ("a link to a file in no folder in the place of a journal", astray), ("such a link in the place of a further journal", later_astray),
+        ("a journal that is another one too", twice),
         ("a name that is too long", os.path.join(folder, "j" * 256)),
     ]
     # For who may do all no file is closed.
     if os.geteuid():
-        for name, mode in (("unreadable", 0), ("for reading", stat.S_IRUSR)):
-            closed_one = new_folder(folder, name.replace(" ", "-"))
-            os.chmod(written(closed_one, "0.lines", b""), mode)
-            given.append((f"a journal that is {name}", closed_one))
+        for (name, mode), number in itertools.product((("unreadable", 0), ("for reading", stat.S_IRUSR)), (0, 9)):
+            closed_one = new_folder(folder, f"{name.replace(' ', '-')}-{number}")
+            os.chmod(written(closed_one, f"{number}.lines", b""), mode)
+            given.append((f"journal {number} that is {name}", closed_one))
     with serving(1, 1, 1) as (ran, port, said):
         for name, path in given:
             # The port is another's, which would be told later.
@@ -289,18 +298,18 @@ def one_service_at_a_time(folder):
     with serving(2, 2, 1, more=with_journals(journals)) as (ran, port, said):
         for name, path, shards in itertools.product(("its name", "another name"), (journals, other), (1, 2, 16)):
             yield f"a second service by {name} with {shards} shards", run([*words_of(free_ports(1), 1, shards), *with_journals(path)]), CANNOT_USE
-        for number in (0, 1, 5):
+        for number in FROM_EACH:
             yield f"a session over journal {number}", run(with_journal(path_of(journals, number)), boarding(7).encode()), CANNOT_USE
         both = replayed(path_of(journals, 0), path_of(journals, 5))
         yield "a replay beside it", both, answers(b"OK lines 2 accounts 2 from 1704697200 to 1704697200\n")
         yield "a statement beside it", run(with_journal(path_of(journals, 5), [*STATE[:3], "9", "19730"])), rows_of_statement(A_BOARDING)
         for lane in range(2):
             yield f"lane {lane} beside them", answers(talk(port + lane, b"QUIT\n")), answers(b"BYE\n")
-        left = texts(boarding(8), "") + b"== 5.lines\n" + boarding(9).encode()
+        left = texts(boarding(8), *[""] * 4, boarding(9))
         wanted = closed(port, 2, (paid(8) + paid(9) + done(2)).encode())._replace(left=left)
         yield "the service beside them", leaving(journals, ended(ran, said)), wanted
     # While a session has one of them, no service begins.
-    for number in (0, 1, 5):
+    for number in (0, 1, 5, 9, 15):
         with started(with_journal(path_of(journals, number))) as ran:
             ran.stdin.write(boarding(8 if number == 0 else 9).encode())
             heard(ran.stdout, 5)
@@ -311,6 +320,67 @@ def one_service_at_a_time(folder):
         ran.wait()
     with serving(1, 1, 1, more=with_journals(journals)) as (ran, port, said):
         yield "behind a service that is killed", answers(talk(port, b"QUIT\n")), answers(b"BYE\n")
+
+
+@test
+def sixteen_journals(folder):
+    """A service makes all sixteen journals, whatever it has of shards, and so does one that is then refused."""
+    for shards in (1, 2, 16):
+        journals = new_folder(folder, f"journals{shards}")
+        written(journals, "0.lines", boarding(8).encode())
+        # A copy of one is no journal of a service.
+        note = os.path.join(journals, "1.lines.old")
+        with serving(1, shards, 1, more=with_journals(journals)) as (ran, port, said):
+            written(journals, "1.lines.old", b"fly\n")
+            yield f"a session over another file beside {shards} shards", run(with_journal(os.path.join(journals, "16.lines"))), answers(b"")
+            yield f"the lane of {shards} shards", answers(talk(port, b"QUIT\n")), answers(b"BYE\n")
+            yield f"the close of {shards} shards", ended(ran, said), closed(port, 1, (paid(8) + done(1)).encode())
+        os.remove(note)
+        os.remove(os.path.join(journals, "16.lines"))
+        yield f"the journals of {shards} shards", leaving(journals, answers(b"")), answers(b"")._replace(left=texts(boarding(8)))
+    journals = new_folder(folder, "refused")
+    with serving(1, 1, 1) as (ran, port, said):
+        yield "a port that is taken", run([*words_of(port, 1, 2), *with_journals(journals)]), fault("cannot listen")
+        yield "a session beside it", answers(talk(port, b"QUIT\n")), answers(b"BYE\n")
+    yield "the journals of a service that is refused", leaving(journals, answers(b"")), answers(b"")._replace(left=texts())
+
+
+@test
+def links_to_journals(folder):
+    """Journals of a service that are links, to files and to none, which are made where the links lead."""
+    journals, there = new_folder(folder), new_folder(folder, "there")
+    for number in (0, 1, 9, 10):
+        os.symlink(f"../there/{number}", path_of(journals, number))
+    for number, account in ((0, 8), (9, 9)):
+        written(there, f"{number}", boarding(account).encode())
+    left = texts(boarding(8) + boarding(10), boarding(7), *[""] * 7, boarding(9))
+    with serving(1, 2, 1, more=with_journals(journals)) as (ran, port, said):
+        for number in (0, 1, 9, 10):
+            yield f"a session over the file of journal {number}", run(with_journal(os.path.join(there, f"{number}"))), CANNOT_USE
+        replies = talk(port, "".join(map(boarding, (7, 8, 9, 10))).encode() + b"QUIT\n")
+        yield "lines", answers(replies), answers(in_lines((BOARDED, AGAIN, AGAIN, BOARDED, "BYE")))
+        wanted = closed(port, 1, ("".join(map(paid, (7, 8, 9, 10))) + done(4)).encode())._replace(left=left)
+        yield "the service", leaving(journals, ended(ran, said)), wanted
+    yield "the files", answers(b" ".join(sorted(os.listdir(there.encode())))), answers(b"0 1 10 9")
+    yield "a replay of all", replayed(*(path_of(journals, number) for number in FROM_EACH)), answers(b"OK lines 4 accounts 4 from 1704697200 to 1704697200\n")
+
+
+@test
+def names_on_the_disk(folder):
+    """Each start of a service has the names of its journals on the disk, by one call; and where one is a link, by one more."""
+    library = preloaded(folder)
+    with serving(1, 1, 1) as (ran, port, said):
+        for name, count in (("files", 1), ("a link", 2)):
+            journals = new_folder(folder, name.replace(" ", "-"))
+            if count == 2:
+                os.symlink("../made", path_of(journals, 9))
+            for named, at in itertools.product(range(count), range(2)):
+                came = run([*words_of(port, 1, 2), *with_journals(journals)], **naming(library, named))
+                yield f"{name}, {named} folders named, start {at}", came, CANNOT_USE
+            # What comes behind the journals is that the port is another's.
+            came = run([*words_of(port, 1, 2), *with_journals(journals)], **naming(library, count))
+            yield f"{name}, {count} folders named", came, fault("cannot listen")
+        yield "a session beside services that do not begin", answers(talk(port, b"QUIT\n")), answers(b"BYE\n")
 
 
 LATE = "NO 52 Late\n"
@@ -380,7 +450,6 @@ def ledgers_that_are_refused(folder):
     rests = new_folder(folder, "rests")
     written(rests, "3.lines", boarding(8).rstrip().encode())
     ledger, _ = opened_ledger(folder, "ledger")
-    has = texts_of(journals)
     with serving(1, 1, 1) as (ran, port, said):
         for name, path, wanted in refused_ledgers(folder):
             yield name, run([*words_of(port, 1, 1), *with_both(journals, path)]), wanted
@@ -405,7 +474,7 @@ def ledgers_that_are_refused(folder):
         made = os.path.join(folder, "made")
         yield "a port that is taken", run([*words_of(port), *with_both(journals, made)]), fault("cannot listen")
         yield "a session beside services that do not begin", answers(talk(port, b"QUIT\n")), answers(b"BYE\n")
-    yield "the journals then", answers(texts_of(journals)), answers(has)
+    yield "the journals then", answers(texts_of(journals)), answers(texts(boarding(8) + "TAP 1"))
     # It is opened, and shut again, where the port is not to be had.
     yield "the ledger that was made beside a port that is taken", answers(rows_of(made)), answers(rows())
 

@@ -1,16 +1,21 @@
 //! The files of journals.
-ghost use Rattle.std.specs.Prelude.{◌≡◌, ◌+◌, length, IfOk, OnOk};
+ghost use Rattle.std.specs.Prelude.{◌≡◌, ◌<◌, ◌≤◌, ◌↔◌, ◌+◌, true, length, IfOk, OnOk};
+ghost use Rattle.pay_session.specs.Words.{rest_of};
+ghost use Rattle.pay_wire.specs.declared.limits.TheConstants.{MOST_LINE_BYTES};
+ghost use Rattle.pay_words.specs.declared.limits.TheConstants.{MOST_SHARDS};
 
 use crate::errors::memory_or;
 use pay_jobs::{Fault, JournalFile, LateKeeper, whole_bytes};
 use pay_ledger::OpenFault;
-use std::alloc::{AllocError, Global};
+use pay_wire::limits::MOST_LINE_BYTES;
+use pay_words::limits::MOST_SHARDS;
+use std::alloc::AllocError;
 use std::fs::{File, Files, OpenOptions};
 use std::io::{ErrorKind, Read};
 use std::{fs, io};
 
-/// How many shards a service may have.
-const MOST_SHARDS: u8 = 16;
+/// How many journals a folder has: one for each shard that a service may have.
+const JOURNALS: u8 = MOST_SHARDS as u8;
 
 /// The journals in a folder, by their numbers.
 #[derive(Drop)]
@@ -29,7 +34,7 @@ pub fn open_journal<R: Files<File = File> + AllocGlobal>(
     path: &str,
     syncs: bool,
 ) -> Result<JournalFile<File>, Fault> {
-    match opened(rt, path) {
+    match opened_alone(rt, path) {
         Ok((past, writer)) => Ok(JournalFile {
             past,
             writer,
@@ -39,14 +44,17 @@ pub fn open_journal<R: Files<File = File> + AllocGlobal>(
     }
 }
 
-/// Opens the journals in a folder: that of each shard, which is made where there is none, and those of the shards that there were
-/// more before, which are only read. No other session has any of them then.
+/// Opens the journals in a folder, each of which is made where there is none: that of each shard, and those of the shards that a
+/// service does not have, to which nothing is added. No other session has any of them then.
 pub fn open_journals<R: Files<File = File> + AllocGlobal>(
     rt: &R,
     folder: &str,
     shards: u8,
 ) -> Result<Journals, Fault>
+    requires few { shards ≤ MOST_SHARDS }
     ensures keepers { IfOk result (λ journals. length journals.keepers.items ≡ shards) }
+    ensures held { IfOk result (λ journals. length journals.keepers.items + length journals.others.items ≡ MOST_SHARDS) }
+    ensures texts { IfOk result (λ journals. length journals.texts.items ≡ MOST_SHARDS) }
 {
     match all_opened(rt, folder, shards) {
         Ok(journals) => Ok(journals),
@@ -59,7 +67,10 @@ fn all_opened<R: Files<File = File> + AllocGlobal>(
     folder: &str,
     shards: u8,
 ) -> io::Result<Journals>
+    requires few { shards ≤ MOST_SHARDS }
     ensures keepers { IfOk result (λ journals. length journals.keepers.items ≡ shards) }
+    ensures held { IfOk result (λ journals. length journals.keepers.items + length journals.others.items ≡ MOST_SHARDS) }
+    ensures texts { IfOk result (λ journals. length journals.texts.items ≡ MOST_SHARDS) }
 {
     if !fs::metadata(rt, folder)?.is_dir() {
         return Err(io::Error::from(ErrorKind::NotADirectory));
@@ -70,60 +81,39 @@ fn all_opened<R: Files<File = File> + AllocGlobal>(
         others: Vec::new(rt.alloc()),
     };
     for number in 0..shards {
-        let path = path_in(rt.alloc(), folder, number)?;
-        journals.open(rt, path.as_str())?;
+        let (past, file) = opened_in(rt, folder, number)?;
+        journals.keep(past, file)?;
     }
-    for number in shards..MOST_SHARDS {
-        let path = path_in(rt.alloc(), folder, number)?;
-        journals.read(rt, path.as_str())?;
+    for number in shards..JOURNALS {
+        let (past, file) = opened_in(rt, folder, number)?;
+        journals.hold(past, file)?;
     }
+    settle_names(rt, folder)?;
     Ok(journals)
 }
 
-/// The path of the journal of a shard.
-fn path_in(alloc: Global, folder: &str, number: u8) -> Result<String, AllocError> {
-    let mut path = String::new(alloc);
-    write!(path, "{folder}/{number}.lines")?;
-    Ok(path)
-}
-
 impl Journals {
-    /// Opens the journal of the next shard.
-    fn open<R: Files<File = File> + AllocGlobal>(&mut self, rt: &R, path: &str) -> io::Result<()>
+    /// Takes the journal of the next shard.
+    fn keep(&mut self, past: Vec<u8>, file: File) -> Result<(), AllocError>
+        ensures texts { OnOk result (length self.new.texts.items ≡ 1 + length self.old.texts.items) }
         ensures keepers { OnOk result (length self.new.keepers.items ≡ 1 + length self.old.keepers.items) }
+        ensures others { OnOk result (self.new.others ≡ self.old.others) }
     {
-        let (past, file) = opened(rt, path)?;
         let keeper = LateKeeper::begin(file, whole_bytes(past.as_slice()));
         self.texts.push(past).map_err(AllocError::from)?;
         self.keepers.push(keeper).map_err(AllocError::from)?;
         Ok(())
     }
 
-    /// Reads the next journal, of no shard, which has no bytes where there is none.
-    fn read<R: Files<File = File> + AllocGlobal>(&mut self, rt: &R, path: &str) -> io::Result<()>
-        ensures keepers { self.new.keepers ≡ self.old.keepers }
+    /// Takes the next journal, of no shard.
+    fn hold(&mut self, past: Vec<u8>, file: File) -> Result<(), AllocError>
+        ensures texts { OnOk result (length self.new.texts.items ≡ 1 + length self.old.texts.items) }
+        ensures keepers { OnOk result (self.new.keepers ≡ self.old.keepers) }
+        ensures others { OnOk result (length self.new.others.items ≡ 1 + length self.old.others.items) }
     {
-        let mut past = Vec::new(rt.alloc());
-        if let Some(mut file) = locked_if_there(rt, path)? {
-            file.read_to_end(&mut past)?;
-            self.others.push(file).map_err(AllocError::from)?;
-        }
         self.texts.push(past).map_err(AllocError::from)?;
+        self.others.push(file).map_err(AllocError::from)?;
         Ok(())
-    }
-}
-
-/// The file at a path, where there is one, to be read.
-fn locked_if_there<R: Files<File = File>>(rt: &R, path: &str) -> io::Result<Option<File>> {
-    match fs::metadata(rt, path) {
-        Ok(found) if found.is_file() => {
-            let file = fs::open(rt, path)?;
-            file.try_lock().map_err(io::Error::from)?;
-            Ok(Some(file))
-        }
-        Ok(_) => Err(io::Error::from(ErrorKind::InvalidInput)),
-        Err(error) if error.kind() == ErrorKind::NotFound => Ok(None),
-        Err(error) => Err(error),
     }
 }
 
@@ -136,8 +126,7 @@ pub fn refuse_journal<R: Files<File = File> + AllocGlobal>(
     match ledger {
         None => Ok(()),
         Some(path) => {
-            let mut log = String::new(rt.alloc());
-            write!(log, "{path}-wal")?;
+            let log = log_of(rt, path)?;
             if is_open(rt, path) || is_open(rt, log.as_str()) {
                 return Err(Fault::from(OpenFault::Store));
             }
@@ -146,12 +135,31 @@ pub fn refuse_journal<R: Files<File = File> + AllocGlobal>(
     }
 }
 
+/// The path of the log of a ledger. That lies beside the ledger's file, also where the ledger's path is a link to it.
+fn log_of<R: Files + AllocGlobal>(rt: &R, path: &str) -> Result<String, AllocError> {
+    let mut log = String::new(rt.alloc());
+    match fs::canonicalize(rt, path) {
+        Ok(file) => write!(log, "{}-wal", file.as_str())?,
+        Err(error) if error.kind() == ErrorKind::OutOfMemory => return Err(AllocError),
+        Err(_) => write!(log, "{path}-wal")?,
+    }
+    Ok(log)
+}
+
 /// Whether a journal is open at a path.
 fn is_open<R: Files<File = File>>(rt: &R, path: &str) -> bool {
-    match locked_if_there(rt, path) {
-        Ok(_) => false,
+    match lock_once(rt, path) {
+        Ok(()) => false,
         Err(error) => error.kind() == ErrorKind::WouldBlock,
     }
+}
+
+/// Locks the file at a path, where there is one, and lets it go.
+fn lock_once<R: Files<File = File>>(rt: &R, path: &str) -> io::Result<()> {
+    if fs::metadata(rt, path)?.is_file() {
+        fs::open(rt, path)?.try_lock().map_err(io::Error::from)?;
+    }
+    Ok(())
 }
 
 /// The bytes of the journal at a path, which is only read.
@@ -170,43 +178,78 @@ fn bytes_of<R: Files + AllocGlobal>(rt: &R, path: &str) -> io::Result<Vec<u8>> {
     fs::read(rt, path)
 }
 
-/// The bytes of the file at a path, and the file, at whose end lines are added.
+/// The journal of that number in a folder: its bytes, and its file.
+fn opened_in<R: Files<File = File> + AllocGlobal>(
+    rt: &R,
+    folder: &str,
+    number: u8,
+) -> io::Result<(Vec<u8>, File)> {
+    let mut path = String::new(rt.alloc());
+    write!(path, "{folder}/{number}.lines")?;
+    opened(rt, path.as_str())
+}
+
+/// The journal at a path by itself.
+fn opened_alone<R: Files<File = File> + AllocGlobal>(
+    rt: &R,
+    path: &str,
+) -> io::Result<(Vec<u8>, File)> {
+    let journal = opened(rt, path)?;
+    settle_names(rt, folder_of(path))?;
+    Ok(journal)
+}
+
+/// The bytes of the file at a path, and the file, at whose end lines are added. It is made where there is none, also where a link leads.
 fn opened<R: Files<File = File> + AllocGlobal>(rt: &R, path: &str) -> io::Result<(Vec<u8>, File)> {
     let mut file = open_or_make(rt, path)?;
     if !file.metadata()?.is_file() {
         return Err(io::Error::from(ErrorKind::InvalidInput));
     }
     file.try_lock().map_err(io::Error::from)?;
+    settle_target(rt, path)?;
     let mut past = Vec::new(rt.alloc());
     file.read_to_end(&mut past)?;
+    if is_of_another(past.as_slice()) {
+        return Err(io::Error::from(ErrorKind::InvalidData));
+    }
     Ok((past, file))
 }
 
-fn open_or_make<R: Files<File = File>>(rt: &R, path: &str) -> io::Result<File> {
-    match open(rt, path, false) {
-        Err(error) if error.kind() == ErrorKind::NotFound => {
-            let file = open(rt, path, true)?;
-            settle_name(rt, path)?;
-            Ok(file)
-        }
-        found => found,
-    }
+/// Whether a text is no journal: it has no newline, and more bytes than a line that was cut. A file of another must not be cut to nothing.
+fn is_of_another(past: &[u8]) -> bool
+    ensures { (result ≡ true) ↔ ((length (rest_of past.now) ≡ length past.now) × (MOST_LINE_BYTES < length past.now)) }
+{
+    whole_bytes(past) == 0 && past.len() > MOST_LINE_BYTES
 }
 
-fn open<R: Files<File = File>>(rt: &R, path: &str, makes: bool) -> io::Result<File> {
+fn open_or_make<R: Files<File = File>>(rt: &R, path: &str) -> io::Result<File> {
     OpenOptions::new()
         .read(true)
         .append(true)
-        .create(makes)
+        .create(true)
         .open(rt, path)
 }
 
-/// Has the name of a file that was just made on the disk: bytes that are brought there are lost without it.
-fn settle_name<R: Files<File = File>>(rt: &R, path: &str) -> io::Result<()> {
-    let folder = match path.rsplit_once('/') {
+/// Has the name of a file on the disk to which a path leads that is a link.
+fn settle_target<R: Files<File = File> + AllocGlobal>(rt: &R, path: &str) -> io::Result<()> {
+    if fs::symlink_metadata(rt, path)?.is_symlink() {
+        let file = fs::canonicalize(rt, path)?;
+        settle_names(rt, folder_of(file.as_str()))?;
+    }
+    Ok(())
+}
+
+/// Has the names in a folder on the disk: what is kept in a file is lost without its name. A start that made it may have been cut off
+/// before it did this, so each does it.
+fn settle_names<R: Files<File = File>>(rt: &R, folder: &str) -> io::Result<()> {
+    fs::open(rt, folder)?.sync_all()
+}
+
+/// The folder of the file at a path.
+fn folder_of(path: &str) -> &str {
+    match path.rsplit_once('/') {
         None => ".",
         Some(("", _)) => "/",
         Some((folder, _)) => folder,
-    };
-    fs::open(rt, folder)?.sync_all()
+    }
 }

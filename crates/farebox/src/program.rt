@@ -1,6 +1,7 @@
 //! The program: its words, its streams and its statuses.
-ghost use Rattle.std.specs.Prelude.{◌≡◌, length, IfOk};
+ghost use Rattle.std.specs.Prelude.{◌≡◌, ◌≤◌, length, IfOk};
 ghost use Rattle.pay_jobs.specs.Words.{IsDay};
+ghost use Rattle.pay_words.specs.declared.limits.TheConstants.{MOST_SHARDS};
 ghost use Rattle.farebox.specs.NoJob.{IsTextOrFault};
 
 use crate::errors::memory_or;
@@ -219,7 +220,8 @@ where
         + Copy
         + Send
         + 'static,
-    requires { IsDay words.now.close }
+    requires day { IsDay words.now.close }
+    requires few { words.now.shards ≤ MOST_SHARDS }
 {
     let fares = fares_text(&rt, words.fares)?;
     let is_closed = match words.journal {
