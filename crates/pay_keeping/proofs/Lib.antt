@@ -3,6 +3,7 @@ pub mod GatesKept
 pub mod KeptAgain
 pub mod LateKept
 pub mod MergedNew
+pub mod PartsAgain
 pub mod Repeats
 pub mod Runs
 pub mod TextsAgain

@@ -6,6 +6,7 @@ use Rattle.std.proofs.Math.Seq.{take-append_seam}
 use Rattle.pay_session.specs.Requests.{InputLine, input_lines, rest_of, has_newline, request_of, line_requests}
 use Rattle.pay_session.proofs.InputLines.{whole_again, rest_is_no_line}
 use Rattle.pay_session.proofs.InputPieces.{has_newline_both, line_requests_line, line_requests_part, rest_of_line, rest_of_part}
+use Rattle.pay_session.specs.declared.request.Request.{Request}
 use Rattle.pay_keeping.specs.Again.{TornAskAlike, IsWholeOf, WholeIsHeld}
 
 -- what holds of a text that no newline ends, and of a line in front of what it holds of, holds of each text
@@ -36,6 +37,20 @@ torn_ask_alike [] (t ∷ others) torn = absurd torn
 torn_ask_alike (text ∷ texts) [] torn = absurd torn
 torn_ask_alike (text ∷ texts) (t ∷ others) torn =
     (λ i. (ap line_requests torn.0.2 ∙ torn_alike text torn.0.0 torn.0.1) i ++ torn_ask_alike texts others torn.1 i)
+
+-- ---- what is left of a text
+
+-- a front of a text asks for a front of what the text does
+pub front_asks : (front rest : List ℕ) → (more : List Request) × (line_requests (front ++ rest) ≡ line_requests front ++ more)
+front_asks front rest =
+    by_lines (λ xs. (more : List Request) × (line_requests (xs ++ rest) ≡ line_requests xs ++ more))
+    (λ p h. (line_requests (p ++ rest), ap (λ rs. rs ++ line_requests (p ++ rest)) (sym (line_requests_part p h))))
+    (λ z others h same. (
+      same.0,
+      ap line_requests (append_assoc z (10 ∷ others) rest) ∙ line_requests_line z (others ++ rest) h
+          ∙ ap (λ rs. request_of z ∷ rs) same.1 ∙ ap (λ rs. rs ++ same.0) (sym (line_requests_line z others h)),
+    ))
+    front
 
 -- ---- lines behind whole lines
 

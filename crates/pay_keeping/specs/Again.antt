@@ -52,6 +52,17 @@ AreTorn [] (torn ∷ others) = ⊥
 AreTorn (text ∷ texts) [] = ⊥
 AreTorn (text ∷ texts) (torn ∷ others) = ((rest : List ℕ) × (has_newline rest ≡ false) × (torn ≡ text ++ rest)) × AreTorn texts others
 
+-- texts that ask for nothing but what others do
+abbrev pub AskWithin : List (List ℕ) → List (List ℕ) → Type 0
+AskWithin texts part = (r : Request) → IsIn (requests_in part) r → IsIn (requests_in texts) r
+
+-- the same texts, of each of which a front is left
+abbrev pub AreCut : List (List ℕ) → List (List ℕ) → Type 0
+AreCut [] [] = ⊤
+AreCut [] (cut ∷ others) = ⊥
+AreCut (text ∷ texts) [] = ⊥
+AreCut (text ∷ texts) (cut ∷ others) = ((rest : List ℕ) × (text ≡ cut ++ rest)) × AreCut texts others
+
 -- ---- what stands in journals
 
 -- what is known to be held are the whole lines of a text
@@ -111,6 +122,11 @@ pub record GiveBack (fares : FareTables) (zone : TimeZone) (merged : List (ℕ �
   pub back : (again : List Item) → AreUnmarked again → asked_by again ≡ asked_in zone (requests_in texts)
       → AreAllPriced (run fares empty again).replies × (replay fares empty again ≡ replay fares empty (all_items merged))
 
+-- Each line of texts puts a command to a desk, and whoever asks for these commands is answered by prices each time.
+pub record AreTaken (fares : FareTables) (zone : TimeZone) (texts : List (List ℕ)) : Type 0 where
+  pub lines : AllByRecursion (λ (r : Request). (a : Asked) × Puts zone r a) (requests_in texts)
+  pub priced : (again : List Item) → AreUnmarked again → asked_by again ≡ asked_in zone (requests_in texts) → AreAllPriced (run fares empty again).replies
+
 -- ---- laws
 
 -- What a run from no accounts answers by prices is asked for by one of its newly accepted items: a repeat repeats one of these.
@@ -122,6 +138,15 @@ RepeatsAreOfNew = (tables : FareTables) (items : List Item) (a : Asked) → IsIn
 abbrev pub KeptGivesBack : Type 0
 KeptGivesBack = (fares : FareTables) (zone : TimeZone) (merged : List (ℕ × Item)) (gates : List GateParts) (texts later : List (List ℕ))
     → HaveKept fares zone merged gates texts → AskAlike (texts_then gates texts) later → GiveBack fares zone merged later
+
+-- Texts are taken that stand in front of others, where all of them together give accounts back.
+abbrev pub PartsAreTaken : Type 0
+PartsAreTaken = (fares : FareTables) (zone : TimeZone) (merged : List (ℕ × Item)) (part texts : List (List ℕ))
+    → GiveBack fares zone merged (part ++ texts) → AreTaken fares zone part
+
+-- texts that were cut, wherever, ask for nothing that was not asked for
+abbrev pub CutAskWithin : Type 0
+CutAskWithin = (texts cut : List (List ℕ)) → AreCut texts cut → AskWithin texts cut
 
 -- what stands behind the last newline of a text asks for nothing
 abbrev pub TornAskAlike : Type 0
@@ -151,3 +176,7 @@ three_lines = refl
 -- the second text was torn
 second_torn : AreTorn (codes "A\n" ∷ [] ∷ []) (codes "A\n" ∷ codes "TAP 1 1" ∷ [])
 second_torn = (([], refl, refl), ((codes "TAP 1 1", refl, refl), tt))
+
+-- the first text was cut in its second line, the second to nothing, and the third lost nothing
+three_cut : AreCut (codes "A\nC\n" ∷ codes "Q\n" ∷ codes "D\n" ∷ []) (codes "A\nC" ∷ [] ∷ codes "D\n" ∷ [])
+three_cut = ((codes "\n", refl), ((codes "Q\n", refl), (([], refl), tt)))

@@ -1,6 +1,6 @@
 //! What a gate keeps of a shard's journal, and what journals give back that are taken again. Each law is the contract of a function that does nothing: a caller whose proof needs a
 //! law calls its function.
-ghost use Rattle.pay_keeping.specs.Again.{RepeatsAreOfNew, KeptGivesBack, TornAskAlike, WholeIsHeld};
+ghost use Rattle.pay_keeping.specs.Again.{RepeatsAreOfNew, KeptGivesBack, PartsAreTaken, CutAskWithin, TornAskAlike, WholeIsHeld};
 ghost use Rattle.pay_keeping.specs.Kept.{PassedAreKept};
 ghost use Rattle.pay_keeping.specs.Laws.{KeptAreNew, NewGivesBack};
 
@@ -44,6 +44,16 @@ pub fn kept_gives_back()
     repeats_are_of_new();
     new_gives_back();
 }
+
+/// Where texts give accounts back, the first of them are accepted by themselves: none of their lines needs what the others ask for.
+pub fn parts_are_taken()
+    ensures { PartsAreTaken }
+{}
+
+/// Journals that were cut, wherever, ask for nothing that they did not ask for before.
+pub fn cut_ask_within()
+    ensures { CutAskWithin }
+{}
 
 /// A line that was torn asks for nothing: what stands behind the last newline of a journal makes no difference.
 pub fn torn_ask_alike()

@@ -30,13 +30,14 @@ use Rattle.pay_session.specs.Served.{AreQuotes}
 use Rattle.pay_session.specs.Words.{lines_of_items, Taken, commands_of, IsAskedIn}
 use Rattle.pay_session.specs.declared.request.Request.{Request}
 use Rattle.pay_session.specs.declared.request.Request.TheVariants as requests
-use Rattle.pay_keeping.specs.Words.{IsIn, is_other, of_others, GateParts, IsAllOrButLast, answered_of, HasKept, requests_in, Puts, AreWholeOf, IsMergeOf, new_of, IsPricedIn, KeepNew, HaveKept, KeptGivesBack}
+use Rattle.pay_keeping.specs.Words.{IsIn, is_other, of_others, GateParts, IsAllOrButLast, answered_of, HasKept, requests_in, texts_then, Puts, AreWholeOf, IsMergeOf, new_of, IsPricedIn, KeepNew, HaveKept, KeptGivesBack, PartsAreTaken}
 use Rattle.pay_keeping.specs.declared.limits.TheConstants.{SPARED_LANE}
 use Rattle.pay_keeping.proofs.KeptAgain.{in_front, in_back, in_either, in_map, into_map, one_in, of_new, of_merge, its_shard, HasLine}
+use Rattle.pay_keeping.proofs.PartsAgain.{part_alike}
 use Rattle.pay_office.specs.Waits.{commands_below}
 use Rattle.pay_office.specs.Words.{all_sent, desk_parts, commands_sent, answer_to, HasEnded}
 use Rattle.pay_serve.specs.Closes.{Terms}
-use Rattle.pay_serve.specs.GivenBack.{IsLeft, HasJournals, TakesUp, ServiceGivesBack}
+use Rattle.pay_serve.specs.GivenBack.{IsLeft, HasJournals, TakesUp, ServiceGivesBack, ServicePartsAreTaken}
 use Rattle.pay_serve.specs.Journals.{is_one_stuck}
 use Rattle.pay_serve.specs.Lanes.{HasAskedIn}
 use Rattle.pay_serve.proofs.Begun.{of_last}
@@ -491,3 +492,15 @@ module _ (Holds : GateParts → List Passed → Bool → Type 0) (terms : Terms)
 
 pub service_gives_back : KeptGivesBack → (Holds : GateParts → List Passed → Bool → Type 0) → ServiceGivesBack Holds
 service_gives_back law Holds terms left merged later up = law terms.fares terms.zone merged left.gates terms.texts later (have_kept Holds terms left merged later up) up.alike
+
+-- A part in front of the texts asks for no more, so both together give back as well.
+pub service_parts_are_taken : KeptGivesBack → PartsAreTaken → (Holds : GateParts → List Passed → Bool → Type 0) → ServicePartsAreTaken Holds
+service_parts_are_taken law parts Holds terms left merged later part up within =
+    let both : TakesUp left merged (part ++ later) = record {
+      kept = up.kept;
+      whole = up.whole;
+      asked = up.asked;
+      merge = up.merge;
+      alike = part_alike (texts_then left.gates terms.texts) later part up.alike within;
+    } in
+    parts terms.fares terms.zone merged part later (service_gives_back law Holds terms left merged (part ++ later) both)

@@ -79,8 +79,9 @@ abbrev pub terms : FareTables → TimeZone → List (List ℕ) → List (Option 
 terms fares zone texts held day = record { fares = fares; zone = zone; texts = texts; held = held; day = day }
 
 -- Over a new office, all that its journals had was taken again over one lane, which had asked for nothing; all connections were served over
--- the others, which asked for nothing but what lines ask for; and the day was closed over the first one, or not. Of each shard its gate, behind what its keeper held, has kept what it newly
--- accepted, but what the first lane asked. Before and after are the ledger and what the writer holds.
+-- the others, which asked for nothing but what a line could ask for; and the day was closed over the first one, or not. Of each shard its gate,
+-- behind what its keeper held, has kept what it newly accepted, but what the first lane asked. Before and after are the ledger and what the
+-- writer holds.
 pub record IsServedBy (Holds : GateParts → List Passed → Bool → Type 0) (terms : Terms) (before after : State × Option (List ℕ)) (result : Result Bool ServeFault) : Type 0 where
   pub office : List WorkerParts
   pub new : IsNewOffice terms.fares office

@@ -6,7 +6,7 @@ use Rattle.pay_shard.specs.Words.{items_of, AreAskedOf, AreKept}
 use Rattle.pay_shard.specs.declared.item.Item.{Item}
 use Rattle.pay_lanes.specs.Words.{LaneParts, WorkerParts, IsNewLane, IsSameLane, Passed}
 use Rattle.pay_session.specs.Words.{Taken, AreQuotes, commands_of}
-use Rattle.pay_keeping.specs.Words.{GateParts, HasKept, AskAlike, AreWholeOf, texts_then, GiveBack}
+use Rattle.pay_keeping.specs.Words.{GateParts, HasKept, AskAlike, AskWithin, AreWholeOf, texts_then, GiveBack, AreTaken}
 use Rattle.pay_keeping.specs.declared.limits.TheConstants.{SPARED_LANE}
 use Rattle.pay_office.specs.Words.{desk_parts, commands_sent, NoneIsHidden, HaveLetPass}
 use Rattle.pay_serve.specs.Closes.{Terms, new_desk, IsServedBy}
@@ -88,3 +88,8 @@ module _ {Holds : GateParts → List Passed → Bool → Type 0} {terms : Terms}
 abbrev pub ServiceGivesBack : (GateParts → List Passed → Bool → Type 0) → Type 0
 ServiceGivesBack Holds = (terms : Terms) (left : IsLeft Holds terms) (merged : List (ℕ × Item)) (later : List (List ℕ))
     → TakesUp left merged later → GiveBack terms.fares terms.zone merged later
+
+-- So is whatever asks for no more than that accepted, such as journals that were cut.
+abbrev pub ServicePartsAreTaken : (GateParts → List Passed → Bool → Type 0) → Type 0
+ServicePartsAreTaken Holds = (terms : Terms) (left : IsLeft Holds terms) (merged : List (ℕ × Item)) (later part : List (List ℕ))
+    → TakesUp left merged later → AskWithin later part → AreTaken terms.fares terms.zone part

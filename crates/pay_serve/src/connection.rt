@@ -75,7 +75,7 @@ fn serve_connection<D: Desk>(
     }
 }
 
-/// Serves so many connections of a listener, one after another, over a desk, which takes nothing but what their lines ask for.
+/// Serves so many connections of a listener, one after another, over a desk, which takes nothing but what a line could ask for.
 pub fn serve_connections<D: Desk>(
     alloc: Global,
     listener: &TcpListener,
@@ -91,7 +91,7 @@ pub fn serve_connections<D: Desk>(
     }
 }
 
-/// Serves so many connections of a listener, one after another, over a lane, which sends nothing but what their lines ask for.
+/// Serves so many connections of a listener, one after another, over a lane, which sends nothing but what a line could ask for.
 pub fn serve_lane<R: Wait + Copy>(
     rt: R,
     alloc: Global,
