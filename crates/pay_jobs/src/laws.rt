@@ -73,8 +73,8 @@ pub fn journals()
 }
 
 /// The file of a session's journal, taken again line by line, is the machine that the session ended with: a journal that gives a machine
-/// back, cut to its whole lines, and behind them the lines that a keeper has of what was newly accepted. And a file that was cut is
-/// the machine where the session was cut.
+/// back, cut to its whole lines, and behind them the lines that a keeper has of what was newly accepted, if no line stands there that
+/// could not be kept. And a file that was cut behind what it had before is the machine where the session was cut.
 pub fn kept_bytes_give_back()
     // All that a session is asked is in its ranges, so that each request has one line,
     ensures lines { LinesAskInRange }
@@ -88,7 +88,7 @@ pub fn kept_bytes_give_back()
     // So it does where the keeper did not fail, and then its bytes are whole lines.
     ensures whole { WholeBytesGiveBack }
 
-    // Wherever it is cut, the whole lines that are left give back where the run was cut.
+    // Wherever it is cut behind what it had before, the whole lines that are left give back where the run was cut.
     ensures cut { CutBytesGiveBack }
 {
     journals();
@@ -99,7 +99,7 @@ pub fn kept_bytes_give_back()
 }
 
 /// A session of the job `run` leaves its machine in its journal: where its keeper began behind the whole lines of this, and did not
-/// fail, what it holds is the machine with which the session ended, however that was.
+/// fail, what it holds is the machine with which the session ended, by itself or not.
 pub fn journal_is_the_machine<K: Keeper, S: Alter>()
     ensures ended { EndedIsHeld (state S.Store) (CanFail K.HasFailed) }
     ensures reading { StoppedReadingIsHeld (state S.Store) (CanFail K.HasFailed) }
