@@ -222,11 +222,19 @@ fn is_of_another(past: &[u8]) -> bool
     whole_bytes(past) == 0 && past.len() > MOST_LINE_BYTES
 }
 
+/// Opens the file at a path, or makes it. What is there is opened as it is: a system may refuse to make what another's file is.
 fn open_or_make<R: Files<File = File>>(rt: &R, path: &str) -> io::Result<File> {
+    match open(rt, path, false) {
+        Err(error) if error.kind() == ErrorKind::NotFound => open(rt, path, true),
+        found => found,
+    }
+}
+
+fn open<R: Files<File = File>>(rt: &R, path: &str, makes: bool) -> io::Result<File> {
     OpenOptions::new()
         .read(true)
         .append(true)
-        .create(true)
+        .create(makes)
         .open(rt, path)
 }
 
