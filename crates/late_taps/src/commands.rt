@@ -4,8 +4,7 @@ ghost use Rattle.pay_book.specs.History.{account_of};
 
 use pay_book::Sent;
 use pay_day::Moment;
-use pay_fix::{Fix, What};
-use pay_taps::{Kind, Tap};
+use pay_rules::{Fix, Kind, Tap, What};
 
 /// Something went wrong: the words, the file, the clock, memory, or a command that is refused.
 #[derive(Debug, Drop)]

@@ -3,9 +3,10 @@ ghost use Rattle.std.specs.Prelude.{◌≡◌};
 ghost use Rattle.pay_book.specs.History.{account_of};
 
 use crate::commands::{Asked, Failed, Shape, early_command, late_command};
-use pay_account::{Account, Fares};
+use pay_account::Account;
 use pay_book::{Book, Sent};
 use pay_fare_file::read_tables;
+use pay_rules::Fares;
 use pay_tables::Tables;
 use std::rt::{Clock, Env, Files};
 use std::time::{Duration, Instant};

@@ -2,10 +2,10 @@
 use Rattle.std.proofs.Common.{ℕ, List, map, filter, Option}
 use Rattle.std.specs.List.{zip}
 use Rattle.pay_day.specs.Words.{Stamp}
-use Rattle.pay_taps.specs.declared.tap.Touch.{Touch}
+use Rattle.pay_rules.specs.declared.tap.Touch.{Touch}
 use Rattle.pay_hopper.specs.Words.{marks_by_last}
-use Rattle.pay_links.specs.declared.journey.Journey.{Journey}
-use Rattle.pay_account.specs.Journeys.{is_bus, boarding}
+use Rattle.pay_rules.specs.declared.journey.Journey.{Journey}
+use Rattle.pay_rules.specs.Journeys.{is_bus, boarding}
 
 -- the boardings of touches, where `last` is the moment of the last one before them that paid
 abbrev pub boardings_by_last : ℕ → Option Stamp → List Touch → List Journey

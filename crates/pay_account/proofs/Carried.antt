@@ -3,15 +3,17 @@ use Rattle.std.proofs.Common.{◌≡◌, ℕ, ◌*◌, ◌≤◌, Bool, not, Lis
 use Rattle.std.proofs.lemmas.List.Sums.{sum_by-cons}
 use Rattle.std.proofs.lemmas.List.Filters.{length-filter_both}
 use Rattle.pay_money.specs.declared.limits.TheConstants.{MOST_MONEY}
-use Rattle.pay_fix.specs.declared.limits.TheConstants.{MOST_TOUCHES}
+use Rattle.pay_rules.specs.declared.limits.TheConstants.{MOST_TOUCHES}
 use Rattle.pay_tables.specs.Words.{FareTables}
 use Rattle.pay_tables.specs.declared.limits.TheConstants.{MOST_FARE}
-use Rattle.pay_links.specs.declared.journey.Journey.{Journey}
-use Rattle.pay_week.specs.Words.{fare, day_price, fares, week_price, due}
-use Rattle.pay_shares.specs.Words.{sum_of_fares, weights}
-use Rattle.pay_quotes.specs.QuoteParts.{QuoteParts}
-use Rattle.pay_account.specs.Prices.{journeys_on, days_through, journeys_through, price_of_week}
-use Rattle.pay_account.specs.Quotes.{with_fare, weights_through}
+use Rattle.pay_rules.specs.declared.journey.Journey.{Journey}
+use Rattle.pay_rules.specs.JourneyFares.{fare}
+use Rattle.pay_rules.specs.DayPrices.{day_price, fares}
+use Rattle.pay_rules.specs.WeekPrices.{week_price, due}
+use Rattle.pay_rules.specs.OperatorWeights.{sum_of_fares, weights}
+use Rattle.pay_rules.specs.QuoteParts.{QuoteParts}
+use Rattle.pay_rules.specs.Prices.{journeys_on, days_through, journeys_through, price_of_week}
+use Rattle.pay_rules.specs.Quotes.{with_fare, weights_through}
 use Rattle.pay_account.proofs.DaySums.{week_by_days}
 
 pub fares_beside : (tables : FareTables) (list : List Journey) → sum_of_fares (map (with_fare tables) list) ≡ sum_by (fare tables) list

@@ -4,14 +4,18 @@ use Rattle.std.specs.List.{zip}
 use Rattle.std.proofs.lemmas.List.Filters.{length-filter_both}
 use Rattle.std.proofs.lemmas.Slice.Zip.{length-zip}
 use Rattle.std.proofs.lemmas.List.{length-map}
-use Rattle.pay_taps.specs.declared.tap.Touch.{Touch}
+use Rattle.pay_rules.specs.declared.tap.Touch.{Touch}
 use Rattle.pay_tables.specs.Words.{FareTables}
-use Rattle.pay_links.specs.Words.{Leg, RailPart, taps_of, LinkedLegs, joined, last_leg, is_same, is_linked, alone, run_before, leg_before, journeys}
-use Rattle.pay_links.specs.Words.rail_part_variants as part
-use Rattle.pay_links.specs.declared.journey.Journey.{Journey}
-use Rattle.pay_links.specs.declared.journey.Journey.TheVariants as journey
-use Rattle.pay_hopper.specs.Words.{instants_of, paying_marks}
-use Rattle.pay_account.specs.Journeys.{is_bus, is_rail, boarding, boardings}
+use Rattle.pay_rules.specs.declared.parts.Leg.{Leg}
+use Rattle.pay_rules.specs.declared.parts.RailPart.{RailPart}
+use Rattle.pay_rules.specs.Legs.{taps_of}
+use Rattle.pay_rules.specs.LinkedLegs.{LinkedLegs, joined, last_leg}
+use Rattle.pay_rules.specs.RailJourneys.{is_same, is_linked, alone, run_before, leg_before, journeys}
+use Rattle.pay_rules.specs.declared.parts.RailPart.TheVariants as part
+use Rattle.pay_rules.specs.declared.journey.Journey.{Journey}
+use Rattle.pay_rules.specs.declared.journey.Journey.TheVariants as journey
+use Rattle.pay_rules.specs.Hopper.{instants_of, paying_marks}
+use Rattle.pay_rules.specs.Journeys.{is_bus, is_rail, boarding, boardings}
 
 pub few_boardings : (buses : List Touch) (marks : List Bool) → length (map boarding (zip buses marks)) ≤ length buses
 few_boardings buses marks = omega (arith, length-map (zip buses marks) boarding, length-zip buses marks)

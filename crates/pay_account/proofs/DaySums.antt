@@ -5,11 +5,13 @@ use Rattle.std.proofs.lemmas.Bool.Decides.{nat_tests}
 use Rattle.std.proofs.lemmas.List.Sums.{sum_by-cons}
 use Rattle.pay_day.specs.Words.{monday}
 use Rattle.pay_tables.specs.Words.{FareTables}
-use Rattle.pay_links.specs.declared.journey.Journey.{Journey}
-use Rattle.pay_links.specs.Words.{first_tap}
-use Rattle.pay_week.specs.Words.{fare, cells_of, total, fares}
-use Rattle.pay_account.specs.Journeys.{is_on}
-use Rattle.pay_account.specs.Prices.{journeys_on, days_through, is_within, journeys_through}
+use Rattle.pay_rules.specs.declared.journey.Journey.{Journey}
+use Rattle.pay_rules.specs.RailJourneys.{first_tap}
+use Rattle.pay_rules.specs.JourneyFares.{fare}
+use Rattle.pay_week.specs.Words.{cells_of, total}
+use Rattle.pay_rules.specs.DayPrices.{fares}
+use Rattle.pay_rules.specs.Journeys.{is_on}
+use Rattle.pay_rules.specs.Prices.{journeys_on, days_through, is_within, journeys_through}
 
 -- a test as a number, so that of two tests at most one holds where these sum to a third's
 count : Bool → ℕ

@@ -5,6 +5,4 @@ pub mod Own
 pub mod DaySums
 pub mod Carried
 pub mod Boardings
-pub mod Results
-pub mod Changes
-mod Rows
+pub mod KnownPlaces

@@ -2,15 +2,15 @@
 use Rattle.std.proofs.Common.{◌≡◌, ℕ, None, Result, Ok, Err, List, [], ◌∷◌, ◌++◌, length, map, ap, sym, ◌∙◌, subst, arith}
 use Rattle.std.specs.FinMap as set_map
 use Rattle.std.specs.List.{AllByRecursion}
-use Rattle.pay_numbered.specs.declared.numbered_set.Addition.{Addition}
-use Rattle.pay_numbered.specs.declared.numbered_set.Addition.TheVariants.{Added, Repeat}
-use Rattle.pay_numbered.specs.declared.numbered_set.AdditionFault.{AdditionFault}
-use Rattle.pay_numbered.specs.Words.{ByNumber, number_cmp, set_after}
-use Rattle.pay_taps.specs.declared.tap.Tap.{Tap}
-use Rattle.pay_taps.specs.Words.{Taps, number as tap_number}
-use Rattle.pay_fix.specs.declared.fix.Fix.{Fix}
-use Rattle.pay_fix.specs.Words.{Fixes, number as fix_number}
-use Rattle.pay_quotes.specs.SetsParts.{AreTapsOf, AreFixesOf, AreOwn}
+use Rattle.pay_rules.specs.declared.addition.Addition.{Addition}
+use Rattle.pay_rules.specs.declared.addition.Addition.TheVariants.{Added, Repeat}
+use Rattle.pay_rules.specs.declared.addition.AdditionFault.{AdditionFault}
+use Rattle.pay_rules.specs.Numbers.{ByNumber, number_cmp, set_after}
+use Rattle.pay_rules.specs.declared.tap.Tap.{Tap}
+use Rattle.pay_rules.specs.Taps.{Taps, number as tap_number}
+use Rattle.pay_rules.specs.declared.fix.Fix.{Fix}
+use Rattle.pay_rules.specs.Fixes.{Fixes, number as fix_number}
+use Rattle.pay_rules.specs.SetsParts.{AreTapsOf, AreFixesOf, AreOwn}
 
 and_one : {X : Type 0} (P : X → Type 0) (before after : List X) (x : X) → AllByRecursion P (before ++ after) → P x → AllByRecursion P (before ++ x ∷ after)
 and_one P [] after x all is = (is, all)

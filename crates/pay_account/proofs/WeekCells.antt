@@ -9,11 +9,12 @@ use Rattle.std.proofs.lemmas.List.FromFn.{get_or-map-range_with_len}
 use Rattle.pay_day.specs.Words.{IsDay, monday, sunday, day_of_week}
 use Rattle.pay_day.specs.declared.limits.TheConstants.{DAYS_PER_WEEK}
 use Rattle.pay_tables.specs.Words.{FareTables}
-use Rattle.pay_links.specs.declared.journey.Journey.{Journey}
-use Rattle.pay_links.specs.Words.{first_tap}
-use Rattle.pay_week.specs.Words.{fare, CellSums, added, no_fares, cell_of, cells_of}
-use Rattle.pay_account.specs.Journeys.{is_on}
-use Rattle.pay_account.specs.Prices.{journeys_on, days_through}
+use Rattle.pay_rules.specs.declared.journey.Journey.{Journey}
+use Rattle.pay_rules.specs.RailJourneys.{first_tap}
+use Rattle.pay_rules.specs.JourneyFares.{fare}
+use Rattle.pay_week.specs.Words.{CellSums, added, no_fares, cell_of, cells_of}
+use Rattle.pay_rules.specs.Journeys.{is_on}
+use Rattle.pay_rules.specs.Prices.{journeys_on, days_through}
 use Rattle.pay_account.specs.WeekCells.{with_journey, with_journeys, week_with_journey, week_with_journeys}
 
 -- a fare more, behind the others

@@ -8,13 +8,14 @@ use Rattle.std.proofs.lemmas.List.FromFn.{get_or-map-range_with_len}
 use Rattle.pay_day.specs.Words.{IsDay, monday, sunday}
 use Rattle.pay_day.specs.declared.limits.TheConstants.{DAYS_PER_WEEK}
 use Rattle.pay_tables.specs.Words.{FareTables}
-use Rattle.pay_taps.specs.declared.tap.Touch.{Touch}
-use Rattle.pay_taps.specs.Order.{comes_before, put_in_by, in_order_by}
-use Rattle.pay_links.specs.declared.journey.Journey.{Journey}
-use Rattle.pay_links.specs.Words.{first_tap}
-use Rattle.pay_week.specs.Words.{CellSums, cells_of, capped_price, capped_price_of}
-use Rattle.pay_account.specs.Prices.{days_through, is_within, journeys_on}
-use Rattle.pay_account.specs.Lines.{line_of_journey, line_among, lines_of_week}
+use Rattle.pay_rules.specs.declared.tap.Touch.{Touch}
+use Rattle.pay_rules.specs.Order.{comes_before, put_in_by, in_order_by}
+use Rattle.pay_rules.specs.declared.journey.Journey.{Journey}
+use Rattle.pay_rules.specs.RailJourneys.{first_tap}
+use Rattle.pay_week.specs.Words.{CellSums, cells_of, capped_price_of}
+use Rattle.pay_rules.specs.DayPrices.{capped_price}
+use Rattle.pay_rules.specs.Prices.{days_through, is_within, journeys_on}
+use Rattle.pay_rules.specs.Lines.{line_of_journey, line_among, lines_of_week}
 use Rattle.pay_account.specs.WeekBands.{line_by_bands}
 use Rattle.pay_account.proofs.WeekCells.{days_of_week}
 

@@ -1,14 +1,5 @@
-pub mod Places
-pub mod Journeys
-pub mod Prices
+pub mod NextBoardings
 pub mod WeekCells
-pub mod Lines
 pub mod WeekBands
-pub mod Faults
-pub mod TapResults
-pub mod FixResults
-pub mod Changes
-pub mod Quotes
-pub mod State
 pub mod Laws
 pub mod Words

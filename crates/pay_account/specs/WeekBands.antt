@@ -2,10 +2,10 @@
 use Rattle.std.specs.Prelude.{ℕ, ◌-◌, nat_le, nat_lt, ◌&&◌, if◌then◌else◌, List, get_or, Option, None}
 use Rattle.pay_day.specs.declared.limits.TheConstants.{DAYS_PER_WEEK}
 use Rattle.pay_tables.specs.Words.{FareTables}
-use Rattle.pay_links.specs.declared.journey.Journey.{Journey}
-use Rattle.pay_links.specs.Words.{first_tap}
-use Rattle.pay_quotes.specs.declared.shown.Line.{Line}
-use Rattle.pay_account.specs.Lines.{line_of_journey}
+use Rattle.pay_rules.specs.declared.journey.Journey.{Journey}
+use Rattle.pay_rules.specs.RailJourneys.{first_tap}
+use Rattle.pay_rules.specs.declared.shown.Line.{Line}
+use Rattle.pay_rules.specs.Lines.{line_of_journey}
 
 -- of the bands of a week's days, from Monday on, that of a day of the week
 abbrev pub band_on : List (Option ℕ) → ℕ → ℕ → Option ℕ

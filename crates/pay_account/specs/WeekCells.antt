@@ -1,12 +1,15 @@
 -- The sums of a day's fares, and of the days of a week, as journeys come one after another.
-use Rattle.std.specs.Prelude.{ℕ, ◌-◌, nat_le, nat_lt, ◌&&◌, if◌then◌else◌, List, get_or, slice_set}
+use Rattle.std.specs.Prelude.{ℕ, ◌-◌, nat_le, nat_lt, ◌&&◌, if◌then◌else◌, List, get_or, map, slice_set}
 use Rattle.std.specs.List.{fold}
+use Rattle.pay_day.specs.Words.{sunday}
 use Rattle.pay_day.specs.declared.limits.TheConstants.{DAYS_PER_WEEK}
 use Rattle.pay_tables.specs.Words.{FareTables}
-use Rattle.pay_links.specs.declared.journey.Journey.{Journey}
-use Rattle.pay_links.specs.Words.{first_tap}
-use Rattle.pay_week.specs.Words.{fare, CellSums, added, no_fares, cell_of}
-use Rattle.pay_account.specs.Journeys.{is_on}
+use Rattle.pay_rules.specs.declared.journey.Journey.{Journey}
+use Rattle.pay_rules.specs.RailJourneys.{first_tap}
+use Rattle.pay_rules.specs.JourneyFares.{fare}
+use Rattle.pay_week.specs.Words.{CellSums, added, no_fares, cell_of, cells_of}
+use Rattle.pay_rules.specs.Journeys.{is_on}
+use Rattle.pay_rules.specs.Prices.{journeys_on, days_through}
 
 -- sums with the fare of a journey, where it is of that day
 abbrev pub with_journey : FareTables → ℕ → CellSums → Journey → CellSums
@@ -26,3 +29,7 @@ week_with_journey tables monday week journey =
 
 abbrev pub week_with_journeys : FareTables → ℕ → List CellSums → List Journey → List CellSums
 week_with_journeys tables monday week list = fold (week_with_journey tables monday) week list
+
+-- the sums of the fares of a day's journeys, for each day of a day's week
+abbrev pub sums_of_week : FareTables → List Journey → ℕ → List CellSums
+sums_of_week tables list day = map (λ each. cells_of tables (journeys_on list each)) (days_through (sunday day))

@@ -1,30 +1,31 @@
 ghost use Rattle.std.specs.Prelude.{◌≡◌, ◌+◌, ◌≤◌, true, Ok, Err, IfOk, IfErr, OnOk, OnErr};
-ghost use Rattle.pay_numbered.specs.declared.numbered_set.Addition.TheVariants as Addition;
-ghost use Rattle.pay_taps.specs.declared.limits.TheConstants.{MOST_TAPS};
-ghost use Rattle.pay_taps.specs.Words.{judged};
-ghost use Rattle.pay_fix.specs.declared.limits.TheConstants.{MOST_FIXES};
-ghost use Rattle.pay_fix.specs.Words.{judged as judged_fix};
+ghost use Rattle.pay_rules.specs.declared.addition.Addition.TheVariants as Addition;
+ghost use Rattle.pay_rules.specs.declared.limits.TheConstants.{MOST_TAPS, MOST_FIXES};
+ghost use Rattle.pay_rules.specs.Taps.{judged};
+ghost use Rattle.pay_rules.specs.Fixes.{judged as judged_fix};
 ghost use Rattle.pay_day.specs.Words.{IsDay};
-ghost use Rattle.pay_quotes.specs.Accepted.{version, with_tap, with_fix};
-ghost use Rattle.pay_account.specs.Prices.{prices};
-ghost use Rattle.pay_account.specs.TapResults.{tap_added, tap_result};
-ghost use Rattle.pay_account.specs.FixResults.{prices_named, fix_added, fix_result};
+ghost use Rattle.pay_rules.specs.Accepted.{version, with_tap, with_fix};
+ghost use Rattle.pay_rules.specs.Prices.{prices};
+ghost use Rattle.pay_rules.specs.TapResults.{tap_added, tap_result};
+ghost use Rattle.pay_rules.specs.FixResults.{prices_named, fix_added, fix_result};
 
-use crate::fares::{Fares, FixFault, TapFault};
 use crate::journeys::journeys_of;
 use crate::lines::lines_on;
 use crate::places::{is_known, is_known_fix};
 use crate::prices::{price, price_on};
 use crate::quoting::{price_through, quote_of, weights_through};
+use crate::sets::sets_of;
 use crate::week_lines::lines_of_week;
 use pay_day::monday;
-use pay_fix::{Fix, FixSet, What, credits, day_named, effective};
+use pay_fix::{FixSet, credits, day_named, effective};
 use pay_money::Pence;
-use pay_numbered::{Addition, Numbered};
-use pay_quotes::{Lines, Priced, Quote, Sets, Shown};
+use pay_rules::{
+    Addition, Fares, Fix, FixFault, Lines, Numbered, Priced, Quote, Sets, Shown, Tap, TapFault,
+    What,
+};
 use pay_shares::shares;
 use pay_tables::Tables;
-use pay_taps::{Tap, TapSet};
+use pay_taps::TapSet;
 use pay_week::due;
 use std::alloc::{AllocError, Global};
 use std::marker::Model;
@@ -42,8 +43,8 @@ pub struct Account {
 impl Model for Account {
     ghost use Rattle.std.specs.Prelude.{ℕ};
     ghost use Rattle.std.specs.Coded.{coded×, coded_ℕ};
-    ghost use Rattle.pay_quotes.specs.Accepted.{Accepted, accepted_code};
-    ghost use Rattle.pay_quotes.specs.SetsParts.{AreOwn};
+    ghost use Rattle.pay_rules.specs.Accepted.{Accepted, accepted_code};
+    ghost use Rattle.pay_rules.specs.SetsParts.{AreOwn};
 
     ghost Value = { ℕ × Accepted };
 
@@ -97,8 +98,8 @@ impl Account {
         ensures accepted { OnOk result (self.new.1 ≡ with_tap self.old.1 tap) }
         ensures same { OnErr result (self.new.1 ≡ self.old.1) }
     {
-        pay_numbered::laws::judgements::<Tap>();
-        pay_numbered::laws::one_more::<Tap>();
+        pay_rule_laws::sets::judgements::<Tap>();
+        pay_rule_laws::sets::one_more::<Tap>();
         match self.taps.add(tap) {
             Ok(_) => Ok(()),
             Err(_) => Err(AllocError),
@@ -125,8 +126,8 @@ impl Account {
         ensures accepted { OnOk result (self.new.1 ≡ with_fix self.old.1 fix) }
         ensures same { OnErr result (self.new.1 ≡ self.old.1) }
     {
-        pay_numbered::laws::judgements::<Fix>();
-        pay_numbered::laws::one_more::<Fix>();
+        pay_rule_laws::sets::judgements::<Fix>();
+        pay_rule_laws::sets::one_more::<Fix>();
         match self.fixes.add(fix) {
             Ok(_) => Ok(()),
             Err(_) => Err(AllocError),
@@ -184,8 +185,8 @@ impl Fares for Account {
         if !is_known(tables, tap.place, tap.kind) {
             return Err(TapFault::UnknownPlace);
         }
-        pay_numbered::laws::judgements::<Tap>();
-        pay_numbered::laws::one_more::<Tap>();
+        pay_rule_laws::sets::judgements::<Tap>();
+        pay_rule_laws::sets::one_more::<Tap>();
         match self.taps.add(tap)? {
             Addition::Repeat => Ok(self.price(tables, true, tap.stamp.day())?),
             Addition::Added => match self.price(tables, false, tap.stamp.day()) {
@@ -202,8 +203,8 @@ impl Fares for Account {
         if !is_known_fix(tables, &fix.what) {
             return Err(FixFault::UnknownPlace);
         }
-        pay_numbered::laws::judgements::<Fix>();
-        pay_numbered::laws::one_more::<Fix>();
+        pay_rule_laws::sets::judgements::<Fix>();
+        pay_rule_laws::sets::one_more::<Fix>();
         match self.fixes.add(fix)? {
             Addition::Repeat => Ok(self.price_named(tables, true, &fix.what)?),
             Addition::Added => match self.price_named(tables, false, &fix.what) {
@@ -255,6 +256,6 @@ impl Fares for Account {
     }
 
     fn sets(&self) -> Result<Sets, AllocError> {
-        Sets::of(self.alloc, self.number, &self.taps, &self.fixes)
+        sets_of(self.alloc, self.number, &self.taps, &self.fixes)
     }
 }

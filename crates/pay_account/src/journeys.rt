@@ -1,13 +1,14 @@
 ghost use Rattle.std.specs.Prelude.{◌≡◌, ◌≤◌, ◌++◌, filter, length, if◌then◌else◌, Some, None, IfOk, OnOk};
 ghost use Rattle.pay_hopper.specs.Words.{last_paid_after};
-ghost use Rattle.pay_links.specs.Words.{first_tap};
-ghost use Rattle.pay_account.specs.Journeys.{boardings, next_boarding, is_bus, is_rail, rail_journeys, journeys_of, is_on};
+ghost use Rattle.pay_rules.specs.RailJourneys.{first_tap};
+ghost use Rattle.pay_rules.specs.Journeys.{boardings, is_bus, is_rail, rail_journeys, journeys_of, is_on};
+ghost use Rattle.pay_account.specs.NextBoardings.{next_boarding};
 
 use pay_day::Moment;
 use pay_hopper::pays;
-use pay_links::{Journey, journeys, legs};
+use pay_links::{journeys, legs};
+use pay_rules::{Journey, Kind, Touch};
 use pay_tables::Tables;
-use pay_taps::{Kind, Touch};
 use std::alloc::{AllocError, Global};
 
 /// Whether a touch was made on a bus or a tram.

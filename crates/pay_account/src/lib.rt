@@ -2,16 +2,17 @@
 #![tactic(auto)]
 
 mod account;
-mod fares;
 mod journeys;
 pub mod laws;
 mod lines;
 mod places;
 mod prices;
 mod quoting;
+mod sets;
 mod week_cells;
 mod week_lines;
 
 pub use account::Account;
-pub use fares::{Fares, FixFault, TapFault};
-pub use pay_quotes::{Line, LineKind, Lines, Posting, Postings, Priced, Quote, Sets, Shown};
+pub use pay_rules::{
+    Fares, FixFault, Line, LineKind, Lines, Posting, Postings, Priced, Quote, Sets, Shown, TapFault,
+};

@@ -1,16 +1,14 @@
 ghost use Rattle.std.specs.Prelude.{◌≡◌, map, filter, IfOk, OnOk};
-ghost use Rattle.pay_taps.specs.Words.{in_order_by};
-ghost use Rattle.pay_links.specs.Words.{first_tap};
-ghost use Rattle.pay_week.specs.Words.{capped_price};
-ghost use Rattle.pay_account.specs.Journeys.{is_on};
-ghost use Rattle.pay_account.specs.Prices.{journeys_on};
-ghost use Rattle.pay_account.specs.Lines.{line_kind, from_of, to_of, line_band, line_of_journey, lines_on};
+ghost use Rattle.pay_rules.specs.Order.{in_order_by};
+ghost use Rattle.pay_rules.specs.RailJourneys.{first_tap};
+ghost use Rattle.pay_rules.specs.DayPrices.{capped_price};
+ghost use Rattle.pay_rules.specs.Journeys.{is_on};
+ghost use Rattle.pay_rules.specs.Prices.{journeys_on};
+ghost use Rattle.pay_rules.specs.Lines.{line_kind, from_of, to_of, line_band, line_of_journey, lines_on};
 
 use crate::journeys::is_on;
-use pay_links::Journey;
-use pay_quotes::{Line, LineKind, Lines};
+use pay_rules::{Journey, Kind, Line, LineKind, Lines};
 use pay_tables::Tables;
-use pay_taps::Kind;
 use pay_week::{covers, fare};
 use std::alloc::{AllocError, Global};
 

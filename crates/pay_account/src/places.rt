@@ -1,9 +1,8 @@
 ghost use Rattle.std.specs.Prelude.{◌≡◌};
-ghost use Rattle.pay_account.specs.Places.{is_known, is_known_fix};
+ghost use Rattle.pay_rules.specs.TapPlaces.{is_known, is_known_fix};
 
-use pay_fix::What;
+use pay_rules::{Kind, What};
 use pay_tables::{Place, Tables};
-use pay_taps::Kind;
 
 /// Whether the fare file has a place of the sort that a tap of this kind needs: a station for a tap on the
 /// way in or out, a route for one on a bus or a tram.

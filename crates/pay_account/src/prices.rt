@@ -1,19 +1,18 @@
 ghost use Rattle.std.specs.Prelude.{◌≡◌, ◌≤◌, List, length, IfOk};
 ghost use Rattle.pay_day.specs.Words.{IsDay};
 ghost use Rattle.pay_day.specs.declared.limits.TheConstants.{DAYS_PER_WEEK};
-ghost use Rattle.pay_fix.specs.declared.limits.TheConstants.{MOST_TOUCHES};
-ghost use Rattle.pay_links.specs.declared.journey.Journey.{Journey};
-ghost use Rattle.pay_week.specs.Words.{capped_price};
-ghost use Rattle.pay_account.specs.Prices.{journeys_on, price_of_day, prices_of_journeys, prices_of_touches, sums_of_week};
+ghost use Rattle.pay_rules.specs.declared.limits.TheConstants.{MOST_TOUCHES};
+ghost use Rattle.pay_rules.specs.declared.journey.Journey.{Journey};
+ghost use Rattle.pay_rules.specs.DayPrices.{capped_price};
+ghost use Rattle.pay_rules.specs.Prices.{journeys_on, price_of_day, prices_of_journeys, prices_of_touches};
+ghost use Rattle.pay_account.specs.WeekCells.{sums_of_week};
 
 use crate::journeys::rail_journeys;
 use crate::week_cells::{cells_of_week, cells_on};
 use pay_day::day_of_week;
-use pay_links::Journey;
 use pay_money::Pence;
-use pay_quotes::Priced;
+use pay_rules::{Journey, Priced, Touch};
 use pay_tables::Tables;
-use pay_taps::Touch;
 use pay_week::{Cells, day_price, week_price};
 use std::alloc::{AllocError, Global};
 

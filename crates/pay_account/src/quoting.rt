@@ -1,19 +1,18 @@
 ghost use Rattle.std.specs.Prelude.{◌≡◌, ◌≤◌, length, map, filter, sum, sum_by, IfOk};
 ghost use Rattle.pay_day.specs.Words.{IsDay};
-ghost use Rattle.pay_fix.specs.declared.limits.TheConstants.{MOST_TOUCHES};
-ghost use Rattle.pay_week.specs.Words.{fare};
+ghost use Rattle.pay_rules.specs.declared.limits.TheConstants.{MOST_TOUCHES};
+ghost use Rattle.pay_rules.specs.JourneyFares.{fare};
 ghost use Rattle.pay_money.specs.declared.limits.TheConstants.{MOST_MONEY};
-ghost use Rattle.pay_quotes.specs.Words.{IsQuote};
-ghost use Rattle.pay_account.specs.Prices.{is_within, journeys_through, price_of_week};
-ghost use Rattle.pay_account.specs.Quotes.{with_fare, weights_through};
+ghost use Rattle.pay_rules.specs.QuoteParts.{IsQuote};
+ghost use Rattle.pay_rules.specs.Prices.{is_within, journeys_through, price_of_week};
+ghost use Rattle.pay_rules.specs.Quotes.{with_fare, weights_through};
 
 use crate::journeys::day_of;
 use crate::week_cells::cells_of_days;
 use pay_day::{day_of_week, monday};
-use pay_links::Journey;
 use pay_money::Pence;
 use pay_money::limits::OPERATORS;
-use pay_quotes::Quote;
+use pay_rules::{Journey, Quote};
 use pay_shares::weights;
 use pay_tables::Tables;
 use pay_week::{fare, week_price};

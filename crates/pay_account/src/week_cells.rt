@@ -2,19 +2,19 @@ ghost use Rattle.std.specs.Prelude.{◌≡◌, ◌≤◌, ◌+◌, ◌*◌, ◌+
 ghost use Rattle.pay_day.specs.Words.{IsDay};
 ghost use Rattle.pay_hopper.specs.Words.{last_paid_after};
 ghost use Rattle.pay_tables.specs.declared.limits.TheConstants.{MOST_FARE};
-ghost use Rattle.pay_fix.specs.declared.limits.TheConstants.{MOST_TOUCHES};
+ghost use Rattle.pay_rules.specs.declared.limits.TheConstants.{MOST_TOUCHES};
 ghost use Rattle.pay_money.specs.declared.limits.TheConstants.{MOST_MONEY};
 ghost use Rattle.pay_week.specs.Words.{cells_of, total};
-ghost use Rattle.pay_account.specs.Journeys.{boardings, is_bus, next_boarding};
-ghost use Rattle.pay_account.specs.Prices.{journeys_on, sums_of_week};
-ghost use Rattle.pay_account.specs.WeekCells.{week_with_journey, week_with_journeys, with_journey};
+ghost use Rattle.pay_rules.specs.Journeys.{boardings, is_bus};
+ghost use Rattle.pay_account.specs.NextBoardings.{next_boarding};
+ghost use Rattle.pay_rules.specs.Prices.{journeys_on};
+ghost use Rattle.pay_account.specs.WeekCells.{sums_of_week, week_with_journey, week_with_journeys, with_journey};
 
 use crate::journeys::{day_of, is_on, next_boarding};
 use pay_day::limits::DAYS_PER_WEEK;
 use pay_day::{Moment, monday};
-use pay_links::Journey;
+use pay_rules::{Journey, Touch};
 use pay_tables::Tables;
-use pay_taps::Touch;
 use pay_week::{Cells, cell_of, fare};
 
 /// The sums of the fares of each day of a week, from Monday through Sunday.

@@ -1,11 +1,12 @@
 ghost use Rattle.std.specs.Prelude.{◌≡◌, ◌≤◌, length, map, IfOk};
 ghost use Rattle.pay_day.specs.Words.{IsDay, monday, sunday};
-ghost use Rattle.pay_fix.specs.declared.limits.TheConstants.{MOST_TOUCHES};
-ghost use Rattle.pay_taps.specs.Words.{in_order_by};
-ghost use Rattle.pay_links.specs.Words.{first_tap};
-ghost use Rattle.pay_week.specs.Words.{capped_price, capped_price_of};
-ghost use Rattle.pay_account.specs.Prices.{days_through, journeys_on};
-ghost use Rattle.pay_account.specs.Lines.{lines_of_week};
+ghost use Rattle.pay_rules.specs.declared.limits.TheConstants.{MOST_TOUCHES};
+ghost use Rattle.pay_rules.specs.Order.{in_order_by};
+ghost use Rattle.pay_rules.specs.RailJourneys.{first_tap};
+ghost use Rattle.pay_rules.specs.DayPrices.{capped_price};
+ghost use Rattle.pay_week.specs.Words.{capped_price_of};
+ghost use Rattle.pay_rules.specs.Prices.{days_through, journeys_on};
+ghost use Rattle.pay_rules.specs.Lines.{lines_of_week};
 ghost use Rattle.pay_account.specs.WeekBands.{band_on, line_by_bands};
 
 use crate::journeys::day_of;
@@ -13,8 +14,7 @@ use crate::lines::{line_of_journey, sort_by_first_tap};
 use crate::quoting::keep_days;
 use crate::week_cells::{Week, cells_of_days};
 use pay_day::limits::DAYS_PER_WEEK;
-use pay_links::Journey;
-use pay_quotes::{Line, Lines};
+use pay_rules::{Journey, Line, Lines};
 use pay_tables::Tables;
 use pay_week::{Cells, day_price};
 use std::alloc::{AllocError, Global};

@@ -3,21 +3,25 @@ use Rattle.std.proofs.Common.{◌≡◌, ◌≤◌, ◌+◌, ◌*◌, ◌∷◌,
 use Rattle.std.specs.FinMap.{get, insert, values, entries, len, len-entries, len-empty, empty}
 use Rattle.std.proofs.lemmas.List.{length-map}
 use Rattle.std.proofs.lemmas.List.Filters.{length-filter_both}
-use Rattle.pay_numbered.specs.declared.numbered_set.Addition.{Addition}
-use Rattle.pay_numbered.specs.declared.numbered_set.Addition.TheVariants.{Added, Repeat}
-use Rattle.pay_numbered.specs.Words.{IsNumbered, ByNumber, number_cmp}
-use Rattle.pay_taps.specs.declared.limits.TheConstants.{MOST_TAPS}
-use Rattle.pay_taps.specs.declared.tap.Tap.{Tap}
-use Rattle.pay_taps.specs.declared.tap.Touch.{Touch}
-use Rattle.pay_taps.specs.Words.{Taps, number as tap_number, judged}
+use Rattle.pay_rules.specs.declared.addition.Addition.{Addition}
+use Rattle.pay_rules.specs.declared.addition.Addition.TheVariants.{Added, Repeat}
+use Rattle.pay_rules.specs.Numbers.{IsNumbered, ByNumber, number_cmp}
+use Rattle.pay_rules.specs.declared.limits.TheConstants.{MOST_TAPS, MOST_FIXES}
+use Rattle.pay_rules.specs.declared.tap.Tap.{Tap}
+use Rattle.pay_rules.specs.declared.tap.Touch.{Touch}
+use Rattle.pay_rules.specs.Taps.{Taps, number as tap_number, judged}
 use Rattle.pay_fix.specs.declared.change.Change.{Change}
-use Rattle.pay_fix.specs.declared.fix.Fix.{Fix}
-use Rattle.pay_fix.specs.Effective.{effective_of}
-use Rattle.pay_fix.specs.declared.limits.TheConstants.{MOST_FIXES}
-use Rattle.pay_fix.specs.Words.{Fixes, number as fix_number, judged as judged_fix, EffectiveHaveOwnNumbers, EffectiveAreInOrder, EffectiveAreFew, TapChanges, FixChanges, change_by_tap, change_by_fix}
+use Rattle.pay_rules.specs.declared.fix.Fix.{Fix}
+use Rattle.pay_rules.specs.Effective.{effective_of}
+use Rattle.pay_rules.specs.Fixes.{Fixes, number as fix_number, judged as judged_fix}
+use Rattle.pay_fix.specs.Words.{EffectiveHaveOwnNumbers, EffectiveAreInOrder, EffectiveAreFew, TapChanges, FixChanges, change_by_tap, change_by_fix}
 use Rattle.pay_tables.specs.Words.{FareTables}
 use Rattle.pay_account.specs.declared.Priced.{Priced}
-use Rattle.pay_account.specs.Words.{is_bus, is_rail, Accepted, nothing, touches, prices, prices_named, with_tap, with_fix, tap_added, tap_result, fix_added, fix_result}
+use Rattle.pay_rules.specs.Journeys.{is_bus, is_rail}
+use Rattle.pay_rules.specs.Accepted.{Accepted, nothing, touches, with_tap, with_fix}
+use Rattle.pay_rules.specs.Prices.{prices}
+use Rattle.pay_rules.specs.FixResults.{prices_named, fix_added, fix_result}
+use Rattle.pay_rules.specs.TapResults.{tap_added, tap_result}
 use Rattle.pay_book.specs.declared.kept.Kept.{Kept}
 use Rattle.pay_book.specs.Disturbed.{disturbed}
 use Rattle.pay_book.specs.Kept.{IsKeptOf, IsPossibleFor, taps_after, disturbed_by_change, ChangesEachKind, ChangesArePossible}

@@ -3,10 +3,14 @@ use Rattle.std.proofs.Common.{◌≡◌, ℕ, zero, suc, ◌+◌, ◌-◌, ◌�
 use Rattle.std.specs.List.{insert, remove}
 use Rattle.std.proofs.lemmas.List.{get_or-append-add}
 use Rattle.std.proofs.lemmas.List.Edits.{between_none, length-insert, length-between, split_between, insert-append_left, insert-append_right}
-use Rattle.pay_taps.specs.Words.{put_in, place_of, PutInAtPlace}
-use Rattle.pay_pairs.specs.Words.{FareTables, Touch, legs}
-use Rattle.pay_links.specs.Words.{journeys, starts, MarksAreCut, JourneysAreCut}
-use Rattle.pay_links.specs.declared.journey.Journey.{Journey}
+use Rattle.pay_rules.specs.Order.{put_in}
+use Rattle.pay_taps.specs.Words.{place_of, PutInAtPlace}
+use Rattle.pay_tables.specs.Words.{FareTables}
+use Rattle.pay_rules.specs.declared.tap.Touch.{Touch}
+use Rattle.pay_rules.specs.Legs.{legs}
+use Rattle.pay_rules.specs.RailJourneys.{journeys}
+use Rattle.pay_links.specs.Words.{starts, MarksAreCut, JourneysAreCut}
+use Rattle.pay_rules.specs.declared.journey.Journey.{Journey}
 use Rattle.pay_book.specs.Rail.{mark_in, taps_in, at_most_one, IsCut, IsStretch, IsDisturbed}
 use Rattle.pay_book.specs.Fewer.{fewer_of}
 use Rattle.pay_book.proofs.Marks.{as_many, put_back}

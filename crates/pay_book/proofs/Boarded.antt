@@ -3,11 +3,12 @@ use Rattle.std.proofs.Common.{◌≡◌, ℕ, zero, suc, ◌+◌, ◌≤◌, ◌
 use Rattle.std.specs.List.{remove, zip}
 use Rattle.std.proofs.lemmas.List.{length-take, take-append-drop}
 use Rattle.pay_day.specs.Words.{Stamp}
-use Rattle.pay_taps.specs.declared.tap.Touch.{Touch}
-use Rattle.pay_taps.specs.Words.{put_in, place_of, AreTimed, PutInAtPlace, PlaceWithoutIt, PutInAgain}
+use Rattle.pay_rules.specs.declared.tap.Touch.{Touch}
+use Rattle.pay_rules.specs.Order.{put_in}
+use Rattle.pay_taps.specs.Words.{place_of, AreTimed, PutInAtPlace, PlaceWithoutIt, PutInAgain}
 use Rattle.pay_hopper.specs.Words.{pays_by_last, last_paid_after, last_paid_over, PayingTapsRestart}
-use Rattle.pay_links.specs.declared.journey.Journey.{Journey}
-use Rattle.pay_account.specs.Words.{boarding}
+use Rattle.pay_rules.specs.declared.journey.Journey.{Journey}
+use Rattle.pay_rules.specs.Journeys.{boarding}
 use Rattle.pay_book.specs.Boardings.{boarded_after, boarded, is_paying, any_pays_twice, IsDisturbed}
 use Rattle.pay_book.specs.Fewer.{fewer_of}
 use Rattle.pay_book.specs.Stretches.{with_later, Meet, HaveGoneOn}

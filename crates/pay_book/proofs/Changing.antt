@@ -2,10 +2,11 @@
 use Rattle.std.proofs.Common.{◌≡◌, ◌≤◌, ◌<◌, ◌+◌, suc, Bool, true, false, not, cond, length, arith, Some, List, filter, slice_get, refl, sym, ap, ◌∙◌, subst}
 use Rattle.std.specs.List.{remove}
 use Rattle.pay_fix.specs.declared.change.Change.TheVariants.{Nothing, Enters, Leaves}
-use Rattle.pay_taps.specs.declared.tap.Touch.{Touch}
-use Rattle.pay_taps.specs.Words.{place_of, put_in, AreTimed, StandsAtPlace, TakenOutAtPlace, SomeWithOneMore, OwnNumberAmongSome}
-use Rattle.pay_fix.specs.declared.limits.TheConstants.{MOST_TOUCHES}
-use Rattle.pay_account.specs.Words.{is_bus, is_rail}
+use Rattle.pay_rules.specs.declared.tap.Touch.{Touch}
+use Rattle.pay_taps.specs.Words.{place_of, AreTimed, StandsAtPlace, TakenOutAtPlace, SomeWithOneMore, OwnNumberAmongSome}
+use Rattle.pay_rules.specs.Order.{put_in}
+use Rattle.pay_rules.specs.declared.limits.TheConstants.{MOST_TOUCHES}
+use Rattle.pay_rules.specs.Journeys.{is_bus, is_rail}
 use Rattle.pay_book.specs.Kept.{taps_after, ChangesEachKind, ChangesArePossible}
 use Rattle.pay_book.proofs.KeptMarks.{one_more}
 

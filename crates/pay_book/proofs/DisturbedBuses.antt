@@ -7,11 +7,11 @@ use Rattle.std.proofs.lemmas.List.{length-take, take-append-drop}
 use Rattle.std.proofs.lemmas.List.Edits.{length-remove}
 use Rattle.std.proofs.lemmas.Option.{slice_get_within}
 use Rattle.pay_day.specs.Words.{Stamp}
-use Rattle.pay_taps.specs.declared.tap.Touch.{Touch}
-use Rattle.pay_taps.specs.Order.{comes_before}
-use Rattle.pay_taps.specs.Words.{put_in, place_of, AreTimed, PutInAtPlace, PlaceWithoutIt, PutInAgain}
+use Rattle.pay_rules.specs.declared.tap.Touch.{Touch}
+use Rattle.pay_rules.specs.Order.{comes_before, put_in}
+use Rattle.pay_taps.specs.Words.{place_of, AreTimed, PutInAtPlace, PlaceWithoutIt, PutInAgain}
 use Rattle.pay_hopper.specs.Words.{pays_by_last, last_paid_after, last_paid_over}
-use Rattle.pay_links.specs.declared.journey.Journey.{Journey}
+use Rattle.pay_rules.specs.declared.journey.Journey.{Journey}
 use Rattle.pay_book.specs.Boardings.{boarded_after, boarded, any_pays_twice, IsDisturbed}
 use Rattle.pay_book.specs.Disturbed.{is_apart, up_to_apart, around_first, disturbed_by_bus}
 use Rattle.pay_book.specs.Fewer.{fewer_of, more_of}

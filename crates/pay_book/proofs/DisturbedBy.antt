@@ -4,11 +4,11 @@ use Rattle.std.specs.List.{AllByRecursion, IsDistinct, list_any}
 use Rattle.std.proofs.lemmas.Bool.Decides.{nat_tests}
 use Rattle.std.proofs.lemmas.List.Folds.{list_any-append}
 use Rattle.pay_tables.specs.Words.{FareTables}
-use Rattle.pay_taps.specs.declared.tap.Touch.{Touch}
-use Rattle.pay_taps.specs.Order.{comes_before, same_number}
-use Rattle.pay_taps.specs.Words.{put_in, place_of, HaveOwnNumbers, AreTimed, StandsAtPlace, SomeWithOneMore, OwnNumberAmongSome}
+use Rattle.pay_rules.specs.declared.tap.Touch.{Touch}
+use Rattle.pay_rules.specs.Order.{comes_before, same_number, put_in, HaveOwnNumbers}
+use Rattle.pay_taps.specs.Words.{place_of, AreTimed, StandsAtPlace, SomeWithOneMore, OwnNumberAmongSome}
 use Rattle.pay_fix.specs.declared.change.Change.TheVariants.{Nothing, Enters, Leaves}
-use Rattle.pay_account.specs.Words.{is_bus, is_rail}
+use Rattle.pay_rules.specs.Journeys.{is_bus, is_rail}
 use Rattle.pay_book.specs.Disturbed.{place_of_further, disturbed_between, disturbed, disturbed_by_rail, disturbed_by_bus}
 use Rattle.pay_book.specs.Stored.{ChangeDisturbs}
 use Rattle.pay_book.proofs.KeptMarks.{one_more}

@@ -7,12 +7,14 @@ use Rattle.std.proofs.lemmas.Bool.Decides.{nat_tests}
 use Rattle.std.proofs.lemmas.List.{length-append, length-map, get_or-append-add}
 use Rattle.std.proofs.lemmas.List.Edits.{length-insert}
 use Rattle.pay_tables.specs.Words.{FareTables}
-use Rattle.pay_taps.specs.declared.tap.Touch.{Touch}
-use Rattle.pay_taps.specs.Words.{put_in, place_of, PutInAtPlace}
-use Rattle.pay_pairs.specs.Words.{legs}
-use Rattle.pay_links.specs.Words.{journeys, starts, start_marks, marks_of_one, taps_of_journey, StartsAreLocal, JourneysHaveEachTap}
-use Rattle.pay_links.specs.declared.journey.Journey.{Journey}
-use Rattle.pay_links.specs.declared.journey.Journey.TheVariants as journey
+use Rattle.pay_rules.specs.declared.tap.Touch.{Touch}
+use Rattle.pay_rules.specs.Order.{put_in}
+use Rattle.pay_taps.specs.Words.{place_of, PutInAtPlace}
+use Rattle.pay_rules.specs.Legs.{legs}
+use Rattle.pay_rules.specs.RailJourneys.{journeys}
+use Rattle.pay_links.specs.Words.{starts, start_marks, marks_of_one, taps_of_journey, StartsAreLocal, JourneysHaveEachTap}
+use Rattle.pay_rules.specs.declared.journey.Journey.{Journey}
+use Rattle.pay_rules.specs.declared.journey.Journey.TheVariants as journey
 use Rattle.pay_book.specs.Disturbed.{taps_of_any, disturbed_by_rail}
 use Rattle.pay_book.specs.Fewer.{fewer_of, more_of}
 use Rattle.pay_book.specs.Rail.{mark_in, IsStretch}

@@ -3,11 +3,14 @@ use Rattle.std.proofs.Common.{◌≡◌, ℕ, zero, suc, ◌+◌, ◌-◌, ◌<�
 use Rattle.std.specs.List.{insert}
 use Rattle.std.proofs.lemmas.List.{get_or-append-add, get_or_append_left}
 use Rattle.std.proofs.lemmas.List.Edits.{length-insert, length-between}
-use Rattle.pay_pairs.specs.Words.{FareTables, Touch, legs}
+use Rattle.pay_tables.specs.Words.{FareTables}
+use Rattle.pay_rules.specs.declared.tap.Touch.{Touch}
+use Rattle.pay_rules.specs.Legs.{legs}
 use Rattle.pay_links.specs.Starts.{taps_of_leg}
-use Rattle.pay_links.specs.Words.{journeys, starts, start_marks, MarksAreCut, StartsAreLocal}
-use Rattle.pay_links.specs.declared.journey.Journey.{Journey}
-use Rattle.pay_links.specs.declared.journey.Journey.TheVariants as journey
+use Rattle.pay_rules.specs.RailJourneys.{journeys}
+use Rattle.pay_links.specs.Words.{starts, start_marks, MarksAreCut, StartsAreLocal}
+use Rattle.pay_rules.specs.declared.journey.Journey.{Journey}
+use Rattle.pay_rules.specs.declared.journey.Journey.TheVariants as journey
 use Rattle.pay_book.specs.Rail.{mark_in, taps_in, IsStretch}
 use Rattle.pay_book.proofs.Marks.{as_many, marks_before, marks_behind_it}
 use Rattle.pay_book.proofs.Between.{AreInThree, first_apart, second_apart, fewer_in_three, more_in_three}

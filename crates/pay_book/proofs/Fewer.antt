@@ -5,7 +5,7 @@ use mathlib.Core.Logic.{⊎_elim}
 use Rattle.std.proofs.lemmas.Bool.{cases_lt}
 use Rattle.std.proofs.lemmas.Option.{slice_get_past}
 use Rattle.pay_taps.specs.Words.{counted}
-use Rattle.pay_pairs.specs.Words.{Touch}
+use Rattle.pay_rules.specs.declared.tap.Touch.{Touch}
 use Rattle.pay_book.specs.Fewer.{fewer_of}
 
 removed_before : (taps : List Touch) (place other : ℕ) → other < place → slice_get (remove taps place) other ≡ slice_get taps other

@@ -6,16 +6,18 @@ use Rattle.std.proofs.lemmas.List.{length-map, length-drop, length-take-le}
 use Rattle.std.proofs.lemmas.List.Edits.{length-insert, length-remove}
 use Rattle.std.proofs.lemmas.Option.{slice_get_within}
 use Rattle.std.proofs.lemmas.Slice.Zip.{length-zip}
-use Rattle.pay_fix.specs.declared.limits.TheConstants.{MOST_TOUCHES}
+use Rattle.pay_rules.specs.declared.limits.TheConstants.{MOST_TOUCHES}
 use Rattle.pay_tables.specs.Words.{FareTables}
-use Rattle.pay_taps.specs.declared.tap.Touch.{Touch}
-use Rattle.pay_taps.specs.Words.{place_of, put_in, PutInAtPlace}
+use Rattle.pay_rules.specs.declared.tap.Touch.{Touch}
+use Rattle.pay_taps.specs.Words.{place_of, PutInAtPlace}
+use Rattle.pay_rules.specs.Order.{put_in}
 use Rattle.pay_hopper.specs.Words.{marks_by_last}
-use Rattle.pay_pairs.specs.Words.{legs}
-use Rattle.pay_links.specs.Words.{journeys, starts, taps_of_journey, JourneysHaveEachTap}
-use Rattle.pay_links.specs.declared.journey.Journey.{Journey}
-use Rattle.pay_links.specs.declared.journey.Journey.TheVariants as journey
-use Rattle.pay_account.specs.Words.{boarding}
+use Rattle.pay_rules.specs.Legs.{legs}
+use Rattle.pay_rules.specs.RailJourneys.{journeys}
+use Rattle.pay_links.specs.Words.{starts, taps_of_journey, JourneysHaveEachTap}
+use Rattle.pay_rules.specs.declared.journey.Journey.{Journey}
+use Rattle.pay_rules.specs.declared.journey.Journey.TheVariants as journey
+use Rattle.pay_rules.specs.Journeys.{boarding}
 use Rattle.pay_book.specs.Boardings.{boarded, is_paying, marks_of, marked}
 use Rattle.pay_book.specs.Days.{Days, AreKept, AreSums, CanReplace}
 use Rattle.pay_book.specs.Kept.{all_journeys, IsRight, AreAsBefore}

@@ -4,11 +4,11 @@ use Rattle.std.specs.List.{insert, remove}
 use Rattle.std.proofs.lemmas.List.{map-append, length-map}
 use Rattle.std.proofs.lemmas.List.Edits.{length-insert, length-remove}
 use Rattle.pay_day.specs.Words.{Stamp}
-use Rattle.pay_taps.specs.declared.tap.Touch.{Touch}
-use Rattle.pay_taps.specs.Order.{comes_before}
-use Rattle.pay_taps.specs.Words.{put_in, place_of, PlaceWithoutIt, PutInAgain}
+use Rattle.pay_rules.specs.declared.tap.Touch.{Touch}
+use Rattle.pay_rules.specs.Order.{comes_before, put_in}
+use Rattle.pay_taps.specs.Words.{place_of, PlaceWithoutIt, PutInAgain}
 use Rattle.pay_hopper.specs.Words.{pays_by_last, last_paid_after, marks_by_last}
-use Rattle.pay_links.specs.declared.journey.Journey.{Journey}
+use Rattle.pay_rules.specs.declared.journey.Journey.{Journey}
 use Rattle.pay_book.specs.Boardings.{boarded_after, boarded, is_paying, marks_of, marked, IsDisturbed, MarkedWithIt, MarkedWithoutIt, RoomWithIt, RoomWithoutIt}
 use Rattle.pay_book.proofs.Boarded.{boarded_each}
 use Rattle.pay_book.proofs.LastPaid.{marks_each}

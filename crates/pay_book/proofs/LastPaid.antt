@@ -3,7 +3,7 @@ use Rattle.std.proofs.Common.{◌≡◌, ℕ, zero, suc, ◌-◌, ◌<◌, ◌�
 use Rattle.std.specs.Option.{option_map}
 use Rattle.std.proofs.lemmas.List.{length-take}
 use Rattle.pay_day.specs.Words.{Stamp}
-use Rattle.pay_taps.specs.declared.tap.Touch.{Touch}
+use Rattle.pay_rules.specs.declared.tap.Touch.{Touch}
 use Rattle.pay_hopper.specs.Words.{pays_by_last, last_paid_after, marks_by_last, last_paid_over, last_marked, LastPaidIsMarked, LastMarkedFromBehind}
 
 pub marks_each : (hopper : ℕ) (last : Option Stamp) (taps : List Touch) → length (marks_by_last hopper last taps) ≡ length taps

@@ -5,8 +5,10 @@ use mathlib.Core.Logic.{⊎_elim}
 use Rattle.std.proofs.lemmas.Option.{slice_get_within}
 use Rattle.std.proofs.lemmas.Bool.{cases_lt}
 use Rattle.std.proofs.lemmas.List.Edits.{length-insert, get_or-insert_below, get_or-insert_above, length-remove, get_or-remove_below, get_or-remove_above}
-use Rattle.pay_taps.specs.Words.{put_in, place_of, PutInAtPlace}
-use Rattle.pay_pairs.specs.Words.{FareTables, Touch}
+use Rattle.pay_rules.specs.Order.{put_in}
+use Rattle.pay_taps.specs.Words.{place_of, PutInAtPlace}
+use Rattle.pay_tables.specs.Words.{FareTables}
+use Rattle.pay_rules.specs.declared.tap.Touch.{Touch}
 use Rattle.pay_links.specs.Words.{starts_behind, starts}
 use Rattle.pay_book.specs.Rail.{starts_if_there, starts_in, mark_in, AreMarkedElsewhere}
 

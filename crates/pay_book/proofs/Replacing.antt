@@ -4,12 +4,15 @@ use Rattle.std.proofs.lemmas.List.{length-append}
 use Rattle.std.proofs.lemmas.List.Elements.{filter-append}
 use Rattle.std.proofs.lemmas.List.Filters.{length-filter_both}
 use Rattle.std.proofs.lemmas.List.Sums.{sum_by-cons}
-use Rattle.pay_fix.specs.declared.limits.TheConstants.{MOST_TOUCHES}
+use Rattle.pay_rules.specs.declared.limits.TheConstants.{MOST_TOUCHES}
 use Rattle.pay_tables.specs.declared.limits.TheConstants.{MOST_FARE}
 use Rattle.pay_tables.specs.Words.{FareTables}
-use Rattle.pay_links.specs.declared.journey.Journey.{Journey}
-use Rattle.pay_caps.specs.Words.{CellSums, cell_of, cells_of, fare, fares, sum_at, total, all_added, all_taken, StretchIsTaken, EachFareIsThere, StretchIsAdded}
-use Rattle.pay_account.specs.Words.{is_on, journeys_on}
+use Rattle.pay_rules.specs.declared.journey.Journey.{Journey}
+use Rattle.pay_caps.specs.Words.{CellSums, cell_of, cells_of, sum_at, total, all_added, all_taken, StretchIsTaken, EachFareIsThere, StretchIsAdded}
+use Rattle.pay_rules.specs.JourneyFares.{fare}
+use Rattle.pay_rules.specs.DayPrices.{fares}
+use Rattle.pay_rules.specs.Journeys.{is_on}
+use Rattle.pay_rules.specs.Prices.{journeys_on}
 use Rattle.pay_book.specs.Days.{Days, sums_on, day_of, AreKept, AreSums, AreThere, HaveRoomFor, StayKept}
 
 -- ---- the parts of a day

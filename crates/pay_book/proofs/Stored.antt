@@ -1,12 +1,15 @@
 -- What a book keeps, by the definitions over all that it has accepted.
 use Rattle.std.proofs.Common.{◌≡◌, ◌++◌, ℕ, Bool, List, filter, None, ap, ◌∙◌, subst}
-use Rattle.pay_taps.specs.declared.tap.Touch.{Touch}
+use Rattle.pay_rules.specs.declared.tap.Touch.{Touch}
 use Rattle.pay_tables.specs.Words.{FareTables}
-use Rattle.pay_hopper.specs.Words.{instants_of, paying_marks, marks_by_last}
-use Rattle.pay_pairs.specs.Words.{legs}
-use Rattle.pay_links.specs.Words.{journeys, journeys_by_marks, JourneysAreKeptAsMarks}
-use Rattle.pay_links.specs.declared.journey.Journey.{Journey}
-use Rattle.pay_account.specs.Words.{touches, is_bus, rail_journeys, journeys_of}
+use Rattle.pay_rules.specs.Hopper.{instants_of, paying_marks}
+use Rattle.pay_hopper.specs.Words.{marks_by_last}
+use Rattle.pay_rules.specs.Legs.{legs}
+use Rattle.pay_rules.specs.RailJourneys.{journeys}
+use Rattle.pay_links.specs.Words.{journeys_by_marks, JourneysAreKeptAsMarks}
+use Rattle.pay_rules.specs.declared.journey.Journey.{Journey}
+use Rattle.pay_rules.specs.Accepted.{touches}
+use Rattle.pay_rules.specs.Journeys.{is_bus, rail_journeys, journeys_of}
 use Rattle.pay_book.specs.Boardings.{boarded, BoardedByAll}
 use Rattle.pay_book.specs.Books.{BookParts}
 use Rattle.pay_book.specs.Days.{AreSums}

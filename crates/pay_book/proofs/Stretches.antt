@@ -6,7 +6,8 @@ use Rattle.std.proofs.lemmas.Bool.{cases_lt, and_parts}
 use Rattle.std.proofs.lemmas.Option.{slice_get_past, slice_get_within}
 use Rattle.std.proofs.lemmas.List.Edits.{length-insert, length-remove}
 use Rattle.pay_taps.specs.Words.{touch_before}
-use Rattle.pay_pairs.specs.Words.{FareTables, Touch}
+use Rattle.pay_tables.specs.Words.{FareTables}
+use Rattle.pay_rules.specs.declared.tap.Touch.{Touch}
 use Rattle.pay_links.specs.Words.{starts}
 use Rattle.pay_book.specs.declared.stretch.Around.{Around}
 use Rattle.pay_book.specs.Rail.{second_before, starts_if_there, starts_in, mark_in, IsCut, IsAround, IsPlaced, IsFirstPlace, IsLastPlace, IsStretch, StandsThere, starts_at_it, starts_before_it, starts_behind_it, starts_further, GoesOnInOne}

@@ -5,9 +5,11 @@ use Rattle.std.proofs.Math.Seq.{drop-cons}
 use Rattle.std.proofs.lemmas.List.Elements.{filter-append, All-from_recursion}
 use Rattle.std.proofs.lemmas.List.Sums.{fold-append}
 use Rattle.pay_tables.specs.Words.{FareTables}
-use Rattle.pay_links.specs.declared.journey.Journey.{Journey}
-use Rattle.pay_caps.specs.Words.{CellSums, cell_of, fare, sum_at, all_taken}
-use Rattle.pay_account.specs.Words.{is_on, journeys_on}
+use Rattle.pay_rules.specs.declared.journey.Journey.{Journey}
+use Rattle.pay_caps.specs.Words.{CellSums, cell_of, sum_at, all_taken}
+use Rattle.pay_rules.specs.JourneyFares.{fare}
+use Rattle.pay_rules.specs.Journeys.{is_on}
+use Rattle.pay_rules.specs.Prices.{journeys_on}
 use Rattle.pay_book.specs.Days.{Days, kept_on, sums_on, day_of, AreKept, AreThere, StayKept}
 
 -- the journey at an index, and those behind it

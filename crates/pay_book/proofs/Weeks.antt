@@ -1,12 +1,14 @@
 -- The price of a week by those of its days that are kept.
 use Rattle.std.proofs.Common.{◌≡◌, ◌≤◌, ℕ, arith, Bool, true, false, cond, Option, Some, None, IsSome, unwrap_or, List, [], ◌∷◌, ◌++◌, map, refl, sym, ap, ◌∙◌, subst, append_assoc}
 use Rattle.pay_tables.specs.Words.{FareTables}
-use Rattle.pay_links.specs.declared.journey.Journey.{Journey}
+use Rattle.pay_rules.specs.declared.journey.Journey.{Journey}
 use Rattle.pay_day.specs.Words.{sunday}
-use Rattle.pay_caps.specs.Words.{CellSums, cells_of, no_fares, fares, day_price, day_price_of}
+use Rattle.pay_caps.specs.Words.{CellSums, cells_of, no_fares, day_price_of}
+use Rattle.pay_rules.specs.DayPrices.{fares, day_price}
 use Rattle.pay_week.specs.Laws.{EmptyDayIsFree}
-use Rattle.pay_week.specs.WeekPrices.{week_price}
-use Rattle.pay_account.specs.Words.{is_on, journeys_on, days_through, price_of_day, price_of_week, prices_of_journeys}
+use Rattle.pay_rules.specs.WeekPrices.{week_price}
+use Rattle.pay_rules.specs.Journeys.{is_on}
+use Rattle.pay_rules.specs.Prices.{journeys_on, days_through, price_of_day, price_of_week, prices_of_journeys}
 use Rattle.pay_book.specs.Days.{Days, kept_on, if_kept, kept_of, day_of, AreKept, AreSums}
 use Rattle.pay_book.proofs.InStep.{same_day}
 

@@ -2,7 +2,7 @@
 use Rattle.std.proofs.Common.{◌≡◌, ℕ, zero, suc, ◌+◌, ◌<◌, ◌≤◌, Bool, List, [], ◌∷◌, ◌++◌, length, take, drop, set, get_or, refl, sym, ap, ◌∙◌, arith}
 use Rattle.std.proofs.Math.Seq.{take-suc}
 use Rattle.std.proofs.lemmas.List.{map-append, length-map, length-take}
-use Rattle.pay_links.specs.declared.journey.Journey.{Journey}
+use Rattle.pay_rules.specs.declared.journey.Journey.{Journey}
 use Rattle.pay_book.specs.Boardings.{is_paying, marks_of}
 
 written_at : {X : Type 0} (old : List X) (place : ℕ) (done : List X) (x : X) (n : ℕ) → n ≡ place + length done → n < length old

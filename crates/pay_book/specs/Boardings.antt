@@ -2,13 +2,15 @@
 use Rattle.std.specs.Prelude.{◌≡◌, ℕ, ◌+◌, ◌≤◌, ◌&&◌, Bool, true, false, List, [], ◌∷◌, ◌++◌, Option, Some, None, map, length, take, drop, slice_get, refl}
 use Rattle.std.specs.List.{insert, remove, zip, list_any}
 use Rattle.pay_day.specs.Words.{Stamp}
-use Rattle.pay_taps.specs.declared.tap.Kind.TheVariants.{Bus}
-use Rattle.pay_taps.specs.declared.tap.Touch.{Touch}
-use Rattle.pay_taps.specs.Words.{put_in, place_of, AreTimed}
-use Rattle.pay_hopper.specs.Words.{instants_of, paying_marks, marks_by_last}
-use Rattle.pay_links.specs.declared.journey.Journey.{Journey}
-use Rattle.pay_links.specs.declared.journey.Journey.TheVariants as journey
-use Rattle.pay_account.specs.Words.{boarding}
+use Rattle.pay_rules.specs.declared.tap.Kind.TheVariants.{Bus}
+use Rattle.pay_rules.specs.declared.tap.Touch.{Touch}
+use Rattle.pay_rules.specs.Order.{put_in}
+use Rattle.pay_taps.specs.Words.{place_of, AreTimed}
+use Rattle.pay_rules.specs.Hopper.{instants_of, paying_marks}
+use Rattle.pay_hopper.specs.Words.{marks_by_last}
+use Rattle.pay_rules.specs.declared.journey.Journey.{Journey}
+use Rattle.pay_rules.specs.declared.journey.Journey.TheVariants as journey
+use Rattle.pay_rules.specs.Journeys.{boarding}
 
 -- the boardings of touches in order, where `last` is the moment of the last one before them that paid
 abbrev pub boarded_after : ℕ → Option Stamp → List Touch → List Journey

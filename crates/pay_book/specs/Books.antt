@@ -1,10 +1,10 @@
 -- What a book is in a contract.
 use Rattle.std.specs.Prelude.{ℕ, Bool, List, refl}
 use Rattle.std.specs.Coded.{Coded, code_by, coded×, coded_ℕ, coded_bool, coded_list}
-use Rattle.pay_taps.specs.contracts.tap.Touch as touch
-use Rattle.pay_taps.specs.declared.tap.Touch.{Touch}
+use Rattle.pay_rules.specs.contracts.tap.Touch as touch
+use Rattle.pay_rules.specs.declared.tap.Touch.{Touch}
 use Rattle.pay_caps.specs.CellSums.{CellSums, sums_code}
-use Rattle.pay_account.specs.Words.{Accepted, accepted_code}
+use Rattle.pay_rules.specs.Accepted.{Accepted, accepted_code}
 
 pub record BookParts : Type 0 where
   -- whose it is

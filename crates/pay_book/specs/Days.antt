@@ -4,13 +4,14 @@ use Rattle.std.specs.BTreeMap.{is_at}
 use Rattle.std.specs.List.{AllByRecursion, flat_map}
 use Rattle.std.specs.Map.{lookup}
 use Rattle.std.specs.Ordering.{nat_cmp}
-use Rattle.pay_links.specs.Words.{first_tap}
-use Rattle.pay_links.specs.declared.journey.Journey.{Journey}
+use Rattle.pay_rules.specs.RailJourneys.{first_tap}
+use Rattle.pay_rules.specs.declared.journey.Journey.{Journey}
 use Rattle.pay_tables.specs.Words.{FareTables}
-use Rattle.pay_fix.specs.declared.limits.TheConstants.{MOST_TOUCHES}
+use Rattle.pay_rules.specs.declared.limits.TheConstants.{MOST_TOUCHES}
 use Rattle.pay_money.specs.declared.limits.TheConstants.{MOST_MONEY}
-use Rattle.pay_caps.specs.Words.{CellSums, cell_of, cells_of, no_fares, sum_at, total, fare, all_taken}
-use Rattle.pay_account.specs.Words.{journeys_on}
+use Rattle.pay_caps.specs.Words.{CellSums, cell_of, cells_of, no_fares, sum_at, total, all_taken}
+use Rattle.pay_rules.specs.JourneyFares.{fare}
+use Rattle.pay_rules.specs.Prices.{journeys_on}
 
 -- the days of which sums are kept, each with its own
 abbrev pub Days : Type 0

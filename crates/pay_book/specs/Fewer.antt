@@ -1,8 +1,8 @@
 -- The taps without one that enters or leaves, and with it.
 use Rattle.std.specs.Prelude.{ℕ, Bool, if◌then◌else◌, List}
 use Rattle.std.specs.List.{remove}
-use Rattle.pay_taps.specs.declared.tap.Touch.{Touch}
-use Rattle.pay_taps.specs.Words.{put_in}
+use Rattle.pay_rules.specs.declared.tap.Touch.{Touch}
+use Rattle.pay_rules.specs.Order.{put_in}
 
 -- the taps without the one that is there at a place, or without one that is not among them
 abbrev pub fewer_of : Bool → ℕ → List Touch → List Touch

@@ -1,6 +1,6 @@
 -- All that came to an account, one after another.
 use Rattle.std.specs.Prelude.{ℕ}
-use Rattle.pay_account.specs.Words.{Change, Tapped, Fixed}
+use Rattle.pay_rules.specs.Changes.{Change, Tapped, Fixed}
 use Rattle.pay_book.specs.declared.history.Sent.{Sent}
 use Rattle.pay_book.specs.declared.history.Sent.TheVariants.{Tap, Fix}
 

@@ -3,17 +3,19 @@ use Rattle.std.specs.Prelude.{◌≡◌, ℕ, ◌+◌, ◌≤◌, ◌<◌, ⊤, 
 use Rattle.std.specs.List.{remove}
 use Rattle.smallvec.specs.SmallVec.{HasRoomFor}
 use Rattle.pay_tables.specs.Words.{FareTables}
-use Rattle.pay_taps.specs.declared.tap.Touch.{Touch}
-use Rattle.pay_taps.specs.Words.{place_of, put_in, AreTimed, HaveOwnNumbers}
+use Rattle.pay_rules.specs.declared.tap.Touch.{Touch}
+use Rattle.pay_taps.specs.Words.{place_of, AreTimed}
+use Rattle.pay_rules.specs.Order.{put_in, HaveOwnNumbers}
 use Rattle.pay_fix.specs.Words.{IsChanged}
 use Rattle.pay_fix.specs.declared.change.Change.{Change}
 use Rattle.pay_fix.specs.declared.change.Change.TheVariants.{Nothing, Enters, Leaves}
-use Rattle.pay_fix.specs.declared.limits.TheConstants.{MOST_TOUCHES}
+use Rattle.pay_rules.specs.declared.limits.TheConstants.{MOST_TOUCHES}
 use Rattle.pay_hopper.specs.Words.{marks_by_last}
-use Rattle.pay_pairs.specs.Words.{legs}
-use Rattle.pay_links.specs.Words.{journeys, starts}
-use Rattle.pay_links.specs.declared.journey.Journey.{Journey}
-use Rattle.pay_account.specs.Words.{is_bus, is_rail}
+use Rattle.pay_rules.specs.Legs.{legs}
+use Rattle.pay_rules.specs.RailJourneys.{journeys}
+use Rattle.pay_links.specs.Words.{starts}
+use Rattle.pay_rules.specs.declared.journey.Journey.{Journey}
+use Rattle.pay_rules.specs.Journeys.{is_bus, is_rail}
 use Rattle.pay_book.specs.Boardings.{boarded}
 use Rattle.pay_book.specs.Disturbed.{disturbed_by_rail, disturbed_by_bus}
 use Rattle.pay_book.specs.Fewer.{fewer_of, more_of}

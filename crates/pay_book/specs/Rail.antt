@@ -2,10 +2,13 @@
 use Rattle.std.specs.Prelude.{◌≡◌, ◌⊎◌, ◌≤◌, ◌<◌, ◌+◌, ◌-◌, ◌&&◌, ℕ, zero, suc, Bool, true, false, if◌then◌else◌, List, [], ◌∷◌, ◌++◌, take, drop, length, get_or, slice_get, Option, Some, None, refl}
 use Rattle.std.specs.List.{insert}
 use Rattle.pay_taps.specs.Words.{touch_before, place_of}
-use Rattle.pay_pairs.specs.Words.{FareTables, Touch, legs}
-use Rattle.pay_pairs.specs.Words.kind_variants.{Out}
-use Rattle.pay_links.specs.Words.{journeys, starts_at, starts, AreApart}
-use Rattle.pay_links.specs.declared.journey.Journey.{Journey}
+use Rattle.pay_tables.specs.Words.{FareTables}
+use Rattle.pay_rules.specs.declared.tap.Touch.{Touch}
+use Rattle.pay_rules.specs.Legs.{legs}
+use Rattle.pay_rules.specs.declared.tap.Kind.TheVariants.{Out}
+use Rattle.pay_rules.specs.RailJourneys.{journeys}
+use Rattle.pay_links.specs.Words.{starts_at, starts, AreApart}
+use Rattle.pay_rules.specs.declared.journey.Journey.{Journey}
 use Rattle.pay_book.specs.Fewer.{fewer_of}
 use Rattle.pay_book.specs.declared.stretch.Around.{Around}
 

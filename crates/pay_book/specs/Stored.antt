@@ -1,20 +1,23 @@
 -- When what a book keeps is right.
 use Rattle.std.specs.Prelude.{◌≡◌, ◌≤◌, Ok, List, length, filter, None}
 use Rattle.pay_tables.specs.Words.{FareTables}
-use Rattle.pay_numbered.specs.declared.numbered_set.Addition.TheVariants.{Added}
-use Rattle.pay_numbered.specs.Words.{IsNumbered}
-use Rattle.pay_taps.specs.declared.limits.TheConstants.{MOST_TAPS}
-use Rattle.pay_taps.specs.declared.tap.Tap.{Tap}
-use Rattle.pay_taps.specs.declared.tap.Touch.{Touch}
-use Rattle.pay_taps.specs.Words.{AreTimed, number as tap_number, judged}
+use Rattle.pay_rules.specs.declared.addition.Addition.TheVariants.{Added}
+use Rattle.pay_rules.specs.Numbers.{IsNumbered}
+use Rattle.pay_rules.specs.declared.limits.TheConstants.{MOST_TAPS, MOST_FIXES, MOST_TOUCHES}
+use Rattle.pay_rules.specs.declared.tap.Tap.{Tap}
+use Rattle.pay_rules.specs.declared.tap.Touch.{Touch}
+use Rattle.pay_taps.specs.Words.{AreTimed}
+use Rattle.pay_rules.specs.Taps.{number as tap_number, judged}
 use Rattle.pay_fix.specs.declared.change.Change.{Change}
-use Rattle.pay_fix.specs.declared.fix.Fix.{Fix}
-use Rattle.pay_fix.specs.declared.limits.TheConstants.{MOST_FIXES, MOST_TOUCHES}
-use Rattle.pay_fix.specs.Words.{IsChanged, change_by_tap, change_by_fix, number as fix_number, judged as judged_fix}
-use Rattle.pay_account.specs.Words.{Accepted, touches, with_tap, with_fix, is_bus, is_rail, rail_journeys, journeys_of}
-use Rattle.pay_hopper.specs.Words.{instants_of, paying_marks, marks_by_last}
+use Rattle.pay_rules.specs.declared.fix.Fix.{Fix}
+use Rattle.pay_fix.specs.Words.{IsChanged, change_by_tap, change_by_fix}
+use Rattle.pay_rules.specs.Fixes.{number as fix_number, judged as judged_fix}
+use Rattle.pay_rules.specs.Accepted.{Accepted, touches, with_tap, with_fix}
+use Rattle.pay_rules.specs.Journeys.{is_bus, is_rail, rail_journeys, journeys_of}
+use Rattle.pay_rules.specs.Hopper.{instants_of, paying_marks}
+use Rattle.pay_hopper.specs.Words.{marks_by_last}
 use Rattle.pay_links.specs.Words.{starts, journeys_by_marks}
-use Rattle.pay_links.specs.declared.journey.Journey.{Journey}
+use Rattle.pay_rules.specs.declared.journey.Journey.{Journey}
 use Rattle.pay_book.specs.Books.{BookParts}
 use Rattle.pay_book.specs.Days.{AreSums}
 use Rattle.pay_book.specs.Disturbed.{disturbed}

@@ -1,7 +1,7 @@
 -- Two stretches of boardings, without a touch and with it, and where they meet again.
 use Rattle.std.specs.Prelude.{◌≡◌, ℕ, false, List, ◌++◌, length}
-use Rattle.pay_taps.specs.declared.tap.Touch.{Touch}
-use Rattle.pay_links.specs.declared.journey.Journey.{Journey}
+use Rattle.pay_rules.specs.declared.tap.Touch.{Touch}
+use Rattle.pay_rules.specs.declared.journey.Journey.{Journey}
 use Rattle.pay_book.specs.Boardings.{boarded_after, any_pays_twice}
 use Rattle.pay_book.specs.declared.boardings.Stretch.{Stretch}
 

@@ -1,17 +1,17 @@
 ghost use Rattle.std.specs.Prelude.{◌≡◌, ◌+◌, ◌≤◌, ◌<◌, ◌∷◌, [], suc, true, false, ◌++◌, ◌&&◌, List, Some, if◌then◌else◌, length, take, drop, slice_get, IfOk, IfSome, OnOk, MatchOption};
 ghost use Rattle.std.specs.Option.{option_map};
-ghost use Rattle.pay_taps.specs.declared.tap.Touch.{Touch};
+ghost use Rattle.pay_rules.specs.declared.tap.Touch.{Touch};
 ghost use Rattle.pay_taps.specs.Words.{place_of, AreTimed};
 ghost use Rattle.pay_hopper.specs.Words.{pays_by_last, marks_by_last, last_paid_over};
-ghost use Rattle.pay_account.specs.Words.{boarding};
+ghost use Rattle.pay_rules.specs.Journeys.{boarding};
 ghost use Rattle.pay_book.specs.Boardings.{boarded_after, IsDisturbed, is_paying, marked};
 ghost use Rattle.pay_book.specs.Fewer.{fewer_of};
 ghost use Rattle.pay_book.specs.Stretches.{with_later, Meet, HaveGoneOn};
 
 use pay_day::Moment;
-use pay_links::Journey;
+use pay_rules::{Journey, Touch};
 use pay_tables::Tables;
-use pay_taps::{Steps, Timeline, Touch};
+use pay_taps::{Steps, Timeline};
 use std::alloc::{AllocError, Global};
 
 /// What of an account's boardings a bus tap that enters or leaves disturbs.

@@ -1,20 +1,25 @@
 ghost use Rattle.std.specs.Prelude.{◌≡◌, ◌≢◌, ◌≤◌, ◌+◌, ◌*◌, List, Ok, Err, OnOk, OnErr};
 ghost use Rattle.pay_day.specs.Words.{IsDay};
-ghost use Rattle.pay_numbered.specs.declared.numbered_set.Addition.TheVariants as Addition;
-ghost use Rattle.pay_taps.specs.Words.{judged};
-ghost use Rattle.pay_fix.specs.Words.{judged as judged_fix};
-ghost use Rattle.pay_account.specs.Words.{prices, prices_named, with_tap, with_fix, touches, IsTapResult, after_tap, IsFixResult, after_fix};
+ghost use Rattle.pay_rules.specs.declared.addition.Addition.TheVariants as Addition;
+ghost use Rattle.pay_rules.specs.Taps.{judged};
+ghost use Rattle.pay_rules.specs.Fixes.{judged as judged_fix};
+ghost use Rattle.pay_rules.specs.Prices.{prices};
+ghost use Rattle.pay_rules.specs.FixResults.{prices_named, IsFixResult, after_fix};
+ghost use Rattle.pay_rules.specs.Accepted.{with_tap, with_fix, touches};
+ghost use Rattle.pay_rules.specs.TapResults.{IsTapResult, after_tap};
 ghost use Rattle.pay_book.specs.Disturbed.{disturbed};
 ghost use Rattle.pay_book.specs.Stored.{IsKept};
 
 use crate::kept::Kept;
 use crate::{days, laws};
-use pay_account::{Account, Fares, FixFault, Lines, Priced, Quote, Sets, Shown, TapFault};
-use pay_fix::{Fix, What, change_by_fix, change_by_tap, day_named};
+use pay_account::Account;
+use pay_fix::{change_by_fix, change_by_tap, day_named};
 use pay_money::Pence;
-use pay_numbered::Addition;
+use pay_rules::{
+    Addition, Fares, Fix, FixFault, Lines, Priced, Quote, Sets, Shown, Tap, TapFault, What,
+};
 use pay_tables::Tables;
-use pay_taps::{Steps, Tap};
+use pay_taps::Steps;
 use std::alloc::{AllocError, Global};
 use std::marker::Model;
 
@@ -92,7 +97,7 @@ impl Book {
         ensures priced_by { IsKept tables.now self.new }
         ensures steps { result ≢ Err TapFault.Memory → self.new.steps ≤ 64 + 4 * disturbed tables.now (touches self.old.accepted) (touches self.new.accepted) }
     {
-        pay_account::laws::refusals();
+        pay_rule_laws::accounts::refusals();
         self.steps = Steps::new();
         match self.account.judge_tap(tables, &tap)? {
             Addition::Repeat => Ok(self.prices(tables, true, tap.stamp.day())),
@@ -114,7 +119,7 @@ impl Book {
         ensures priced_by { IsKept tables.now self.new }
         ensures steps { result ≢ Err FixFault.Memory → self.new.steps ≤ 64 + 4 * disturbed tables.now (touches self.old.accepted) (touches self.new.accepted) }
     {
-        pay_account::laws::refusals_of_fixes();
+        pay_rule_laws::accounts::refusals_of_fixes();
         self.steps = Steps::new();
         match self.account.judge_fix(tables, &fix)? {
             Addition::Repeat => Ok(self.prices_named(tables, true, &fix.what)),

@@ -4,19 +4,19 @@ ghost use Rattle.pay_day.specs.Words.{IsDay};
 ghost use Rattle.pay_day.specs.declared.limits.TheConstants.{DAYS_PER_WEEK};
 ghost use Rattle.pay_money.specs.declared.limits.TheConstants.{MOST_MONEY};
 ghost use Rattle.pay_tables.specs.declared.limits.TheConstants.{MOST_FARE};
-ghost use Rattle.pay_caps.specs.Words.{cell_of, cells_of, fare, sum_at, total, all_added, all_taken};
-ghost use Rattle.pay_week.specs.Words.{week_price};
-ghost use Rattle.pay_links.specs.declared.journey.Journey.{Journey};
-ghost use Rattle.pay_account.specs.Words.{journeys_on, price_of_day, prices_of_journeys};
+ghost use Rattle.pay_caps.specs.Words.{cell_of, cells_of, sum_at, total, all_added, all_taken};
+ghost use Rattle.pay_rules.specs.JourneyFares.{fare};
+ghost use Rattle.pay_rules.specs.WeekPrices.{week_price};
+ghost use Rattle.pay_rules.specs.declared.journey.Journey.{Journey};
+ghost use Rattle.pay_rules.specs.Prices.{journeys_on, price_of_day, prices_of_journeys};
 ghost use Rattle.pay_book.specs.Days.{kept_on, sums_on, day_of, AreKept, AreSums, AreThere, CanReplace, HaveRoomFor, StayKept};
 
 use crate::day_sums::DaySums;
-use pay_account::Priced;
 use pay_caps::{Cells, cell_of, fare};
 use pay_day::limits::DAYS_PER_WEEK;
 use pay_day::monday;
-use pay_links::Journey;
 use pay_money::Pence;
+use pay_rules::{Journey, Priced};
 use pay_tables::Tables;
 use std::alloc::AllocError;
 

@@ -1,16 +1,15 @@
 //! A book by all that came to its account.
 ghost use Rattle.std.specs.Prelude.{◌≡◌, map, IfOk, OnOk};
 ghost use Rattle.std.specs.List.{AllByRecursion};
-ghost use Rattle.pay_account.specs.Words.{nothing, after, after_all};
+ghost use Rattle.pay_rules.specs.Accepted.{nothing};
+ghost use Rattle.pay_rules.specs.Changes.{after, after_all};
 ghost use Rattle.pay_book.specs.History.{account_of, change_of};
 ghost use Rattle.pay_book.specs.Stored.{IsKept, IsStored};
 
 use crate::book::Book;
 use crate::laws;
-use pay_account::{Fares, FixFault, TapFault};
-use pay_fix::Fix;
+use pay_rules::{Fares, Fix, FixFault, Tap, TapFault};
 use pay_tables::Tables;
-use pay_taps::Tap;
 use std::alloc::{AllocError, Global};
 
 /// What comes to an account.

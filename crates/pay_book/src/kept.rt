@@ -1,16 +1,17 @@
 //! What is kept of an account beside what it has accepted: its effective taps in order with a mark each, and the sums of its days.
 ghost use Rattle.std.specs.Prelude.{◌≡◌, ◌≤◌, ◌<◌, ◌+◌, ◌*◌, [], ◌∷◌, List, length, true, false, if◌then◌else◌, Some, slice_get, OnOk, IfOk};
 ghost use Rattle.std.specs.List.{insert, remove};
-ghost use Rattle.pay_fix.specs.declared.limits.TheConstants.{MOST_TOUCHES};
-ghost use Rattle.pay_taps.specs.Words.{place_of, put_in, HaveOwnNumbers};
+ghost use Rattle.pay_rules.specs.declared.limits.TheConstants.{MOST_TOUCHES};
+ghost use Rattle.pay_taps.specs.Words.{place_of};
+ghost use Rattle.pay_rules.specs.Order.{put_in, HaveOwnNumbers};
 ghost use Rattle.pay_tables.specs.Words.{FareTables};
-ghost use Rattle.pay_links.specs.declared.journey.Journey.{Journey};
+ghost use Rattle.pay_rules.specs.declared.journey.Journey.{Journey};
 ghost use Rattle.pay_book.specs.Boardings.{IsDisturbed as AreDisturbed};
 ghost use Rattle.pay_book.specs.Disturbed.{disturbed_by_rail, disturbed_by_bus};
 ghost use Rattle.pay_book.specs.Fewer.{fewer_of, more_of};
 ghost use Rattle.pay_book.specs.Days.{AreKept};
 ghost use Rattle.pay_fix.specs.declared.change.Change.TheVariants as Change;
-ghost use Rattle.pay_account.specs.Words.{is_bus, is_rail};
+ghost use Rattle.pay_rules.specs.Journeys.{is_bus, is_rail};
 ghost use Rattle.pay_book.specs.Kept.{IsRight, IsKeptOf, HasRoomByRail, HasRoomOnBuses, AreAsBefore, IsPossible, IsPrepared, IsPreparedFor, taps_after, disturbed_by, disturbed_by_change};
 ghost use Rattle.pay_book.specs.Rail.{IsDisturbed, IsDisturbedBy};
 
@@ -20,9 +21,9 @@ use crate::put_in::put_in;
 use crate::rail::Disturbed;
 use crate::{boardings, days, laws, rail};
 use pay_fix::Change;
-use pay_links::Journey;
+use pay_rules::{Journey, Kind, Touch};
 use pay_tables::Tables;
-use pay_taps::{Kind, Steps, Timeline, Touch};
+use pay_taps::{Steps, Timeline};
 use smallvec::SmallVec;
 use std::alloc::{AllocError, Global};
 

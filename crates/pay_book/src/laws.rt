@@ -7,8 +7,7 @@ ghost use Rattle.pay_book.specs.Books.{BookParts};
 ghost use Rattle.pay_book.specs.Kept.{ChangesEachKind, ChangesArePossible};
 ghost use Rattle.pay_book.specs.Stored.{IsKept, IsStored, TapIsChange, FixIsChange, ChangeIsPossible, ChangeIsMade, ChangeDisturbs};
 
-use pay_fix::Fix;
-use pay_taps::Tap;
+use pay_rules::{Fix, Tap};
 
 /// Boardings by the last one that paid are those by the Hopper rule.
 pub(crate) fn boarded_by_all()
@@ -43,8 +42,8 @@ pub(crate) fn changes()
 pub(crate) fn tap_is_change()
     ensures { TapIsChange }
 {
-    pay_numbered::laws::judgements::<Tap>();
-    pay_numbered::laws::one_more::<Tap>();
+    pay_rule_laws::sets::judgements::<Tap>();
+    pay_rule_laws::sets::one_more::<Tap>();
     pay_fix::laws::own_numbers();
     pay_fix::laws::tap_changes();
 }
@@ -53,8 +52,8 @@ pub(crate) fn tap_is_change()
 pub(crate) fn fix_is_change()
     ensures { FixIsChange }
 {
-    pay_numbered::laws::judgements::<Fix>();
-    pay_numbered::laws::one_more::<Fix>();
+    pay_rule_laws::sets::judgements::<Fix>();
+    pay_rule_laws::sets::one_more::<Fix>();
     pay_fix::laws::own_numbers();
     pay_fix::laws::fix_changes();
 }

@@ -1,15 +1,16 @@
 //! Rail taps that enter or leave: where journeys start then, and which journeys it changes.
 ghost use Rattle.std.specs.Prelude.{◌≡◌, ◌<◌, ◌≤◌, ◌+◌, ◌-◌, ◌*◌, ◌++◌, true, length, slice_get, Some, IfOk, OnOk};
 ghost use Rattle.pay_taps.specs.Words.{place_of};
-ghost use Rattle.pay_pairs.specs.Words.{legs};
-ghost use Rattle.pay_links.specs.Words.{starts, journeys};
+ghost use Rattle.pay_rules.specs.Legs.{legs};
+ghost use Rattle.pay_links.specs.Words.{starts};
+ghost use Rattle.pay_rules.specs.RailJourneys.{journeys};
 ghost use Rattle.pay_book.specs.Rail.{second_before, mark_in, AreMarkedElsewhere, taps_in, at_most_one, IsDisturbedBy};
 ghost use Rattle.pay_book.specs.Disturbed.{disturbed_by_rail};
 ghost use Rattle.pay_book.specs.Fewer.{fewer_of, more_of};
 
 use crate::stretch::{Stretch, stretch_around, tap_at};
-use pay_links::Journey;
-use pay_pairs::{Tables, Touch};
+use pay_rules::{Journey, Touch};
+use pay_tables::Tables;
 use pay_taps::{Steps, Timeline};
 use std::alloc::{AllocError, Global};
 

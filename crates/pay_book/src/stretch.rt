@@ -1,14 +1,15 @@
 //! From where to where a rail tap that enters or leaves disturbs the journeys.
 ghost use Rattle.std.specs.Prelude.{◌≡◌, ◌≤◌, ◌<◌, ◌+◌, ◌-◌, ℕ, true, false, Bool, List, IsTrue, length, slice_get};
 ghost use Rattle.pay_taps.specs.Words.{touch_before};
-ghost use Rattle.pay_pairs.specs.Words.{Touch};
+ghost use Rattle.pay_rules.specs.declared.tap.Touch.{Touch};
 ghost use Rattle.pay_links.specs.Words.{starts};
 ghost use Rattle.pay_book.specs.Rail.{second_before, third_before, mark_in, starts_if_there};
 ghost use Rattle.pay_book.specs.Fewer.{fewer_of};
 ghost use Rattle.pay_book.specs.Rail.{IsAround, starts_at_it, starts_before_it, starts_behind_it, starts_further};
 ghost use Rattle.pay_book.specs.Rail.{IsPlaced, IsFirstPlace, IsLastPlace, IsStretch, StandsThere};
 
-use pay_pairs::{Tables, Touch};
+use pay_rules::Touch;
+use pay_tables::Tables;
 use pay_taps::{Steps, Timeline};
 
 /// The taps next to a place: three before it, and from it on three.

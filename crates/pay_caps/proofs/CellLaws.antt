@@ -12,15 +12,17 @@ use Rattle.pay_tables.specs.declared.zones.Span.{Span}
 use Rattle.pay_tables.specs.Bands.{covers_span}
 use Rattle.pay_tables.specs.Spans.{same_span}
 use Rattle.pay_tables.specs.Words.{FareTables}
-use Rattle.pay_fares.specs.Words.{Journey, fare}
-use Rattle.pay_fares.specs.Words.journey_variants.{Run, Same, Lone, Bus}
+use Rattle.pay_rules.specs.declared.journey.Journey.{Journey}
+use Rattle.pay_rules.specs.JourneyFares.{fare}
+use Rattle.pay_rules.specs.declared.journey.Journey.TheVariants.{Run, Same, Lone, Bus}
 use Rattle.pay_caps.specs.declared.cell.Cell.{Cell}
 use Rattle.pay_caps.specs.declared.cell.Cell.TheVariants as cell
 use Rattle.pay_caps.specs.declared.limits.TheConstants.{SPANS}
 use Rattle.pay_caps.specs.CellSums.{CellSums}
-use Rattle.pay_caps.specs.Covers.{covers, cell_of}
+use Rattle.pay_rules.specs.Covers.{covers}
+use Rattle.pay_caps.specs.CellOf.{cell_of}
 use Rattle.pay_caps.specs.Cells.{all_spans, added, taken, outside, is_cell, fares_in, cells_of}
-use Rattle.pay_caps.specs.DayPrices.{not_covered}
+use Rattle.pay_rules.specs.DayPrices.{not_covered}
 use Rattle.pay_caps.proofs.Sums.{if_passed, sum_kept, sum_passed, sum_passed_both, sum_same, sum_none, map_same}
 use Rattle.pay_caps.proofs.Weights.{changed_where}
 

@@ -3,7 +3,7 @@ use Rattle.std.proofs.Common.{◌≡◌, ℕ, ◌+◌, ◌≤◌, ◌<◌, Bool,
 use Rattle.std.specs.Prelude.{nat_lt}
 use Rattle.std.proofs.lemmas.Bool.Decides.{nat_tests}
 use Rattle.pay_tables.specs.declared.band.Band.{Band}
-use Rattle.pay_caps.specs.Lowest.{Offer, lower, lowest, offers, charged}
+use Rattle.pay_rules.specs.Lowest.{Offer, lower, lowest, offers, charged}
 
 -- the lower of two is as low as either
 lower_at_most_first : (first second : Offer) → (lower first second).0 ≤ first.0

@@ -10,15 +10,20 @@ use Rattle.pay_tables.specs.declared.zones.Span.{Span}
 use Rattle.pay_tables.specs.Bands.{covers_span}
 use Rattle.pay_tables.specs.Spans.{IsSpan, same_span}
 use Rattle.pay_tables.specs.Words.{FareTables}
-use Rattle.pay_fares.specs.Words.{Journey, LinkedLegs, fare, span_of_legs, span_of_station}
-use Rattle.pay_fares.specs.Words.journey_variants.{Run, Same, Lone, Bus}
+use Rattle.pay_rules.specs.declared.journey.Journey.{Journey}
+use Rattle.pay_rules.specs.LinkedLegs.{LinkedLegs}
+use Rattle.pay_rules.specs.JourneyFares.{fare}
+use Rattle.pay_rules.specs.Runs.{span_of_legs, span_of_station}
+use Rattle.pay_rules.specs.declared.journey.Journey.TheVariants.{Run, Same, Lone, Bus}
 use Rattle.pay_caps.specs.declared.cell.Cell.{Cell}
 use Rattle.pay_caps.specs.declared.cell.Cell.TheVariants as cell
 use Rattle.pay_caps.specs.CellSums.{CellSums}
-use Rattle.pay_caps.specs.Covers.{covers, cell_of, is_capped, IsCell}
+use Rattle.pay_rules.specs.Covers.{covers, is_capped}
+use Rattle.pay_caps.specs.CellOf.{cell_of, IsCell}
 use Rattle.pay_caps.specs.Cells.{all_spans, added, is_cell, fares_in, cells_of, sum_where, capped_sum, outside_sum, total}
-use Rattle.pay_caps.specs.Lowest.{Offer}
-use Rattle.pay_caps.specs.DayPrices.{fares, day_cap, not_covered, capped_price, maximum_fares, day_price, capped_price_of, day_price_of}
+use Rattle.pay_rules.specs.Lowest.{Offer}
+use Rattle.pay_rules.specs.DayPrices.{fares, day_cap, not_covered, capped_price, maximum_fares, day_price}
+use Rattle.pay_caps.specs.SumPrices.{capped_price_of, day_price_of}
 use Rattle.pay_caps.proofs.Sums.{if_passed, sum_passed, sum_passed_both, sum_same, sum_grows}
 use Rattle.pay_caps.proofs.Ranges.{wider}
 use Rattle.pay_caps.proofs.AllSpans.{place_of, same_is, at_its_place}

@@ -12,9 +12,10 @@ use Rattle.pay_caps.specs.declared.cell.Cell.{Cell}
 use Rattle.pay_caps.specs.declared.cell.Cell.TheVariants.{Rail, Buses, Maximum}
 use Rattle.pay_caps.specs.declared.limits.TheConstants.{SPANS}
 use Rattle.pay_caps.specs.CellSums.{CellSums}
-use Rattle.pay_caps.specs.Covers.{IsCell}
-use Rattle.pay_caps.specs.Lowest.{lowest, offers}
-use Rattle.pay_caps.specs.DayPrices.{day_cap, capped_price_of}
+use Rattle.pay_caps.specs.CellOf.{IsCell}
+use Rattle.pay_rules.specs.Lowest.{lowest, offers}
+use Rattle.pay_rules.specs.DayPrices.{day_cap}
+use Rattle.pay_caps.specs.SumPrices.{capped_price_of}
 use Rattle.pay_tables.specs.Words.{FareTables}
 use Rattle.pay_caps.specs.Cells.{AreSums, used_of, all_spans, span_at, added, taken, changed_at, capped_sum, sum_at, sum_where, total, spans_outside, outside, outside_sum}
 use Rattle.pay_caps.proofs.Sums.{if_passed}

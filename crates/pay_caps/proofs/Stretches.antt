@@ -2,9 +2,10 @@
 use Rattle.std.proofs.Common.{◌≡◌, ◌≤◌, List, [], ◌∷◌, ◌++◌, append_assoc, refl, ap, sym, ◌∙◌, arith}
 use Rattle.std.proofs.lemmas.List.{append-nil}
 use Rattle.pay_tables.specs.Words.{FareTables}
-use Rattle.pay_fares.specs.Words.{Journey, fare}
+use Rattle.pay_rules.specs.declared.journey.Journey.{Journey}
+use Rattle.pay_rules.specs.JourneyFares.{fare}
 use Rattle.pay_caps.specs.CellSums.{CellSums}
-use Rattle.pay_caps.specs.Covers.{cell_of}
+use Rattle.pay_caps.specs.CellOf.{cell_of}
 use Rattle.pay_caps.specs.Cells.{taken, sum_at, cells_of}
 use Rattle.pay_caps.specs.Stretches.{all_added, all_taken}
 use Rattle.pay_caps.specs.Laws.{StretchIsTaken, RestIsLeft, EachFareIsThere, StretchIsAdded}

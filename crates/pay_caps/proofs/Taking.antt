@@ -3,8 +3,9 @@ use Rattle.std.proofs.Common.{◌≡◌, ◌≤◌, List, ◌∷◌, ◌++◌, a
 use Rattle.std.proofs.lemmas.List.Sorted.{IsPermutation-middle}
 use Rattle.pay_tables.specs.declared.limits.TheConstants.{MOST_ZONES}
 use Rattle.pay_tables.specs.Words.{FareTables}
-use Rattle.pay_fares.specs.Words.{Journey, fare}
-use Rattle.pay_caps.specs.Covers.{cell_of, IsCell}
+use Rattle.pay_rules.specs.declared.journey.Journey.{Journey}
+use Rattle.pay_rules.specs.JourneyFares.{fare}
+use Rattle.pay_caps.specs.CellOf.{cell_of, IsCell}
 use Rattle.pay_caps.specs.Cells.{added, taken, sum_at, cells_of}
 use Rattle.pay_caps.proofs.CellLaws.{one_journey_more, cells_in_any_order, taken_again}
 use Rattle.pay_caps.proofs.Prices.{as_many}

@@ -7,13 +7,14 @@ use Rattle.pay_tables.specs.declared.limits.TheConstants.{MOST_ZONES}
 use Rattle.pay_tables.specs.declared.zones.Span.{Span}
 use Rattle.pay_tables.specs.Spans.{same_span}
 use Rattle.pay_tables.specs.Words.{FareTables, covers_span}
-use Rattle.pay_fares.specs.Words.{Journey, fare}
+use Rattle.pay_rules.specs.declared.journey.Journey.{Journey}
+use Rattle.pay_rules.specs.JourneyFares.{fare}
 use Rattle.pay_caps.specs.declared.cell.Cell.{Cell}
 use Rattle.pay_caps.specs.declared.cell.Cell.TheVariants.{Rail, Buses, Maximum}
 use Rattle.pay_caps.specs.declared.limits.TheConstants.{SPANS}
 use Rattle.pay_money.specs.declared.limits.TheConstants.{MOST_MONEY}
 use Rattle.pay_caps.specs.CellSums.{CellSums}
-use Rattle.pay_caps.specs.Covers.{cell_of}
+use Rattle.pay_caps.specs.CellOf.{cell_of}
 
 -- the spans that end in a zone
 abbrev pub spans_to : ℕ → List Span

@@ -2,11 +2,13 @@
 use Rattle.std.specs.Prelude.{◌≡◌, ◌≤◌, ℕ, ◌+◌, ◌∷◌, ◌++◌, List, filter}
 use Rattle.pay_tables.specs.declared.band.Band.{Band}
 use Rattle.pay_tables.specs.Words.{FareTables}
-use Rattle.pay_fares.specs.Words.{Journey, fare}
-use Rattle.pay_caps.specs.Covers.{cell_of, is_capped}
+use Rattle.pay_rules.specs.declared.journey.Journey.{Journey}
+use Rattle.pay_rules.specs.JourneyFares.{fare}
+use Rattle.pay_caps.specs.CellOf.{cell_of}
+use Rattle.pay_rules.specs.Covers.{is_capped}
 use Rattle.pay_caps.specs.Cells.{taken, sum_at, cells_of}
-use Rattle.pay_caps.specs.Lowest.{charged}
-use Rattle.pay_caps.specs.DayPrices.{fares, not_covered, maximum_fares, day_price}
+use Rattle.pay_rules.specs.Lowest.{charged}
+use Rattle.pay_rules.specs.DayPrices.{fares, not_covered, maximum_fares, day_price}
 use Rattle.pay_caps.specs.Stretches.{all_added, all_taken}
 
 -- where the fare of one of some journeys is taken from their sums, what is left are the sums of the others

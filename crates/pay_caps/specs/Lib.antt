@@ -1,8 +1,7 @@
 pub mod CellSums
-pub mod Covers
+pub mod CellOf
 pub mod Cells
-pub mod Lowest
-pub mod DayPrices
+pub mod SumPrices
 pub mod Stretches
 pub mod Laws
 pub mod Words

@@ -2,9 +2,10 @@
 use Rattle.std.specs.Prelude.{List}
 use Rattle.std.specs.List.{fold}
 use Rattle.pay_tables.specs.Words.{FareTables}
-use Rattle.pay_fares.specs.Words.{Journey, fare}
+use Rattle.pay_rules.specs.declared.journey.Journey.{Journey}
+use Rattle.pay_rules.specs.JourneyFares.{fare}
 use Rattle.pay_caps.specs.CellSums.{CellSums}
-use Rattle.pay_caps.specs.Covers.{cell_of}
+use Rattle.pay_caps.specs.CellOf.{cell_of}
 use Rattle.pay_caps.specs.Cells.{added, taken}
 
 -- sums, with the fares of some journeys more

@@ -1,8 +1,10 @@
 ghost use Rattle.std.specs.Prelude.{◌≡◌};
 ghost use Rattle.pay_tables.specs.declared.limits.TheConstants.{MOST_ZONES};
-ghost use Rattle.pay_caps.specs.Covers.{IsCell, cell_of, covers};
+ghost use Rattle.pay_caps.specs.CellOf.{IsCell, cell_of};
+ghost use Rattle.pay_rules.specs.Covers.{covers};
 
-use pay_fares::{Journey, span_of_run, span_of_station};
+use pay_fares::{span_of_run, span_of_station};
+use pay_rules::Journey;
 use pay_tables::{Band, Span, Tables};
 
 /// Which sum the fare of a journey belongs to.

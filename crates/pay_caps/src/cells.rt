@@ -4,7 +4,7 @@ ghost use Rattle.pay_caps.specs.declared.limits.TheConstants.{SPANS};
 ghost use Rattle.pay_money.specs.declared.limits.TheConstants.{MOST_MONEY};
 ghost use Rattle.pay_tables.specs.Words.{IsSpan, covers_span};
 ghost use Rattle.pay_tables.specs.declared.zones.Span.{Span};
-ghost use Rattle.pay_caps.specs.Covers.{IsCell};
+ghost use Rattle.pay_caps.specs.CellOf.{IsCell};
 ghost use Rattle.pay_caps.specs.Cells.{span_at, used_of, no_fares, added, taken, sum_at, total, capped_sum, sum_where, outside_sum, spans_outside, outside, outside_of};
 
 use crate::cell::Cell;

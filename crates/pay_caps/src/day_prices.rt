@@ -2,8 +2,8 @@ ghost use Rattle.std.specs.Prelude.{◌≡◌, ◌≤◌, ◌+◌, Some, slice_g
 ghost use Rattle.pay_tables.specs.declared.limits.TheConstants.{MOST_FARE};
 ghost use Rattle.pay_money.specs.declared.limits.TheConstants.{MOST_MONEY};
 ghost use Rattle.pay_caps.specs.Cells.{capped_sum, outside, outside_of, outside_sum, total};
-ghost use Rattle.pay_caps.specs.Lowest.{lower};
-ghost use Rattle.pay_caps.specs.DayPrices.{capped_price_of, day_price_of};
+ghost use Rattle.pay_rules.specs.Lowest.{lower};
+ghost use Rattle.pay_caps.specs.SumPrices.{capped_price_of, day_price_of};
 
 use crate::cells::Cells;
 use pay_money::Pence;

@@ -4,14 +4,16 @@ ghost use Rattle.std.specs.Prelude.{◌≡◌, ◌≤◌, ℕ, ◌∷◌, ◌++�
 ghost use Rattle.pay_tables.specs.declared.band.Band.{Band};
 ghost use Rattle.pay_tables.specs.declared.limits.TheConstants.{MOST_ZONES};
 ghost use Rattle.pay_tables.specs.Words.{FareTables};
-ghost use Rattle.pay_fares.specs.Words.{Journey, fare};
+ghost use Rattle.pay_rules.specs.declared.journey.Journey.{Journey};
+ghost use Rattle.pay_rules.specs.JourneyFares.{fare};
 ghost use Rattle.pay_caps.specs.declared.cell.Cell.{Cell};
 ghost use Rattle.pay_caps.specs.declared.limits.TheConstants.{SPANS};
 ghost use Rattle.pay_caps.specs.CellSums.{CellSums};
-ghost use Rattle.pay_caps.specs.Covers.{cell_of, IsCell};
+ghost use Rattle.pay_caps.specs.CellOf.{cell_of, IsCell};
 ghost use Rattle.pay_caps.specs.Cells.{no_fares, added, taken, sum_at, cells_of, outside, total};
-ghost use Rattle.pay_caps.specs.Lowest.{charged};
-ghost use Rattle.pay_caps.specs.DayPrices.{fares, not_covered, capped_price, maximum_fares, day_price, capped_price_of, day_price_of};
+ghost use Rattle.pay_rules.specs.Lowest.{charged};
+ghost use Rattle.pay_rules.specs.DayPrices.{fares, not_covered, capped_price, maximum_fares, day_price};
+ghost use Rattle.pay_caps.specs.SumPrices.{capped_price_of, day_price_of};
 ghost use Rattle.pay_caps.specs.Laws.{OthersAreLeft, StretchIsTaken, RestIsLeft, EachFareIsThere, StretchIsAdded, DayIsWithinBand, ChargeIsWithinBand};
 
 use pay_tables::Tables;

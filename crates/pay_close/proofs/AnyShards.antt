@@ -4,9 +4,13 @@ use Rattle.std.specs.FinMap.{FinMap, get, entries, entries_sorted}
 use Rattle.std.specs.Ordering.{nat_cmp}
 use Rattle.std.proofs.lemmas.Nat.{mod_below}
 use Rattle.pay_tables.specs.Words.{FareTables}
-use Rattle.pay_account.specs.Words.{Accepted, QuoteParts, quote, SetsParts, sets}
+use Rattle.pay_rules.specs.Accepted.{Accepted}
+use Rattle.pay_rules.specs.QuoteParts.{QuoteParts}
+use Rattle.pay_rules.specs.Quotes.{quote}
+use Rattle.pay_rules.specs.SetsParts.{SetsParts, sets}
 use Rattle.pay_postings.specs.Words.{posted}
-use Rattle.pay_shard.specs.Words.{State, is_of, is_quoted, BatchParts, batch, IsWhole as IsStateOfAll}
+use Rattle.pay_rules.specs.State.{State}
+use Rattle.pay_shard.specs.Words.{is_of, is_quoted, BatchParts, batch, IsWhole as IsStateOfAll}
 use Rattle.pay_shard.specs.declared.reply.Answer.{Answer}
 use Rattle.pay_session.specs.Served.{gives_quotes, brings_quotes}
 use Rattle.pay_session.specs.Words.{Taken}

@@ -1,7 +1,7 @@
 -- One shard that has all accounts.
 use Rattle.std.proofs.Common.{◌≡◌, ℕ, ◌≤◌, [], ◌∷◌, Some, refl, sym, subst, arith}
 use Rattle.pay_tables.specs.Words.{FareTables}
-use Rattle.pay_shard.specs.Words.{State}
+use Rattle.pay_rules.specs.State.{State}
 use Rattle.pay_shard.specs.declared.reply.Answer.{Answer}
 use Rattle.pay_shard.specs.declared.reply.Reply.TheVariants.{Quotes}
 use Rattle.pay_session.specs.Words.{Taken}

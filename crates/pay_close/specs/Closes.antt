@@ -1,9 +1,9 @@
 -- What a close does to a ledger.
 use Rattle.std.specs.Prelude.{◌≡◌, ◌⊎◌, ℕ, Bool, List, Result, Ok, Err, IsTrue, IfOk, IfErr, OnErr, ⊤}
 use Rattle.sqlite.specs.State.{State, HasCleanDisk, Survives}
-use Rattle.pay_account.specs.Words.{Posting}
+use Rattle.pay_rules.specs.declared.posting.Posting.{Posting}
 use Rattle.pay_postings.specs.Words.{LedgerParts, posted}
-use Rattle.pay_postings.specs.declared.fault.PostFault.{PostFault}
+use Rattle.pay_rules.specs.declared.post_fault.PostFault.{PostFault}
 use Rattle.pay_ledger.specs.Words.{is_of_store, IsLedger, Posts, IsAsBefore, MayLeave}
 use Rattle.pay_ledger.specs.declared.fault.LedgerFault.TheVariants as ledger_fault
 use Rattle.pay_shard.specs.Words.{DeskParts}

@@ -1,7 +1,7 @@
 -- Why a day is not closed, as a session's line says it.
 use Rattle.std.specs.Prelude.{◌≡◌, Bool, true, false, refl}
-use Rattle.pay_postings.specs.declared.fault.PostFault.{PostFault}
-use Rattle.pay_postings.specs.declared.fault.PostFault.TheVariants as post
+use Rattle.pay_rules.specs.declared.post_fault.PostFault.{PostFault}
+use Rattle.pay_rules.specs.declared.post_fault.PostFault.TheVariants as post
 use Rattle.pay_ledger.specs.declared.fault.LedgerFault.{LedgerFault}
 use Rattle.pay_ledger.specs.declared.fault.LedgerFault.TheVariants as ledger
 use Rattle.pay_ledger.specs.Words.{wants_memory}

@@ -5,4 +5,3 @@ pub mod Batches
 pub mod Gathers
 pub mod Laws
 pub mod Closes
-pub mod Restores

@@ -3,7 +3,7 @@ ghost use Rattle.std.specs.Prelude.{◌≡◌};
 ghost use Rattle.pay_close.specs.Faults.{refusal_of_posting};
 
 use pay_ledger::LedgerFault;
-use pay_postings::PostFault;
+use pay_rules::PostFault;
 use pay_shard::DeskFault;
 use pay_wire::Refusal;
 use std::alloc::AllocError;

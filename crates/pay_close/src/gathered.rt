@@ -8,7 +8,7 @@ ghost use Rattle.pay_close.specs.Gathers.{IsAskedAt, IsToldAt};
 
 use crate::asking::ask_all;
 use crate::fault::NotClosed;
-use pay_account::{Quote, Sets};
+use pay_rules::{Quote, Sets};
 use pay_shard::{Batch, Desk};
 use std::alloc::{AllocError, Global};
 use std::marker::Model;

@@ -11,8 +11,8 @@ ghost use Rattle.pay_close.specs.Gathers.{IsAskedAt};
 
 use crate::fault::NotClosed;
 use crate::gathered::gather;
-use pay_account::Postings;
 use pay_ledger::Ledger;
+use pay_rules::Postings;
 use pay_session::Till;
 use pay_shard::Desk;
 use pay_wire::Refusal;

@@ -7,12 +7,13 @@ use Rattle.pay_tables.specs.declared.place.Place.{Place}
 use Rattle.pay_tables.specs.declared.rules.Rules.{Rules}
 use Rattle.pay_tables.specs.declared.zones.Span.{Span}
 use Rattle.pay_tables.specs.Words.{FareTables, IsPlace, IsSpan, station_at, span_of, single_fare}
-use Rattle.pay_links.specs.Words.{Leg, LinkedLegs, all_legs}
-use Rattle.pay_links.specs.declared.journey.Journey.{Journey}
-use Rattle.pay_links.specs.declared.journey.Journey.TheVariants.{Run, Same, Lone, Bus}
-use Rattle.pay_fares.specs.Runs.{stations_of, span_of_legs, span_of_station}
-use Rattle.pay_fares.specs.Peak.{is_peak}
-use Rattle.pay_fares.specs.JourneyFares.{is_free, fare_if, fare}
+use Rattle.pay_rules.specs.declared.parts.Leg.{Leg}
+use Rattle.pay_rules.specs.LinkedLegs.{LinkedLegs, all_legs}
+use Rattle.pay_rules.specs.declared.journey.Journey.{Journey}
+use Rattle.pay_rules.specs.declared.journey.Journey.TheVariants.{Run, Same, Lone, Bus}
+use Rattle.pay_rules.specs.Runs.{stations_of, span_of_legs, span_of_station}
+use Rattle.pay_rules.specs.Peak.{is_peak}
+use Rattle.pay_rules.specs.JourneyFares.{is_free, fare_if, fare}
 
 -- the stations of a fare file lie within its zones
 abbrev pub StationsWithin : FareTables → Type 0

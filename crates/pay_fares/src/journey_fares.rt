@@ -1,11 +1,11 @@
 ghost use Rattle.std.specs.Prelude.{◌≡◌, ◌≤◌};
 ghost use Rattle.pay_tables.specs.declared.limits.TheConstants.{MOST_FARE};
-ghost use Rattle.pay_fares.specs.JourneyFares.{is_free, fare};
+ghost use Rattle.pay_rules.specs.JourneyFares.{is_free, fare};
 
 use crate::peak::is_peak;
 use crate::runs::{span_of_run, span_of_station};
-use pay_links::{Journey, Leg};
 use pay_money::Pence;
+use pay_rules::{Journey, Leg};
 use pay_tables::Tables;
 
 /// Whether a leg that ends where it began is free.

@@ -5,11 +5,11 @@ ghost use Rattle.pay_day.specs.Words.{monday};
 ghost use Rattle.pay_day.specs.declared.limits.TheConstants.{FIRST_DAY, SATURDAY};
 ghost use Rattle.pay_tables.specs.declared.limits.TheConstants.{MOST_FARE};
 ghost use Rattle.pay_tables.specs.Words.{FareTables, IsSpan};
-ghost use Rattle.pay_links.specs.declared.journey.Journey.{Journey};
-ghost use Rattle.pay_links.specs.Words.{LinkedLegs};
-ghost use Rattle.pay_fares.specs.JourneyFares.{fare};
-ghost use Rattle.pay_fares.specs.Runs.{first_station, last_station, span_of_legs, span_of_station};
-ghost use Rattle.pay_fares.specs.Peak.{is_weekday, is_into_zone_one};
+ghost use Rattle.pay_rules.specs.declared.journey.Journey.{Journey};
+ghost use Rattle.pay_rules.specs.LinkedLegs.{LinkedLegs};
+ghost use Rattle.pay_rules.specs.JourneyFares.{fare};
+ghost use Rattle.pay_rules.specs.Runs.{first_station, last_station, span_of_legs, span_of_station};
+ghost use Rattle.pay_rules.specs.Peak.{is_weekday, is_into_zone_one};
 
 use pay_tables::Tables;
 

@@ -3,11 +3,9 @@
 
 mod journey_fares;
 pub mod laws;
-pub mod limits;
 mod peak;
 mod runs;
 
 pub use journey_fares::fare;
-pub use pay_links::Journey;
 pub use peak::is_peak;
 pub use runs::{span_of_run, span_of_station};

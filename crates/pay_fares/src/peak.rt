@@ -1,11 +1,13 @@
 ghost use Rattle.std.specs.Prelude.{◌≡◌};
-ghost use Rattle.pay_fares.specs.Peak.{is_weekday, is_morning, is_evening, is_peak_time, is_into_zone_one, is_excepted, is_peak};
+ghost use Rattle.pay_rules.specs.Peak.{is_weekday, is_morning, is_evening, is_peak_time, is_into_zone_one, is_excepted, is_peak};
 
-use crate::limits::{EVENING_PEAK_END, EVENING_PEAK_START, MORNING_PEAK_END, MORNING_PEAK_START};
 use crate::runs::span_of_run;
 use pay_day::limits::SATURDAY;
 use pay_day::{Moment, day_of_week};
-use pay_links::{Journey, Run};
+use pay_rules::limits::{
+    EVENING_PEAK_END, EVENING_PEAK_START, MORNING_PEAK_END, MORNING_PEAK_START,
+};
+use pay_rules::{Journey, Run};
 use pay_tables::Tables;
 
 /// Whether the service day of a moment is one of Monday to Friday.

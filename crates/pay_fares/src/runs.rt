@@ -1,9 +1,9 @@
 ghost use Rattle.std.specs.Prelude.{◌≡◌};
 ghost use Rattle.std.specs.List.{fold};
 ghost use Rattle.pay_tables.specs.Words.{IsSpan, AreSpanBounds, bounds_with};
-ghost use Rattle.pay_fares.specs.Runs.{stations_of, span_of_legs, span_of_station};
+ghost use Rattle.pay_rules.specs.Runs.{stations_of, span_of_legs, span_of_station};
 
-use pay_links::{Leg, Run};
+use pay_rules::{Leg, Run};
 use pay_tables::{Span, SpanBounds, Tables};
 
 /// The bounds of the span with the stations of a leg, beside those before.

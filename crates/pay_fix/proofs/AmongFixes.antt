@@ -1,16 +1,16 @@
 -- What one more correction does to those that stand, and to the effective taps.
 use Rattle.std.proofs.Common.{◌≡◌, ◌≢◌, ℕ, Bool, true, false, not, ◌&&◌, ◌||◌, cond, if◌then◌else◌, List, [], ◌∷◌, ◌++◌, map, filter, refl, sym, ap, ◌∙◌}
 use Rattle.std.specs.List.{list_any, flat_map, AllByRecursion}
-use Rattle.pay_taps.specs.declared.tap.Tap.{Tap}
-use Rattle.pay_taps.specs.declared.tap.Touch.{Touch}
-use Rattle.pay_taps.specs.Words.{touch_of, in_order}
-use Rattle.pay_taps.specs.Words.{number as tap_number}
-use Rattle.pay_fix.specs.Credits.{CreditOf}
-use Rattle.pay_fix.specs.declared.fix.Fix.{Fix}
-use Rattle.pay_fix.specs.declared.fix.What.TheVariants.{Void, Credit, Drop}
-use Rattle.pay_fix.specs.Fixes.{number, is_number, is_drop, drops, is_dropped, stands}
-use Rattle.pay_fix.specs.Effective.{voids, is_voided, not_voided, fill_of, filled_by, filled, effective_of}
-use Rattle.pay_fix.specs.SameFix.{number_from_same, number_itself}
+use Rattle.pay_rules.specs.declared.tap.Tap.{Tap}
+use Rattle.pay_rules.specs.declared.tap.Touch.{Touch}
+use Rattle.pay_rules.specs.Order.{touch_of, in_order}
+use Rattle.pay_rules.specs.Taps.{number as tap_number}
+use Rattle.pay_rules.specs.Credits.{CreditOf}
+use Rattle.pay_rules.specs.declared.fix.Fix.{Fix}
+use Rattle.pay_rules.specs.declared.fix.What.TheVariants.{Void, Credit, Drop}
+use Rattle.pay_rules.specs.Fixes.{number, is_number, is_drop, drops, is_dropped, stands}
+use Rattle.pay_rules.specs.Effective.{voids, is_voided, not_voided, fill_of, filled_by, filled, effective_of}
+use Rattle.pay_rules.specs.SameFix.{number_from_same, number_itself}
 
 -- ---- one more in a list
 

@@ -2,17 +2,17 @@
 use Rattle.std.proofs.Common.{◌≡◌, ℕ, Bool, true, false, not, ◌&&◌, ◌||◌, List, ◌∷◌, ◌++◌, map, filter, IsPermutation, refl, sym, ap, ◌∙◌, subst}
 use Rattle.std.specs.List.{AllByRecursion}
 use Rattle.std.proofs.lemmas.List.Sorted.{IsPermutation-middle, IsPermutation-cons, IsPermutation-trans}
-use Rattle.pay_taps.specs.declared.tap.Tap.{Tap}
-use Rattle.pay_taps.specs.declared.tap.Touch.{Touch}
-use Rattle.pay_taps.specs.Words.{touch_of, in_order, HaveOwnNumbers}
-use Rattle.pay_taps.specs.Words.{number as tap_number}
+use Rattle.pay_rules.specs.declared.tap.Tap.{Tap}
+use Rattle.pay_rules.specs.declared.tap.Touch.{Touch}
+use Rattle.pay_rules.specs.Order.{touch_of, in_order, HaveOwnNumbers}
+use Rattle.pay_rules.specs.Taps.{number as tap_number}
 use Rattle.pay_fix.specs.declared.change.Change.{Change}
 use Rattle.pay_fix.specs.declared.change.Change.TheVariants.{Nothing, Enters, Leaves}
-use Rattle.pay_fix.specs.declared.fix.Fix.{Fix}
-use Rattle.pay_fix.specs.Fixes.{is_number}
-use Rattle.pay_fix.specs.Effective.{is_voided}
+use Rattle.pay_rules.specs.declared.fix.Fix.{Fix}
+use Rattle.pay_rules.specs.Fixes.{is_number}
+use Rattle.pay_rules.specs.Effective.{is_voided}
 use Rattle.pay_fix.specs.Changes.{IsOneMore, IsChanged}
-use Rattle.pay_fix.specs.SameFix.{number_from_same}
+use Rattle.pay_rules.specs.SameFix.{number_from_same}
 use Rattle.pay_fix.proofs.AmongFixes.{filter_same}
 use Rattle.pay_fix.proofs.OneMore.{HasOneMore, more_behind, more_before, more_mapped, more_pass}
 use Rattle.pay_fix.proofs.OwnTouches.{own_numbers_moved}

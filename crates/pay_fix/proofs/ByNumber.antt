@@ -9,8 +9,8 @@ use Rattle.std.proofs.lemmas.Cmp.{on_total, then_total, tied_itself, nat_eq_equi
 use Rattle.std.proofs.lemmas.List.Sorted.{IsPermutation-middle, IsPermutation-sym}
 use Rattle.std.proofs.lemmas.Map.Keys.{IsDistinct-cons, IsDistinct-IsPermutation}
 use Rattle.std.proofs.lemmas.Map.Lookups.{CmpEqualImpliesEq, exact_pairs, exact_unsigned}
-use Rattle.pay_numbered.specs.Words.{ByNumber, IsNumbered, number_cmp}
-use Rattle.pay_fix.specs.Fixes.{is_number}
+use Rattle.pay_rules.specs.Numbers.{ByNumber, IsNumbered, number_cmp}
+use Rattle.pay_rules.specs.Fixes.{is_number}
 use Rattle.pay_fix.proofs.AmongFixes.{all_more, other_number}
 
 number_total : IsTotalOrder number_cmp

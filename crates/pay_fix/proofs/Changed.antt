@@ -1,18 +1,17 @@
 -- What one more tap and one more correction do to the effective taps.
 use Rattle.std.proofs.Common.{◌≡◌, ℕ, Bool, true, false, not, ◌||◌, if◌then◌else◌, List, ◌∷◌, ◌++◌, Option, Some, None, refl, sym, ap, ◌∙◌, subst}
 use Rattle.std.specs.FinMap.{get, values}
-use Rattle.pay_numbered.specs.Words.{IsNumbered}
-use Rattle.pay_taps.specs.declared.limits.TheConstants.{MOST_TAPS}
-use Rattle.pay_taps.specs.declared.tap.Tap.{Tap}
-use Rattle.pay_taps.specs.declared.tap.Touch.{Touch}
-use Rattle.pay_taps.specs.Words.{Taps, HaveOwnNumbers}
-use Rattle.pay_taps.specs.Words.{number as tap_number}
+use Rattle.pay_rules.specs.Numbers.{IsNumbered}
+use Rattle.pay_rules.specs.declared.limits.TheConstants.{MOST_TAPS, MOST_FIXES}
+use Rattle.pay_rules.specs.declared.tap.Tap.{Tap}
+use Rattle.pay_rules.specs.declared.tap.Touch.{Touch}
+use Rattle.pay_rules.specs.Taps.{Taps, number as tap_number}
+use Rattle.pay_rules.specs.Order.{HaveOwnNumbers}
 use Rattle.pay_fix.specs.declared.change.Change.TheVariants.{Nothing, Enters}
-use Rattle.pay_fix.specs.declared.fix.Fix.{Fix}
-use Rattle.pay_fix.specs.declared.fix.What.TheVariants.{Void, Fill, Credit, Drop}
-use Rattle.pay_fix.specs.declared.limits.TheConstants.{MOST_FIXES}
-use Rattle.pay_fix.specs.Fixes.{Fixes, number, is_drop, drops, is_dropped, stands}
-use Rattle.pay_fix.specs.Effective.{voids, is_voided, touch_of_fill, fill_of, effective_of, effective}
+use Rattle.pay_rules.specs.declared.fix.Fix.{Fix}
+use Rattle.pay_rules.specs.declared.fix.What.TheVariants.{Void, Fill, Credit, Drop}
+use Rattle.pay_rules.specs.Fixes.{Fixes, number, is_drop, drops, is_dropped, stands}
+use Rattle.pay_rules.specs.Effective.{voids, is_voided, touch_of_fill, fill_of, effective_of, effective}
 use Rattle.pay_fix.specs.Changes.{IsChanged, leaves_unless, change_by_withdrawal, change_by_drop, change_by_standing, change_by_tap, change_by_fix}
 use Rattle.pay_fix.proofs.ByNumber.{IsFound, found_value, numbered_values, numbered_more}
 use Rattle.pay_fix.proofs.OwnTouches.{touches_of, own_numbers_moved, touches_own}

@@ -4,17 +4,16 @@ use Rattle.std.specs.FinMap.{values, len, len-entries, entries}
 use Rattle.std.specs.List.{flat_map}
 use Rattle.std.proofs.lemmas.List.{length-map, length-append}
 use Rattle.std.proofs.lemmas.List.Sorted.{length_permutation}
-use Rattle.pay_numbered.specs.Words.{ByNumber, IsNumbered}
-use Rattle.pay_taps.specs.declared.limits.TheConstants.{MOST_TAPS}
-use Rattle.pay_taps.specs.declared.tap.Tap.{Tap}
-use Rattle.pay_taps.specs.Words.{Taps, touch_of, in_order}
-use Rattle.pay_taps.specs.Words.{number as tap_number}
-use Rattle.pay_fix.specs.declared.fix.Fix.{Fix}
-use Rattle.pay_fix.specs.declared.fix.What.{What}
-use Rattle.pay_fix.specs.declared.fix.What.TheVariants.{Void, Fill, Credit, Drop}
-use Rattle.pay_fix.specs.declared.limits.TheConstants.{MOST_FIXES, MOST_TOUCHES}
-use Rattle.pay_fix.specs.Fixes.{Fixes, number, stands}
-use Rattle.pay_fix.specs.Effective.{is_voided, not_voided, fill_of, filled_by, filled, effective}
+use Rattle.pay_rules.specs.Numbers.{ByNumber, IsNumbered}
+use Rattle.pay_rules.specs.declared.limits.TheConstants.{MOST_TAPS, MOST_FIXES, MOST_TOUCHES}
+use Rattle.pay_rules.specs.declared.tap.Tap.{Tap}
+use Rattle.pay_rules.specs.Taps.{Taps, number as tap_number}
+use Rattle.pay_rules.specs.Order.{touch_of, in_order}
+use Rattle.pay_rules.specs.declared.fix.Fix.{Fix}
+use Rattle.pay_rules.specs.declared.fix.What.{What}
+use Rattle.pay_rules.specs.declared.fix.What.TheVariants.{Void, Fill, Credit, Drop}
+use Rattle.pay_rules.specs.Fixes.{Fixes, number, stands}
+use Rattle.pay_rules.specs.Effective.{is_voided, not_voided, fill_of, filled_by, filled, effective}
 use Rattle.pay_fix.proofs.OwnTouches.{touches_of}
 use Rattle.pay_fix.proofs.Becomes.{OrderMoves}
 

@@ -1,17 +1,17 @@
 -- What a further tap, and a further correction that is no Drop, does.
 use Rattle.std.proofs.Common.{◌≡◌, ℕ, true, false, not, ◌&&◌, ◌||◌, if◌then◌else◌, List, [], ◌∷◌, ◌++◌, map, filter, Option, Some, None, refl, sym, ap, ◌∙◌, subst}
 use Rattle.std.specs.List.{flat_map}
-use Rattle.pay_taps.specs.declared.tap.Tap.{Tap}
-use Rattle.pay_taps.specs.declared.tap.Touch.{Touch}
-use Rattle.pay_taps.specs.Words.{touch_of}
-use Rattle.pay_taps.specs.Words.{number as tap_number}
+use Rattle.pay_rules.specs.declared.tap.Tap.{Tap}
+use Rattle.pay_rules.specs.declared.tap.Touch.{Touch}
+use Rattle.pay_rules.specs.Order.{touch_of}
+use Rattle.pay_rules.specs.Taps.{number as tap_number}
 use Rattle.pay_fix.specs.declared.change.Change.TheVariants.{Nothing, Enters, Leaves}
-use Rattle.pay_fix.specs.declared.fix.Fix.{Fix}
-use Rattle.pay_fix.specs.declared.fix.What.TheVariants.{Void}
-use Rattle.pay_fix.specs.Fixes.{is_number, drops, stands}
-use Rattle.pay_fix.specs.Effective.{voids, is_voided, fill_of, filled_by, filled}
+use Rattle.pay_rules.specs.declared.fix.Fix.{Fix}
+use Rattle.pay_rules.specs.declared.fix.What.TheVariants.{Void}
+use Rattle.pay_rules.specs.Fixes.{is_number, drops, stands}
+use Rattle.pay_rules.specs.Effective.{voids, is_voided, fill_of, filled_by, filled}
 use Rattle.pay_fix.specs.Changes.{leaves_unless}
-use Rattle.pay_fix.specs.SameFix.{number_itself}
+use Rattle.pay_rules.specs.SameFix.{number_itself}
 use Rattle.pay_fix.proofs.AmongFixes.{flat_among, flat_same, filter_among, all_more, all_of, and_false, other_number, stands_alike, voided_alike, filled_alike}
 use Rattle.pay_fix.proofs.ByNumber.{IsFound}
 use Rattle.pay_fix.proofs.OneMore.{HasOneMore, more_before, more_mapped, filter_with, given_with}

@@ -5,17 +5,16 @@ use Rattle.std.specs.List.{flat_map, AllByRecursion, IsDistinct}
 use Rattle.std.proofs.lemmas.Cmp.{nat_eq_equiv}
 use Rattle.std.proofs.lemmas.Map.Keys.{IsDistinct-IsPermutation}
 use Rattle.pay_day.specs.Words.{Stamp}
-use Rattle.pay_taps.specs.declared.tap.Kind.{Kind}
-use Rattle.pay_taps.specs.declared.tap.Tap.{Tap}
-use Rattle.pay_taps.specs.declared.tap.Touch.{Touch}
-use Rattle.pay_taps.specs.Order.{same_number}
-use Rattle.pay_taps.specs.Words.{touch_of, HaveOwnNumbers}
-use Rattle.pay_taps.specs.Words.{number as tap_number}
-use Rattle.pay_fix.specs.declared.fix.Fix.{Fix}
-use Rattle.pay_fix.specs.declared.fix.What.{What}
-use Rattle.pay_fix.specs.declared.fix.What.TheVariants.{Void, Fill, Credit, Drop}
-use Rattle.pay_fix.specs.Fixes.{number, is_number, stands}
-use Rattle.pay_fix.specs.Effective.{is_voided, not_voided, touch_of_fill, fill_of, filled_by, filled}
+use Rattle.pay_rules.specs.declared.tap.Kind.{Kind}
+use Rattle.pay_rules.specs.declared.tap.Tap.{Tap}
+use Rattle.pay_rules.specs.declared.tap.Touch.{Touch}
+use Rattle.pay_rules.specs.Order.{same_number, touch_of, HaveOwnNumbers}
+use Rattle.pay_rules.specs.Taps.{number as tap_number}
+use Rattle.pay_rules.specs.declared.fix.Fix.{Fix}
+use Rattle.pay_rules.specs.declared.fix.What.{What}
+use Rattle.pay_rules.specs.declared.fix.What.TheVariants.{Void, Fill, Credit, Drop}
+use Rattle.pay_rules.specs.Fixes.{number, is_number, stands}
+use Rattle.pay_rules.specs.Effective.{is_voided, not_voided, touch_of_fill, fill_of, filled_by, filled}
 use Rattle.pay_fix.proofs.ByNumber.{AreNumbered}
 
 -- effective taps, before they are put in order

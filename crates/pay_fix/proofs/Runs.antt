@@ -2,12 +2,12 @@
 use Rattle.std.proofs.Common.{◌≡◌, ℕ, ◌+◌, ◌≤◌, not, List, ◌++◌, length, map, take, drop, sym, ap, ◌∙◌, arith, append_assoc, append-nil, length-drop, length-take, take-append-drop, drop-drop, drop_of_length-le}
 use Rattle.std.proofs.lemmas.List.{map-append}
 use Rattle.std.proofs.lemmas.List.Elements.{filter-append}
-use Rattle.pay_taps.specs.declared.tap.Tap.{Tap}
-use Rattle.pay_taps.specs.declared.tap.Touch.{Touch}
-use Rattle.pay_taps.specs.Words.{touch_of}
-use Rattle.pay_taps.specs.Words.{number as tap_number}
-use Rattle.pay_fix.specs.declared.fix.Fix.{Fix}
-use Rattle.pay_fix.specs.Effective.{is_voided, not_voided}
+use Rattle.pay_rules.specs.declared.tap.Tap.{Tap}
+use Rattle.pay_rules.specs.declared.tap.Touch.{Touch}
+use Rattle.pay_rules.specs.Order.{touch_of}
+use Rattle.pay_rules.specs.Taps.{number as tap_number}
+use Rattle.pay_rules.specs.declared.fix.Fix.{Fix}
+use Rattle.pay_rules.specs.Effective.{is_voided, not_voided}
 
 module _ {X : Type 0} where
   -- a run is no longer than what is left

@@ -2,17 +2,17 @@
 use Rattle.std.proofs.Common.{◌≡◌, ◌≢◌, ℕ, Bool, true, false, not, ◌&&◌, ◌||◌, if◌then◌else◌, List, [], ◌∷◌, ◌++◌, Option, Some, None, refl, sym, ap, ◌∙◌, subst}
 use Rattle.std.specs.List.{list_any, flat_map, AllByRecursion}
 use Rattle.std.proofs.lemmas.Bool.{or_parts}
-use Rattle.pay_taps.specs.declared.tap.Tap.{Tap}
-use Rattle.pay_taps.specs.declared.tap.Touch.{Touch}
-use Rattle.pay_taps.specs.Words.{touch_of}
-use Rattle.pay_taps.specs.Words.{number as tap_number}
+use Rattle.pay_rules.specs.declared.tap.Tap.{Tap}
+use Rattle.pay_rules.specs.declared.tap.Touch.{Touch}
+use Rattle.pay_rules.specs.Order.{touch_of}
+use Rattle.pay_rules.specs.Taps.{number as tap_number}
 use Rattle.pay_fix.specs.declared.change.Change.TheVariants.{Nothing, Enters}
-use Rattle.pay_fix.specs.declared.fix.Fix.{Fix}
-use Rattle.pay_fix.specs.declared.fix.What.TheVariants.{Void, Drop}
-use Rattle.pay_fix.specs.Fixes.{number, is_number, is_drop, drops, is_dropped, stands}
-use Rattle.pay_fix.specs.Effective.{voids, is_voided, fill_of, filled_by, filled}
+use Rattle.pay_rules.specs.declared.fix.Fix.{Fix}
+use Rattle.pay_rules.specs.declared.fix.What.TheVariants.{Void, Drop}
+use Rattle.pay_rules.specs.Fixes.{number, is_number, is_drop, drops, is_dropped, stands}
+use Rattle.pay_rules.specs.Effective.{voids, is_voided, fill_of, filled_by, filled}
 use Rattle.pay_fix.specs.Changes.{enters_unless, is_voided_by_another}
-use Rattle.pay_fix.specs.SameFix.{number_itself}
+use Rattle.pay_rules.specs.SameFix.{number_itself}
 use Rattle.pay_fix.proofs.AmongFixes.{any_among, any_same, flat_among, flat_same, all_more, all_of, and_false, either, other_number}
 use Rattle.pay_fix.proofs.ByNumber.{IsFound, StandsAlone}
 use Rattle.pay_fix.proofs.OneMore.{HasOneMore, more_given, all_with}

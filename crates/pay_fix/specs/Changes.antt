@@ -2,17 +2,17 @@
 use Rattle.std.specs.Prelude.{◌≡◌, ℕ, Bool, not, ◌&&◌, if◌then◌else◌, Option, Some, None, List, ◌∷◌}
 use Rattle.std.specs.List.{list_any}
 use Rattle.std.specs.FinMap.{get, values}
-use Rattle.pay_taps.specs.declared.tap.Tap.{Tap}
-use Rattle.pay_taps.specs.declared.tap.Touch.{Touch}
-use Rattle.pay_taps.specs.Words.{Taps, touch_of, put_in, HaveOwnNumbers}
-use Rattle.pay_taps.specs.Words.{number as tap_number}
+use Rattle.pay_rules.specs.declared.tap.Tap.{Tap}
+use Rattle.pay_rules.specs.declared.tap.Touch.{Touch}
+use Rattle.pay_rules.specs.Taps.{Taps, number as tap_number}
+use Rattle.pay_rules.specs.Order.{touch_of, put_in, HaveOwnNumbers}
 use Rattle.pay_fix.specs.declared.change.Change.{Change}
 use Rattle.pay_fix.specs.declared.change.Change.TheVariants.{Nothing, Enters, Leaves}
-use Rattle.pay_fix.specs.declared.fix.Fix.{Fix}
-use Rattle.pay_fix.specs.declared.fix.What.{What}
-use Rattle.pay_fix.specs.declared.fix.What.TheVariants.{Void, Fill, Credit, Drop}
-use Rattle.pay_fix.specs.Fixes.{Fixes, number, is_number, stands}
-use Rattle.pay_fix.specs.Effective.{voids, is_voided, touch_of_fill}
+use Rattle.pay_rules.specs.declared.fix.Fix.{Fix}
+use Rattle.pay_rules.specs.declared.fix.What.{What}
+use Rattle.pay_rules.specs.declared.fix.What.TheVariants.{Void, Fill, Credit, Drop}
+use Rattle.pay_rules.specs.Fixes.{Fixes, number, is_number, stands}
+use Rattle.pay_rules.specs.Effective.{voids, is_voided, touch_of_fill}
 
 -- ---- what a change means
 

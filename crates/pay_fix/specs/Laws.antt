@@ -1,17 +1,16 @@
 -- What is so of every account's taps and corrections.
 use Rattle.std.specs.Prelude.{◌≡◌, ◌≤◌, ℕ, false, None, length}
 use Rattle.std.specs.FinMap.{get, insert, values}
-use Rattle.pay_numbered.specs.Words.{IsNumbered}
-use Rattle.pay_taps.specs.declared.limits.TheConstants.{MOST_TAPS}
-use Rattle.pay_taps.specs.declared.tap.Tap.{Tap}
-use Rattle.pay_taps.specs.Words.{Taps, HaveOwnNumbers, IsInOrder}
-use Rattle.pay_taps.specs.Words.{number as tap_number}
-use Rattle.pay_fix.specs.declared.limits.TheConstants.{MOST_FIXES, MOST_TOUCHES}
-use Rattle.pay_fix.specs.declared.fix.Fix.{Fix}
-use Rattle.pay_fix.specs.declared.fix.What.TheVariants.{Void, Credit, Drop}
-use Rattle.pay_fix.specs.Credits.{CreditOf}
-use Rattle.pay_fix.specs.Fixes.{Fixes, number, is_dropped}
-use Rattle.pay_fix.specs.Effective.{effective}
+use Rattle.pay_rules.specs.Numbers.{IsNumbered}
+use Rattle.pay_rules.specs.declared.limits.TheConstants.{MOST_TAPS, MOST_FIXES, MOST_TOUCHES}
+use Rattle.pay_rules.specs.declared.tap.Tap.{Tap}
+use Rattle.pay_rules.specs.Taps.{Taps, number as tap_number}
+use Rattle.pay_rules.specs.Order.{HaveOwnNumbers, IsInOrder}
+use Rattle.pay_rules.specs.declared.fix.Fix.{Fix}
+use Rattle.pay_rules.specs.declared.fix.What.TheVariants.{Void, Credit, Drop}
+use Rattle.pay_rules.specs.Credits.{CreditOf}
+use Rattle.pay_rules.specs.Fixes.{Fixes, number, is_dropped}
+use Rattle.pay_rules.specs.Effective.{effective}
 use Rattle.pay_fix.specs.Changes.{IsChanged, change_by_tap, change_by_fix}
 
 -- corrections with one more

@@ -1,12 +1,11 @@
 ghost use Rattle.std.specs.Prelude.{◌≡◌};
 ghost use Rattle.pay_fix.specs.Changes.{change_by_tap, leaves_unless, enters_unless, change_by_withdrawal, change_by_drop, change_by_standing, change_by_fix};
 
-use crate::fix::{Fix, What};
 use crate::fix_set::FixSet;
 use crate::standing::{is_voided, is_voided_by_another, stands};
 use crate::touches::touch_of_fill;
-use pay_numbered::Numbered;
-use pay_taps::{Tap, TapSet, Touch};
+use pay_rules::{Fix, Numbered, Tap, Touch, What};
+use pay_taps::TapSet;
 
 /// What an accepted tap or correction does to the effective taps of its account.
 #[derive(Clone, Copy, Debug, PartialEq, Eq)]

@@ -1,11 +1,11 @@
 ghost use Rattle.std.specs.Prelude.{◌≡◌, ◌≤◌, ◌*◌};
-ghost use Rattle.pay_fix.specs.declared.limits.TheConstants.{MOST_CREDIT, MOST_FIXES};
-ghost use Rattle.pay_fix.specs.Given.{given, given_by, credits};
+ghost use Rattle.pay_rules.specs.declared.limits.TheConstants.{MOST_CREDIT, MOST_FIXES};
+ghost use Rattle.pay_rules.specs.StandingCredits.{given, given_by, credits};
 
-use crate::fix::{Fix, What};
 use crate::fix_set::FixSet;
 use crate::standing::stands;
 use pay_money::Pence;
+use pay_rules::{Fix, What};
 
 /// What a correction gives back for days from one through another.
 fn given(fix: &Fix, from: u32, through: u32) -> Pence

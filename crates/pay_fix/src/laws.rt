@@ -2,31 +2,30 @@
 //! whose proof needs a law calls its function.
 ghost use Rattle.pay_fix.specs.Laws.{VoidTakesOut, DropRestores, CreditChangesNoTap, EffectiveHaveOwnNumbers, EffectiveAreInOrder, EffectiveAreFew, TapChanges, FixChanges};
 
-use crate::fix::Fix;
-use pay_taps::Tap;
+use pay_rules::{Fix, Tap};
 
 /// A Void of a tap leaves the effective taps that there are without the two, unless a Drop has named it before.
 pub fn void_takes_out()
     ensures { VoidTakesOut }
 {
-    pay_numbered::laws::one_more::<Tap>();
-    pay_numbered::laws::one_more::<Fix>();
-    pay_numbered::laws::numbers::<Tap>();
+    pay_rule_laws::sets::one_more::<Tap>();
+    pay_rule_laws::sets::one_more::<Fix>();
+    pay_rule_laws::sets::numbers::<Tap>();
 }
 
 /// A Drop of a Void leaves the effective taps that there were before the Void.
 pub fn drop_restores()
     ensures { DropRestores }
 {
-    pay_numbered::laws::one_more::<Fix>();
-    pay_numbered::laws::numbers::<Fix>();
+    pay_rule_laws::sets::one_more::<Fix>();
+    pay_rule_laws::sets::numbers::<Fix>();
 }
 
 /// A Credit changes no effective tap, and so no price of a day.
 pub fn credit_changes_no_tap()
     ensures { CreditChangesNoTap }
 {
-    pay_numbered::laws::one_more::<Fix>();
+    pay_rule_laws::sets::one_more::<Fix>();
 }
 
 /// Effective taps have numbers of their own, and are in order. There are at most as many as `MOST_TOUCHES`.
@@ -42,7 +41,7 @@ pub fn own_numbers()
 pub fn tap_changes()
     ensures { TapChanges }
 {
-    pay_numbered::laws::one_more::<Tap>();
+    pay_rule_laws::sets::one_more::<Tap>();
     pay_taps::laws::order();
     pay_taps::laws::order_forgets_arrival();
 }
@@ -51,7 +50,7 @@ pub fn tap_changes()
 pub fn fix_changes()
     ensures { FixChanges }
 {
-    pay_numbered::laws::one_more::<Fix>();
+    pay_rule_laws::sets::one_more::<Fix>();
     pay_taps::laws::order();
     pay_taps::laws::order_forgets_arrival();
 }

@@ -3,20 +3,16 @@
 #![tactic(auto)]
 
 mod change;
-mod credit;
-mod fix;
 mod fix_set;
 mod given;
 pub mod laws;
-pub mod limits;
 mod named;
 mod standing;
 mod touches;
 
 pub use change::{Change, change_by_fix, change_by_tap};
-pub use credit::Credit;
-pub use fix::{Fix, What};
 pub use fix_set::FixSet;
 pub use given::credits;
 pub use named::day_named;
+pub use pay_rules::{Credit, Fix, What};
 pub use touches::effective;

@@ -1,9 +1,9 @@
 ghost use Rattle.std.specs.Prelude.{◌≡◌, IfSome};
 ghost use Rattle.pay_day.specs.Words.{IsDay};
-ghost use Rattle.pay_fix.specs.Named.{own_day, day_named};
+ghost use Rattle.pay_rules.specs.NamedDay.{own_day, day_named};
 
-use crate::fix::What;
 use crate::fix_set::FixSet;
+use pay_rules::What;
 use pay_taps::TapSet;
 
 /// The service day that a correction names where it is no Drop.

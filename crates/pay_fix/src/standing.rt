@@ -1,37 +1,34 @@
 ghost use Rattle.std.specs.Prelude.{◌≡◌};
-ghost use Rattle.pay_fix.specs.Fixes.{is_drop, drops, is_dropped, stands};
-ghost use Rattle.pay_fix.specs.Effective.{voids, is_voided};
+ghost use Rattle.pay_rules.specs.Fixes.{is_drop, drops, is_dropped, stands};
+ghost use Rattle.pay_rules.specs.Effective.{voids, is_voided};
 ghost use Rattle.pay_fix.specs.Changes.{is_voided_by_another};
 
-use crate::fix::{Fix, What};
-use pay_numbered::Numbered;
+use pay_rules::{Fix, Numbered, What};
 
-impl Fix {
-    /// Whether it is a Drop.
-    fn is_drop(&self) -> bool
-        ensures { result ≡ is_drop self.now.what }
-    {
-        matches!(self.what, What::Drop(..))
+/// Whether a correction is a Drop.
+fn is_drop(fix: &Fix) -> bool
+    ensures { result ≡ is_drop fix.now.what }
+{
+    matches!(fix.what, What::Drop(..))
+}
+
+/// Whether a correction is a Drop that names the correction of a staff and seq.
+fn drops(fix: &Fix, named: (u16, u32)) -> bool
+    ensures { result ≡ drops named fix.now.what }
+{
+    match fix.what {
+        What::Drop(staff, seq) => (staff, seq) == named,
+        _ => false,
     }
+}
 
-    /// Whether it is a Drop that names the correction of a staff and seq.
-    fn drops(&self, named: (u16, u32)) -> bool
-        ensures { result ≡ drops named self.now.what }
-    {
-        match self.what {
-            What::Drop(staff, seq) => (staff, seq) == named,
-            _ => false,
-        }
-    }
-
-    /// Whether it is a Void that names the tap of a reader and seq.
-    fn voids(&self, named: (u16, u32)) -> bool
-        ensures { result ≡ voids named self.now.what }
-    {
-        match self.what {
-            What::Void(reader, seq) => (reader, seq) == named,
-            _ => false,
-        }
+/// Whether a correction is a Void that names the tap of a reader and seq.
+fn voids(fix: &Fix, named: (u16, u32)) -> bool
+    ensures { result ≡ voids named fix.now.what }
+{
+    match fix.what {
+        What::Void(reader, seq) => (reader, seq) == named,
+        _ => false,
     }
 }
 
@@ -39,14 +36,14 @@ impl Fix {
 fn is_dropped(fixes: &[Fix], named: (u16, u32)) -> bool
     ensures { result ≡ is_dropped fixes.now named }
 {
-    fixes.iter().any(|fix| fix.drops(named))
+    fixes.iter().any(|fix| drops(fix, named))
 }
 
 /// Whether a correction stands among these.
 pub fn stands(fixes: &[Fix], fix: &Fix) -> bool
     ensures { result ≡ stands fixes.now fix.now }
 {
-    fix.is_drop() || !is_dropped(fixes, fix.number())
+    is_drop(fix) || !is_dropped(fixes, fix.number())
 }
 
 /// Whether one of these corrections is a Void that stands, and names the tap of a reader and seq.
@@ -55,7 +52,7 @@ pub fn is_voided(fixes: &[Fix], named: (u16, u32)) -> bool
 {
     fixes
         .iter()
-        .any(|fix| fix.voids(named) && stands(fixes, fix))
+        .any(|fix| voids(fix, named) && stands(fixes, fix))
 }
 
 /// Whether one of these corrections other than that of a staff and seq, `own`, is a Void that stands, and names
@@ -63,5 +60,5 @@ pub fn is_voided(fixes: &[Fix], named: (u16, u32)) -> bool
 pub fn is_voided_by_another(fixes: &[Fix], own: (u16, u32), named: (u16, u32)) -> bool
     ensures { result ≡ is_voided_by_another fixes.now own named }
 {
-    fixes.iter().any(|fix| fix.number() != own && fix.voids(named) && stands(fixes, fix))
+    fixes.iter().any(|fix| fix.number() != own && voids(fix, named) && stands(fixes, fix))
 }

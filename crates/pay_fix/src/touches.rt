@@ -1,16 +1,15 @@
 ghost use Rattle.std.specs.Prelude.{◌≡◌, ◌≤◌, ◌+◌, ◌++◌, map, length, if◌then◌else◌, List, [], IfOk, OnOk};
 ghost use Rattle.std.specs.FinMap.{len, values};
 ghost use Rattle.std.specs.List.{flat_map};
-ghost use Rattle.pay_taps.specs.Words.{touch_of};
-ghost use Rattle.pay_fix.specs.declared.limits.TheConstants.{MOST_TOUCHES};
-ghost use Rattle.pay_fix.specs.Effective.{not_voided, effective, touch_of_fill, fill_of, filled_by};
+ghost use Rattle.pay_rules.specs.Order.{touch_of};
+ghost use Rattle.pay_rules.specs.declared.limits.TheConstants.{MOST_TOUCHES};
+ghost use Rattle.pay_rules.specs.Effective.{not_voided, effective, touch_of_fill, fill_of, filled_by};
 
-use crate::fix::{Fix, What};
 use crate::fix_set::FixSet;
 use crate::standing::{is_voided, stands};
 use pay_day::Moment;
-use pay_numbered::Numbered;
-use pay_taps::{Kind, Tap, TapSet, Touch, sort_touches};
+use pay_rules::{Fix, Kind, Numbered, Tap, Touch, What};
+use pay_taps::{TapSet, sort_touches};
 use std::alloc::{AllocError, Global};
 
 /// Adds those of some taps that no standing Void names, as effective ones.

@@ -3,8 +3,8 @@ use Rattle.std.proofs.Common.{◌≡◌, ℕ, ◌+◌, Bool, true, false, List, 
 use Rattle.std.proofs.lemmas.Bool.Decides.{nat_tests}
 use Rattle.std.proofs.lemmas.List.{append-nil, drop_all}
 use Rattle.pay_day.specs.Words.{Stamp}
-use Rattle.pay_taps.specs.declared.tap.Touch.{Touch}
-use Rattle.pay_hopper.specs.Hopper.{instants_of, pays_after, marks_after, paying_marks}
+use Rattle.pay_rules.specs.declared.tap.Touch.{Touch}
+use Rattle.pay_rules.specs.Hopper.{instants_of, pays_after, marks_after, paying_marks}
 use Rattle.pay_hopper.specs.LastPaid.{pays_by_last, last_paid_after, marks_by_last}
 
 -- a second test that follows from the first adds nothing

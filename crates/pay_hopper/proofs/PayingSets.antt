@@ -1,7 +1,7 @@
 -- There is one paying set, and `marks_after` computes it.
 use Rattle.std.proofs.Common.{◌≡◌, ℕ, suc, zero, ◌+◌, ◌<◌, ◌↔◌, Bool, true, false, List, [], ◌∷◌, length, slice_index, nat_lt, if◌then◌else◌, ◌&&◌, Some, refl, arith}
 use Rattle.std.proofs.lemmas.Bool.Decides.{nat_tests}
-use Rattle.pay_hopper.specs.Hopper.{Pays, IsWithin, IsPayingSet, pays_after, marks_after, paying_marks}
+use Rattle.pay_rules.specs.Hopper.{Pays, IsWithin, IsPayingSet, pays_after, marks_after, paying_marks}
 
 -- all of these instants are more than `hopper` seconds before this one
 abbrev AreLongBefore : ℕ → List ℕ → ℕ → Type 0

@@ -2,8 +2,8 @@
 use Rattle.std.specs.Prelude.{◌≡◌, ℕ, ◌+◌, Bool, true, false, List, [], ◌∷◌, Option, Some, None, map, nat_lt, if◌then◌else◌, refl}
 use Rattle.std.specs.List.{fold, zip}
 use Rattle.pay_day.specs.Words.{Stamp}
-use Rattle.pay_taps.specs.declared.tap.Kind.TheVariants.{Bus}
-use Rattle.pay_taps.specs.declared.tap.Touch.{Touch}
+use Rattle.pay_rules.specs.declared.tap.Kind.TheVariants.{Bus}
+use Rattle.pay_rules.specs.declared.tap.Touch.{Touch}
 
 -- whether a boarding at an instant pays: none before it paid, or the last that did is more than `hopper` seconds before it
 abbrev pub pays_by_last : ℕ → Option Stamp → ℕ → Bool

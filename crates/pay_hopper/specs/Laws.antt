@@ -1,7 +1,7 @@
 -- What is so of all boardings, in stretches.
 use Rattle.std.specs.Prelude.{◌≡◌, ℕ, Bool, true, List, [], ◌∷◌, ◌++◌, length, Option, Some, None, if◌then◌else◌}
 use Rattle.pay_day.specs.Words.{Stamp}
-use Rattle.pay_taps.specs.declared.tap.Touch.{Touch}
+use Rattle.pay_rules.specs.declared.tap.Touch.{Touch}
 use Rattle.pay_hopper.specs.LastPaid.{pays_by_last, marks_by_last, last_paid_over, last_marked}
 
 -- which boardings pay, in two stretches: of the earlier ones, only the last that paid counts for the later ones

@@ -1,4 +1,3 @@
-pub mod Hopper
 pub mod LastPaid
 pub mod Laws
 pub mod Words

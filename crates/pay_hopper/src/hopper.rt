@@ -1,10 +1,10 @@
 ghost use Rattle.std.specs.Prelude.{◌≡◌, IfOk};
-ghost use Rattle.pay_hopper.specs.Hopper.{IsPayingSet, instants_of, paying_marks};
+ghost use Rattle.pay_rules.specs.Hopper.{IsPayingSet, instants_of, paying_marks};
 ghost use Rattle.pay_hopper.specs.LastPaid.{pays_by_last};
 
 use pay_day::Moment;
+use pay_rules::Touch;
 use pay_tables::Tables;
-use pay_taps::Touch;
 use std::alloc::{AllocError, Global};
 
 /// Whether a bus tap pays, where `last_paid` is the moment of the last one before it that paid, if any

@@ -1,8 +1,8 @@
 //! What is true of the Hopper rule itself.
 
 ghost use Rattle.std.specs.Prelude.{◌≡◌, ℕ, Bool, List, None};
-ghost use Rattle.pay_taps.specs.declared.tap.Touch.{Touch};
-ghost use Rattle.pay_hopper.specs.Hopper.{IsPayingSet, instants_of, paying_marks};
+ghost use Rattle.pay_rules.specs.declared.tap.Touch.{Touch};
+ghost use Rattle.pay_rules.specs.Hopper.{IsPayingSet, instants_of, paying_marks};
 ghost use Rattle.pay_hopper.specs.LastPaid.{marks_by_last};
 ghost use Rattle.pay_hopper.specs.Laws.{MarksInStretches, LastInStretches, PayingTapsRestart, LastPaidIsMarked, LastMarkedFromBehind};
 

@@ -4,13 +4,14 @@ use Rattle.std.proofs.lemmas.Grind.{flat_map-append}
 use Rattle.std.specs.Prelude.{Result, is_some}
 use Rattle.std.specs.List.{list_any}
 use Rattle.jiff.specs.declared.tz.timezone.TimeZone.{TimeZone}
-use Rattle.pay_account.specs.Words.{Posting}
+use Rattle.pay_rules.specs.declared.posting.Posting.{Posting}
 use Rattle.pay_postings.specs.Words.{LedgerParts}
 use Rattle.pay_tables.specs.Words.{FareTables}
 use Rattle.pay_shard.specs.declared.asked.Asked.{Asked}
 use Rattle.pay_shard.specs.declared.desk.DeskFault.{DeskFault}
 use Rattle.pay_shard.specs.declared.item.Item.{Item}
-use Rattle.pay_shard.specs.Words.{State, is_new as is_shard_new, item_step, new_items, replay, AreInPlace, commands_of as commands_of_items}
+use Rattle.pay_rules.specs.State.{State}
+use Rattle.pay_shard.specs.Words.{is_new as is_shard_new, item_step, new_items, replay, AreInPlace, commands_of as commands_of_items}
 use Rattle.pay_shard.specs.declared.reply.Answer.{Answer}
 use Rattle.pay_wire.specs.declared.reply.Reply.{Reply}
 use Rattle.pay_session.specs.Words.{asks_of, Taken, Event, all_put, commands_of, AreAnswered, AreServed, AskedByItsLine, line_of, lines_of_items}

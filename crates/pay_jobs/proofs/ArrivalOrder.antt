@@ -1,10 +1,11 @@
 -- The accounts come to the same in whatever order requests arrived, since those of a shard do for the commands that are asked for.
 use Rattle.std.proofs.Common.{◌≡◌, ◌↔◌, List, [], sym, ap, ◌∙◌, subst, Option}
-use Rattle.pay_numbered.specs.Words.{IsIn}
+use Rattle.pay_rules.specs.InTurn.{IsIn}
 use Rattle.pay_tables.specs.Words.{FareTables}
 use Rattle.pay_shard.specs.declared.asked.Asked.{Asked}
 use Rattle.pay_shard.specs.declared.item.Item.{Item}
-use Rattle.pay_shard.specs.Words.{State, run, replay, asked_by, AreUnmarked, accepted_asked, AreAllPriced as AreShardPriced}
+use Rattle.pay_rules.specs.State.{State}
+use Rattle.pay_shard.specs.Words.{run, replay, asked_by, AreUnmarked, accepted_asked, AreAllPriced as AreShardPriced}
 use Rattle.pay_session.specs.declared.request.Request.{Request}
 use Rattle.pay_jobs.specs.Machine.{Machine, Failure}
 use Rattle.pay_jobs.specs.Outcomes.{outcome, AreAllPriced, accepted_requests}

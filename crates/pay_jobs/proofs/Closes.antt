@@ -1,9 +1,9 @@
 -- What a close does to a machine.
 use Rattle.std.proofs.Common.{◌≡◌, ℕ, false, List, Option, Some, None, Ok, Err, refl}
 use Rattle.std.specs.Prelude.{Result}
-use Rattle.pay_account.specs.Words.{Posting}
+use Rattle.pay_rules.specs.declared.posting.Posting.{Posting}
 use Rattle.pay_postings.specs.Words.{LedgerParts}
-use Rattle.pay_postings.specs.declared.fault.PostFault.{PostFault}
+use Rattle.pay_rules.specs.declared.post_fault.PostFault.{PostFault}
 use Rattle.pay_close.specs.Words.{close}
 use Rattle.pay_wire.specs.declared.reply.Reply.{Reply}
 use Rattle.pay_jobs.specs.Machine.{Machine, Failure, Step, with_ledger, step_closed, step_close}

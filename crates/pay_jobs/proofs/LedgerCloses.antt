@@ -4,14 +4,15 @@ use Rattle.std.specs.Prelude.{Result, Ok, Err, IsTrue, IsSomeAnd}
 use Rattle.std.specs.List.{AllByRecursion}
 use Rattle.sqlite.specs.State.{State, HasCleanDisk}
 use Rattle.sqlite.specs.Effect.{Database}
-use Rattle.pay_account.specs.Words.{Posting}
+use Rattle.pay_rules.specs.declared.posting.Posting.{Posting}
 use Rattle.pay_postings.specs.Words.{LedgerParts, posted}
-use Rattle.pay_postings.specs.declared.fault.PostFault.{PostFault}
+use Rattle.pay_rules.specs.declared.post_fault.PostFault.{PostFault}
 use Rattle.pay_ledger.specs.Words.{IsLedger, IsAsBefore}
 use Rattle.pay_tables.specs.Words.{FareTables}
 use Rattle.pay_shard.specs.declared.reply.Answer.{Answer}
 use Rattle.pay_shard.specs.declared.reply.Reply.TheVariants as desk_reply
-use Rattle.pay_shard.specs.Words.{BatchParts, State as Accounts}
+use Rattle.pay_rules.specs.State.{State as Accounts}
+use Rattle.pay_shard.specs.Words.{BatchParts}
 use Rattle.pay_close.specs.Words.{batch_of_all, OneShardGathersAll}
 use Rattle.pay_close.specs.Batches.{gathered, IsWhole}
 use Rattle.pay_close.specs.Closes.{Closes, IsWhySaid}

@@ -2,12 +2,13 @@
 use Rattle.std.proofs.Common.{◌≡◌, ◌↔◌, ℕ, zero, suc, Bool, true, false, cond, List, [], ◌∷◌, ◌++◌, take, if◌then◌else◌, refl, sym, ap, ◌∙◌, subst, Option, Some, None}
 use Rattle.std.specs.Prelude.{filter}
 use Rattle.jiff.specs.declared.tz.timezone.TimeZone.{TimeZone}
-use Rattle.pay_numbered.specs.Words.{IsIn}
+use Rattle.pay_rules.specs.InTurn.{IsIn}
 use Rattle.pay_postings.specs.Words.{LedgerParts}
 use Rattle.pay_tables.specs.Words.{FareTables}
 use Rattle.pay_shard.specs.declared.reply.Reply.{Reply as ShardReply}
 use Rattle.pay_shard.specs.declared.reply.Reply.TheVariants as shard_replies
-use Rattle.pay_shard.specs.Words.{State, is_new as is_shard_new, OthersChangeNothing, step as shard_step}
+use Rattle.pay_rules.specs.State.{State}
+use Rattle.pay_shard.specs.Words.{is_new as is_shard_new, OthersChangeNothing, step as shard_step}
 use Rattle.pay_wire.specs.declared.reply.Reply.{Reply}
 use Rattle.pay_wire.specs.declared.reply.Reply.TheVariants as replies
 use Rattle.pay_session.specs.Words.{asks_of, said}

@@ -4,7 +4,7 @@ use Rattle.std.specs.Prelude.{Result, IfNone, IsSomeAnd}
 use Rattle.std.specs.List.{slice_get, AllByRecursion}
 use Rattle.std.specs.Option.{option_map}
 use Rattle.jiff.specs.declared.tz.timezone.TimeZone.{TimeZone}
-use Rattle.pay_account.specs.Words.{Posting}
+use Rattle.pay_rules.specs.declared.posting.Posting.{Posting}
 use Rattle.pay_postings.specs.Words.{LedgerParts}
 use Rattle.pay_tables.specs.Words.{FareTables}
 use Rattle.pay_shard.specs.declared.asked.Asked.{Asked}
@@ -15,7 +15,8 @@ use Rattle.pay_shard.specs.declared.item.Item.{Item}
 use Rattle.pay_shard.specs.declared.reply.Answer.{Answer}
 use Rattle.pay_shard.specs.declared.reply.Reply.{Reply as DeskReply}
 use Rattle.pay_shard.specs.declared.reply.Reply.TheVariants as desk_reply
-use Rattle.pay_shard.specs.Words.{State, batch, item_step, is_new as is_shard_new, new_items, replay, answers, AreInPlace, commands_of as commands_of_items}
+use Rattle.pay_rules.specs.State.{State}
+use Rattle.pay_shard.specs.Words.{batch, item_step, is_new as is_shard_new, new_items, replay, answers, AreInPlace, commands_of as commands_of_items}
 use Rattle.pay_wire.specs.declared.refusal.Refusal.TheVariants as refusal
 use Rattle.pay_wire.specs.declared.reply.Reply.{Reply}
 use Rattle.pay_wire.specs.declared.reply.Reply.TheVariants as replies

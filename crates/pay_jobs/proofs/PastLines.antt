@@ -6,16 +6,17 @@ use Rattle.std.specs.List.{AllByRecursion, list_any}
 use Rattle.std.proofs.lemmas.Grind.{flat_map-append}
 use Rattle.std.proofs.lemmas.List.{map-append}
 use Rattle.jiff.specs.declared.tz.timezone.TimeZone.{TimeZone}
-use Rattle.pay_quotes.specs.declared.posting.Posting.{Posting}
-use Rattle.pay_quotes.specs.declared.priced.Priced.{Priced}
-use Rattle.pay_account.specs.declared.fares.TapFault.{TapFault}
-use Rattle.pay_account.specs.declared.fares.TapFault.TheVariants as of_tap
-use Rattle.pay_account.specs.declared.fares.FixFault.{FixFault}
-use Rattle.pay_account.specs.declared.fares.FixFault.TheVariants as of_fix
-use Rattle.pay_taps.specs.declared.tap.Tap.{Tap}
-use Rattle.pay_fix.specs.declared.fix.Fix.{Fix}
+use Rattle.pay_rules.specs.declared.posting.Posting.{Posting}
+use Rattle.pay_rules.specs.declared.priced.Priced.{Priced}
+use Rattle.pay_rules.specs.declared.fares.TapFault.{TapFault}
+use Rattle.pay_rules.specs.declared.fares.TapFault.TheVariants as of_tap
+use Rattle.pay_rules.specs.declared.fares.FixFault.{FixFault}
+use Rattle.pay_rules.specs.declared.fares.FixFault.TheVariants as of_fix
+use Rattle.pay_rules.specs.declared.tap.Tap.{Tap}
+use Rattle.pay_rules.specs.declared.fix.Fix.{Fix}
 use Rattle.pay_tables.specs.Words.{FareTables}
-use Rattle.pay_account.specs.Words.{tap_result, fix_result}
+use Rattle.pay_rules.specs.TapResults.{tap_result}
+use Rattle.pay_rules.specs.FixResults.{fix_result}
 use Rattle.pay_shard.specs.declared.asked.Asked.{Asked}
 use Rattle.pay_shard.specs.declared.asked.Asked.TheVariants as asked
 use Rattle.pay_shard.specs.declared.desk.DeskFault.{DeskFault}
@@ -25,7 +26,8 @@ use Rattle.pay_shard.specs.declared.reply.Reply.{Reply as DeskReply}
 use Rattle.pay_shard.specs.declared.reply.Reply.TheVariants as desk_reply
 use Rattle.pay_shard.specs.declared.refusal.Refusal.{Refusal as ShardRefusal}
 use Rattle.pay_shard.specs.Machine.{step_tap_result, step_fix_result}
-use Rattle.pay_shard.specs.Words.{State, ShardParts, LocalParts, Standing, desk_parts, state_now, accepted_of, step as shard_step, AreInPlace, AreKept, commands_of as commands_of_items}
+use Rattle.pay_rules.specs.State.{State, accepted_of}
+use Rattle.pay_shard.specs.Words.{ShardParts, LocalParts, Standing, desk_parts, state_now, step as shard_step, AreInPlace, AreKept, commands_of as commands_of_items}
 use Rattle.pay_wire.specs.declared.refusal.Refusal.{Refusal}
 use Rattle.pay_wire.specs.declared.refusal.Refusal.TheVariants as refusal
 use Rattle.pay_wire.specs.declared.reply.Reply.{Reply}

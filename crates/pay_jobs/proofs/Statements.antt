@@ -6,7 +6,7 @@ use Rattle.jiff.specs.Placed.{IsPosixZone}
 use Rattle.jiff.specs.ZoneView.{plain_zone}
 use Rattle.jiff.specs.declared.tz.timezone.TimeZone.{TimeZone}
 use Rattle.pay_fare_file.specs.Words.{fare_text}
-use Rattle.pay_quotes.specs.declared.shown.Line.{Line}
+use Rattle.pay_rules.specs.declared.shown.Line.{Line}
 use Rattle.pay_session.specs.Words.{line_requests}
 use Rattle.pay_statement.specs.Words.{statement_text}
 use Rattle.pay_tables.specs.Words.{FareTables}

@@ -2,13 +2,14 @@
 use Rattle.std.proofs.Common.{◌≡◌, ◌⊎◌, ℕ, false, List, Option, None}
 use Rattle.std.specs.Prelude.{Result, IsSomeAnd}
 use Rattle.std.specs.List.{AllByRecursion}
-use Rattle.pay_account.specs.Words.{Posting}
+use Rattle.pay_rules.specs.declared.posting.Posting.{Posting}
 use Rattle.pay_tables.specs.Words.{FareTables}
 use Rattle.pay_postings.specs.Words.{LedgerParts}
 use Rattle.pay_shard.specs.declared.desk.DeskFault.{DeskFault}
 use Rattle.pay_shard.specs.declared.desk.DeskFault.TheVariants as desk_fault
 use Rattle.pay_shard.specs.declared.reply.Reply.TheVariants as desk_reply
-use Rattle.pay_shard.specs.Words.{State, batch}
+use Rattle.pay_rules.specs.State.{State}
+use Rattle.pay_shard.specs.Words.{batch}
 use Rattle.pay_session.specs.Words.{Taken, said_of_close, AreQuotes}
 use Rattle.pay_wire.specs.declared.refusal.Refusal.{Refusal}
 use Rattle.pay_jobs.specs.Machine.{Machine, Failure, is_keeping, with_ledger, step_close}

@@ -4,12 +4,14 @@ use Rattle.std.specs.Prelude.{Result, Err, ⊤}
 use Rattle.std.proofs.lemmas.Option.{IfSome_then}
 use Rattle.jiff.specs.declared.tz.timezone.TimeZone.{TimeZone}
 use Rattle.pay_day.specs.Words.{monday}
-use Rattle.pay_account.specs.Words.{Posting, week_lines}
-use Rattle.pay_quotes.specs.declared.shown.Line.{Line}
+use Rattle.pay_rules.specs.declared.posting.Posting.{Posting}
+use Rattle.pay_rules.specs.Lines.{week_lines}
+use Rattle.pay_rules.specs.declared.shown.Line.{Line}
 use Rattle.pay_kept.specs.Words.{KeptParts, Beginning, CanFail, kept_parts, KeepsLines}
 use Rattle.pay_shard.specs.declared.item.Item.{Item}
 use Rattle.pay_shard.specs.declared.desk.DeskFault.{DeskFault}
-use Rattle.pay_shard.specs.Words.{ShardParts, LocalParts, state_now, accepted_of, with_items, AreInPlace}
+use Rattle.pay_rules.specs.State.{accepted_of}
+use Rattle.pay_shard.specs.Words.{ShardParts, LocalParts, state_now, with_items, AreInPlace}
 use Rattle.pay_tables.specs.Words.{FareTables}
 use Rattle.pay_wire.specs.declared.refusal.Refusal.{Refusal}
 use Rattle.pay_wire.specs.declared.refusal.Refusal.TheVariants.{NotHere}

@@ -6,14 +6,17 @@ use Rattle.std.specs.Io.KnownBytes.{Appends}
 use Rattle.std.proofs.lemmas.List.{length-map, map-append}
 use Rattle.jiff.specs.declared.tz.timezone.TimeZone.{TimeZone}
 use Rattle.sqlite.specs.State.{State as DatabaseState, HasCleanDisk}
-use Rattle.pay_account.specs.Words.{Accepted, week_lines, Posting}
+use Rattle.pay_rules.specs.Accepted.{Accepted}
+use Rattle.pay_rules.specs.Lines.{week_lines}
+use Rattle.pay_rules.specs.declared.posting.Posting.{Posting}
 use Rattle.pay_kept.specs.Words.{KeptParts, Beginning, CanFail, kept_parts, KeepsLines}
-use Rattle.pay_quotes.specs.declared.shown.Line.{Line}
+use Rattle.pay_rules.specs.declared.shown.Line.{Line}
 use Rattle.pay_postings.specs.Words.{LedgerParts}
 use Rattle.pay_tables.specs.Words.{FareTables}
 use Rattle.pay_shard.specs.declared.desk.DeskFault.{DeskFault}
 use Rattle.pay_shard.specs.declared.item.Item.{Item}
-use Rattle.pay_shard.specs.Words.{ShardParts, LocalParts, State, Standing, state_now, replay, transcript_of, desk_parts, AreInPlace, commands_of as commands_of_items}
+use Rattle.pay_rules.specs.State.{State}
+use Rattle.pay_shard.specs.Words.{ShardParts, LocalParts, Standing, state_now, replay, transcript_of, desk_parts, AreInPlace, commands_of as commands_of_items}
 use Rattle.pay_wire.specs.Words.{spelling_of_reply}
 use Rattle.pay_session.specs.Words.{requests_of, line_requests, Taken, Event, all_put, commands_of, said_of_close, AskedByItsLine, ClosesNothing, lacks_memory, any_lacks_memory, Sides, IsSession, MaySometimeRefuse, MaySometimeBeLate, text_of as text_of_events, EndsSo as SessionEnds, StopsReading as SessionStopsReading, StopsWriting as SessionStopsWriting, FailsSo as SessionFailsSo}
 use Rattle.pay_session.specs.declared.request.Request.{Request}

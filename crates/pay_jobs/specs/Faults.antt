@@ -3,7 +3,7 @@ use Rattle.std.specs.Prelude.{◌≡◌, ◌⊎◌, ℕ, Bool, true, false, List
 use Rattle.std.specs.declared.io.ErrorKind.{ErrorKind}
 use Rattle.pay_jobs.specs.declared.fault.Fault.{Fault}
 use Rattle.pay_jobs.specs.declared.fault.Fault.TheVariants.{Usage, CannotListen, Input, Output, JournalLine, JournalLineOf, Journal, Refused}
-use Rattle.pay_postings.specs.declared.fault.PostFault.TheVariants as post_fault
+use Rattle.pay_rules.specs.declared.post_fault.PostFault.TheVariants as post_fault
 use Rattle.pay_ledger.specs.Words.{open_fault_number, open_fault_name}
 use Rattle.pay_ledger.specs.declared.fault.LedgerFault.{LedgerFault}
 use Rattle.pay_ledger.specs.declared.fault.LedgerFault.TheVariants as ledger_fault

@@ -4,7 +4,7 @@ use Rattle.std.specs.Fmt.{digits}
 use Rattle.std.specs.List.{flat_map}
 use Rattle.std.specs.Io.KnownBytes.{Appends}
 use Rattle.pay_kept.specs.Words.{IsRest}
-use Rattle.pay_taps.specs.declared.tap.Kind.TheVariants.{Bus}
+use Rattle.pay_rules.specs.declared.tap.Kind.TheVariants.{Bus}
 use Rattle.pay_wire.specs.Words.{spelling_of_command}
 use Rattle.pay_wire.specs.declared.command.Command.TheVariants as command
 use Rattle.pay_session.specs.declared.request.Request.{Request}

@@ -2,7 +2,7 @@
 use Rattle.std.specs.Prelude.{◌≡◌, ◌↔◌, ℕ, false, List, [], ◌++◌, take, Option, None, Some}
 use Rattle.std.specs.List.{list_any}
 use Rattle.jiff.specs.declared.tz.timezone.TimeZone.{TimeZone}
-use Rattle.pay_numbered.specs.Words.{IsIn}
+use Rattle.pay_rules.specs.InTurn.{IsIn}
 use Rattle.pay_postings.specs.Words.{LedgerParts}
 use Rattle.pay_tables.specs.Words.{FareTables}
 use Rattle.pay_shard.specs.declared.asked.Asked.{Asked}

@@ -3,12 +3,13 @@ use Rattle.std.specs.Prelude.{◌≡◌, ℕ, Bool, true, false, List, [], Optio
 use Rattle.std.specs.FinMap as map
 use Rattle.jiff.specs.declared.tz.timezone.TimeZone.{TimeZone}
 use Rattle.pay_tables.specs.Words.{FareTables}
-use Rattle.pay_account.specs.Words.{Posting}
+use Rattle.pay_rules.specs.declared.posting.Posting.{Posting}
 use Rattle.pay_postings.specs.Words.{LedgerParts}
-use Rattle.pay_postings.specs.declared.fault.PostFault.{PostFault}
-use Rattle.pay_postings.specs.declared.fault.PostFault.TheVariants as post_fault
+use Rattle.pay_rules.specs.declared.post_fault.PostFault.{PostFault}
+use Rattle.pay_rules.specs.declared.post_fault.PostFault.TheVariants as post_fault
 use Rattle.pay_shard.specs.declared.asked.Asked.{Asked}
-use Rattle.pay_shard.specs.Words.{State, ShardParts, state_now, Step as ShardStep, step as shard_step}
+use Rattle.pay_rules.specs.State.{State}
+use Rattle.pay_shard.specs.Words.{ShardParts, state_now, Step as ShardStep, step as shard_step}
 use Rattle.pay_close.specs.Words.{close, refusal_of_posting}
 use Rattle.pay_wire.specs.declared.refusal.Refusal.{Refusal}
 use Rattle.pay_wire.specs.declared.refusal.Refusal.TheVariants as refusal

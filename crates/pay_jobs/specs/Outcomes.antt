@@ -1,7 +1,7 @@
 -- What the machine replies to a list of requests, and what is written of it.
 use Rattle.std.specs.Prelude.{◌≡◌, ℕ, Bool, true, false, if◌then◌else◌, List, [], ◌∷◌, Option, None, refl}
 use Rattle.std.specs.List.{flat_map, list_any, AllByRecursion}
-use Rattle.pay_quotes.specs.declared.priced.Priced.{Priced}
+use Rattle.pay_rules.specs.declared.priced.Priced.{Priced}
 use Rattle.pay_wire.specs.Words.{spelling_of_reply}
 use Rattle.pay_wire.specs.declared.command.Command.TheVariants as command
 use Rattle.pay_wire.specs.declared.refusal.Refusal.TheVariants as refusal

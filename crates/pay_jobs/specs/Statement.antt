@@ -1,7 +1,7 @@
 -- How the job statement ends, by the text of its fare file, the text of its zone, its journal, its account and day, and its input.
 use Rattle.std.specs.Prelude.{◌≡◌, ◌⊎◌, ℕ, List, Option, None, IfSome}
 use Rattle.std.specs.Io.KnownBytes.{Appends}
-use Rattle.pay_quotes.specs.declared.shown.Line.{Line}
+use Rattle.pay_rules.specs.declared.shown.Line.{Line}
 use Rattle.pay_statement.specs.Words.{statement_text}
 use Rattle.pay_wire.specs.Words.{AppendsFront}
 use Rattle.pay_jobs.specs.Faults.{IsWantOfMemory}

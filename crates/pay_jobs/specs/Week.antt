@@ -2,9 +2,9 @@
 use Rattle.std.specs.Prelude.{◌≡◌, ◌⊎◌, ℕ, List, [], Option, None, Some, IfSome, ⊤}
 use Rattle.jiff.specs.declared.tz.timezone.TimeZone.{TimeZone}
 use Rattle.pay_day.specs.Words.{monday}
-use Rattle.pay_account.specs.Words.{week_lines}
-use Rattle.pay_quotes.specs.declared.shown.Line.{Line}
-use Rattle.pay_shard.specs.Words.{accepted_of}
+use Rattle.pay_rules.specs.Lines.{week_lines}
+use Rattle.pay_rules.specs.declared.shown.Line.{Line}
+use Rattle.pay_rules.specs.State.{accepted_of}
 use Rattle.pay_tables.specs.Words.{FareTables}
 use Rattle.pay_session.specs.Words.{line_requests, requests_of, unread}
 use Rattle.pay_session.specs.declared.replaying.ReplayFault.{ReplayFault}

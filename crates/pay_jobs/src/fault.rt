@@ -7,7 +7,7 @@ ghost use Rattle.pay_ledger.specs.Words.{open_fault_number, open_fault_name};
 use crate::week::WeekFault;
 use pay_fare_file::FareFileFault;
 use pay_ledger::{LedgerFault, OpenFault};
-use pay_postings::PostFault;
+use pay_rules::PostFault;
 use pay_serve::ServeFault;
 use pay_session::{ReplayFault, SessionFault};
 use pay_wire::Refusal;

@@ -11,7 +11,7 @@ use crate::fault::Fault;
 use crate::output::write_text;
 use crate::run::{read_fares, read_zone};
 use crate::week::week_by_lines;
-use pay_account::Line;
+use pay_rules::Line;
 use pay_session::ToldReader;
 use pay_statement::write_csv;
 use pay_tables::Tables;

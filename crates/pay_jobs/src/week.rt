@@ -2,18 +2,19 @@
 ghost use Rattle.std.specs.Prelude.{◌≡◌, ℕ, IfOk, IfErr};
 ghost use Rattle.std.specs.Arc.{arc_value};
 ghost use Rattle.pay_day.specs.Words.{IsDay, monday};
-ghost use Rattle.pay_account.specs.Words.{week_lines};
-ghost use Rattle.pay_shard.specs.Words.{accepted_of, state_now};
+ghost use Rattle.pay_rules.specs.Lines.{week_lines};
+ghost use Rattle.pay_rules.specs.State.{accepted_of};
+ghost use Rattle.pay_shard.specs.Words.{state_now};
 ghost use Rattle.pay_jobs.specs.Faults.{HasInputFault};
 ghost use Rattle.pay_jobs.specs.Week.{WeekTold, WeekNotTold, week_fault, week_fault_of_replay};
 ghost use Rattle.pay_jobs.specs.declared.week.WeekFault.TheVariants.{Broken, Memory};
 
 use crate::past::replayed_desk;
 use jiff::tz::TimeZone;
-use pay_account::{Fares, Lines};
 use pay_book::Book;
 use pay_day::monday;
 use pay_kept::{KeptDesk, NoKeeper};
+use pay_rules::{Fares, Lines};
 use pay_session::{NoTill, ReplayFault, SessionFault, ToldReader, session};
 use pay_shard::Shard;
 use pay_tables::Tables;

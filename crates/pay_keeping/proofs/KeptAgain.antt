@@ -5,11 +5,12 @@ use Rattle.std.specs.FinMap.{empty}
 use Rattle.std.specs.List.{AllByRecursion, flat_map}
 use Rattle.std.proofs.Math.Nat.{mod-lt}
 use Rattle.jiff.specs.declared.tz.timezone.TimeZone.{TimeZone}
-use Rattle.pay_numbered.specs.Words.{IsIn}
+use Rattle.pay_rules.specs.InTurn.{IsIn}
 use Rattle.pay_tables.specs.Words.{FareTables}
 use Rattle.pay_wire.specs.Words.{IsSpelled, spelling_of_command}
 use Rattle.pay_wire.specs.declared.command.Command.{Command}
-use Rattle.pay_shard.specs.Words.{State, item_step, is_new, new_items, items_of, IsAskedOf, AreAskedOf}
+use Rattle.pay_rules.specs.State.{State}
+use Rattle.pay_shard.specs.Words.{item_step, is_new, new_items, items_of, IsAskedOf, AreAskedOf}
 use Rattle.pay_shard.specs.Machine.{marked_step}
 use Rattle.pay_shard.specs.declared.asked.Asked.{Asked}
 use Rattle.pay_shard.specs.declared.asked.Asked.TheVariants as asked

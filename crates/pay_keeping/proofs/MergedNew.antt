@@ -2,9 +2,10 @@
 use Rattle.std.proofs.Common.{◌≡◌, ◌⊎◌, inl, inr, ℕ, eqb, Bool, true, false, cond, List, [], ◌∷◌, map, filter, refl, sym, ap, ◌∙◌, eqb-true, eq-eqb}
 use Rattle.std.specs.Prelude.{◌↔◌, if◌then◌else◌}
 use Rattle.std.specs.FinMap.{empty}
-use Rattle.pay_numbered.specs.Words.{IsIn}
+use Rattle.pay_rules.specs.InTurn.{IsIn}
 use Rattle.pay_tables.specs.Words.{FareTables}
-use Rattle.pay_shard.specs.Words.{State, item_step, run, replay, is_new, new_items, AreAllPriced, AreAllNew, asked_by, items_of, all_items, IsAskedOf, AreAskedOf, IsWhole, MergeRepliesAsShards, MergeEndsAsShards, NewRunAlone, NewStayNew, AskedAlikeEndsAlike}
+use Rattle.pay_rules.specs.State.{State}
+use Rattle.pay_shard.specs.Words.{item_step, run, replay, is_new, new_items, AreAllPriced, AreAllNew, asked_by, items_of, all_items, IsAskedOf, AreAskedOf, IsWhole, MergeRepliesAsShards, MergeEndsAsShards, NewRunAlone, NewStayNew, AskedAlikeEndsAlike}
 use Rattle.pay_shard.specs.declared.asked.Asked.{Asked}
 use Rattle.pay_shard.specs.declared.item.Item.{Item}
 use Rattle.pay_shard.specs.declared.reply.Reply.{Reply}

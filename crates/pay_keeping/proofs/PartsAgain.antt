@@ -3,9 +3,10 @@ use Rattle.std.proofs.Common.{◌≡◌, inl, inr, ℕ, false, List, [], ◌∷�
 use Rattle.std.specs.FinMap.{empty}
 use Rattle.std.specs.List.{AllByRecursion}
 use Rattle.std.proofs.lemmas.Grind.{flat_map-append}
-use Rattle.pay_numbered.specs.Words.{IsIn}
+use Rattle.pay_rules.specs.InTurn.{IsIn}
 use Rattle.pay_tables.specs.Words.{FareTables}
-use Rattle.pay_shard.specs.Words.{State, item_step, run, AreAllPriced, asked_by, AreUnmarked}
+use Rattle.pay_rules.specs.State.{State}
+use Rattle.pay_shard.specs.Words.{item_step, run, AreAllPriced, asked_by, AreUnmarked}
 use Rattle.pay_shard.specs.declared.asked.Asked.{Asked}
 use Rattle.pay_shard.specs.declared.item.Item.{Item}
 use Rattle.pay_session.specs.Words.{line_requests, asks_of}

@@ -4,27 +4,31 @@ use Rattle.std.specs.Cmp.{IsTotalOrder, nat_cmp_total}
 use Rattle.std.specs.FinMap.{empty, get, insert, len, get-empty, get-insert}
 use Rattle.std.specs.Ordering.{nat_cmp, eq_by_cmp}
 use Rattle.std.proofs.lemmas.Cmp.{on_total, then_total}
-use Rattle.pay_numbered.specs.Words.{IsIn, number_cmp, judgement}
-use Rattle.pay_numbered.specs.declared.numbered_set.Addition.{Addition}
-use Rattle.pay_numbered.specs.declared.numbered_set.Addition.TheVariants.{Added, Repeat}
-use Rattle.pay_numbered.specs.declared.numbered_set.AdditionFault.{AdditionFault}
-use Rattle.pay_numbered.specs.declared.numbered_set.AdditionFault.TheVariants.{Conflict, Full, Memory}
+use Rattle.pay_rules.specs.InTurn.{IsIn}
+use Rattle.pay_rules.specs.Numbers.{number_cmp, judgement}
+use Rattle.pay_rules.specs.declared.addition.Addition.{Addition}
+use Rattle.pay_rules.specs.declared.addition.Addition.TheVariants.{Added, Repeat}
+use Rattle.pay_rules.specs.declared.addition.AdditionFault.{AdditionFault}
+use Rattle.pay_rules.specs.declared.addition.AdditionFault.TheVariants.{Conflict, Full, Memory}
 use Rattle.pay_tables.specs.Words.{FareTables}
-use Rattle.pay_taps.specs.SameTap.{tap_from_same}
-use Rattle.pay_taps.specs.declared.limits.TheConstants.{MOST_TAPS}
-use Rattle.pay_taps.specs.declared.tap.Tap.{Tap}
-use Rattle.pay_taps.specs.Words.{same_tap, judged as judged_tap, number as tap_number}
-use Rattle.pay_fix.specs.SameFix.{same_is_one}
-use Rattle.pay_fix.specs.declared.limits.TheConstants.{MOST_FIXES}
-use Rattle.pay_fix.specs.declared.fix.Fix.{Fix}
-use Rattle.pay_fix.specs.Words.{same_fix, judged as judged_fix, number as fix_number, day_named}
-use Rattle.pay_quotes.specs.declared.priced.Priced.{Priced}
-use Rattle.pay_account.specs.declared.fares.TapFault.{TapFault}
-use Rattle.pay_account.specs.declared.fares.TapFault.TheVariants as of_tap
-use Rattle.pay_account.specs.declared.fares.FixFault.{FixFault}
-use Rattle.pay_account.specs.declared.fares.FixFault.TheVariants as of_fix
-use Rattle.pay_account.specs.Words.{Accepted, nothing, with_tap, with_fix, is_known, is_known_fix, tap_added, tap_result, prices_on, fix_added, fix_result}
-use Rattle.pay_account.specs.State.{State, accepted_of}
+use Rattle.pay_rules.specs.SameTap.{tap_from_same}
+use Rattle.pay_rules.specs.declared.limits.TheConstants.{MOST_TAPS, MOST_FIXES}
+use Rattle.pay_rules.specs.declared.tap.Tap.{Tap}
+use Rattle.pay_rules.specs.Taps.{same_tap, judged as judged_tap, number as tap_number}
+use Rattle.pay_rules.specs.SameFix.{same_is_one}
+use Rattle.pay_rules.specs.declared.fix.Fix.{Fix}
+use Rattle.pay_rules.specs.Fixes.{same_fix, judged as judged_fix, number as fix_number}
+use Rattle.pay_rules.specs.NamedDay.{day_named}
+use Rattle.pay_rules.specs.declared.priced.Priced.{Priced}
+use Rattle.pay_rules.specs.declared.fares.TapFault.{TapFault}
+use Rattle.pay_rules.specs.declared.fares.TapFault.TheVariants as of_tap
+use Rattle.pay_rules.specs.declared.fares.FixFault.{FixFault}
+use Rattle.pay_rules.specs.declared.fares.FixFault.TheVariants as of_fix
+use Rattle.pay_rules.specs.Accepted.{Accepted, nothing, with_tap, with_fix}
+use Rattle.pay_rules.specs.TapPlaces.{is_known, is_known_fix}
+use Rattle.pay_rules.specs.TapResults.{tap_added, tap_result}
+use Rattle.pay_rules.specs.FixResults.{prices_on, fix_added, fix_result}
+use Rattle.pay_rules.specs.State.{State, accepted_of}
 use Rattle.pay_shard.specs.Changes.{is_priced, with_prices, asked_by, accepted_asked}
 use Rattle.pay_shard.specs.Machine.{step_tap_result, step_fix_result, marked_step, item_step}
 use Rattle.pay_shard.specs.NewItems.{is_new, new_items}

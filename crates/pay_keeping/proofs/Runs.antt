@@ -3,7 +3,8 @@ use Rattle.std.proofs.Common.{◌≡◌, ℕ, ◌+◌, Bool, true, false, List, 
 use Rattle.std.specs.Prelude.{if◌then◌else◌, zip}
 use Rattle.std.specs.Io.KnownBytes.{Appends}
 use Rattle.pay_tables.specs.Words.{FareTables}
-use Rattle.pay_shard.specs.Words.{State, item_step, is_new, answer_at, answers_from, new_items}
+use Rattle.pay_rules.specs.State.{State}
+use Rattle.pay_shard.specs.Words.{item_step, is_new, answer_at, answers_from, new_items}
 use Rattle.pay_shard.specs.declared.item.Item.{Item}
 use Rattle.pay_session.specs.Words.{line_of, lines_of_items}
 use Rattle.pay_lanes.specs.Words.{LaneParts, WorkerParts, Passed, entries_of, IsLetPass, IsFirstOf}

@@ -4,7 +4,7 @@ use Rattle.std.specs.FinMap.{empty}
 use Rattle.std.specs.Io.KnownBytes.{Appends}
 use Rattle.std.specs.List.{AllByRecursion, flat_map}
 use Rattle.jiff.specs.declared.tz.timezone.TimeZone.{TimeZone}
-use Rattle.pay_numbered.specs.Words.{IsIn, HaveTheSame}
+use Rattle.pay_rules.specs.InTurn.{IsIn, HaveTheSame}
 use Rattle.pay_tables.specs.Words.{FareTables}
 use Rattle.pay_wire.specs.Words.{IsSpelled}
 use Rattle.pay_wire.specs.declared.command.Command.{Command}

@@ -1,9 +1,10 @@
 -- What a gate keeps of what the run of a journal answers.
 use Rattle.std.specs.Prelude.{◌≡◌, ◌↔◌, ℕ, List, zip}
 use Rattle.std.specs.FinMap.{empty}
-use Rattle.pay_numbered.specs.Words.{IsIn}
+use Rattle.pay_rules.specs.InTurn.{IsIn}
 use Rattle.pay_tables.specs.Words.{FareTables}
-use Rattle.pay_shard.specs.Words.{State, run, replay, answers, new_items, AreAllPriced, asked_by, AreUnmarked, items_of, all_items, AreAskedOf}
+use Rattle.pay_rules.specs.State.{State}
+use Rattle.pay_shard.specs.Words.{run, replay, answers, new_items, AreAllPriced, asked_by, AreUnmarked, items_of, all_items, AreAskedOf}
 use Rattle.pay_shard.specs.declared.asked.Asked.{Asked}
 use Rattle.pay_shard.specs.declared.item.Item.{Item}
 use Rattle.pay_session.specs.Words.{lines_of_items}

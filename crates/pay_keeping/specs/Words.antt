@@ -4,5 +4,4 @@ pub use Rattle.pay_keeping.specs.KeepingGates.{GateParts, gate_code, WereSettled
 pub use Rattle.pay_keeping.specs.Kept.{IsAllOrButLast, answered_of, HasKept, HasKeptNone, PassedAreKept}
 pub use Rattle.pay_keeping.specs.LateKeeping.{held, HasNotCut}
 pub use Rattle.pay_keeping.specs.Laws.{KeptAreNew, IsNewIn, NewGivesBack}
-pub use Rattle.pay_numbered.specs.Words.{IsIn, HaveTheSame}
 pub use Rattle.pay_keeping.specs.Again.{requests_in, put_by, asked_in, Puts, AskAlike, AreTorn, AskWithin, AreCut, IsWholeOf, AreWholeOf, texts_then, IsMergeOf, new_of, IsPricedIn, KeepNew, HaveKept, GiveBack, AreTaken, RepeatsAreOfNew, KeptGivesBack, PartsAreTaken, CutAskWithin, TornAskAlike, WholeIsHeld}

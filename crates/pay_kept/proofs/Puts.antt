@@ -5,7 +5,8 @@ use Rattle.std.specs.Io.KnownBytes.{Appends, Keeps}
 use Rattle.std.proofs.lemmas.List.{append-nil}
 use Rattle.pay_tables.specs.Words.{FareTables}
 use Rattle.pay_wire.specs.Words.{AppendsFront}
-use Rattle.pay_shard.specs.Words.{State, LocalParts, commands_of, transcript_of, desk_parts, IsTaken, ShardParts, with_items, with_room, state_now, item_step, is_new, new_items, Standing, with_waiting, without, IsAfterAll, IsNoneOf, AreKept, StandsAsBefore}
+use Rattle.pay_rules.specs.State.{State}
+use Rattle.pay_shard.specs.Words.{LocalParts, commands_of, transcript_of, desk_parts, IsTaken, ShardParts, with_items, with_room, state_now, item_step, is_new, new_items, Standing, with_waiting, without, IsAfterAll, IsNoneOf, AreKept, StandsAsBefore}
 use Rattle.pay_shard.specs.declared.asked.Asked.{Asked}
 use Rattle.pay_shard.specs.declared.desk.DeskFault.{DeskFault}
 use Rattle.pay_shard.specs.declared.desk.DeskFault.TheVariants.{Memory, NotKept}

@@ -3,7 +3,8 @@ use Rattle.std.specs.Prelude.{◌≡◌, ◌⊎◌, ℕ, Bool, true, false, List
 use Rattle.std.specs.Coded.{Coded, code_by, coded×, coded_ℕ, coded_bool, coded_list, coded_option}
 use Rattle.std.specs.Io.KnownBytes.{Appends}
 use Rattle.pay_tables.specs.Words.{FareTables}
-use Rattle.pay_shard.specs.Words.{State, LocalParts, local_code, commands_of, transcript_of, AreInPlace, AreBelow, DeskParts, Standing, ShardParts, with_items, replay, new_items, IsHistory}
+use Rattle.pay_rules.specs.State.{State}
+use Rattle.pay_shard.specs.Words.{LocalParts, local_code, commands_of, transcript_of, AreInPlace, AreBelow, DeskParts, Standing, ShardParts, with_items, replay, new_items, IsHistory}
 use Rattle.pay_shard.specs.contracts.item.Item as item
 use Rattle.pay_shard.specs.declared.asked.Asked.{Asked}
 use Rattle.pay_shard.specs.declared.asked.Asked.TheVariants as asked

@@ -1,7 +1,7 @@
 //! A desk over a shard that keeps the lines of what it accepts.
 ghost use Rattle.std.specs.Prelude.{◌≡◌, ◌≢◌, ◌⊎◌, ◌↔◌, ℕ, false, true, List, ◌∷◌, [], ◌++◌, length, Option, IfOk, IfErr, OnOk, OnErr, IsTrue, Err};
 ghost use Rattle.std.specs.Io.KnownBytes.{Appends, Keeps};
-ghost use Rattle.pay_numbered.specs.Words.{IsIn};
+ghost use Rattle.pay_rules.specs.InTurn.{IsIn};
 ghost use Rattle.pay_wire.specs.Words.{AppendsFront};
 ghost use Rattle.pay_session.specs.Words.{line_of};
 ghost use Rattle.pay_shard.specs.Words.{IsForShards, IsHistory, AreInPlace, IsAfterAll, IsNoneOf, AreKept, commands_of, is_new, transcript_of, with_items, with_waiting, without};
@@ -11,7 +11,7 @@ ghost use Rattle.pay_kept.specs.KeptParts.{CanFail, KeepsLines, is_quotes, stand
 ghost use Rattle.pay_kept.specs.Puts.{IsPutKept, IsNotPut, is_new_answer, line_if, is_not_kept};
 
 use crate::keeper::{Keeper, NotKept};
-use pay_account::Fares;
+use pay_rules::Fares;
 use pay_shard::{Asked, Command, Desk, DeskFault, LocalDesk, Reply, Shard, Ticket};
 use std::marker::Model;
 use std::snapshot::Snapshot;

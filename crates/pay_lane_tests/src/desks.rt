@@ -1,6 +1,6 @@
 //! Desks over a lane of an office: their replies are those of the shards, in whatever order they are got.
 ghost use Rattle.std.specs.Prelude.{◌≡◌, ℕ, [], ◌∷◌, ◌++◌};
-ghost use Rattle.pay_numbered.specs.Words.{IsIn};
+ghost use Rattle.pay_rules.specs.InTurn.{IsIn};
 ghost use Rattle.pay_shard.specs.Words.{IsForShards, IsNoneOf, with_waiting, without};
 
 use crate::gates::{Counting, Counts, gates};

@@ -3,8 +3,8 @@ ghost use Rattle.std.specs.Prelude.{◌<◌, List, length};
 ghost use Rattle.pay_lanes.specs.Words.{LaneParts, WorkerParts, AreTogether, IsSameLane};
 
 use crate::given::{bus_tap, expect_same, opened};
-use pay_account::Fares;
 use pay_lanes::{EndFault, Ended, Gate, Lane, OpenGate, Opened, Turn, Worker, end, laws};
+use pay_rules::Fares;
 use pay_shard::{Asked, Entry};
 use std::process::Abort;
 use std::sync::Wait;

@@ -3,9 +3,9 @@ ghost use Rattle.std.specs.Prelude.{◌≡◌, ◌<◌, All, length};
 ghost use Rattle.pay_lanes.specs.Words.{IsSameLane, IsSameWorker, AreTogether};
 
 use crate::given::{bus_tap, expect_same, one_route, pence};
-use pay_account::Fares;
 use pay_book::Book;
 use pay_lanes::{Ended, Gate, Lane, Opened, Turn, Worker, end, laws, open};
+use pay_rules::Fares;
 use pay_shard::{Answer, Entry, Journal, Shard};
 use pay_tables::Tables;
 use std::alloc::{AllocGlobal, Global};

@@ -2,7 +2,7 @@
 use denote.RattleType.{RattleType}
 use denote.Param.Send.{IsSend, sendable}
 use Rattle.std.proofs.Crossing.{crosses}
-use Rattle.pay_account.specs.declared.fares.Fares as fares
+use Rattle.pay_rules.specs.declared.fares.Fares as fares
 use Rattle.pay_lanes.specs.declared.gate.Gate as gates
 use Rattle.pay_shard.specs.contracts.shard.Shard as shard
 use Rattle.pay_lanes.specs.contracts.worker.Worker as worker

@@ -4,7 +4,7 @@ use Rattle.std.proofs.Math.Dec.{eqb-zero-suc, eqb-suc-zero, eqb-suc-suc}
 use Rattle.pay_mailbox.specs.Words.{SenderParts, having_sent}
 use Rattle.pay_shard.specs.Words.{ShardParts, answers_from, answers_given, item_step, with_room}
 use Rattle.pay_tables.specs.Words.{FareTables}
-use Rattle.pay_account.specs.State.{State}
+use Rattle.pay_rules.specs.State.{State}
 use Rattle.pay_shard.specs.declared.item.Item.{Item}
 use Rattle.pay_shard.specs.declared.reply.Answer.{Answer}
 use Rattle.pay_lanes.specs.Parts.{sent_at}

@@ -1,7 +1,7 @@
 -- What is told of an account's own postings is told of all.
 use Rattle.std.proofs.Common.{◌≡◌, ℕ, ℤ, pos, Bool, true, false, cond, ◌&&◌, ◌==◌, List, [], ◌∷◌, refl, sym, ap, ◌∙◌}
 use Rattle.std.specs.Prelude.{fold, ◌+ℤ◌}
-use Rattle.pay_quotes.specs.declared.posting.Posting.{Posting}
+use Rattle.pay_rules.specs.declared.posting.Posting.{Posting}
 use Rattle.pay_postings.specs.Postings.{is_of, with_amount, net, postings_of}
 use Rattle.pay_postings.specs.AccountRows.{is_of_account, of_account}
 

@@ -2,9 +2,10 @@
 use Rattle.std.specs.Prelude.{◌≡◌, ◌≢◌, ◌⊎◌, ℕ, ◌==◌, ℤ, pos, true, List, map, ◌++◌, Option, Some, None, Result, MatchResult, IsPermutation, IsTrue}
 use Rattle.std.specs.List.{list_any}
 use Rattle.pay_rows.specs.declared.row.ShareRow.{ShareRow}
-use Rattle.pay_quotes.specs.declared.posting.Posting.{Posting}
-use Rattle.pay_quotes.specs.Words.{QuoteParts, SetsParts}
-use Rattle.pay_postings.specs.declared.fault.PostFault.TheVariants.{BadArchive}
+use Rattle.pay_rules.specs.declared.posting.Posting.{Posting}
+use Rattle.pay_rules.specs.QuoteParts.{QuoteParts}
+use Rattle.pay_rules.specs.SetsParts.{SetsParts}
+use Rattle.pay_rules.specs.declared.post_fault.PostFault.TheVariants.{BadArchive}
 use Rattle.pay_postings.specs.PostingRows.{postings_from_rows}
 use Rattle.pay_postings.specs.Words.{AccountsParts, IsThere, net_from_rows}
 use Rattle.pay_records.specs.Words.{LedgerRows}

@@ -1,6 +1,6 @@
 -- The refusals of a ledger, by number and name.
 use Rattle.std.specs.Prelude.{ℕ, Bool, true, false, List, codes}
-use Rattle.pay_postings.specs.declared.fault.PostFault.TheVariants.{BadArchive, Memory}
+use Rattle.pay_rules.specs.declared.post_fault.PostFault.TheVariants.{BadArchive, Memory}
 use Rattle.pay_records.specs.declared.fault.ReadFault.{ReadFault}
 use Rattle.pay_records.specs.declared.fault.ReadFault.TheVariants as read
 use Rattle.pay_ledger.specs.declared.fault.OpenFault.{OpenFault}

@@ -7,9 +7,9 @@ use Rattle.std.proofs.Common.{refl, sym, ap, ◌∙◌}
 use Rattle.std.proofs.lemmas.Bool.{and_parts}
 use Rattle.pay_rows.specs.declared.row.PostingRow.{PostingRow}
 use Rattle.pay_rows.specs.declared.row.ShareRow.{ShareRow}
-use Rattle.pay_quotes.specs.declared.posting.Posting.{Posting}
+use Rattle.pay_rules.specs.declared.posting.Posting.{Posting}
 use Rattle.pay_postings.specs.PostingRows.{is_share_row, is_share_of, amount_or_none, amount_of, amounts_of, week_from_row, posting_behind, posting_from_row, with_rows, postings_from_rows}
-use Rattle.pay_postings.specs.Ranged.{◌>>=◌}
+use Rattle.pay_set_rows.specs.Ranged.{◌>>=◌}
 use Rattle.pay_postings.proofs.SharesBack.{all_moved}
 use Rattle.pay_records.specs.Words.{LedgerRows}
 use Rattle.pay_records.specs.Found.{postings_of, shares_of}

@@ -6,13 +6,13 @@ use Rattle.std.proofs.lemmas.List.Sorted.{IsPermutation-refl}
 use Rattle.sqlite.specs.declared.types.Value.TheVariants.{Null, Int, Text}
 use Rattle.sqlite.specs.Order.{Row}
 use Rattle.sqlite.specs.Effect.{Database}
-use Rattle.pay_taps.specs.declared.tap.Kind.TheVariants.{Bus}
-use Rattle.pay_taps.specs.declared.tap.Tap.{Tap}
-use Rattle.pay_fix.specs.declared.fix.Fix.{Fix}
-use Rattle.pay_fix.specs.declared.fix.What.TheVariants.{Credit}
-use Rattle.pay_quotes.specs.declared.posting.Posting.{Posting}
-use Rattle.pay_quotes.specs.Words.{QuoteParts}
-use Rattle.pay_postings.specs.declared.fault.PostFault.TheVariants.{BadArchive, StaleQuote, Memory}
+use Rattle.pay_rules.specs.declared.tap.Kind.TheVariants.{Bus}
+use Rattle.pay_rules.specs.declared.tap.Tap.{Tap}
+use Rattle.pay_rules.specs.declared.fix.Fix.{Fix}
+use Rattle.pay_rules.specs.declared.fix.What.TheVariants.{Credit}
+use Rattle.pay_rules.specs.declared.posting.Posting.{Posting}
+use Rattle.pay_rules.specs.QuoteParts.{QuoteParts}
+use Rattle.pay_rules.specs.declared.post_fault.PostFault.TheVariants.{BadArchive, StaleQuote, Memory}
 use Rattle.std.specs.Ordering.{int_eq}
 use Rattle.pay_postings.specs.PostingRows.{is_share_of, amount_or_none}
 use Rattle.pay_postings.specs.Words.{LedgerParts}

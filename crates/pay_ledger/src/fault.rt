@@ -1,8 +1,8 @@
 ghost use Rattle.std.specs.Prelude.{◌≡◌};
 ghost use Rattle.pay_ledger.specs.Faults.{open_fault_number, open_fault_name};
 
-use pay_postings::PostFault;
 use pay_records::ReadFault;
+use pay_rules::PostFault;
 use std::alloc::AllocError;
 use thiserror::Error;
 

@@ -8,10 +8,10 @@ ghost use Rattle.pay_ledger.specs.Calls.{ChangesNothing, GoesOnIfDone, StaysIfRe
 
 use crate::fault::LedgerFault;
 use crate::read::read_posted;
-use pay_postings::{PostFault, Posted, net_from_rows};
-use pay_quotes::Posting;
+use pay_postings::{Posted, net_from_rows};
 use pay_records::{all_fixes, all_taps, postings_of};
 use pay_rows::{FixRow, PostingRow, TapRow};
+use pay_rules::{PostFault, Posting};
 use sqlite::{Alter, Connection, Transaction};
 use std::alloc::{AllocError, Global};
 

@@ -1,6 +1,6 @@
 ghost use Rattle.std.specs.Prelude.{◌≡◌, false, Ok, IsTrue, IfErr};
 ghost use Rattle.std.specs.List.{AllByRecursion};
-ghost use Rattle.pay_quotes.specs.Words.{IsQuote};
+ghost use Rattle.pay_rules.specs.QuoteParts.{IsQuote};
 ghost use Rattle.pay_postings.specs.Words.{posted, lists, with_batch};
 ghost use Rattle.pay_ledger.specs.Faults.{is_of_store};
 ghost use Rattle.pay_records.specs.Words.{LeavesAsBeforeOr, Answers, AnswersInside};
@@ -13,7 +13,7 @@ use crate::fault::LedgerFault;
 use crate::read::{ask, read_quoted, read_sets};
 use crate::write::{write_fixes, write_postings, write_taps};
 use pay_postings::{Accounts, Batch};
-use pay_quotes::{Posting, Quote, Sets};
+use pay_rules::{Posting, Quote, Sets};
 use sqlite::{Alter, Connection, Transaction};
 use std::alloc::Global;
 

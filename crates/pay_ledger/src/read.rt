@@ -1,10 +1,11 @@
 ghost use Rattle.std.specs.Prelude.{◌≡◌, Some, map, IsOkUnless, OnOk};
 ghost use Rattle.pay_postings.specs.Words.{parts, taps_of, fixes_of, archived_of, IsThere};
-ghost use Rattle.pay_postings.specs.SetRows.{tap_row, fix_row};
+ghost use Rattle.pay_set_rows.specs.SetRows.{tap_row, fix_row};
 ghost use Rattle.pay_postings.specs.AccountRows.{of_account};
 ghost use Rattle.std.specs.List.{AllByRecursion};
 ghost use Rattle.sqlite.specs.State.{IsUnchanged};
-ghost use Rattle.pay_quotes.specs.Words.{QuoteParts, SetsParts};
+ghost use Rattle.pay_rules.specs.QuoteParts.{QuoteParts};
+ghost use Rattle.pay_rules.specs.SetsParts.{SetsParts};
 ghost use Rattle.pay_records.specs.Words.{Does};
 ghost use Rattle.pay_ledger.specs.BadRows.{ReadsAs, quoted, in_sets};
 ghost use Rattle.pay_ledger.specs.Steps.{KeepsRows};
@@ -12,9 +13,9 @@ ghost use Rattle.pay_ledger.specs.Calls.{GoesOnIfDone, StaysIfRefused, ReadsInto
 
 use crate::fault::LedgerFault;
 use pay_postings::{Accounts, Archived, Posted, postings_from_rows};
-use pay_quotes::{Quote, Sets};
 use pay_records::{fixes_of, postings_of, shares_of, taps_of};
 use pay_rows::{FixRow, TapRow};
+use pay_rules::{Quote, Sets};
 use sqlite::{Alter, Transaction};
 use std::alloc::Global;
 

@@ -6,12 +6,11 @@ ghost use Rattle.pay_ledger.specs.Steps.{RowsGrow};
 ghost use Rattle.pay_ledger.specs.Calls.{GoesOnIfDone, StaysIfRefused, GrowsInside};
 
 use crate::fault::LedgerFault;
-use pay_fix::Fix;
-use pay_postings::{fix_row, posting_row, share_rows, tap_row};
-use pay_quotes::Posting;
+use pay_postings::{posting_row, share_rows};
 use pay_records::{add_fix, add_posting, add_share, add_tap};
 use pay_rows::ShareRow;
-use pay_taps::Tap;
+use pay_rules::{Fix, Posting, Tap};
+use pay_set_rows::{fix_row, tap_row};
 use sqlite::{Alter, Transaction};
 use std::alloc::Global;
 

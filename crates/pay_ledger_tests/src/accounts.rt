@@ -3,11 +3,10 @@
 ghost use Rattle.std.specs.Prelude.{◌≡◌};
 
 use crate::given::{MONDAY, expect_same};
-use pay_account::{Account, Fares, Priced};
-use pay_fix::{Fix, What};
+use pay_account::Account;
 use pay_money::Pence;
+use pay_rules::{Fares, Fix, Priced, Tap, What};
 use pay_tables::Tables;
-use pay_taps::Tap;
 use std::process::Abort;
 
 /// What is new, of the Monday, and comes to this price of the day and of the week.

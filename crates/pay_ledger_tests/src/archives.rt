@@ -3,12 +3,11 @@
 
 use crate::given::{expect_list, expect_same, sample};
 use crate::ledger::{empty_ledger, opened};
-use pay_account::Fares;
 use pay_book::Book;
 use pay_ledger::LedgerFault;
-use pay_postings::PostFault;
 use pay_records::*;
 use pay_rows::{FixRow, PostingRow, ShareRow, TapRow};
+use pay_rules::{Fares, PostFault};
 use sqlite::{Error, MemStore, Transaction};
 use std::process::Abort;
 

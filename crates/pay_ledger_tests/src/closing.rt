@@ -11,7 +11,7 @@ use pay_close::{LedgerTill, NotClosed, close};
 use pay_lanes::{Gate, Lane, laws};
 use pay_ledger::Ledger;
 use pay_office::{Ended, LaneDesk, Office, shut, start};
-use pay_quotes::{Posting, Postings, Quote};
+use pay_rules::{Posting, Postings, Quote};
 use pay_session::{Done, NoTill, SessionFault, session};
 use pay_shard::{Answer, Asked, Batch, Command, Desk, DeskFault, Entry, Reply, Shard};
 use sqlite::MemStore;

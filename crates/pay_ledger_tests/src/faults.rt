@@ -3,8 +3,8 @@
 use crate::given::expect_same;
 use pay_close::NotClosed;
 use pay_ledger::{LedgerFault, OpenFault};
-use pay_postings::PostFault;
 use pay_records::ReadFault;
+use pay_rules::PostFault;
 use pay_shard::DeskFault;
 use std::alloc::AllocGlobal;
 use std::fmt::Display;

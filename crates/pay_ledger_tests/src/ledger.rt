@@ -8,13 +8,12 @@ use crate::given::{
     MAY_BE_REFUSED, MAY_NOT_BE, MONDAY, WAS_REFUSED, expect_list, expect_same, sample, tap_at, tell,
 };
 use crate::lines::expect_run;
-use pay_account::{Account, Fares, Posting, Quote, Sets};
+use pay_account::Account;
 use pay_ledger::{Ledger, LedgerFault, OpenFault};
 use pay_money::Pence;
 use pay_money::limits::OPERATORS;
-use pay_postings::PostFault;
+use pay_rules::{Fares, Kind, PostFault, Posting, Quote, Sets};
 use pay_tables::Tables;
-use pay_taps::Kind;
 use sqlite::{Alter, Connection, Error, MemStore, Row};
 use std::alloc::Global;
 use std::process::Abort;

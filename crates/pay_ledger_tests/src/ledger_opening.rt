@@ -9,10 +9,9 @@ use crate::ledger::{
     opened, owed,
 };
 use crate::lines::expect_run;
-use pay_account::{Account, Fares};
+use pay_account::Account;
 use pay_ledger::{Ledger, LedgerFault, Ledgers, OpenFault};
-use pay_postings::PostFault;
-use pay_taps::Kind;
+use pay_rules::{Fares, Kind, PostFault};
 use sqlite::{Alter, Connection, Error, MemStore, Wary};
 use std::fs;
 use std::process::Abort;

@@ -2,9 +2,11 @@
 use Rattle.std.proofs.Common.{◌≡◌, suc, Bool, true, false, not, ◌&&◌, List, [], ◌∷◌, ◌++◌, length, get_or, slice_get, Option, Some, None, refl, ap, sym, ◌∙◌, arith}
 use Rattle.std.specs.Option.{is_none}
 use Rattle.std.proofs.lemmas.Bool.{and_parts}
-use Rattle.pay_pairs.specs.Words.{FareTables, Touch, legs}
-use Rattle.pay_pairs.specs.declared.parts.Leg.{Leg}
-use Rattle.pay_links.specs.Journeys.{journeys}
+use Rattle.pay_tables.specs.Words.{FareTables}
+use Rattle.pay_rules.specs.declared.tap.Touch.{Touch}
+use Rattle.pay_rules.specs.Legs.{legs}
+use Rattle.pay_rules.specs.declared.parts.Leg.{Leg}
+use Rattle.pay_rules.specs.RailJourneys.{journeys}
 use Rattle.pay_links.specs.Starts.{leg_between, are_linked, starts_at, starts_behind, starts, until_start, journey_of_taps, journeys_by_marks}
 use Rattle.pay_links.specs.Laws.{AsManyMarksAsTaps, JourneysAreKeptAsMarks, MarksAreCut, JourneysAreCut}
 

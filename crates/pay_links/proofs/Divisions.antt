@@ -2,14 +2,14 @@
 use Rattle.std.proofs.Common.{◌≡◌, Bool, true, false, List, [], ◌∷◌, ◌++◌, map, if◌then◌else◌, refl, ap, subst, sym, ◌∙◌}
 use Rattle.std.specs.List.{AllByRecursion}
 use Rattle.std.proofs.lemmas.List.Elements.{recursion_from_All, All-from_recursion}
-use Rattle.pay_pairs.specs.Words.{FareTables}
-use Rattle.pay_pairs.specs.declared.parts.Leg.{Leg}
-use Rattle.pay_pairs.specs.declared.parts.RailPart.{RailPart}
-use Rattle.pay_pairs.specs.declared.parts.RailPart.TheVariants as part
-use Rattle.pay_links.specs.LinkedLegs.{LinkedLegs, joined, all_legs}
-use Rattle.pay_links.specs.Journeys.{is_same, is_linked, alone, run_before, journeys, EachAndNext, IsRun, IsJourney, goes_on, parts_of_journey, parts_of, AreJourneys}
-use Rattle.pay_links.specs.declared.journey.Journey.{Journey}
-use Rattle.pay_links.specs.declared.journey.Journey.TheVariants as journey
+use Rattle.pay_tables.specs.Words.{FareTables}
+use Rattle.pay_rules.specs.declared.parts.Leg.{Leg}
+use Rattle.pay_rules.specs.declared.parts.RailPart.{RailPart}
+use Rattle.pay_rules.specs.declared.parts.RailPart.TheVariants as part
+use Rattle.pay_rules.specs.LinkedLegs.{LinkedLegs, joined, all_legs}
+use Rattle.pay_rules.specs.RailJourneys.{is_same, is_linked, alone, run_before, journeys, EachAndNext, IsRun, IsJourney, goes_on, parts_of_journey, parts_of, AreJourneys}
+use Rattle.pay_rules.specs.declared.journey.Journey.{Journey}
+use Rattle.pay_rules.specs.declared.journey.Journey.TheVariants as journey
 
 -- ---- each and the next, by recursion on the list
 

@@ -3,16 +3,18 @@ use Rattle.std.proofs.Common.{◌≡◌, Bool, true, false, List, [], ◌∷◌,
 use Rattle.std.specs.List.{AllByRecursion}
 use Rattle.std.proofs.lemmas.List.{append-nil}
 use Rattle.std.proofs.lemmas.List.Elements.{recursion_from_All}
-use Rattle.pay_pairs.specs.Words.{FareTables, Touch, legs, taps_of}
-use Rattle.pay_pairs.specs.declared.parts.Leg.{Leg}
-use Rattle.pay_pairs.specs.declared.parts.RailPart.{RailPart}
-use Rattle.pay_pairs.specs.declared.parts.RailPart.TheVariants as part
-use Rattle.pay_links.specs.LinkedLegs.{all_legs}
-use Rattle.pay_links.specs.Journeys.{is_same, journeys, IsJourney, parts_of}
+use Rattle.pay_tables.specs.Words.{FareTables}
+use Rattle.pay_rules.specs.declared.tap.Touch.{Touch}
+use Rattle.pay_rules.specs.Legs.{legs, taps_of}
+use Rattle.pay_rules.specs.declared.parts.Leg.{Leg}
+use Rattle.pay_rules.specs.declared.parts.RailPart.{RailPart}
+use Rattle.pay_rules.specs.declared.parts.RailPart.TheVariants as part
+use Rattle.pay_rules.specs.LinkedLegs.{all_legs}
+use Rattle.pay_rules.specs.RailJourneys.{is_same, journeys, IsJourney, parts_of}
 use Rattle.pay_links.specs.Starts.{taps_of_leg, taps_of_journey, unmarked, start_marks, legs_by_pairs, journey_of_legs, journey_of_taps, until_start, journeys_by_marks}
 use Rattle.pay_links.specs.Laws.{StartsAreLocal, JourneysHaveEachTap, JourneysAreKeptAsMarks}
-use Rattle.pay_links.specs.declared.journey.Journey.{Journey}
-use Rattle.pay_links.specs.declared.journey.Journey.TheVariants as journey
+use Rattle.pay_rules.specs.declared.journey.Journey.{Journey}
+use Rattle.pay_rules.specs.declared.journey.Journey.TheVariants as journey
 use Rattle.pay_links.proofs.Divisions.{journeys_are}
 
 -- ---- each tap

@@ -1,5 +1,4 @@
 mod StartRows
-pub mod LastLeg
 pub mod OpenRun
 pub mod Divisions
 pub mod StartMarks

@@ -1,14 +1,14 @@
 -- A run that may go on, and the next leg.
 use Rattle.std.proofs.Common.{◌≡◌, ◌≤◌, ℕ, length, drop, Bool, true, false, List, [], ◌∷◌, ◌++◌, append_assoc, ◌&&◌, not, Option, Some, None, refl}
 use Rattle.std.proofs.lemmas.List.{drop_all}
-use Rattle.pay_pairs.specs.declared.parts.RailPart.{RailPart}
-use Rattle.pay_pairs.specs.Words.{FareTables, interchange}
-use Rattle.pay_pairs.specs.declared.parts.Leg.{Leg}
-use Rattle.pay_links.specs.LinkedLegs.{LinkedLegs, last_behind, last_leg, joined}
-use Rattle.pay_links.specs.Journeys.{is_same, is_in_time, is_linked, alone, run_before, leg_before, journeys}
+use Rattle.pay_rules.specs.declared.parts.RailPart.{RailPart}
+use Rattle.pay_tables.specs.Words.{FareTables, interchange}
+use Rattle.pay_rules.specs.declared.parts.Leg.{Leg}
+use Rattle.pay_rules.specs.LinkedLegs.{LinkedLegs, last_behind, last_leg, joined}
+use Rattle.pay_rules.specs.RailJourneys.{is_same, is_in_time, is_linked, alone, run_before, leg_before, journeys}
 use Rattle.pay_links.specs.OpenRun.{closed, open_before}
-use Rattle.pay_links.specs.declared.journey.Journey.{Journey}
-use Rattle.pay_links.specs.declared.journey.Journey.TheVariants as journey
+use Rattle.pay_rules.specs.declared.journey.Journey.{Journey}
+use Rattle.pay_rules.specs.declared.journey.Journey.TheVariants as journey
 
 -- the last leg, where a leg goes on from others
 pub last_joined : (first : Leg) (others : List Leg) (leg : Leg) → last_behind first (others ++ leg ∷ []) ≡ leg

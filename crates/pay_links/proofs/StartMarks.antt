@@ -1,15 +1,17 @@
 -- The marks that the taps next to each one decide are the marks of the journeys.
 use Rattle.std.proofs.Common.{◌≡◌, Bool, true, false, not, List, [], ◌∷◌, ◌++◌, append_assoc, slice_get, if◌then◌else◌, Option, Some, None, flat_map, refl, ap, sym, ◌∙◌}
-use Rattle.pay_pairs.specs.Words.{FareTables, Touch, is_leg, legs}
-use Rattle.pay_pairs.specs.declared.parts.Leg.{Leg}
-use Rattle.pay_pairs.specs.declared.parts.RailPart.{RailPart}
-use Rattle.pay_pairs.specs.declared.parts.RailPart.TheVariants as part
-use Rattle.pay_links.specs.LinkedLegs.{LinkedLegs, last_leg, joined}
-use Rattle.pay_links.specs.Journeys.{is_same, is_linked, alone, run_before, leg_before, journeys}
+use Rattle.pay_tables.specs.Words.{FareTables}
+use Rattle.pay_rules.specs.declared.tap.Touch.{Touch}
+use Rattle.pay_rules.specs.Legs.{is_leg, legs}
+use Rattle.pay_rules.specs.declared.parts.Leg.{Leg}
+use Rattle.pay_rules.specs.declared.parts.RailPart.{RailPart}
+use Rattle.pay_rules.specs.declared.parts.RailPart.TheVariants as part
+use Rattle.pay_rules.specs.LinkedLegs.{LinkedLegs, last_leg, joined}
+use Rattle.pay_rules.specs.RailJourneys.{is_same, is_linked, alone, run_before, leg_before, journeys}
 use Rattle.pay_links.specs.OpenRun.{open_before}
 use Rattle.pay_links.specs.Starts.{leg_of, leg_between, are_linked, starts_at, starts_behind, taps_of_leg, taps_of_journey, unmarked, marks_of_one, start_marks}
 use Rattle.pay_links.specs.Laws.{StartsAreLocal}
-use Rattle.pay_links.specs.declared.journey.Journey.TheVariants as journey
+use Rattle.pay_rules.specs.declared.journey.Journey.TheVariants as journey
 use Rattle.pay_links.proofs.OpenRun.{last_joined, run_goes_on, run_ends}
 
 -- the marks of parts behind a leg, or behind none

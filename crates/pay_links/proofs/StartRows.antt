@@ -2,13 +2,15 @@
 use Rattle.std.proofs.Common.{◌≡◌, ℕ, ◌+◌, true, false, List, [], ◌∷◌, Some, refl}
 use Rattle.std.specs.Cmp.{nat_cmp_total}
 use Rattle.std.specs.FinMap.{from_entries, get-from_entries}
-use Rattle.pay_pairs.specs.Words.{FareTables, Place, Touch}
-use Rattle.pay_pairs.specs.Words.place_variants.{Station}
-use Rattle.pay_pairs.specs.Words.kind_variants.{In, Out}
-use Rattle.pay_pairs.specs.declared.parts.Leg.{Leg}
+use Rattle.pay_tables.specs.Words.{FareTables}
+use Rattle.pay_tables.specs.declared.place.Place.{Place}
+use Rattle.pay_rules.specs.declared.tap.Touch.{Touch}
+use Rattle.pay_tables.specs.declared.place.Place.TheVariants.{Station}
+use Rattle.pay_rules.specs.declared.tap.Kind.TheVariants.{In, Out}
+use Rattle.pay_rules.specs.declared.parts.Leg.{Leg}
 use Rattle.pay_links.specs.Starts.{leg_of, starts_at, starts, start_marks, journeys_by_marks}
-use Rattle.pay_links.specs.declared.journey.Journey.{Journey}
-use Rattle.pay_links.specs.declared.journey.Journey.TheVariants as journey
+use Rattle.pay_rules.specs.declared.journey.Journey.{Journey}
+use Rattle.pay_rules.specs.declared.journey.Journey.TheVariants as journey
 
 abbrev stations : List (ℕ × Place)
 stations = (10, Station 1 1 1) ∷ (11, Station 1 2 1) ∷ (12, Station 2 2 2) ∷ (13, Station 2 3 2) ∷ (14, Station 3 3 3) ∷ []

@@ -1,8 +1,10 @@
 -- What is so of marks: they are those of the journeys, and where a journey starts, the taps before and behind stand by themselves.
 use Rattle.std.specs.Prelude.{◌≡◌, List, ◌++◌, length}
 use Rattle.std.specs.List.{flat_map}
-use Rattle.pay_pairs.specs.Words.{FareTables, Touch, legs}
-use Rattle.pay_links.specs.Journeys.{journeys}
+use Rattle.pay_tables.specs.Words.{FareTables}
+use Rattle.pay_rules.specs.declared.tap.Touch.{Touch}
+use Rattle.pay_rules.specs.Legs.{legs}
+use Rattle.pay_rules.specs.RailJourneys.{journeys}
 use Rattle.pay_links.specs.Starts.{starts, AreApart, taps_of_journey, start_marks, journeys_by_marks}
 
 -- by the taps next to each one, a journey starts where it does among all of them

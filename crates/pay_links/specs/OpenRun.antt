@@ -1,11 +1,11 @@
 -- A run that may go on, while the parts are read.
 use Rattle.std.specs.Prelude.{List, [], ◌∷◌, ◌++◌, Option, Some, None}
-use Rattle.pay_pairs.specs.Words.{FareTables}
-use Rattle.pay_pairs.specs.declared.parts.RailPart.{RailPart}
-use Rattle.pay_links.specs.LinkedLegs.{LinkedLegs}
-use Rattle.pay_links.specs.Journeys.{run_before, journeys}
-use Rattle.pay_links.specs.declared.journey.Journey.{Journey}
-use Rattle.pay_links.specs.declared.journey.Journey.TheVariants as journey
+use Rattle.pay_tables.specs.Words.{FareTables}
+use Rattle.pay_rules.specs.declared.parts.RailPart.{RailPart}
+use Rattle.pay_rules.specs.LinkedLegs.{LinkedLegs}
+use Rattle.pay_rules.specs.RailJourneys.{run_before, journeys}
+use Rattle.pay_rules.specs.declared.journey.Journey.{Journey}
+use Rattle.pay_rules.specs.declared.journey.Journey.TheVariants as journey
 
 -- what it is, if no leg is linked with its last one
 abbrev pub closed : Option LinkedLegs → List Journey

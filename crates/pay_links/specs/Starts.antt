@@ -2,12 +2,14 @@
 use Rattle.std.specs.Prelude.{◌≡◌, ◌&&◌, not, Bool, true, false, if◌then◌else◌, List, [], ◌∷◌, ◌++◌, map, length, get_or, slice_get, Option, Some, None}
 use Rattle.std.specs.List.{flat_map}
 use Rattle.std.specs.Option.{is_none}
-use Rattle.pay_pairs.specs.Words.{FareTables, Touch, is_leg}
-use Rattle.pay_pairs.specs.declared.parts.Leg.{Leg}
-use Rattle.pay_links.specs.LinkedLegs.{all_legs}
-use Rattle.pay_links.specs.Journeys.{is_same, is_linked, alone}
-use Rattle.pay_links.specs.declared.journey.Journey.{Journey}
-use Rattle.pay_links.specs.declared.journey.Journey.TheVariants as journey
+use Rattle.pay_tables.specs.Words.{FareTables}
+use Rattle.pay_rules.specs.declared.tap.Touch.{Touch}
+use Rattle.pay_rules.specs.Legs.{is_leg}
+use Rattle.pay_rules.specs.declared.parts.Leg.{Leg}
+use Rattle.pay_rules.specs.LinkedLegs.{all_legs}
+use Rattle.pay_rules.specs.RailJourneys.{is_same, is_linked, alone}
+use Rattle.pay_rules.specs.declared.journey.Journey.{Journey}
+use Rattle.pay_rules.specs.declared.journey.Journey.TheVariants as journey
 
 -- ---- marks of taps
 

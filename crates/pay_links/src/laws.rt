@@ -1,10 +1,10 @@
 //! What is true of journeys themselves.
 
 ghost use Rattle.std.specs.Prelude.{◌≡◌, List};
-ghost use Rattle.pay_pairs.specs.Words.{FareTables};
-ghost use Rattle.pay_pairs.specs.declared.parts.RailPart.{RailPart};
-ghost use Rattle.pay_links.specs.declared.journey.Journey.{Journey};
-ghost use Rattle.pay_links.specs.Journeys.{AreJourneys, journeys};
+ghost use Rattle.pay_tables.specs.Words.{FareTables};
+ghost use Rattle.pay_rules.specs.declared.parts.RailPart.{RailPart};
+ghost use Rattle.pay_rules.specs.declared.journey.Journey.{Journey};
+ghost use Rattle.pay_rules.specs.RailJourneys.{AreJourneys, journeys};
 ghost use Rattle.pay_links.specs.Laws.{StartsAreLocal, AsManyMarksAsTaps, JourneysHaveEachTap, JourneysAreKeptAsMarks, MarksAreCut, JourneysAreCut};
 
 /// Any legs and lone taps are journeys in one way, and in no other.

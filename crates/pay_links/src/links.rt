@@ -1,10 +1,10 @@
 ghost use Rattle.std.specs.Prelude.{◌≡◌, ◌∷◌, ◌++◌, false, IfOk, OnOk, List};
-ghost use Rattle.pay_pairs.specs.declared.parts.RailPart.{RailPart};
-ghost use Rattle.pay_links.specs.Journeys.{is_same, is_linked, journeys, run_before, leg_before, AreJourneys};
+ghost use Rattle.pay_rules.specs.declared.parts.RailPart.{RailPart};
+ghost use Rattle.pay_rules.specs.RailJourneys.{is_same, is_linked, journeys, run_before, leg_before, AreJourneys};
 ghost use Rattle.pay_links.specs.OpenRun.{open_before, closed, journeys_with};
 
-use crate::journey::{Journey, Run};
-use pay_pairs::{Leg, RailPart, Tables};
+use pay_rules::{Journey, Leg, RailPart, Run};
+use pay_tables::Tables;
 use std::alloc::{AllocError, Global};
 
 /// Whether a leg ends at the station where it began.

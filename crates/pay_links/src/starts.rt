@@ -2,7 +2,9 @@ ghost use Rattle.std.specs.Prelude.{◌≡◌};
 ghost use Rattle.pay_links.specs.Starts.{leg_between, are_linked, starts_at};
 
 use crate::links::is_linked;
-use pay_pairs::{Leg, Tables, Touch, is_leg};
+use pay_pairs::is_leg;
+use pay_rules::{Leg, Touch};
+use pay_tables::Tables;
 
 /// The leg of a tap and the next one, where there are both and they are one.
 fn leg_between(tables: &Tables, tap: &Option<Touch>, next: &Option<Touch>) -> Option<Leg>

@@ -11,9 +11,9 @@ use Rattle.std.proofs.lemmas.List.{length-map}
 use Rattle.std.proofs.lemmas.List.Edits.{length-insert}
 use Rattle.std.proofs.lemmas.List.Sorted.{searchable_from_sorted}
 use Rattle.pay_numbered.specs.Kept.{numbered, set_of, IsKept, IsPlace}
-use Rattle.pay_numbered.specs.declared.numbered_set.Addition.TheVariants.{Added}
-use Rattle.pay_numbered.specs.Numbers.{ByNumber, IsNumbered, number_cmp, judged}
-use Rattle.pay_numbered.proofs.NumberOrder.{number_total, exact_numbers, entries_made, length_values, one_more}
+use Rattle.pay_rules.specs.declared.addition.Addition.TheVariants.{Added}
+use Rattle.pay_rules.specs.Numbers.{ByNumber, IsNumbered, number_cmp, judged}
+use Rattle.pay_rules.specs.NumberOrder.{number_total, exact_numbers, entries_made, length_values, one_more}
 
 turned : (a b : ℕ × ℕ) (r : Ordering) → number_cmp a b ≡ r → number_cmp b a ≡ ordering_reverse r
 turned a b r e = number_total.antisymm b a ∙ ap ordering_reverse e

@@ -1,7 +1,3 @@
-pub mod Judgement
-pub mod NumberOrder
-pub mod OneMore
-pub mod InTurn
 mod KeptList
 mod SoughtNumber
 mod Fronts

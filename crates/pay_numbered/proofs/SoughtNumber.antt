@@ -6,8 +6,8 @@ use Rattle.std.specs.FinMap as map
 use Rattle.std.proofs.lemmas.Cmp.{tied_itself}
 use Rattle.std.proofs.lemmas.Option.{none-some, slice_get-get_or, slice_get_within, get_or_from_slice_get}
 use Rattle.pay_numbered.specs.Kept.{set_of, IsKept, IsRising, IsSought}
-use Rattle.pay_numbered.specs.Numbers.{ByNumber, number_cmp}
-use Rattle.pay_numbered.proofs.NumberOrder.{number_total, exact_numbers}
+use Rattle.pay_rules.specs.Numbers.{ByNumber, number_cmp}
+use Rattle.pay_rules.specs.NumberOrder.{number_total, exact_numbers}
 use Rattle.pay_numbered.proofs.KeptList.{cmp_with, searchable, found, not_found}
 
 is_less : (r : Ordering) → is_lt r ≡ true → r ≡ Less

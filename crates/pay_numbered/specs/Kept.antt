@@ -3,9 +3,9 @@ use Rattle.std.specs.Prelude.{◌≡◌, ℕ, ◌<◌, ◌≤◌, T, Bool, List,
 use Rattle.std.specs.FinMap.{from_entries, is_sorted, len, insert, values}
 use Rattle.std.specs.List.{insert as insert_at}
 use Rattle.std.specs.List.Sorted.{IsBinarySearchResult}
-use Rattle.pay_numbered.specs.declared.numbered_set.Addition.TheVariants.{Added, Repeat}
-use Rattle.pay_numbered.specs.declared.numbered_set.AdditionFault.{AdditionFault}
-use Rattle.pay_numbered.specs.Numbers.{ByNumber, number_cmp, judged}
+use Rattle.pay_rules.specs.declared.addition.Addition.TheVariants.{Added, Repeat}
+use Rattle.pay_rules.specs.declared.addition.AdditionFault.{AdditionFault}
+use Rattle.pay_rules.specs.Numbers.{ByNumber, number_cmp, judged}
 
 -- each at its number
 abbrev pub numbered : {X : Type 0} → (X → ℕ × ℕ) → List X → List ((ℕ × ℕ) × X)

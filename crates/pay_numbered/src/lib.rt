@@ -2,11 +2,8 @@
 #![tactic(auto)]
 
 mod fronted_list;
-pub mod laws;
-mod numbered;
 mod numbered_blocks;
 mod numbered_set;
 
-pub use numbered::Numbered;
 pub use numbered_blocks::NumberedBlocks;
-pub use numbered_set::{Addition, AdditionFault, NumberedSet};
+pub use numbered_set::NumberedSet;

@@ -2,12 +2,11 @@ ghost use Rattle.std.specs.Prelude.{◌≡◌, ◌^◌, ◌≤◌, ◌<◌, ◌�
 ghost use Rattle.std.specs.FinMap as map;
 ghost use Rattle.std.specs.Ordering.{is_lt};
 ghost use Rattle.pay_numbered.specs.Kept.{IsRising, IsSought, IsPlaceFor};
-ghost use Rattle.pay_numbered.specs.Numbers.{IsNumbered, number_cmp, judged, IsJudged, set_after};
+ghost use Rattle.pay_rules.specs.Numbers.{IsNumbered, number_cmp, judged, IsJudged, set_after};
 
 use crate::fronted_list::FrontedList;
-use crate::numbered::Numbered;
-use crate::numbered_set::{Addition, AdditionFault};
 use pay_blocks::ComesAfter;
+use pay_rules::{Addition, AdditionFault, Numbered};
 use std::alloc::{AllocError, Global};
 use std::default::MadeWith;
 use std::marker::Model;
@@ -25,7 +24,7 @@ impl<T: Numbered, const MOST: usize, const INLINE: usize> Model
     for NumberedBlocks<T, MOST, INLINE> {
     ghost use Rattle.std.specs.FinMap as map;
     ghost use Rattle.std.specs.Coded.{coded×, coded_ℕ};
-    ghost use Rattle.pay_numbered.specs.Numbers.{ByNumber};
+    ghost use Rattle.pay_rules.specs.Numbers.{ByNumber};
     ghost use Rattle.pay_numbered.specs.Kept.{set_of, IsKept};
 
     ghost Value = { ByNumber T };

@@ -2,59 +2,13 @@ ghost use Rattle.std.specs.Prelude.{◌≡◌, ◌≤◌, ◌↔◌, length, IsT
 ghost use Rattle.std.specs.FinMap as map;
 ghost use Rattle.std.specs.List.Sorted.{IsBinarySearchResult, IsSearchInRange};
 ghost use Rattle.pay_numbered.specs.Kept.{IsPlaceFor};
-ghost use Rattle.pay_numbered.specs.Numbers.{IsNumbered, number_cmp, judged, IsJudged, set_after};
+ghost use Rattle.pay_rules.specs.Numbers.{IsNumbered, number_cmp, judged, IsJudged, set_after};
 
-use crate::numbered::Numbered;
+use pay_rules::{Addition, AdditionFault, Numbered};
 use smallvec::SmallVec;
-use std::alloc::{AllocError, AllocFailed, Global};
+use std::alloc::{AllocError, Global};
 use std::default::MadeWith;
 use std::marker::Model;
-use thiserror::Error;
-
-/// What an addition that is not refused does to a set.
-#[derive(Clone, Copy, Debug, PartialEq, Eq)]
-pub enum Addition {
-    /// One more is in the set.
-    Added,
-    /// It was there already, with the same content: nothing changes.
-    Repeat,
-}
-
-/// Why an addition is refused. The set stays as it was.
-#[derive(Clone, Copy, Debug, PartialEq, Eq, Error)]
-pub enum AdditionFault {
-    /// Another one of the set has its number.
-    #[error("Conflict")]
-    Conflict,
-    /// The set has as many as it may have.
-    #[error("Full")]
-    Full,
-    /// No memory for one more.
-    #[error("Memory")]
-    Memory,
-}
-
-impl<T: Drop> From<AllocFailed<T>> for AdditionFault {
-    ghost use Rattle.std.specs.Prelude.{◌≡◌};
-    ghost use Rattle.pay_numbered.specs.declared.numbered_set.AdditionFault.TheVariants.{Memory};
-
-    ghost from_gives = { λ _ fault. fault ≡ Memory };
-
-    fn from(_failed: AllocFailed<T>) -> AdditionFault {
-        AdditionFault::Memory
-    }
-}
-
-impl From<AllocError> for AdditionFault {
-    ghost use Rattle.std.specs.Prelude.{◌≡◌};
-    ghost use Rattle.pay_numbered.specs.declared.numbered_set.AdditionFault.TheVariants.{Memory};
-
-    ghost from_gives = { λ _ fault. fault ≡ Memory };
-
-    fn from(_error: AllocError) -> AdditionFault {
-        AdditionFault::Memory
-    }
-}
 
 /// A set of at most `MOST` that have numbers of their own. In a contract it is the finite map from each
 /// number to what has it. Up to `INLINE` lie in the set itself, and more in a list in memory of its own.
@@ -67,7 +21,7 @@ pub struct NumberedSet<T: Numbered, const MOST: usize, const INLINE: usize> {
 impl<T: Numbered, const MOST: usize, const INLINE: usize> Model for NumberedSet<T, MOST, INLINE> {
     ghost use Rattle.std.specs.FinMap as map;
     ghost use Rattle.std.specs.Coded.{coded×, coded_ℕ};
-    ghost use Rattle.pay_numbered.specs.Numbers.{ByNumber};
+    ghost use Rattle.pay_rules.specs.Numbers.{ByNumber};
     ghost use Rattle.pay_numbered.specs.Kept.{set_of, IsKept};
 
     ghost Value = { ByNumber T };

@@ -4,7 +4,7 @@ use Rattle.std.specs.List.{AllByRecursion, IsDistinct, find, position, position_
 use Rattle.std.specs.Option.{is_none}
 use Rattle.std.proofs.lemmas.Bool.{lt-ltb, eqb-true, eq-eqb}
 use Rattle.std.proofs.lemmas.List.Elements.{All-head, All-tail}
-use Rattle.pay_numbered.specs.Words.{IsIn}
+use Rattle.pay_rules.specs.InTurn.{IsIn}
 use Rattle.pay_shard.specs.Words.{IsNoneOf, without, command_under, IsReplyTo, AreKept}
 use Rattle.pay_shard.specs.declared.asked.Asked.{Asked}
 use Rattle.pay_shard.specs.declared.reply.Answer.{Answer}

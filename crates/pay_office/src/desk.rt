@@ -2,7 +2,7 @@
 ghost use Rattle.std.specs.Prelude.{◌≡◌, ◌≤◌, [], ◌∷◌, ◌++◌, length, Err, IfOk, IfErr, OnErr};
 ghost use Rattle.pay_shard.specs.declared.limits.TheConstants.{MOST_SHARDS};
 ghost use Rattle.pay_lanes.specs.Words.{IsSameLane};
-ghost use Rattle.pay_numbered.specs.Words.{IsIn};
+ghost use Rattle.pay_rules.specs.InTurn.{IsIn};
 ghost use Rattle.pay_shard.specs.Words.{IsForShards, IsAfterAll, IsNoneOf, IsReplyTo, AreKept, with_waiting, without};
 ghost use Rattle.pay_shard.specs.declared.desk.DeskFault.TheVariants.{Busy, Late};
 ghost use Rattle.pay_office.specs.Waits.{commands_sent, NoneIsHidden};

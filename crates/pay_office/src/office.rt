@@ -8,8 +8,8 @@ ghost use Rattle.pay_office.specs.declared.office.StartFault.TheVariants.{Count}
 ghost use Rattle.pay_office.specs.declared.office.ShutFault.TheVariants.{LaneMissing};
 
 use crate::work::{BeginFault, Stop, Working, begin};
-use pay_account::Fares;
 use pay_lanes::{Ended, Gate, Lane, OpenFault, Opened, Worker, end, open, put_in_order};
+use pay_rules::Fares;
 use pay_tables::Tables;
 use std::alloc::{AllocError, Global};
 use std::marker::Model;

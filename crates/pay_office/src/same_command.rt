@@ -1,7 +1,7 @@
 //! Whether two commands ask the same.
 ghost use Rattle.std.specs.Prelude.{◌≡◌, ◌↔◌, IsTrue};
 
-use pay_numbered::Numbered;
+use pay_rules::Numbered;
 use pay_shard::{Asked, Command};
 
 /// Whether two commands ask the same.

@@ -1,7 +1,7 @@
 //! The commands of a desk that wait for their replies.
 ghost use Rattle.std.specs.Prelude.{◌≡◌, ◌==◌, Some, IfSome, IfNone};
 ghost use Rattle.std.specs.List.{find, position};
-ghost use Rattle.pay_numbered.specs.Words.{IsIn};
+ghost use Rattle.pay_rules.specs.InTurn.{IsIn};
 ghost use Rattle.pay_lanes.specs.Words.{LaneParts, IsSameLane};
 ghost use Rattle.pay_office.specs.Waits.{tickets_of, AreWaiting, having_answer, waiting_without, HasTaken, IsToldOf, IsUntoldOf};
 

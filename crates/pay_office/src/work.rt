@@ -3,8 +3,8 @@ ghost use Rattle.std.specs.Prelude.{◌≡◌, IfOk};
 ghost use Rattle.pay_lanes.specs.Words.{IsSameWorker};
 
 use crate::limits::{LOOKS, WORKER_REST};
-use pay_account::Fares;
 use pay_lanes::{Gate, Turn, Worker, laws};
+use pay_rules::Fares;
 use std::alloc::{AllocError, Global};
 use std::snapshot::Snapshot;
 use std::sync::atomic::{AtomicBool, Ordering};

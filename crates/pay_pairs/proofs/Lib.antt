@@ -1,3 +1,2 @@
-mod Rows
 pub mod Parting
 pub mod Waiting

@@ -3,14 +3,14 @@ use Rattle.std.proofs.Common.{◌≡◌, Bool, true, false, List, [], ◌∷◌,
 use Rattle.std.proofs.lemmas.List.{append_assoc}
 use Rattle.std.proofs.lemmas.List.Elements.{All-nil, All-cons, All-head, All-tail}
 use Rattle.pay_tables.specs.Words.{FareTables}
-use Rattle.pay_taps.specs.declared.tap.Kind.{Kind}
-use Rattle.pay_taps.specs.declared.tap.Kind.TheVariants.{In, Out, Bus}
-use Rattle.pay_taps.specs.declared.tap.Touch.{Touch}
-use Rattle.pay_taps.specs.Words.{same_kind}
-use Rattle.pay_pairs.specs.declared.parts.Leg.{Leg}
-use Rattle.pay_pairs.specs.declared.parts.RailPart.{RailPart}
-use Rattle.pay_pairs.specs.declared.parts.RailPart.TheVariants as part
-use Rattle.pay_pairs.specs.Legs.{is_leg, leg, legs, taps_of_part, taps_of, IsPart, HasLeg, AreParts}
+use Rattle.pay_rules.specs.declared.tap.Kind.{Kind}
+use Rattle.pay_rules.specs.declared.tap.Kind.TheVariants.{In, Out, Bus}
+use Rattle.pay_rules.specs.declared.tap.Touch.{Touch}
+use Rattle.pay_rules.specs.Taps.{same_kind}
+use Rattle.pay_rules.specs.declared.parts.Leg.{Leg}
+use Rattle.pay_rules.specs.declared.parts.RailPart.{RailPart}
+use Rattle.pay_rules.specs.declared.parts.RailPart.TheVariants as part
+use Rattle.pay_rules.specs.Legs.{is_leg, leg, legs, taps_of_part, taps_of, IsPart, HasLeg, AreParts}
 
 -- ---- what is computed is a parting
 

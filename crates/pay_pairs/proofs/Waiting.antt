@@ -1,6 +1,6 @@
 -- A tap that still waits for its partner.
 use Rattle.std.proofs.Common.{List, ◌∷◌, Option, Some, None}
-use Rattle.pay_taps.specs.declared.tap.Touch.{Touch}
+use Rattle.pay_rules.specs.declared.tap.Touch.{Touch}
 
 -- the taps from one on, behind the tap before it where that still waits
 abbrev pub with_waiting : Option Touch → List Touch → List Touch

@@ -2,9 +2,9 @@
 
 ghost use Rattle.std.specs.Prelude.{◌≡◌, true, false, List};
 ghost use Rattle.pay_tables.specs.Words.{FareTables};
-ghost use Rattle.pay_taps.specs.declared.tap.Touch.{Touch};
-ghost use Rattle.pay_pairs.specs.declared.parts.RailPart.{RailPart};
-ghost use Rattle.pay_pairs.specs.Legs.{AreParts, is_leg, legs};
+ghost use Rattle.pay_rules.specs.declared.tap.Touch.{Touch};
+ghost use Rattle.pay_rules.specs.declared.parts.RailPart.{RailPart};
+ghost use Rattle.pay_rules.specs.Legs.{AreParts, is_leg, legs};
 
 /// Any taps in order are parted into legs and lone taps in one way, and it can be computed.
 pub fn one_parting()

@@ -4,6 +4,5 @@
 pub mod laws;
 mod parts;
 
-pub use parts::{Leg, RailPart, is_leg, legs};
-pub use pay_tables::Tables;
-pub use pay_taps::Touch;
+pub use parts::{is_leg, legs};
+pub use pay_rules::{Leg, RailPart};

@@ -1,27 +1,9 @@
 ghost use Rattle.std.specs.Prelude.{◌≡◌, IfOk};
-ghost use Rattle.pay_pairs.specs.Legs.{allowed_seconds_between, is_leg, legs, AreParts};
+ghost use Rattle.pay_rules.specs.Legs.{allowed_seconds_between, is_leg, legs, AreParts};
 
+use pay_rules::{Kind, Leg, RailPart, Touch};
 use pay_tables::{Tables, span};
-use pay_taps::{Kind, Touch};
 use std::alloc::{AllocError, Global};
-
-/// A way by rail, from a tap on the way in to the one on the way out.
-#[derive(Clone, Copy, Debug, PartialEq, Eq)]
-pub struct Leg {
-    /// The tap on the way in.
-    pub entry: Touch,
-    /// The tap on the way out.
-    pub exit: Touch,
-}
-
-/// What a rail tap belongs to.
-#[derive(Clone, Copy, Debug, PartialEq, Eq)]
-pub enum RailPart {
-    /// Two taps that are a leg.
-    Leg(Leg),
-    /// A tap without its partner.
-    Lone(Touch),
-}
 
 /// How many seconds may pass between two taps that are a leg.
 fn allowed_seconds_between(tables: &Tables, entry: &Touch, exit: &Touch) -> u32

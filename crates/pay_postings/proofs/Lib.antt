@@ -2,7 +2,6 @@ pub mod Settling
 pub mod Places
 pub mod RowPlaces
 pub mod Reading
-pub mod SetsBack
 pub mod SharesBack
 pub mod PostingsBack
 pub mod Maps

@@ -4,13 +4,13 @@ use Rattle.std.specs.Prelude.{ℤ, pos, negsuc, ◌+ℤ◌, ◌==◌, ◌&&◌, 
 use Rattle.std.specs.Ordering.{int_eq}
 use Rattle.std.specs.List.{list_all}
 use Rattle.pay_day.specs.declared.limits.TheConstants.{FIRST_DAY, LAST_DAY}
-use Rattle.pay_quotes.specs.declared.posting.Posting.{Posting}
-use Rattle.pay_quotes.specs.Words.{QuoteParts}
+use Rattle.pay_rules.specs.declared.posting.Posting.{Posting}
+use Rattle.pay_rules.specs.QuoteParts.{QuoteParts}
 use Rattle.pay_rows.specs.declared.row.PostingRow.{PostingRow}
 use Rattle.pay_rows.specs.declared.row.ShareRow.{ShareRow}
 use Rattle.pay_postings.specs.Amounts.{added}
 use Rattle.pay_postings.specs.Postings.{is_of, net, shares_posted}
-use Rattle.pay_postings.specs.Ranged.{◌>>=◌, ranged}
+use Rattle.pay_set_rows.specs.Ranged.{◌>>=◌, ranged}
 use Rattle.pay_postings.specs.PostingRows.{is_money, is_share_row, is_natural, amounts_of, quote_behind, is_amount_behind, posting_behind, week_from_row, posting_from_row, with_rows, postings_from_rows}
 use Rattle.pay_postings.specs.NetRows.{with_amount_of, with_amounts_of, net_from_rows}
 use Rattle.pay_postings.proofs.Reading.{if_some, quotes_amounts, net_more, others_net}

@@ -1,16 +1,16 @@
 -- Neither a quote nor a set is refused by saying that the archive is bad.
 use Rattle.std.proofs.Common.{◌≡◌, Bool, true, false, cond, List, [], ◌∷◌, find, Option, Some, None, Result, Ok, Err, IsErrAnd, sym, ap, ◌∙◌}
-use Rattle.pay_taps.specs.declared.tap.Tap.{Tap}
-use Rattle.pay_fix.specs.declared.fix.Fix.{Fix}
+use Rattle.pay_rules.specs.declared.tap.Tap.{Tap}
+use Rattle.pay_rules.specs.declared.fix.Fix.{Fix}
 use Rattle.pay_rows.specs.declared.row.TapRow.{TapRow}
 use Rattle.pay_rows.specs.declared.row.FixRow.{FixRow}
-use Rattle.pay_quotes.specs.declared.posting.Posting.{Posting}
-use Rattle.pay_quotes.specs.Words.{QuoteParts}
-use Rattle.pay_postings.specs.declared.fault.PostFault.{PostFault}
-use Rattle.pay_postings.specs.declared.fault.PostFault.TheVariants.{BadArchive, StaleQuote, QuoteDiffers}
+use Rattle.pay_rules.specs.declared.posting.Posting.{Posting}
+use Rattle.pay_rules.specs.QuoteParts.{QuoteParts}
+use Rattle.pay_rules.specs.declared.post_fault.PostFault.{PostFault}
+use Rattle.pay_rules.specs.declared.post_fault.PostFault.TheVariants.{BadArchive, StaleQuote, QuoteDiffers}
 use Rattle.pay_postings.specs.Faults.{◌>>=◌}
 use Rattle.pay_postings.specs.Postings.{is_stale, is_again, is_as_due, last_of, post, posted_anew, posted_after}
-use Rattle.pay_postings.specs.SetRows.{tap_row, fix_row}
+use Rattle.pay_set_rows.specs.SetRows.{tap_row, fix_row}
 use Rattle.pay_postings.specs.NewRows.{is_tap_at, is_tap_row, is_fix_at, is_fix_row, unless_other, is_new_beside, is_new_tap, is_new_fix, with_new, new_behind, new_taps, new_fixes}
 
 pub post_never_bad : (list : List Posting) (quote : QuoteParts) → post list quote ≡ Err BadArchive → ⊥

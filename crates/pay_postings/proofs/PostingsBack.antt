@@ -9,20 +9,19 @@ use Rattle.std.proofs.lemmas.List.Folds.{list_all-append}
 use Rattle.pay_day.specs.Words.{IsDay, monday}
 use Rattle.pay_day.specs.declared.limits.TheConstants.{FIRST_DAY, LAST_DAY}
 use Rattle.pay_money.specs.declared.limits.TheConstants.{MOST_MONEY}
-use Rattle.pay_taps.specs.declared.limits.TheConstants.{MOST_TAPS}
-use Rattle.pay_fix.specs.declared.limits.TheConstants.{MOST_FIXES}
-use Rattle.pay_quotes.specs.declared.posting.Posting.{Posting}
-use Rattle.pay_quotes.specs.Words.{QuoteParts, IsQuote}
+use Rattle.pay_rules.specs.declared.limits.TheConstants.{MOST_TAPS, MOST_FIXES}
+use Rattle.pay_rules.specs.declared.posting.Posting.{Posting}
+use Rattle.pay_rules.specs.QuoteParts.{QuoteParts, IsQuote}
 use Rattle.pay_postings.specs.Amounts.{added, no_amounts}
 use Rattle.pay_postings.specs.Postings.{is_of, with_amount, net, with_shares, shares_posted}
 use Rattle.pay_postings.specs.Kept.{EachStands, IsKept, AreKept}
 use Rattle.pay_rows.specs.declared.row.PostingRow.{PostingRow}
 use Rattle.pay_rows.specs.declared.row.ShareRow.{ShareRow}
-use Rattle.pay_postings.specs.Ranged.{◌>>=◌}
+use Rattle.pay_set_rows.specs.Ranged.{◌>>=◌}
 use Rattle.pay_postings.specs.PostingRows.{is_money, is_share_row, is_natural, amounts_of, naturals, quote_from_row, quote_behind, is_amount_behind, posting_behind, week_from_row, posting_from_row, with_rows, postings_from_rows, posting_row, share_row, share_rows_from, share_rows}
 use Rattle.pay_postings.specs.AccountRows.{is_of_account, of_account, rows_of, shares_of, RiseBehind}
 use Rattle.pay_postings.proofs.Reading.{of_its_own, net_more, shares_more, others_net, others_shares, quote_of}
-use Rattle.pay_postings.proofs.SetsBack.{number_back}
+use Rattle.pay_set_rows.proofs.SetsBack.{number_back}
 use Rattle.pay_postings.proofs.SharesBack.{HasAmounts, all_moved, amounts_back, numbered_rise, all_kept, rise_kept}
 
 -- ---- one posting

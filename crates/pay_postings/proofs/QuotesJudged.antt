@@ -6,10 +6,10 @@ use Rattle.std.specs.Cmp.Lexicographic.{same_text}
 use Rattle.std.proofs.lemmas.Bool.{and_parts, ne_eqb}
 use Rattle.std.proofs.lemmas.Bool.Decides.{nat_tests}
 use Rattle.std.proofs.lemmas.List.{take_more, take-append-drop}
-use Rattle.pay_quotes.specs.declared.posting.Posting.{Posting}
-use Rattle.pay_quotes.specs.Words.{QuoteParts}
-use Rattle.pay_postings.specs.declared.fault.PostFault.{PostFault}
-use Rattle.pay_postings.specs.declared.fault.PostFault.TheVariants as fault
+use Rattle.pay_rules.specs.declared.posting.Posting.{Posting}
+use Rattle.pay_rules.specs.QuoteParts.{QuoteParts}
+use Rattle.pay_rules.specs.declared.post_fault.PostFault.{PostFault}
+use Rattle.pay_rules.specs.declared.post_fault.PostFault.TheVariants as fault
 use Rattle.pay_postings.specs.Faults.{◌>>=◌}
 use Rattle.pay_postings.specs.Answers.{IsJudged}
 use Rattle.pay_postings.specs.Postings.{is_quote_of, is_of, later_of, last_of, posting_of, is_stale, is_again, is_as_due, posted_anew, posted_after, post, post_each, later_quote_of, last_quote_of}

@@ -7,16 +7,15 @@ use Rattle.std.proofs.lemmas.List.Sums.{fold-append}
 use Rattle.pay_day.specs.Words.{monday}
 use Rattle.pay_day.specs.declared.limits.TheConstants.{FIRST_DAY, LAST_DAY}
 use Rattle.pay_money.specs.declared.limits.TheConstants.{MOST_MONEY}
-use Rattle.pay_taps.specs.declared.limits.TheConstants.{MOST_TAPS}
-use Rattle.pay_fix.specs.declared.limits.TheConstants.{MOST_FIXES}
-use Rattle.pay_quotes.specs.declared.posting.Posting.{Posting}
-use Rattle.pay_quotes.specs.Words.{QuoteParts, IsQuote}
+use Rattle.pay_rules.specs.declared.limits.TheConstants.{MOST_TAPS, MOST_FIXES}
+use Rattle.pay_rules.specs.declared.posting.Posting.{Posting}
+use Rattle.pay_rules.specs.QuoteParts.{QuoteParts, IsQuote}
 use Rattle.pay_postings.specs.Amounts.{added, no_amounts, IsMoney}
 use Rattle.pay_postings.specs.Postings.{is_quote_of, is_of, with_amount, net, with_shares, shares_posted}
 use Rattle.pay_postings.specs.Kept.{EachStands, IsRead, AreRead}
 use Rattle.pay_rows.specs.declared.row.PostingRow.{PostingRow}
 use Rattle.pay_rows.specs.declared.row.ShareRow.{ShareRow}
-use Rattle.pay_postings.specs.Ranged.{◌>>=◌, ranged}
+use Rattle.pay_set_rows.specs.Ranged.{◌>>=◌, ranged}
 use Rattle.pay_postings.specs.PostingRows.{is_natural, quote_from_row, quote_behind, is_amount_behind, posting_behind, week_from_row, amounts_of, posting_from_row}
 
 -- ---- what stands behind postings

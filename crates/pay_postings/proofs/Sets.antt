@@ -10,20 +10,20 @@ use Rattle.std.specs.declared.cmp.Ordering.TheVariants.{Equal}
 use Rattle.std.proofs.lemmas.Bool.{and_parts, and_from}
 use Rattle.std.proofs.lemmas.Bool.Decides.{Decides-int_eq}
 use Rattle.std.proofs.lemmas.Cmp.{int_eq_equiv}
-use Rattle.pay_numbered.specs.Words.{number_cmp}
-use Rattle.pay_taps.specs.declared.tap.Tap.{Tap}
-use Rattle.pay_taps.specs.SameTap.{tap_from_same, tap_itself}
-use Rattle.pay_taps.specs.Words.{same_tap, number as tap_number}
-use Rattle.pay_fix.specs.declared.fix.Fix.{Fix}
-use Rattle.pay_fix.specs.declared.fix.What.{What}
-use Rattle.pay_fix.specs.declared.fix.What.TheVariants.{Void, Fill, Credit, Drop}
-use Rattle.pay_fix.specs.SameFix.{same_is_one, one_is_same}
-use Rattle.pay_fix.specs.Words.{same_fix, number as fix_number}
-use Rattle.pay_quotes.specs.SetsParts.{AreNumbered}
+use Rattle.pay_rules.specs.Numbers.{number_cmp}
+use Rattle.pay_rules.specs.declared.tap.Tap.{Tap}
+use Rattle.pay_rules.specs.SameTap.{tap_from_same, tap_itself}
+use Rattle.pay_rules.specs.Taps.{same_tap, number as tap_number}
+use Rattle.pay_rules.specs.declared.fix.Fix.{Fix}
+use Rattle.pay_rules.specs.declared.fix.What.{What}
+use Rattle.pay_rules.specs.declared.fix.What.TheVariants.{Void, Fill, Credit, Drop}
+use Rattle.pay_rules.specs.SameFix.{same_is_one, one_is_same}
+use Rattle.pay_rules.specs.Fixes.{same_fix, number as fix_number}
+use Rattle.pay_rules.specs.SetsParts.{AreNumbered}
 use Rattle.pay_postings.specs.Archive.{is_numbered_as, is_fix_numbered_as}
 use Rattle.pay_rows.specs.declared.row.TapRow.{TapRow}
 use Rattle.pay_rows.specs.declared.row.FixRow.{FixRow}
-use Rattle.pay_postings.specs.SetRows.{tap_row, what_row, fix_row}
+use Rattle.pay_set_rows.specs.SetRows.{tap_row, what_row, fix_row}
 use Rattle.pay_postings.proofs.Archiving.{AreApart}
 use Rattle.pay_postings.specs.NewRows.{is_tap_at, is_tap_row, is_fix_at, is_fix_row}
 

@@ -9,7 +9,7 @@ use Rattle.std.proofs.lemmas.Int.{ints}
 use Rattle.std.proofs.lemmas.List.Folds.{sum_by-zero, list_all-append}
 use Rattle.std.proofs.lemmas.List.Sorted.{sum_by-IsPermutation}
 use Rattle.pay_money.specs.declared.limits.TheConstants.{OPERATORS}
-use Rattle.pay_quotes.specs.declared.posting.Posting.{Posting}
+use Rattle.pay_rules.specs.declared.posting.Posting.{Posting}
 use Rattle.pay_rows.specs.declared.row.ShareRow.{ShareRow}
 use Rattle.pay_postings.specs.PostingRows.{is_share_of, amount_or_none, amount_of, amounts_of, share_row, share_rows_from, share_rows}
 use Rattle.pay_postings.specs.AccountRows.{RiseBehind}

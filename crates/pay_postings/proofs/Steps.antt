@@ -6,22 +6,21 @@ use Rattle.std.specs.List.{AllByRecursion}
 use Rattle.std.proofs.lemmas.Bool.{ne_eqb}
 use Rattle.std.proofs.lemmas.List.{append-nil, map-append}
 use Rattle.std.proofs.lemmas.List.Elements.{filter-append}
-use Rattle.pay_taps.specs.declared.tap.Tap.{Tap}
-use Rattle.pay_taps.specs.declared.limits.TheConstants.{MOST_TAPS}
-use Rattle.pay_taps.specs.Words.{same_tap, number as tap_number}
-use Rattle.pay_fix.specs.declared.fix.Fix.{Fix}
-use Rattle.pay_fix.specs.declared.limits.TheConstants.{MOST_FIXES}
-use Rattle.pay_fix.specs.Words.{same_fix, number as fix_number}
-use Rattle.pay_quotes.specs.declared.posting.Posting.{Posting}
-use Rattle.pay_quotes.specs.SetsParts.{AreNumbered, AreTapsOf, AreFixesOf}
-use Rattle.pay_quotes.specs.Words.{QuoteParts, SetsParts}
-use Rattle.pay_postings.specs.declared.fault.PostFault.{PostFault}
+use Rattle.pay_rules.specs.declared.tap.Tap.{Tap}
+use Rattle.pay_rules.specs.declared.limits.TheConstants.{MOST_TAPS, MOST_FIXES}
+use Rattle.pay_rules.specs.Taps.{same_tap, number as tap_number}
+use Rattle.pay_rules.specs.declared.fix.Fix.{Fix}
+use Rattle.pay_rules.specs.Fixes.{same_fix, number as fix_number}
+use Rattle.pay_rules.specs.declared.posting.Posting.{Posting}
+use Rattle.pay_rules.specs.SetsParts.{AreNumbered, AreTapsOf, AreFixesOf, SetsParts}
+use Rattle.pay_rules.specs.QuoteParts.{QuoteParts}
+use Rattle.pay_rules.specs.declared.post_fault.PostFault.{PostFault}
 use Rattle.pay_postings.specs.Faults.{◌>>=◌}
 use Rattle.pay_postings.specs.Postings.{post, post_each}
 use Rattle.pay_postings.specs.Archive.{is_numbered_as, is_fix_numbered_as, archived_tap, archived_fix, archived_each, archived_sets}
 use Rattle.pay_postings.specs.Ledger.{LedgerParts}
 use Rattle.pay_postings.specs.AccountRows.{is_of_account, of_account}
-use Rattle.pay_postings.specs.SetRows.{tap_row, fix_row}
+use Rattle.pay_set_rows.specs.SetRows.{tap_row, fix_row}
 use Rattle.pay_postings.specs.NewRows.{is_tap_at, is_tap_row, is_fix_at, is_fix_row, with_new, is_new_tap, is_new_fix, new_taps, new_fixes}
 use Rattle.pay_postings.specs.Archived.{ArchivedParts, AccountsParts}
 use Rattle.pay_postings.specs.Batches.{taps_of, fixes_of, archived_of, Agrees, BatchLists, with_batch, posted_behind, IsKept}

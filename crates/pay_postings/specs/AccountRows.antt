@@ -1,7 +1,7 @@
 -- The rows of an account among those of all: its postings beside their numbers, and their shares.
 use Rattle.std.specs.Prelude.{◌≡◌, ⊤, ℕ, ◌==◌, Bool, ℤ, ◌<ℤ◌, List, [], ◌∷◌, map, filter, flat_map, replicate, pos, refl}
 use Rattle.std.specs.List.{zip}
-use Rattle.pay_quotes.specs.declared.posting.Posting.{Posting}
+use Rattle.pay_rules.specs.declared.posting.Posting.{Posting}
 use Rattle.pay_rows.specs.declared.row.PostingRow.{PostingRow}
 use Rattle.pay_rows.specs.declared.row.ShareRow.{ShareRow}
 use Rattle.pay_postings.specs.PostingRows.{posting_row, share_rows}

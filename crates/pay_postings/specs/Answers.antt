@@ -1,9 +1,9 @@
 -- What it is to answer by a definition, or to want memory.
 use Rattle.std.specs.Prelude.{◌≡◌, ◌≢◌, Bool, List, Option, Some, None, Result, Ok, Err, IsOk, MatchResult}
-use Rattle.pay_quotes.specs.declared.posting.Posting.{Posting}
-use Rattle.pay_quotes.specs.Words.{QuoteParts}
-use Rattle.pay_postings.specs.declared.fault.PostFault.{PostFault}
-use Rattle.pay_postings.specs.declared.fault.PostFault.TheVariants.{BadArchive, Memory}
+use Rattle.pay_rules.specs.declared.posting.Posting.{Posting}
+use Rattle.pay_rules.specs.QuoteParts.{QuoteParts}
+use Rattle.pay_rules.specs.declared.post_fault.PostFault.{PostFault}
+use Rattle.pay_rules.specs.declared.post_fault.PostFault.TheVariants.{Memory}
 use Rattle.pay_postings.specs.Postings.{post, posted_anew}
 use Rattle.pay_postings.specs.NewRows.{with_new}
 
@@ -24,11 +24,3 @@ IsJudged (Err fault) list quote = post list quote ≡ Err fault
 abbrev pub IsPostedNewOrKept : Result (Posting × Bool) PostFault → List Posting → List Posting → QuoteParts → Type 0
 IsPostedNewOrKept result old new quote =
     MatchResult result (λ answer. (post old quote ≡ Ok (answer.0, new)) × (new ≡ with_new answer.1 answer.0 old)) (λ fault. fault ≢ Memory → post old quote ≡ Err fault)
-
--- an archive of which a definition gives nothing is refused as a bad one, and any other for want of memory alone
-abbrev pub IsRefusedAsBad : {X : Type 0} → Option X → PostFault → Type 0
-IsRefusedAsBad given fault = fault ≢ Memory → (fault ≡ BadArchive) × (given ≡ None)
-
--- what is read of an archive is what a definition gives, or it is refused so
-abbrev pub IsReadAs : {X : Type 0} → Result X PostFault → Option X → Type 0
-IsReadAs result given = MatchResult result (λ x. given ≡ Some x) (IsRefusedAsBad given)

@@ -1,12 +1,12 @@
 -- Worked rows: an account is charged for a lone tap, and given back what its late exit makes cheaper.
 use Rattle.std.specs.Prelude.{◌≡◌, ℕ, ℤ, pos, negsuc, [], ◌∷◌, replicate, Ok, Err, refl}
-use Rattle.pay_taps.specs.declared.tap.Kind.TheVariants.{Bus}
-use Rattle.pay_taps.specs.declared.tap.Tap.{Tap}
-use Rattle.pay_quotes.specs.declared.posting.Posting.{Posting}
-use Rattle.pay_quotes.specs.Words.{QuoteParts}
-use Rattle.pay_postings.specs.declared.fault.PostFault.TheVariants.{ArchiveConflict}
+use Rattle.pay_rules.specs.declared.tap.Kind.TheVariants.{Bus}
+use Rattle.pay_rules.specs.declared.tap.Tap.{Tap}
+use Rattle.pay_rules.specs.declared.posting.Posting.{Posting}
+use Rattle.pay_rules.specs.QuoteParts.{QuoteParts}
+use Rattle.pay_rules.specs.declared.post_fault.PostFault.TheVariants.{ArchiveConflict}
 use Rattle.pay_postings.specs.Ledger.{LedgerParts, posted}
-use Rattle.pay_postings.specs.SetRows.{tap_row}
+use Rattle.pay_set_rows.specs.SetRows.{tap_row}
 use Rattle.pay_postings.specs.Batches.{archived_of, with_batch}
 
 -- a quote of an account, of which all falls to operator 1

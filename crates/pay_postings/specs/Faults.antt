@@ -1,6 +1,6 @@
 -- What follows a step that was not refused.
 use Rattle.std.specs.Prelude.{Result, Ok, Err}
-use Rattle.pay_postings.specs.declared.fault.PostFault.{PostFault}
+use Rattle.pay_rules.specs.declared.post_fault.PostFault.{PostFault}
 
 infixl 10 ◌>>=◌
 -- what follows a step, unless that step was refused

@@ -2,19 +2,19 @@
 use Rattle.std.specs.Prelude.{◌≡◌, ◌≢◌, ℕ, ◌+◌, ◌≤◌, not, ◌||◌, Bool, true, false, if◌then◌else◌, List, [], take, find, flat_map, Option, Some, None, Result, Ok, Err, IsOk, MatchResult}
 use Rattle.std.specs.List.{AllByRecursion, list_any}
 use Rattle.std.specs.Option.{option_map, option_or}
-use Rattle.pay_taps.specs.declared.tap.Tap.{Tap}
-use Rattle.pay_fix.specs.declared.fix.Fix.{Fix}
-use Rattle.pay_quotes.specs.declared.posting.Posting.{Posting}
-use Rattle.pay_quotes.specs.SetsParts.{AreTapsOf, AreFixesOf}
-use Rattle.pay_quotes.specs.Words.{QuoteParts, SetsParts}
+use Rattle.pay_rules.specs.declared.tap.Tap.{Tap}
+use Rattle.pay_rules.specs.declared.fix.Fix.{Fix}
+use Rattle.pay_rules.specs.declared.posting.Posting.{Posting}
+use Rattle.pay_rules.specs.SetsParts.{AreTapsOf, AreFixesOf, SetsParts}
+use Rattle.pay_rules.specs.QuoteParts.{QuoteParts}
 use Rattle.pay_rows.specs.declared.row.TapRow.{TapRow}
 use Rattle.pay_rows.specs.declared.row.FixRow.{FixRow}
-use Rattle.pay_postings.specs.declared.fault.PostFault.{PostFault}
-use Rattle.pay_postings.specs.declared.fault.PostFault.TheVariants.{BadArchive, StaleQuote, QuoteDiffers, ArchiveConflict, Memory}
+use Rattle.pay_rules.specs.declared.post_fault.PostFault.{PostFault}
+use Rattle.pay_rules.specs.declared.post_fault.PostFault.TheVariants.{BadArchive, StaleQuote, QuoteDiffers, ArchiveConflict, Memory}
 use Rattle.pay_postings.specs.Postings.{last_of, is_stale, is_again, is_as_due, post_each, last_quote_of}
 use Rattle.pay_postings.specs.Archive.{is_numbered_as, is_fix_numbered_as, archived_sets}
 use Rattle.pay_postings.specs.Ledger.{LedgerParts}
-use Rattle.pay_postings.specs.SetRows.{tap_row, fix_row}
+use Rattle.pay_set_rows.specs.SetRows.{tap_row, fix_row}
 use Rattle.pay_postings.specs.NewRows.{is_tap_at, is_tap_row, is_fix_at, is_fix_row}
 use Rattle.pay_postings.specs.Archived.{ArchivedParts, AccountsParts}
 use Rattle.pay_postings.specs.Batches.{Agrees, Covers}

@@ -1,8 +1,8 @@
 -- What postings are that were posted one after another.
 use Rattle.std.specs.Prelude.{◌≡◌, ⊤, ℤ, pos, List, [], ◌∷◌, ◌++◌, length, map}
 use Rattle.pay_money.specs.declared.limits.TheConstants.{OPERATORS}
-use Rattle.pay_quotes.specs.declared.posting.Posting.{Posting}
-use Rattle.pay_quotes.specs.Words.{IsQuote}
+use Rattle.pay_rules.specs.declared.posting.Posting.{Posting}
+use Rattle.pay_rules.specs.QuoteParts.{IsQuote}
 use Rattle.pay_postings.specs.Amounts.{IsMoney}
 use Rattle.pay_postings.specs.Postings.{net, shares_posted}
 

@@ -1,8 +1,9 @@
 -- What postings come to, and that rows tell them.
 use Rattle.std.specs.Prelude.{◌≡◌, ℕ, ℤ, pos, List, map, length, Some, Ok, IsPermutation}
 use Rattle.std.specs.List.{AllByRecursion}
-use Rattle.pay_quotes.specs.declared.posting.Posting.{Posting}
-use Rattle.pay_quotes.specs.Words.{QuoteParts, IsQuote, SetsParts}
+use Rattle.pay_rules.specs.declared.posting.Posting.{Posting}
+use Rattle.pay_rules.specs.QuoteParts.{QuoteParts, IsQuote}
+use Rattle.pay_rules.specs.SetsParts.{SetsParts}
 use Rattle.pay_rows.specs.declared.row.ShareRow.{ShareRow}
 use Rattle.pay_postings.specs.Amounts.{total}
 use Rattle.pay_postings.specs.Postings.{net, shares_posted, last_quote_of}

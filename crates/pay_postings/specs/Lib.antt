@@ -5,12 +5,9 @@ pub mod Kept
 pub mod Answers
 pub mod Archive
 pub mod Ledger
-pub mod Ranged
 pub mod PostingRows
 pub mod NetRows
 pub mod AccountRows
-pub mod SetRows
-pub mod InRange
 pub mod NewRows
 pub mod Archived
 pub mod Batches

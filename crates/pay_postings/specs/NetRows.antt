@@ -1,11 +1,11 @@
 -- What was charged for a week less what was given back, by the rows of an account's postings alone.
 use Rattle.std.specs.Prelude.{◌≡◌, ℕ, ◌&&◌, if◌then◌else◌, ℤ, pos, ◌+ℤ◌, List, [], ◌∷◌, Option, Some, None, refl}
 use Rattle.std.specs.Ordering.{int_eq}
-use Rattle.pay_quotes.specs.declared.posting.Posting.{Posting}
+use Rattle.pay_rules.specs.declared.posting.Posting.{Posting}
 use Rattle.pay_rows.specs.declared.row.PostingRow.{PostingRow}
 use Rattle.pay_rows.specs.declared.row.ShareRow.{ShareRow}
 use Rattle.pay_postings.specs.Postings.{net}
-use Rattle.pay_postings.specs.Ranged.{◌>>=◌}
+use Rattle.pay_set_rows.specs.Ranged.{◌>>=◌}
 use Rattle.pay_postings.specs.PostingRows.{is_money, postings_from_rows, charge_row, refund_row}
 
 -- with the amount of a further row of the week: none where that is no sum of money, by itself or with those before it

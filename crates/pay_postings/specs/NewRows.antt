@@ -1,15 +1,15 @@
 -- Which taps and corrections are to be written beside the rows that are archived.
 use Rattle.std.specs.Prelude.{◌≡◌, ℕ, ◌&&◌, Bool, true, false, if◌then◌else◌, List, [], ◌∷◌, ◌++◌, find, Option, Some, None, Result, Ok, Err, refl}
 use Rattle.std.specs.Ordering.{int_eq}
-use Rattle.pay_taps.specs.declared.tap.Kind.TheVariants.{Bus}
-use Rattle.pay_taps.specs.declared.tap.Tap.{Tap}
-use Rattle.pay_fix.specs.declared.fix.Fix.{Fix}
-use Rattle.pay_postings.specs.declared.fault.PostFault.{PostFault}
-use Rattle.pay_postings.specs.declared.fault.PostFault.TheVariants.{ArchiveConflict}
+use Rattle.pay_rules.specs.declared.tap.Kind.TheVariants.{Bus}
+use Rattle.pay_rules.specs.declared.tap.Tap.{Tap}
+use Rattle.pay_rules.specs.declared.fix.Fix.{Fix}
+use Rattle.pay_rules.specs.declared.post_fault.PostFault.{PostFault}
+use Rattle.pay_rules.specs.declared.post_fault.PostFault.TheVariants.{ArchiveConflict}
 use Rattle.pay_postings.specs.Faults.{◌>>=◌}
 use Rattle.pay_rows.specs.declared.row.TapRow.{TapRow}
 use Rattle.pay_rows.specs.declared.row.FixRow.{FixRow}
-use Rattle.pay_postings.specs.SetRows.{tap_row, fix_row}
+use Rattle.pay_set_rows.specs.SetRows.{tap_row, fix_row}
 
 -- whether two rows of taps have one number, one instant, one place and kind, and all of these
 abbrev pub is_tap_at : TapRow → TapRow → Bool

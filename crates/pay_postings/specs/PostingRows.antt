@@ -5,15 +5,14 @@ use Rattle.std.specs.Ordering.{int_eq}
 use Rattle.pay_day.specs.Words.{monday}
 use Rattle.pay_day.specs.declared.limits.TheConstants.{FIRST_DAY, LAST_DAY}
 use Rattle.pay_money.specs.declared.limits.TheConstants.{OPERATORS, MOST_MONEY}
-use Rattle.pay_taps.specs.declared.limits.TheConstants.{MOST_TAPS}
-use Rattle.pay_fix.specs.declared.limits.TheConstants.{MOST_FIXES}
-use Rattle.pay_quotes.specs.declared.posting.Posting.{Posting}
-use Rattle.pay_quotes.specs.Words.{QuoteParts}
+use Rattle.pay_rules.specs.declared.limits.TheConstants.{MOST_TAPS, MOST_FIXES}
+use Rattle.pay_rules.specs.declared.posting.Posting.{Posting}
+use Rattle.pay_rules.specs.QuoteParts.{QuoteParts}
 use Rattle.pay_rows.specs.declared.row.PostingRow.{PostingRow}
 use Rattle.pay_rows.specs.declared.row.ShareRow.{ShareRow}
 use Rattle.pay_postings.specs.Amounts.{added}
 use Rattle.pay_postings.specs.Postings.{net, shares_posted}
-use Rattle.pay_postings.specs.Ranged.{◌>>=◌, ranged}
+use Rattle.pay_set_rows.specs.Ranged.{◌>>=◌, ranged}
 
 -- whether an amount is within the largest sum of money either way
 abbrev pub is_money : ℤ → Bool

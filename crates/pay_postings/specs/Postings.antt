@@ -1,10 +1,10 @@
 -- What posting a quote does to the list of all postings.
 use Rattle.std.specs.Prelude.{ℕ, ◌==◌, ◌&&◌, ◌||◌, nat_lt, Bool, if◌then◌else◌, ℤ, pos, ◌+ℤ◌, ◌-ℤ◌, List, [], ◌∷◌, ◌++◌, fold, filter, Option, Some, None, Result, Ok, Err, nat_eq}
 use lib.Pointwise.{pointwise}
-use Rattle.pay_quotes.specs.declared.posting.Posting.{Posting}
-use Rattle.pay_quotes.specs.Words.{QuoteParts}
-use Rattle.pay_postings.specs.declared.fault.PostFault.{PostFault}
-use Rattle.pay_postings.specs.declared.fault.PostFault.TheVariants.{StaleQuote, QuoteDiffers}
+use Rattle.pay_rules.specs.declared.posting.Posting.{Posting}
+use Rattle.pay_rules.specs.QuoteParts.{QuoteParts}
+use Rattle.pay_rules.specs.declared.post_fault.PostFault.{PostFault}
+use Rattle.pay_rules.specs.declared.post_fault.PostFault.TheVariants.{StaleQuote, QuoteDiffers}
 use Rattle.pay_postings.specs.Faults.{◌>>=◌}
 use Rattle.pay_postings.specs.Amounts.{added, less, no_amounts}
 

@@ -8,10 +8,7 @@ pub use Rattle.pay_postings.specs.Ledger.{LedgerParts, posted}
 pub use Rattle.pay_postings.specs.PostingRows.{posting_row, share_rows, postings_from_rows}
 pub use Rattle.pay_postings.specs.NetRows.{net_from_rows, NetIsOfPostings}
 pub use Rattle.pay_postings.specs.AccountRows.{of_account, rows_of, shares_of, RiseBehind}
-pub use Rattle.pay_postings.specs.SetRows.{tap_row, fix_row, tap_from_row, fix_from_row}
-pub use Rattle.pay_postings.specs.InRange.{IsTapInRange, IsFixInRange}
 pub use Rattle.pay_postings.specs.NewRows.{new_taps, new_fixes}
 pub use Rattle.pay_postings.specs.Archived.{ArchivedParts, parts, AccountsParts}
 pub use Rattle.pay_postings.specs.Batches.{taps_of, fixes_of, archived_of, Agrees, IsThere, Covers, BatchLists, lists, with_batch, IsRefusedAs, IsBatchFor}
-pub use Rattle.pay_postings.specs.Answers.{IsRefusedAsBad, IsReadAs}
 pub use Rattle.pay_postings.specs.Laws.{OncePosted, PostedStayKept, ByLastQuote, NetIsDue, SharesAreDue, SharesComeToDue, PostingsAreReadBack}

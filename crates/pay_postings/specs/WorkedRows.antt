@@ -1,10 +1,10 @@
 -- Worked rows: an account is charged for a lone tap on Monday, and given back what its late exit makes cheaper.
 use Rattle.std.specs.Prelude.{◌≡◌, ℕ, ℤ, pos, negsuc, [], ◌∷◌, replicate, Some, Ok, Err, refl}
-use Rattle.pay_taps.specs.declared.tap.Kind.TheVariants.{Bus}
-use Rattle.pay_taps.specs.declared.tap.Tap.{Tap}
-use Rattle.pay_quotes.specs.declared.posting.Posting.{Posting}
-use Rattle.pay_quotes.specs.Words.{QuoteParts}
-use Rattle.pay_postings.specs.declared.fault.PostFault.TheVariants.{StaleQuote, QuoteDiffers, ArchiveConflict}
+use Rattle.pay_rules.specs.declared.tap.Kind.TheVariants.{Bus}
+use Rattle.pay_rules.specs.declared.tap.Tap.{Tap}
+use Rattle.pay_rules.specs.declared.posting.Posting.{Posting}
+use Rattle.pay_rules.specs.QuoteParts.{QuoteParts}
+use Rattle.pay_rules.specs.declared.post_fault.PostFault.TheVariants.{StaleQuote, QuoteDiffers, ArchiveConflict}
 use Rattle.pay_postings.specs.Postings.{net, shares_posted, last_of, post, post_each, last_quote_of}
 use Rattle.pay_postings.specs.Archive.{archived_tap, archived_each}
 

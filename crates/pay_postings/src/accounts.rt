@@ -1,7 +1,7 @@
 ghost use Rattle.std.specs.Prelude.{◌≡◌, ◌<◌, [], ◌∷◌, length, Some, None, Err, IfSome, IfNone, OnOk, OnErr};
 ghost use Rattle.std.specs.FinMap as map;
 ghost use Rattle.std.specs.Option.{option_map};
-ghost use Rattle.pay_postings.specs.declared.fault.PostFault.TheVariants.{BadArchive};
+ghost use Rattle.pay_rules.specs.declared.post_fault.PostFault.TheVariants.{BadArchive};
 ghost use Rattle.pay_postings.specs.Postings.{post_each};
 ghost use Rattle.pay_postings.specs.Archive.{archived_sets};
 ghost use Rattle.pay_postings.specs.Ledger.{LedgerParts, posted};
@@ -11,10 +11,9 @@ ghost use Rattle.pay_postings.specs.Judged.{IsVerdict, IsQuoteJudged, IsSetJudge
 
 use crate::archived::{Archived, post};
 use crate::batch::Batch;
-use crate::fault::PostFault;
 use crate::judging::{are_own, judge_quote, judge_set, looked_at};
 use crate::new_rows::{new_fixes, new_taps};
-use pay_quotes::{Quote, Sets};
+use pay_rules::{PostFault, Quote, Sets};
 use std::alloc::{AllocError, Global};
 use std::collections::BTreeMap;
 use std::marker::Model;
@@ -117,7 +116,7 @@ impl Accounts {
             return Err(PostFault::BadArchive);
         };
         are_own(set);
-        crate::laws::same_row();
+        pay_set_rows::laws::same_row();
         let before = &sets[..looked_at(highest, set.account(), place)];
         judge_set(archived, before, set)
     }
@@ -182,7 +181,7 @@ impl Accounts {
         let Some(mut archived) = self.take(set.account()) else {
             return Err(PostFault::BadArchive);
         };
-        crate::laws::same_row();
+        pay_set_rows::laws::same_row();
         let taps = new_taps(alloc, &archived.taps, set.taps())?;
         let fixes = new_fixes(alloc, &archived.fixes, set.fixes())?;
         archived.add_rows(&taps, &fixes)?;

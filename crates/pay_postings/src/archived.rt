@@ -1,15 +1,12 @@
 ghost use Rattle.std.specs.Prelude.{◌≡◌, ◌++◌, map, OnOk};
 ghost use Rattle.pay_postings.specs.Answers.{IsPostedNewOrKept};
-ghost use Rattle.pay_postings.specs.SetRows.{tap_row, fix_row};
+ghost use Rattle.pay_set_rows.specs.SetRows.{tap_row, fix_row};
 ghost use Rattle.pay_postings.specs.Archived.{parts};
 
-use crate::fault::PostFault;
 use crate::posted::Posted;
-use crate::set_rows::{fix_row, tap_row};
-use pay_fix::Fix;
-use pay_quotes::{Posting, Quote};
 use pay_rows::{FixRow, TapRow};
-use pay_taps::Tap;
+use pay_rules::{Fix, PostFault, Posting, Quote, Tap};
+use pay_set_rows::{fix_row, tap_row};
 use std::alloc::AllocError;
 
 /// What a ledger has of an account: its postings, and the rows of its archived taps and corrections, each in the order in

@@ -1,9 +1,7 @@
 ghost use Rattle.std.specs.Prelude.{◌≡◌, [], OnOk};
 ghost use Rattle.pay_postings.specs.Batches.{lists, with_given, with_new_of_set};
 
-use pay_fix::Fix;
-use pay_quotes::Posting;
-use pay_taps::Tap;
+use pay_rules::{Fix, Posting, Tap};
 use std::alloc::{AllocError, Global};
 
 /// What is to be written to a ledger, in order, and the posting that answers each quote.

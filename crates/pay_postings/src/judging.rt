@@ -2,26 +2,21 @@
 ghost use Rattle.std.specs.Prelude.{◌≡◌, if◌then◌else◌, nat_lt, find, flat_map};
 ghost use Rattle.std.specs.List.{list_any};
 ghost use Rattle.std.specs.Option.{option_map};
-ghost use Rattle.pay_taps.specs.declared.limits.TheConstants.{MOST_TAPS};
-ghost use Rattle.pay_taps.specs.Words.{number as tap_number};
-ghost use Rattle.pay_fix.specs.declared.limits.TheConstants.{MOST_FIXES};
-ghost use Rattle.pay_fix.specs.Words.{number as fix_number};
-ghost use Rattle.pay_quotes.specs.SetsParts.{AreNumbered, AreTapsOf, AreFixesOf};
-ghost use Rattle.pay_quotes.specs.Words.{SetsParts};
+ghost use Rattle.pay_rules.specs.declared.limits.TheConstants.{MOST_TAPS, MOST_FIXES};
+ghost use Rattle.pay_rules.specs.Taps.{number as tap_number};
+ghost use Rattle.pay_rules.specs.Fixes.{number as fix_number};
+ghost use Rattle.pay_rules.specs.SetsParts.{AreNumbered, AreTapsOf, AreFixesOf, SetsParts};
 ghost use Rattle.pay_postings.specs.Archive.{is_numbered_as, is_fix_numbered_as};
 ghost use Rattle.pay_postings.specs.Archived.{parts};
 ghost use Rattle.pay_postings.specs.Postings.{last_quote_of};
 ghost use Rattle.pay_postings.specs.Judged.{is_further, last_quoted, is_tap_refused, is_fix_refused, is_set_refused, IsConflictIf};
 
 use crate::archived::Archived;
-use crate::fault::PostFault;
 use crate::new_rows::{fix_there, is_fix_row, is_tap_row, tap_there};
 use crate::posted::{Posted, is_further};
-use crate::set_rows::{fix_row, tap_row};
-use pay_fix::Fix;
-use pay_quotes::{Quote, Sets};
 use pay_rows::{FixRow, TapRow};
-use pay_taps::Tap;
+use pay_rules::{Fix, PostFault, Quote, Sets, Tap};
+use pay_set_rows::{fix_row, tap_row};
 
 /// The last of quotes that is of an account and a week.
 fn last_quote_of(quotes: &[Quote], account: u32, week: u32) -> Option<&Quote>

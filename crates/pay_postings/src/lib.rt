@@ -5,18 +5,14 @@
 mod accounts;
 mod archived;
 mod batch;
-mod fault;
 mod judging;
 pub mod laws;
 mod new_rows;
 mod posted;
 mod posting_rows;
-mod set_rows;
 
 pub use accounts::Accounts;
 pub use archived::Archived;
 pub use batch::Batch;
-pub use fault::PostFault;
 pub use posted::Posted;
 pub use posting_rows::{net_from_rows, posting_row, postings_from_rows, share_rows};
-pub use set_rows::{fix_from_row, fix_row, tap_from_row, tap_row};

@@ -1,14 +1,12 @@
 ghost use Rattle.std.specs.Prelude.{◌≡◌, ◌≢◌, ◌++◌, find, Ok, Err, MatchResult, IfOk, OnOk};
 ghost use Rattle.std.specs.Option.{option_map};
-ghost use Rattle.pay_postings.specs.declared.fault.PostFault.TheVariants.{Memory};
-ghost use Rattle.pay_postings.specs.SetRows.{tap_row, fix_row};
+ghost use Rattle.pay_rules.specs.declared.post_fault.PostFault.TheVariants.{Memory};
+ghost use Rattle.pay_set_rows.specs.SetRows.{tap_row, fix_row};
 ghost use Rattle.pay_postings.specs.NewRows.{is_tap_at, is_tap_stamp, is_tap_touch, is_tap_row, is_fix_at, is_fix_form, is_fix_rest, is_fix_row, unless_other, is_new_tap, is_new_fix, new_taps, new_fixes, with_new};
 
-use crate::fault::PostFault;
-use crate::set_rows::{fix_row, tap_row};
-use pay_fix::Fix;
 use pay_rows::{FixRow, TapRow};
-use pay_taps::Tap;
+use pay_rules::{Fix, PostFault, Tap};
+use pay_set_rows::{fix_row, tap_row};
 use std::alloc::{AllocError, Global};
 
 /// Whether two rows of taps have one number.

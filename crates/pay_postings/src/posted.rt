@@ -7,9 +7,8 @@ ghost use Rattle.pay_postings.specs.Kept.{AreRead};
 ghost use Rattle.pay_postings.specs.Answers.{IsPosted, IsJudged};
 ghost use Rattle.pay_postings.specs.Judged.{is_further};
 
-use crate::fault::PostFault;
 use pay_money::limits::OPERATORS;
-use pay_quotes::{Posting, Postings, Quote};
+use pay_rules::{PostFault, Posting, Postings, Quote};
 use std::alloc::{AllocError, Global};
 use std::marker::Model;
 
@@ -21,8 +20,8 @@ pub struct Posted {
 
 impl Model for Posted {
     ghost use Rattle.std.specs.Prelude.{List};
-    ghost use Rattle.pay_quotes.specs.declared.posting.Posting.{Posting};
-    ghost use Rattle.pay_quotes.specs.PostingsCode.{postings_code};
+    ghost use Rattle.pay_rules.specs.declared.posting.Posting.{Posting};
+    ghost use Rattle.pay_rules.specs.PostingsCode.{postings_code};
     ghost use Rattle.pay_postings.specs.Kept.{AreRead};
 
     ghost Value = { List Posting };

@@ -2,23 +2,21 @@ ghost use Rattle.std.specs.Prelude.{◌≡◌, ◌≤◌, ◌++◌, ◌∷◌, [
 ghost use Rattle.std.specs.List.{list_all};
 ghost use Rattle.std.specs.Option.{option_map};
 ghost use Rattle.pay_money.specs.declared.limits.TheConstants.{MOST_MONEY, OPERATORS};
-ghost use Rattle.pay_quotes.specs.Words.{IsQuote};
-ghost use Rattle.pay_postings.specs.Answers.{IsReadAs};
+ghost use Rattle.pay_rules.specs.QuoteParts.{IsQuote};
+ghost use Rattle.pay_set_rows.specs.Readings.{IsReadAs};
 ghost use Rattle.pay_postings.specs.Amounts.{IsMoney, added};
 ghost use Rattle.pay_postings.specs.Kept.{AreRead};
 ghost use Rattle.pay_postings.specs.PostingRows.{is_money, is_share_row, is_natural, is_share_of, amount_of, amounts_of, naturals, quote_from_row, quote_behind, is_amount_behind, posting_behind, week_from_row, posting_from_row, postings_from_rows, posting_row, share_rows, share_rows_from, share_row};
 ghost use Rattle.pay_postings.specs.NetRows.{with_amount_of, net_from_rows};
 
-use crate::fault::PostFault;
 use crate::posted::Posted;
-use crate::set_rows::ranged;
 use pay_day::limits::{FIRST_DAY, LAST_DAY};
-use pay_fix::limits::MOST_FIXES;
 use pay_money::Pence;
 use pay_money::limits::{MOST_MONEY, OPERATORS};
-use pay_quotes::{Posting, Quote};
 use pay_rows::{PostingRow, ShareRow};
-use pay_taps::limits::MOST_TAPS;
+use pay_rules::limits::{MOST_FIXES, MOST_TAPS};
+use pay_rules::{PostFault, Posting, Quote};
+use pay_set_rows::ranged;
 use std::alloc::{AllocError, Global};
 
 /// Whether an amount is within the largest sum of money either way.

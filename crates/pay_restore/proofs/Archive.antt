@@ -11,18 +11,18 @@ use Rattle.std.specs.Ordering.{nat_cmp, is_lt}
 use Rattle.std.specs.declared.cmp.Ordering.{Ordering}
 use Rattle.std.specs.declared.cmp.Ordering.TheVariants.{Less, Equal, Greater}
 use Rattle.std.proofs.lemmas.Option.{none-some}
-use Rattle.pay_numbered.specs.Words.{number_cmp, ByNumber}
+use Rattle.pay_rules.specs.Numbers.{number_cmp, ByNumber}
 use Rattle.pay_tables.specs.Words.{FareTables}
-use Rattle.pay_taps.specs.declared.limits.TheConstants.{MOST_TAPS}
-use Rattle.pay_taps.specs.declared.tap.Tap.{Tap}
-use Rattle.pay_taps.specs.Words.{number as tap_number}
-use Rattle.pay_fix.specs.declared.limits.TheConstants.{MOST_FIXES}
-use Rattle.pay_fix.specs.declared.fix.Fix.{Fix}
-use Rattle.pay_fix.specs.Words.{number as fix_number}
-use Rattle.pay_account.specs.Words.{Accepted, nothing, State, accepted_of}
+use Rattle.pay_rules.specs.declared.limits.TheConstants.{MOST_TAPS, MOST_FIXES}
+use Rattle.pay_rules.specs.declared.tap.Tap.{Tap}
+use Rattle.pay_rules.specs.Taps.{number as tap_number}
+use Rattle.pay_rules.specs.declared.fix.Fix.{Fix}
+use Rattle.pay_rules.specs.Fixes.{number as fix_number}
+use Rattle.pay_rules.specs.Accepted.{Accepted, nothing}
+use Rattle.pay_rules.specs.State.{State, accepted_of}
 use Rattle.pay_rows.specs.declared.row.TapRow.{TapRow}
 use Rattle.pay_rows.specs.declared.row.FixRow.{FixRow}
-use Rattle.pay_postings.specs.Ranged.{◌>>=◌}
+use Rattle.pay_set_rows.specs.Ranged.{◌>>=◌}
 use Rattle.pay_restore.specs.Restored.{tap_of_row, fix_of_row, with_tap_rows, with_fix_rows, restored}
 use Rattle.pay_restore.specs.Archives.{tap_account, fix_account, tap_rows, fix_rows, IsArchivedTap, IsArchivedFix, IsArchive, IsSetOf, HasOf, AreRestored, AreTold}
 use Rattle.pay_restore.proofs.Sets.{number_total, exact_numbers}

@@ -12,7 +12,8 @@ use Rattle.std.specs.Option.{option_map}
 use Rattle.std.specs.Ordering.{nat_cmp, eq_by_cmp, is_eq, is_lt, match_ordering}
 use Rattle.std.specs.declared.cmp.Ordering.{Ordering}
 use Rattle.std.specs.declared.cmp.Ordering.TheVariants.{Less, Equal, Greater}
-use Rattle.pay_account.specs.Words.{Accepted, nothing, accepted_of, ArePriced}
+use Rattle.pay_rules.specs.Accepted.{Accepted, nothing}
+use Rattle.pay_rules.specs.State.{accepted_of, ArePriced}
 use Rattle.pay_restore.specs.Kept.{held, IsKept, AreKept}
 
 abbrev pub at : {F : Type 0} → ℕ → List (ℕ × F) → Option F

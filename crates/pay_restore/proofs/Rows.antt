@@ -4,27 +4,33 @@ use Rattle.std.specs.Prelude.{ℤ, pos}
 use Rattle.std.specs.FinMap as finite
 use Rattle.std.specs.List.{AllByRecursion}
 use Rattle.std.proofs.lemmas.Bool.{and_from, le-leb}
-use Rattle.pay_numbered.specs.Words.{IsIn, set_after, judged as judged_by}
-use Rattle.pay_numbered.specs.declared.numbered_set.Addition.{Addition}
-use Rattle.pay_numbered.specs.declared.numbered_set.Addition.TheVariants.{Added, Repeat}
-use Rattle.pay_numbered.specs.declared.numbered_set.AdditionFault.{AdditionFault}
+use Rattle.pay_rules.specs.InTurn.{IsIn}
+use Rattle.pay_rules.specs.Numbers.{set_after, judged as judged_by}
+use Rattle.pay_rules.specs.declared.addition.Addition.{Addition}
+use Rattle.pay_rules.specs.declared.addition.Addition.TheVariants.{Added, Repeat}
+use Rattle.pay_rules.specs.declared.addition.AdditionFault.{AdditionFault}
 use Rattle.pay_tables.specs.Words.{FareTables}
-use Rattle.pay_taps.specs.declared.limits.TheConstants.{MOST_TAPS}
-use Rattle.pay_taps.specs.declared.tap.Tap.{Tap}
-use Rattle.pay_taps.specs.SameTap.{tap_from_same, tap_itself}
-use Rattle.pay_taps.specs.Words.{Taps, same_tap, judged, number as tap_number}
-use Rattle.pay_fix.specs.declared.limits.TheConstants.{MOST_FIXES}
-use Rattle.pay_fix.specs.declared.fix.Fix.{Fix}
-use Rattle.pay_fix.specs.SameFix.{same_is_one, one_is_same}
-use Rattle.pay_fix.specs.Words.{Fixes, same_fix, day_named, judged as judged_fix, number as fix_number}
-use Rattle.pay_account.specs.declared.fares.TapFault.TheVariants as of_tap
-use Rattle.pay_account.specs.declared.fares.FixFault.{FixFault}
-use Rattle.pay_account.specs.declared.fares.FixFault.TheVariants as of_fix
-use Rattle.pay_account.specs.Words.{Accepted, with_tap, with_fix, is_known, is_known_fix, tap_added, fix_added, prices_on, State, accepted_of}
+use Rattle.pay_rules.specs.declared.limits.TheConstants.{MOST_TAPS, MOST_FIXES}
+use Rattle.pay_rules.specs.declared.tap.Tap.{Tap}
+use Rattle.pay_rules.specs.SameTap.{tap_from_same, tap_itself}
+use Rattle.pay_rules.specs.Taps.{Taps, same_tap, judged, number as tap_number}
+use Rattle.pay_rules.specs.declared.fix.Fix.{Fix}
+use Rattle.pay_rules.specs.SameFix.{same_is_one, one_is_same}
+use Rattle.pay_rules.specs.Fixes.{Fixes, same_fix, judged as judged_fix, number as fix_number}
+use Rattle.pay_rules.specs.NamedDay.{day_named}
+use Rattle.pay_rules.specs.declared.fares.TapFault.TheVariants as of_tap
+use Rattle.pay_rules.specs.declared.fares.FixFault.{FixFault}
+use Rattle.pay_rules.specs.declared.fares.FixFault.TheVariants as of_fix
+use Rattle.pay_rules.specs.Accepted.{Accepted, with_tap, with_fix}
+use Rattle.pay_rules.specs.TapPlaces.{is_known, is_known_fix}
+use Rattle.pay_rules.specs.TapResults.{tap_added}
+use Rattle.pay_rules.specs.FixResults.{fix_added, prices_on}
+use Rattle.pay_rules.specs.State.{State, accepted_of}
 use Rattle.pay_rows.specs.declared.row.TapRow.{TapRow}
 use Rattle.pay_rows.specs.declared.row.FixRow.{FixRow}
-use Rattle.pay_postings.specs.Ranged.{◌>>=◌}
-use Rattle.pay_postings.specs.Words.{tap_row, fix_row, tap_from_row, fix_from_row, IsTapInRange, IsFixInRange}
+use Rattle.pay_set_rows.specs.Ranged.{◌>>=◌}
+use Rattle.pay_set_rows.specs.SetRows.{tap_row, fix_row, tap_from_row, fix_from_row}
+use Rattle.pay_set_rows.specs.InRange.{IsTapInRange, IsFixInRange}
 use Rattle.pay_restore.specs.Restored.{account_number, tap_of_row, fix_of_row, unless_refused, with_archived_tap, with_archived_fix, with_tap_row, with_tap_rows, with_fix_row, with_fix_rows}
 use Rattle.pay_restore.specs.Archives.{tap_account, fix_account, tap_rows, fix_rows, IsAccount, IsArchivedTap, IsArchivedFix}
 use Rattle.pay_restore.proofs.Sets.{Took, took, not_refused}

@@ -7,11 +7,11 @@ use Rattle.std.proofs.lemmas.Bool.{leb-true}
 use Rattle.std.proofs.lemmas.Cmp.{on_total, then_total}
 use Rattle.std.proofs.lemmas.Map.Lookups.{CmpEqualImpliesEq, exact_pairs, exact_unsigned}
 use Rattle.std.proofs.lemmas.Option.{none-some}
-use Rattle.pay_numbered.specs.Words.{number_cmp, ByNumber, judgement, judged, set_after}
-use Rattle.pay_numbered.specs.declared.numbered_set.Addition.{Addition}
-use Rattle.pay_numbered.specs.declared.numbered_set.Addition.TheVariants.{Added, Repeat}
-use Rattle.pay_numbered.specs.declared.numbered_set.AdditionFault.{AdditionFault}
-use Rattle.pay_numbered.specs.declared.numbered_set.AdditionFault.TheVariants.{Conflict, Full}
+use Rattle.pay_rules.specs.Numbers.{number_cmp, ByNumber, judgement, judged, set_after}
+use Rattle.pay_rules.specs.declared.addition.Addition.{Addition}
+use Rattle.pay_rules.specs.declared.addition.Addition.TheVariants.{Added, Repeat}
+use Rattle.pay_rules.specs.declared.addition.AdditionFault.{AdditionFault}
+use Rattle.pay_rules.specs.declared.addition.AdditionFault.TheVariants.{Conflict, Full}
 
 pub number_total : IsTotalOrder number_cmp
 number_total = then_total (on_total (λ n. n.0) nat_cmp_total) (on_total (λ n. n.1) nat_cmp_total)

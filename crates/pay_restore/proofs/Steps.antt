@@ -3,12 +3,13 @@ use Rattle.std.proofs.Common.{◌≡◌, ℕ, ◌≤◌, List, Option, Some, Non
 use Rattle.std.specs.Prelude.{ℤ}
 use Rattle.std.specs.FinMap.{insert, empty, entries}
 use Rattle.pay_tables.specs.Words.{FareTables}
-use Rattle.pay_taps.specs.declared.tap.Tap.{Tap}
-use Rattle.pay_fix.specs.declared.fix.Fix.{Fix}
-use Rattle.pay_account.specs.Words.{Accepted, State, accepted_of}
+use Rattle.pay_rules.specs.declared.tap.Tap.{Tap}
+use Rattle.pay_rules.specs.declared.fix.Fix.{Fix}
+use Rattle.pay_rules.specs.Accepted.{Accepted}
+use Rattle.pay_rules.specs.State.{State, accepted_of}
 use Rattle.pay_rows.specs.declared.row.TapRow.{TapRow}
 use Rattle.pay_rows.specs.declared.row.FixRow.{FixRow}
-use Rattle.pay_postings.specs.Ranged.{◌>>=◌}
+use Rattle.pay_set_rows.specs.Ranged.{◌>>=◌}
 use Rattle.pay_restore.specs.Restored.{tap_of_row, fix_of_row, with_archived_tap, with_archived_fix, with_tap_row, with_tap_rows, with_fix_row, with_fix_rows, restored}
 
 pub still_from_1 : (account before now : ℕ) → 1 ≤ account → before ≡ account → now ≡ before → 1 ≤ now

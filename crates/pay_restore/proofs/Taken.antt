@@ -4,8 +4,10 @@ use Rattle.std.specs.Prelude.{◌==◌, filter}
 use Rattle.std.specs.Cmp.{nat_cmp_total, eq_by_cmp_equiv}
 use Rattle.std.specs.FinMap.{get, len, insert, contains_key, get-insert}
 use Rattle.std.specs.Ordering.{nat_cmp, eq_by_cmp}
-use Rattle.pay_numbered.specs.Words.{ByNumber, IsIn}
-use Rattle.pay_account.specs.Words.{Accepted, nothing, State, accepted_of}
+use Rattle.pay_rules.specs.Numbers.{ByNumber}
+use Rattle.pay_rules.specs.InTurn.{IsIn}
+use Rattle.pay_rules.specs.Accepted.{Accepted, nothing}
+use Rattle.pay_rules.specs.State.{State, accepted_of}
 use Rattle.pay_restore.specs.Archives.{HasOf}
 use Rattle.pay_restore.proofs.AtNumbers.{one_number}
 use Rattle.pay_restore.proofs.Sets.{Took}

@@ -5,7 +5,8 @@ use Rattle.std.specs.FinMap.{find, entries, values, is_sorted, get-entries, entr
 use Rattle.std.specs.FinMap.Entries.{below_all}
 use Rattle.std.specs.Ordering.{eq_by_cmp, is_lt, ordering_then}
 use Rattle.std.specs.declared.cmp.Ordering.TheVariants.{Equal}
-use Rattle.pay_numbered.specs.Words.{number_cmp, ByNumber, IsNumbered, IsIn}
+use Rattle.pay_rules.specs.Numbers.{number_cmp, ByNumber, IsNumbered}
+use Rattle.pay_rules.specs.InTurn.{IsIn}
 use Rattle.pay_restore.specs.Archives.{IsSetOf}
 use Rattle.pay_restore.proofs.Sets.{same_number, at_itself}
 

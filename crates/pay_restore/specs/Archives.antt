@@ -5,19 +5,21 @@ use Rattle.std.specs.FinMap.{find}
 use Rattle.std.specs.List.{AllByRecursion}
 use Rattle.std.specs.List.Sorted.{IsStrictlySortedBy}
 use Rattle.std.specs.Ordering.{nat_cmp}
-use Rattle.pay_numbered.specs.Words.{ByNumber, IsIn}
+use Rattle.pay_rules.specs.Numbers.{ByNumber}
+use Rattle.pay_rules.specs.InTurn.{IsIn}
 use Rattle.pay_tables.specs.Words.{FareTables}
-use Rattle.pay_taps.specs.declared.limits.TheConstants.{MOST_TAPS}
-use Rattle.pay_taps.specs.declared.tap.Kind.TheVariants.{Bus}
-use Rattle.pay_taps.specs.declared.tap.Tap.{Tap}
-use Rattle.pay_taps.specs.Words.{number as tap_number}
-use Rattle.pay_fix.specs.declared.limits.TheConstants.{MOST_FIXES}
-use Rattle.pay_fix.specs.declared.fix.Fix.{Fix}
-use Rattle.pay_fix.specs.Words.{number as fix_number}
-use Rattle.pay_account.specs.Words.{Accepted, is_known, is_known_fix}
+use Rattle.pay_rules.specs.declared.limits.TheConstants.{MOST_TAPS, MOST_FIXES}
+use Rattle.pay_rules.specs.declared.tap.Kind.TheVariants.{Bus}
+use Rattle.pay_rules.specs.declared.tap.Tap.{Tap}
+use Rattle.pay_rules.specs.Taps.{number as tap_number}
+use Rattle.pay_rules.specs.declared.fix.Fix.{Fix}
+use Rattle.pay_rules.specs.Fixes.{number as fix_number}
+use Rattle.pay_rules.specs.Accepted.{Accepted}
+use Rattle.pay_rules.specs.TapPlaces.{is_known, is_known_fix}
 use Rattle.pay_rows.specs.declared.row.TapRow.{TapRow}
 use Rattle.pay_rows.specs.declared.row.FixRow.{FixRow}
-use Rattle.pay_postings.specs.Words.{tap_row, fix_row, IsTapInRange, IsFixInRange}
+use Rattle.pay_set_rows.specs.SetRows.{tap_row, fix_row}
+use Rattle.pay_set_rows.specs.InRange.{IsTapInRange, IsFixInRange}
 use Rattle.pay_restore.specs.Restored.{tap_of_row, fix_of_row}
 
 -- whose a tap is, and whose a correction

@@ -2,7 +2,8 @@
 use Rattle.std.specs.Prelude.{◌≡◌, ℕ, ◌≤◌, List, map}
 use Rattle.std.specs.FinMap as finite
 use Rattle.std.specs.List.{AllByRecursion}
-use Rattle.pay_account.specs.Words.{Accepted, State}
+use Rattle.pay_rules.specs.Accepted.{Accepted}
+use Rattle.pay_rules.specs.State.{State}
 
 -- what accounts have accepted, by the numbers that they are kept at
 unfoldable pub held : {F : Type 0} → (F → Accepted) → List (ℕ × F) → State

@@ -2,21 +2,25 @@
 use Rattle.std.specs.Prelude.{◌≡◌, ℕ, ℤ, pos, negsuc, true, false, if◌then◌else◌, List, [], ◌∷◌, map as each, Option, Some, None, Result, Ok, Err, MatchResult, IsSome, refl}
 use Rattle.std.specs.FinMap as map
 use Rattle.pay_tables.specs.Words.{FareTables}
-use Rattle.pay_taps.specs.declared.tap.Tap.{Tap}
-use Rattle.pay_fix.specs.declared.fix.Fix.{Fix}
-use Rattle.pay_account.specs.Words.{Accepted, with_tap, with_fix, tap_result, fix_result, State, accepted_of}
-use Rattle.pay_quotes.specs.declared.priced.Priced.{Priced}
-use Rattle.pay_account.specs.declared.fares.TapFault.{TapFault}
-use Rattle.pay_account.specs.declared.fares.TapFault.TheVariants.{UnknownPlace}
-use Rattle.pay_account.specs.declared.fares.TapFault.TheVariants as of_tap
-use Rattle.pay_account.specs.declared.fares.FixFault.{FixFault}
-use Rattle.pay_account.specs.declared.fares.FixFault.TheVariants as of_fix
-use Rattle.pay_postings.specs.declared.fault.PostFault.{PostFault}
-use Rattle.pay_postings.specs.declared.fault.PostFault.TheVariants.{BadArchive, Memory}
-use Rattle.pay_postings.specs.Ranged.{◌>>=◌, ranged}
+use Rattle.pay_rules.specs.declared.tap.Tap.{Tap}
+use Rattle.pay_rules.specs.declared.fix.Fix.{Fix}
+use Rattle.pay_rules.specs.Accepted.{Accepted, with_tap, with_fix}
+use Rattle.pay_rules.specs.TapResults.{tap_result}
+use Rattle.pay_rules.specs.FixResults.{fix_result}
+use Rattle.pay_rules.specs.State.{State, accepted_of}
+use Rattle.pay_rules.specs.declared.priced.Priced.{Priced}
+use Rattle.pay_rules.specs.declared.fares.TapFault.{TapFault}
+use Rattle.pay_rules.specs.declared.fares.TapFault.TheVariants.{UnknownPlace}
+use Rattle.pay_rules.specs.declared.fares.TapFault.TheVariants as of_tap
+use Rattle.pay_rules.specs.declared.fares.FixFault.{FixFault}
+use Rattle.pay_rules.specs.declared.fares.FixFault.TheVariants as of_fix
+use Rattle.pay_rules.specs.declared.post_fault.PostFault.{PostFault}
+use Rattle.pay_rules.specs.declared.post_fault.PostFault.TheVariants.{BadArchive, Memory}
+use Rattle.pay_set_rows.specs.Ranged.{◌>>=◌, ranged}
 use Rattle.pay_rows.specs.declared.row.TapRow.{TapRow}
 use Rattle.pay_rows.specs.declared.row.FixRow.{FixRow}
-use Rattle.pay_postings.specs.Words.{tap_from_row, fix_from_row, IsRefusedAsBad}
+use Rattle.pay_set_rows.specs.Readings.{IsRefusedAsBad}
+use Rattle.pay_set_rows.specs.SetRows.{tap_from_row, fix_from_row}
 
 -- accounts count from 1
 abbrev pub account_number : ℤ → Option ℕ

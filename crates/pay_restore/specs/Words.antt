@@ -2,4 +2,3 @@
 pub use Rattle.pay_restore.specs.Restored.{tap_of_row, fix_of_row, restored, with_accepted}
 pub use Rattle.pay_restore.specs.Archives.{tap_account, fix_account, tap_rows, fix_rows, IsArchivedTap, IsArchivedFix, AreTogether, IsArchive, IsSetOf, HasOf, AreRestored, AreTold}
 pub use Rattle.pay_restore.specs.Laws.{RestoredIsTold, ArchivedIsRestored, RestoredIsAsBefore, ValuesMakeSet}
-pub use Rattle.pay_account.specs.State.{ArePriced}

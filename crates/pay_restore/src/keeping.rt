@@ -3,10 +3,11 @@ ghost use Rattle.std.specs.FinMap as map;
 ghost use Rattle.std.specs.List.Sorted.{IsStrictlySortedBy};
 ghost use Rattle.std.specs.Ordering.{nat_cmp};
 ghost use Rattle.pay_tables.specs.Words.{FareTables};
-ghost use Rattle.pay_account.specs.Words.{Accepted, accepted_of};
+ghost use Rattle.pay_rules.specs.Accepted.{Accepted};
+ghost use Rattle.pay_rules.specs.State.{accepted_of};
 ghost use Rattle.pay_restore.specs.Kept.{held, AreKept};
 
-use pay_account::Fares;
+use pay_rules::Fares;
 use std::alloc::{AllocError, Global};
 use std::collections::BTreeMap;
 

@@ -2,7 +2,7 @@
 //! law calls its function.
 ghost use Rattle.pay_restore.specs.Laws.{RestoredIsTold, ArchivedIsRestored, RestoredIsAsBefore, ValuesMakeSet};
 
-use pay_numbered::Numbered;
+use pay_rules::Numbered;
 
 /// Nothing is left out, and nothing made up: whatever is restored of rows is just the taps and corrections that they tell.
 pub fn nothing_is_lost()
@@ -14,8 +14,8 @@ pub fn nothing_is_lost()
 pub fn archived_is_restored()
     ensures { ArchivedIsRestored }
 {
-    pay_postings::laws::taps_back();
-    pay_postings::laws::fixes_back();
+    pay_set_rows::laws::taps_back();
+    pay_set_rows::laws::fixes_back();
 }
 
 /// And it is as it was: an account that had accepted just its own of the archive has accepted the same again. One that has

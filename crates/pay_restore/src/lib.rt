@@ -7,6 +7,6 @@ mod reading;
 mod restoring;
 mod retaking;
 
-pub use pay_account::Fares;
+pub use pay_rules::Fares;
 pub use pay_tables::Tables;
 pub use restoring::restored;

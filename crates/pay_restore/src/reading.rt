@@ -1,10 +1,9 @@
 ghost use Rattle.std.specs.Prelude.{◌≡◌, ◌≤◌, IfSome};
 ghost use Rattle.pay_restore.specs.Restored.{account_number, tap_of_row, fix_of_row};
 
-use pay_fix::Fix;
-use pay_postings::{fix_from_row, tap_from_row};
 use pay_rows::{FixRow, TapRow};
-use pay_taps::Tap;
+use pay_rules::{Fix, Tap};
+use pay_set_rows::{fix_from_row, tap_from_row};
 
 /// The number of an account, which counts from 1.
 fn account_number(number: i64) -> Option<u32>

@@ -2,17 +2,16 @@ ghost use Rattle.std.specs.Prelude.{◌≡◌, map as each, Some, MatchResult, I
 ghost use Rattle.std.specs.List.{IsDistinct};
 ghost use Rattle.std.specs.List.Sorted.{IsStrictlySortedBy};
 ghost use Rattle.std.specs.Ordering.{nat_cmp, eq_by_cmp};
-ghost use Rattle.pay_postings.specs.Words.{IsRefusedAsBad};
-ghost use Rattle.pay_account.specs.Words.{ArePriced};
+ghost use Rattle.pay_set_rows.specs.Readings.{IsRefusedAsBad};
+ghost use Rattle.pay_rules.specs.State.{ArePriced};
 ghost use Rattle.pay_restore.specs.Kept.{held, AreKept};
 ghost use Rattle.pay_restore.specs.Restored.{with_tap_row, with_tap_rows, with_fix_row, with_fix_rows, restored, with_accepted, IsRestoredAs, IsWantFor};
 
 use crate::keeping::{in_order, keep, take};
 use crate::reading::{fix_of_row, tap_of_row};
 use crate::retaking::{retake_fix, retake_tap};
-use pay_account::Fares;
-use pay_postings::PostFault;
 use pay_rows::{FixRow, TapRow};
+use pay_rules::{Fares, PostFault};
 use pay_tables::Tables;
 use std::alloc::Global;
 use std::collections::BTreeMap;

@@ -1,11 +1,8 @@
 ghost use Rattle.std.specs.Prelude.{◌≡◌, IfErr};
 ghost use Rattle.pay_restore.specs.Restored.{with_archived_tap, with_archived_fix, fault_of_tap, fault_of_fix, IsRestoredAs, IsWantFor};
 
-use pay_account::{Fares, FixFault, TapFault};
-use pay_fix::Fix;
-use pay_postings::PostFault;
+use pay_rules::{Fares, Fix, FixFault, PostFault, Tap, TapFault};
 use pay_tables::Tables;
-use pay_taps::Tap;
 
 /// What it is for an archive that an account refuses a tap of it: only want of memory is no fault of the archive.
 fn fault_of_tap(fault: TapFault) -> PostFault

@@ -13,7 +13,8 @@ use Rattle.pay_tables.specs.Words.{FareTables}
 use Rattle.pay_mailbox.specs.Words.{SenderParts, of}
 use Rattle.pay_wire.specs.Words.{IsSpelled}
 use Rattle.pay_wire.specs.declared.command.Command.{Command}
-use Rattle.pay_shard.specs.Words.{State, item_step, run, new_items, items_of, accepted_asked, is_priced, AreAskedOf, command_under}
+use Rattle.pay_rules.specs.State.{State}
+use Rattle.pay_shard.specs.Words.{item_step, run, new_items, items_of, accepted_asked, is_priced, AreAskedOf, command_under}
 use Rattle.pay_shard.specs.Changes.{with_prices}
 use Rattle.pay_shard.specs.Runs.{answer_at, answers_from}
 use Rattle.pay_shard.specs.declared.asked.Asked.{Asked}
@@ -30,7 +31,8 @@ use Rattle.pay_session.specs.Served.{AreQuotes}
 use Rattle.pay_session.specs.Words.{lines_of_items, Taken, commands_of, IsAskedIn}
 use Rattle.pay_session.specs.declared.request.Request.{Request}
 use Rattle.pay_session.specs.declared.request.Request.TheVariants as requests
-use Rattle.pay_keeping.specs.Words.{IsIn, is_other, of_others, GateParts, IsAllOrButLast, answered_of, HasKept, requests_in, texts_then, Puts, AreWholeOf, IsMergeOf, new_of, IsPricedIn, KeepNew, HaveKept, KeptGivesBack, PartsAreTaken}
+use Rattle.pay_rules.specs.InTurn.{IsIn}
+use Rattle.pay_keeping.specs.Words.{is_other, of_others, GateParts, IsAllOrButLast, answered_of, HasKept, requests_in, texts_then, Puts, AreWholeOf, IsMergeOf, new_of, IsPricedIn, KeepNew, HaveKept, KeptGivesBack, PartsAreTaken}
 use Rattle.pay_keeping.specs.declared.limits.TheConstants.{SPARED_LANE}
 use Rattle.pay_keeping.proofs.KeptAgain.{in_front, in_back, in_either, in_map, into_map, one_in, of_new, of_merge, its_shard, HasLine}
 use Rattle.pay_keeping.proofs.PartsAgain.{part_alike}

@@ -8,7 +8,8 @@ use Rattle.std.proofs.lemmas.List.FromFn.{length-range_with_len, get_or-range_wi
 use Rattle.std.proofs.lemmas.List.Sorted.{All-permutation, IsPermutation-sym}
 use Rattle.pay_tables.specs.Words.{FareTables}
 use Rattle.pay_mailbox.specs.Words.{SenderParts, of}
-use Rattle.pay_shard.specs.Words.{State, item_step, is_new, new_items}
+use Rattle.pay_rules.specs.State.{State}
+use Rattle.pay_shard.specs.Words.{item_step, is_new, new_items}
 use Rattle.pay_shard.specs.declared.item.Entry.{Entry}
 use Rattle.pay_shard.specs.declared.item.Item.{Item}
 use Rattle.pay_session.specs.Words.{lines_of_items}

@@ -7,7 +7,8 @@ use Rattle.std.proofs.lemmas.List.Elements.{All-head, All-tail, AllZip-get_or, l
 use mathlib.Core.List.{IsPrefix}
 use Rattle.pay_tables.specs.Words.{FareTables}
 use Rattle.pay_mailbox.specs.Words.{SenderParts, of}
-use Rattle.pay_shard.specs.Words.{State, replay, batch, items_of, IsAskedOf, AreAskedOf}
+use Rattle.pay_rules.specs.State.{State}
+use Rattle.pay_shard.specs.Words.{replay, batch, items_of, IsAskedOf, AreAskedOf}
 use Rattle.pay_shard.specs.Runs.{answer_at, answers_from}
 use Rattle.pay_shard.specs.Machine.{step, marked_step, item_step}
 use Rattle.pay_shard.specs.declared.asked.Asked.{Asked}

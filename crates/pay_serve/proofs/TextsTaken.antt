@@ -17,7 +17,8 @@ use Rattle.pay_session.specs.Words.{line_requests, asks_of, Taken, Event, said, 
 use Rattle.pay_session.specs.declared.asks.Asks.{Asks}
 use Rattle.pay_session.specs.declared.asks.Asks.TheVariants as asks
 use Rattle.pay_session.specs.declared.request.Request.{Request}
-use Rattle.pay_keeping.specs.Words.{IsIn, requests_in, Puts}
+use Rattle.pay_rules.specs.InTurn.{IsIn}
+use Rattle.pay_keeping.specs.Words.{requests_in, Puts}
 use Rattle.pay_keeping.proofs.KeptAgain.{in_front, in_back, in_either}
 use Rattle.pay_serve.specs.Journals.{AreTakenAgain, journal_fault}
 use Rattle.pay_serve.specs.declared.fault.ServeFault.{ServeFault}

@@ -3,7 +3,7 @@ use Rattle.std.specs.Prelude.{◌≡◌, ◌⊎◌, ℕ, Bool, List, [], ◌∷�
 use Rattle.std.specs.Io.KnownBytes.{Appends}
 use Rattle.std.specs.List.{AllZip}
 use Rattle.sqlite.specs.State.{State}
-use Rattle.pay_account.specs.Words.{Posting}
+use Rattle.pay_rules.specs.declared.posting.Posting.{Posting}
 use Rattle.jiff.specs.declared.tz.timezone.TimeZone.{TimeZone}
 use Rattle.pay_shard.specs.Words.{DeskParts, AreKept}
 use Rattle.pay_shard.specs.declared.item.Item.{Item}

@@ -11,10 +11,10 @@ ghost use Rattle.pay_office.specs.Words.{NoneIsHidden, HaveLetPass};
 ghost use Rattle.pay_serve.specs.Machines.{IsOverWith};
 
 use crate::fault::ServeFault;
-use pay_account::Fares;
 use pay_close::LedgerTill;
 use pay_ledger::Ledger;
 use pay_office::{Gate, Lane, LaneDesk, Office, shut};
+use pay_rules::Fares;
 use pay_session::Till;
 use pay_shard::Desk;
 use pay_wire::{Closed, Reply, ToldWriter, WriteFault, send};

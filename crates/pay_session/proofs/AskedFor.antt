@@ -1,7 +1,7 @@
 -- What a desk took for requests is asked for by their lines, or by a close.
 use Rattle.std.proofs.Common.{◌≡◌, ◌⊎◌, inl, inr, ℕ, suc, List, [], ◌∷◌, ◌++◌, Result, refl, sym, ap, subst}
 use Rattle.jiff.specs.declared.tz.timezone.TimeZone.{TimeZone}
-use Rattle.pay_quotes.specs.declared.posting.Posting.{Posting}
+use Rattle.pay_rules.specs.declared.posting.Posting.{Posting}
 use Rattle.pay_shard.specs.declared.asked.Asked.{Asked}
 use Rattle.pay_shard.specs.declared.asked.Asked.TheVariants as asked
 use Rattle.pay_shard.specs.declared.desk.DeskFault.{DeskFault}

@@ -1,7 +1,7 @@
 -- What the runs of a zone, a desk and a till come to.
 use Rattle.std.proofs.Common.{◌≡◌, ℕ, Bool, List, [], ◌∷◌, ◌++◌, Option, Some, None, IfSome, Result, sym, ap, ◌∙◌, subst, refl, append_assoc, append-nil}
 use Rattle.jiff.specs.declared.tz.timezone.TimeZone.{TimeZone}
-use Rattle.pay_quotes.specs.declared.posting.Posting.{Posting}
+use Rattle.pay_rules.specs.declared.posting.Posting.{Posting}
 use Rattle.pay_shard.specs.declared.reply.Answer.{Answer}
 use Rattle.pay_shard.specs.Words.{AreKept, Standing, DeskParts}
 use Rattle.pay_session.specs.Asks.{asks_of}

@@ -3,11 +3,11 @@ use Rattle.std.specs.Prelude.{◌≤◌, nat_le, ◌&&◌, Result, Ok, Err, ⊤,
 use Rattle.jiff.specs.declared.tz.timezone.TimeZone.{TimeZone}
 use Rattle.pay_day.specs.Words.{Stamp, is_instant, stamp_of}
 use Rattle.pay_day.specs.declared.limits.TheConstants.{FIRST_DAY, LAST_DAY}
-use Rattle.pay_taps.specs.declared.tap.Tap.{Tap}
-use Rattle.pay_fix.specs.declared.fix.Fix.{Fix}
-use Rattle.pay_fix.specs.declared.fix.What.{What}
-use Rattle.pay_fix.specs.declared.fix.What.TheVariants as what
-use Rattle.pay_fix.specs.declared.limits.TheConstants.{MOST_CREDIT}
+use Rattle.pay_rules.specs.declared.tap.Tap.{Tap}
+use Rattle.pay_rules.specs.declared.fix.Fix.{Fix}
+use Rattle.pay_rules.specs.declared.fix.What.{What}
+use Rattle.pay_rules.specs.declared.fix.What.TheVariants as what
+use Rattle.pay_rules.specs.declared.limits.TheConstants.{MOST_CREDIT}
 use Rattle.pay_shard.specs.declared.asked.Asked.{Asked}
 use Rattle.pay_shard.specs.declared.asked.Asked.TheVariants as asked
 use Rattle.pay_wire.specs.declared.command.Command.{Command}

@@ -1,7 +1,7 @@
 -- Commands as lines of a text, and what is read of it, whole or cut.
 use Rattle.std.specs.Prelude.{◌≡◌, ℕ, ◌≤◌, ◌<◌, List, [], ◌∷◌, ◌++◌, map, length, take, codes, refl}
 use Rattle.std.specs.List.{AllByRecursion, flat_map}
-use Rattle.pay_taps.specs.declared.tap.Kind.TheVariants.{Bus}
+use Rattle.pay_rules.specs.declared.tap.Kind.TheVariants.{Bus}
 use Rattle.pay_wire.specs.declared.command.Command.{Command}
 use Rattle.pay_wire.specs.declared.command.Command.TheVariants.{Tap, Quit}
 use Rattle.pay_wire.specs.Spellings.{IsSpelled, spelling_of_command}

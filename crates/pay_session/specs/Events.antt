@@ -1,7 +1,7 @@
 -- What came of a request: what was replied, and which commands a desk took for it.
 use Rattle.std.specs.Prelude.{◌≡◌, ℕ, Bool, true, false, List, map, Option, Some, IfSome, Result, Ok, Err}
 use Rattle.std.specs.List.{AllByRecursion, flat_map, list_any}
-use Rattle.pay_quotes.specs.declared.posting.Posting.{Posting}
+use Rattle.pay_rules.specs.declared.posting.Posting.{Posting}
 use Rattle.pay_shard.specs.declared.asked.Asked.{Asked}
 use Rattle.pay_shard.specs.declared.desk.DeskFault.{DeskFault}
 use Rattle.pay_shard.specs.declared.desk.DeskFault.TheVariants as desk_fault

@@ -2,8 +2,8 @@
 use Rattle.std.specs.Prelude.{◌≡◌, ◌≢◌, ◌⊎◌, ℕ, ◌+◌, Bool, true, false, List, [], ◌∷◌, ◌++◌, length, Option, Some, None, Result, ⊤, refl}
 use Rattle.std.specs.List.{AllByRecursion}
 use Rattle.jiff.specs.declared.tz.timezone.TimeZone.{TimeZone}
-use Rattle.pay_quotes.specs.declared.posting.Posting.{Posting}
-use Rattle.pay_quotes.specs.declared.priced.Priced.{Priced}
+use Rattle.pay_rules.specs.declared.posting.Posting.{Posting}
+use Rattle.pay_rules.specs.declared.priced.Priced.{Priced}
 use Rattle.pay_shard.specs.declared.asked.Asked.TheVariants as asked
 use Rattle.pay_shard.specs.Words.{DeskParts}
 use Rattle.pay_wire.specs.declared.command.Command.TheVariants as command

@@ -1,6 +1,6 @@
 -- One request over a desk and a till.
 use Rattle.std.specs.Prelude.{◌≡◌, ◌⊎◌, ℕ, ◌<◌, List, [], ◌++◌, length, Option, Result}
-use Rattle.pay_quotes.specs.declared.posting.Posting.{Posting}
+use Rattle.pay_rules.specs.declared.posting.Posting.{Posting}
 use Rattle.pay_shard.specs.declared.asked.Asked.{Asked}
 use Rattle.pay_shard.specs.declared.desk.DeskFault.{DeskFault}
 use Rattle.pay_shard.specs.declared.reply.Answer.{Answer}

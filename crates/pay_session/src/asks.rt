@@ -9,9 +9,8 @@ ghost use Rattle.pay_session.specs.Requests.{IsAsked};
 use crate::request::Request;
 use jiff::tz::TimeZone;
 use pay_day::{StampFault, stamp};
-use pay_fix::{Credit, Fix, What};
+use pay_rules::{Credit, Fix, Tap, What};
 use pay_shard::{Asked, Command};
-use pay_taps::Tap;
 use pay_wire::{Refusal, SpelledFix, SpelledTap, SpelledWhat};
 
 /// What a request comes to.

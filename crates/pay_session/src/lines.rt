@@ -3,9 +3,8 @@ ghost use Rattle.std.specs.Prelude.{◌≡◌, [], IfSome, IfNone};
 ghost use Rattle.pay_session.specs.Lines.{spelled_tap, spelled_what, spelled_fix, spelled_of, line_of};
 
 use arrayvec::ArrayVec;
-use pay_fix::{Fix, What};
+use pay_rules::{Fix, Tap, What};
 use pay_shard::{Asked, Command};
-use pay_taps::Tap;
 use pay_wire::{SpelledCredit, SpelledFix, SpelledLine, SpelledTap, SpelledWhat, command_line};
 
 /// The command of a line by which a tap or a correction is asked for: its numbers, and its instant without where that falls. What

@@ -1,6 +1,6 @@
 //! What closes days.
 ghost use Rattle.std.specs.Prelude.{◌≡◌, ◌≤◌, ℕ, List, [], Result, Err};
-ghost use Rattle.pay_quotes.specs.declared.posting.Posting.{Posting};
+ghost use Rattle.pay_rules.specs.declared.posting.Posting.{Posting};
 ghost use Rattle.pay_day.specs.declared.limits.TheConstants.{FIRST_DAY, LAST_DAY};
 ghost use Rattle.pay_shard.specs.Words.{AreKept};
 ghost use Rattle.pay_session.specs.Events.{Taken};
@@ -8,7 +8,7 @@ ghost use Rattle.pay_session.specs.Serving.{IsClosedAt};
 ghost use Rattle.pay_wire.specs.declared.refusal.Refusal.{Refusal};
 ghost use Rattle.pay_wire.specs.declared.refusal.Refusal.TheVariants.{NotHere};
 
-use pay_quotes::Postings;
+use pay_rules::Postings;
 use pay_shard::Desk;
 use pay_wire::Refusal;
 

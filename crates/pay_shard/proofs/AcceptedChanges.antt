@@ -5,18 +5,21 @@ use Rattle.std.specs.FinMap.{get-insert}
 use Rattle.std.specs.Cmp.{nat_cmp_total}
 use Rattle.std.specs.Ordering.{nat_cmp, eq_by_cmp}
 use Rattle.pay_tables.specs.Words.{FareTables}
-use Rattle.pay_taps.specs.declared.tap.Tap.{Tap}
-use Rattle.pay_fix.specs.declared.fix.Fix.{Fix}
-use Rattle.pay_quotes.specs.declared.priced.Priced.{Priced}
-use Rattle.pay_account.specs.declared.fares.TapFault.{TapFault}
-use Rattle.pay_account.specs.declared.fares.TapFault.TheVariants as of_tap
-use Rattle.pay_account.specs.declared.fares.FixFault.{FixFault}
-use Rattle.pay_account.specs.declared.fares.FixFault.TheVariants as of_fix
-use Rattle.pay_account.specs.Words.{Accepted, nothing, tap_result, fix_result, after_tap, after_fix, Change, Tapped, Fixed, after, IsAccepted}
+use Rattle.pay_rules.specs.declared.tap.Tap.{Tap}
+use Rattle.pay_rules.specs.declared.fix.Fix.{Fix}
+use Rattle.pay_rules.specs.declared.priced.Priced.{Priced}
+use Rattle.pay_rules.specs.declared.fares.TapFault.{TapFault}
+use Rattle.pay_rules.specs.declared.fares.TapFault.TheVariants as of_tap
+use Rattle.pay_rules.specs.declared.fares.FixFault.{FixFault}
+use Rattle.pay_rules.specs.declared.fares.FixFault.TheVariants as of_fix
+use Rattle.pay_rules.specs.Accepted.{Accepted, nothing}
+use Rattle.pay_rules.specs.TapResults.{tap_result, after_tap}
+use Rattle.pay_rules.specs.FixResults.{fix_result, after_fix}
+use Rattle.pay_rules.specs.Changes.{Change, Tapped, Fixed, after, IsAccepted}
 use Rattle.pay_shard.specs.Changes.{is_priced}
 use Rattle.pay_shard.specs.Machine.{Step, step_tap_result, step_fix_result}
 use Rattle.pay_shard.specs.State.{is_new, kept}
-use Rattle.pay_account.specs.State.{State, accepted_of}
+use Rattle.pay_rules.specs.State.{State, accepted_of}
 use Rattle.pay_shard.proofs.AskedChanges.{account_of, step_change}
 use Rattle.pay_shard.proofs.FirstOnes.{same_tap_left, same_fix_left, first_tap_is_new, first_fix_is_new}
 use Rattle.pay_shard.proofs.Places.{one_number}

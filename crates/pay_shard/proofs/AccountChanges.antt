@@ -2,10 +2,11 @@
 use Rattle.std.proofs.Common.{◌≡◌, inl, ◌↔◌, ℕ, Bool, true, false, cond, List, [], ◌∷◌, Option, Some, None, unwrap_or, if◌then◌else◌, refl, sym, ap, ◌∙◌, subst}
 use Rattle.std.specs.FinMap as map
 use Rattle.std.specs.List.{cons_option}
-use Rattle.pay_numbered.specs.Words.{IsIn}
+use Rattle.pay_rules.specs.InTurn.{IsIn}
 use Rattle.pay_tables.specs.Words.{FareTables}
-use Rattle.pay_account.specs.Words.{Accepted, nothing, Change, after, after_all, IsAccepted, AreAccepted}
-use Rattle.pay_account.specs.State.{State, accepted_of}
+use Rattle.pay_rules.specs.Accepted.{Accepted, nothing}
+use Rattle.pay_rules.specs.Changes.{Change, after, after_all, IsAccepted, AreAccepted}
+use Rattle.pay_rules.specs.State.{State, accepted_of}
 use Rattle.pay_shard.proofs.AskedChanges.{account_of}
 
 -- what is held of an account after these changes: the first opens it

@@ -6,13 +6,14 @@ use Rattle.std.specs.FinMap as map
 use Rattle.std.specs.FinMap.{same_map, nat_cmp-IsAntisymmetric}
 use Rattle.std.specs.List.{cons_option}
 use Rattle.std.specs.Ordering.{nat_cmp, eq_by_cmp}
-use Rattle.pay_numbered.specs.Words.{IsIn}
+use Rattle.pay_rules.specs.InTurn.{IsIn}
 use Rattle.pay_tables.specs.Words.{FareTables}
-use Rattle.pay_account.specs.Words.{Accepted, Change, after_all, AreAccepted}
+use Rattle.pay_rules.specs.Accepted.{Accepted}
+use Rattle.pay_rules.specs.Changes.{Change, after_all, AreAccepted}
 use Rattle.pay_shard.specs.Changes.{is_priced, AreAllPriced, asked_by, AreUnmarked, accepted_asked}
 use Rattle.pay_shard.specs.Machine.{Step, step, marked_step, item_step}
 use Rattle.pay_shard.specs.Runs.{run, replay}
-use Rattle.pay_account.specs.State.{State, accepted_of}
+use Rattle.pay_rules.specs.State.{State, accepted_of}
 use Rattle.pay_shard.specs.declared.asked.Asked.{Asked}
 use Rattle.pay_shard.specs.declared.item.Entry.{Entry}
 use Rattle.pay_shard.specs.declared.item.Item.{Item}

@@ -5,14 +5,17 @@ use Rattle.std.specs.FinMap.{len-empty, len-entries}
 use Rattle.std.specs.List.{list_any}
 use Rattle.std.proofs.lemmas.List.{append_assoc, append-nil}
 use Rattle.pay_day.specs.Words.{monday}
-use Rattle.pay_numbered.specs.Words.{number_cmp}
-use Rattle.pay_taps.specs.declared.tap.Tap.{Tap}
-use Rattle.pay_fix.specs.declared.fix.Fix.{Fix}
+use Rattle.pay_rules.specs.Numbers.{number_cmp}
+use Rattle.pay_rules.specs.declared.tap.Tap.{Tap}
+use Rattle.pay_rules.specs.declared.fix.Fix.{Fix}
 use Rattle.pay_tables.specs.Words.{FareTables}
-use Rattle.pay_account.specs.Words.{Accepted, nothing, QuoteParts, quote, SetsParts, sets}
+use Rattle.pay_rules.specs.Accepted.{Accepted, nothing}
+use Rattle.pay_rules.specs.QuoteParts.{QuoteParts}
+use Rattle.pay_rules.specs.Quotes.{quote}
+use Rattle.pay_rules.specs.SetsParts.{SetsParts, sets}
 use Rattle.pay_shard.specs.BatchParts.{BatchParts, batch_of, batch, batch_if_quoted, batch_with}
 use Rattle.pay_shard.specs.Selection.{is_of, is_tap_between, is_fill_between, is_quoted}
-use Rattle.pay_account.specs.State.{State, accepted_of}
+use Rattle.pay_rules.specs.State.{State, accepted_of}
 
 -- one account, quoted or not
 pub if_not : (tables : FareTables) (through : ℕ) (b : BatchParts) (account : ℕ) (accepted : Accepted) → is_quoted through (sets account accepted) ≡ false → b ≡ batch_if_quoted tables through b account accepted

@@ -3,23 +3,25 @@ use Rattle.std.proofs.Common.{◌≡◌, ℕ, Bool, true, false, not, Option, So
 use Rattle.std.specs.FinMap as map
 use Rattle.std.specs.FinMap.{get-empty, len-empty}
 use Rattle.pay_tables.specs.Words.{FareTables}
-use Rattle.pay_numbered.specs.Words.{number_cmp, judgement}
-use Rattle.pay_numbered.specs.declared.numbered_set.Addition.TheVariants.{Added}
-use Rattle.pay_numbered.specs.declared.numbered_set.AdditionFault.TheVariants.{Full}
-use Rattle.pay_taps.specs.declared.limits.TheConstants.{MOST_TAPS}
-use Rattle.pay_taps.specs.declared.tap.Tap.{Tap}
-use Rattle.pay_taps.specs.Words.{same_tap, judged}
-use Rattle.pay_taps.specs.Words.{number as tap_number}
-use Rattle.pay_fix.specs.declared.limits.TheConstants.{MOST_FIXES}
-use Rattle.pay_fix.specs.declared.fix.Fix.{Fix}
-use Rattle.pay_fix.specs.Words.{same_fix, day_named}
-use Rattle.pay_fix.specs.Words.{judged as judged_fix, number as fix_number}
-use Rattle.pay_quotes.specs.declared.priced.Priced.{Priced}
-use Rattle.pay_account.specs.declared.fares.TapFault.{TapFault}
-use Rattle.pay_account.specs.declared.fares.TapFault.TheVariants as of_tap
-use Rattle.pay_account.specs.declared.fares.FixFault.{FixFault}
-use Rattle.pay_account.specs.declared.fares.FixFault.TheVariants as of_fix
-use Rattle.pay_account.specs.Words.{Accepted, nothing, with_tap, with_fix, prices, is_known, is_known_fix, tap_added, tap_result, after_tap, prices_on, fix_added, fix_result, after_fix}
+use Rattle.pay_rules.specs.Numbers.{number_cmp, judgement}
+use Rattle.pay_rules.specs.declared.addition.Addition.TheVariants.{Added}
+use Rattle.pay_rules.specs.declared.addition.AdditionFault.TheVariants.{Full}
+use Rattle.pay_rules.specs.declared.limits.TheConstants.{MOST_TAPS, MOST_FIXES}
+use Rattle.pay_rules.specs.declared.tap.Tap.{Tap}
+use Rattle.pay_rules.specs.Taps.{same_tap, judged, number as tap_number}
+use Rattle.pay_rules.specs.declared.fix.Fix.{Fix}
+use Rattle.pay_rules.specs.Fixes.{same_fix, judged as judged_fix, number as fix_number}
+use Rattle.pay_rules.specs.NamedDay.{day_named}
+use Rattle.pay_rules.specs.declared.priced.Priced.{Priced}
+use Rattle.pay_rules.specs.declared.fares.TapFault.{TapFault}
+use Rattle.pay_rules.specs.declared.fares.TapFault.TheVariants as of_tap
+use Rattle.pay_rules.specs.declared.fares.FixFault.{FixFault}
+use Rattle.pay_rules.specs.declared.fares.FixFault.TheVariants as of_fix
+use Rattle.pay_rules.specs.Accepted.{Accepted, nothing, with_tap, with_fix}
+use Rattle.pay_rules.specs.Prices.{prices}
+use Rattle.pay_rules.specs.TapPlaces.{is_known, is_known_fix}
+use Rattle.pay_rules.specs.TapResults.{tap_added, tap_result, after_tap}
+use Rattle.pay_rules.specs.FixResults.{prices_on, fix_added, fix_result, after_fix}
 use Rattle.pay_shard.specs.State.{is_new}
 
 -- what is no news changes nothing

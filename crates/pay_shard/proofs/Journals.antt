@@ -2,7 +2,7 @@
 use Rattle.std.proofs.Common.{◌≡◌, ℕ, zero, suc, ◌+◌, Bool, List, [], ◌∷◌, ◌++◌, map, length, Some, refl, sym, ap, ◌∙◌, subst, arith}
 use Rattle.std.specs.List.{slice_get}
 use Rattle.pay_tables.specs.Words.{FareTables}
-use Rattle.pay_account.specs.State.{State}
+use Rattle.pay_rules.specs.State.{State}
 use Rattle.pay_shard.specs.Machine.{Step, step, marked_step, item_step, is_memory, is_refusal, IsAnswered}
 use Rattle.pay_shard.specs.Runs.{run, replay, answer_at, answers_from, answers, reply_at, answer_to, IsMarkedRightly, IsHistory}
 use Rattle.pay_shard.specs.ShardParts.{item_of}

@@ -5,14 +5,14 @@ use Rattle.std.specs.Option.{option_map}
 use Rattle.std.proofs.lemmas.Bool.{lt-ltb, eqb-true, eq-eqb}
 use Rattle.std.specs.Prelude.{if◌then◌else◌, IfSome}
 use Rattle.std.proofs.lemmas.List.{map-append}
-use Rattle.pay_numbered.specs.Words.{IsIn}
+use Rattle.pay_rules.specs.InTurn.{IsIn}
 use Rattle.pay_tables.specs.Words.{FareTables}
 use Rattle.pay_shard.specs.Desks.{IsAfterAll, IsNoneOf, without, command_under, IsReplyTo, AreKept}
 use Rattle.pay_shard.specs.LocalParts.{commands_of, transcript_of, AreInPlace, AreBelow, IsTaken, tickets_of, AreDistinct, AreOfRun, answers_without, IsLocal}
 use Rattle.pay_shard.specs.Machine.{item_step}
 use Rattle.pay_shard.specs.Runs.{answer_at, answers_from}
 use Rattle.pay_shard.specs.ShardParts.{ShardParts, answers_given, next_answer, item_of, with_item, with_room}
-use Rattle.pay_account.specs.State.{State}
+use Rattle.pay_rules.specs.State.{State}
 use Rattle.pay_shard.specs.declared.item.Entry.{Entry}
 use Rattle.pay_shard.specs.declared.item.Item.{Item}
 use Rattle.pay_shard.specs.declared.reply.Answer.{Answer}

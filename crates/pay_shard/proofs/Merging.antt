@@ -8,19 +8,24 @@ use Rattle.std.specs.List.{zip}
 use Rattle.std.specs.Ordering.{nat_cmp}
 use Rattle.std.proofs.lemmas.Bool.{eqb-true, eq-eqb}
 use Rattle.pay_tables.specs.Words.{FareTables}
-use Rattle.pay_taps.specs.declared.tap.Tap.{Tap}
-use Rattle.pay_fix.specs.declared.fix.Fix.{Fix}
-use Rattle.pay_account.specs.Words.{Accepted, nothing, sets, tap_result, fix_result, after_tap, after_fix, shown, quote}
-use Rattle.pay_quotes.specs.declared.priced.Priced.{Priced}
-use Rattle.pay_account.specs.declared.fares.TapFault.{TapFault}
-use Rattle.pay_account.specs.declared.fares.FixFault.{FixFault}
+use Rattle.pay_rules.specs.declared.tap.Tap.{Tap}
+use Rattle.pay_rules.specs.declared.fix.Fix.{Fix}
+use Rattle.pay_rules.specs.Accepted.{Accepted, nothing}
+use Rattle.pay_rules.specs.SetsParts.{sets}
+use Rattle.pay_rules.specs.TapResults.{tap_result, after_tap}
+use Rattle.pay_rules.specs.FixResults.{fix_result, after_fix}
+use Rattle.pay_rules.specs.Lines.{shown}
+use Rattle.pay_rules.specs.Quotes.{quote}
+use Rattle.pay_rules.specs.declared.priced.Priced.{Priced}
+use Rattle.pay_rules.specs.declared.fares.TapFault.{TapFault}
+use Rattle.pay_rules.specs.declared.fares.FixFault.{FixFault}
 use Rattle.pay_shard.specs.BatchParts.{batch_of, batch}
 use Rattle.pay_shard.specs.Machine.{Step, is_refusal, step_tap_result, step_fix_result, step, marked_step, item_step}
 use Rattle.pay_shard.specs.Merges.{items_of, all_items, replies_of, IsAskedOf, AreAskedOf, IsWhole}
 use Rattle.pay_shard.specs.Runs.{run, replay, IsMarkedRightly, IsHistory}
 use Rattle.pay_shard.specs.Selection.{is_of, is_quoted, quoted}
 use Rattle.pay_shard.specs.State.{is_new, kept}
-use Rattle.pay_account.specs.State.{State, accepted_of}
+use Rattle.pay_rules.specs.State.{State, accepted_of}
 use Rattle.pay_shard.specs.declared.asked.Asked.{Asked}
 use Rattle.pay_shard.specs.declared.asked.Asked.TheVariants as asked
 use Rattle.pay_shard.specs.declared.item.Item.{Item}

@@ -2,13 +2,14 @@
 use Rattle.std.proofs.Common.{◌≡◌, Bool, true, false, cond, List, [], ◌∷◌, ◌++◌, Result, Ok, Err, if◌then◌else◌, refl, sym, ap, subst}
 use Rattle.std.specs.Prelude.{filter}
 use Rattle.pay_tables.specs.Words.{FareTables}
-use Rattle.pay_taps.specs.declared.tap.Tap.{Tap}
-use Rattle.pay_fix.specs.declared.fix.Fix.{Fix}
-use Rattle.pay_quotes.specs.declared.priced.Priced.{Priced}
-use Rattle.pay_account.specs.Words.{tap_result, fix_result, after_tap, after_fix}
-use Rattle.pay_account.specs.State.{State, accepted_of}
-use Rattle.pay_account.specs.declared.fares.TapFault.{TapFault}
-use Rattle.pay_account.specs.declared.fares.FixFault.{FixFault}
+use Rattle.pay_rules.specs.declared.tap.Tap.{Tap}
+use Rattle.pay_rules.specs.declared.fix.Fix.{Fix}
+use Rattle.pay_rules.specs.declared.priced.Priced.{Priced}
+use Rattle.pay_rules.specs.TapResults.{tap_result, after_tap}
+use Rattle.pay_rules.specs.FixResults.{fix_result, after_fix}
+use Rattle.pay_rules.specs.State.{State, accepted_of}
+use Rattle.pay_rules.specs.declared.fares.TapFault.{TapFault}
+use Rattle.pay_rules.specs.declared.fares.FixFault.{FixFault}
 use Rattle.pay_shard.specs.Machine.{step_tap_result, step_fix_result, marked_step, item_step}
 use Rattle.pay_shard.specs.NewItems.{is_new, AreAllNew, new_items}
 use Rattle.pay_shard.specs.Runs.{Run, reply_then, run, replay}

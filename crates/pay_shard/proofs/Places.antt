@@ -17,10 +17,10 @@ use Rattle.std.proofs.lemmas.Bool.{lt-ltb, cases_lt}
 use Rattle.std.proofs.lemmas.List.{map-append, length-map}
 use Rattle.std.proofs.lemmas.List.Sorted.{IsNonDecreasingBy-from_sort, list_any-IsPermutation}
 use Rattle.std.proofs.lemmas.Map.Keys.{IsDistinct-IsPermutation, apart_from_distinct, sorted_from_strictly_increasing}
-use Rattle.pay_account.specs.Words.{Accepted, nothing}
+use Rattle.pay_rules.specs.Accepted.{Accepted, nothing}
 use Rattle.pay_shard.specs.Held.{place_of, ArePlaces, AreNumbersOf, state_of}
 use Rattle.pay_shard.specs.State.{kept}
-use Rattle.pay_account.specs.State.{State, accepted_of}
+use Rattle.pay_rules.specs.State.{State, accepted_of}
 
 abbrev pub same_number : ℕ → ℕ → Bool
 same_number = eq_by_cmp nat_cmp

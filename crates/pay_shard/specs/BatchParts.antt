@@ -2,8 +2,11 @@
 use Rattle.std.specs.Prelude.{ℕ, if◌then◌else◌, List, [], ◌∷◌, ◌++◌, map, refl}
 use Rattle.std.specs.Coded.{Coded, code_by, coded×, coded_list}
 use Rattle.pay_tables.specs.Words.{FareTables}
-use Rattle.pay_account.specs.Words.{Accepted, QuoteParts, quote_code, quote, SetsParts, sets_code, sets}
-use Rattle.pay_account.specs.State.{State, accepted_of}
+use Rattle.pay_rules.specs.Accepted.{Accepted}
+use Rattle.pay_rules.specs.QuoteParts.{QuoteParts, quote_code}
+use Rattle.pay_rules.specs.Quotes.{quote}
+use Rattle.pay_rules.specs.SetsParts.{SetsParts, sets_code, sets}
+use Rattle.pay_rules.specs.State.{State, accepted_of}
 use Rattle.pay_shard.specs.Selection.{is_of, is_quoted, quoted}
 
 pub record BatchParts : Type 0 where

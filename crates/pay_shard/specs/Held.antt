@@ -8,7 +8,8 @@ use Rattle.std.specs.Set.{is_member}
 use Rattle.std.specs.Ordering.{nat_cmp, eq_by_cmp}
 use Rattle.pay_tables.specs.Codes.{fare_tables_code}
 use Rattle.pay_tables.specs.Words.{FareTables}
-use Rattle.pay_account.specs.Words.{Accepted, State, state_code}
+use Rattle.pay_rules.specs.Accepted.{Accepted}
+use Rattle.pay_rules.specs.State.{State, state_code}
 
 -- the fare file by which they are priced, and what they have accepted
 pub record Held : Type 0 where

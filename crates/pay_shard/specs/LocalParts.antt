@@ -3,7 +3,7 @@ use Rattle.std.specs.Prelude.{◌≡◌, ℕ, ◌+◌, ◌<◌, ◌==◌, cond, 
 use Rattle.std.specs.Coded.{Coded, code_by, coded×, coded_ℕ, coded_list}
 use Rattle.std.specs.List.{AllByRecursion, IsDistinct, slice_get}
 use Rattle.pay_tables.specs.Words.{FareTables}
-use Rattle.pay_account.specs.State.{State}
+use Rattle.pay_rules.specs.State.{State}
 use Rattle.pay_shard.specs.Desks.{DeskParts}
 use Rattle.pay_shard.specs.ShardParts.{ShardParts, shard_code, answers_given, next_answer, with_item}
 use Rattle.pay_shard.specs.declared.asked.Asked.{Asked}

@@ -1,14 +1,17 @@
 -- The machine that answers: it keeps the accepted taps and corrections of each account, and prices them from scratch.
 use Rattle.std.specs.Prelude.{◌≡◌, Bool, true, false, Result, Ok, Err}
 use Rattle.pay_tables.specs.Words.{FareTables}
-use Rattle.pay_taps.specs.declared.tap.Tap.{Tap}
-use Rattle.pay_fix.specs.declared.fix.Fix.{Fix}
-use Rattle.pay_account.specs.Words.{tap_result, fix_result, shown, quote}
-use Rattle.pay_quotes.specs.declared.priced.Priced.{Priced}
-use Rattle.pay_account.specs.declared.fares.TapFault.{TapFault}
-use Rattle.pay_account.specs.declared.fares.FixFault.{FixFault}
+use Rattle.pay_rules.specs.declared.tap.Tap.{Tap}
+use Rattle.pay_rules.specs.declared.fix.Fix.{Fix}
+use Rattle.pay_rules.specs.TapResults.{tap_result}
+use Rattle.pay_rules.specs.FixResults.{fix_result}
+use Rattle.pay_rules.specs.Lines.{shown}
+use Rattle.pay_rules.specs.Quotes.{quote}
+use Rattle.pay_rules.specs.declared.priced.Priced.{Priced}
+use Rattle.pay_rules.specs.declared.fares.TapFault.{TapFault}
+use Rattle.pay_rules.specs.declared.fares.FixFault.{FixFault}
 use Rattle.pay_shard.specs.State.{after_tap_of, after_fix_of}
-use Rattle.pay_account.specs.State.{State, accepted_of}
+use Rattle.pay_rules.specs.State.{State, accepted_of}
 use Rattle.pay_shard.specs.BatchParts.{batch}
 use Rattle.pay_shard.specs.Faults.{reply_to_tap_fault, reply_to_fix_fault}
 use Rattle.pay_shard.specs.declared.asked.Asked.{Asked}

@@ -1,8 +1,8 @@
 -- The numbers of a command, and their ranges.
 use Rattle.std.specs.Prelude.{◌≤◌, ◌<◌, ⊤}
 use Rattle.pay_day.specs.Words.{IsDay}
-use Rattle.pay_fix.specs.declared.fix.What.{What}
-use Rattle.pay_fix.specs.declared.fix.What.TheVariants as what
+use Rattle.pay_rules.specs.declared.fix.What.{What}
+use Rattle.pay_rules.specs.declared.fix.What.TheVariants as what
 use Rattle.pay_shard.specs.declared.asked.Asked.{Asked}
 use Rattle.pay_shard.specs.declared.asked.Asked.TheVariants as asked
 use Rattle.pay_shard.specs.declared.limits.TheConstants.{MOST_SHARDS}

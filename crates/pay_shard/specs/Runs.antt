@@ -2,8 +2,9 @@
 use Rattle.std.specs.Prelude.{◌≡◌, ℕ, ◌+◌, true, false, List, [], ◌∷◌, Option, Some, None, ⊤, refl}
 use Rattle.std.specs.List.{slice_get}
 use Rattle.pay_tables.specs.Words.{FareTables}
-use Rattle.pay_account.specs.Words.{shown, quote}
-use Rattle.pay_account.specs.State.{State, accepted_of}
+use Rattle.pay_rules.specs.Lines.{shown}
+use Rattle.pay_rules.specs.Quotes.{quote}
+use Rattle.pay_rules.specs.State.{State, accepted_of}
 use Rattle.pay_shard.specs.Machine.{step, item_step, is_refusal}
 use Rattle.pay_shard.specs.declared.asked.Asked.TheVariants as asked
 use Rattle.pay_shard.specs.declared.item.Entry.{Entry}

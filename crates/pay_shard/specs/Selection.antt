@@ -3,12 +3,13 @@ use Rattle.std.specs.Prelude.{◌≡◌, ℕ, nat_le, ◌%◌, ◌==◌, ◌&&�
 use Rattle.std.specs.FinMap as map
 use Rattle.std.specs.List.{list_any}
 use Rattle.pay_day.specs.Words.{monday}
-use Rattle.pay_taps.specs.declared.tap.Tap.{Tap}
-use Rattle.pay_fix.specs.declared.fix.Fix.{Fix}
-use Rattle.pay_fix.specs.declared.fix.What.{What}
-use Rattle.pay_fix.specs.declared.fix.What.TheVariants as what
-use Rattle.pay_account.specs.Words.{Accepted, SetsParts, sets}
-use Rattle.pay_account.specs.State.{State}
+use Rattle.pay_rules.specs.declared.tap.Tap.{Tap}
+use Rattle.pay_rules.specs.declared.fix.Fix.{Fix}
+use Rattle.pay_rules.specs.declared.fix.What.{What}
+use Rattle.pay_rules.specs.declared.fix.What.TheVariants as what
+use Rattle.pay_rules.specs.Accepted.{Accepted}
+use Rattle.pay_rules.specs.SetsParts.{SetsParts, sets}
+use Rattle.pay_rules.specs.State.{State}
 
 abbrev pub is_between : ℕ → ℕ → ℕ → Bool
 is_between from through day = nat_le from day && nat_le day through

@@ -3,7 +3,7 @@ use Rattle.std.specs.Prelude.{ℕ, List, ◌∷◌, [], ◌++◌, length, Bool, 
 use Rattle.std.specs.Coded.{Coded, code_by, coded×, coded_ℕ, coded_list}
 use Rattle.pay_tables.specs.Codes.{fare_tables_code}
 use Rattle.pay_tables.specs.Words.{FareTables}
-use Rattle.pay_account.specs.State.{State, state_code}
+use Rattle.pay_rules.specs.State.{State, state_code}
 use Rattle.pay_shard.specs.Runs.{replay, answer_at, answers}
 use Rattle.pay_shard.specs.contracts.item.Item as item
 use Rattle.pay_shard.specs.declared.item.Item.{Item}

@@ -1,12 +1,15 @@
 -- What the machine keeps after a command: of each account what it has accepted.
 use Rattle.std.specs.Prelude.{ℕ, Bool, false, not, Result, Ok, Err, if◌then◌else◌}
 use Rattle.std.specs.FinMap as map
-use Rattle.pay_taps.specs.declared.tap.Tap.{Tap}
-use Rattle.pay_fix.specs.declared.fix.Fix.{Fix}
-use Rattle.pay_account.specs.Words.{Accepted, State, accepted_of, after_tap, after_fix}
-use Rattle.pay_quotes.specs.declared.priced.Priced.{Priced}
-use Rattle.pay_account.specs.declared.fares.TapFault.{TapFault}
-use Rattle.pay_account.specs.declared.fares.FixFault.{FixFault}
+use Rattle.pay_rules.specs.declared.tap.Tap.{Tap}
+use Rattle.pay_rules.specs.declared.fix.Fix.{Fix}
+use Rattle.pay_rules.specs.Accepted.{Accepted}
+use Rattle.pay_rules.specs.State.{State, accepted_of}
+use Rattle.pay_rules.specs.TapResults.{after_tap}
+use Rattle.pay_rules.specs.FixResults.{after_fix}
+use Rattle.pay_rules.specs.declared.priced.Priced.{Priced}
+use Rattle.pay_rules.specs.declared.fares.TapFault.{TapFault}
+use Rattle.pay_rules.specs.declared.fares.FixFault.{FixFault}
 
 -- whether something was accepted that was not there before
 abbrev pub is_new : {E : Type 0} → Result Priced E → Bool

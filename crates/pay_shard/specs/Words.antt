@@ -1,7 +1,6 @@
 -- Words for the crates above: what a command may ask, the machine that answers, what a shard keeps, what a merge of several is, and how a desk
 -- stands, what it took and what it answered.
 pub use Rattle.pay_shard.specs.Ranges.{IsInRange}
-pub use Rattle.pay_account.specs.State.{State, accepted_of, ArePriced}
 pub use Rattle.pay_shard.specs.Selection.{is_of, is_quoted, quoted}
 pub use Rattle.pay_shard.specs.BatchParts.{BatchParts, batch_code, batch_of, batch}
 pub use Rattle.pay_shard.specs.Machine.{Step, step, item_step, is_memory, is_refusal}

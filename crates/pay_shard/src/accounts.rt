@@ -6,18 +6,19 @@ ghost use Rattle.std.specs.List.{IsDistinct};
 ghost use Rattle.std.specs.Ordering.{nat_cmp, eq_by_cmp};
 ghost use Rattle.std.specs.Set.{is_member};
 ghost use Rattle.pay_day.specs.Words.{IsDay};
-ghost use Rattle.pay_account.specs.Words.{IsTapResult, IsFixResult, shown, quote};
+ghost use Rattle.pay_rules.specs.TapResults.{IsTapResult};
+ghost use Rattle.pay_rules.specs.FixResults.{IsFixResult};
+ghost use Rattle.pay_rules.specs.Lines.{shown};
+ghost use Rattle.pay_rules.specs.Quotes.{quote};
 ghost use Rattle.pay_shard.specs.State.{after_tap_of, after_fix_of};
-ghost use Rattle.pay_account.specs.State.{accepted_of, ArePriced};
+ghost use Rattle.pay_rules.specs.State.{accepted_of, ArePriced};
 ghost use Rattle.pay_shard.specs.BatchParts.{batch, batch_if_quoted, batch_with};
 ghost use Rattle.pay_shard.specs.Held.{ArePlaces, AreNumbersOf, state_of};
 
 use crate::batch::Batch;
 use crate::selection::is_quoted;
-use pay_account::{Fares, FixFault, Priced, Quote, Shown, TapFault};
-use pay_fix::Fix;
+use pay_rules::{Fares, Fix, FixFault, Priced, Quote, Shown, Tap, TapFault};
 use pay_tables::Tables;
-use pay_taps::Tap;
 use std::alloc::{AllocError, AllocFailed, Global};
 use std::collections::HashMap;
 use std::marker::Model;
@@ -38,7 +39,7 @@ impl<F: Fares> Model for Accounts<F> {
     ghost use Rattle.std.specs.Prelude.{map};
     ghost use Rattle.std.specs.Arc.{arc_value};
     ghost use Rattle.pay_shard.specs.Held.{Held, held_code, ArePlaces, state_of};
-    ghost use Rattle.pay_account.specs.State.{ArePriced};
+    ghost use Rattle.pay_rules.specs.State.{ArePriced};
 
     ghost Value = { Held };
 

@@ -6,9 +6,7 @@ ghost use Rattle.pay_shard.specs.Machine.{IsAnswered};
 use crate::accounts::Accounts;
 use crate::asked::Asked;
 use crate::reply::Reply;
-use pay_account::Fares;
-use pay_fix::Fix;
-use pay_taps::Tap;
+use pay_rules::{Fares, Fix, Tap};
 
 impl<F: Fares> Accounts<F> {
     /// Answers what is asked.

@@ -1,5 +1,4 @@
-use pay_fix::Fix;
-use pay_taps::Tap;
+use pay_rules::{Fix, Tap};
 
 /// What a command asks.
 #[derive(Clone, Copy, Debug, PartialEq, Eq)]

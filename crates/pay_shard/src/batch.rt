@@ -1,6 +1,6 @@
 ghost use Rattle.std.specs.Prelude.{◌≡◌, [], ◌∷◌, ◌++◌, OnOk};
 
-use pay_account::{Quote, Sets};
+use pay_rules::{Quote, Sets};
 use std::alloc::{AllocError, Global};
 use std::marker::Model;
 

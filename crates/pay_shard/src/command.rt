@@ -5,7 +5,7 @@ ghost use Rattle.pay_shard.specs.Ranges.{IsWhatInRange, IsInRange};
 use crate::asked::Asked;
 use crate::limits::MOST_SHARDS;
 use pay_day::limits::{FIRST_DAY, LAST_DAY};
-use pay_fix::What;
+use pay_rules::What;
 use std::marker::Model;
 
 /// A command whose numbers are in their ranges. In a contract it is what it asks.

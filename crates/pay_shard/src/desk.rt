@@ -1,5 +1,5 @@
 ghost use Rattle.std.specs.Prelude.{◌≡◌, ◌≤◌, [], ◌∷◌, ◌++◌, IfOk, IfErr, OnErr};
-ghost use Rattle.pay_numbered.specs.Words.{IsIn};
+ghost use Rattle.pay_rules.specs.InTurn.{IsIn};
 ghost use Rattle.pay_shard.specs.declared.desk.DeskFault.TheVariants.{Late};
 ghost use Rattle.pay_shard.specs.declared.limits.TheConstants.{MOST_SHARDS};
 ghost use Rattle.pay_shard.specs.Desks.{DeskParts, with_waiting, IsForShards, IsAfterAll, IsNoneOf, without, IsReplyTo, AreKept};

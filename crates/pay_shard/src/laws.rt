@@ -38,7 +38,7 @@ pub fn order_forgets_arrival()
     // Where the same ones were accepted, nothing else that was asked makes a difference, nor whether memory ran out.
     ensures among_others { AcceptedAlikeEndsAlike }
 {
-    pay_account::laws::order_forgets_arrival();
+    pay_rule_laws::accounts::order_forgets_arrival();
 }
 
 /// All that a journal came to is in its newly accepted items, those that are neither refused nor repeats: whoever keeps these

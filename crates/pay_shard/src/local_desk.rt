@@ -4,8 +4,8 @@ ghost use Rattle.std.specs.List.{IsDistinct, find, position};
 ghost use Rattle.std.specs.Option.{option_map};
 ghost use Rattle.std.specs.Ordering.{nat_cmp, eq_by_cmp};
 ghost use Rattle.std.specs.Vec.{vec_capacity, vec_len};
-ghost use Rattle.pay_numbered.specs.Words.{IsIn};
-ghost use Rattle.pay_account.specs.State.{ArePriced};
+ghost use Rattle.pay_rules.specs.InTurn.{IsIn};
+ghost use Rattle.pay_rules.specs.State.{ArePriced};
 ghost use Rattle.pay_shard.specs.Held.{state_of};
 ghost use Rattle.pay_shard.specs.Desks.{with_waiting, without, IsForShards, IsAfterAll, IsNoneOf, IsReplyTo, AreKept};
 ghost use Rattle.pay_shard.specs.declared.desk.DeskFault.TheVariants.{Late};
@@ -19,7 +19,7 @@ use crate::item::Entry;
 use crate::reply::{Answer, Reply};
 use crate::shard::Shard;
 use crate::ticket::Ticket;
-use pay_account::Fares;
+use pay_rules::Fares;
 use pay_tables::Tables;
 use std::alloc::{AllocFailed, Global};
 use std::marker::Model;
@@ -130,7 +130,7 @@ impl<F: Fares> LocalDesk<F> {
 
 impl<F: Fares> Desk for LocalDesk<F> {
     ghost use Rattle.pay_tables.specs.Words.{FareTables};
-    ghost use Rattle.pay_account.specs.State.{State};
+    ghost use Rattle.pay_rules.specs.State.{State};
     ghost use Rattle.pay_shard.specs.LocalParts.{desk_parts};
 
     ghost Origin = { FareTables × State };

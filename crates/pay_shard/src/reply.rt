@@ -1,7 +1,7 @@
 use crate::batch::Batch;
 use crate::command::Command;
 use crate::refusal::Refusal;
-use pay_account::{FixFault, Priced, Quote, Shown, TapFault};
+use pay_rules::{FixFault, Priced, Quote, Shown, TapFault};
 
 /// What is replied to a command.
 #[derive(Drop)]

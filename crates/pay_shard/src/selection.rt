@@ -3,10 +3,8 @@ ghost use Rattle.std.specs.List.{list_any};
 ghost use Rattle.pay_day.specs.declared.limits.TheConstants.{FIRST_DAY};
 ghost use Rattle.pay_shard.specs.Selection.{is_between, is_tap_between, is_fill_between, is_quoted};
 
-use pay_account::Sets;
 use pay_day::monday;
-use pay_fix::{Fix, What};
-use pay_taps::Tap;
+use pay_rules::{Fix, Sets, Tap, What};
 
 fn is_between(from: u32, through: u32, day: u32) -> bool
     ensures { result ≡ is_between from through day }

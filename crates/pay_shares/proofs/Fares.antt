@@ -10,11 +10,12 @@ use Rattle.pay_money.specs.Words.{part, parts}
 use Rattle.pay_tables.specs.declared.place.Place.{Place}
 use Rattle.pay_tables.specs.declared.place.Place.TheVariants.{Station, Route}
 use Rattle.pay_tables.specs.Words.{FareTables, IsPlace}
-use Rattle.pay_links.specs.Words.{Leg, LinkedLegs, all_legs}
-use Rattle.pay_links.specs.declared.journey.Journey.{Journey}
-use Rattle.pay_links.specs.declared.journey.Journey.TheVariants.{Run, Same, Lone, Bus}
-use Rattle.pay_shares.specs.Portions.{operator_of, operator_at, Portion, portion, leg_portion, leg_portions, portions}
-use Rattle.pay_shares.specs.OperatorWeights.{all_portions, sum_of_fares, weights_of, weights}
+use Rattle.pay_rules.specs.declared.parts.Leg.{Leg}
+use Rattle.pay_rules.specs.LinkedLegs.{LinkedLegs, all_legs}
+use Rattle.pay_rules.specs.declared.journey.Journey.{Journey}
+use Rattle.pay_rules.specs.declared.journey.Journey.TheVariants.{Run, Same, Lone, Bus}
+use Rattle.pay_rules.specs.Portions.{operator_of, operator_at, Portion, portion, leg_portion, leg_portions, portions}
+use Rattle.pay_rules.specs.OperatorWeights.{all_portions, sum_of_fares, weights_of, weights}
 use Rattle.pay_shares.specs.Adding.{with_portion, with_portions}
 use Rattle.pay_shares.proofs.Weighing.{AreWithin, pence, all_added, weights_together}
 

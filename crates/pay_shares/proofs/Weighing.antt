@@ -9,8 +9,8 @@ use Rattle.std.proofs.lemmas.List.Elements.{All-head, All-tail}
 use Rattle.std.proofs.lemmas.List.FromFn.{length-map-range_with_len, get_or-map-range_with_len}
 use Rattle.std.proofs.lemmas.List.Sums.{sum_by-cons, sum_by_push, sum_by-set}
 use Rattle.pay_money.specs.declared.limits.TheConstants.{OPERATORS}
-use Rattle.pay_shares.specs.Portions.{Portion}
-use Rattle.pay_shares.specs.OperatorWeights.{weight, weights_of}
+use Rattle.pay_rules.specs.Portions.{Portion}
+use Rattle.pay_rules.specs.OperatorWeights.{weight, weights_of}
 use Rattle.pay_shares.specs.Adding.{with_portion, with_portions}
 
 -- the operator of a portion is one of 1 to 16

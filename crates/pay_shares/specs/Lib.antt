@@ -1,4 +1,1 @@
-pub mod Portions
-pub mod OperatorWeights
 pub mod Adding
-pub mod Words

@@ -2,9 +2,9 @@
 //! nothing: a caller whose proof needs a law calls its function.
 ghost use Rattle.std.specs.Prelude.{◌≡◌, ◌≢◌, ℕ, ◌≤◌, List, All, sum};
 ghost use Rattle.pay_money.specs.declared.limits.TheConstants.{OPERATORS};
-ghost use Rattle.pay_links.specs.declared.journey.Journey.{Journey};
-ghost use Rattle.pay_shares.specs.Portions.{Portion, operator_at};
-ghost use Rattle.pay_shares.specs.OperatorWeights.{weight, weights, sum_of_fares};
+ghost use Rattle.pay_rules.specs.declared.journey.Journey.{Journey};
+ghost use Rattle.pay_rules.specs.Portions.{Portion, operator_at};
+ghost use Rattle.pay_rules.specs.OperatorWeights.{weight, weights, sum_of_fares};
 
 use pay_tables::Tables;
 

@@ -1,14 +1,14 @@
 ghost use Rattle.std.specs.Prelude.{◌≡◌, ◌≤◌, ◌<◌, ◌+◌, sum};
 ghost use Rattle.pay_money.specs.declared.limits.TheConstants.{MOST_MONEY, OPERATORS};
-ghost use Rattle.pay_links.specs.Words.{all_legs};
-ghost use Rattle.pay_shares.specs.Portions.{operator_at, portion, leg_portions, portions};
-ghost use Rattle.pay_shares.specs.OperatorWeights.{sum_of_fares, weights};
+ghost use Rattle.pay_rules.specs.LinkedLegs.{all_legs};
+ghost use Rattle.pay_rules.specs.Portions.{operator_at, portion, leg_portions, portions};
+ghost use Rattle.pay_rules.specs.OperatorWeights.{sum_of_fares, weights};
 ghost use Rattle.pay_shares.specs.Adding.{with_portion, with_portions};
 
 use crate::laws;
-use pay_links::{Journey, Run};
 use pay_money::limits::OPERATORS;
 use pay_money::{Pence, part};
+use pay_rules::{Journey, Run};
 use pay_tables::{Place, Tables};
 
 /// Whose the place at a number is. A number without a place, which no accepted tap has, counts as one of

@@ -5,7 +5,7 @@ use Rattle.std.proofs.lemmas.Grind.{flat_map-append}
 use Rattle.std.proofs.KnownBytes.{Appends-trans}
 use Rattle.std.specs.Io.KnownBytes.{Appends, Keeps, append_known}
 use Rattle.pay_tables.specs.Words.{FareTables}
-use Rattle.pay_quotes.specs.declared.shown.Line.{Line}
+use Rattle.pay_rules.specs.declared.shown.Line.{Line}
 use Rattle.pay_statement.specs.Statement.{fields_of_line, row, rows_of_lines}
 
 -- nothing was left to be written at first

@@ -10,10 +10,10 @@ use Rattle.pay_tables.specs.declared.band.Band.{Band}
 use Rattle.pay_tables.specs.declared.band.Cover.{Cover}
 use Rattle.pay_tables.specs.declared.band.Cover.TheVariants.{Buses, Zones}
 use Rattle.pay_tables.specs.Words.{FareTables}
-use Rattle.pay_quotes.specs.declared.shown.Line.{Line}
-use Rattle.pay_quotes.specs.declared.shown.LineKind.{LineKind}
-use Rattle.pay_quotes.specs.declared.shown.LineKind.TheVariants as kind
-use Rattle.pay_quotes.specs.Words.{word_of_kind}
+use Rattle.pay_rules.specs.declared.shown.Line.{Line}
+use Rattle.pay_rules.specs.declared.shown.LineKind.{LineKind}
+use Rattle.pay_rules.specs.declared.shown.LineKind.TheVariants as kind
+use Rattle.pay_rules.specs.KindWords.{word_of_kind}
 use Rattle.pay_statement.specs.Statement.{leading_zero, two_digits, time_of_day, cover_name, band_name, band_at, columns, fields_of_line, row}
 
 -- ---- bytes that fail a test

@@ -8,7 +8,7 @@ use Rattle.csv.specs.Writing.{read_back}
 use Rattle.csv.specs.declared.parser.State.TheVariants as st
 use Rattle.csv.proofs.RoundTrip.{read-write, rows_text}
 use Rattle.pay_tables.specs.Words.{FareTables}
-use Rattle.pay_quotes.specs.declared.shown.Line.{Line}
+use Rattle.pay_rules.specs.declared.shown.Line.{Line}
 use Rattle.pay_statement.specs.Statement.{columns, fields_of_line, row, rows_of_lines, statement_text}
 use Rattle.pay_statement.proofs.Plain.{row_of_columns, row_of_line}
 

@@ -3,7 +3,7 @@
 ghost use Rattle.std.specs.Prelude.{◌≡◌, List, ◌∷◌, map};
 ghost use Rattle.csv.specs.Reading.{default_config, records};
 ghost use Rattle.pay_tables.specs.Words.{FareTables};
-ghost use Rattle.pay_quotes.specs.declared.shown.Line.{Line};
+ghost use Rattle.pay_rules.specs.declared.shown.Line.{Line};
 ghost use Rattle.pay_statement.specs.Statement.{columns, fields_of_line, statement_text};
 
 /// What `csv` by its defaults reads of a statement is the names of the fields, and then the fields of each

@@ -7,7 +7,7 @@ ghost use Rattle.pay_statement.specs.Rows.{IsBetweenRows};
 
 use crate::fields::{band_name, number, time_of_day};
 use csv::Writer;
-use pay_quotes::Line;
+use pay_rules::Line;
 use pay_tables::Tables;
 use std::io::Write;
 use thiserror::Error;

@@ -3,8 +3,8 @@ use Rattle.std.proofs.Common.{rules, ◌≡◌, ℕ, zero, suc, ◌<◌, ◌≤�
 use Rattle.std.specs.List.{AllByRecursion, IsDistinct, insert, remove}
 use Rattle.std.specs.List.Sorted.{IsPartitionedBy, IsPartitionPoint}
 use Rattle.std.proofs.lemmas.List.Sorted.{sorted_far}
-use Rattle.pay_taps.specs.declared.tap.Touch.{Touch}
-use Rattle.pay_taps.specs.Order.{comes_before, put_in, same_number, IsInOrder, HaveOwnNumbers}
+use Rattle.pay_rules.specs.declared.tap.Touch.{Touch}
+use Rattle.pay_rules.specs.Order.{comes_before, put_in, same_number, IsInOrder, HaveOwnNumbers}
 use Rattle.pay_taps.specs.Timelines.{AreTimed, place_of, PutInAtPlace, StandsAtPlace, TakenOutAtPlace, SomeWithOneMore, OwnNumberAmongSome}
 use Rattle.pay_taps.proofs.Sorting.{Rises, not_before_itself, rises_from_sorted, sorted_from_rises, rises_put, all_put}
 use Rattle.pay_taps.proofs.TouchOrder.{touches_ranked}

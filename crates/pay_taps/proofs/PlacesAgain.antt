@@ -2,10 +2,9 @@
 use Rattle.std.proofs.Common.{◌≡◌, ℕ, zero, suc, ◌+◌, ◌<◌, true, false, cond, List, [], ◌∷◌, length, get_or, slice_get, unwrap_or, Some, refl, sym, ap, ◌∙◌, subst, arith}
 use Rattle.std.specs.List.{insert, remove}
 use Rattle.std.proofs.lemmas.Option.{slice_get_within, unwrap_or-slice_get}
-use Rattle.pay_taps.specs.declared.tap.Touch.{Touch}
-use Rattle.pay_taps.specs.Order.{comes_before}
+use Rattle.pay_rules.specs.declared.tap.Touch.{Touch}
+use Rattle.pay_rules.specs.Order.{comes_before, IsInOrder}
 use Rattle.pay_taps.specs.Timelines.{place_of, PlaceWithoutIt, PutInAgain}
-use Rattle.pay_taps.specs.Order.{IsInOrder}
 use Rattle.pay_taps.proofs.Places.{put_in_at_place}
 
 in_front : (t : Touch) (list : List Touch) → ((next : Touch) → slice_get list 0 ≡ Some next → comes_before next t ≡ false) → place_of t list ≡ 0

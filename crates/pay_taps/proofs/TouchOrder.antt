@@ -9,8 +9,8 @@ use Rattle.std.proofs.lemmas.Bool.{and_from}
 use Rattle.std.proofs.lemmas.Cmp.{on_total, then_total}
 use Rattle.std.proofs.lemmas.List.Sorted.{ranks_by}
 use Rattle.std.proofs.lemmas.Map.Lookups.{exact_unsigned}
-use Rattle.pay_taps.specs.declared.tap.Touch.{Touch}
-use Rattle.pay_taps.specs.Order.{touch_cmp, comes_before, in_order, same_number, HaveOwnNumbers}
+use Rattle.pay_rules.specs.declared.tap.Touch.{Touch}
+use Rattle.pay_rules.specs.Order.{touch_cmp, comes_before, in_order, same_number, HaveOwnNumbers}
 use Rattle.pay_taps.proofs.Sorting.{NoTies, one_arrangement, both_false}
 
 pub touches_total : IsTotalOrder touch_cmp

@@ -2,8 +2,8 @@
 //! proof needs a law calls its function.
 ghost use Rattle.std.specs.Prelude.{◌≡◌, ◌∷◌, Bool, List, filter, IsPermutation, IsSorted};
 ghost use Rattle.std.specs.List.Sorted.{IsStable};
-ghost use Rattle.pay_taps.specs.declared.tap.Touch.{Touch};
-ghost use Rattle.pay_taps.specs.Order.{touch_cmp, cmp_by, put_in, in_order, in_order_by, IsInOrder, HaveOwnNumbers};
+ghost use Rattle.pay_rules.specs.declared.tap.Touch.{Touch};
+ghost use Rattle.pay_rules.specs.Order.{touch_cmp, cmp_by, put_in, in_order, in_order_by, IsInOrder, HaveOwnNumbers};
 ghost use Rattle.pay_taps.specs.Timelines.{AreTimed, PutInAtPlace, StandsAtPlace, TakenOutAtPlace, PlaceWithoutIt, PutInAgain, SomeWithOneMore, OwnNumberAmongSome};
 
 /// To put in order moves touches and does nothing else.

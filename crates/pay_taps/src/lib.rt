@@ -2,15 +2,13 @@
 #![tactic(auto)]
 
 pub mod laws;
-pub mod limits;
 mod order;
 mod steps;
-mod tap;
 mod tap_set;
 mod timeline;
 
 pub use order::sort_touches;
+pub use pay_rules::{Kind, Tap, Touch};
 pub use steps::Steps;
-pub use tap::{Kind, Tap, Touch};
 pub use tap_set::TapSet;
 pub use timeline::Timeline;

@@ -1,7 +1,7 @@
 ghost use Rattle.std.specs.Prelude.{◌≡◌, ◌≤◌, length, IsOk, OnOk, OnErr};
-ghost use Rattle.pay_taps.specs.Order.{in_order, IsInOrder};
+ghost use Rattle.pay_rules.specs.Order.{in_order, IsInOrder};
 
-use crate::tap::Touch;
+use pay_rules::Touch;
 use std::alloc::AllocError;
 
 /// Puts effective taps in order: by their instants, accepted ones before filled ones, then by their

@@ -1,7 +1,7 @@
 ghost use Rattle.std.specs.Prelude.{◌≡◌, ◌≤◌};
 ghost use Rattle.pay_taps.specs.Timelines.{counted};
 
-use crate::tap::Touch;
+use pay_rules::Touch;
 use std::marker::Model;
 
 /// How many taps were read of timelines: one more for each tap that `Timeline` answers. At the greatest value

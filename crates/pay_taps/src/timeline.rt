@@ -1,11 +1,11 @@
 ghost use Rattle.std.specs.Prelude.{◌≡◌, ◌≤◌, ◌↔◌, suc, ◌∷◌, [], length, IsOk, OnOk, IsTrue, Some, slice_get};
 ghost use Rattle.std.specs.List.{remove};
-ghost use Rattle.pay_taps.specs.Order.{comes_before, put_in, HaveOwnNumbers, IsInOrder};
+ghost use Rattle.pay_rules.specs.Order.{comes_before, put_in, HaveOwnNumbers, IsInOrder};
 ghost use Rattle.pay_taps.specs.Timelines.{AreTimed, place_of, touch_before, counted};
 
 use crate::steps::Steps;
-use crate::tap::Touch;
 use pay_blocks::{Blocks, ComesAfter};
+use pay_rules::Touch;
 use std::alloc::{AllocError, Global};
 use std::marker::Model;
 
@@ -35,11 +35,17 @@ fn comes_before(one: &Touch, other: &Touch) -> bool
         < (other.stamp.utc(), other.filled, other.first, other.second)
 }
 
-impl ComesAfter<Touch> for Touch {
-    ghost after = { λ touch other. comes_before other touch };
+/// A touch whose place is sought.
+#[derive(Clone, Copy)]
+struct Sought {
+    touch: Touch,
+}
+
+impl ComesAfter<Touch> for Sought {
+    ghost after = { λ sought other. comes_before other sought.touch };
 
     fn comes_after(&self, item: &Touch) -> bool {
-        comes_before(item, self)
+        comes_before(item, &self.touch)
     }
 }
 
@@ -82,7 +88,7 @@ impl Timeline {
         ensures place { result ≡ place_of touch.now self.now.touches }
         ensures within { result ≤ length self.now.touches }
     {
-        self.touches.place(touch)
+        self.touches.place(&Sought { touch: *touch })
     }
 
     /// Puts in a tap whose number none has yet, and answers its place. It takes no memory.

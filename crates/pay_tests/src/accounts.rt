@@ -5,10 +5,9 @@ ghost use Rattle.std.specs.Prelude.{◌≡◌};
 use crate::given::{MONDAY, expect_same, sample, tap_at};
 use pay_account::*;
 use pay_book::Book;
-use pay_fix::{Credit, Fix, What};
 use pay_money::Pence;
+use pay_rules::{Credit, Fix, Kind, Tap, What};
 use pay_tables::Tables;
-use pay_taps::{Kind, Tap};
 use std::alloc::AllocError;
 use std::process::Abort;
 

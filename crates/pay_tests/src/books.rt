@@ -11,11 +11,10 @@ use crate::shards::{empty_shard, priced, refusal, reply};
 use pay_account::*;
 use pay_book::{Book, Sent, book_of};
 use pay_day::Moment;
-use pay_fix::{Credit, Fix, What};
 use pay_money::Pence;
+use pay_rules::{Credit, Fix, Kind, Tap, What};
 use pay_shard::{Asked, Refusal, Reply, Shard};
 use pay_tables::Tables;
-use pay_taps::{Kind, Tap};
 use std::alloc::AllocError;
 use std::process::Abort;
 

@@ -7,9 +7,9 @@ use crate::given::{MAY_BE_REFUSED, MONDAY, WAS_REFUSED, expect_same, sample, tap
 use crate::shards::{day_price, due, quoted};
 use pay_book::Book;
 use pay_money::Pence;
+use pay_rules::{Kind, Tap};
 use pay_shard::{Asked, Command, Desk, LocalDesk, Reply};
 use pay_tables::Tables;
-use pay_taps::{Kind, Tap};
 use std::process::Abort;
 use std::sync::Arc;
 

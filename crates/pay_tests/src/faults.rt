@@ -1,11 +1,9 @@
 //! What each fault prints: its number and name, as they stand in `docs/FORMATS.md`, or in a few words what failed.
 
 use crate::given::expect_same;
-use pay_account::{FixFault, TapFault};
 use pay_day::StampFault;
 use pay_fare_file::FareFileFault;
-use pay_numbered::AdditionFault;
-use pay_postings::PostFault;
+use pay_rules::{AdditionFault, FixFault, PostFault, TapFault};
 use pay_session::SessionFault;
 use pay_shard::DeskFault;
 use pay_statement::StatementFault;

@@ -1,8 +1,8 @@
 use crate::given::{MAY_BE_REFUSED, MONDAY, WAS_REFUSED, expect_same, tap_at, tell};
 use pay_fix::*;
 use pay_money::Pence;
-use pay_numbered::{Addition, AdditionFault};
-use pay_taps::{Kind, TapSet, Touch};
+use pay_rules::{Addition, AdditionFault, Kind, Touch};
+use pay_taps::TapSet;
 use std::process::Abort;
 
 /// A correction of account 7 by staff 3.

@@ -2,12 +2,10 @@
 
 use crate::accounts::{empty_account, expect_fixed, expect_price};
 use crate::given::{MONDAY, expect_same, tap_at};
-use pay_account::{Account, Fares};
+use pay_account::Account;
 use pay_fare_file::read_tables;
-use pay_fix::{Fix, What};
-use pay_numbered::Addition;
+use pay_rules::{Addition, Fares, Fix, Kind, Tap, What};
 use pay_tables::Tables;
-use pay_taps::{Kind, Tap};
 use std::process::Abort;
 
 /// How many taps and corrections an account may have.

@@ -3,8 +3,8 @@
 use crate::sample::SAMPLE_FARES;
 use pay_day::Moment;
 use pay_fare_file::read_tables;
+use pay_rules::{Kind, Tap, Touch};
 use pay_tables::Tables;
-use pay_taps::{Kind, Tap, Touch};
 use std::fmt::Debug;
 use std::process::Abort;
 

@@ -8,8 +8,8 @@ use pay_hopper::*;
 use pay_links::*;
 use pay_money::Pence;
 use pay_pairs::*;
+use pay_rules::{Kind, Touch};
 use pay_tables::{Span, Tables};
-use pay_taps::{Kind, Touch};
 use std::process::Abort;
 
 #[test]

@@ -2,11 +2,10 @@
 
 use crate::given::{MONDAY, expect_same, sample, tap_at};
 use crate::postings::quote;
-use pay_account::{Account, Fares, Posting, Sets};
-use pay_fix::{Fix, What};
+use pay_account::Account;
 use pay_postings::*;
 use pay_rows::*;
-use pay_taps::{Kind, Tap};
+use pay_rules::{Fares, Fix, Kind, PostFault, Posting, Sets, Tap, What};
 use std::process::Abort;
 
 /// The first posting of account 7: 860 are due through the Tuesday.

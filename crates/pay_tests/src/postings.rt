@@ -2,9 +2,9 @@
 
 use crate::given::{MONDAY, expect_same};
 use crate::shares::first_four;
-use pay_account::Quote;
 use pay_money::Pence;
 use pay_postings::*;
+use pay_rules::{PostFault, Quote};
 use std::process::Abort;
 
 /// What a quote is of: its account, week, day and version.

@@ -9,11 +9,10 @@ use crate::shares::first_four;
 use crate::statements::{BY_RAIL, expect_statement};
 use pay_account::*;
 use pay_book::Book;
-use pay_fix::What;
 use pay_money::Pence;
 use pay_money::limits::OPERATORS;
+use pay_rules::{Kind, What};
 use pay_tables::Tables;
-use pay_taps::Kind;
 use std::alloc::AllocError;
 use std::process::Abort;
 

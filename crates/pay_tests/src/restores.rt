@@ -2,11 +2,10 @@
 
 use crate::given::{MAY_BE_REFUSED, MAY_NOT_BE, WAS_REFUSED, expect_list, sample, tell};
 use crate::ledger_rows::TAPPED;
-use pay_account::Fares;
 use pay_book::Book;
-use pay_postings::PostFault;
 use pay_restore::restored;
 use pay_rows::{FixRow, TapRow};
+use pay_rules::{Fares, PostFault};
 use pay_tables::Tables;
 use std::alloc::AllocError;
 use std::process::Abort;

@@ -5,13 +5,12 @@ ghost use Rattle.std.specs.Prelude.{◌≤◌, ◌<◌};
 
 use crate::given::{MONDAY, expect_same, sample, tap_at};
 use crate::shares::first_four;
-use pay_account::{Account, Fares, Priced, Quote};
+use pay_account::Account;
 use pay_book::Book;
-use pay_fix::{Fix, What};
 use pay_money::Pence;
+use pay_rules::{Fares, Fix, Kind, Priced, Quote, Tap, What};
 use pay_shard::{Asked, Batch, Command, Entry, Refusal, Reply, Shard};
 use pay_tables::Tables;
-use pay_taps::{Kind, Tap};
 use std::process::Abort;
 use std::sync::Arc;
 

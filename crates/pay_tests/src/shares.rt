@@ -4,9 +4,9 @@ use crate::given::{expect_same, sample, touch_at};
 use pay_links::*;
 use pay_money::limits::OPERATORS;
 use pay_money::{Pence, apportion};
-use pay_pairs::{Leg, legs};
+use pay_pairs::legs;
+use pay_rules::{Kind, Leg};
 use pay_shares::{shares, weights};
-use pay_taps::Kind;
 
 /// The weights of operators 1 and 2 by three journeys between their stations.
 const TWO_CARRIED: [u64; OPERATORS] = [680, 340, 0, 0, 0, 0, 0, 0, 0, 0, 0, 0, 0, 0, 0, 0];

@@ -1,8 +1,8 @@
 //! Statements as they are written, and what comes of a writer that fails on the way.
 
 use crate::given::{expect_same, sample};
-use pay_account::{Line, LineKind};
 use pay_money::Pence;
+use pay_rules::{Line, LineKind};
 use pay_statement::{StatementFault, write_csv};
 use std::alloc::Global;
 use std::io;

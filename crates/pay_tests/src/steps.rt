@@ -5,13 +5,11 @@ ghost use Rattle.pay_book.specs.Stored.{IsKept};
 
 use crate::accounts::empty_account;
 use crate::given::{MONDAY, expect_same, sample};
-use pay_account::Fares;
 use pay_book::Book;
 use pay_day::Moment;
-use pay_fix::{Credit, Fix, What};
+use pay_rules::{Credit, Fares, Fix, Kind, Tap, What};
 use pay_shard::Asked;
 use pay_tables::Tables;
-use pay_taps::{Kind, Tap};
 use std::process::Abort;
 
 /// Sends what is asked of an account, and answers whether it is not refused.

@@ -1,5 +1,5 @@
 use crate::given::{MAY_BE_REFUSED, WAS_REFUSED, expect_same, tap_at, tell, touch_at};
-use pay_numbered::{Addition, AdditionFault};
+use pay_rules::{Addition, AdditionFault};
 use pay_taps::*;
 use std::process::Abort;
 

@@ -9,13 +9,13 @@ use crate::desks::empty_desk;
 use crate::given::{MONDAY, expect_same, sample, tap_at};
 use crate::streams::{Scripted, Trickle};
 use jiff::tz::TimeZone;
-use pay_account::{Account, Fares, Posting, Postings};
+use pay_account::Account;
 use pay_book::Book;
 use pay_money::limits::OPERATORS;
+use pay_rules::{Fares, Kind, Posting, Postings};
 use pay_session::{Done, SessionFault, Till, session};
 use pay_shard::{Command, Desk, DeskFault, LocalDesk, Reply, Ticket};
 use pay_tables::Tables;
-use pay_taps::Kind;
 use pay_wire::Refusal;
 use std::process::Abort;
 

@@ -1,8 +1,7 @@
 use crate::given::{MONDAY, expect_same};
 use crate::streams::Scripted;
-use pay_account::{Line, LineKind, Lines, Priced, Shown};
 use pay_money::Pence;
-use pay_taps::Kind;
+use pay_rules::{Kind, Line, LineKind, Lines, Priced, Shown};
 use pay_wire::*;
 use std::io::ErrorKind;
 use std::process::Abort;

@@ -5,10 +5,14 @@ use Rattle.std.proofs.lemmas.List.Elements.{filter-append}
 use Rattle.std.proofs.lemmas.List.Sums.{sum_by-cons, sum_by-append}
 use Rattle.pay_tables.specs.declared.band.Band.{Band}
 use Rattle.pay_tables.specs.Words.{FareTables}
-use Rattle.pay_caps.specs.Words.{Journey, CellSums, capped_sum, total, Offer, charged, cells_of, covers, not_covered, outside, capped_price, capped_price_of, maximum_fares, day_price, fares}
-use Rattle.pay_caps.specs.DayPrices.{day_cap}
+use Rattle.pay_rules.specs.declared.journey.Journey.{Journey}
+use Rattle.pay_caps.specs.Words.{CellSums, capped_sum, total, cells_of, outside, capped_price_of}
+use Rattle.pay_rules.specs.Lowest.{Offer, charged}
+use Rattle.pay_rules.specs.Covers.{covers}
+use Rattle.pay_rules.specs.DayPrices.{not_covered, capped_price, maximum_fares, day_price, fares, day_cap}
 use Rattle.pay_week.specs.Laws.{EmptyDayIsFree}
-use Rattle.pay_week.specs.WeekPrices.{week_cap, capped_days, capped_days_of, maximum_of, week_price, week_price_of}
+use Rattle.pay_rules.specs.WeekPrices.{week_cap, capped_days, week_price}
+use Rattle.pay_week.specs.WeekSumPrices.{capped_days_of, maximum_of, week_price_of}
 
 -- what the sums of a day's journeys come to
 abbrev pub AreSameDays : FareTables → Type 0

@@ -2,8 +2,9 @@
 use Rattle.std.specs.Prelude.{◌≡◌, ◌≤◌, ◌+◌, [], ◌∷◌, ◌++◌, List, map, sum_by}
 use Rattle.pay_tables.specs.declared.band.Band.{Band}
 use Rattle.pay_tables.specs.Words.{FareTables}
-use Rattle.pay_caps.specs.Words.{Journey, not_covered, maximum_fares}
-use Rattle.pay_week.specs.WeekPrices.{capped_days, week_price}
+use Rattle.pay_rules.specs.declared.journey.Journey.{Journey}
+use Rattle.pay_rules.specs.DayPrices.{not_covered, maximum_fares}
+use Rattle.pay_rules.specs.WeekPrices.{capped_days, week_price}
 
 -- a week costs no more than what a band caps and leaves outside of its days, and their maximum fares
 abbrev pub WeekIsWithinBand : Type 0

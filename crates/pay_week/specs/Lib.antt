@@ -1,3 +1,3 @@
-pub mod WeekPrices
+pub mod WeekSumPrices
 pub mod Laws
 pub mod Words

@@ -2,8 +2,11 @@
 //! nothing: a caller whose proof needs a law calls its function.
 ghost use Rattle.std.specs.Prelude.{◌≡◌, ◌≤◌, [], List, map, sum_by};
 ghost use Rattle.pay_tables.specs.Words.{FareTables};
-ghost use Rattle.pay_caps.specs.Words.{Journey, cells_of, day_price};
-ghost use Rattle.pay_week.specs.WeekPrices.{week_price, week_price_of};
+ghost use Rattle.pay_rules.specs.declared.journey.Journey.{Journey};
+ghost use Rattle.pay_caps.specs.Words.{cells_of};
+ghost use Rattle.pay_rules.specs.DayPrices.{day_price};
+ghost use Rattle.pay_rules.specs.WeekPrices.{week_price};
+ghost use Rattle.pay_week.specs.WeekSumPrices.{week_price_of};
 ghost use Rattle.pay_week.specs.Laws.{WeekIsWithinBand, WeekGrows, EmptyDayIsFree};
 
 use pay_tables::Tables;

@@ -2,8 +2,10 @@ ghost use Rattle.std.specs.Prelude.{◌≡◌, ◌≤◌, ◌<◌, ◌+◌, ◌*
 ghost use Rattle.pay_day.specs.declared.limits.TheConstants.{DAYS_PER_WEEK};
 ghost use Rattle.pay_tables.specs.declared.limits.TheConstants.{MOST_FARE};
 ghost use Rattle.pay_money.specs.declared.limits.TheConstants.{MOST_MONEY};
-ghost use Rattle.pay_caps.specs.Words.{capped_sum, lower, outside, outside_of, total};
-ghost use Rattle.pay_week.specs.WeekPrices.{capped_days_of, maximum_of, week_price_of, due};
+ghost use Rattle.pay_caps.specs.Words.{capped_sum, outside, outside_of, total};
+ghost use Rattle.pay_rules.specs.Lowest.{lower};
+ghost use Rattle.pay_week.specs.WeekSumPrices.{capped_days_of, maximum_of, week_price_of};
+ghost use Rattle.pay_rules.specs.WeekPrices.{due};
 
 use pay_caps::{Cells, Offer, capped_price, capped_price_outside, lower};
 use pay_money::Pence;

@@ -10,16 +10,17 @@ use Rattle.std.proofs.lemmas.List.{length-append}
 use Rattle.std.proofs.lemmas.List.Splits.{join_with_byte-slice_split}
 use Rattle.pay_wire.specs.declared.refusal.Refusal.{Refusal}
 use Rattle.pay_wire.specs.declared.refusal.Refusal.TheVariants.{OutOfTime, UnknownPlace, Conflict, AccountFull, FixConflict, FixesFull, Busy, Window, NotHere, StaleQuote, Store, DeskFault, BadArchive, ArchiveConflict, QuoteDiffers, NotKept, BadLine, LongLine, Late, Memory}
-use Rattle.pay_quotes.specs.declared.priced.Priced.{Priced}
-use Rattle.pay_quotes.specs.declared.posting.Posting.{Posting}
-use Rattle.pay_quotes.specs.Words.{QuoteParts, word_of_kind}
+use Rattle.pay_rules.specs.declared.priced.Priced.{Priced}
+use Rattle.pay_rules.specs.declared.posting.Posting.{Posting}
+use Rattle.pay_rules.specs.QuoteParts.{QuoteParts}
+use Rattle.pay_rules.specs.KindWords.{word_of_kind}
 use Rattle.pay_wire.specs.declared.reply.Reply.{Reply}
 use Rattle.pay_wire.specs.declared.reply.Reply.TheVariants as replies
 use Rattle.pay_wire.specs.Fields.{words}
 use Rattle.pay_wire.specs.Replies.{refusal_number, refusal_name, line_of_words, words_of_journey, words_of_shares, words_of_quote, words_of_due, words_of_posting, words_of_reply, postings_of_reply, text_of_postings, journeys_of_reply, text_of_journeys, ending_of_reply, spelling_of_reply, journey_as_read, posting_as_read, reply_as_read, IsReplyJourney, IsReplyNumbers, IsReplyQuote, IsReplyPosting, IsReply}
-use Rattle.pay_quotes.specs.declared.shown.Line.{Line}
-use Rattle.pay_quotes.specs.declared.shown.LineKind.{LineKind}
-use Rattle.pay_quotes.specs.declared.shown.LineKind.TheVariants as kind
+use Rattle.pay_rules.specs.declared.shown.Line.{Line}
+use Rattle.pay_rules.specs.declared.shown.LineKind.{LineKind}
+use Rattle.pay_rules.specs.declared.shown.LineKind.TheVariants as kind
 use Rattle.pay_wire.proofs.ShareWords.{AreNumerals, numeral_words_visible, one_from_share_words}
 use Rattle.pay_wire.proofs.Visible.{is_visible, decimal_visible, AllVisible, IsText, words_joined, text_joined, pieces}
 

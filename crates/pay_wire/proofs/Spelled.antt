@@ -7,8 +7,8 @@ use Rattle.std.proofs.lemmas.Option.{cond_some}
 use Rattle.std.proofs.lemmas.List.Splits.{join_with_byte-slice_split}
 use Rattle.std.proofs.lemmas.Slice.Eq.{bytes_eq-Decides}
 use Rattle.pay_day.specs.Words.{IsDay}
-use Rattle.pay_taps.specs.declared.tap.Kind.{Kind}
-use Rattle.pay_taps.specs.declared.tap.Kind.TheVariants.{In, Out, Bus}
+use Rattle.pay_rules.specs.declared.tap.Kind.{Kind}
+use Rattle.pay_rules.specs.declared.tap.Kind.TheVariants.{In, Out, Bus}
 use Rattle.pay_wire.specs.declared.command.SpelledCredit.{SpelledCredit}
 use Rattle.pay_wire.specs.Spellings.{IsSpelledCredit}
 use Rattle.pay_wire.specs.declared.command.SpelledTap.{SpelledTap}

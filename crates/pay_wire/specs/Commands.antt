@@ -1,10 +1,10 @@
 -- The commands that lines spell.
 use Rattle.std.specs.Prelude.{◌≡◌, ℕ, nat_le, ◌&&◌, List, [], ◌∷◌, ◌++◌, Option, Some, None, if◌then◌else◌, codes, refl}
 use Rattle.std.specs.Str.{bytes_eq}
-use Rattle.pay_taps.specs.declared.tap.Kind.{Kind}
-use Rattle.pay_taps.specs.declared.tap.Kind.TheVariants.{In, Out, Bus}
+use Rattle.pay_rules.specs.declared.tap.Kind.{Kind}
+use Rattle.pay_rules.specs.declared.tap.Kind.TheVariants.{In, Out, Bus}
 use Rattle.pay_wire.specs.declared.command.SpelledCredit.{SpelledCredit}
-use Rattle.pay_fix.specs.declared.limits.TheConstants.{MOST_CREDIT}
+use Rattle.pay_rules.specs.declared.limits.TheConstants.{MOST_CREDIT}
 use Rattle.pay_wire.specs.declared.command.SpelledTap.{SpelledTap}
 use Rattle.pay_wire.specs.declared.command.SpelledFix.{SpelledFix}
 use Rattle.pay_wire.specs.declared.command.SpelledWhat.{SpelledWhat}

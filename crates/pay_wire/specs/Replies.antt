@@ -6,12 +6,13 @@ use Rattle.std.specs.Str.{bytes_eq}
 use Rattle.std.specs.List.{join_with_byte, flat_map, AllByRecursion}
 use Rattle.pay_wire.specs.declared.refusal.Refusal.{Refusal}
 use Rattle.pay_wire.specs.declared.refusal.Refusal.TheVariants.{OutOfTime, UnknownPlace, Conflict, AccountFull, FixConflict, FixesFull, Busy, Window, NotHere, StaleQuote, Store, DeskFault, BadArchive, ArchiveConflict, QuoteDiffers, NotKept, BadLine, LongLine, Late, Memory}
-use Rattle.pay_quotes.specs.declared.priced.Priced.{Priced}
-use Rattle.pay_quotes.specs.declared.posting.Posting.{Posting}
-use Rattle.pay_quotes.specs.Words.{QuoteParts, word_of_kind}
-use Rattle.pay_quotes.specs.declared.shown.Line.{Line}
-use Rattle.pay_quotes.specs.declared.shown.LineKind.TheVariants as kind
-use Rattle.pay_quotes.specs.declared.shown.Shown.{Shown}
+use Rattle.pay_rules.specs.declared.priced.Priced.{Priced}
+use Rattle.pay_rules.specs.declared.posting.Posting.{Posting}
+use Rattle.pay_rules.specs.QuoteParts.{QuoteParts}
+use Rattle.pay_rules.specs.KindWords.{word_of_kind}
+use Rattle.pay_rules.specs.declared.shown.Line.{Line}
+use Rattle.pay_rules.specs.declared.shown.LineKind.TheVariants as kind
+use Rattle.pay_rules.specs.declared.shown.Shown.{Shown}
 use Rattle.pay_money.specs.declared.limits.TheConstants.{OPERATORS}
 use Rattle.pay_wire.specs.declared.reply.Closed.{Closed}
 use Rattle.pay_wire.specs.declared.reply.Reply.{Reply}

@@ -1,8 +1,8 @@
 -- What the lines of the commands are, one line for each.
 use Rattle.std.specs.Prelude.{◌≡◌, ℕ, ◌≤◌, ◌≢◌, List, [], ◌∷◌, length, All, codes, decimal}
 use Rattle.std.specs.List.{join_with_byte}
-use Rattle.pay_taps.specs.declared.tap.Kind.{Kind}
-use Rattle.pay_taps.specs.declared.tap.Kind.TheVariants.{In, Out, Bus}
+use Rattle.pay_rules.specs.declared.tap.Kind.{Kind}
+use Rattle.pay_rules.specs.declared.tap.Kind.TheVariants.{In, Out, Bus}
 use Rattle.pay_wire.specs.declared.command.SpelledTap.{SpelledTap}
 use Rattle.pay_wire.specs.declared.command.SpelledFix.{SpelledFix}
 use Rattle.pay_wire.specs.declared.command.SpelledWhat.{SpelledWhat}
@@ -10,7 +10,7 @@ use Rattle.pay_wire.specs.declared.command.SpelledWhat.TheVariants as spelled
 use Rattle.pay_wire.specs.declared.command.Command.{Command}
 use Rattle.pay_wire.specs.declared.command.Command.TheVariants.{Tap, Fix, Due, Show, Close, Quit}
 use Rattle.pay_wire.specs.declared.command.SpelledCredit.{SpelledCredit}
-use Rattle.pay_fix.specs.declared.limits.TheConstants.{MOST_CREDIT}
+use Rattle.pay_rules.specs.declared.limits.TheConstants.{MOST_CREDIT}
 use Rattle.pay_day.specs.Words.{IsDay}
 use Rattle.pay_wire.specs.declared.limits.TheConstants.{MOST_LINE_BYTES, MOST_READER, MOST_STAFF, MOST_SEQ, MOST_ACCOUNT, MOST_UTC, MOST_PLACE}
 

@@ -8,8 +8,8 @@ ghost use Rattle.pay_wire.specs.Spellings.{IsSpelled};
 use crate::limits::{MOST_ACCOUNT, MOST_PLACE, MOST_READER, MOST_SEQ, MOST_STAFF, MOST_UTC};
 use crate::number::read_number;
 use pay_day::limits::{FIRST_DAY, LAST_DAY};
-use pay_fix::limits::MOST_CREDIT;
-use pay_taps::Kind;
+use pay_rules::Kind;
+use pay_rules::limits::MOST_CREDIT;
 
 /// A tap as a line spells it. Its `utc` may lie outside of the instants that are taken.
 #[derive(Clone, Copy, Debug, PartialEq, Eq)]

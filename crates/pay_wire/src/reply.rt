@@ -7,7 +7,7 @@ use crate::refusal::Refusal;
 use arrayvec::ArrayVec;
 use itoa::{Buffer, Integer};
 use pay_money::limits::OPERATORS;
-use pay_quotes::{Line, Posting, Postings, Priced, Quote, Shown};
+use pay_rules::{Line, Posting, Postings, Priced, Quote, Shown};
 
 /// No line of a reply is longer, its newline among its bytes.
 pub const REPLY_BYTES: usize = 514;

@@ -8,7 +8,7 @@ ghost use Rattle.pay_wire.specs.Replies.{spelling_of_reply, ending_of_reply, tex
 use crate::output::{Output, State, WriteFault};
 use crate::reply::{Reply, journey_line, main_line, posting_line};
 use crate::told_writer::ToldWriter;
-use pay_quotes::{Line, Posting};
+use pay_rules::{Line, Posting};
 use std::io::ErrorKind;
 
 /// Writes some of the bytes, and says how many. An interrupted writer has taken none and is not at fault.

@@ -6,7 +6,7 @@ ghost use Rattle.pay_wire.specs.Spellings.{spelling_of_kind, spelling_of_tap, wo
 
 use crate::command::{Command, SpelledFix, SpelledTap, SpelledWhat};
 use crate::reply::{REPLY_BYTES, SpelledLine, put, put_field, started};
-use pay_taps::Kind;
+use pay_rules::Kind;
 
 /// The line of a command, newline included: its one spelling, if its numbers are in their ranges.
 pub fn command_line(command: &Command) -> SpelledLine

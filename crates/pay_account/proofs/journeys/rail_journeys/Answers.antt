@@ -1,6 +1,6 @@
 use Rattle.std.proofs.Common.{length, ap, arith}
 use Rattle.std.proofs.lemmas.Result.{IfOk-weaker}
-use Rattle.pay_links.specs.Words.{journeys}
+use Rattle.pay_rules.specs.RailJourneys.{journeys}
 use Rattle.pay_account.proofs.Counts.{few_rail}
 use Rattle.pay_account.proofs.journeys.rail_journeys.Goals as goal
 

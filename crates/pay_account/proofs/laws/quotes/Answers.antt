@@ -1,9 +1,9 @@
 use Rattle.std.proofs.Common.{◌∙◌}
-use Rattle.pay_fix.specs.Words.{credits}
+use Rattle.pay_rules.specs.StandingCredits.{credits}
 use Rattle.pay_day.specs.Words.{monday}
-use Rattle.pay_quotes.specs.Accepted.{touches}
-use Rattle.pay_account.specs.Journeys.{journeys_of}
-use Rattle.pay_account.specs.Quotes.{due_through, weights_through}
+use Rattle.pay_rules.specs.Accepted.{touches}
+use Rattle.pay_rules.specs.Journeys.{journeys_of}
+use Rattle.pay_rules.specs.Quotes.{due_through, weights_through}
 use Rattle.pay_account.proofs.Carried.{due_is_covered}
 use Rattle.pay_account.proofs.laws.quotes.Goals as goal
 

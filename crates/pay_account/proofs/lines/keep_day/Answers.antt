@@ -1,6 +1,6 @@
 use Rattle.std.proofs.Common.{rules}
 use Rattle.std.proofs.lemmas.Fn.{filter_same}
-use Rattle.pay_account.specs.Journeys.{is_on}
+use Rattle.pay_rules.specs.Journeys.{is_on}
 use Rattle.pay_account.proofs.lines.keep_day.Goals as goal
 
 pub returns : goal.returns

@@ -1,8 +1,8 @@
 use Rattle.std.proofs.Common.{rules, ℕ, Bool}
 use Rattle.std.proofs.lemmas.List.Sorted.{answers_always}
 use Rattle.std.proofs.lemmas.Result.{on_ok_weaker}
-use Rattle.pay_links.specs.declared.journey.Journey.{Journey}
-use Rattle.pay_links.specs.Words.{first_tap}
+use Rattle.pay_rules.specs.declared.journey.Journey.{Journey}
+use Rattle.pay_rules.specs.RailJourneys.{first_tap}
 use Rattle.pay_account.proofs.lines.sort_by_first_tap.Goals as goal
 
 -- what a journey is sorted by

@@ -1,7 +1,7 @@
 use Rattle.std.proofs.Common.{◌++◌, List, ap, ◌∙◌}
-use Rattle.pay_links.specs.declared.journey.Journey.{Journey}
-use Rattle.pay_account.specs.Journeys.{boardings, journeys_of}
-use Rattle.pay_account.specs.Prices.{sums_of_week}
+use Rattle.pay_rules.specs.declared.journey.Journey.{Journey}
+use Rattle.pay_rules.specs.Journeys.{boardings, journeys_of}
+use Rattle.pay_account.specs.WeekCells.{sums_of_week}
 use Rattle.pay_account.proofs.prices.price.Goals as goal
 
 pub returns : goal.returns

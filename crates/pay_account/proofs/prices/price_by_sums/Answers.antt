@@ -1,7 +1,7 @@
 use Rattle.std.proofs.Common.{◌≡◌, ℕ, map, ap, ◌∙◌}
 use Rattle.pay_day.specs.Words.{sunday}
 use Rattle.pay_week.specs.Words.{CellSums, cells_of, day_price_of, week_price_of}
-use Rattle.pay_account.specs.Prices.{journeys_on, days_through, price_of_day, price_of_week}
+use Rattle.pay_rules.specs.Prices.{journeys_on, days_through, price_of_day, price_of_week}
 use Rattle.pay_account.proofs.WeekCells.{at_its_day, each_day}
 use Rattle.pay_account.proofs.prices.price_by_sums.Goals as goal
 

@@ -1,6 +1,6 @@
 use Rattle.std.proofs.Common.{ap, ◌∙◌}
 use Rattle.pay_week.specs.Words.{capped_price_of, day_price_of}
-use Rattle.pay_account.specs.Prices.{journeys_on}
+use Rattle.pay_rules.specs.Prices.{journeys_on}
 use Rattle.pay_account.proofs.prices.price_on.Goals as goal
 
 pub returns-clause-price : goal.returns-clause-price

@@ -1,6 +1,6 @@
 use Rattle.std.proofs.Common.{rules}
 use Rattle.std.proofs.lemmas.Fn.{filter_same}
-use Rattle.pay_account.specs.Prices.{is_within}
+use Rattle.pay_rules.specs.Prices.{is_within}
 use Rattle.pay_account.proofs.quoting.keep_days.Goals as goal
 
 pub returns : goal.returns

@@ -4,7 +4,7 @@ use Rattle.std.proofs.lemmas.List.FromFn.{take-map-range_with_len}
 use Rattle.pay_day.specs.Words.{monday}
 use Rattle.pay_day.specs.declared.limits.TheConstants.{DAYS_PER_WEEK}
 use Rattle.pay_week.specs.Words.{CellSums, cells_of, total, week_price_of}
-use Rattle.pay_account.specs.Prices.{journeys_on, days_through}
+use Rattle.pay_rules.specs.Prices.{journeys_on, days_through}
 use Rattle.pay_account.proofs.WeekCells.{days_of_week, each_day}
 use Rattle.pay_account.proofs.DaySums.{total_through}
 use Rattle.pay_account.proofs.quoting.price_through.Goals as goal

@@ -1,9 +1,9 @@
 use Rattle.std.proofs.Common.{◌≡◌, ℕ, ◌≤◌, List, map, filter, ap, sym, ◌∙◌, subst}
 use Rattle.pay_money.specs.declared.limits.TheConstants.{MOST_MONEY}
-use Rattle.pay_links.specs.declared.journey.Journey.{Journey}
-use Rattle.pay_shares.specs.Words.{sum_of_fares}
-use Rattle.pay_account.specs.Prices.{is_within}
-use Rattle.pay_account.specs.Quotes.{with_fare}
+use Rattle.pay_rules.specs.declared.journey.Journey.{Journey}
+use Rattle.pay_rules.specs.OperatorWeights.{sum_of_fares}
+use Rattle.pay_rules.specs.Prices.{is_within}
+use Rattle.pay_rules.specs.Quotes.{with_fare}
 use Rattle.pay_account.proofs.Carried.{fits}
 use Rattle.pay_account.proofs.quoting.weights_through.Goals as goal
 

@@ -1,7 +1,7 @@
 use Rattle.std.proofs.Common.{replicate, ap, ◌∙◌}
 use Rattle.pay_day.specs.declared.limits.TheConstants.{DAYS_PER_WEEK}
 use Rattle.pay_week.specs.Words.{no_fares}
-use Rattle.pay_account.specs.Journeys.{boardings}
+use Rattle.pay_rules.specs.Journeys.{boardings}
 use Rattle.pay_account.specs.WeekCells.{week_with_journeys}
 use Rattle.pay_account.proofs.WeekCells.{of_week}
 use Rattle.pay_account.proofs.week_cells.cells_of_week.Goals as goal

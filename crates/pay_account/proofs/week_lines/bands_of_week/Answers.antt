@@ -1,7 +1,7 @@
 use Rattle.std.proofs.Common.{map, ap, ◌∙◌}
 use Rattle.pay_day.specs.Words.{sunday}
 use Rattle.pay_week.specs.Words.{capped_price_of}
-use Rattle.pay_account.specs.Prices.{days_through}
+use Rattle.pay_rules.specs.Prices.{days_through}
 use Rattle.pay_account.proofs.WeekLines.{of_journeys}
 use Rattle.pay_account.proofs.week_lines.bands_of_week.Goals as goal
 

@@ -1,10 +1,10 @@
 use Rattle.std.proofs.Common.{map, ap, ◌∙◌}
 use Rattle.std.proofs.lemmas.Result.{IfOk-weaker}
 use Rattle.pay_day.specs.Words.{sunday}
-use Rattle.pay_links.specs.Words.{first_tap}
-use Rattle.pay_taps.specs.Words.{in_order_by}
-use Rattle.pay_week.specs.Words.{capped_price}
-use Rattle.pay_account.specs.Prices.{days_through, journeys_on}
+use Rattle.pay_rules.specs.RailJourneys.{first_tap}
+use Rattle.pay_rules.specs.Order.{in_order_by}
+use Rattle.pay_rules.specs.DayPrices.{capped_price}
+use Rattle.pay_rules.specs.Prices.{days_through, journeys_on}
 use Rattle.pay_account.specs.WeekBands.{line_by_bands}
 use Rattle.pay_account.proofs.WeekLines.{by_own_bands}
 use Rattle.pay_account.proofs.week_lines.lines_of_week.Goals as goal

@@ -2,8 +2,8 @@ use Rattle.std.proofs.Common.{◌∷◌, ◌++◌, [], List, ◌∙◌, ap, sym,
 use Rattle.std.proofs.lemmas.Option.{slice_get_within}
 use Rattle.pay_taps.specs.Words.{place_of}
 use Rattle.pay_hopper.specs.Words.{pays_by_last}
-use Rattle.pay_links.specs.declared.journey.Journey.{Journey}
-use Rattle.pay_account.specs.Words.{boarding}
+use Rattle.pay_rules.specs.declared.journey.Journey.{Journey}
+use Rattle.pay_rules.specs.Journeys.{boarding}
 use Rattle.pay_book.proofs.Boarded.{disturbed_by, none_yet, no_others_than}
 use Rattle.pay_book.proofs.LastPaid.{marks_each}
 use Rattle.pay_book.proofs.boardings.disturbed.Goals as goal

@@ -1,7 +1,7 @@
 use Rattle.std.proofs.Common.{◌≡◌, ℕ, ◌+◌, ◌*◌, ◌≤◌, drop}
 use Rattle.pay_tables.specs.declared.limits.TheConstants.{MOST_FARE}
 use Rattle.pay_caps.specs.Words.{total, all_added}
-use Rattle.pay_account.specs.Words.{journeys_on}
+use Rattle.pay_rules.specs.Prices.{journeys_on}
 use Rattle.pay_book.specs.Days.{sums_on, StayKept}
 use Rattle.pay_book.proofs.days.add_all.Given as goal
 

@@ -1,6 +1,6 @@
 use Rattle.std.proofs.Common.{◌≡◌, ℕ, drop}
 use Rattle.pay_caps.specs.Words.{all_taken}
-use Rattle.pay_account.specs.Words.{journeys_on}
+use Rattle.pay_rules.specs.Prices.{journeys_on}
 use Rattle.pay_book.specs.Days.{sums_on, AreThere, StayKept}
 use Rattle.pay_book.proofs.days.take_all.Given as goal
 

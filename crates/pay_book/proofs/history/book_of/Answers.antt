@@ -1,5 +1,6 @@
 use Rattle.std.proofs.Common.{ap, map}
-use Rattle.pay_account.specs.Words.{Accepted, after_all}
+use Rattle.pay_rules.specs.Accepted.{Accepted}
+use Rattle.pay_rules.specs.Changes.{after_all}
 use Rattle.pay_book.specs.History.{change_of}
 use Rattle.pay_book.proofs.history.book_of.Goals as goal
 

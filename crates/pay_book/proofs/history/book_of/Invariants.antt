@@ -1,5 +1,6 @@
 use Rattle.std.proofs.Common.{◌≡◌, map, drop}
-use Rattle.pay_account.specs.Words.{nothing, after_all}
+use Rattle.pay_rules.specs.Accepted.{nothing}
+use Rattle.pay_rules.specs.Changes.{after_all}
 use Rattle.pay_book.specs.History.{change_of}
 use Rattle.pay_book.specs.Stored.{IsKept}
 use Rattle.pay_book.proofs.history.book_of.Given as goal

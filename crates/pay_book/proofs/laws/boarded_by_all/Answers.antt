@@ -1,6 +1,6 @@
 use Rattle.std.proofs.Common.{Bool, List, map, ap}
 use Rattle.std.specs.List.{zip}
-use Rattle.pay_account.specs.Words.{boarding}
+use Rattle.pay_rules.specs.Journeys.{boarding}
 use Rattle.pay_book.proofs.laws.boarded_by_all.Goals as goal
 
 pub returns : goal.returns

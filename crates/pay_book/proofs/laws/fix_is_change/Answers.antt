@@ -1,4 +1,4 @@
-use Rattle.pay_fix.specs.declared.limits.TheConstants.{MOST_FIXES}
+use Rattle.pay_rules.specs.declared.limits.TheConstants.{MOST_FIXES}
 use Rattle.pay_book.proofs.Accepting.{fix_is_change}
 use Rattle.pay_book.proofs.laws.fix_is_change.Goals as goal
 

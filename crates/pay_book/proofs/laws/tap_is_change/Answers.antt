@@ -1,4 +1,4 @@
-use Rattle.pay_taps.specs.declared.limits.TheConstants.{MOST_TAPS}
+use Rattle.pay_rules.specs.declared.limits.TheConstants.{MOST_TAPS}
 use Rattle.pay_book.proofs.Accepting.{tap_is_change}
 use Rattle.pay_book.proofs.laws.tap_is_change.Goals as goal
 

@@ -1,6 +1,6 @@
 use Rattle.std.proofs.Common.{◌∙◌, ap, arith}
-use Rattle.pay_pairs.specs.Words.{legs}
-use Rattle.pay_links.specs.Words.{journeys}
+use Rattle.pay_rules.specs.Legs.{legs}
+use Rattle.pay_rules.specs.RailJourneys.{journeys}
 use Rattle.pay_book.specs.Fewer.{fewer_of}
 use Rattle.pay_book.proofs.Between.{finished}
 use Rattle.pay_book.proofs.DisturbedRail.{few_around}

@@ -1,6 +1,7 @@
 use Rattle.std.proofs.Common.{◌<◌, length, get_or, arith, ap, ◌∙◌, subst}
 use Rattle.pay_caps.specs.Cells.{outside_sum}
-use Rattle.pay_caps.specs.DayPrices.{day_cap, capped_price_of}
+use Rattle.pay_rules.specs.DayPrices.{day_cap}
+use Rattle.pay_caps.specs.SumPrices.{capped_price_of}
 use Rattle.pay_caps.proofs.Lowest.{next_offer}
 use Rattle.pay_caps.proofs.day_prices.capped_price.Goals as goal
 

@@ -1,7 +1,7 @@
 use Rattle.std.proofs.Common.{rules, ℕ}
 use Rattle.std.proofs.lemmas.List.Sorted.{answers_always}
 use Rattle.std.proofs.lemmas.Result.{on_ok_weaker}
-use Rattle.pay_account.specs.Words.{SetsParts}
+use Rattle.pay_rules.specs.SetsParts.{SetsParts}
 use Rattle.pay_close.proofs.Sorting.{sorted_by}
 use Rattle.pay_close.proofs.gathered.sort_sets.Goals as goal
 

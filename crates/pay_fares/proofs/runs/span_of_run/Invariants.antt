@@ -1,8 +1,8 @@
 use Rattle.std.proofs.Common.{◌≡◌, drop}
 use Rattle.std.specs.List.{fold, flat_map}
 use Rattle.pay_tables.specs.Words.{AreSpanBounds, bounds_with, bounds_of}
-use Rattle.pay_links.specs.Words.{all_legs}
-use Rattle.pay_fares.specs.Runs.{stations_of}
+use Rattle.pay_rules.specs.LinkedLegs.{all_legs}
+use Rattle.pay_rules.specs.Runs.{stations_of}
 use Rattle.pay_fares.proofs.runs.span_of_run.Given as goal
 
 -- the legs that are left, put to the bounds so far, give what all legs give

@@ -1,6 +1,6 @@
 use Rattle.std.proofs.Common.{◌≡◌, ◌≤◌, ◌*◌, take, sum_by}
-use Rattle.pay_fix.specs.declared.limits.TheConstants.{MOST_CREDIT}
-use Rattle.pay_fix.specs.Given.{given_by}
+use Rattle.pay_rules.specs.declared.limits.TheConstants.{MOST_CREDIT}
+use Rattle.pay_rules.specs.StandingCredits.{given_by}
 use Rattle.pay_fix.proofs.given.credits.Given as goal
 
 abbrev pub invariant-loop-fix : goal.invariant-loop-fix

@@ -1,6 +1,6 @@
 use Rattle.std.proofs.Common.{ap, sym, ◌∙◌}
 use Rattle.std.specs.FinMap as map
-use Rattle.pay_fix.specs.Effective.{effective_of}
+use Rattle.pay_rules.specs.Effective.{effective_of}
 use Rattle.pay_fix.proofs.AmongFixes.{with_credit}
 use Rattle.pay_fix.proofs.laws.credit_changes_no_tap.Goals as goal
 

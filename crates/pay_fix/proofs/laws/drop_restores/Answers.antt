@@ -1,9 +1,9 @@
 use Rattle.std.proofs.Common.{◌≢◌, ap, sym, subst, ◌∙◌}
 use Rattle.std.specs.List.{AllByRecursion}
 use Rattle.std.specs.FinMap as map
-use Rattle.pay_fix.specs.declared.limits.TheConstants.{MOST_FIXES}
-use Rattle.pay_fix.specs.Fixes.{number}
-use Rattle.pay_fix.specs.Effective.{effective_of}
+use Rattle.pay_rules.specs.declared.limits.TheConstants.{MOST_FIXES}
+use Rattle.pay_rules.specs.Fixes.{number}
+use Rattle.pay_rules.specs.Effective.{effective_of}
 use Rattle.pay_fix.proofs.AmongFixes.{with_drop}
 use Rattle.pay_fix.proofs.laws.drop_restores.Goals as goal
 

@@ -1,5 +1,5 @@
 use Rattle.std.specs.FinMap.{insert, values}
-use Rattle.pay_taps.specs.Words.{number as tap_number}
+use Rattle.pay_rules.specs.Taps.{number as tap_number}
 use Rattle.pay_fix.proofs.Changed.{with_tap}
 use Rattle.pay_fix.proofs.laws.tap_changes.Goals as goal
 

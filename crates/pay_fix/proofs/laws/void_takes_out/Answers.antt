@@ -1,10 +1,10 @@
 use Rattle.std.proofs.Common.{◌≢◌, ◌++◌, ◌∷◌, ap, sym, subst, ◌∙◌}
 use Rattle.std.specs.List.{AllByRecursion}
 use Rattle.std.specs.FinMap as map
-use Rattle.pay_taps.specs.declared.limits.TheConstants.{MOST_TAPS}
-use Rattle.pay_taps.specs.Words.{number as tap_number}
-use Rattle.pay_fix.specs.Fixes.{number, is_dropped}
-use Rattle.pay_fix.specs.Effective.{effective_of}
+use Rattle.pay_rules.specs.declared.limits.TheConstants.{MOST_TAPS}
+use Rattle.pay_rules.specs.Taps.{number as tap_number}
+use Rattle.pay_rules.specs.Fixes.{number, is_dropped}
+use Rattle.pay_rules.specs.Effective.{effective_of}
 use Rattle.pay_fix.proofs.AmongFixes.{with_void}
 use Rattle.pay_fix.proofs.laws.void_takes_out.Goals as goal
 

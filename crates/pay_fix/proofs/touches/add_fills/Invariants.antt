@@ -1,6 +1,6 @@
 use Rattle.std.proofs.Common.{◌≡◌, ◌≤◌, ◌+◌, ◌++◌, length, drop}
 use Rattle.std.specs.List.{flat_map}
-use Rattle.pay_fix.specs.Effective.{filled_by}
+use Rattle.pay_rules.specs.Effective.{filled_by}
 use Rattle.pay_fix.proofs.touches.add_fills.Given as goal
 
 abbrev pub invariant-loop-fix : goal.invariant-loop-fix

@@ -1,6 +1,6 @@
 use Rattle.std.proofs.Common.{◌≡◌, ◌≤◌, ◌+◌, ◌++◌, length, map, drop}
-use Rattle.pay_taps.specs.Words.{touch_of}
-use Rattle.pay_fix.specs.Effective.{not_voided}
+use Rattle.pay_rules.specs.Order.{touch_of}
+use Rattle.pay_rules.specs.Effective.{not_voided}
 use Rattle.pay_fix.proofs.touches.add_run.Given as goal
 
 abbrev pub invariant-loop-tap : goal.invariant-loop-tap

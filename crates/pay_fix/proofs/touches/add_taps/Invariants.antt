@@ -1,7 +1,7 @@
 use Rattle.std.proofs.Common.{◌≡◌, ◌≤◌, ◌+◌, ◌-◌, ◌++◌, length, map, drop}
 use Rattle.std.specs.FinMap.{len, values}
-use Rattle.pay_taps.specs.Words.{touch_of}
-use Rattle.pay_fix.specs.Effective.{not_voided}
+use Rattle.pay_rules.specs.Order.{touch_of}
+use Rattle.pay_rules.specs.Effective.{not_voided}
 use Rattle.pay_fix.proofs.touches.add_taps.Given as goal
 
 abbrev pub invariant-loop-place : goal.invariant-loop-place

@@ -1,6 +1,6 @@
 use Rattle.std.proofs.Common.{◌≡◌, Ok, Err, ap, rules}
 use Rattle.sqlite.specs.Held.{state}
-use Rattle.pay_postings.specs.declared.fault.PostFault.TheVariants.{BadArchive}
+use Rattle.pay_rules.specs.declared.post_fault.PostFault.TheVariants.{BadArchive}
 use Rattle.pay_postings.specs.Words.{posted, lists, with_batch, IsRefusedAs}
 use Rattle.pay_ledger.proofs.Along.{goes_then, stays_then, was_clean, on_err}
 use Rattle.pay_ledger.proofs.Batched.{covers_all, read_of, judged, refused_so, by_answer}

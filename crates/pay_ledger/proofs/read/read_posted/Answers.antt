@@ -8,7 +8,7 @@ use Rattle.pay_ledger.specs.Steps.{GoesOn}
 use Rattle.pay_ledger.proofs.Along.{stays_then, was_clean, on_err}
 use Rattle.pay_ledger.proofs.Reading.{posted_told, same_some, only_memory, by_post_fault}
 use Rattle.pay_records.specs.Words.{LedgerRows, HoldsRows}
-use Rattle.pay_postings.specs.declared.fault.PostFault.TheVariants.{BadArchive}
+use Rattle.pay_rules.specs.declared.post_fault.PostFault.TheVariants.{BadArchive}
 use Rattle.pay_ledger.specs.declared.fault.LedgerFault.TheVariants.{Refused}
 use Rattle.pay_ledger.specs.Faults.{is_of_store}
 use Rattle.pay_ledger.specs.BadRows.{ReadsAs}

@@ -1,7 +1,7 @@
 use Rattle.std.proofs.Common.{◌≡◌, take}
 use Rattle.std.specs.List.{AllByRecursion}
 use Rattle.sqlite.specs.Held.{state}
-use Rattle.pay_quotes.specs.Words.{QuoteParts}
+use Rattle.pay_rules.specs.QuoteParts.{QuoteParts}
 use Rattle.pay_postings.specs.Words.{IsThere}
 use Rattle.pay_ledger.specs.Steps.{GoesOn, ReadsInto}
 use Rattle.pay_ledger.proofs.read.read_quoted.Given as goal

@@ -1,6 +1,6 @@
 use Rattle.std.proofs.Common.{◌⊎◌, IsTrue, rules, subst, ◌∙◌}
 use Rattle.sqlite.specs.Held.{state}
-use Rattle.pay_quotes.specs.Words.{SetsParts}
+use Rattle.pay_rules.specs.SetsParts.{SetsParts}
 use Rattle.pay_postings.specs.Words.{IsThere}
 use Rattle.pay_ledger.proofs.Along.{goes_then, stays_then, was_clean, on_err}
 use Rattle.pay_ledger.proofs.Gathered.{reads_then, all_there}

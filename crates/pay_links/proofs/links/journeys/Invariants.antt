@@ -1,5 +1,5 @@
 use Rattle.std.proofs.Common.{◌≡◌, ◌++◌, drop}
-use Rattle.pay_links.specs.Journeys.{journeys}
+use Rattle.pay_rules.specs.RailJourneys.{journeys}
 use Rattle.pay_links.specs.OpenRun.{open_before}
 use Rattle.pay_links.proofs.links.journeys.Given as goal
 

@@ -1,5 +1,5 @@
 use Rattle.std.proofs.Common.{◌≡◌, ◌++◌, drop}
-use Rattle.pay_pairs.specs.Legs.{legs}
+use Rattle.pay_rules.specs.Legs.{legs}
 use Rattle.pay_pairs.proofs.Waiting.{with_waiting}
 use Rattle.pay_pairs.proofs.parts.legs.Given as goal
 

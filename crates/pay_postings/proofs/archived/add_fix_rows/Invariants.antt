@@ -1,5 +1,5 @@
 use Rattle.std.proofs.Common.{◌≡◌, ◌++◌, map, take}
-use Rattle.pay_postings.specs.SetRows.{fix_row}
+use Rattle.pay_set_rows.specs.SetRows.{fix_row}
 use Rattle.pay_postings.proofs.archived.add_fix_rows.Given as goal
 
 -- the rows of the corrections so far are added

@@ -1,5 +1,5 @@
 use Rattle.std.proofs.Common.{◌≡◌, ◌++◌, map, take}
-use Rattle.pay_postings.specs.SetRows.{tap_row}
+use Rattle.pay_set_rows.specs.SetRows.{tap_row}
 use Rattle.pay_postings.proofs.archived.add_tap_rows.Given as goal
 
 -- the rows of the taps so far are added

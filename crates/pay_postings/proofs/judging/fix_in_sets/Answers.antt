@@ -1,6 +1,6 @@
 use Rattle.std.proofs.Common.{rules, sym, ap, ◌∙◌}
 use Rattle.std.specs.Prelude.{find}
-use Rattle.pay_quotes.specs.Words.{SetsParts}
+use Rattle.pay_rules.specs.SetsParts.{SetsParts}
 use Rattle.pay_postings.specs.Archive.{is_fix_numbered_as}
 use Rattle.pay_postings.proofs.SetsJudged.{found_here, found_later, none_lent}
 use Rattle.pay_postings.proofs.judging.fix_in_sets.Goals as goal

@@ -1,6 +1,6 @@
 use Rattle.std.proofs.Common.{◌≡◌, drop}
 use Rattle.std.specs.Prelude.{find, flat_map}
-use Rattle.pay_quotes.specs.Words.{SetsParts}
+use Rattle.pay_rules.specs.SetsParts.{SetsParts}
 use Rattle.pay_postings.specs.Archive.{is_fix_numbered_as}
 use Rattle.pay_postings.proofs.judging.fix_in_sets.Given as goal
 

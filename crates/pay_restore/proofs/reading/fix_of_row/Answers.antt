@@ -1,8 +1,8 @@
 use Rattle.std.proofs.Common.{ℕ, ◌≤◌, Option, Some, None, IfSome, sym, subst}
-use Rattle.pay_fix.specs.declared.fix.Fix.{Fix}
-use Rattle.pay_fix.specs.declared.fix.What.{What}
-use Rattle.pay_postings.specs.Ranged.{◌>>=◌}
-use Rattle.pay_postings.specs.SetRows.{in_sixteen_bits, as_seq, what_from}
+use Rattle.pay_rules.specs.declared.fix.Fix.{Fix}
+use Rattle.pay_rules.specs.declared.fix.What.{What}
+use Rattle.pay_set_rows.specs.Ranged.{◌>>=◌}
+use Rattle.pay_set_rows.specs.SetRows.{in_sixteen_bits, as_seq, what_from}
 use Rattle.pay_restore.proofs.reading.fix_of_row.Goals as goal
 
 -- a correction is of the account that its row is read for

@@ -1,8 +1,8 @@
 use Rattle.std.proofs.Common.{◌≡◌, ◌+◌, drop, map, sum_by}
 use Rattle.std.specs.Prelude.{sum}
 use Rattle.std.specs.List.{enumerate_from}
-use Rattle.pay_links.specs.Words.{all_legs}
-use Rattle.pay_shares.specs.Portions.{leg_portion, leg_portions}
+use Rattle.pay_rules.specs.LinkedLegs.{all_legs}
+use Rattle.pay_rules.specs.Portions.{leg_portion, leg_portions}
 use Rattle.pay_shares.specs.Adding.{with_portions}
 use Rattle.pay_shares.proofs.Weighing.{pence}
 use Rattle.pay_shares.proofs.operator_weights.add_run.Given as goal

@@ -1,6 +1,6 @@
 use Rattle.std.proofs.Common.{◌≡◌, take}
 use Rattle.std.specs.Prelude.{sum}
-use Rattle.pay_shares.specs.OperatorWeights.{sum_of_fares, weights}
+use Rattle.pay_rules.specs.OperatorWeights.{sum_of_fares, weights}
 use Rattle.pay_shares.proofs.operator_weights.weights.Given as goal
 
 abbrev pub invariant-loop-journey : goal.invariant-loop-journey

@@ -1,4 +1,4 @@
-use Rattle.pay_taps.specs.Order.{comes_before, in_order}
+use Rattle.pay_rules.specs.Order.{comes_before, in_order}
 use Rattle.pay_taps.proofs.Sorting.{ordered_permutes, ordered_rises, ordered_keeps, sorted_from_rises}
 use Rattle.pay_taps.proofs.TouchOrder.{touches_ranked}
 use Rattle.pay_taps.proofs.laws.order.Goals as goal

@@ -1,4 +1,4 @@
-use Rattle.pay_taps.specs.Order.{comes_before}
+use Rattle.pay_rules.specs.Order.{comes_before}
 use Rattle.pay_taps.proofs.Sorting.{stable_sort}
 use Rattle.pay_taps.proofs.TouchOrder.{ranked_by}
 use Rattle.pay_taps.proofs.laws.sorting.Goals as goal

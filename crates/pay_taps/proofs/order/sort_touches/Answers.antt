@@ -1,7 +1,7 @@
 use Rattle.std.proofs.Common.{rules, length, ap, ◌∙◌}
 use Rattle.std.proofs.lemmas.List.Sorted.{answers_always, length_permutation}
 use Rattle.std.proofs.lemmas.Result.{on_ok_weaker}
-use Rattle.pay_taps.specs.Order.{comes_before}
+use Rattle.pay_rules.specs.Order.{comes_before}
 use Rattle.pay_taps.proofs.Sorting.{stable_sort, ordered_permutes}
 use Rattle.pay_taps.proofs.TouchOrder.{touch_key, touches_ranked}
 use Rattle.pay_taps.proofs.order.sort_touches.Goals as goal

@@ -1,5 +1,5 @@
 use Rattle.std.proofs.Common.{inl, inr, List, [], ◌∷◌, ◌++◌, refl, sym, subst, ap}
-use Rattle.pay_numbered.specs.Words.{IsIn}
+use Rattle.pay_rules.specs.InTurn.{IsIn}
 use Rattle.pay_tests.proofs.desks.answered.Goals as goal
 
 -- the last one of a list is in it

@@ -1,7 +1,7 @@
 use Rattle.std.proofs.Common.{◌≡◌, ◌*◌, ◌≤◌, map, slice_get, take}
 use Rattle.pay_money.specs.declared.limits.TheConstants.{MOST_MONEY}
 use Rattle.pay_caps.specs.Words.{outside_of}
-use Rattle.pay_week.specs.WeekPrices.{capped_days_of}
+use Rattle.pay_week.specs.WeekSumPrices.{capped_days_of}
 use Rattle.pay_week.proofs.week_prices.capped_days_outside.Given as goal
 
 abbrev pub invariant-loop-cells : goal.invariant-loop-cells

@@ -1,6 +1,6 @@
 use Rattle.std.proofs.Common.{◌≡◌, ◌*◌, ◌≤◌, take}
 use Rattle.pay_money.specs.declared.limits.TheConstants.{MOST_MONEY}
-use Rattle.pay_week.specs.WeekPrices.{maximum_of}
+use Rattle.pay_week.specs.WeekSumPrices.{maximum_of}
 use Rattle.pay_week.proofs.week_prices.maximum_of.Given as goal
 
 abbrev pub invariant-loop-cells : goal.invariant-loop-cells

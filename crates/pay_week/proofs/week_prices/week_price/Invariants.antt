@@ -1,8 +1,10 @@
 use Rattle.std.proofs.Common.{◌≡◌, ◌*◌, ◌≤◌, map, drop, sum_by}
 use Rattle.pay_day.specs.declared.limits.TheConstants.{DAYS_PER_WEEK}
 use Rattle.pay_money.specs.declared.limits.TheConstants.{MOST_MONEY}
-use Rattle.pay_caps.specs.Words.{capped_sum, charged, lowest, offers, outside}
-use Rattle.pay_week.specs.WeekPrices.{week_cap, capped_days_of}
+use Rattle.pay_caps.specs.Words.{capped_sum, outside}
+use Rattle.pay_rules.specs.Lowest.{charged, lowest, offers}
+use Rattle.pay_rules.specs.WeekPrices.{week_cap}
+use Rattle.pay_week.specs.WeekSumPrices.{capped_days_of}
 use Rattle.pay_week.proofs.week_prices.week_price.Given as goal
 
 -- what the bands that are left offer, beside the best so far, comes to the lowest of all

@@ -1,6 +1,6 @@
 use Rattle.std.proofs.Common.{◌∙◌, codes, ◌++◌}
 use Rattle.std.specs.Prelude.{decimal}
-use Rattle.pay_quotes.specs.Words.{word_of_kind}
+use Rattle.pay_rules.specs.KindWords.{word_of_kind}
 use Rattle.pay_wire.proofs.Fields.{four_fields, field_is, number_is, two_are}
 use Rattle.pay_wire.proofs.reply.journey_line.Goals as goal
 

@@ -1,5 +1,5 @@
 use Rattle.std.proofs.Common.{subst, ◌∙◌}
-use Rattle.pay_quotes.specs.declared.shown.Line.{Line}
+use Rattle.pay_rules.specs.declared.shown.Line.{Line}
 use Rattle.pay_wire.specs.Output.{AppendsFront}
 use Rattle.pay_wire.specs.Replies.{line_of_words, words_of_journey}
 use Rattle.pay_wire.proofs.Fronts.{on_err, front_of_rows}

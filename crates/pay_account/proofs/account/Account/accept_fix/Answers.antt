@@ -1,6 +1,6 @@
 use Rattle.std.proofs.Common.{ap, sym, ◌∙◌}
-use Rattle.pay_fix.specs.declared.limits.TheConstants.{MOST_FIXES}
-use Rattle.pay_fix.specs.Words.{judged}
+use Rattle.pay_rules.specs.declared.limits.TheConstants.{MOST_FIXES}
+use Rattle.pay_rules.specs.Fixes.{judged}
 use Rattle.pay_account.proofs.Own.{own_after_fix}
 use Rattle.pay_account.proofs.account.Account.accept_fix.Goals as goal
 

@@ -1,6 +1,6 @@
 use Rattle.std.proofs.Common.{ap, sym, ◌∙◌}
-use Rattle.pay_taps.specs.declared.limits.TheConstants.{MOST_TAPS}
-use Rattle.pay_taps.specs.Words.{judged}
+use Rattle.pay_rules.specs.declared.limits.TheConstants.{MOST_TAPS}
+use Rattle.pay_rules.specs.Taps.{judged}
 use Rattle.pay_account.proofs.Own.{own_after_tap}
 use Rattle.pay_account.proofs.account.Account.accept_tap.Goals as goal
 

@@ -1,7 +1,7 @@
 use Rattle.std.proofs.Common.{ap, ◌∙◌}
 use Rattle.std.proofs.lemmas.Result.{IfOk-weaker}
-use Rattle.pay_quotes.specs.Accepted.{touches}
-use Rattle.pay_account.specs.Prices.{prices_of_touches}
+use Rattle.pay_rules.specs.Accepted.{touches}
+use Rattle.pay_rules.specs.Prices.{prices_of_touches}
 use Rattle.pay_account.proofs.account.Account.price.Goals as goal
 
 pub returns : goal.returns

@@ -1,14 +1,14 @@
 use Rattle.std.proofs.Common.{◌≡◌, true, false, Ok, ap, sym, ◌∙◌}
-use Rattle.pay_numbered.specs.declared.numbered_set.Addition.{Addition}
-use Rattle.pay_numbered.specs.declared.numbered_set.Addition.TheVariants.{Added}
-use Rattle.pay_numbered.specs.Words.{set_after}
-use Rattle.pay_fix.specs.declared.limits.TheConstants.{MOST_FIXES}
-use Rattle.pay_fix.specs.Words.{Fixes, number, judged}
-use Rattle.pay_quotes.specs.Accepted.{Accepted, with_fix}
-use Rattle.pay_account.specs.Places.{is_known_fix}
-use Rattle.pay_account.specs.FixResults.{prices_named, fix_result}
+use Rattle.pay_rules.specs.declared.addition.Addition.{Addition}
+use Rattle.pay_rules.specs.declared.addition.Addition.TheVariants.{Added}
+use Rattle.pay_rules.specs.Numbers.{set_after}
+use Rattle.pay_rules.specs.declared.limits.TheConstants.{MOST_FIXES}
+use Rattle.pay_rules.specs.Fixes.{Fixes, number, judged}
+use Rattle.pay_rules.specs.Accepted.{Accepted, with_fix}
+use Rattle.pay_rules.specs.TapPlaces.{is_known_fix}
+use Rattle.pay_rules.specs.FixResults.{prices_named, fix_result}
 use Rattle.pay_account.proofs.Own.{fix_is_own}
-use Rattle.pay_account.proofs.Results.{known_fix}
+use Rattle.pay_account.proofs.KnownPlaces.{known_fix}
 use Rattle.pay_account.proofs.account.AccountFares.fix.Goals as goal
 
 -- a correction that is added is of the account, as the others are

@@ -1,12 +1,13 @@
 use Rattle.std.proofs.Common.{◌≡◌, ℕ, sum_by, ap, ◌∙◌, rules, arith}
 use Rattle.pay_day.specs.Words.{monday}
-use Rattle.pay_week.specs.Words.{fare, due}
-use Rattle.pay_fix.specs.Words.{credits}
+use Rattle.pay_rules.specs.JourneyFares.{fare}
+use Rattle.pay_rules.specs.WeekPrices.{due}
+use Rattle.pay_rules.specs.StandingCredits.{credits}
 use Rattle.pay_money.specs.Words.{shares}
-use Rattle.pay_quotes.specs.Accepted.{touches}
-use Rattle.pay_account.specs.Journeys.{journeys_of}
-use Rattle.pay_account.specs.Prices.{price_of_week, journeys_through}
-use Rattle.pay_account.specs.Quotes.{due_through, weights_through}
+use Rattle.pay_rules.specs.Accepted.{touches}
+use Rattle.pay_rules.specs.Journeys.{journeys_of}
+use Rattle.pay_rules.specs.Prices.{price_of_week, journeys_through}
+use Rattle.pay_rules.specs.Quotes.{due_through, weights_through}
 use Rattle.pay_account.proofs.Carried.{same_quote}
 use Rattle.pay_account.proofs.account.AccountFares.quote.Goals as goal
 

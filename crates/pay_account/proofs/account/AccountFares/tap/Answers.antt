@@ -1,15 +1,15 @@
 use Rattle.std.proofs.Common.{◌≡◌, true, false, Ok, ap, sym, ◌∙◌}
-use Rattle.pay_numbered.specs.declared.numbered_set.Addition.{Addition}
-use Rattle.pay_numbered.specs.declared.numbered_set.Addition.TheVariants.{Added, Repeat}
-use Rattle.pay_taps.specs.declared.limits.TheConstants.{MOST_TAPS}
-use Rattle.pay_taps.specs.Words.{Taps, number, judged}
-use Rattle.pay_numbered.specs.Words.{set_after}
-use Rattle.pay_quotes.specs.Accepted.{Accepted, with_tap}
-use Rattle.pay_account.specs.Places.{is_known}
-use Rattle.pay_account.specs.Prices.{prices}
-use Rattle.pay_account.specs.TapResults.{tap_result}
+use Rattle.pay_rules.specs.declared.addition.Addition.{Addition}
+use Rattle.pay_rules.specs.declared.addition.Addition.TheVariants.{Added, Repeat}
+use Rattle.pay_rules.specs.declared.limits.TheConstants.{MOST_TAPS}
+use Rattle.pay_rules.specs.Taps.{Taps, number, judged}
+use Rattle.pay_rules.specs.Numbers.{set_after}
+use Rattle.pay_rules.specs.Accepted.{Accepted, with_tap}
+use Rattle.pay_rules.specs.TapPlaces.{is_known}
+use Rattle.pay_rules.specs.Prices.{prices}
+use Rattle.pay_rules.specs.TapResults.{tap_result}
 use Rattle.pay_account.proofs.Own.{tap_is_own}
-use Rattle.pay_account.proofs.Results.{known}
+use Rattle.pay_account.proofs.KnownPlaces.{known}
 use Rattle.pay_account.proofs.account.AccountFares.tap.Goals as goal
 
 -- a tap that is added is of the account, as the others are

@@ -1,5 +1,5 @@
 use Rattle.std.proofs.Common.{◌∙◌, ap}
-use Rattle.pay_account.specs.Words.{touches, with_fix}
+use Rattle.pay_rules.specs.Accepted.{touches, with_fix}
 use Rattle.pay_book.specs.Books.{BookParts}
 use Rattle.pay_book.proofs.Accepting.{change_of_fix, read_for}
 use Rattle.pay_book.proofs.book.Book.add_fix.Goals as goal

@@ -1,5 +1,6 @@
 use Rattle.std.proofs.Common.{sym, subst}
-use Rattle.pay_account.specs.Words.{journeys_of, touches}
+use Rattle.pay_rules.specs.Journeys.{journeys_of}
+use Rattle.pay_rules.specs.Accepted.{touches}
 use Rattle.pay_book.specs.Books.{BookParts}
 use Rattle.pay_book.specs.Days.{AreSums}
 use Rattle.pay_book.proofs.Stored.{sums_of_kept}

@@ -1,5 +1,5 @@
 use Rattle.std.proofs.Common.{◌∙◌, ap}
-use Rattle.pay_account.specs.Words.{tap_result}
+use Rattle.pay_rules.specs.TapResults.{tap_result}
 use Rattle.pay_book.specs.Books.{BookParts}
 use Rattle.pay_book.proofs.Accepting.{tap_again, tap_more}
 use Rattle.pay_book.proofs.book.Book.tap.Goals as goal

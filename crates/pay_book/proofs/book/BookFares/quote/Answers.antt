@@ -1,6 +1,6 @@
 use Rattle.std.proofs.Common.{◌∙◌, ap}
 use Rattle.std.proofs.lemmas.Result.{IfOk-weaker}
-use Rattle.pay_account.specs.Words.{quote}
+use Rattle.pay_rules.specs.Quotes.{quote}
 use Rattle.pay_book.specs.Books.{BookParts}
 use Rattle.pay_book.proofs.book.BookFares.quote.Goals as goal
 

@@ -1,9 +1,10 @@
 use Rattle.std.proofs.Common.{◌++◌, None, true, arith, sym, ap, ◌∙◌, subst, length}
 use Rattle.std.specs.List.{insert}
-use Rattle.pay_taps.specs.Words.{place_of, put_in}
+use Rattle.pay_taps.specs.Words.{place_of}
+use Rattle.pay_rules.specs.Order.{put_in}
 use Rattle.pay_hopper.specs.Words.{marks_by_last}
-use Rattle.pay_pairs.specs.Words.{legs}
-use Rattle.pay_links.specs.Words.{journeys}
+use Rattle.pay_rules.specs.Legs.{legs}
+use Rattle.pay_rules.specs.RailJourneys.{journeys}
 use Rattle.pay_book.specs.Boardings.{marked}
 use Rattle.pay_book.specs.Days.{CanReplace}
 use Rattle.pay_book.proofs.Keeping.{inserted_there, fits_there, all_boarded, one_longer, boardings_can_be_replaced, bus_sums_before, bus_sums_after}

@@ -1,5 +1,5 @@
 use Rattle.std.proofs.Common.{◌++◌, arith, sym, ◌∙◌, subst, ap, length, rules}
-use Rattle.pay_taps.specs.Words.{put_in}
+use Rattle.pay_rules.specs.Order.{put_in}
 use Rattle.pay_book.specs.Boardings.{boarded}
 use Rattle.pay_book.specs.Days.{CanReplace}
 use Rattle.pay_book.proofs.Keeping.{place_in_marks, entered_marks, one_longer, rail_can_be_replaced, rail_sums_before, rail_sums_after, all_written}

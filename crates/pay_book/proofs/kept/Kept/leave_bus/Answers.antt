@@ -2,8 +2,8 @@ use Rattle.std.proofs.Common.{◌++◌, None, arith, sym, ap, ◌∙◌, subst, 
 use Rattle.std.specs.List.{remove}
 use Rattle.pay_taps.specs.Words.{place_of}
 use Rattle.pay_hopper.specs.Words.{marks_by_last}
-use Rattle.pay_pairs.specs.Words.{legs}
-use Rattle.pay_links.specs.Words.{journeys}
+use Rattle.pay_rules.specs.Legs.{legs}
+use Rattle.pay_rules.specs.RailJourneys.{journeys}
 use Rattle.pay_book.specs.Boardings.{boarded, marked}
 use Rattle.pay_book.specs.Days.{CanReplace}
 use Rattle.pay_book.proofs.Keeping.{removed_there, fits_there, all_boarded, one_shorter, boardings_can_be_replaced, bus_sums_before, bus_sums_after}

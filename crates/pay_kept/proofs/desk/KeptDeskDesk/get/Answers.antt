@@ -1,7 +1,8 @@
 use Rattle.std.proofs.Common.{sym, ap, subst}
-use Rattle.pay_numbered.specs.Words.{IsIn}
+use Rattle.pay_rules.specs.InTurn.{IsIn}
 use Rattle.pay_tables.specs.Words.{FareTables}
-use Rattle.pay_shard.specs.Words.{State, Standing, IsReplyTo, commands_of, transcript_of}
+use Rattle.pay_rules.specs.State.{State}
+use Rattle.pay_shard.specs.Words.{Standing, IsReplyTo, commands_of, transcript_of}
 use Rattle.pay_kept.specs.KeptParts.{KeptParts}
 use Rattle.pay_kept.proofs.KeptDesks.{all_got, got_reply, if_got}
 use Rattle.pay_kept.proofs.desk.KeptDeskDesk.get.Goals as goal

@@ -1,8 +1,8 @@
 use Rattle.std.proofs.Common.{subst, rules, arith}
 use Rattle.std.specs.FinMap.{get, len}
 use Rattle.pay_numbered.specs.Kept.{IsPlace}
-use Rattle.pay_numbered.specs.Numbers.{IsNumbered}
-use Rattle.pay_numbered.proofs.Judgement.{added_iff}
+use Rattle.pay_rules.specs.Numbers.{IsNumbered}
+use Rattle.pay_rules.specs.Judgement.{added_iff}
 use Rattle.pay_numbered.proofs.KeptList.{set_numbered, count_of, put_in_place}
 use Rattle.pay_numbered.proofs.numbered_blocks.NumberedBlocks.add.Goals as goal
 

@@ -1,6 +1,6 @@
 use Rattle.std.proofs.Common.{◌≡◌, sym, subst, IfSome}
-use Rattle.pay_numbered.specs.Numbers.{IsNumbered}
-use Rattle.pay_numbered.proofs.NumberOrder.{own_number}
+use Rattle.pay_rules.specs.Numbers.{IsNumbered}
+use Rattle.pay_rules.specs.NumberOrder.{own_number}
 use Rattle.pay_numbered.proofs.KeptList.{set_numbered}
 use Rattle.pay_numbered.proofs.SoughtNumber.{has, has_none}
 use Rattle.pay_numbered.proofs.numbered_blocks.NumberedBlocks.get.Goals as goal

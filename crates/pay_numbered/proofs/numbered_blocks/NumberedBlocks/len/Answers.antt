@@ -1,5 +1,5 @@
 use Rattle.std.proofs.Common.{◌∙◌, sym, subst}
-use Rattle.pay_numbered.specs.Numbers.{IsNumbered}
+use Rattle.pay_rules.specs.Numbers.{IsNumbered}
 use Rattle.pay_numbered.proofs.KeptList.{count_of, set_numbered}
 use Rattle.pay_numbered.proofs.numbered_blocks.NumberedBlocks.len.Goals as goal
 

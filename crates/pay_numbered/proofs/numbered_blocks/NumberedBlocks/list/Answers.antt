@@ -1,5 +1,5 @@
 use Rattle.std.proofs.Common.{◌≡◌, subst, IfOk}
-use Rattle.pay_numbered.specs.Numbers.{IsNumbered}
+use Rattle.pay_rules.specs.Numbers.{IsNumbered}
 use Rattle.pay_numbered.proofs.KeptList.{listed, set_numbered}
 use Rattle.pay_numbered.proofs.numbered_blocks.NumberedBlocks.list.Goals as goal
 

@@ -1,6 +1,6 @@
 use Rattle.std.proofs.Common.{refl, sym}
 use Rattle.pay_numbered.proofs.KeptList.{taken_out}
-use Rattle.pay_numbered.proofs.OneMore.{same_without}
+use Rattle.pay_rules.specs.NumberOrder.{same_without}
 use Rattle.pay_numbered.proofs.SoughtNumber.{has_none}
 use Rattle.pay_numbered.proofs.numbered_blocks.NumberedBlocks.remove.Goals as goal
 

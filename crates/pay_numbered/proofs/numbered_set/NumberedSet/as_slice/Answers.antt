@@ -1,6 +1,6 @@
 use Rattle.std.proofs.Common.{◌∙◌, ap, subst, length, arith}
-use Rattle.pay_numbered.specs.Numbers.{IsNumbered}
-use Rattle.pay_numbered.proofs.NumberOrder.{length_values}
+use Rattle.pay_rules.specs.Numbers.{IsNumbered}
+use Rattle.pay_rules.specs.NumberOrder.{length_values}
 use Rattle.pay_numbered.proofs.KeptList.{listed, set_numbered}
 use Rattle.pay_numbered.proofs.numbered_set.NumberedSet.as_slice.Goals as goal
 

@@ -1,6 +1,6 @@
 use Rattle.std.proofs.Common.{◌≡◌, sym, subst, IfSome, rules}
-use Rattle.pay_numbered.specs.Numbers.{IsNumbered}
-use Rattle.pay_numbered.proofs.NumberOrder.{own_number}
+use Rattle.pay_rules.specs.Numbers.{IsNumbered}
+use Rattle.pay_rules.specs.NumberOrder.{own_number}
 use Rattle.pay_numbered.proofs.KeptList.{found, not_found, set_numbered}
 use Rattle.pay_numbered.proofs.numbered_set.NumberedSet.get.Goals as goal
 

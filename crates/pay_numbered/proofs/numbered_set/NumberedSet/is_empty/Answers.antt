@@ -1,4 +1,4 @@
-use Rattle.pay_numbered.proofs.NumberOrder.{is_nothing}
+use Rattle.pay_rules.specs.NumberOrder.{is_nothing}
 use Rattle.pay_numbered.proofs.numbered_set.NumberedSet.is_empty.Goals as goal
 
 pub returns : goal.returns

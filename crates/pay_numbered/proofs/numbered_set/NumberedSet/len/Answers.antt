@@ -1,5 +1,5 @@
 use Rattle.std.proofs.Common.{◌∙◌, ap, length}
-use Rattle.pay_numbered.proofs.NumberOrder.{length_values}
+use Rattle.pay_rules.specs.NumberOrder.{length_values}
 use Rattle.pay_numbered.proofs.numbered_set.NumberedSet.len.Goals as goal
 
 pub returns-clause-value : goal.returns-clause-value

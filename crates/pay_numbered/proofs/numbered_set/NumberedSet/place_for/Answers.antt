@@ -1,7 +1,7 @@
 use Rattle.std.proofs.Common.{◌≡◌, ◌≢◌, ◌≤◌, ◌<◌, ◌∙◌, ap, subst, sym, false, true, Some, length, rules, arith, Ok, Err}
 use Rattle.std.specs.FinMap.{get, len}
 use Rattle.std.specs.List.Sorted.{IsBinarySearchResult}
-use Rattle.pay_numbered.proofs.Judgement.{repeat_iff, conflict_iff, full_iff, added_iff}
+use Rattle.pay_rules.specs.Judgement.{repeat_iff, conflict_iff, full_iff, added_iff}
 use Rattle.pay_numbered.proofs.KeptList.{cmp_with, found, not_found, count_of, place_of}
 use Rattle.pay_numbered.proofs.numbered_set.NumberedSet.place_for.Goals as goal
 

@@ -1,6 +1,6 @@
 use Rattle.std.proofs.Common.{sym}
 use Rattle.pay_numbered.proofs.KeptList.{not_found, taken_out}
-use Rattle.pay_numbered.proofs.OneMore.{same_without}
+use Rattle.pay_rules.specs.NumberOrder.{same_without}
 use Rattle.pay_numbered.proofs.numbered_set.NumberedSet.remove.Goals as goal
 
 pub invariant_of-self : goal.invariant_of-self

@@ -1,11 +1,10 @@
 use Rattle.std.proofs.Common.{◌≡◌, Err, ap, sym, ◌∙◌, subst}
 use Rattle.std.specs.FinMap.{get, insert, remove}
 use Rattle.std.proofs.lemmas.Result.{err_from_is_err_and}
-use Rattle.pay_taps.specs.declared.limits.TheConstants.{MOST_TAPS}
-use Rattle.pay_taps.specs.Words.{number as tap_number}
-use Rattle.pay_fix.specs.declared.limits.TheConstants.{MOST_FIXES}
-use Rattle.pay_fix.specs.Words.{number as fix_number}
-use Rattle.pay_quotes.specs.SetsParts.{AreNumbered, AreTapsOf, AreFixesOf}
+use Rattle.pay_rules.specs.declared.limits.TheConstants.{MOST_TAPS, MOST_FIXES}
+use Rattle.pay_rules.specs.Taps.{number as tap_number}
+use Rattle.pay_rules.specs.Fixes.{number as fix_number}
+use Rattle.pay_rules.specs.SetsParts.{AreNumbered, AreTapsOf, AreFixesOf}
 use Rattle.pay_postings.specs.NewRows.{new_taps, new_fixes}
 use Rattle.pay_postings.specs.Archived.{parts}
 use Rattle.pay_postings.specs.Batches.{lists}

@@ -1,5 +1,5 @@
 use Rattle.std.proofs.Common.{◌≡◌, List, [], ◌++◌, drop}
-use Rattle.pay_quotes.specs.Words.{SetsParts}
+use Rattle.pay_rules.specs.SetsParts.{SetsParts}
 use Rattle.pay_postings.specs.Ledger.{LedgerParts}
 use Rattle.pay_postings.specs.Batches.{Agrees, AreThere, Covers, with_batch, lists, posted_behind, IsKept}
 use Rattle.pay_postings.proofs.accounts.Accounts.archive_sets.Given as goal

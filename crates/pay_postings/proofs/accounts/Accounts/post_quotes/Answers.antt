@@ -1,6 +1,6 @@
 use Rattle.std.proofs.Common.{rules, Err, drop, ap, ◌+◌, ◌∙◌}
 use Rattle.std.proofs.lemmas.Result.{err_from_is_err_and}
-use Rattle.pay_quotes.specs.Words.{QuoteParts}
+use Rattle.pay_rules.specs.QuoteParts.{QuoteParts}
 use Rattle.pay_postings.specs.Batches.{lists}
 use Rattle.pay_postings.proofs.Loops.{next_left, one_there, quotes_on, quotes_refused}
 use Rattle.pay_postings.proofs.NeverBad.{not_bad}

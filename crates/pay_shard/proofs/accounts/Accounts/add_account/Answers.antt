@@ -1,7 +1,7 @@
 use Rattle.std.proofs.Common.{◌≡◌, true, false, Bool, if◌then◌else◌, refl}
 use Rattle.pay_shard.specs.BatchParts.{BatchParts, batch_if_quoted}
 use Rattle.pay_shard.specs.Selection.{is_of}
-use Rattle.pay_account.specs.State.{accepted_of}
+use Rattle.pay_rules.specs.State.{accepted_of}
 use Rattle.pay_shard.proofs.Batches.{not_there}
 use Rattle.pay_shard.proofs.Places.{nothing_there}
 use Rattle.pay_shard.proofs.accounts.Accounts.add_account.Goals as goal

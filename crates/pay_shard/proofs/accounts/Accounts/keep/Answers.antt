@@ -1,6 +1,6 @@
 use Rattle.std.proofs.Common.{map as each, ap, sym, ◌∙◌, subst}
 use Rattle.pay_shard.specs.Held.{Held, ArePlaces, state_of}
-use Rattle.pay_account.specs.State.{ArePriced}
+use Rattle.pay_rules.specs.State.{ArePriced}
 use Rattle.pay_shard.proofs.Places.{opened, opens, all_more}
 use Rattle.pay_shard.proofs.accounts.Accounts.keep.Goals as goal
 

@@ -1,9 +1,10 @@
 use Rattle.std.proofs.Common.{◌≡◌, Ok, ap, ◌∙◌}
 use Rattle.std.specs.FinMap as map
-use Rattle.pay_account.specs.Words.{nothing, fix_result, after_fix}
-use Rattle.pay_account.specs.declared.fares.FixFault.{FixFault}
+use Rattle.pay_rules.specs.Accepted.{nothing}
+use Rattle.pay_rules.specs.FixResults.{fix_result, after_fix}
+use Rattle.pay_rules.specs.declared.fares.FixFault.{FixFault}
 use Rattle.pay_shard.specs.State.{is_new, after_fix_of}
-use Rattle.pay_account.specs.State.{accepted_of}
+use Rattle.pay_rules.specs.State.{accepted_of}
 use Rattle.pay_shard.proofs.FirstOnes.{first_fix_is_new}
 use Rattle.pay_shard.proofs.Places.{nothing_there, kept_new}
 use Rattle.pay_shard.proofs.accounts.Accounts.open_by_fix.Goals as goal

@@ -1,8 +1,9 @@
 use Rattle.std.proofs.Common.{◌≡◌, ℕ, ap, sym, ◌∙◌, unwrap_or}
 use Rattle.std.proofs.lemmas.Result.{IfOk-weaker}
 use Rattle.pay_tables.specs.Words.{FareTables}
-use Rattle.pay_account.specs.Words.{Accepted, nothing, quote}
-use Rattle.pay_account.specs.Words.{QuoteParts}
+use Rattle.pay_rules.specs.Accepted.{Accepted, nothing}
+use Rattle.pay_rules.specs.Quotes.{quote}
+use Rattle.pay_rules.specs.QuoteParts.{QuoteParts}
 use Rattle.pay_shard.specs.Held.{Held}
 use Rattle.pay_shard.proofs.Places.{nothing_there}
 use Rattle.pay_shard.proofs.accounts.Accounts.quote.Goals as goal

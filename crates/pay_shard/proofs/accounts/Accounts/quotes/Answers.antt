@@ -1,6 +1,6 @@
 use Rattle.std.proofs.Common.{◌≡◌, ℕ, List, fold, map as each, ap, ◌∙◌, subst}
 use Rattle.std.specs.FinMap as finite
-use Rattle.pay_account.specs.State.{State, accepted_of}
+use Rattle.pay_rules.specs.State.{State, accepted_of}
 use Rattle.pay_shard.specs.BatchParts.{batch_with}
 use Rattle.pay_shard.specs.Held.{Held}
 use Rattle.pay_shard.proofs.Batches.{all_quoted}

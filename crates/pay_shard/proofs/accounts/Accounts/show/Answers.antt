@@ -1,8 +1,9 @@
 use Rattle.std.proofs.Common.{◌≡◌, ℕ, ap, sym, ◌∙◌, unwrap_or}
 use Rattle.std.proofs.lemmas.Result.{IfOk-weaker}
 use Rattle.pay_tables.specs.Words.{FareTables}
-use Rattle.pay_account.specs.Words.{Accepted, nothing, shown}
-use Rattle.pay_quotes.specs.declared.shown.Shown.{Shown}
+use Rattle.pay_rules.specs.Accepted.{Accepted, nothing}
+use Rattle.pay_rules.specs.Lines.{shown}
+use Rattle.pay_rules.specs.declared.shown.Shown.{Shown}
 use Rattle.pay_shard.specs.Held.{Held}
 use Rattle.pay_shard.proofs.Places.{nothing_there}
 use Rattle.pay_shard.proofs.accounts.Accounts.show.Goals as goal

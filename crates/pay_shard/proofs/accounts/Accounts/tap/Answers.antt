@@ -1,8 +1,8 @@
 use Rattle.std.proofs.Common.{◌<◌, ◌≤◌, ap, sym, ◌∙◌, subst}
-use Rattle.pay_account.specs.Words.{IsTapResult, after_tap}
+use Rattle.pay_rules.specs.TapResults.{IsTapResult, after_tap}
 use Rattle.pay_shard.specs.Held.{Held}
 use Rattle.pay_shard.specs.State.{is_new}
-use Rattle.pay_account.specs.State.{accepted_of}
+use Rattle.pay_rules.specs.State.{accepted_of}
 use Rattle.pay_shard.proofs.FirstOnes.{same_tap_left}
 use Rattle.pay_shard.proofs.Places.{missing, held, is_held, inside, all_at, all_set, kept_at, places_kept}
 use Rattle.pay_shard.proofs.accounts.Accounts.tap.Goals as goal

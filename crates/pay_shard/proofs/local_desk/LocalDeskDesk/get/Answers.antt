@@ -3,7 +3,7 @@ use Rattle.pay_tables.specs.Words.{FareTables}
 use Rattle.pay_shard.specs.Desks.{Standing, without, IsReplyTo}
 use Rattle.pay_shard.specs.LocalParts.{commands_of, transcript_of, tickets_of}
 use Rattle.pay_shard.specs.ShardParts.{ShardParts}
-use Rattle.pay_account.specs.State.{State}
+use Rattle.pay_rules.specs.State.{State}
 use Rattle.pay_shard.proofs.LocalDesks.{local_still, reply_to, reply_found, tickets_left}
 use Rattle.pay_shard.proofs.local_desk.LocalDeskDesk.get.Goals as goal
 

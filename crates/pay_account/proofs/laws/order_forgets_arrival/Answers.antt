@@ -1,8 +1,0 @@
-use Rattle.pay_taps.specs.declared.limits.TheConstants.{MOST_TAPS}
-use Rattle.pay_fix.specs.declared.limits.TheConstants.{MOST_FIXES}
-use Rattle.pay_account.proofs.Changes.{forgets}
-use Rattle.pay_account.proofs.laws.order_forgets_arrival.Goals as goal
-
-pub returns : goal.returns
-returns c = λ tables accepted list other alike are.
-    forgets tables accepted list other (c.order_forgets_arrival.ensures MOST_TAPS) (c.order_forgets_arrival-2.ensures MOST_FIXES) alike are

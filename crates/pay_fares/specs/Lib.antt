@@ -1,4 +1,0 @@
-pub mod Runs
-pub mod Peak
-pub mod JourneyFares
-pub mod Words

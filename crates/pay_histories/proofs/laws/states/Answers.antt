@@ -1,0 +1,6 @@
+use Rattle.pay_close.specs.Close.{new_books}
+use Rattle.pay_histories.proofs.Histories.{state_after}
+use Rattle.pay_histories.proofs.laws.states.Goals as goal
+
+pub returns : goal.returns
+returns c tables events = state_after tables new_books events

@@ -1,0 +1,2 @@
+pub mod Payments
+pub mod Restores

@@ -1,2 +1,0 @@
-pub mod Legs
-pub mod Words

@@ -1,5 +1,0 @@
-use Rattle.pay_postings.proofs.SetsBack.{fix_back}
-use Rattle.pay_postings.proofs.laws.fixes_back.Goals as goal
-
-pub returns : goal.returns
-returns c fix is = fix_back fix is

@@ -1,0 +1,4 @@
+pub mod OneMore
+pub mod InTurn
+pub mod Results
+pub mod Changes

@@ -1,0 +1,6 @@
+pub mod LastLeg
+mod NumberRows
+mod LegRows
+mod FareRows
+mod ShareRows
+mod AccountRows

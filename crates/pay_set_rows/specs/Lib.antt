@@ -1,0 +1,4 @@
+pub mod Ranged
+pub mod SetRows
+pub mod InRange
+pub mod Readings
