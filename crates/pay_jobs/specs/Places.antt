@@ -7,7 +7,8 @@ use Rattle.sqlite.specs.Start.{FindsIn}
 use Rattle.sqlite.specs.State.{HasCleanDisk}
 use Rattle.sqlite.specs.Store.{Ghosts}
 use Rattle.sqlite_disk.specs.declared.Disk as disk
-use Rattle.pay_ledger.specs.Words.{IsLedger, nothing, IsOpenedOf, IsNotOpened}
+use Rattle.pay_ledger.specs.Words.{IsLedger, nothing}
+use Rattle.pay_ledger_files.specs.Words.{IsOpenedOf, IsNotOpened}
 use Rattle.pay_ledger.specs.declared.fault.OpenFault.{OpenFault}
 use Rattle.pay_ledger.specs.declared.fault.OpenFault.TheVariants.{Store}
 

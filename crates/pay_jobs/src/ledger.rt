@@ -6,7 +6,8 @@ ghost use Rattle.pay_jobs.specs.Places.{in_memory, in_file};
 
 use crate::fault::Fault;
 use pay_disk::{ScratchFile, new_database};
-use pay_ledger::{Ledger, Ledgers, OpenFault};
+use pay_ledger::{Ledger, OpenFault};
+use pay_ledger_files::Ledgers;
 use sqlite::{Alter, FileFrom, FileStore, Start};
 use sqlite_disk::Disk;
 use std::alloc::Global;

@@ -27,7 +27,7 @@ pub use lines::{Ran, run_lines};
 pub use past::replayed_desk;
 pub use pay_keeping::{LateKeeper, whole_bytes};
 pub use pay_kept::{Keeper, NoKeeper};
-pub use pay_ledger::Ledgers;
+pub use pay_ledger_files::Ledgers;
 pub use pay_serve::Plan;
 pub use replays::replay_texts;
 pub use run::{run_texts, run_texts_into_file};

@@ -1,17 +1,20 @@
 -- Parts of a transaction, one after another.
 use Rattle.std.specs.List.{AllByRecursion}
-use Rattle.std.proofs.Common.{◌≡◌, inl, ◌<◌, ◌+◌, ℕ, List, [], ◌∷◌, ◌++◌, length, take, get_or, Ok, Err, Result, IsTrue, IfErr, OnOk, OnErr, refl, sym, ap, subst, ◌∙◌, arith}
+use Rattle.std.specs.Borrow.{MutBor}
+use Rattle.std.proofs.Common.{◌≡◌, inl, ◌<◌, ◌+◌, ℕ, List, [], ◌∷◌, ◌++◌, length, take, get_or, Ok, Err, Result, IsTrue, IfOk, IfErr, IsErrAnd, OnOk, OnErr, refl, sym, ap, subst, ◌∙◌, arith}
 use Rattle.std.proofs.lemmas.List.{append_assoc, take_more}
 use Rattle.sqlite_keyed.proofs.ListLemmas.{all_both, all_of}
 use Rattle.sqlite.specs.Effect.{Database}
 use Rattle.sqlite.specs.State.{State, HasCleanDisk, KeepsCommit, Survives}
+use Rattle.sqlite.specs.Store.{Ghosts}
+use Rattle.sqlite.specs.Held.{Held, state}
 use Rattle.sqlite.proofs.StateLemmas.{survives_then}
 use Rattle.sqlite.proofs.InsideLemmas.{keeps_then}
-use Rattle.pay_records.specs.Words.{KeepsOthers, HasLedgerTables, IsOthers}
+use Rattle.pay_records.specs.Words.{KeepsOthers, HasLedgerTables, IsOthers, CommitsNothingInside, LeavesAsBefore}
 use Rattle.pay_ledger.specs.declared.fault.LedgerFault.{LedgerFault}
 use Rattle.pay_ledger.specs.declared.fault.LedgerFault.TheVariants.{Store}
 use Rattle.pay_ledger.specs.Faults.{is_of_store}
-use Rattle.pay_ledger.specs.Steps.{Stays, GoesOn}
+use Rattle.pay_ledger.specs.Steps.{Stays, GoesOn, IsStep, HasGoneOn, HasStopped}
 
 pub survives_same : (s : State) → Survives s s (λ _. ⊥)
 survives_same s = record { clean = omega arith; shield = λ h. h; counts = omega arith; limit = refl; closes = λ clean live. inl live; crash = λ clean db left. inl left }
@@ -60,18 +63,85 @@ store_only (Err fault) h = ap is_of_store h
 pub one_more : {X : Type 0} (list more : List X) (i : ℕ) (d : X) → i < length more → (list ++ take i more) ++ get_or more i d ∷ [] ≡ list ++ take (i + 1) more
 one_more list more i d below = append_assoc list (take i more) (get_or more i d ∷ []) ∙ ap (λ l. list ++ l) (sym (take_more more i d below))
 
+-- where it failed, nothing is said of an answer
+pub never_ok : {A E : Type 0} (P : E → Type 0) (Q : Type 0) (r : Result A E) → IsErrAnd r P → OnOk r Q
+never_ok P Q (Ok x) is = absurd is
+never_ok P Q (Err e) is = tt
+
+pub no_answer : {A E : Type 0} (P : E → Type 0) (Q : A → Type 0) (r : Result A E) → IsErrAnd r P → IfOk r Q
+no_answer P Q (Ok x) is = absurd is
+no_answer P Q (Err e) is = tt
+
 pub ok_then : {A E : Type 0} (P Q : Type 0) (r : Result A E) → (P → Q) → OnOk r P → OnOk r Q
 ok_then P Q (Ok x) f h = f h
 ok_then P Q (Err e) f h = tt
-
-pub err_then : {A E : Type 0} (P Q : Type 0) (r : Result A E) → (P → Q) → OnErr r P → OnErr r Q
-err_then P Q (Ok x) f h = tt
-err_then P Q (Err e) f h = f h
 
 -- whatever came of a step, the disk was clean before it if it is clean after it
 pub clean_before : {A E : Type 0} (a b : State) (r : Result A E) → OnOk r (GoesOn a b) → OnErr r (Stays a b) → HasCleanDisk b → HasCleanDisk a
 clean_before a b (Ok x) ok err clean = was_clean a b ok.stays.survives clean
 clean_before a b (Err e) ok err clean = was_clean a b err.survives clean
+
+-- ---- steps
+
+module _ {S : Type 0} (store : Ghosts S) where
+  -- a connection before any step
+  pub not_begun : (a : MutBor (Held S)) → HasGoneOn store a a
+  not_begun a = record { same_reference = refl; goes_on = goes_on_same (state store a.now); stays = tt }
+
+  -- by what one call says of its own
+  pub goes : (a b : MutBor (Held S)) → b.ghost_name ≡ a.ghost_name → CommitsNothingInside store a.now b.now
+      → (HasCleanDisk (state store b.now) → IsTrue (state store a.now).in_transaction → IsTrue (state store b.now).in_transaction) → LeavesAsBefore store a.now b.now → HasGoneOn store a b
+  goes a b same kept inside survives = record { same_reference = same; goes_on = record { stays = record { kept = kept; survives = survives }; inside = inside }; stays = tt }
+
+  pub goes_by_read : (a b : MutBor (Held S)) → b.ghost_name ≡ a.ghost_name → CommitsNothingInside store a.now b.now
+      → (HasCleanDisk (state store b.now) → (state store b.now).in_transaction ≡ (state store a.now).in_transaction) → LeavesAsBefore store a.now b.now → HasGoneOn store a b
+  goes_by_read a b same kept inside survives = goes a b same kept (λ clean was. subst IsTrue (sym (inside clean)) was) survives
+
+  pub stops : (a b : MutBor (Held S)) → b.ghost_name ≡ a.ghost_name → CommitsNothingInside store a.now b.now → LeavesAsBefore store a.now b.now → HasStopped store a b
+  stops a b same kept survives = record { same_reference = same; goes_on = tt; stays = record { kept = kept; survives = survives } }
+
+  -- the disk was clean before a step if it is clean after it
+  pub was : {A E : Type 0} {a b : MutBor (Held S)} {r : Result A E} → IsStep store a b r → HasCleanDisk (state store b.now) → HasCleanDisk (state store a.now)
+  was {a = a} {b = b} {r = r} step = clean_before (state store a.now) (state store b.now) r step.goes_on step.stays
+
+  -- the step was done, and this is answered
+  pub gone : {A E C D : Type 0} (r : Result C D) {a b : MutBor (Held S)} {x : A} → IsStep {A = A} {E = E} store a b (Ok x) → IsStep store a b r
+  gone r one = record { same_reference = one.same_reference; goes_on = on_ok _ r one.goes_on; stays = on_err _ r one.goes_on.stays }
+
+  -- or it failed, and this is refused
+  pub stopped : {A E C D : Type 0} (r : Result C D) (P : D → Type 0) {a b : MutBor (Held S)} {e : E} → IsErrAnd r P → IsStep {A = A} {E = E} store a b (Err e) → IsStep store a b r
+  stopped r P is one = record { same_reference = one.same_reference; goes_on = never_ok P _ r is; stays = on_err _ r one.stays }
+
+  -- one more was done
+  pub and_gone : {A B E F C D : Type 0} (r : Result C D) {a b c : MutBor (Held S)} {x : A} {y : B} → IsStep {A = A} {E = E} store a b (Ok x) → IsStep {A = B} {E = F} store b c (Ok y) → IsStep store a c r
+  and_gone r {a} {b} {c} one two =
+      let on = goes_then (state store a.now) (state store b.now) (state store c.now) one.goes_on two.goes_on in
+      record { same_reference = two.same_reference ∙ one.same_reference; goes_on = on_ok _ r on; stays = on_err _ r on.stays }
+
+  -- one more failed
+  pub and_stopped : {A B E F C D : Type 0} (r : Result C D) {a b c : MutBor (Held S)} {x : A} {e : F} → IsStep {A = A} {E = E} store a b (Ok x) → (P : D → Type 0) → IsErrAnd r P → IsStep {A = B} {E = F} store b c (Err e) → IsStep store a c r
+  and_stopped r {a} {b} {c} one P is two = record {
+    same_reference = two.same_reference ∙ one.same_reference;
+    goes_on = never_ok P _ r is;
+    stays = on_err _ r (stays_then (state store a.now) (state store b.now) (state store c.now) one.goes_on two.stays);
+  }
+
+  -- the last one is what is answered
+  pub and_so : {A E C D : Type 0} (r : Result C D) {a b c : MutBor (Held S)} {x : A} → IsStep {A = A} {E = E} store a b (Ok x) → IsStep store b c r → IsStep store a c r
+  and_so (Ok y) {a} {b} {c} one two = record {
+    same_reference = two.same_reference ∙ one.same_reference;
+    goes_on = goes_then (state store a.now) (state store b.now) (state store c.now) one.goes_on two.goes_on;
+    stays = tt;
+  }
+  and_so (Err e) {a} {b} {c} one two = record {
+    same_reference = two.same_reference ∙ one.same_reference;
+    goes_on = tt;
+    stays = stays_then (state store a.now) (state store b.now) (state store c.now) one.goes_on two.stays;
+  }
+
+  -- one step more in a loop
+  pub and_on : {A E F B : Type 0} {a b c : MutBor (Held S)} {x : A} {y : B} → IsStep {A = A} {E = E} store a b (Ok x) → IsStep {A = B} {E = F} store b c (Ok y) → HasGoneOn store a c
+  and_on one two = and_gone (Ok tt) one two
 
 -- ---- what is another's
 

@@ -1,5 +1,5 @@
 -- A database that is asked first: where it answers, it is open and as it was.
-use Rattle.std.proofs.Common.{inl, inr, ◌⊎◌, ℕ, List, [], Ok, Err, Result, IfErr, OnOk, OnErr, IsTrue, sym, subst}
+use Rattle.std.proofs.Common.{inl, inr, ◌⊎◌, ℕ, List, [], Ok, Err, Result, IfErr, IsTrue, sym, subst}
 use Rattle.sqlite.specs.declared.error.Error.{Error}
 use Rattle.sqlite.specs.Order.{Row}
 use Rattle.sqlite.specs.Effect.{Database}
@@ -7,7 +7,6 @@ use Rattle.sqlite.specs.State.{State, HasCleanDisk, KeepsCommit, Survives, IsUnc
 use Rattle.pay_ledger.specs.declared.fault.LedgerFault.{LedgerFault}
 use Rattle.pay_ledger.specs.Faults.{is_of_store}
 use Rattle.pay_ledger.specs.Steps.{Stays, GoesOn}
-use Rattle.pay_ledger.proofs.Along.{clean_before}
 
 module _ (old new : State) where
   kept_not_run : (sql : List ℕ) (params : Row) (e : Error) → IsNotRun old new sql params e → KeepsCommit old new
@@ -33,16 +32,10 @@ where_open : {A : Type 0} (Live : Type 0) (answer : Result A LedgerFault) → Li
 where_open Live (Ok given) live = tt
 where_open Live (Err fault) live = inr live
 
--- What comes behind it, from between to new, is so of what was there before it was asked.
-module _ {A : Type 0} (old between new : State) (same : HasCleanDisk between → IsUnchanged old between) (answer : Result A LedgerFault) (ok : OnOk answer (GoesOn between new)) (err : OnErr answer (Stays between new)) where
-  same_before : HasCleanDisk new → IsUnchanged old between
-  same_before clean = same (clean_before between new answer ok err clean)
-
-  pub so_before : (P : Database → Type 0) → (HasCleanDisk new → P between.now) → HasCleanDisk new → P old.now
-  so_before P so clean = subst P (same_before clean).0.now_is (so clean)
-
+-- What comes after it, from between to new, is so of what was there before it was asked.
+module _ (old between new : State) (same : HasCleanDisk between → IsUnchanged old between) (was : HasCleanDisk new → HasCleanDisk between) where
   pub so_inside : (P : Database → Type 0) → (HasCleanDisk new → IsTrue between.in_transaction → P between.now) → HasCleanDisk new → IsTrue old.in_transaction → P old.now
-  so_inside P so clean inside = subst P (same_before clean).0.now_is (so clean (subst IsTrue (sym (same_before clean).0.mode) inside))
+  so_inside P so clean inside = subst P (same (was clean)).0.now_is (so clean (subst IsTrue (sym (same (was clean)).0.mode) inside))
 
-  pub refuses_open : HasCleanDisk new → IfErr answer (λ fault. IsTrue (is_of_store fault) ⊎ IsTrue old.is_open)
-  refuses_open clean = where_open (IsTrue old.is_open) answer (same_before clean).0.was_open
+  pub refuses_open : {A : Type 0} (answer : Result A LedgerFault) → HasCleanDisk new → IfErr answer (λ fault. IsTrue (is_of_store fault) ⊎ IsTrue old.is_open)
+  refuses_open answer clean = where_open (IsTrue old.is_open) answer (same (was clean)).0.was_open

@@ -2,7 +2,7 @@
 use Rattle.std.proofs.Common.{arith, ◌≡◌, ℕ, Bool, true, false, cond, List, [], ◌∷◌, take, get_or, length, ◌<◌, ◌+◌, Some, is_some, refl, sym, ap, subst, ◌∙◌}
 use Rattle.std.specs.List.{AllByRecursion}
 use Rattle.std.specs.Cmp.{nat_cmp_total}
-use Rattle.std.specs.FinMap.{get, insert, get-insert, nat_cmp-IsAntisymmetric}
+use Rattle.std.specs.FinMap.{empty, get, insert, get-empty, get-insert, nat_cmp-IsAntisymmetric}
 use Rattle.std.specs.Ordering.{nat_cmp, eq_by_cmp, is_eq}
 use Rattle.std.specs.declared.cmp.Ordering.{Ordering}
 use Rattle.std.specs.declared.cmp.Ordering.TheVariants.{Less, Equal, Greater}
@@ -10,11 +10,10 @@ use Rattle.std.proofs.lemmas.List.{take_more}
 use Rattle.std.proofs.lemmas.Bool.Decides.{nat_tests}
 use Rattle.sqlite_keyed.proofs.ListLemmas.{all-append, all_weaker}
 use Rattle.sqlite.specs.State.{State, HasCleanDisk}
-use Rattle.pay_postings.specs.Words.{LedgerParts, ArchivedParts, AccountsParts, archived_of, Agrees, IsThere}
-use Rattle.pay_records.specs.Words.{LedgerRows}
-use Rattle.pay_ledger.specs.BadRows.{IsReadable, WereRead}
-use Rattle.pay_ledger.specs.Steps.{GoesOn, Tells, TellsRows, ReadsInto}
-use Rattle.pay_ledger.proofs.Along.{was_clean}
+use Rattle.pay_postings.specs.Words.{ArchivedParts, AccountsParts, IsThere}
+use Rattle.pay_records.specs.Words.{LedgerRows, HoldsRows}
+use Rattle.pay_ledger.specs.BadRows.{IsReadFrom, WereRead}
+use Rattle.pay_ledger.specs.Steps.{FindsRows, ReadsInto}
 
 equal : (o : Ordering) → is_eq o ≡ true → o ≡ Equal
 equal Less e = absurd (cc)
@@ -28,16 +27,6 @@ module _ (before after : AccountsParts) (account : ℕ) (p : ArchivedParts) (is 
   got : (q : ℕ) → get after q ≡ cond (eq_by_cmp nat_cmp q account) (Some p) (get before q)
   got q = ap (λ m. get m q) is ∙ get-insert nat_cmp_total before account p q
 
-  agrees_more : (ledger : LedgerParts) → p ≡ archived_of account ledger → Agrees before ledger → Agrees after ledger
-  agrees_more ledger of agrees q archived there = go (eq_by_cmp nat_cmp q account) refl
-    where
-      go : (b : Bool) → eq_by_cmp nat_cmp q account ≡ b → archived ≡ archived_of q ledger
-      go true e =
-          let found : Some p ≡ Some archived = ap (λ b. cond b (Some p) (get before q)) (sym e) ∙ sym (got q) ∙ there in
-          let same : p ≡ archived = cc in
-          sym same ∙ of ∙ ap (λ a. archived_of a ledger) (sym (nat_cmp-IsAntisymmetric q account (equal (nat_cmp q account) e)))
-      go false e = agrees q archived (ap (λ b. cond b (Some p) (get before q)) (sym e) ∙ sym (got q) ∙ there)
-
   pub there : IsThere after account
   there = ap is_some (got account) ∙ ap (λ b. is_some (cond b (Some p) (get before account))) (itself account)
 
@@ -48,35 +37,38 @@ module _ (before after : AccountsParts) (account : ℕ) (p : ArchivedParts) (is 
       go true = refl
       go false = h
 
-  read_more : (rows : LedgerRows) → IsReadable rows account → WereRead rows before → WereRead rows after
-  read_more rows own read q h = go (eq_by_cmp nat_cmp q account) refl
+  read_more : (rows : LedgerRows) → IsReadFrom rows account p → WereRead rows before → WereRead rows after
+  read_more rows own were q read h = go (eq_by_cmp nat_cmp q account) refl
     where
-      go : (b : Bool) → eq_by_cmp nat_cmp q account ≡ b → IsReadable rows q
-      go true e = subst (IsReadable rows) (sym (nat_cmp-IsAntisymmetric q account (equal (nat_cmp q account) e))) own
-      go false e = read q (sym (ap is_some (got q ∙ ap (λ b. cond b (Some p) (get before q)) e)) ∙ h)
+      go : (b : Bool) → eq_by_cmp nat_cmp q account ≡ b → IsReadFrom rows q read
+      go true e =
+          let held : Some p ≡ Some read = ap (λ b. cond b (Some p) (get before q)) (sym e) ∙ sym (got q) ∙ h in
+          let same : p ≡ read = cc in
+          let number : account ≡ q = sym (nat_cmp-IsAntisymmetric q account (equal (nat_cmp q account) e)) in
+          subst (λ a. IsReadFrom rows a read) number (subst (IsReadFrom rows account) same own)
+      go false e = were q read (ap (λ b. cond b (Some p) (get before q)) (sym e) ∙ sym (got q) ∙ h)
 
-  pub read_one : (old new : State) → (HasCleanDisk new → Tells old new (λ ledger. p ≡ archived_of account ledger)) → (HasCleanDisk new → TellsRows old new (λ rows. IsReadable rows account)) → ReadsInto old new before after
-  read_one old new told said = record {
-    agrees = λ clean ledger k. let it = told clean ledger k in (agrees_more ledger it.0, it.1, it.2);
-    rows = λ clean rows k. let it = said clean rows k in (read_more rows it.0, it.1);
+  pub read_one : (old new : State) → (HasCleanDisk new → FindsRows old new (λ rows. IsReadFrom rows account p)) → ReadsInto old new before after
+  read_one old new found = record {
+    rows = λ clean rows k. let it = found clean rows k in (read_more rows it.0, it.1);
     stay = still_there;
   }
 
 pub reads_none : (s : State) (accounts : AccountsParts) → ReadsInto s s accounts accounts
-reads_none s accounts = record { agrees = λ clean ledger k. ((λ agrees. agrees), k, refl); rows = λ clean rows k. ((λ read. read), k); stay = λ account h. h }
+reads_none s accounts = record { rows = λ clean rows k. ((λ read. read), refl); stay = λ account h. h }
 
-pub reads_then : (a b c : State) (one two three : AccountsParts) → ReadsInto a b one two → ReadsInto b c two three → GoesOn b c → ReadsInto a c one three
-reads_then a b c one two three first second on = record {
-  agrees = λ clean ledger k.
-      let begun = first.agrees (was_clean b c on.stays.survives clean) ledger k in
-      let gone = second.agrees clean ledger begun.1 in
-      ((λ agrees. gone.0 (begun.0 agrees)), gone.1, gone.2 ∙ begun.2);
+pub reads_then : (a b c : State) (one two three : AccountsParts) → (HasCleanDisk c → HasCleanDisk b) → ReadsInto a b one two → ReadsInto b c two three → ReadsInto a c one three
+reads_then a b c one two three was first second = record {
   rows = λ clean rows k.
-      let begun = first.rows (was_clean b c on.stays.survives clean) rows k in
-      let gone = second.rows clean rows begun.1 in
-      ((λ read. gone.0 (begun.0 read)), gone.1);
+      let begun = first.rows (was clean) rows k in
+      let gone = second.rows clean rows (subst (λ db. HoldsRows db rows) (sym begun.1) k) in
+      ((λ read. gone.0 (begun.0 read)), gone.1 ∙ begun.1);
   stay = λ account h. second.stay account (first.stay account h);
 }
+
+-- nothing is read yet
+pub none_read : (rows : LedgerRows) (none : AccountsParts) → none ≡ empty → WereRead rows none
+none_read rows none is account read there = absurd (let e = sym (get-empty nat_cmp account) ∙ ap (λ m. get m account) (sym is) ∙ there in cc)
 
 -- the accounts of some, and of one more
 pub all_there : {X : Type 0} (account : X → ℕ) (before after : AccountsParts) (xs : List X) (i : ℕ) (d : X) → i < length xs → ((a : ℕ) → IsThere before a → IsThere after a)

@@ -8,4 +8,3 @@ mod Looking
 mod Asked
 mod Bare
 mod Lasting
-mod Opened

@@ -1,5 +1,5 @@
 -- What is read of an account is what the ledger has of it.
-use Rattle.std.proofs.Common.{◌≡◌, ◌==◌, ◌+◌, ◌<ℤ◌, ℕ, ℤ, pos, Bool, true, false, cond, List, [], ◌∷◌, ◌++◌, length, map, filter, flat_map, Some, None, Option, ◌≢◌, Ok, Err, Result, IsErrAnd, IfOk, IfErr, IsTrue, refl, sym, ap, ap₂, subst, ◌⊎◌, inl, inr, ◌∙◌, arith, append-nil, IsPermutation}
+use Rattle.std.proofs.Common.{◌≡◌, ◌==◌, ◌+◌, ◌<ℤ◌, ℕ, ℤ, pos, Bool, true, false, cond, List, [], ◌∷◌, ◌++◌, length, map, filter, flat_map, Some, None, Option, Ok, Err, Result, IfOk, IfErr, IsTrue, refl, sym, ap, ap₂, subst, ◌⊎◌, inl, inr, ◌∙◌, arith, append-nil, IsPermutation}
 use Rattle.std.specs.List.{zip, AllByRecursion}
 use Rattle.std.specs.Ordering.{int_eq}
 use Rattle.std.proofs.lemmas.Int.{ints}
@@ -10,7 +10,9 @@ use Rattle.sqlite_keyed.proofs.ListLemmas.{map-map, filter-map, filter_same, fla
 use Rattle.pay_rules.specs.declared.tap.Tap.{Tap}
 use Rattle.pay_rules.specs.declared.fix.Fix.{Fix}
 use Rattle.pay_rules.specs.declared.posting.Posting.{Posting}
-use Rattle.pay_postings.specs.Words.{LedgerParts, AreKept, net, net_from_rows, taps_of, fixes_of}
+use Rattle.pay_postings.specs.Words.{LedgerParts, ArchivedParts, archived_of, net, net_from_rows, taps_of, fixes_of}
+use Rattle.pay_postings.specs.Laws.{PostingsAreReadBack}
+use Rattle.pay_postings.specs.NetRows.{NetIsOfPostings}
 use Rattle.pay_rows.specs.declared.row.PostingRow.{PostingRow}
 use Rattle.pay_rows.specs.declared.row.ShareRow.{ShareRow}
 use Rattle.pay_rows.specs.declared.row.TapRow.{TapRow}
@@ -21,14 +23,11 @@ use Rattle.pay_postings.specs.AccountRows.{is_of_account, of_account, numbered_o
 use Rattle.sqlite.specs.Effect.{Database}
 use Rattle.pay_records.specs.Words.{LedgerRows, HoldsRows, RiseFrom, posting_row as stored}
 use Rattle.pay_records.specs.Found as found
-use Rattle.sqlite.specs.State.{State, IsUnchanged}
-use Rattle.pay_rules.specs.declared.post_fault.PostFault.{PostFault}
-use Rattle.pay_rules.specs.declared.post_fault.PostFault.TheVariants.{BadArchive, StaleQuote, QuoteDiffers, ArchiveConflict, Memory}
+use Rattle.pay_rules.specs.declared.post_fault.PostFault.TheVariants.{BadArchive}
 use Rattle.pay_ledger.specs.declared.fault.LedgerFault.{LedgerFault}
 use Rattle.pay_ledger.specs.declared.fault.LedgerFault.TheVariants.{Refused}
 use Rattle.pay_ledger.specs.Faults.{is_of_store}
-use Rattle.pay_ledger.specs.BadRows.{net_said, IsNetOf}
-use Rattle.pay_ledger.specs.Steps.{Tells}
+use Rattle.pay_ledger.specs.BadRows.{ReadsAs, net_said, IsNetOf, IsReadFrom}
 use Rattle.pay_ledger.proofs.Looking.{net_of_own}
 use Rattle.pay_ledger.specs.Keeps.{IsLedger, AreRowsOf, row_of_posting, row_of_tap, row_of_fix}
 
@@ -140,73 +139,51 @@ shares_read account ledger rows are up =
     ∙ each_of (λ (n : ℤ × Posting). filter (of_number n.0) (shares_of_each (zip are.ids ledger.postings))) (λ (n : ℤ × Posting). share_rows n.0 n.1) numbered
     (all-filter (λ (n : ℤ × Posting). filter (of_number n.0) (shares_of_each (zip are.ids ledger.postings)) ≡ share_rows n.0 n.1) (λ (n : ℤ × Posting). is_of_account account n.1) (zip are.ids ledger.postings) (one_number (pos 0) are.ids ledger.postings are.as_long up))
 
--- where nothing changed, a ledger is still there
-pub still_ledger : (old new : State) (ledger : LedgerParts) → IsUnchanged old new → IsLedger old.now ledger → IsLedger new.now ledger
-still_ledger old new ledger same is = subst (λ d. IsLedger d ledger) (sym same.0.now_is) is
-
-pub taps_told : (old new : State) (account : ℕ) (number : ℤ) (list : List TapRow) → number ≡ pos account → found.Finds old new (λ rows. list ≡ found.taps_of number rows) → Tells old new (λ ledger. list ≡ map tap_row (taps_of account ledger.taps))
-taps_told old new account number list is told ledger k =
-    let it = told k.keeps.rows k.keeps.held in
-    (it.0 ∙ ap (λ n. found.taps_of n k.keeps.rows) is ∙ taps_read account ledger k.keeps.rows k.keeps.are, still_ledger old new ledger it.1 k, it.1.0.now_is)
-
-pub fixes_told : (old new : State) (account : ℕ) (number : ℤ) (list : List FixRow) → number ≡ pos account → found.Finds old new (λ rows. list ≡ found.fixes_of number rows) → Tells old new (λ ledger. list ≡ map fix_row (fixes_of account ledger.fixes))
-fixes_told old new account number list is told ledger k =
-    let it = told k.keeps.rows k.keeps.held in
-    (it.0 ∙ ap (λ n. found.fixes_of n k.keeps.rows) is ∙ fixes_read account ledger k.keeps.rows k.keeps.are, still_ledger old new ledger it.1 k, it.1.0.now_is)
+pub same_some : {X : Type 0} {x y : X} → Some x ≡ Some y → x ≡ y
+same_some e = cc
 
 -- the numbers of what was posted rise
 rows_rise : (db : Database) (rows : LedgerRows) → HoldsRows db rows → RiseFrom (pos 0) (map stored rows.postings)
 unfolding HoldsRows
 rows_rise db rows held = subst (RiseFrom (pos 0)) held.2.postings held.2.postings_rise
 
--- the two reads of what was posted: rows in order, and those of their shares in any order
-pub posted_told : ((account : ℕ) (before : ℤ) (ids : List ℤ) (list : List Posting) (shares : List ShareRow) → AreKept list → length ids ≡ length list → RiseBehind before ids
-    → IsPermutation (shares_of account ids list) shares → postings_from_rows account (rows_of account ids list) shares ≡ Some (of_account account list))
-    → (old between new : State) (account : ℕ) (number other : ℤ) (list : List (ℤ × PostingRow)) (shares : List ShareRow) → number ≡ pos account → other ≡ pos account
-    → found.Finds old between (λ rows. list ≡ found.postings_of number rows) → found.Finds between new (λ rows. IsPermutation (found.shares_of other rows) shares)
-    → Tells old new (λ ledger. postings_from_rows account list shares ≡ Some (of_account account ledger.postings))
-posted_told back old between new account number other list shares is same told beside ledger k =
-    let rows = k.keeps.rows in
-    let are = k.keeps.are in
-    let one = told rows k.keeps.held in
-    let held : HoldsRows between.now rows = subst (λ d. HoldsRows d rows) (sym one.1.0.now_is) k.keeps.held in
-    let two = beside rows held in
-    let up = ids_rise (pos 0) are.ids ledger.postings are.as_long (subst (λ l. RiseFrom (pos 0) (map stored l)) are.postings (rows_rise old.now rows k.keeps.held)) in
-    let rows_are : list ≡ rows_of account are.ids ledger.postings = one.0 ∙ ap (λ n. found.postings_of n rows) is ∙ postings_read account ledger rows are in
-    let shares_are : IsPermutation (shares_of account are.ids ledger.postings) shares = subst (λ l. IsPermutation l shares) (ap (λ n. found.shares_of n rows) same ∙ shares_read account ledger rows are up) two.0 in (
-      ap (λ l. postings_from_rows account l shares) rows_are ∙ back account (pos 0) are.ids ledger.postings shares k.kept are.as_long up shares_are,
-      still_ledger between new ledger two.1 (still_ledger old between ledger one.1 k),
-      two.1.0.now_is ∙ one.1.0.now_is,
-    )
+-- what the rows of a ledger say of an account is what was posted for it
+module _ (back : PostingsAreReadBack) (db : Database) (ledger : LedgerParts) (k : IsLedger db ledger) (account : ℕ) where
+  ledger_reads : (shares : List ShareRow) → IsPermutation (found.shares_of (pos account) k.keeps.rows) shares
+      → postings_from_rows account (found.postings_of (pos account) k.keeps.rows) shares ≡ Some (of_account account ledger.postings)
+  ledger_reads shares moved =
+      let rows = k.keeps.rows in
+      let are = k.keeps.are in
+      let up = ids_rise (pos 0) are.ids ledger.postings are.as_long (subst (λ l. RiseFrom (pos 0) (map stored l)) are.postings (rows_rise db rows k.keeps.held)) in
+      ap (λ l. postings_from_rows account l shares) (postings_read account ledger rows are)
+      ∙ back account (pos 0) are.ids ledger.postings shares k.kept are.as_long up (subst (λ l. IsPermutation l shares) (shares_read account ledger rows are up) moved)
 
-pub same_some : {X : Type 0} {x y : X} → Some x ≡ Some y → x ≡ y
-same_some e = cc
+  said_of_ledger : (said : Option (List Posting)) → ReadsAs k.keeps.rows account said → said ≡ Some (of_account account ledger.postings)
+  said_of_ledger said is = sym is.2 ∙ ledger_reads is.0 is.1
 
--- what is refused where there is a value wants memory
-pub only_memory : {X : Type 0} (o : Option X) (x : X) (fault : PostFault) → (fault ≢ Memory → (fault ≡ BadArchive) × (o ≡ None)) → o ≡ Some x → IsTrue (is_of_store (Refused fault))
-only_memory o x BadArchive h is = absurd (let none = (h (λ e. cc)).1 in cc)
-only_memory o x (StaleQuote account version through) h is = absurd (let none = (h (λ e. cc)).1 in cc)
-only_memory o x QuoteDiffers h is = absurd (let none = (h (λ e. cc)).1 in cc)
-only_memory o x ArchiveConflict h is = absurd (let none = (h (λ e. cc)).1 in cc)
-only_memory o x Memory h is = refl
+  pub posted_of_ledger : (posted : List Posting) → ReadsAs k.keeps.rows account (Some posted) → posted ≡ of_account account ledger.postings
+  posted_of_ledger posted is = same_some (said_of_ledger (Some posted) is)
 
-pub by_post_fault : {A : Type 0} (r : Result A LedgerFault) (Told : LedgerParts → Type 0) (fault : PostFault) → IsErrAnd r (λ f. f ≡ Refused fault) → ((ledger : LedgerParts) → Told ledger → IsTrue (is_of_store (Refused fault)))
-    → IfErr r (λ f. (ledger : LedgerParts) → Told ledger → IsTrue (is_of_store f))
-by_post_fault (Ok x) Told fault is h = tt
-by_post_fault (Err f) Told fault is h = λ ledger k. subst (λ f. IsTrue (is_of_store f)) (sym is) (h ledger k)
+  -- so they are never bad
+  pub never_bad_of_ledger : ReadsAs k.keeps.rows account None → ⊥
+  never_bad_of_ledger is = let none = said_of_ledger None is in cc
+
+  pub read_of_ledger : (read : ArchivedParts) → IsReadFrom k.keeps.rows account read → read ≡ archived_of account ledger
+  read_of_ledger read is =
+      let postings = posted_of_ledger read.postings is.postings in
+      let taps = is.taps ∙ taps_read account ledger k.keeps.rows k.keeps.are in
+      let fixes = is.fixes ∙ fixes_read account ledger k.keeps.rows k.keeps.are in
+      λ i. record { postings = postings i; taps = taps i; fixes = fixes i }
+
+  -- and are refused for want of memory or for the store alone
+  pub store_of_ledger : (fault : LedgerFault) → IsTrue (is_of_store fault) ⊎ ((fault ≡ Refused BadArchive) × ReadsAs k.keeps.rows account None) → IsTrue (is_of_store fault)
+  store_of_ledger fault h = elim h [ inl store ↦ store | inr bad ↦ absurd (never_bad_of_ledger bad.1) ]
 
 -- what the rows of a ledger come to for an account and a week is what it has of these
-pub net_of_ledger : ((account : ℕ) (before : ℤ) (ids : List ℤ) (list : List Posting) (shares : List ShareRow) → AreKept list → length ids ≡ length list → RiseBehind before ids
-    → IsPermutation (shares_of account ids list) shares → postings_from_rows account (rows_of account ids list) shares ≡ Some (of_account account list))
-    → ((account week : ℕ) (rows : List (ℤ × PostingRow)) (shares : List ShareRow) (list : List Posting) → postings_from_rows account rows shares ≡ Some list → net_from_rows week rows ≡ Some (net account week list))
-    → (db : Database) (ledger : LedgerParts) (k : IsLedger db ledger) (account week : ℕ) → net_said k.keeps.rows account week ≡ Some (net account week ledger.postings)
+pub net_of_ledger : PostingsAreReadBack → NetIsOfPostings → (db : Database) (ledger : LedgerParts) (k : IsLedger db ledger) (account week : ℕ) → net_said k.keeps.rows account week ≡ Some (net account week ledger.postings)
 net_of_ledger back sums db ledger k account week =
-    let rows = k.keeps.rows in
-    let are = k.keeps.are in
-    let up = ids_rise (pos 0) are.ids ledger.postings are.as_long (subst (λ l. RiseFrom (pos 0) (map stored l)) are.postings (rows_rise db rows k.keeps.held)) in
-    let shares = shares_of account are.ids ledger.postings in
-    ap (net_from_rows week) (postings_read account ledger rows are)
-    ∙ sums account week (rows_of account are.ids ledger.postings) shares (of_account account ledger.postings) (back account (pos 0) are.ids ledger.postings shares k.kept are.as_long up (IsPermutation-refl shares))
+    let shares = found.shares_of (pos account) k.keeps.rows in
+    sums account week (found.postings_of (pos account) k.keeps.rows) shares (of_account account ledger.postings) (ledger_reads back db ledger k account shares (IsPermutation-refl shares))
     ∙ ap Some (net_of_own account week ledger.postings)
 
 -- so it is refused for want of memory or for the store alone
@@ -214,10 +191,10 @@ pub only_by_store : (fault : LedgerFault) (said : Option ℤ) (net : ℤ) → Is
 only_by_store fault said net h is = elim h [ inl store ↦ store | inr bad ↦ absurd (let none = bad.1 in cc) ]
 
 -- what is made of the rows that were read is so of those that are there
-pub net_told : (r : Result ℤ LedgerFault) (said : Option ℤ) (P : LedgerRows → Type 0) (account week : ℕ) → IsNetOf r said → ((rows : LedgerRows) → P rows → net_said rows account week ≡ said)
+pub net_found : (r : Result ℤ LedgerFault) (said : Option ℤ) (P : LedgerRows → Type 0) (account week : ℕ) → IsNetOf r said → ((rows : LedgerRows) → P rows → net_said rows account week ≡ said)
     → IfOk r (λ net. (rows : LedgerRows) → P rows → net_said rows account week ≡ Some net)
-net_told (Ok net) said P account week is same = λ rows k. same rows k ∙ is
-net_told (Err fault) said P account week is same = tt
+net_found (Ok net) said P account week is same = λ rows k. same rows k ∙ is
+net_found (Err fault) said P account week is same = tt
 
 pub net_refused : (r : Result ℤ LedgerFault) (said : Option ℤ) (P : LedgerRows → Type 0) (account week : ℕ) → IsNetOf r said → ((rows : LedgerRows) → P rows → net_said rows account week ≡ said)
     → IfErr r (λ fault. (rows : LedgerRows) → P rows → IsTrue (is_of_store fault) ⊎ ((fault ≡ Refused BadArchive) × (net_said rows account week ≡ None)))

@@ -1,15 +1,16 @@
 -- What the rows of an account say, and which of them are bad.
 use Rattle.std.specs.Prelude.{◌≡◌, ◌≢◌, ◌⊎◌, ℕ, ◌==◌, ℤ, pos, true, List, map, ◌++◌, Option, Some, None, Result, MatchResult, IsPermutation, IsTrue}
 use Rattle.std.specs.List.{list_any}
+use Rattle.std.specs.FinMap as finite
 use Rattle.pay_rows.specs.declared.row.ShareRow.{ShareRow}
 use Rattle.pay_rules.specs.declared.posting.Posting.{Posting}
 use Rattle.pay_rules.specs.QuoteParts.{QuoteParts}
 use Rattle.pay_rules.specs.SetsParts.{SetsParts}
 use Rattle.pay_rules.specs.declared.post_fault.PostFault.TheVariants.{BadArchive}
 use Rattle.pay_postings.specs.PostingRows.{postings_from_rows}
-use Rattle.pay_postings.specs.Words.{AccountsParts, IsThere, net_from_rows}
+use Rattle.pay_postings.specs.Words.{ArchivedParts, AccountsParts, net_from_rows}
 use Rattle.pay_records.specs.Words.{LedgerRows}
-use Rattle.pay_records.specs.Found.{postings_of, shares_of}
+use Rattle.pay_records.specs.Found.{postings_of, shares_of, taps_of, fixes_of}
 use Rattle.pay_ledger.specs.declared.fault.LedgerFault.{LedgerFault}
 use Rattle.pay_ledger.specs.declared.fault.LedgerFault.TheVariants.{Refused}
 use Rattle.pay_ledger.specs.Faults.{is_of_store}
@@ -53,9 +54,15 @@ IsAmong account accounts = list_any (λ a. a == account) accounts ≡ true
 abbrev pub AreReadable : LedgerRows → List ℕ → Type 0
 AreReadable rows accounts = (account : ℕ) → IsAmong account accounts → IsReadable rows account
 
--- and so do those of each account that is there
+-- what was read of an account is what its rows say
+pub record IsReadFrom (rows : LedgerRows) (account : ℕ) (read : ArchivedParts) : Type 0 where
+  pub postings : ReadsAs rows account (Some read.postings)
+  pub taps : read.taps ≡ taps_of (pos account) rows
+  pub fixes : read.fixes ≡ fixes_of (pos account) rows
+
+-- and so is that of each account that is there
 abbrev pub WereRead : LedgerRows → AccountsParts → Type 0
-WereRead rows there = (account : ℕ) → IsThere there account → IsReadable rows account
+WereRead rows there = (account : ℕ) (read : ArchivedParts) → finite.get there account ≡ Some read → IsReadFrom rows account read
 
 -- 45 of one of these accounts, whose rows say nothing
 abbrev pub IsBadAmong : LedgerRows → List ℕ → LedgerFault → Type 0

@@ -6,15 +6,17 @@ use Rattle.pay_rows.specs.declared.row.TapRow.{TapRow}
 use Rattle.pay_rows.specs.declared.row.FixRow.{FixRow}
 use Rattle.pay_rules.specs.declared.post_fault.PostFault.{PostFault}
 use Rattle.pay_rules.specs.declared.post_fault.PostFault.TheVariants.{BadArchive}
-use Rattle.pay_postings.specs.Words.{LedgerParts, AccountsParts}
+use Rattle.pay_rules.specs.QuoteParts.{QuoteParts}
+use Rattle.pay_rules.specs.SetsParts.{SetsParts}
+use Rattle.pay_postings.specs.Words.{LedgerParts, AccountsParts, posted}
 use Rattle.pay_restore.specs.Words.{tap_rows, fix_rows}
 use Rattle.pay_records.specs.Words.{LedgerRows, HoldsRows, OnCleanDisk, Answers, Refuses, DoesInside}
 use Rattle.pay_ledger.specs.declared.fault.LedgerFault.{LedgerFault}
 use Rattle.pay_ledger.specs.declared.fault.LedgerFault.TheVariants.{Refused}
 use Rattle.pay_ledger.specs.Faults.{is_of_store}
-use Rattle.pay_ledger.specs.BadRows.{ReadsAs, net_said, AreReadable, IsBadAmong, IsJudgedByRows}
+use Rattle.pay_ledger.specs.BadRows.{ReadsAs, net_said, asked, AreReadable, IsBadAmong, IsJudgedByRows}
 use Rattle.pay_ledger.specs.Keeps.{IsLedger}
-use Rattle.pay_ledger.specs.Steps.{Stays, GoesOn, Grows, Tells, TellsRows, ReadsInto, IsRefused, IsAsBefore}
+use Rattle.pay_ledger.specs.Steps.{Grows, FindsRows, FindsLedger, ReadsInto, IsRefused, IsAsBefore}
 
 -- a fault is one that the database gives, or the archive is bad and has no accounts
 abbrev pub IsRefusedAsBad : {A : Type 0} → Option A → LedgerFault → Type 0
@@ -36,14 +38,6 @@ module _ {S : Type 0} (store : Ghosts S) (old new : Held S) where
     abbrev pub ChangesNothingIfRefused : Type 0
     ChangesNothingIfRefused = OnCleanDisk store old new (λ old new. IsTrue new.is_open → OnErr answer (IsAsBefore old new))
 
-    -- where it is done, nothing is committed and the transaction goes on
-    abbrev pub GoesOnIfDone : Type 0
-    GoesOnIfDone = OnOk answer (GoesOn (state store old) (state store new))
-
-    -- where it fails, nothing is committed
-    abbrev pub StaysIfRefused : Type 0
-    StaysIfRefused = OnErr answer (Stays (state store old) (state store new))
-
     -- ---- what it does
 
     -- where it is done, accounts are read into those that are there
@@ -54,11 +48,11 @@ module _ {S : Type 0} (store : Ghosts S) (old new : Held S) where
     abbrev pub GrowsInside : (LedgerParts → LedgerParts) → Type 0
     GrowsInside change = DoesInside store old new answer (λ old new. Grows old new change)
 
-    -- ---- what it tells
+    -- ---- what it answers
 
-    -- of a ledger this is answered, and the ledger stays
+    -- of a ledger this is answered, and nothing changes
     abbrev pub FindsInLedger : (LedgerParts → A → Type 0) → Type 0
-    FindsInLedger IsSo = Answers store old new answer (λ old new it. Tells old new (λ ledger. IsSo ledger it))
+    FindsInLedger IsSo = Answers store old new answer (λ old new it. FindsLedger old new (λ ledger. IsSo ledger it))
 
     -- of a ledger this is answered
     abbrev pub AnswersOfLedger : (LedgerParts → A → Type 0) → Type 0
@@ -72,9 +66,9 @@ module _ {S : Type 0} (store : Ghosts S) (old new : Held S) where
     abbrev pub AnswersOfRows : (LedgerRows → A → Type 0) → Type 0
     AnswersOfRows IsSo = Answers store old new answer (λ old _ it. (rows : LedgerRows) → HoldsRows old.now rows → IsSo rows it)
 
-    -- of a ledger's rows this is answered, and they stay
+    -- of a ledger's rows this is answered, and nothing changes
     abbrev pub FindsInHeldRows : (LedgerRows → A → Type 0) → Type 0
-    FindsInHeldRows IsSo = Answers store old new answer (λ old new it. TellsRows old new (λ rows. IsSo rows it))
+    FindsInHeldRows IsSo = Answers store old new answer (λ old new it. FindsRows old new (λ rows. IsSo rows it))
 
     -- it answers only where the rows of each of these accounts say its postings
     abbrev pub AnswersOfReadable : List ℕ → Type 0
@@ -116,6 +110,12 @@ module _ {S : Type 0} (store : Ghosts S) (old new : Held S) where
     -- of a ledger it refuses what the definition does, beside what a database gives
     abbrev pub RefusesAsDefined : {B : Type 0} → (LedgerParts → Result B PostFault) → Type 0
     RefusesAsDefined defined = RefusesOfLedger answer (λ ledger fault. IsRefused fault (defined ledger))
+
+    -- It posts quotes and archives sets, or refuses them, as the definition does, and by the rows of the accounts that are asked about.
+    pub record IsJudged (quotes : List QuoteParts) (sets : List SetsParts) : Type 0 where
+      pub refused : RefusesAsDefined (λ ledger. posted ledger quotes sets)
+      pub read : AnswersOfReadable answer (asked quotes sets)
+      pub bad_first : RefusesBadRowsFirst (asked quotes sets)
 
     module _ {B : Type 0} (restored : List (ℤ × TapRow) → List (ℤ × FixRow) → Option B) (accounts : A → B) where
       -- the accounts of the archive are answered, by a ledger's rows, or it is refused as bad

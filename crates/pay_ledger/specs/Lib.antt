@@ -5,7 +5,6 @@ pub mod Keeps
 pub mod Opening
 pub mod Steps
 pub mod Bare
-pub mod Files
 pub mod Calls
 pub mod WorkedRows
 pub mod Words

@@ -1,19 +1,31 @@
 -- Rows that are bad in whatever order those of the shares come, and rows that say one thing in each order.
 use Rattle.std.specs.Prelude.{◌≡◌, ℕ, ℤ, pos, ◌&&◌, ◌||◌, not, true, false, Bool, if◌then◌else◌, List, [], ◌∷◌, ◌++◌, map, find, Option, Some, None, IsPermutation}
-use Rattle.std.specs.List.{list_all, range_with_len}
+use Rattle.std.specs.List.{list_all, list_any, range_with_len}
 use Rattle.std.specs.Ordering.{int_eq}
 use Rattle.std.specs.Cmp.{signed_Decides}
 use Rattle.std.proofs.Common.{refl, sym, ap, ◌∙◌}
 use Rattle.std.proofs.lemmas.Bool.{and_parts}
+use Rattle.std.proofs.lemmas.List.Sorted.{list_any-IsPermutation}
 use Rattle.pay_rows.specs.declared.row.PostingRow.{PostingRow}
 use Rattle.pay_rows.specs.declared.row.ShareRow.{ShareRow}
 use Rattle.pay_rules.specs.declared.posting.Posting.{Posting}
 use Rattle.pay_postings.specs.PostingRows.{is_share_row, is_share_of, amount_or_none, amount_of, amounts_of, week_from_row, posting_behind, posting_from_row, with_rows, postings_from_rows}
 use Rattle.pay_set_rows.specs.Ranged.{◌>>=◌}
-use Rattle.pay_postings.proofs.SharesBack.{all_moved}
 use Rattle.pay_records.specs.Words.{LedgerRows}
 use Rattle.pay_records.specs.Found.{postings_of, shares_of}
 use Rattle.pay_ledger.specs.BadRows.{ReadsAs, IsReadable, IsBad}
+
+-- a test of all, in any order
+not_any : {X : Type 0} (p : X → Bool) (xs : List X) → list_all p xs ≡ not (list_any (λ x. not (p x)) xs)
+not_any p [] = refl
+not_any p (x ∷ xs) = ap (λ rest. p x && rest) (not_any p xs) ∙ both (p x) (list_any (λ x. not (p x)) xs)
+  where
+    both : (first rest : Bool) → (first && not rest) ≡ not (not first || rest)
+    both true rest = refl
+    both false rest = refl
+
+all_moved : {X : Type 0} (p : X → Bool) (xs ys : List X) → IsPermutation xs ys → list_all p ys ≡ list_all p xs
+all_moved p xs ys moved = not_any p ys ∙ ap not (sym (list_any-IsPermutation (λ x. not (p x)) xs ys moved)) ∙ sym (not_any p xs)
 
 -- rows that are bad in whatever order say no postings
 pub bad_is_not_readable : (rows : LedgerRows) (account : ℕ) → IsBad rows account → IsReadable rows account → ⊥

@@ -1,16 +1,19 @@
 -- What a part of a transaction does to a ledger, and what all of it does.
-use Rattle.std.specs.Prelude.{◌≡◌, ◌⊎◌, ℕ, List, Result, Ok, Err, IsTrue}
+use Rattle.std.specs.Prelude.{◌≡◌, ◌⊎◌, ℕ, List, Result, Ok, Err, OnOk, OnErr, IsTrue}
+use Rattle.std.specs.Borrow.{MutBor}
 use Rattle.sqlite.specs.State.{State, HasCleanDisk, KeepsCommit, Survives}
+use Rattle.sqlite.specs.Store.{Ghosts}
+use Rattle.sqlite.specs.Held.{Held, state}
 use Rattle.sqlite.specs.Tree.{Trees}
 use Rattle.sqlite.specs.Effect.{Database}
 use Rattle.pay_rules.specs.declared.posting.Posting.{Posting}
 use Rattle.pay_rules.specs.QuoteParts.{QuoteParts}
 use Rattle.pay_rules.specs.SetsParts.{SetsParts}
 use Rattle.pay_rules.specs.declared.post_fault.PostFault.{PostFault}
-use Rattle.pay_postings.specs.Words.{LedgerParts, posted, AccountsParts, Agrees, IsThere}
+use Rattle.pay_postings.specs.Words.{LedgerParts, posted, AccountsParts, IsThere}
 use Rattle.pay_records.specs.Words.{LedgerRows, HoldsRows, KeepsOthers}
 use Rattle.pay_ledger.specs.declared.fault.LedgerFault.{LedgerFault}
-use Rattle.pay_ledger.specs.declared.fault.LedgerFault.TheVariants.{Refused}
+use Rattle.pay_ledger.specs.declared.fault.LedgerFault.TheVariants.{Store, Refused}
 use Rattle.pay_ledger.specs.Faults.{is_of_store}
 use Rattle.pay_ledger.specs.BadRows.{WereRead}
 use Rattle.pay_ledger.specs.Keeps.{Keeps, IsLedger}
@@ -25,6 +28,20 @@ pub record GoesOn (old new : State) : Type 0 where
   pub stays : Stays old new
   pub inside : HasCleanDisk new → IsTrue old.in_transaction → IsTrue new.in_transaction
 
+-- A step inside a transaction, by what its connection is before it and after it: it is the same one; where the step is done, nothing
+-- is committed and the transaction goes on; and where it fails, nothing is committed.
+pub record IsStep {S A E : Type 0} (store : Ghosts S) (old new : MutBor (Held S)) (answer : Result A E) : Type 0 where
+  pub same_reference : new.ghost_name ≡ old.ghost_name
+  pub goes_on : OnOk answer (GoesOn (state store old.now) (state store new.now))
+  pub stays : OnErr answer (Stays (state store old.now) (state store new.now))
+
+-- steps that were done, and one that failed, whatever they answered
+abbrev pub HasGoneOn : {S : Type 0} → Ghosts S → MutBor (Held S) → MutBor (Held S) → Type 0
+HasGoneOn store old new = IsStep {A = Unit {0}} {E = LedgerFault} store old new (Ok tt)
+
+abbrev pub HasStopped : {S : Type 0} → Ghosts S → MutBor (Held S) → MutBor (Held S) → Type 0
+HasStopped store old new = IsStep {A = Unit {0}} {E = LedgerFault} store old new (Err Store)
+
 -- the rows of a ledger become others, and nothing beside them does
 abbrev pub RowsGrow : State → State → (LedgerRows → LedgerRows) → Type 0
 RowsGrow old new change = ((rows : LedgerRows) → HoldsRows old.now rows → HoldsRows new.now (change rows)) × KeepsOthers old.now new.now
@@ -33,22 +50,17 @@ RowsGrow old new change = ((rows : LedgerRows) → HoldsRows old.now rows → Ho
 abbrev pub Grows : State → State → (LedgerParts → LedgerParts) → Type 0
 Grows old new change = ((ledger : LedgerParts) → Keeps old.now ledger → Keeps new.now (change ledger)) × KeepsOthers old.now new.now
 
--- it is told of a ledger, which stays, and so does all beside it
-abbrev pub Tells : State → State → (LedgerParts → Type 0) → Type 0
-Tells old new Told = (ledger : LedgerParts) → IsLedger old.now ledger → Told ledger × IsLedger new.now ledger × (new.now ≡ old.now)
+-- this is so of the rows of a ledger, and nothing changes
+abbrev pub FindsRows : State → State → (LedgerRows → Type 0) → Type 0
+FindsRows old new IsSo = (rows : LedgerRows) → HoldsRows old.now rows → IsSo rows × (new.now ≡ old.now)
 
--- the rows of a ledger stay
-abbrev pub KeepsRows : State → State → Type 0
-KeepsRows old new = (rows : LedgerRows) → HoldsRows old.now rows → HoldsRows new.now rows
+-- this is so of a ledger, and nothing changes
+abbrev pub FindsLedger : State → State → (LedgerParts → Type 0) → Type 0
+FindsLedger old new IsSo = (ledger : LedgerParts) → IsLedger old.now ledger → IsSo ledger × (new.now ≡ old.now)
 
--- it is told of the rows of a ledger, which stay
-abbrev pub TellsRows : State → State → (LedgerRows → Type 0) → Type 0
-TellsRows old new Told = (rows : LedgerRows) → HoldsRows old.now rows → Told rows × HoldsRows new.now rows
-
--- accounts are read into those that are there, and agree with the ledger if those do, and their rows were read
+-- accounts are read of a ledger's rows into those that are there, and nothing changes
 pub record ReadsInto (old new : State) (before after : AccountsParts) : Type 0 where
-  pub agrees : HasCleanDisk new → Tells old new (λ ledger. Agrees before ledger → Agrees after ledger)
-  pub rows : HasCleanDisk new → TellsRows old new (λ rows. WereRead rows before → WereRead rows after)
+  pub rows : HasCleanDisk new → FindsRows old new (λ rows. WereRead rows before → WereRead rows after)
   pub stay : (account : ℕ) → IsThere before account → IsThere after account
 
 -- a fault is one that the database gives, or the refusal that is answered

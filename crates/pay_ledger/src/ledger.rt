@@ -111,6 +111,7 @@ impl<S: Alter> Ledger<S> {
         ensures kept { ChangesNothing S.Store self.old self.new }
         ensures survives { LeavesAsBefore S.Store self.old self.new }
     {
+        pay_postings::laws::postings_back();
         let posted = posted_of(self.alloc, &mut self.conn, account)?;
         Ok(Postings::from(of_week(self.alloc, &posted, account, week)?))
     }

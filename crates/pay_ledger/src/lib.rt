@@ -1,9 +1,8 @@
-//! The ledger in a database: what was posted, and the archive of what it was priced by. [`open_file`] opens one in a file.
+//! The ledger in a database: what was posted, and the archive of what it was priced by.
 #![tactic(auto)]
 
 mod crashes;
 mod fault;
-mod file;
 mod ledger;
 mod lookup;
 mod opening;
@@ -12,5 +11,4 @@ mod read;
 mod write;
 
 pub use fault::{LedgerFault, OpenFault};
-pub use file::{Ledgers, open_file};
 pub use ledger::Ledger;

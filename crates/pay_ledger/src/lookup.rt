@@ -1,10 +1,10 @@
 ghost use Rattle.std.specs.Prelude.{◌≡◌, ◌++◌, ◌∷◌, [], Some, false, IfOk, OnOk};
 ghost use Rattle.pay_postings.specs.Words.{postings_of, net_from_rows};
-ghost use Rattle.pay_postings.specs.AccountRows.{of_account};
 ghost use Rattle.pay_records.specs.Words.{LeavesAsBefore};
 ghost use Rattle.pay_ledger.specs.BadRows.{ReadsAs, net_said, IsNetOf};
 ghost use Rattle.pay_ledger.specs.Bare.{are_none};
-ghost use Rattle.pay_ledger.specs.Calls.{ChangesNothing, GoesOnIfDone, StaysIfRefused, AnswersOfLedger, AnswersOfRows, FailsByStoreAlone, FailsByStoreAloneOfRows, RefusesBadRows, RefusesBadAmounts};
+ghost use Rattle.pay_ledger.specs.Steps.{IsStep};
+ghost use Rattle.pay_ledger.specs.Calls.{ChangesNothing, AnswersOfRows, FailsByStoreAloneOfRows, RefusesBadRows, RefusesBadAmounts};
 
 use crate::fault::LedgerFault;
 use crate::read::read_posted;
@@ -23,9 +23,7 @@ pub(crate) fn posted_of<S: Alter>(
 ) -> Result<Posted, LedgerFault>
     requires { conn.old.in_transaction ≡ false }
     ensures autocommit { conn.new.in_transaction ≡ false }
-    ensures told { AnswersOfLedger S.Store conn.old conn.new result (λ ledger found. found ≡ of_account account ledger.postings) }
-    ensures never_bad { FailsByStoreAlone S.Store conn.old conn.new result }
-    ensures rows { AnswersOfRows S.Store conn.old conn.new result (λ rows found. ReadsAs rows account (Some found)) }
+    ensures found { AnswersOfRows S.Store conn.old conn.new result (λ rows posted. ReadsAs rows account (Some posted)) }
     ensures bad { RefusesBadRows S.Store conn.old conn.new result account }
     ensures kept { ChangesNothing S.Store conn.old conn.new }
     ensures survives { LeavesAsBefore S.Store conn.old conn.new }
@@ -51,11 +49,9 @@ fn read_net<S: Alter>(
     account: u32,
     week: u32,
 ) -> Result<i64, LedgerFault>
-    ensures same_reference { tx.new.conn.ghost_name ≡ tx.old.conn.ghost_name }
-    ensures told { AnswersOfRows S.Store tx.old.conn.now tx.new.conn.now result (λ rows net. net_said rows account week ≡ Some net) }
+    ensures step { IsStep S.Store tx.old.conn tx.new.conn result }
+    ensures found { AnswersOfRows S.Store tx.old.conn.now tx.new.conn.now result (λ rows net. net_said rows account week ≡ Some net) }
     ensures bad { RefusesBadAmounts S.Store tx.old.conn.now tx.new.conn.now result account week }
-    ensures ok { GoesOnIfDone S.Store tx.old.conn.now tx.new.conn.now result }
-    ensures err { StaysIfRefused S.Store tx.old.conn.now tx.new.conn.now result }
 {
     let rows = postings_of(alloc, tx, i64::from(account))?;
     net_of_rows(week, &rows)
@@ -70,7 +66,7 @@ pub(crate) fn net_of<S: Alter>(
 ) -> Result<i64, LedgerFault>
     requires { conn.old.in_transaction ≡ false }
     ensures autocommit { conn.new.in_transaction ≡ false }
-    ensures told { AnswersOfRows S.Store conn.old conn.new result (λ rows net. net_said rows account week ≡ Some net) }
+    ensures found { AnswersOfRows S.Store conn.old conn.new result (λ rows net. net_said rows account week ≡ Some net) }
     ensures bad { RefusesBadAmounts S.Store conn.old conn.new result account week }
     ensures kept { ChangesNothing S.Store conn.old conn.new }
     ensures survives { LeavesAsBefore S.Store conn.old conn.new }
@@ -131,11 +127,9 @@ fn read_archive<S: Alter>(
     alloc: Global,
     tx: &mut Transaction<'_, S>,
 ) -> Result<Archive, LedgerFault>
-    ensures same_reference { tx.new.conn.ghost_name ≡ tx.old.conn.ghost_name }
-    ensures told { AnswersOfRows S.Store tx.old.conn.now tx.new.conn.now result (λ rows archive. (archive.taps.items ≡ rows.taps) × (archive.fixes.items ≡ rows.fixes)) }
+    ensures step { IsStep S.Store tx.old.conn tx.new.conn result }
+    ensures found { AnswersOfRows S.Store tx.old.conn.now tx.new.conn.now result (λ rows archive. (archive.taps.items ≡ rows.taps) × (archive.fixes.items ≡ rows.fixes)) }
     ensures never_bad { FailsByStoreAloneOfRows S.Store tx.old.conn.now tx.new.conn.now result }
-    ensures ok { GoesOnIfDone S.Store tx.old.conn.now tx.new.conn.now result }
-    ensures err { StaysIfRefused S.Store tx.old.conn.now tx.new.conn.now result }
 {
     let taps = all_taps(alloc, tx)?;
     let fixes = all_fixes(alloc, tx)?;
@@ -149,7 +143,7 @@ pub(crate) fn archive_of<S: Alter>(
 ) -> Result<Archive, LedgerFault>
     requires { conn.old.in_transaction ≡ false }
     ensures autocommit { conn.new.in_transaction ≡ false }
-    ensures told { AnswersOfRows S.Store conn.old conn.new result (λ rows archive. (archive.taps.items ≡ rows.taps) × (archive.fixes.items ≡ rows.fixes)) }
+    ensures found { AnswersOfRows S.Store conn.old conn.new result (λ rows archive. (archive.taps.items ≡ rows.taps) × (archive.fixes.items ≡ rows.fixes)) }
     ensures never_bad { FailsByStoreAloneOfRows S.Store conn.old conn.new result }
     ensures kept { ChangesNothing S.Store conn.old conn.new }
     ensures survives { LeavesAsBefore S.Store conn.old conn.new }

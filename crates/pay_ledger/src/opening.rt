@@ -1,7 +1,8 @@
 ghost use Rattle.std.specs.Prelude.{◌≡◌, false};
 ghost use Rattle.pay_records.specs.Words.{LeavesAsBeforeOr, Refuses, Does, IsFree};
 ghost use Rattle.pay_ledger.specs.Opening.{HasNoView, is_blank, IsWhy, IsOpened, MayLeaveOpened, KeepsLedger, BlankBecomesLedger, BlankJustGrows, IsLedgerOrBlank};
-ghost use Rattle.pay_ledger.specs.Calls.{ChangesNothingIfRefused, GoesOnIfDone, StaysIfRefused};
+ghost use Rattle.pay_ledger.specs.Steps.{IsStep};
+ghost use Rattle.pay_ledger.specs.Calls.{ChangesNothingIfRefused};
 
 use crate::fault::OpenFault;
 use pay_records::{Kind, has_view, kind_of, make};
@@ -21,15 +22,13 @@ fn is_blank(kind: Kind) -> Result<bool, OpenFault>
 
 /// Makes the tables, if none is there, in a transaction that is not committed yet.
 fn ready<S: Alter>(tx: &mut Transaction<'_, S>) -> Result<(), OpenFault>
-    ensures same_reference { tx.new.conn.ghost_name ≡ tx.old.conn.ghost_name }
+    ensures step { IsStep S.Store tx.old.conn tx.new.conn result }
     ensures ledger { Does S.Store tx.old.conn.now tx.new.conn.now result (λ old new. KeepsLedger old.now new.now) }
     ensures blank { Does S.Store tx.old.conn.now tx.new.conn.now result (λ old new. BlankBecomesLedger old.now new.now) }
     ensures grows { Does S.Store tx.old.conn.now tx.new.conn.now result (λ old new. BlankJustGrows old.now new.now) }
     ensures of_kind { Does S.Store tx.old.conn.now tx.new.conn.now result (λ old _. IsLedgerOrBlank old.now) }
     ensures refused { Refuses S.Store tx.old.conn.now tx.new.conn.now result (λ old _ fault. IsWhy fault old.now) }
     ensures of_blank { Refuses S.Store tx.old.conn.now tx.new.conn.now result (λ old _ fault. IsFree old.now → fault ≡ OpenFault.Store) }
-    ensures ok { GoesOnIfDone S.Store tx.old.conn.now tx.new.conn.now result }
-    ensures err { StaysIfRefused S.Store tx.old.conn.now tx.new.conn.now result }
 {
     let kind = kind_of(tx)?;
     if !is_blank(kind)? {

@@ -4,9 +4,8 @@ ghost use Rattle.pay_rules.specs.QuoteParts.{IsQuote};
 ghost use Rattle.pay_postings.specs.Words.{posted, lists, with_batch};
 ghost use Rattle.pay_ledger.specs.Faults.{is_of_store};
 ghost use Rattle.pay_records.specs.Words.{LeavesAsBeforeOr, Answers, AnswersInside};
-ghost use Rattle.pay_ledger.specs.BadRows.{asked};
-ghost use Rattle.pay_ledger.specs.Steps.{BecomesPosted, Posts, MayLeave};
-ghost use Rattle.pay_ledger.specs.Calls.{ChangesNothingIfRefused, GoesOnIfDone, StaysIfRefused, GrowsInside, FindsInLedger, AnswersOfReadable, RefusesAsDefined, RefusesOpenAlone, RefusesBadRowsFirst};
+ghost use Rattle.pay_ledger.specs.Steps.{IsStep, BecomesPosted, Posts, MayLeave};
+ghost use Rattle.pay_ledger.specs.Calls.{ChangesNothingIfRefused, GrowsInside, FindsInLedger, RefusesOpenAlone, IsJudged};
 
 use crate::crashes::settled;
 use crate::fault::LedgerFault;
@@ -42,14 +41,11 @@ fn batch_for<S: Alter>(
     quotes: &[Quote],
     sets: &[Sets],
 ) -> Result<Batch, LedgerFault>
-    ensures same_reference { tx.new.conn.ghost_name ≡ tx.old.conn.ghost_name }
-    ensures told { FindsInLedger S.Store tx.old.conn.now tx.new.conn.now result (λ ledger batch. posted ledger quotes.now sets.now ≡ Ok (batch.given.items, with_batch ledger (lists batch))) }
-    ensures refused { RefusesAsDefined S.Store tx.old.conn.now tx.new.conn.now result (λ ledger. posted ledger quotes.now sets.now) }
-    ensures read { AnswersOfReadable S.Store tx.old.conn.now tx.new.conn.now result (asked quotes.now sets.now) }
-    ensures bad_first { RefusesBadRowsFirst S.Store tx.old.conn.now tx.new.conn.now result (asked quotes.now sets.now) }
-    ensures ok { GoesOnIfDone S.Store tx.old.conn.now tx.new.conn.now result }
-    ensures err { StaysIfRefused S.Store tx.old.conn.now tx.new.conn.now result }
+    ensures step { IsStep S.Store tx.old.conn tx.new.conn result }
+    ensures posts { FindsInLedger S.Store tx.old.conn.now tx.new.conn.now result (λ ledger batch. posted ledger quotes.now sets.now ≡ Ok (batch.given.items, with_batch ledger (lists batch))) }
+    ensures judged { IsJudged S.Store tx.old.conn.now tx.new.conn.now result quotes.now sets.now }
 {
+    pay_postings::laws::postings_back();
     let mut accounts = Accounts::new(alloc);
     read_quoted(alloc, tx, &mut accounts, quotes)?;
     read_sets(alloc, tx, &mut accounts, sets)?;
@@ -62,11 +58,9 @@ fn write_batch<S: Alter>(
     tx: &mut Transaction<'_, S>,
     batch: &Batch,
 ) -> Result<(), LedgerFault>
-    ensures same_reference { tx.new.conn.ghost_name ≡ tx.old.conn.ghost_name }
+    ensures step { IsStep S.Store tx.old.conn tx.new.conn result }
     ensures writes { GrowsInside S.Store tx.old.conn.now tx.new.conn.now result (λ ledger. with_batch ledger (lists batch.now)) }
     ensures of_store { IfErr result (λ fault. IsTrue (is_of_store fault)) }
-    ensures ok { GoesOnIfDone S.Store tx.old.conn.now tx.new.conn.now result }
-    ensures err { StaysIfRefused S.Store tx.old.conn.now tx.new.conn.now result }
 {
     write_postings(alloc, tx, &batch.postings)?;
     write_taps(tx, &batch.taps)?;
@@ -81,13 +75,9 @@ fn add_batch<S: Alter>(
     quotes: &[Quote],
     sets: &[Sets],
 ) -> Result<Vec<Posting>, LedgerFault>
-    ensures same_reference { tx.new.conn.ghost_name ≡ tx.old.conn.ghost_name }
+    ensures step { IsStep S.Store tx.old.conn tx.new.conn result }
     ensures posts { AnswersInside S.Store tx.old.conn.now tx.new.conn.now result (λ old new given. BecomesPosted old.now new.now (quotes.now, sets.now) given.items) }
-    ensures refused { RefusesAsDefined S.Store tx.old.conn.now tx.new.conn.now result (λ ledger. posted ledger quotes.now sets.now) }
-    ensures read { AnswersOfReadable S.Store tx.old.conn.now tx.new.conn.now result (asked quotes.now sets.now) }
-    ensures bad_first { RefusesBadRowsFirst S.Store tx.old.conn.now tx.new.conn.now result (asked quotes.now sets.now) }
-    ensures ok { GoesOnIfDone S.Store tx.old.conn.now tx.new.conn.now result }
-    ensures err { StaysIfRefused S.Store tx.old.conn.now tx.new.conn.now result }
+    ensures judged { IsJudged S.Store tx.old.conn.now tx.new.conn.now result quotes.now sets.now }
 {
     are_quotes(quotes);
     pay_postings::laws::kept();
@@ -103,14 +93,10 @@ fn post_in<S: Alter>(
     quotes: &[Quote],
     sets: &[Sets],
 ) -> Result<Vec<Posting>, LedgerFault>
-    ensures same_reference { tx.new.conn.ghost_name ≡ tx.old.conn.ghost_name }
+    ensures step { IsStep S.Store tx.old.conn tx.new.conn result }
     ensures posts { AnswersInside S.Store tx.old.conn.now tx.new.conn.now result (λ old new given. BecomesPosted old.now new.now (quotes.now, sets.now) given.items) }
-    ensures refused { RefusesAsDefined S.Store tx.old.conn.now tx.new.conn.now result (λ ledger. posted ledger quotes.now sets.now) }
-    ensures read { AnswersOfReadable S.Store tx.old.conn.now tx.new.conn.now result (asked quotes.now sets.now) }
-    ensures bad_first { RefusesBadRowsFirst S.Store tx.old.conn.now tx.new.conn.now result (asked quotes.now sets.now) }
+    ensures judged { IsJudged S.Store tx.old.conn.now tx.new.conn.now result quotes.now sets.now }
     ensures of_open { RefusesOpenAlone S.Store tx.old.conn.now tx.new.conn.now result }
-    ensures ok { GoesOnIfDone S.Store tx.old.conn.now tx.new.conn.now result }
-    ensures err { StaysIfRefused S.Store tx.old.conn.now tx.new.conn.now result }
 {
     ask(tx)?;
     add_batch(alloc, tx, quotes, sets)
@@ -126,9 +112,7 @@ pub(crate) fn post<S: Alter>(
     requires { conn.old.in_transaction ≡ false }
     ensures autocommit { conn.new.in_transaction ≡ false }
     ensures posts { Answers S.Store conn.old conn.new result (λ old new given. Posts old new quotes.now sets.now given.items) }
-    ensures refused { RefusesAsDefined S.Store conn.old conn.new result (λ ledger. posted ledger quotes.now sets.now) }
-    ensures read { AnswersOfReadable S.Store conn.old conn.new result (asked quotes.now sets.now) }
-    ensures bad_first { RefusesBadRowsFirst S.Store conn.old conn.new result (asked quotes.now sets.now) }
+    ensures judged { IsJudged S.Store conn.old conn.new result quotes.now sets.now }
     ensures of_open { RefusesOpenAlone S.Store conn.old conn.new result }
     ensures kept { ChangesNothingIfRefused S.Store conn.old conn.new result }
     ensures survives { LeavesAsBeforeOr S.Store conn.old conn.new (λ old. MayLeave old quotes.now sets.now) }

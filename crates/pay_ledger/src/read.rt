@@ -1,68 +1,29 @@
-ghost use Rattle.std.specs.Prelude.{◌≡◌, Some, map, IsOkUnless, OnOk};
-ghost use Rattle.pay_postings.specs.Words.{parts, taps_of, fixes_of, archived_of, IsThere};
-ghost use Rattle.pay_set_rows.specs.SetRows.{tap_row, fix_row};
-ghost use Rattle.pay_postings.specs.AccountRows.{of_account};
+ghost use Rattle.std.specs.Prelude.{◌≡◌, Some, IsOkUnless, OnOk};
 ghost use Rattle.std.specs.List.{AllByRecursion};
 ghost use Rattle.sqlite.specs.State.{IsUnchanged};
 ghost use Rattle.pay_rules.specs.QuoteParts.{QuoteParts};
 ghost use Rattle.pay_rules.specs.SetsParts.{SetsParts};
+ghost use Rattle.pay_postings.specs.Words.{parts, IsThere};
 ghost use Rattle.pay_records.specs.Words.{Does};
-ghost use Rattle.pay_ledger.specs.BadRows.{ReadsAs, quoted, in_sets};
-ghost use Rattle.pay_ledger.specs.Steps.{KeepsRows};
-ghost use Rattle.pay_ledger.specs.Calls.{GoesOnIfDone, StaysIfRefused, ReadsIntoIfDone, FindsInLedger, FindsInHeldRows, FailsByStoreAlone, FailsByStoreAloneOfRows, RefusesBadRows, RefusesBadRowsOf};
+ghost use Rattle.pay_ledger.specs.BadRows.{ReadsAs, quoted, in_sets, IsReadFrom};
+ghost use Rattle.pay_ledger.specs.Steps.{IsStep};
+ghost use Rattle.pay_ledger.specs.Calls.{ReadsIntoIfDone, FindsInHeldRows, RefusesBadRows, RefusesBadRowsOf};
 
 use crate::fault::LedgerFault;
 use pay_postings::{Accounts, Archived, Posted, postings_from_rows};
 use pay_records::{fixes_of, postings_of, shares_of, taps_of};
-use pay_rows::{FixRow, TapRow};
 use pay_rules::{Quote, Sets};
 use sqlite::{Alter, Transaction};
 use std::alloc::Global;
 
 /// Whether the database answers at all: a statement is prepared, and not run. One that does so is open.
 pub(crate) fn ask<S: Alter>(tx: &mut Transaction<'_, S>) -> Result<(), LedgerFault>
-    ensures same_reference { tx.new.conn.ghost_name ≡ tx.old.conn.ghost_name }
+    ensures step { IsStep S.Store tx.old.conn tx.new.conn result }
     ensures same { Does S.Store tx.old.conn.now tx.new.conn.now result IsUnchanged }
     ensures store { IsOkUnless result LedgerFault.Store }
-    ensures ok { GoesOnIfDone S.Store tx.old.conn.now tx.new.conn.now result }
-    ensures err { StaysIfRefused S.Store tx.old.conn.now tx.new.conn.now result }
 {
     tx.prepare("SELECT name, version FROM meta")?;
     Ok(())
-}
-
-/// The rows of an account's archived taps.
-fn read_taps<S: Alter>(
-    alloc: Global,
-    tx: &mut Transaction<'_, S>,
-    account: u32,
-) -> Result<Vec<TapRow>, LedgerFault>
-    ensures same_reference { tx.new.conn.ghost_name ≡ tx.old.conn.ghost_name }
-    ensures told { FindsInLedger S.Store tx.old.conn.now tx.new.conn.now result (λ ledger found. found.items ≡ map tap_row (taps_of account ledger.taps)) }
-    ensures never_bad { FailsByStoreAlone S.Store tx.old.conn.now tx.new.conn.now result }
-    ensures rows { Does S.Store tx.old.conn.now tx.new.conn.now result KeepsRows }
-    ensures never_bad_rows { FailsByStoreAloneOfRows S.Store tx.old.conn.now tx.new.conn.now result }
-    ensures ok { GoesOnIfDone S.Store tx.old.conn.now tx.new.conn.now result }
-    ensures err { StaysIfRefused S.Store tx.old.conn.now tx.new.conn.now result }
-{
-    Ok(taps_of(alloc, tx, i64::from(account))?)
-}
-
-/// The rows of its archived corrections.
-fn read_fixes<S: Alter>(
-    alloc: Global,
-    tx: &mut Transaction<'_, S>,
-    account: u32,
-) -> Result<Vec<FixRow>, LedgerFault>
-    ensures same_reference { tx.new.conn.ghost_name ≡ tx.old.conn.ghost_name }
-    ensures told { FindsInLedger S.Store tx.old.conn.now tx.new.conn.now result (λ ledger found. found.items ≡ map fix_row (fixes_of account ledger.fixes)) }
-    ensures never_bad { FailsByStoreAlone S.Store tx.old.conn.now tx.new.conn.now result }
-    ensures rows { Does S.Store tx.old.conn.now tx.new.conn.now result KeepsRows }
-    ensures never_bad_rows { FailsByStoreAloneOfRows S.Store tx.old.conn.now tx.new.conn.now result }
-    ensures ok { GoesOnIfDone S.Store tx.old.conn.now tx.new.conn.now result }
-    ensures err { StaysIfRefused S.Store tx.old.conn.now tx.new.conn.now result }
-{
-    Ok(fixes_of(alloc, tx, i64::from(account))?)
 }
 
 /// What was posted for an account.
@@ -71,17 +32,12 @@ pub(crate) fn read_posted<S: Alter>(
     tx: &mut Transaction<'_, S>,
     account: u32,
 ) -> Result<Posted, LedgerFault>
-    ensures same_reference { tx.new.conn.ghost_name ≡ tx.old.conn.ghost_name }
-    ensures told { FindsInLedger S.Store tx.old.conn.now tx.new.conn.now result (λ ledger found. found ≡ of_account account ledger.postings) }
-    ensures never_bad { FailsByStoreAlone S.Store tx.old.conn.now tx.new.conn.now result }
-    ensures rows { FindsInHeldRows S.Store tx.old.conn.now tx.new.conn.now result (λ rows found. ReadsAs rows account (Some found)) }
+    ensures step { IsStep S.Store tx.old.conn tx.new.conn result }
+    ensures found { FindsInHeldRows S.Store tx.old.conn.now tx.new.conn.now result (λ rows posted. ReadsAs rows account (Some posted)) }
     ensures bad { RefusesBadRows S.Store tx.old.conn.now tx.new.conn.now result account }
-    ensures ok { GoesOnIfDone S.Store tx.old.conn.now tx.new.conn.now result }
-    ensures err { StaysIfRefused S.Store tx.old.conn.now tx.new.conn.now result }
 {
     let rows = postings_of(alloc, tx, i64::from(account))?;
     let shares = shares_of(alloc, tx, i64::from(account))?;
-    pay_postings::laws::postings_back();
     Ok(postings_from_rows(alloc, account, &rows, &shares)?)
 }
 
@@ -91,17 +47,13 @@ pub(crate) fn read_account<S: Alter>(
     tx: &mut Transaction<'_, S>,
     account: u32,
 ) -> Result<Archived, LedgerFault>
-    ensures same_reference { tx.new.conn.ghost_name ≡ tx.old.conn.ghost_name }
-    ensures told { FindsInLedger S.Store tx.old.conn.now tx.new.conn.now result (λ ledger found. parts found ≡ archived_of account ledger) }
-    ensures never_bad { FailsByStoreAlone S.Store tx.old.conn.now tx.new.conn.now result }
-    ensures rows { FindsInHeldRows S.Store tx.old.conn.now tx.new.conn.now result (λ rows found. ReadsAs rows account (Some found.posted)) }
+    ensures step { IsStep S.Store tx.old.conn tx.new.conn result }
+    ensures found { FindsInHeldRows S.Store tx.old.conn.now tx.new.conn.now result (λ rows archived. IsReadFrom rows account (parts archived)) }
     ensures bad { RefusesBadRows S.Store tx.old.conn.now tx.new.conn.now result account }
-    ensures ok { GoesOnIfDone S.Store tx.old.conn.now tx.new.conn.now result }
-    ensures err { StaysIfRefused S.Store tx.old.conn.now tx.new.conn.now result }
 {
     let posted = read_posted(alloc, tx, account)?;
-    let taps = read_taps(alloc, tx, account)?;
-    let fixes = read_fixes(alloc, tx, account)?;
+    let taps = taps_of(alloc, tx, i64::from(account))?;
+    let fixes = fixes_of(alloc, tx, i64::from(account))?;
     Ok(Archived {
         posted,
         taps,
@@ -116,13 +68,10 @@ fn read_into<S: Alter>(
     accounts: &mut Accounts,
     account: u32,
 ) -> Result<(), LedgerFault>
-    ensures same_reference { tx.new.conn.ghost_name ≡ tx.old.conn.ghost_name }
-    ensures told { ReadsIntoIfDone S.Store tx.old.conn.now tx.new.conn.now result accounts.old accounts.new }
+    ensures step { IsStep S.Store tx.old.conn tx.new.conn result }
+    ensures read { ReadsIntoIfDone S.Store tx.old.conn.now tx.new.conn.now result accounts.old accounts.new }
     ensures there { OnOk result (IsThere accounts.new account) }
-    ensures never_bad { FailsByStoreAlone S.Store tx.old.conn.now tx.new.conn.now result }
     ensures bad { RefusesBadRows S.Store tx.old.conn.now tx.new.conn.now result account }
-    ensures ok { GoesOnIfDone S.Store tx.old.conn.now tx.new.conn.now result }
-    ensures err { StaysIfRefused S.Store tx.old.conn.now tx.new.conn.now result }
 {
     if accounts.has(account) {
         return Ok(());
@@ -139,13 +88,10 @@ pub(crate) fn read_quoted<S: Alter>(
     accounts: &mut Accounts,
     quotes: &[Quote],
 ) -> Result<(), LedgerFault>
-    ensures same_reference { tx.new.conn.ghost_name ≡ tx.old.conn.ghost_name }
-    ensures told { ReadsIntoIfDone S.Store tx.old.conn.now tx.new.conn.now result accounts.old accounts.new }
+    ensures step { IsStep S.Store tx.old.conn tx.new.conn result }
+    ensures read { ReadsIntoIfDone S.Store tx.old.conn.now tx.new.conn.now result accounts.old accounts.new }
     ensures there { OnOk result (AllByRecursion (λ (q : QuoteParts). IsThere accounts.new q.account) quotes.now) }
-    ensures never_bad { FailsByStoreAlone S.Store tx.old.conn.now tx.new.conn.now result }
     ensures bad { RefusesBadRowsOf S.Store tx.old.conn.now tx.new.conn.now result (quoted quotes.now) }
-    ensures ok { GoesOnIfDone S.Store tx.old.conn.now tx.new.conn.now result }
-    ensures err { StaysIfRefused S.Store tx.old.conn.now tx.new.conn.now result }
 {
     for quote in quotes {
         read_into(alloc, tx, accounts, quote.account())?;
@@ -160,13 +106,10 @@ pub(crate) fn read_sets<S: Alter>(
     accounts: &mut Accounts,
     sets: &[Sets],
 ) -> Result<(), LedgerFault>
-    ensures same_reference { tx.new.conn.ghost_name ≡ tx.old.conn.ghost_name }
-    ensures told { ReadsIntoIfDone S.Store tx.old.conn.now tx.new.conn.now result accounts.old accounts.new }
+    ensures step { IsStep S.Store tx.old.conn tx.new.conn result }
+    ensures read { ReadsIntoIfDone S.Store tx.old.conn.now tx.new.conn.now result accounts.old accounts.new }
     ensures there { OnOk result (AllByRecursion (λ (s : SetsParts). IsThere accounts.new s.account) sets.now) }
-    ensures never_bad { FailsByStoreAlone S.Store tx.old.conn.now tx.new.conn.now result }
     ensures bad { RefusesBadRowsOf S.Store tx.old.conn.now tx.new.conn.now result (in_sets sets.now) }
-    ensures ok { GoesOnIfDone S.Store tx.old.conn.now tx.new.conn.now result }
-    ensures err { StaysIfRefused S.Store tx.old.conn.now tx.new.conn.now result }
 {
     for set in sets {
         read_into(alloc, tx, accounts, set.account())?;

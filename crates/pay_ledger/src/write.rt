@@ -2,8 +2,8 @@ ghost use Rattle.std.specs.Prelude.{◌≡◌, ◌∷◌, [], IsTrue, IsOkUnless
 ghost use Rattle.pay_ledger.specs.Faults.{is_of_store};
 ghost use Rattle.pay_records.specs.Words.{Does};
 ghost use Rattle.pay_ledger.specs.Keeps.{with_shares, with_postings, with_taps, with_fixes};
-ghost use Rattle.pay_ledger.specs.Steps.{RowsGrow};
-ghost use Rattle.pay_ledger.specs.Calls.{GoesOnIfDone, StaysIfRefused, GrowsInside};
+ghost use Rattle.pay_ledger.specs.Steps.{IsStep, RowsGrow};
+ghost use Rattle.pay_ledger.specs.Calls.{GrowsInside};
 
 use crate::fault::LedgerFault;
 use pay_postings::{posting_row, share_rows};
@@ -19,11 +19,9 @@ fn write_shares<S: Alter>(
     tx: &mut Transaction<'_, S>,
     shares: &[ShareRow],
 ) -> Result<(), LedgerFault>
-    ensures same_reference { tx.new.conn.ghost_name ≡ tx.old.conn.ghost_name }
+    ensures step { IsStep S.Store tx.old.conn tx.new.conn result }
     ensures writes { Does S.Store tx.old.conn.now tx.new.conn.now result (λ old new. RowsGrow old new (with_shares shares.now)) }
-    ensures ok { GoesOnIfDone S.Store tx.old.conn.now tx.new.conn.now result }
     ensures store { IsOkUnless result LedgerFault.Store }
-    ensures err { StaysIfRefused S.Store tx.old.conn.now tx.new.conn.now result }
 {
     for share in shares {
         add_share(tx, share)?;
@@ -37,11 +35,9 @@ fn write_posting<S: Alter>(
     tx: &mut Transaction<'_, S>,
     posting: &Posting,
 ) -> Result<(), LedgerFault>
-    ensures same_reference { tx.new.conn.ghost_name ≡ tx.old.conn.ghost_name }
+    ensures step { IsStep S.Store tx.old.conn tx.new.conn result }
     ensures writes { GrowsInside S.Store tx.old.conn.now tx.new.conn.now result (with_postings (posting.now ∷ [])) }
-    ensures ok { GoesOnIfDone S.Store tx.old.conn.now tx.new.conn.now result }
     ensures of_store { IfErr result (λ fault. IsTrue (is_of_store fault)) }
-    ensures err { StaysIfRefused S.Store tx.old.conn.now tx.new.conn.now result }
 {
     let id = add_posting(
         tx,
@@ -58,27 +54,13 @@ pub(crate) fn write_postings<S: Alter>(
     tx: &mut Transaction<'_, S>,
     postings: &[Posting],
 ) -> Result<(), LedgerFault>
-    ensures same_reference { tx.new.conn.ghost_name ≡ tx.old.conn.ghost_name }
+    ensures step { IsStep S.Store tx.old.conn tx.new.conn result }
     ensures writes { GrowsInside S.Store tx.old.conn.now tx.new.conn.now result (with_postings postings.now) }
-    ensures ok { GoesOnIfDone S.Store tx.old.conn.now tx.new.conn.now result }
     ensures of_store { IfErr result (λ fault. IsTrue (is_of_store fault)) }
-    ensures err { StaysIfRefused S.Store tx.old.conn.now tx.new.conn.now result }
 {
     for posting in postings {
         write_posting(alloc, tx, posting)?;
     }
-    Ok(())
-}
-
-/// Archives a tap.
-fn write_tap<S: Alter>(tx: &mut Transaction<'_, S>, tap: &Tap) -> Result<(), LedgerFault>
-    ensures same_reference { tx.new.conn.ghost_name ≡ tx.old.conn.ghost_name }
-    ensures writes { GrowsInside S.Store tx.old.conn.now tx.new.conn.now result (with_taps (tap.now ∷ [])) }
-    ensures ok { GoesOnIfDone S.Store tx.old.conn.now tx.new.conn.now result }
-    ensures store { IsOkUnless result LedgerFault.Store }
-    ensures err { StaysIfRefused S.Store tx.old.conn.now tx.new.conn.now result }
-{
-    add_tap(tx, i64::from(tap.account), &tap_row(tap))?;
     Ok(())
 }
 
@@ -87,27 +69,13 @@ pub(crate) fn write_taps<S: Alter>(
     tx: &mut Transaction<'_, S>,
     taps: &[Tap],
 ) -> Result<(), LedgerFault>
-    ensures same_reference { tx.new.conn.ghost_name ≡ tx.old.conn.ghost_name }
+    ensures step { IsStep S.Store tx.old.conn tx.new.conn result }
     ensures writes { GrowsInside S.Store tx.old.conn.now tx.new.conn.now result (with_taps taps.now) }
-    ensures ok { GoesOnIfDone S.Store tx.old.conn.now tx.new.conn.now result }
     ensures store { IsOkUnless result LedgerFault.Store }
-    ensures err { StaysIfRefused S.Store tx.old.conn.now tx.new.conn.now result }
 {
     for tap in taps {
-        write_tap(tx, tap)?;
+        add_tap(tx, i64::from(tap.account), &tap_row(tap))?;
     }
-    Ok(())
-}
-
-/// Archives a correction.
-fn write_fix<S: Alter>(tx: &mut Transaction<'_, S>, fix: &Fix) -> Result<(), LedgerFault>
-    ensures same_reference { tx.new.conn.ghost_name ≡ tx.old.conn.ghost_name }
-    ensures writes { GrowsInside S.Store tx.old.conn.now tx.new.conn.now result (with_fixes (fix.now ∷ [])) }
-    ensures ok { GoesOnIfDone S.Store tx.old.conn.now tx.new.conn.now result }
-    ensures store { IsOkUnless result LedgerFault.Store }
-    ensures err { StaysIfRefused S.Store tx.old.conn.now tx.new.conn.now result }
-{
-    add_fix(tx, i64::from(fix.account), &fix_row(fix))?;
     Ok(())
 }
 
@@ -116,14 +84,12 @@ pub(crate) fn write_fixes<S: Alter>(
     tx: &mut Transaction<'_, S>,
     fixes: &[Fix],
 ) -> Result<(), LedgerFault>
-    ensures same_reference { tx.new.conn.ghost_name ≡ tx.old.conn.ghost_name }
+    ensures step { IsStep S.Store tx.old.conn tx.new.conn result }
     ensures writes { GrowsInside S.Store tx.old.conn.now tx.new.conn.now result (with_fixes fixes.now) }
-    ensures ok { GoesOnIfDone S.Store tx.old.conn.now tx.new.conn.now result }
     ensures store { IsOkUnless result LedgerFault.Store }
-    ensures err { StaysIfRefused S.Store tx.old.conn.now tx.new.conn.now result }
 {
     for fix in fixes {
-        write_fix(tx, fix)?;
+        add_fix(tx, i64::from(fix.account), &fix_row(fix))?;
     }
     Ok(())
 }

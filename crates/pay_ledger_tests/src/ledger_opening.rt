@@ -10,7 +10,8 @@ use crate::ledger::{
 };
 use crate::lines::expect_run;
 use pay_account::Account;
-use pay_ledger::{Ledger, LedgerFault, Ledgers, OpenFault};
+use pay_ledger::{Ledger, LedgerFault, OpenFault};
+use pay_ledger_files::Ledgers;
 use pay_rules::{Fares, Kind, PostFault};
 use sqlite::{Alter, Connection, Error, MemStore, Wary};
 use std::fs;

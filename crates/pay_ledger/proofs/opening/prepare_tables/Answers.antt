@@ -15,7 +15,7 @@ returns-in_err-commit-clause-survives g c =
     let ledger = λ (clean : HasCleanDisk (state g.S.Store last)). rw begun at (c.in_ok-ready.ensures.ledger clean) in
     let blank = λ (clean : HasCleanDisk (state g.S.Store last)). rw begun at (c.in_ok-ready.ensures.blank clean) in
     let grows = λ (clean : HasCleanDisk (state g.S.Store last)). rw begun at (c.in_ok-ready.ensures.grows clean) in
-    let inside = c.in_ok-ready.ensures.ok.stays.survives in
+    let inside = c.in_ok-ready.ensures.step.goes_on.stays.survives in
     let whole = survives_then (state g.S.Store old) (state g.S.Store last) (state g.S.Store c.commit.new.self.0) _ _ P (λ _ db none. absurd none)
     (λ clean db is. ((state g.S.Store last).now, is, ledger (omega (arith, c.commit.ensures.survives.clean)), blank (omega (arith, c.commit.ensures.survives.clean)), grows (omega (arith, c.commit.ensures.survives.clean))))
     (survives_begin g.S.Store old (state g.S.Store last) _ (rw begun at inside)) c.commit.ensures.survives in
@@ -31,7 +31,7 @@ returns-clause-survives g c =
     let ledger = λ (clean : HasCleanDisk (state g.S.Store last)). rw begun at (c.in_ok-ready.ensures.ledger clean) in
     let blank = λ (clean : HasCleanDisk (state g.S.Store last)). rw begun at (c.in_ok-ready.ensures.blank clean) in
     let grows = λ (clean : HasCleanDisk (state g.S.Store last)). rw begun at (c.in_ok-ready.ensures.grows clean) in
-    let inside = c.in_ok-ready.ensures.ok.stays.survives in
+    let inside = c.in_ok-ready.ensures.step.goes_on.stays.survives in
     let whole = survives_then (state g.S.Store old) (state g.S.Store last) (state g.S.Store c.commit.new.self.0) _ _ P (λ _ db none. absurd none)
     (λ clean db is. ((state g.S.Store last).now, is, ledger (omega (arith, c.commit.ensures.survives.clean)), blank (omega (arith, c.commit.ensures.survives.clean)), grows (omega (arith, c.commit.ensures.survives.clean))))
     (survives_begin g.S.Store old (state g.S.Store last) _ (rw begun at inside)) c.commit.ensures.survives in

@@ -3,8 +3,7 @@ use Rattle.sqlite.specs.Held.{state}
 use Rattle.sqlite.specs.State.{State, IsUnchanged}
 use Rattle.pay_records.specs.Words.{IsFree, MakesLedger, Grows, ledger_tables}
 use Rattle.pay_ledger.specs.Opening.{BlankJustGrows}
-use Rattle.pay_ledger.specs.Steps.{GoesOn}
-use Rattle.pay_ledger.proofs.Along.{stays_then, on_err, was_clean}
+use Rattle.pay_ledger.proofs.Along.{was_clean, goes, stops, stopped, and_stopped, and_gone}
 use Rattle.pay_ledger.proofs.opening.ready.Goals as goal
 
 grown : (first between last : State) → IsUnchanged first between → MakesLedger between last → BlankJustGrows first.now last.now
@@ -17,10 +16,20 @@ returns-clause-grows g c clean free =
     let was = was_clean between last c.make.ensures.survives clean in
     grown (state g.S.Store c.args.tx.now.conn.now) between last (c.in_ok-kind.ensures.blank was free).1 (c.in_ok-make.ensures.made clean) free
 
-pub returns-in_err-make-clause-err : goal.returns-in_err-make-clause-err
-returns-in_err-make-clause-err g c =
-    let first = state g.S.Store c.args.tx.now.conn.now in
-    let between = state g.S.Store c.kind_of.new.tx.conn.now in
-    let last = state g.S.Store c.make.new.tx.conn.now in
-    let step : GoesOn first between = record { stays = record { kept = c.kind_of.ensures.kept; survives = c.kind_of.ensures.survives }; inside = c.in_ok-kind.ensures.inside } in
-    on_err _ c.from_residual-in_err-make.result (stays_then first between last step (record { kept = λ clean inside. c.make.ensures.kept clean; survives = c.make.ensures.survives }))
+pub returns-in_err-kind-clause-step : goal.returns-in_err-kind-clause-step
+returns-in_err-kind-clause-step g c =
+    stopped g.S.Store c.from_residual.result _ c.from_residual.ensures.1
+    (stops g.S.Store c.args.tx.now.conn c.kind_of.new.tx.conn c.kind_of.ensures.same_reference c.kind_of.ensures.kept c.kind_of.ensures.survives)
+
+pub returns-in_err-make-clause-step : goal.returns-in_err-make-clause-step
+returns-in_err-make-clause-step g c =
+    and_stopped g.S.Store c.from_residual-in_err-make.result
+    (goes g.S.Store c.args.tx.now.conn c.kind_of.new.tx.conn c.kind_of.ensures.same_reference c.kind_of.ensures.kept c.in_ok-kind.ensures.inside c.kind_of.ensures.survives)
+    _ c.from_residual-in_err-make.ensures.1
+    (stops g.S.Store c.kind_of.new.tx.conn c.make.new.tx.conn c.make.ensures.same_reference (λ clean inside. c.make.ensures.kept clean) c.make.ensures.survives)
+
+pub returns-clause-step : goal.returns-clause-step
+returns-clause-step g c =
+    and_gone g.S.Store _
+    (goes g.S.Store c.args.tx.now.conn c.kind_of.new.tx.conn c.kind_of.ensures.same_reference c.kind_of.ensures.kept c.in_ok-kind.ensures.inside c.kind_of.ensures.survives)
+    (goes g.S.Store c.kind_of.new.tx.conn c.make.new.tx.conn c.make.ensures.same_reference (λ clean inside. c.make.ensures.kept clean) (λ clean inside. (c.in_ok-make.ensures.made clean).on.after) c.make.ensures.survives)

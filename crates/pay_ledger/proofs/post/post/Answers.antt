@@ -13,7 +13,7 @@ returns-in_err-commit-clause-survives g c =
     let P = MayLeave (state g.S.Store old) c.args.quotes.now c.args.sets.now in
     let begun = c.transaction-tx.ensures.begun in
     let posts = λ (clean : HasCleanDisk (state g.S.Store last)). rw begun at (c.in_ok-given.ensures.posts clean (rw begun)) in
-    let inside = c.in_ok-given.ensures.ok.stays.survives in
+    let inside = c.in_ok-given.ensures.step.goes_on.stays.survives in
     let whole = survives_then (state g.S.Store old) (state g.S.Store last) (state g.S.Store c.commit.new.self.0) _ _ P (λ _ db none. absurd none)
     (λ clean db is. ((state g.S.Store last).now, is, λ ledger k. let it = posts (omega (arith, c.commit.ensures.survives.clean)) ledger k in ((c.in_ok-given.given.items, it.0), it.1, it.2, it.3)))
     (survives_begin g.S.Store old (state g.S.Store last) _ (rw begun at inside)) c.commit.ensures.survives in
@@ -27,7 +27,7 @@ returns-clause-survives g c =
     let P = MayLeave (state g.S.Store old) c.args.quotes.now c.args.sets.now in
     let begun = c.transaction-tx.ensures.begun in
     let posts = λ (clean : HasCleanDisk (state g.S.Store last)). rw begun at (c.in_ok-given.ensures.posts clean (rw begun)) in
-    let inside = c.in_ok-given.ensures.ok.stays.survives in
+    let inside = c.in_ok-given.ensures.step.goes_on.stays.survives in
     let whole = survives_then (state g.S.Store old) (state g.S.Store last) (state g.S.Store c.commit.new.self.0) _ _ P (λ _ db none. absurd none)
     (λ clean db is. ((state g.S.Store last).now, is, λ ledger k. let it = posts (omega (arith, c.commit.ensures.survives.clean)) ledger k in ((c.in_ok-given.given.items, it.0), it.1, it.2, it.3)))
     (survives_begin g.S.Store old (state g.S.Store last) _ (rw begun at inside)) c.commit.ensures.survives in

@@ -1,18 +1,17 @@
-use Rattle.sqlite.specs.Held.{state}
-use Rattle.pay_ledger.proofs.Along.{goes_then, stays_then, on_err}
+use Rattle.pay_ledger.proofs.Along.{stopped, and_stopped, and_gone, and_on}
 use Rattle.pay_ledger.proofs.post.write_batch.Goals as goal
 
-pub returns-in_err-write_taps-clause-err : goal.returns-in_err-write_taps-clause-err
-returns-in_err-write_taps-clause-err g c =
-    let a = state g.S.Store c.args.tx.now.conn.now in
-    let b = state g.S.Store c.write_postings.new.tx.conn.now in
-    let d = state g.S.Store c.write_taps.new.tx.conn.now in
-    on_err _ c.from_residual-in_err-write_taps.result (stays_then a b d c.in_ok-write_postings.ensures.ok c.in_err-write_taps.ensures.err)
+pub returns-in_err-write_postings-clause-step : goal.returns-in_err-write_postings-clause-step
+returns-in_err-write_postings-clause-step g c = stopped g.S.Store c.from_residual.result _ c.from_residual.ensures.1 c.in_err-write_postings.ensures.step
 
-pub returns-in_err-write_fixes-clause-err : goal.returns-in_err-write_fixes-clause-err
-returns-in_err-write_fixes-clause-err g c =
-    let a = state g.S.Store c.args.tx.now.conn.now in
-    let b = state g.S.Store c.write_postings.new.tx.conn.now in
-    let d = state g.S.Store c.write_taps.new.tx.conn.now in
-    let e = state g.S.Store c.write_fixes.new.tx.conn.now in
-    on_err _ c.from_residual-in_err-write_fixes.result (stays_then a d e (goes_then a b d c.in_ok-write_postings.ensures.ok c.in_ok-write_taps.ensures.ok) c.in_err-write_fixes.ensures.err)
+pub returns-in_err-write_taps-clause-step : goal.returns-in_err-write_taps-clause-step
+returns-in_err-write_taps-clause-step g c =
+    and_stopped g.S.Store c.from_residual-in_err-write_taps.result c.in_ok-write_postings.ensures.step _ c.from_residual-in_err-write_taps.ensures.1 c.in_err-write_taps.ensures.step
+
+pub returns-in_err-write_fixes-clause-step : goal.returns-in_err-write_fixes-clause-step
+returns-in_err-write_fixes-clause-step g c =
+    and_stopped g.S.Store c.from_residual-in_err-write_fixes.result (and_on g.S.Store c.in_ok-write_postings.ensures.step c.in_ok-write_taps.ensures.step) _ c.from_residual-in_err-write_fixes.ensures.1
+    c.in_err-write_fixes.ensures.step
+
+pub returns-clause-step : goal.returns-clause-step
+returns-clause-step g c = and_gone g.S.Store _ (and_on g.S.Store c.in_ok-write_postings.ensures.step c.in_ok-write_taps.ensures.step) c.in_ok-write_fixes.ensures.step

@@ -11,7 +11,7 @@ returns-clause-told g c clean =
     let same : c.args.self.now ≡ c.self.inside.conn = search rules in
     IfOk-weaker c.net_of.result _ _ (λ amount told ledger k.
     let its : IsLedger (state g.S.Store c.self.inside.conn).now ledger = subst (λ h. IsLedger (state g.S.Store h).now ledger) same k in
-    same_some (sym (told its.keeps.rows its.keeps.held) ∙ net_of_ledger c.postings_back.ensures c.net_of_rows.ensures _ ledger its c.args.account c.args.week)) (c.net_of.ensures.told clean)
+    same_some (sym (told its.keeps.rows its.keeps.held) ∙ net_of_ledger c.postings_back.ensures c.net_of_rows.ensures _ ledger its c.args.account c.args.week)) (c.net_of.ensures.found clean)
 
 pub returns-clause-never_bad : goal.returns-clause-never_bad
 returns-clause-never_bad g c clean =
@@ -23,7 +23,7 @@ returns-clause-never_bad g c clean =
 pub returns-clause-read : goal.returns-clause-read
 returns-clause-read g c clean =
     let same : c.args.self.now ≡ c.self.inside.conn = search rules in
-    IfOk-weaker c.net_of.result _ _ (λ amount told rows k. told rows (subst (λ h. HoldsRows (state g.S.Store h).now rows) same k)) (c.net_of.ensures.told clean)
+    IfOk-weaker c.net_of.result _ _ (λ amount told rows k. told rows (subst (λ h. HoldsRows (state g.S.Store h).now rows) same k)) (c.net_of.ensures.found clean)
 
 pub returns-clause-bad : goal.returns-clause-bad
 returns-clause-bad g c clean =

@@ -1,8 +1,8 @@
 use Rattle.sqlite.specs.Files.{over_files}
 use Rattle.sqlite.specs.Start.{FindsIn}
 use Rattle.sqlite.specs.WalFiles.{image_at}
-use Rattle.pay_ledger.proofs.Opened.{opened_of, refused_of, new_ledger}
-use Rattle.pay_ledger.proofs.file.open_file.Goals as goal
+use Rattle.pay_ledger_files.proofs.Opened.{opened_of, refused_of, new_ledger}
+use Rattle.pay_ledger_files.proofs.file.open_file.Goals as goal
 
 pub returns-in-Ok-clause-opened : goal.returns-in-Ok-clause-opened
 returns-in-Ok-clause-opened g c =

@@ -13,8 +13,7 @@ use Rattle.sqlite.specs.declared.error.Error.TheVariants.{SqliteFailure}
 use Rattle.sqlite.specs.declared.error.ErrorCode.TheVariants as code
 use Rattle.pay_ledger.specs.declared.fault.OpenFault.{OpenFault}
 use Rattle.pay_ledger.specs.declared.fault.OpenFault.TheVariants.{NotALedger, Store}
-use Rattle.pay_ledger.specs.Opening.{IsWhy, IsOpened, BlankJustGrows, MayLeaveOpened}
-use Rattle.pay_ledger.specs.Steps.{IsOnDisk}
+use Rattle.pay_ledger.specs.Words.{IsWhy, IsOpened, BlankJustGrows, MayLeaveOpened, IsOnDisk}
 
 -- why there is no ledger where no database was opened: a file that holds none is no ledger, and all else is the store's
 abbrev pub fault_of_file : Error → OpenFault

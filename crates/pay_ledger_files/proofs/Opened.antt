@@ -6,10 +6,8 @@ use Rattle.sqlite.specs.State.{State, HasCleanDisk, Opens, Survives}
 use Rattle.sqlite.specs.Steps.{IsEmpty}
 use Rattle.pay_records.specs.Words.{empty_is_free}
 use Rattle.pay_ledger.specs.declared.fault.OpenFault.{OpenFault}
-use Rattle.pay_ledger.specs.Keeps.{IsLedger}
-use Rattle.pay_ledger.specs.Opening.{nothing, IsWhy, IsOpened, BlankJustGrows, MayLeaveOpened}
-use Rattle.pay_ledger.specs.Steps.{IsOnDisk}
-use Rattle.pay_ledger.specs.Files.{IsOpenedOf, IsNotOpened}
+use Rattle.pay_ledger.specs.Words.{IsLedger, nothing, IsWhy, IsOpened, BlankJustGrows, MayLeaveOpened, IsOnDisk}
+use Rattle.pay_ledger_files.specs.Files.{IsOpenedOf, IsNotOpened}
 use Rattle.std.proofs.Common.{arith}
 
 module _ {S : Type 0} (g : Ghosts S) (Found : State → Type 0) (was left : Held S) (survives : Survives (state g was) (state g left) (MayLeaveOpened (state g was))) where

@@ -5,13 +5,11 @@ ghost use Rattle.sqlite.specs.Start.{FindsIn};
 ghost use Rattle.sqlite.specs.State.{HasCleanDisk, Opens};
 ghost use Rattle.sqlite.specs.Steps.{IsEmpty};
 ghost use Rattle.sqlite.specs.WalFiles.{image_at};
-ghost use Rattle.pay_ledger.specs.Files.{fault_of_file, IsUnopened, IsOpenedOf, IsNotOpenedFrom};
-ghost use Rattle.pay_ledger.specs.Keeps.{IsLedger};
-ghost use Rattle.pay_ledger.specs.Opening.{nothing};
+ghost use Rattle.pay_ledger_files.specs.Files.{fault_of_file, IsUnopened, IsOpenedOf, IsNotOpenedFrom};
+ghost use Rattle.pay_ledger.specs.Words.{IsLedger, nothing};
 
-use crate::fault::OpenFault;
-use crate::ledger::Ledger;
 use pay_disk::open_database;
+use pay_ledger::{Ledger, OpenFault};
 use sqlite::{Connection, Error, ErrorCode, FileFrom, FileStore, Start};
 
 /// Why there is no ledger where no database was opened.
