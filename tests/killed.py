@@ -71,13 +71,17 @@ def bytes_of(path):
 class Kept:
     """What was accepted and posted, by the rules of bench/rules.py."""
 
-    def __init__(self):
+    def __init__(self, has_ledger=True):
         self.accounts, self.postings, self.archives = {}, {}, {}
+        # Without a ledger nothing is closed.
+        self.has_ledger = has_ledger
         # The lines that were newly accepted, in order.
         self.lines = b""
 
     def reply(self, command):
         """The reply to a command by the rules."""
+        if isinstance(command, rules.Close) and not self.has_ledger:
+            return b"NO 34 NotHere\n"
         reply = rules.reply(rules.SAMPLE, self.accounts, command, self.postings).encode()
         if isinstance(command, rules.Close) and not reply.startswith(b"NO "):
             for number, account in self.accounts.items():
@@ -125,10 +129,10 @@ def answered(kept):
 class Story:
     """What is told over the same files to programs that are killed one after another, and what they have accepted and posted."""
 
-    def __init__(self, name, draw, closes):
+    def __init__(self, name, draw, closes, has_ledger):
         # What was not answered yet.
         self.name, self.draw, self.left = name, draw, commands_of(draw, closes)
-        self.kept, self.kills, self.sent = Kept(), 0, 0
+        self.kept, self.kills, self.sent = Kept(has_ledger), 0, 0
 
     @property
     def accepted(self):
@@ -150,12 +154,7 @@ class SessionStory(Story):
         self.journal, self.database = os.path.join(files, "journal"), os.path.join(files, "ledger") if has_ledger else None
         self.words = [*RUN_SAMPLE, "--journal", self.journal, *more, *(["--ledger", self.database] if has_ledger else [])]
         self.is_shuffled = draw.random() < 0.5
-        super().__init__(" ".join(["--journal", *more, *(["--ledger"] if has_ledger else [])]), draw, closes=10)
-
-    def begin(self):
-        """A session begins: what was posted is forgotten, unless it is in a file."""
-        if not self.database:
-            self.kept.postings = {}
+        super().__init__(" ".join(["--journal", *more, *(["--ledger"] if has_ledger else [])]), draw, 10, has_ledger)
 
     def killed(self):
         """What a session came to that was killed, and what it had to come to."""
@@ -167,7 +166,6 @@ class SessionStory(Story):
         came = killed_session(self.words, "".join(map(rules.line, given)).encode(), self.draw)
         output = came.output
         self.kills, self.sent = self.kills + 1, self.sent + len(given)
-        self.begin()
         wanted, answered = b"", 0
         while len(wanted) < len(output) and answered < len(given):
             wanted += self.kept.reply(given[answered])
@@ -196,11 +194,9 @@ class SessionStory(Story):
     def checks(self, most):
         while self.kills < most and self.left:
             yield f"kill {self.kills + 1}", *self.killed()
-        self.begin()
         self.sent += len(self.left)
         lines, replies = "".join(map(rules.line, self.left)).encode(), b"".join(map(self.kept.reply, self.left))
         yield "the lines that were left", *self.ended(lines, replies)
-        self.begin()
         yield "what is due and shown in the end", *self.ended(in_lines(QUESTIONS), answered(self.kept))
         yield "a replay", run(["replay", SAMPLE, LONDON, self.journal]), self.kept.counted()
         if self.database:

@@ -69,7 +69,7 @@ class ServedStory(Story):
         os.mkdir(self.folder)
         self.database = os.path.join(self.files, "ledger") if has_ledger else None
         self.more = ["--journal", self.folder, *(["--ledger", self.database] if has_ledger else [])]
-        super().__init__(" ".join(["serve --journal", *(["--ledger"] if has_ledger else [])]), draw, closes=0)
+        super().__init__(" ".join(["serve --journal", *(["--ledger"] if has_ledger else [])]), draw, 0, has_ledger)
         self.count = len(self.left)
 
     def day(self):
@@ -144,8 +144,6 @@ class ServedStory(Story):
 
     def closed(self, close, output):
         """Checks of a close, which may have been posted, and was if anything is written of it."""
-        if not self.database:
-            self.kept.postings = {}
         before = self.kept.postings, self.kept.archives
         self.kept.postings = {week: list(those) for week, those in self.kept.postings.items()}
         self.kept.archives = dict(self.kept.archives)
@@ -183,10 +181,8 @@ class ServedStory(Story):
         yield f"{name}, the lines of the journals", answers(self.lines()), answers(self.wanted_lines())
 
     def closing(self, port, lanes):
-        """How a service ends that closes its day."""
-        if not self.database:
-            self.kept.postings = {}
-        return closed(port, lanes, self.kept.reply(rules.Close(self.day())))
+        """How a service ends that closes its day, or has no ledger to close it into."""
+        return closed(port, lanes, self.kept.reply(rules.Close(self.day())))._replace(status=0 if self.database else 1)
 
     def asked(self):
         """Checks of a service that is asked what each account owes and shows."""

@@ -67,7 +67,10 @@ def newly(pairs):
     return in_lines(line for line, reply in pairs if reply.startswith("OK "))
 
 
-# Two sessions with examples/sample.toml, each line beside its reply, and whether the line is kept. In a new session nothing is posted.
+# What a close comes to with a journal and without a ledger: what is posted would not be there for the next session, so nothing is.
+NOT_HERE = "NO 34 NotHere"
+
+# Two sessions with examples/sample.toml, each line beside its reply, and whether the line is kept.
 ONE_DAY = (
     ("TAP 1 1 7 1704697200 10 IN", "OK 19730 860 860", True),
     ("TAP 1 1 7 1704697200 10 IN", "AGAIN 19730 860 860", False),
@@ -77,7 +80,7 @@ ONE_DAY = (
     ("DUE 7 19730", "DUE 7 19730 19730 1 860 1=860", False),
     ("TAP 1 2 7 1704699000 12 OUT", "OK 19730 340 340", True),
     ("SHOW 7 19730", "SHOW 7 19730 1 340\nJNY RAIL 10 12 1704697200 340", False),
-    ("CLOSE 19730", "PAY 7 19730 19730 2 340 340 1=340\nDONE 19730 1", False),
+    ("CLOSE 19730", NOT_HERE, False),
     ("FIX 3 1 7 CREDIT 19730 100", "OK 19730 340 340", True),
     ("FIX 3 1 7 CREDIT 19730 100", "AGAIN 19730 340 340", False),
     ("FIX 3 1 7 CREDIT 19730 50", "NO 22 FixConflict", False),
@@ -94,17 +97,18 @@ NEXT_DAY = (
     ("DUE 7 19730", "DUE 7 19730 19730 4 240 1=240", False),
     ("TAP 1 1 8 1704783600 50 BUS", "OK 19731 175 175", True),
     ("TAP 1 3 7 1704718800 50 BUS", "OK 19730 515 515", True),
+    ("CLOSE 19730", NOT_HERE, False),
     # Of 515 less 100: 415 * 340 / 515 is 273, and the rest is the bus operator's.
-    ("CLOSE 19730", "PAY 7 19730 19730 5 415 415 1=273 4=142\nDONE 19730 1", False),
+    ("DUE 7 19730", "DUE 7 19730 19730 5 415 1=273 4=142", False),
     ("FIX 3 3 7 DROP 3 1", "OK 19730 515 515", True),
-    ("CLOSE 19730", "PAY 7 19730 19730 6 515 100 1=67 4=33\nDONE 19730 1", False),  # 340 - 273, 175 - 142
+    ("CLOSE 19730", NOT_HERE, False),
 )
 # What a third session is asked, of which nothing is kept.
 ASKED_THEN = (
     ("DUE 7 19730", "DUE 7 19730 19730 6 515 1=340 4=175"),
     ("SHOW 7 19730", "SHOW 7 19730 2 515\nJNY RAIL 10 12 1704697200 340\nJNY BUS 50 0 1704718800 175"),
     ("SHOW 8 19731", "SHOW 8 19731 1 175\nJNY BUS 50 0 1704783600 175"),
-    ("CLOSE 19731", "PAY 7 19730 19731 6 515 515 1=340 4=175\nPAY 8 19730 19731 1 175 175 4=175\nDONE 19731 2"),
+    ("CLOSE 19731", NOT_HERE),
 )
 ROWS_THEN = ("19730,RAIL,10,12,07:00:00,340,-", "19730,BUS,50,0,13:00:00,175,-")
 
@@ -185,8 +189,8 @@ def drawn_sessions(folder):
             # What comes again is among the lines.
             part = draw.sample(before, len(before) // 10) + part + drawn_dues(draw, 20, range(1, 31), range(MONDAY, MONDAY + 7))
             before = part
-            # What was posted is forgotten with a session.
-            pairs = list(by_rules(fares, accounts, part))
+            # Nothing is closed.
+            pairs = [(line, NOT_HERE if line.startswith("CLOSE ") else reply) for line, reply in by_rules(fares, accounts, part)]
             has += newly(pairs)
             lines, replies = session(pairs)
             yield f"session {number} of draw {seed}", kept(path, lines, words, draw.choice(((), ("--sync",)))), End(0, replies, left=has)
@@ -225,7 +229,8 @@ CUT_LINES, CUT_REPLIES = (text.splitlines(True) for text in boardings(4))
 
 @test
 def cut_journals(folder):
-    """A journal that is cut at each byte of its last two lines: what is whole is taken, and the rest is cut off."""
+    """A journal that is cut at each byte of its last two lines: what is whole is taken, and the rest is cut off before the first line that is
+    kept."""
     whole = b"".join(CUT_LINES)
     for end in range(len(b"".join(CUT_LINES[:2])), len(whole) + 1):
         text = whole[:end]
@@ -237,8 +242,10 @@ def cut_journals(folder):
         last = [*STATE[:3], "4", "19730"]
         yield f"{name}, a statement", leaving(path, run(with_journal(path, last))), rows_of_statement(*[A_BOARDING] * (count == 4))._replace(left=text)
         yield f"{name}, a bad zone", leaving(path, run(with_journal(path, ["run", FARES, "no zone"]), whole)), fault("bad zone")._replace(left=text)
-        yield f"{name}, and no lines", kept(path, b""), End(0, left=has)
-        written(folder, "journal", text)
+        yield f"{name}, and no lines", kept(path, b""), End(0, left=text)
+        again = b"".join(CUT_LINES[:count]) + b"DUE 9 19730\n"
+        wanted = b"".join(b"AGAIN" + reply[2:] for reply in CUT_REPLIES[:count]) + b"DUE 9 19730 19730 0 0\n"
+        yield f"{name}, and no new lines", kept(path, again), End(0, wanted, left=text)
         # Of lines in the other order, those that are new come first.
         replies = b"".join(b"AGAIN" + reply[2:] if at < count else reply for at, reply in reversed(list(enumerate(CUT_REPLIES))))
         wanted = End(0, replies, left=has + b"".join(reversed(CUT_LINES[count:])))
@@ -255,7 +262,8 @@ def rests(folder):
             path = written(folder, "journal", before + rest)
             wanted = counted(before.count(b"\n"), before.count(b"\n"), *[SEVEN if before else 0] * 2, len(rest))
             yield f"{rest[:30]!r} behind {len(before)} bytes, replayed", replayed(path), wanted
-            wanted = End(0, came, left=lines) if before or len(rest) <= 128 else CANNOT_USE._replace(left=rest)
+            # Where nothing is new, what stands behind the last newline stays.
+            wanted = End(0, came, left=lines + (rest if before else b"")) if before or len(rest) <= 128 else CANNOT_USE._replace(left=rest)
             yield f"{len(rest)} bytes, {rest[:30]!r}, behind {len(before)} bytes", kept(path, lines), wanted
     # Of several files all rests count, and none is joined with the file behind it.
     one, two = written(folder, "one", lines + b"TAP 1 1 3 17046"), written(folder, "two", b"97200 50 BUS")
@@ -285,8 +293,9 @@ BAD_LINES = (
 )
 
 
-def bad_line(number, why, journal=None):
-    return fault(f"journal {f'{journal} ' if journal else ''}line {number}: {why}")
+def bad_line(number, why, path="journal"):
+    """What a line comes to that is not accepted: of several journals it is told by the path of its own."""
+    return fault(f"{path} line {number}: {why}")
 
 
 def told_as_bad(name, path, number, why, words=RUN, lines=b""):
@@ -299,12 +308,12 @@ def told_as_bad(name, path, number, why, words=RUN, lines=b""):
     for each in (words, ["statement", *words[1:], "7", "19730"]):
         came = run_file(with_journal(path, each), given, leaves=True)
         yield f"{each[0]}, {name}", came, bad_line(number, why)._replace(left=lines)
-    yield f"replay, {name}", leaving(path, run(["replay", *words[1:], path])), bad_line(number, why, 1)._replace(left=has)
+    yield f"replay, {name}", leaving(path, run(["replay", *words[1:], path])), bad_line(number, why, path)._replace(left=has)
     other = f"{path}-other"
     with open(other, "wb") as it:
         it.write(b"FIX 9 9 9 CREDIT 19730 1\n")
     came = leaving(path, run(["replay", *words[1:], other, other, path]))
-    yield f"replay as the third file, {name}", came, bad_line(number, why, 3)._replace(left=has)
+    yield f"replay as the third file, {name}", came, bad_line(number, why, path)._replace(left=has)
 
 
 @test
@@ -358,12 +367,12 @@ FULL = (
     ("DUE 7 19730", "DUE 7 19730 19730 1 175 4=175", "NO 48 NotKept"),
     ("TAP 1 2 7 1704704400 50 BUS", "OK 19730 350 350", "NO 48 NotKept"),
     ("TAP 1 2 7 1704704401 50 BUS", "NO 20 Conflict", "NO 48 NotKept"),
-    ("CLOSE 19730", "PAY 7 19730 19730 2 350 350 4=350\nDONE 19730 1", "NO 44 DeskFault"),
+    ("CLOSE 19730", NOT_HERE, NOT_HERE),
     ("fly", "NO 50 BadLine", "NO 50 BadLine"),
     ("FIX 3 1 7 CREDIT 19730 50", "OK 19730 350 350", "NO 48 NotKept"),
     ("SHOW 7 19730", "SHOW 7 19730 2 350\nJNY BUS 50 0 1704697200 175\nJNY BUS 50 0 1704704400 175", "NO 48 NotKept"),
     ("DUE 7 19730", "DUE 7 19730 19730 3 300 4=300", "NO 48 NotKept"),
-    ("CLOSE 19730", "PAY 7 19730 19730 3 300 -50 4=-50\nDONE 19730 1", "NO 44 DeskFault"),
+    ("CLOSE 19730", NOT_HERE, NOT_HERE),
     ("QUIT", "BYE", "BYE"),
 )
 FULL_LINES, FULL_KEPT = in_lines(line for line, *_ in FULL), newly(row[:2] for row in FULL)
@@ -418,7 +427,7 @@ def journal_before_streams(folder):
 
 @test
 def disks_that_fail(folder):
-    """A disk does not say that it has what it was given, from the first time on or the second: a line, a close and the end fail by that."""
+    """A disk does not say that it has what it was given, from the first time on or the second: a line and the end fail by that."""
     library = preloaded(folder)
 
     def settling(count):
@@ -432,10 +441,9 @@ def disks_that_fail(folder):
         yield f"{count} lines settled", came, End(1, replies_with(count), JOURNAL_FAULT.errors, has)
         lines, replies = session(again_behind(count + 1))
         yield f"the next session behind {count} lines settled", kept(path, lines), End(0, replies, left=FULL_KEPT)
-    # Two lines come before the first close.
-    replies = in_lines(reply if at < 5 else stuck for at, (_, reply, stuck) in enumerate(FULL))
-    came = kept(missing(folder), FULL_LINES, **settling(0))
-    yield "nothing settled before a close", came, End(1, replies, JOURNAL_FAULT.errors, b"".join(FULL_KEPT.splitlines(True)[:2]))
+    # Without a ledger nothing is settled before a close.
+    replies = in_lines(reply for _, reply, _ in FULL)
+    yield "nothing settled, and closes", kept(missing(folder), FULL_LINES, **settling(0)), End(1, replies, JOURNAL_FAULT.errors, FULL_KEPT)
     lines, replies = boardings(4)
     yield "nothing settled at the end", kept(missing(folder), lines, **settling(0)), End(1, replies, JOURNAL_FAULT.errors, lines)
 

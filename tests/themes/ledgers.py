@@ -15,7 +15,8 @@ import rules
 from killed import Kept, rows_of
 from preloads import preloaded
 from running import (
-    FARES, LONDON, MISSING, RUN, RUN_SAMPLE, STATE, End, answers, boardings, end_of, fault, heard, in_lines, run, run_file, session, started, test, written,
+    FARES, LONDON, MISSING, RUN, RUN_SAMPLE, STATE, End, answers, boardings, edited, end_of, fault, heard, in_lines, run, run_file, session, started, test,
+    written,
 )
 from themes.drawn import with_closes
 from themes.journals import CANNOT_USE, JOURNAL_FAULT, bad_line, bytes_of, limited_to, missing, parts_of, replayed
@@ -363,6 +364,13 @@ def first_fault(folder):
         ("a bad line of an empty journal's ledger", with_ledger(path, written(folder, "first", b"fly\n")), bad_line(1, "50 BadLine")),
     ):
         yield f"{name}, and a file that is no ledger", run(words, lines), wanted
+    refused = written(folder, "refused", edited("hopper = 3600", "hopper = 0"))
+    for name, words, wanted in (
+        ("a refused fare file", ["run", refused, LONDON, "--journal", good, "--ledger", good], fault("13 OutOfRange")),
+        ("a bad zone", ["run", FARES, "no zone", "--journal", good, "--ledger", good], fault("bad zone")),
+        ("a bad line", with_ledger(bad, bad), bad_line(3, "50 BadLine")), ("no fault before it", with_ledger(good, good), STORE),
+    ):
+        yield f"{name}, and a ledger that is the journal", run(words, lines), wanted
     made = missing(folder, "made")
     yield "a bad line, and no ledger", run(with_ledger(made, bad)), bad_line(3, "50 BadLine")
     yield "a bad line, and no ledger: none is made", answers(bytes_of(made)), answers(None)

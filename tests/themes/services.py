@@ -55,6 +55,16 @@ def with_both(journals, ledger):
     return ["--journal", journals, "--ledger", ledger]
 
 
+def with_new_ledger(journals):
+    """With a ledger that is not there yet."""
+    return with_both(journals, f"{journals}-ledger{len(os.listdir(os.path.dirname(journals)))}")
+
+
+def not_closed(port, lanes):
+    """What a service with journals and without a ledger comes to. It closes nothing, as what is posted would not be there for the next one."""
+    return End(1, b"NO 34 NotHere\n", listening(port, lanes))
+
+
 def leaving(journals, came):
     """What a service comes to, with what its journals have then."""
     return came._replace(left=texts_of(journals))
@@ -114,7 +124,7 @@ def services_that_go_on(folder):
     journals = new_folder(folder)
     for number, service in enumerate(SERVICES, 1):
         count = len(service.lanes)
-        with serving(count, service.shards, 1, more=with_journals(journals)) as (ran, port, said):
+        with serving(count, service.shards, 1, more=with_new_ledger(journals)) as (ran, port, said):
             for lane, pairs in enumerate(service.lanes):
                 replies = talk(port + lane, "".join(line for line, _ in pairs).encode() + b"QUIT\n")
                 yield f"service {number}, lane {lane}", answers(replies), answers(in_lines(reply for _, reply in pairs) + b"BYE\n")
@@ -131,7 +141,7 @@ def services_that_go_on(folder):
 @test
 def two_clients(folder):
     """What examples/README.md tells of two clients of a service that is then killed, and of the next one."""
-    more = ["--journal", folder]
+    more = with_both(folder, os.path.join(folder, "ledger.db"))
     with serving(2, 2, 1, more=more) as (ran, port, said), connected(port) as first, connected(port + 1) as second:
         for peer, lines, replies in (
             (first, (boarding(7), "CLOSE 19730\n"), ("OK 19730 175 175\n", "NO 34 NotHere\n")),
@@ -144,6 +154,17 @@ def two_clients(folder):
     with serving(1, 3, 1, more=more) as (ran, port, said):
         yield "the next service", answers(talk(port, b"DUE 8 19730\nQUIT\n")), answers(b"DUE 8 19730 19730 1 175 4=175\nBYE\n")
         yield "its close", ended(ran, said), closed(port, 1, (paid(7) + paid(8) + "DONE 19730 2\n").encode())
+
+
+@test
+def nothing_is_closed(folder):
+    """With journals and without a ledger the day is not closed, however often the service is begun again."""
+    journals = new_folder(folder)
+    for number, reply in enumerate((BOARDED, AGAIN), 1):
+        with serving(1, 2, 1, more=with_journals(journals)) as (ran, port, said):
+            replies = talk(port, boarding(7).encode() + b"CLOSE 19730\nQUIT\n")
+            yield f"service {number}", answers(replies), answers(in_lines((reply, "NO 34 NotHere", "BYE")))
+            yield f"service {number}, its close", leaving(journals, ended(ran, said)), not_closed(port, 1)._replace(left=texts("", boarding(7)))
 
 
 @test
@@ -171,13 +192,12 @@ def a_client_that_waits(folder):
     journals = new_folder(folder)
     for number in FROM_EACH:
         written(journals, f"{number}.lines", "".join(map(boarding, range(1 + number, MANY + 1, 16))).encode())
-    with serving(2, 3, 1, close=MONDAY - 7, more=with_journals(journals)) as (ran, port, said):
+    with serving(2, 3, 1, more=with_journals(journals)) as (ran, port, said):
         for lane, account in enumerate((MANY, 1)):
             replies = talk(port + lane, f"DUE {account} {MONDAY}\n{boarding(account)}QUIT\n".encode())
             wanted = f"DUE {account} {MONDAY} {MONDAY} 1 175 4=175\n{AGAIN}\nBYE\n"
             yield f"what lane {lane} answers", answers(replies), answers(wanted.encode())
-        # A week without a tap: what is written of its close fits into a pipe.
-        yield "how it ends", ended(ran, said), closed(port, 2, done(0, MONDAY - 7).encode())
+        yield "how it ends", ended(ran, said), not_closed(port, 2)
 
 
 # The rests of journals, which are no lines.
@@ -192,12 +212,12 @@ def cut_lines(folder):
         for at in range(3):
             written(journals, f"{at}.lines", (boarding(7 + at) + rest).encode())
         before = texts(boarding(7) + rest, boarding(8) + rest, boarding(9) + rest)
-        with serving(1, 2, 1, more=with_journals(journals)) as (ran, port, said):
+        with serving(1, 2, 1, more=with_new_ledger(journals)) as (ran, port, said):
             replies = talk(port, (boarding(7) + boarding(8) + boarding(9) + "DUE 12 19730\nQUIT\n").encode())
             yield f"{rest[:20]!r} behind lines", answers(replies), answers(b"AGAIN 19730 175 175\n" * 3 + b"DUE 12 19730 19730 0 0\nBYE\n")
             wanted = closed(port, 1, (paid(7) + paid(8) + paid(9) + done(3)).encode())._replace(left=before)
             yield f"{rest[:20]!r}, and no new line", leaving(journals, ended(ran, said)), wanted
-        with serving(1, 2, 1, more=with_journals(journals)) as (ran, port, said):
+        with serving(1, 2, 1, more=with_new_ledger(journals)) as (ran, port, said):
             replies = talk(port, (boarding(11) + boarding(9) + "QUIT\n").encode())
             yield f"{rest[:20]!r}, a new line", answers(replies), answers(b"OK 19730 175 175\nAGAIN 19730 175 175\nBYE\n")
             # Account 11 is in shard 1, and the third journal is no shard's.
@@ -223,7 +243,7 @@ BAD_LINES = (
 
 @test
 def bad_journals(folder):
-    """A line that is not accepted is told by the number of its journal and its own; no connection is served, nothing is written, all stays."""
+    """A line that is not accepted is told by the path of its journal and its number; no connection is served, nothing is written, all stays."""
     good = boarding(7) + CREDIT
     for number, (bad, why) in itertools.product((0, 1, 2, 9, 15), BAD_LINES):
         journals = new_folder(folder, f"journals{len(os.listdir(folder))}")
@@ -233,7 +253,7 @@ def bad_journals(folder):
         if number < 15:
             written(journals, "15.lines", b"fly\n")
         has = texts_of(journals)
-        came, wanted = refused_start(journals, 2, bad_line(3, why, f"{number}"))
+        came, wanted = refused_start(journals, 2, bad_line(3, why, path_of(journals, number)))
         yield f"{bad[:30]!r} in journal {number}", leaving(journals, came), wanted._replace(left=has)
     # Two journals, each of which is good by itself.
     journals = new_folder(folder, "two")
@@ -241,7 +261,7 @@ def bad_journals(folder):
     written(journals, "3.lines", f"{boarding(8)}TAP 1 1 7 {SEVEN + 1} 50 BUS\n".encode())
     has = texts(boarding(7), "", "", f"{boarding(8)}TAP 1 1 7 {SEVEN + 1} 50 BUS\n")
     for shards in (1, 4, 16):
-        came, wanted = refused_start(journals, shards, bad_line(2, "20 Conflict", "3"))
+        came, wanted = refused_start(journals, shards, bad_line(2, "20 Conflict", path_of(journals, 3)))
         yield f"two journals that contradict each other, {shards} shards", leaving(journals, came), wanted._replace(left=has)
     with started([*words_of(free_ports(1)), "--journal", journals], stdin=subprocess.DEVNULL) as ran:
         yield "what is written of it", answers(end_of(ran).output), answers(b"")
@@ -295,7 +315,7 @@ def one_service_at_a_time(folder):
     written(journals, "5.lines", boarding(9).encode())
     other = os.path.join(folder, "other")
     os.symlink("journals", other)
-    with serving(2, 2, 1, more=with_journals(journals)) as (ran, port, said):
+    with serving(2, 2, 1, more=with_new_ledger(journals)) as (ran, port, said):
         for name, path, shards in itertools.product(("its name", "another name"), (journals, other), (1, 2, 16)):
             yield f"a second service by {name} with {shards} shards", run([*words_of(free_ports(1), 1, shards), *with_journals(path)]), CANNOT_USE
         for number in FROM_EACH:
@@ -330,7 +350,7 @@ def sixteen_journals(folder):
         written(journals, "0.lines", boarding(8).encode())
         # A copy of one is no journal of a service.
         note = os.path.join(journals, "1.lines.old")
-        with serving(1, shards, 1, more=with_journals(journals)) as (ran, port, said):
+        with serving(1, shards, 1, more=with_new_ledger(journals)) as (ran, port, said):
             written(journals, "1.lines.old", b"fly\n")
             yield f"a session over another file beside {shards} shards", run(with_journal(os.path.join(journals, "16.lines"))), answers(b"")
             yield f"the lane of {shards} shards", answers(talk(port, b"QUIT\n")), answers(b"BYE\n")
@@ -354,7 +374,7 @@ def links_to_journals(folder):
     for number, account in ((0, 8), (9, 9)):
         written(there, f"{number}", boarding(account).encode())
     left = texts(boarding(8) + boarding(10), boarding(7), *[""] * 7, boarding(9))
-    with serving(1, 2, 1, more=with_journals(journals)) as (ran, port, said):
+    with serving(1, 2, 1, more=with_new_ledger(journals)) as (ran, port, said):
         for number in (0, 1, 9, 10):
             yield f"a session over the file of journal {number}", run(with_journal(os.path.join(there, f"{number}"))), CANNOT_USE
         replies = talk(port, "".join(map(boarding, (7, 8, 9, 10))).encode() + b"QUIT\n")
@@ -398,9 +418,9 @@ def full_journals(folder):
         wanted = 3 * "OK 19730 175 175\n" + LATE + "DUE 11 19730 19730 1 175 4=175\n" + "OK 19730 175 175\nBYE\n"
         yield "lines of a full journal and of another", answers(replies), answers(wanted.encode())
         left = texts(boarding(10) + boarding(12) + boarding(14)[:4], boarding(11) + boarding(13))
-        wanted = failed(port, 1, "journal fault", b"NO 44 DeskFault\n")._replace(left=left)
+        wanted = failed(port, 1, "journal fault", b"NO 34 NotHere\n")._replace(left=left)
         yield "how it ends", leaving(journals, ended(ran, said)), wanted
-    with serving(1, 2, 1, more=with_journals(journals)) as (ran, port, said):
+    with serving(1, 2, 1, more=with_new_ledger(journals)) as (ran, port, said):
         replies = talk(port, lines.encode())
         wanted = 3 * "AGAIN 19730 175 175\n" + "OK 19730 175 175\nDUE 11 19730 19730 1 175 4=175\nAGAIN 19730 175 175\nBYE\n"
         yield "the same lines in the next service", answers(replies), answers(wanted.encode())

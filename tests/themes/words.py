@@ -79,7 +79,8 @@ Options:
   -h, --help            Print help
 
 With --journal FILE the lines that were accepted before are taken first, and with --ledger FILE days
-are closed into a file. --sync is taken with --journal alone.
+are closed into a file. With --journal and without --ledger nothing is closed, and a CLOSE is refused
+by 34: what is posted would not be there for the next session. --sync is taken with --journal alone.
 """ + RUN_EXAMPLE + STATUSES + RUN_FORMATS
 CHECK_HELP = b"""\
 Read a fare file, and print how many places, bands, interchanges and holidays it has,
@@ -177,7 +178,8 @@ another, in a thread of its own. On a connection lines come in, and the reply to
 CLOSE is refused by 34. The accounts are spread over N shards, each in a thread of its own. When
 all connections of all lanes have ended, DAY is closed, the lines of that close are printed, and
 the program ends. With --journal FOLDER the lines that were accepted before are taken first, and
-with --ledger FILE the day is closed into a file.
+with --ledger FILE the day is closed into a file. With --journal and without --ledger it is not
+closed: its refusal by 34 is printed, and the status is 1.
 
 Example: two lanes, on ports 9000 and 9001, serve a connection each, and day 19730 is closed.
   $ farebox serve examples/bus.toml GMT0BST,M3.5.0/1,M10.5.0 --port 9000 --lanes 2 --shards 4 \\

@@ -5,7 +5,7 @@ ghost use Rattle.pay_wire.specs.declared.limits.TheConstants.{MOST_LINE_BYTES};
 ghost use Rattle.pay_words.specs.declared.limits.TheConstants.{MOST_SHARDS};
 
 use crate::errors::memory_or;
-use pay_jobs::{Fault, JournalFile, LateKeeper, whole_bytes};
+use pay_jobs::{Fault, LineKeeper, whole_bytes};
 use pay_ledger::OpenFault;
 use pay_wire::limits::MOST_LINE_BYTES;
 use pay_words::limits::MOST_SHARDS;
@@ -23,23 +23,27 @@ pub struct Journals {
     /// What each of them has.
     pub texts: Vec<Vec<u8>>,
     /// What keeps lines in those of a service's shards.
-    pub keepers: Vec<LateKeeper<File>>,
+    pub keepers: Vec<LineKeeper<File>>,
     /// The others, which no other session has while they are open.
     pub others: Vec<File>,
+}
+
+/// A journal that is open.
+#[derive(Drop)]
+pub struct Journal {
+    /// What it has.
+    pub past: Vec<u8>,
+    /// Its file, at whose end lines are added.
+    pub file: File,
 }
 
 /// Opens the journal at a path, which is made where there is none. No other session has it then.
 pub fn open_journal<R: Files<File = File> + AllocGlobal>(
     rt: &R,
     path: &str,
-    syncs: bool,
-) -> Result<JournalFile<File>, Fault> {
+) -> Result<Journal, Fault> {
     match opened_alone(rt, path) {
-        Ok((past, writer)) => Ok(JournalFile {
-            past,
-            writer,
-            syncs,
-        }),
+        Ok((past, file)) => Ok(Journal { past, file }),
         Err(error) => Err(memory_or(&error, Fault::CannotUseJournal)),
     }
 }
@@ -99,7 +103,7 @@ impl Journals {
         ensures keepers { OnOk result (length self.new.keepers.items ≡ 1 + length self.old.keepers.items) }
         ensures others { OnOk result (self.new.others ≡ self.old.others) }
     {
-        let keeper = LateKeeper::begin(file, whole_bytes(past.as_slice()));
+        let keeper = LineKeeper::begin(file, whole_bytes(past.as_slice()), false);
         self.texts.push(past).map_err(AllocError::from)?;
         self.keepers.push(keeper).map_err(AllocError::from)?;
         Ok(())
@@ -117,22 +121,42 @@ impl Journals {
     }
 }
 
+/// Has what the journals of a service's shards in a folder have on the disk.
+pub fn settle_journals<R: Files<File = File> + AllocGlobal>(
+    rt: &R,
+    folder: &str,
+    shards: u8,
+) -> Result<(), Fault> {
+    match all_settled(rt, folder, shards) {
+        Ok(()) => Ok(()),
+        Err(error) => Err(memory_or(&error, Fault::Journal)),
+    }
+}
+
+fn all_settled<R: Files<File = File> + AllocGlobal>(
+    rt: &R,
+    folder: &str,
+    shards: u8,
+) -> io::Result<()> {
+    for number in 0..shards {
+        let mut path = String::new(rt.alloc());
+        write!(path, "{folder}/{number}.lines")?;
+        fs::open(rt, path.as_str())?.sync_data()?;
+    }
+    Ok(())
+}
+
 /// Refuses a ledger whose file, or the log beside it, is a journal that is open: here, or in another session. Each would write over the
 /// other.
 pub fn refuse_journal<R: Files<File = File> + AllocGlobal>(
     rt: &R,
-    ledger: Option<&str>,
+    ledger: &str,
 ) -> Result<(), Fault> {
-    match ledger {
-        None => Ok(()),
-        Some(path) => {
-            let log = log_of(rt, path)?;
-            if is_open(rt, path) || is_open(rt, log.as_str()) {
-                return Err(Fault::from(OpenFault::Store));
-            }
-            Ok(())
-        }
+    let log = log_of(rt, ledger)?;
+    if is_open(rt, ledger) || is_open(rt, log.as_str()) {
+        return Err(Fault::from(OpenFault::Store));
     }
+    Ok(())
 }
 
 /// The path of the log of a ledger. That lies beside the ledger's file, also where the ledger's path is a link to it.

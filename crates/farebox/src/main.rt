@@ -2,8 +2,12 @@
 #![tactic(auto)]
 
 mod errors;
+mod input;
 mod journal;
 mod program;
+mod run;
+mod serve;
+mod texts;
 
 use std::process::ExitCode;
 

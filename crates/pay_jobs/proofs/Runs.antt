@@ -1,47 +1,34 @@
--- How the job run ends, by what came of its desk over the ledger that was opened.
+-- How a session by texts ends: what there is once they are read, and what came of it over the ledger that was opened.
 use Rattle.std.proofs.Common.{◌≡◌, ◌∙◌, ℕ, ◌<◌, zero, suc, Bool, true, false, List, [], ◌∷◌, Option, None, Some, IfSome, inl, inr, refl, sym, ap, subst, arith}
 use Rattle.std.proofs.lemmas.Bool.{lt-ltb}
-use Rattle.std.specs.Prelude.{nat_lt, Result, Ok, Err, IfOk, IfErr, length}
+use Rattle.std.specs.Prelude.{nat_lt, Result, Ok, Err, IfOk, IfErr, length, ⊤}
 use Rattle.sqlite.specs.Held.{Held, state}
 use Rattle.sqlite.specs.State.{HasCleanDisk}
 use Rattle.sqlite.specs.Store.{Ghosts}
-use Rattle.jiff.specs.Placed.{IsPosixZone}
-use Rattle.jiff.specs.ZoneView.{plain_zone}
-use Rattle.jiff.specs.declared.tz.timezone.TimeZone.{TimeZone}
-use Rattle.pay_fare_file.specs.Words.{fare_text}
-use Rattle.pay_kept.specs.Words.{KeptParts, IsCutTo}
-use Rattle.pay_ledger.specs.Words.{IsLedger}
+use Rattle.pay_journal.specs.declared.keeper.Keeper.{Ghosts as Keeping}
+use Rattle.pay_ledger.specs.Words.{IsLedger, is_bare}
 use Rattle.pay_postings.specs.Words.{LedgerParts}
 use Rattle.pay_records.specs.Words.{LeavesAsBefore}
-use Rattle.pay_shard.specs.Words.{ShardParts, LocalParts}
-use Rattle.pay_tables.specs.Words.{FareTables}
 use Rattle.pay_session.specs.Words.{line_requests}
-use Rattle.pay_session.specs.declared.replaying.Replayed.{Replayed}
-use Rattle.pay_session.specs.declared.replaying.ReplayFault.{ReplayFault}
-use Rattle.pay_session.specs.declared.replaying.ReplayFault.TheVariants as replaying
+use Rattle.pay_journal.specs.declared.replaying.ReplayFault.{ReplayFault}
+use Rattle.pay_journal.specs.declared.replaying.ReplayFault.TheVariants as replaying
 use Rattle.pay_session.specs.declared.request.Request.{Request}
 use Rattle.pay_session.specs.declared.sessions.Done.{Done}
 use Rattle.pay_session.specs.declared.stop.SessionFault.{SessionFault}
+use Rattle.pay_run.specs.Words.{HasLedger, Machine, machine_on, GivesBack, IsNotReplayed, Before, After, Known, with_ledger_in, without_ledger, EndsRun, FailsRun, LinesEnd, LinesFail}
 use Rattle.pay_jobs.specs.Alone.{IsBare, IsTakenWith, IsNotTakenAlone, IsNotTakenWith}
-use Rattle.pay_jobs.specs.Begun.{HasRun, HasNotRun}
-use Rattle.pay_jobs.specs.Faults.{IsRefusal, IsReplayFault, IsOpenFault}
-use Rattle.pay_jobs.specs.Journals.{GivesBack}
-use Rattle.pay_jobs.specs.Ledgers.{HasLedger}
-use Rattle.pay_jobs.specs.Machine.{Machine, new_machine, machine_on, with_ledger}
-use Rattle.pay_jobs.specs.Outcomes.{Outcome, AreAllPriced}
-use Rattle.pay_jobs.specs.Past.{IsNotReplayed, whole_bytes}
-use Rattle.pay_jobs.specs.Places.{Place}
-use Rattle.pay_jobs.specs.Run.{Begins, Resumes, IsRefused, IsNotBegun, HasBegun, HasOpened, IsTaken, IsLeftAlone, JobRan, RunFails}
+use Rattle.pay_jobs.specs.Faults.{IsRefusal, IsReplayFault}
+use Rattle.pay_jobs.specs.Run.{Begins, Resumes, IsRefused, IsNotBegun, HasBegun, IsTaken, IsLeftAlone, JobRan, HasRun, HasNotRun}
+use Rattle.pay_jobs.specs.Texts.{Texts}
+use Rattle.pay_jobs.specs.declared.begun.Begun.{Begun}
 use Rattle.pay_jobs.specs.declared.fault.Fault.{Fault}
 use Rattle.pay_jobs.specs.declared.fault.Fault.TheVariants.{Usage, CannotReadFares, BadZone, CannotListen, Input, Output, CannotUseJournal, JournalLine, JournalLineOf, Journal, LedgerAlone, Refused}
-use Rattle.pay_jobs.proofs.Asked.{ends_behind}
-use Rattle.pay_jobs.proofs.NewRequests.{over_ledger}
 
 -- ---- there is no desk
 
-module _ (texts : List ℕ × List ℕ × List ℕ) where
+module _ (texts : Texts) where
   -- what is told as a refusal is one
-  by_refusal : (fault : Fault) (number : ℕ) (name : List ℕ) → IsRefusal fault number name → IsRefused fault texts.0 → IsNotBegun texts fault
+  by_refusal : (fault : Fault) (number : ℕ) (name : List ℕ) → IsRefusal fault number name → IsRefused fault texts.fares → IsNotBegun texts fault
   by_refusal (Refused number name) n text told h = h
   by_refusal Usage n text told h = absurd told
   by_refusal CannotReadFares n text told h = absurd told
@@ -55,46 +42,34 @@ module _ (texts : List ℕ × List ℕ × List ℕ) where
   by_refusal Journal n text told h = absurd told
   by_refusal LedgerAlone n text told h = absurd told
 
-  pub begun_refused : (fault : Fault) → IsRefused fault texts.0 → IsNotBegun texts fault
+  pub begun_refused : (fault : Fault) → IsRefused fault texts.fares → IsNotBegun texts fault
   begun_refused fault (inl told) = by_refusal fault _ _ told (inl told)
   begun_refused fault (inr (of, says, told)) = by_refusal fault _ _ told (inr (of, says, told))
 
   -- where a line of the journal is not accepted, or memory was wanting for one
-  pub begun_past : (of : ReplayFault) (fault : Fault) (m : Machine) → IsReplayFault of fault → Begins texts.0 texts.1 None m → IsNotReplayed m (line_requests texts.2) of → IsNotBegun texts fault
+  pub begun_past : (of : ReplayFault) (fault : Fault) (m : Machine) → IsReplayFault of fault → Begins texts.fares texts.zone None m → IsNotReplayed m (line_requests texts.past) of → IsNotBegun texts fault
   begun_past (replaying.Line line why) fault m is begins h = subst (λ f. IsNotBegun texts f) (sym is) (m, begins, h)
   begun_past replaying.Memory fault m is begins h = begun_refused fault (inl is)
 
--- ---- the machine that a journal gives back, over a ledger
+-- ---- the machine with which a session begins, over a ledger
 
-module _ (zone : TimeZone) (tables : FareTables) (shard : ShardParts) (past : List ℕ) (gives : GivesBack zone tables (line_requests past) (machine_on zone shard None)) where
-  tables_of : shard.tables ≡ tables
-  tables_of = ap (λ (m : Machine). m.tables) (sym gives.machine ∙ ends_behind [] (new_machine zone tables None) (line_requests past))
-
-  over : (ledger : Option LedgerParts) → GivesBack zone tables (line_requests past) (machine_on zone shard ledger)
-  over ledger =
-      let same = over_ledger (new_machine zone tables None) ledger (line_requests past) gives.accepted in
-      record {
-        accepted = subst (λ (o : Outcome). AreAllPriced o.replies) (sym same) gives.accepted;
-        machine = ap (λ (o : Outcome). o.after) same ∙ ap (λ m. with_ledger m ledger) gives.machine;
-      }
-
-  pub resumes : (texts : List ℕ × List ℕ × List ℕ) (ledger : Option LedgerParts) → fare_text texts.0 ≡ Ok tables → IsPosixZone texts.1 (plain_zone zone) → past ≡ texts.2 → Resumes texts ledger (machine_on zone shard ledger)
-  resumes texts ledger says rule is = record {
-    says = says ∙ ap Ok (sym tables_of);
-    rule = rule;
-    gives_back = subst (λ l. GivesBack zone shard.tables (line_requests l) (machine_on zone shard ledger)) is (subst (λ t. GivesBack zone t (line_requests past) (machine_on zone shard ledger)) (sym tables_of) (over ledger));
-    posted = refl;
-  }
+resumed : (texts : Texts) (begun : Begun) → HasBegun texts begun → (ledger : Option LedgerParts) → Resumes texts ledger (machine_on begun.zone begun.desk.shard ledger)
+resumed texts begun has ledger = record {
+  says = has.says ∙ ap Ok (sym has.replay.same);
+  rule = has.rule;
+  gives_back = subst (λ t. GivesBack begun.zone t (line_requests texts.past) (machine_on begun.zone begun.desk.shard ledger)) (sym has.replay.same) (has.replay.gives_back ledger);
+  posted = refl;
+}
 
 -- ---- a session was held, or not, over the ledger that was opened
 
 -- no line was replayed where there is none
-none_of : (past text : List ℕ) (lines : ℕ) → lines ≡ length (line_requests past) → past ≡ text → line_requests text ≡ [] → lines ≡ 0
-none_of past text lines is same none = is ∙ ap (λ l. length (line_requests l)) same ∙ ap length none
+none_of : (text : List ℕ) (lines : ℕ) → lines ≡ length (line_requests text) → line_requests text ≡ [] → lines ≡ 0
+none_of text lines is none = is ∙ ap length none
 
 -- and there is none where none was replayed
-no_lines : (past text : List ℕ) (lines : ℕ) → lines ≡ length (line_requests past) → past ≡ text → lines ≡ 0 → line_requests text ≡ []
-no_lines past text lines is same none = ap line_requests (sym same) ∙ nothing_in (line_requests past) (sym is ∙ none)
+no_lines : (text : List ℕ) (lines : ℕ) → lines ≡ length (line_requests text) → lines ≡ 0 → line_requests text ≡ []
+no_lines text lines is none = nothing_in (line_requests text) (sym is ∙ none)
   where
     nothing_in : (l : List Request) → length l ≡ 0 → l ≡ []
     nothing_in [] e = refl
@@ -140,58 +115,73 @@ err_if_known (Ok done) known A Told h f = tt
 err_if_known (Err fault) None A Told h f = tt
 err_if_known (Err fault) (Some input) A Told h f = f h
 
--- A desk that has what a journal gives back, and a place of a ledger.
-module _ {S : Type 0} {store : Ghosts S} (place : Place store) (sound_is_clean : (ledger : Held S) → place.IsSound ledger → HasCleanDisk (state store ledger)) (Fails : Type 0)
-    (fares rule past text : List ℕ) (is : past ≡ text) (begun : TimeZone × LocalParts × Replayed) (has : HasBegun (fares, rule, past) begun) where
-  abbrev texts : List ℕ × List ℕ × List ℕ
-  texts = (fares, rule, text)
+-- the same over another ledger before
+abbrev pub over : {K L R W : Type 0} → Before K L R W → L → Before K L R W
+over before ledger = record { keeper = before.keeper; ledger = ledger; reader = before.reader; writer = before.writer }
 
-  resumed : (ledger : Option LedgerParts) → Resumes texts ledger (machine_on begun.0 begun.1.shard ledger)
-  resumed ledger = resumes begun.0 has.tables begun.1.shard past has.replay.gives_back texts ledger has.says has.rule is
+-- What came of the lines over the ledger that was taken, which is what it was when it was opened.
+pub record RanLines {K S R W : Type 0} (store : Ghosts S) (known : Known K (Held S) R W) (begun : Begun) (taken : Held S) (before : Before K (Held S) R W) (after : After (Held S) R W) (ended : Result Done SessionFault) : Type 0 where
+  pub beside : IsTakenWith store before.ledger taken (nat_lt 0 begun.replayed.lines)
+  pub clean : IfSome (known.remaining before.reader) (λ _. HasCleanDisk (state store after.ledger) → HasCleanDisk (state store taken))
+  pub ends : LinesEnd known begun.zone begun.desk (over before taken) after ended
+  pub fails : LinesFail known begun.zone begun.desk (over before taken) after ended
 
-  pub fails_unopened : (fault : Fault) → IsOpenFault place.Refuses fault → RunFails place texts Fails fault
-  fails_unopened fault told = inr (inl (record { resumed = (machine_on begun.0 begun.1.shard None, resumed None); told = told }))
+module _ {K S R W : Type 0} (store : Ghosts S) (keeper : Keeping K) (remaining : R → Option (List ℕ)) (contents : W → Option (List ℕ)) (begun : Begun) where
+  abbrev known : Known K (Held S) R W
+  known = with_ledger_in store keeper remaining contents
 
-  module _ (opened : Held S) (opens : place.Opens opened) where
-    abbrev has_opened : HasOpened place texts
-    has_opened = record { resumed = (machine_on begun.0 begun.1.shard None, resumed None); opened = opened; opens = opens }
+  module _ (before : Before K (Held S) R W) (after : After (Held S) R W) (taken : Held S) (ended : Result Done SessionFault) (ran : RanLines store known begun taken before after ended) (texts : Texts) (has : HasBegun texts begun) where
+    abbrev has_line : Bool
+    has_line = nat_lt 0 begun.replayed.lines
 
-    taken_up : (later : Held S) → IsTakenWith store opened later (nat_lt 0 begun.2.lines) → HasCleanDisk (state store later) → IsTaken store texts opened
-    taken_up later beside clean = record {
-      clean = clean_before store opened later (nat_lt 0 begun.2.lines) beside clean;
-      bare = λ none. bare_without store opened later begun.2.lines (none_of past text begun.2.lines has.replay.lines is none) beside clean;
+    taken_up : HasCleanDisk (state store taken) → IsTaken known texts before.ledger
+    taken_up clean = record {
+      sound = clean_before store before.ledger taken has_line ran.beside clean;
+      bare = λ none. bare_without store before.ledger taken begun.replayed.lines (none_of texts.past begun.replayed.lines has.replay.lines none) ran.beside clean;
     }
 
-    left_alone : (last : Held S) (fault : Fault) → (begun.2.lines ≡ 0) × IsNotTakenAlone store opened last fault → IsLeftAlone place texts fault
-    left_alone last fault alone = record {
-      has = has_opened;
-      no_lines = no_lines past text begun.2.lines has.replay.lines is alone.0;
-      last = last;
-      clean = λ sound. let clean = sound_is_clean last sound in (was_clean store opened last alone.1.survives clean, clean);
+    over_found : HasCleanDisk (state store after.ledger) → (found : Option LedgerParts) → known.IsFound before.ledger found → HasCleanDisk (state store taken) → known.Has taken found
+    over_found clean None is was = absurd is
+    over_found clean (Some found) is was = same_ledger store before.ledger taken has_line ran.beside was found is
+
+    job : JobRan known texts before after ended
+    job = record {
+      taken = λ clean. if_known (remaining before.reader) _ _ ran.clean (λ was. taken_up (was clean));
+      over = λ clean found is. record {
+        machine = machine_on begun.zone begun.desk.shard found;
+        resumes = resumed texts begun has found;
+        ends = ok_if_known ended (remaining before.reader) _ _ ran.clean (λ was. ran.ends clean found (over_found clean found is (was clean)));
+        fails = err_if_known ended (remaining before.reader) _ _ ran.clean (λ was. ran.fails clean found (over_found clean found is (was clean)));
+      };
+    }
+
+  pub job_ran : (before : Before K (Held S) R W) (after : After (Held S) R W) (taken : Held S) (ended : Result Done SessionFault) → RanLines store known begun taken before after ended → HasRun known begun before after ended
+  job_ran before after taken ended ran texts has = job before after taken ended ran texts has
+
+-- the ledger was not taken beside the journal
+pub job_not_ran : {S : Type 0} (store : Ghosts S) (begun : Begun) (opened last : Held S) (fault : Fault) → IsNotTakenWith store opened last (nat_lt 0 begun.replayed.lines) fault → HasNotRun store begun opened last fault
+job_not_ran store begun opened last fault why texts has =
+    let alone = not_taken store opened last begun.replayed.lines fault why in
+    record {
+      no_lines = no_lines texts.past begun.replayed.lines has.replay.lines alone.0;
+      clean = was_clean store opened last alone.1.survives;
       why = alone.1;
     }
 
-    -- the ledger was not taken beside the journal, or it was, and this could not be cut
-    pub fails_behind : (last : Held S) (fault : Fault) → HasNotRun store Fails (nat_lt 0 begun.2.lines) opened last fault → RunFails place texts Fails fault
-    fails_behind last fault h = elim h [
-      | inl cut ↦ inr (inr (inr (cut.0, record { has = has_opened; last = last; taken = λ sound. taken_up last cut.1 (sound_is_clean last sound) }, cut.2)))
-      | inr alone ↦ inr (inr (inl (left_alone last fault (not_taken store opened last begun.2.lines fault alone))))
-    ]
-
-    pub job_ran : (held left written left_after written_after : Option (List ℕ)) (kept : KeptParts) (last : Held S) (ended : Result Done SessionFault)
-        → HasRun store Fails (begun, held, opened, left, written) (kept, last, left_after, written_after) ended
-        → JobRan place texts Fails (held, left, written) (kept, left_after, written_after) ended
-    job_ran held left written left_after written_after kept last ended ran = record {
-      first = ran.first;
-      cut = subst (λ n. IsCutTo n held ran.first) (has.replay.bytes ∙ ap whole_bytes is) ran.cut;
-      opened = opened;
-      opens = opens;
-      last = last;
-      taken = λ sound. if_known left _ _ ran.clean (λ before. taken_up ran.taken ran.beside (before (sound_is_clean last sound)));
-      over = λ sound found has. record {
-        machine = machine_on begun.0 begun.1.shard (Some found);
-        resumes = resumed (Some found);
-        ends = ok_if_known ended left _ _ ran.clean (λ before. let clean = sound_is_clean last sound in ran.ends clean found (same_ledger store opened ran.taken (nat_lt 0 begun.2.lines) ran.beside (before clean) found has));
-        fails = err_if_known ended left _ _ ran.clean (λ before. let clean = sound_is_clean last sound in ran.fails clean found (same_ledger store opened ran.taken (nat_lt 0 begun.2.lines) ran.beside (before clean) found has));
-      };
-    }
+-- without a ledger
+pub job_ran_alone : {K R W : Type 0} (keeper : Keeping K) (remaining : R → Option (List ℕ)) (contents : W → Option (List ℕ)) (begun : Begun) (before : Before K ⊤ R W) (after : After ⊤ R W) (ended : Result Done SessionFault)
+    → LinesEnd (without_ledger keeper remaining contents) begun.zone begun.desk before after ended → LinesFail (without_ledger keeper remaining contents) begun.zone begun.desk before after ended
+    → HasRun (without_ledger keeper remaining contents) begun before after ended
+job_ran_alone keeper remaining contents begun before after ended ends fails texts has = record {
+  taken = λ sound. always (remaining before.reader) _ (record { sound = tt; bare = λ none found is. absurd (cc) });
+  over = λ sound found is. record {
+    machine = machine_on begun.zone begun.desk.shard found;
+    resumes = resumed texts begun has found;
+    ends = ends sound found is;
+    fails = fails sound found is;
+  };
+}
+  where
+    always : (known : Option (List ℕ)) (A : Type 0) → A → IfSome known (λ _. A)
+    always None A a = tt
+    always (Some input) A a = a

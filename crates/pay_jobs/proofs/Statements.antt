@@ -12,18 +12,16 @@ use Rattle.pay_statement.specs.Words.{statement_text}
 use Rattle.pay_tables.specs.Words.{FareTables}
 use Rattle.pay_wire.specs.Words.{AppendsFront}
 use Rattle.pay_jobs.specs.Faults.{IsWantOfMemory, IsWeekFault}
-use Rattle.pay_jobs.specs.Machine.{Machine, new_machine}
-use Rattle.pay_jobs.specs.Outcomes.{outcome, AreAllPriced}
+use Rattle.pay_run.specs.Words.{Machine, new_machine, outcome, AreAllPriced, ZoneStays, TablesStay, LedgerStays, machine_past, IsPastAccepted, WeekTold, WeekNotTold}
+use Rattle.pay_jobs.specs.Texts.{Texts}
 use Rattle.pay_jobs.specs.Run.{Begins, Resumes}
 use Rattle.pay_jobs.specs.Statement.{WeekBreaks, PageFails, IsPage, StatementWritten, StatementRefused}
-use Rattle.pay_jobs.specs.Week.{machine_past, IsPastAccepted, WeekTold, WeekNotTold}
 use Rattle.pay_jobs.specs.declared.fault.Fault.{Fault}
 use Rattle.pay_jobs.specs.declared.fault.Fault.TheVariants.{Usage, CannotReadFares, BadZone, CannotListen, Input, Output, CannotUseJournal, JournalLine, JournalLineOf, Journal, LedgerAlone, Refused}
-use Rattle.pay_jobs.specs.declared.week.WeekFault.{WeekFault}
-use Rattle.pay_jobs.specs.declared.week.WeekFault.TheVariants.{Broken, NotAccepted, Memory}
-use Rattle.pay_jobs.proofs.Asked.{ends_behind, same_ledger}
+use Rattle.pay_run.specs.declared.week.WeekFault.{WeekFault}
+use Rattle.pay_run.specs.declared.week.WeekFault.TheVariants.{Broken, NotAccepted, Memory}
 
-pub not_told : (of : WeekFault) (fault : Fault) (texts : List ℕ × List ℕ × List ℕ) (reader : Option (List ℕ) × Option (List ℕ)) → IsWeekFault of fault → WeekBreaks of texts reader → PageFails fault texts reader
+pub not_told : (of : WeekFault) (fault : Fault) (texts : Texts) (reader : Option (List ℕ) × Option (List ℕ)) → IsWeekFault of fault → WeekBreaks of texts reader → PageFails fault texts reader
 not_told (Broken answered) fault texts reader is breaks = subst (λ f. PageFails f texts reader) (sym is) (answered, breaks)
 not_told (NotAccepted line why) fault texts reader is breaks = subst (λ f. PageFails f texts reader) (sym is) breaks
 not_told Memory (Refused number name) texts reader is breaks = inr (is, breaks)
@@ -40,51 +38,51 @@ not_told Memory Journal texts reader is breaks = absurd is
 not_told Memory LedgerAlone texts reader is breaks = absurd is
 
 -- the texts by which a page is made: a fare file and a zone that are read
-module _ (texts : List ℕ × List ℕ × List ℕ) (zone : TimeZone) (tables : FareTables) (says : fare_text texts.0 ≡ Ok tables) (rule : IsPosixZone texts.1 (plain_zone zone)) (reader : Option (List ℕ) × Option (List ℕ)) where
-  begins : Begins texts.0 texts.1 None (new_machine zone tables None)
+module _ (texts : Texts) (zone : TimeZone) (tables : FareTables) (says : fare_text texts.fares ≡ Ok tables) (rule : IsPosixZone texts.zone (plain_zone zone)) (reader : Option (List ℕ) × Option (List ℕ)) where
+  begins : Begins texts.fares texts.zone None (new_machine zone tables None)
   begins = record { says = says; rule = rule; new = refl; posted = refl }
 
-  pub week_not_told : (of : WeekFault) (fault : Fault) → IsWeekFault of fault → WeekNotTold zone tables texts.2 reader of → PageFails fault texts reader
+  pub week_not_told : (of : WeekFault) (fault : Fault) → IsWeekFault of fault → WeekNotTold zone tables texts.past reader of → PageFails fault texts reader
   week_not_told of fault is fails = not_told of fault texts reader is record { machine = new_machine zone tables None; begins = begins; fails = fails }
 
   -- the week was told, and memory for its text was refused
-  pub not_spelled : (fault : Fault) (of : ℕ × ℕ) (lines : List Line) → IsWantOfMemory fault → WeekTold zone tables texts.2 reader of lines → PageFails fault texts reader
+  pub not_spelled : (fault : Fault) (of : ℕ × ℕ) (lines : List Line) → IsWantOfMemory fault → WeekTold zone tables texts.past reader of lines → PageFails fault texts reader
   not_spelled fault of lines is tells = week_not_told Memory fault is (inr (IfSome_then reader.0 tells.1 (λ input t. inl t.unread)))
 
   -- the machine that the journal gives back
   abbrev past : Machine
-  past = machine_past zone tables texts.2
+  past = machine_past zone tables texts.past
 
-  in_zone : past.zone ≡ zone
-  in_zone = ap (λ (m : Machine). m.zone) (ends_behind [] (new_machine zone tables None) (line_requests texts.2))
+  in_zone : ZoneStays → past.zone ≡ zone
+  in_zone stays = stays [] (new_machine zone tables None) (line_requests texts.past)
 
-  by_tables : past.tables ≡ tables
-  by_tables = ap (λ (m : Machine). m.tables) (ends_behind [] (new_machine zone tables None) (line_requests texts.2))
+  by_tables : TablesStay → past.tables ≡ tables
+  by_tables stay = stay [] (new_machine zone tables None) (line_requests texts.past)
 
-  resumes : IsPastAccepted zone tables texts.2 → Resumes texts None past
-  resumes accepted =
-      let none : past.ledger ≡ None = same_ledger (new_machine zone tables None) (line_requests texts.2) accepted in
-      let as_new : new_machine past.zone past.tables past.ledger ≡ new_machine zone tables None = (λ i. new_machine (in_zone i) (by_tables i) (none i)) in
+  resumes : ZoneStays → TablesStay → LedgerStays → IsPastAccepted zone tables texts.past → Resumes texts None past
+  resumes zones fares ledgers accepted =
+      let none : past.ledger ≡ None = ledgers (new_machine zone tables None) (line_requests texts.past) accepted in
+      let as_new : new_machine past.zone past.tables past.ledger ≡ new_machine zone tables None = (λ i. new_machine (in_zone zones i) (by_tables fares i) (none i)) in
       record {
-        says = says ∙ ap Ok (sym by_tables);
-        rule = subst (λ z. IsPosixZone texts.1 (plain_zone z)) (sym in_zone) rule;
+        says = says ∙ ap Ok (sym (by_tables fares));
+        rule = subst (λ z. IsPosixZone texts.zone (plain_zone z)) (sym (in_zone zones)) rule;
         gives_back = record {
-          accepted = subst (λ m. AreAllPriced (outcome [] m (line_requests texts.2)).replies) (sym as_new) accepted;
-          machine = ap (λ m. (outcome [] m (line_requests texts.2)).after) as_new;
+          accepted = subst (λ m. AreAllPriced (outcome [] m (line_requests texts.past)).replies) (sym as_new) accepted;
+          machine = ap (λ m. (outcome [] m (line_requests texts.past)).after) as_new;
         };
         posted = none;
       }
 
-  pub page_stands : (of : ℕ × ℕ) (lines : List Line) (text : List ℕ) → WeekTold zone tables texts.2 reader of lines → text ≡ statement_text tables lines → IsPage texts of reader text
-  page_stands of lines text tells is = record {
+  pub page_stands : (zones : ZoneStays) (fares : TablesStay) (ledgers : LedgerStays) (of : ℕ × ℕ) (lines : List Line) (text : List ℕ) → WeekTold zone tables texts.past reader of lines → text ≡ statement_text tables lines → IsPage texts of reader text
+  page_stands zones fares ledgers of lines text tells is = record {
     machine = past;
-    resumes = resumes tells.0;
+    resumes = resumes zones fares ledgers tells.0;
     lines = lines;
     tells = tells.1;
-    says = is ∙ ap (λ t. statement_text t lines) (sym by_tables);
+    says = is ∙ ap (λ t. statement_text t lines) (sym (by_tables fares));
   }
 
-pub no_page : (fault : Fault) (texts : List ℕ × List ℕ × List ℕ) (of : ℕ × ℕ) (remaining left held : Option (List ℕ)) → PageFails fault texts (remaining, left) → StatementRefused texts of (remaining, held) (left, held) fault
+pub no_page : (fault : Fault) (texts : Texts) (of : ℕ × ℕ) (remaining left held : Option (List ℕ)) → PageFails fault texts (remaining, left) → StatementRefused texts of (remaining, held) (left, held) fault
 no_page Output texts of remaining left held fails = absurd fails
 no_page (Refused number name) texts of remaining left held fails = (fails, refl)
 no_page Usage texts of remaining left held fails = (fails, refl)
@@ -98,12 +96,12 @@ no_page (JournalLineOf journal line why) texts of remaining left held fails = (f
 no_page Journal texts of remaining left held fails = (fails, refl)
 no_page LedgerAlone texts of remaining left held fails = (fails, refl)
 
-pub page_written : {T E : Type 0} (r : Result T E) (texts : List ℕ × List ℕ × List ℕ) (of : ℕ × ℕ) (text : List ℕ) (remaining left held written : Option (List ℕ)) → IsPage texts of (remaining, left) text
+pub page_written : {T E : Type 0} (r : Result T E) (texts : Texts) (of : ℕ × ℕ) (text : List ℕ) (remaining left held written : Option (List ℕ)) → IsPage texts of (remaining, left) text
     → OnOk r (Appends held written text) → OnOk r (StatementWritten texts of (remaining, held) (left, written))
 page_written (Ok x) texts of text remaining left held written is h = (text, is, h)
 page_written (Err e) texts of text remaining left held written is h = tt
 
-pub page_broken : {T : Type 0} (r : Result T Fault) (texts : List ℕ × List ℕ × List ℕ) (of : ℕ × ℕ) (text : List ℕ) (remaining left held written : Option (List ℕ)) → IsPage texts of (remaining, left) text
+pub page_broken : {T : Type 0} (r : Result T Fault) (texts : Texts) (of : ℕ × ℕ) (text : List ℕ) (remaining left held written : Option (List ℕ)) → IsPage texts of (remaining, left) text
     → OnErr r (AppendsFront held written text) → IfErr r (λ fault. fault ≡ Output) → IfErr r (StatementRefused texts of (remaining, held) (left, written))
 page_broken (Ok x) texts of text remaining left held written is h e = tt
 page_broken (Err fault) texts of text remaining left held written is h e = rw e (text, is, h)

@@ -3,11 +3,13 @@ use Rattle.std.proofs.Common.{◌≡◌, ◌∙◌, ℕ, List, Option, Result, O
 use Rattle.pay_wire.specs.Words.{WriterCall, HasFault}
 use Rattle.pay_wire.specs.declared.refusal.Refusal.{Refusal}
 use Rattle.pay_session.specs.Words.{ReaderCall}
-use Rattle.pay_jobs.specs.Faults.{IsWantOfMemory, IsWeekFault, HasInputFault, HasCause}
+use Rattle.pay_jobs.specs.Faults.{IsWantOfMemory, IsWeekFault, HasCause}
+use Rattle.pay_jobs.specs.Texts.{Texts}
 use Rattle.pay_jobs.specs.Run.{IsRefused}
 use Rattle.pay_jobs.specs.Statement.{PageFails}
-use Rattle.pay_jobs.specs.declared.week.WeekFault.{WeekFault}
-use Rattle.pay_jobs.specs.declared.week.WeekFault.TheVariants.{Broken, NotAccepted, Memory}
+use Rattle.pay_run.specs.Words.{HasInputFault}
+use Rattle.pay_run.specs.declared.week.WeekFault.{WeekFault}
+use Rattle.pay_run.specs.declared.week.WeekFault.TheVariants.{Broken, NotAccepted, Memory}
 use Rattle.pay_jobs.specs.declared.fault.Fault.{Fault}
 use Rattle.pay_jobs.specs.declared.fault.Fault.TheVariants.{Usage, CannotReadFares, BadZone, CannotListen, Input, Output, CannotUseJournal, JournalLine, JournalLineOf, Journal, LedgerAlone, Refused}
 
@@ -46,7 +48,7 @@ if_output (Err fault) Cause h = λ _. h
 
 module _ {R W : Type 0} (reads : R → ReaderCall → R → Type 0) (writes : W → WriterCall → W → Type 0) (before reader : R) (writer : W) where
   -- where there is no page nothing was written
-  pub page_cause : (fault : Fault) (texts : List ℕ × List ℕ × List ℕ) (known : Option (List ℕ) × Option (List ℕ)) → PageFails fault texts known → (fault ≡ Input → HasInputFault reads before reader)
+  pub page_cause : (fault : Fault) (texts : Texts) (known : Option (List ℕ) × Option (List ℕ)) → PageFails fault texts known → (fault ≡ Input → HasInputFault reads before reader)
       → HasCause reads writes fault before reader writer
   page_cause Input texts known fails cause = cause refl
   page_cause Output texts known fails cause = absurd fails

@@ -11,8 +11,9 @@ use Rattle.pay_rules.specs.declared.fix.What.TheVariants as what
 use Rattle.pay_shard.specs.declared.asked.Asked.{Asked}
 use Rattle.pay_shard.specs.declared.asked.Asked.TheVariants as asked
 use Rattle.pay_wire.specs.declared.command.Command.{Command}
-use Rattle.pay_session.specs.Lines.{spelled_what}
-use Rattle.pay_session.specs.Words.{line_requests, rest_of, spelled_of}
+use Rattle.pay_journal.specs.Lines.{spelled_what}
+use Rattle.pay_session.specs.Words.{line_requests, rest_of}
+use Rattle.pay_journal.specs.Words.{spelled_of}
 use Rattle.pay_session.specs.declared.request.Request.{Request}
 use Rattle.pay_jobs.specs.Replays.{IsStoppedAt, IsStoppedAmong, all_requests, instant_in, instant_in_what, instant_of, instant_of_what, rests}
 use Rattle.pay_jobs.specs.declared.fault.Fault.{Fault}

@@ -1,6 +1,5 @@
 -- How a program ends where it fails: its status, and the refusal that a fault is.
-use Rattle.std.specs.Prelude.{◌≡◌, ◌⊎◌, ℕ, Bool, true, false, List, Result, Ok, Err, codes, ⊤}
-use Rattle.std.specs.declared.io.ErrorKind.{ErrorKind}
+use Rattle.std.specs.Prelude.{◌≡◌, ℕ, Bool, true, false, List, Result, Ok, Err, codes, ⊤}
 use Rattle.pay_jobs.specs.declared.fault.Fault.{Fault}
 use Rattle.pay_jobs.specs.declared.fault.Fault.TheVariants.{Usage, CannotListen, Input, Output, JournalLine, JournalLineOf, Journal, Refused}
 use Rattle.pay_rules.specs.declared.post_fault.PostFault.TheVariants as post_fault
@@ -9,16 +8,16 @@ use Rattle.pay_ledger.specs.declared.fault.LedgerFault.{LedgerFault}
 use Rattle.pay_ledger.specs.declared.fault.LedgerFault.TheVariants as ledger_fault
 use Rattle.pay_ledger.specs.declared.fault.OpenFault.{OpenFault}
 use Rattle.pay_wire.specs.Words.{WriterCall}
-use Rattle.pay_session.specs.Words.{ReaderCall, FailsBy, IsLastFill, HasNoEnd, IsBroken}
-use Rattle.pay_session.specs.declared.replaying.ReplayFault.{ReplayFault}
-use Rattle.pay_session.specs.declared.replaying.ReplayFault.TheVariants as replaying
+use Rattle.pay_session.specs.Words.{ReaderCall, IsBroken}
+use Rattle.pay_journal.specs.declared.replaying.ReplayFault.{ReplayFault}
+use Rattle.pay_journal.specs.declared.replaying.ReplayFault.TheVariants as replaying
 use Rattle.pay_session.specs.declared.sessions.Done.{Done}
 use Rattle.pay_session.specs.declared.stop.SessionFault.{SessionFault}
 use Rattle.pay_session.specs.declared.stop.SessionFault.TheVariants.{Read, Write}
 use Rattle.pay_serve.specs.declared.fault.ServeFault.{ServeFault}
 use Rattle.pay_serve.specs.declared.fault.ServeFault.TheVariants as serving
-use Rattle.pay_jobs.specs.declared.week.WeekFault.{WeekFault}
-use Rattle.pay_jobs.specs.declared.week.WeekFault.TheVariants.{Broken, NotAccepted, Memory}
+use Rattle.pay_run.specs.declared.week.WeekFault.{WeekFault}
+use Rattle.pay_run.specs.declared.week.WeekFault.TheVariants.{Broken, NotAccepted, Memory}
 
 -- refused words end with 2, and every other fault with 1
 abbrev pub status_of : Fault → ℕ
@@ -49,10 +48,6 @@ IsWantOfMemory fault = IsRefusal fault 90 (codes "Memory")
 abbrev pub IsWantOfLedger : Fault → Type 0
 IsWantOfLedger fault = IsRefusal fault 43 (codes "Store")
 
--- no ledger was opened, for one of these causes
-abbrev pub IsOpenFault : (OpenFault → Type 0) → Fault → Type 0
-IsOpenFault Refuses fault = (why : OpenFault) × Refuses why × IsRefusal fault (open_fault_number why) (open_fault_name why)
-
 -- what a ledger archives was not read: for its store, for want of memory, or as it is no account's
 abbrev pub IsUnread : LedgerFault → Fault → Type 0
 IsUnread ledger_fault.Store fault = IsWantOfLedger fault
@@ -79,10 +74,6 @@ IsServeFault serving.Memory fault = IsWantOfMemory fault
 IsServeFault (serving.JournalLine journal line why) fault = fault ≡ JournalLineOf journal line why
 IsServeFault serving.Journal fault = fault ≡ Journal
 IsServeFault serving.Output fault = fault ≡ Output
-
--- With what a reader may answer, from before to after: its last fill failed and was not interrupted, or it was filled too often.
-abbrev pub HasInputFault : {R : Type 0} → (R → ReaderCall → R → Type 0) → R → R → Type 0
-HasInputFault reads before reader = ((kind : ErrorKind) × IsLastFill reads (FailsBy reads kind) before reader) ⊎ HasNoEnd reads before reader
 
 -- With what a reader and a writer may answer, from the reader before to both after: the fault of a stream comes from what it answered.
 module _ {R W : Type 0} (reads : R → ReaderCall → R → Type 0) (writes : W → WriterCall → W → Type 0) where

@@ -10,24 +10,18 @@ use Rattle.pay_rules.specs.declared.fix.What.{What}
 use Rattle.pay_rules.specs.declared.fix.What.TheVariants as what
 use Rattle.pay_shard.specs.declared.asked.Asked.{Asked}
 use Rattle.pay_shard.specs.declared.asked.Asked.TheVariants as asked
-use Rattle.pay_shard.specs.declared.item.Item.{Item}
 use Rattle.pay_tables.specs.Words.{FareTables}
 use Rattle.pay_wire.specs.Words.{AppendsFront}
 use Rattle.pay_wire.specs.declared.command.Command.{Command}
 use Rattle.pay_wire.specs.declared.command.Command.TheVariants as command
 use Rattle.pay_wire.specs.declared.command.SpelledWhat.{SpelledWhat}
 use Rattle.pay_wire.specs.declared.command.SpelledWhat.TheVariants as spelled
-use Rattle.pay_session.specs.Words.{asks_of, line_requests, rest_of}
-use Rattle.pay_session.specs.declared.asks.Asks.{Asks}
-use Rattle.pay_session.specs.declared.asks.Asks.TheVariants as asks
-use Rattle.pay_session.specs.declared.replaying.ReplayFault.{ReplayFault}
-use Rattle.pay_session.specs.declared.replaying.ReplayFault.TheVariants as replaying
+use Rattle.pay_session.specs.Words.{line_requests, rest_of}
+use Rattle.pay_journal.specs.declared.replaying.ReplayFault.{ReplayFault}
+use Rattle.pay_journal.specs.declared.replaying.ReplayFault.TheVariants as replaying
 use Rattle.pay_session.specs.declared.request.Request.{Request}
 use Rattle.pay_jobs.specs.Faults.{IsWantOfMemory}
-use Rattle.pay_jobs.specs.Journals.{machine_of}
-use Rattle.pay_jobs.specs.Machine.{Machine, new_machine}
-use Rattle.pay_jobs.specs.Outcomes.{outcome, AreAllPriced}
-use Rattle.pay_jobs.specs.Past.{IsNotReplayed}
+use Rattle.pay_run.specs.Words.{commands_of, machine_of, Machine, new_machine, outcome, AreAllPriced, IsNotReplayed}
 use Rattle.pay_jobs.specs.Run.{Begins, IsRefused, IsBadZone}
 use Rattle.pay_jobs.specs.declared.fault.Fault.{Fault}
 use Rattle.pay_jobs.specs.declared.fault.Fault.TheVariants.{BadZone, JournalLineOf, Output, Refused}
@@ -86,17 +80,6 @@ list_of None = []
 list_of (Some x) = x ∷ []
 
 -- ---- what is told of journals
-
--- the commands that requests ask for, and those of a shard's journal
-abbrev pub command_of : Asks → List Asked
-command_of (asks.Put a) = a ∷ []
-command_of _ = []
-
-abbrev pub commands_of : TimeZone → List Request → List Asked
-commands_of zone requests = flat_map (λ (r : Request). command_of (asks_of zone r)) requests
-
-abbrev pub commands_in : List Item → List Asked
-commands_in items = map (λ (i : Item). i.entry.command) items
 
 -- how many commands there are, how many accounts they are of, and their first and last instant; with how many bytes were left over
 abbrev pub summary_of : List Asked → ℕ → Summary

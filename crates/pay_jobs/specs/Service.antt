@@ -1,40 +1,23 @@
--- How the job serve ends, by the texts of its fare file, its zone and its journals, and by the ledger that is opened for it.
-use Rattle.std.specs.Prelude.{◌≡◌, ◌⊎◌, ℕ, Bool, true, false, List, [], ◌∷◌, map, Option, Result, Ok, Err, IsErr, codes, refl, ⊤}
+-- How the job serve ends, by its fare file, its zone and its journals, and by the ledger that is opened for it.
+use Rattle.std.specs.Prelude.{◌≡◌, ◌⊎◌, ℕ, Bool, true, false, List, [], ◌∷◌, Option, Result, Ok, Err, IsErr, codes, refl, ⊤}
 use Rattle.std.specs.List.{list_any}
-use Rattle.jiff.specs.Placed.{IsPosixZone}
-use Rattle.jiff.specs.ZoneView.{plain_zone}
-use Rattle.jiff.specs.declared.tz.timezone.TimeZone.{TimeZone}
 use Rattle.sqlite.specs.Held.{Held, state}
 use Rattle.sqlite.specs.Store.{Ghosts}
-use Rattle.pay_tables.specs.Words.{FareTables}
-use Rattle.pay_fare_file.specs.Words.{fare_text}
 use Rattle.pay_records.specs.Words.{LeavesAsBefore}
 use Rattle.pay_session.specs.Words.{has_newline}
-use Rattle.pay_kept.specs.declared.keeper.Keeper.{Ghosts as Keeping}
-use Rattle.pay_keeping.specs.Words.{HoldsPassed}
+use Rattle.pay_journal.specs.declared.keeper.Keeper.{Ghosts as Keeping}
+use Rattle.pay_serve.specs.Words.{HoldsPassed}
 use Rattle.pay_wire.specs.Words.{WriterCall, HasFault}
-use Rattle.pay_serve.specs.Words.{IsOutOfPlan, Terms, terms, IsServedBy, IsStopped}
+use Rattle.pay_close.specs.Closes.{Closes}
+use Rattle.pay_wire.specs.declared.refusal.Refusal.TheVariants.{NotHere}
+use Rattle.pay_session.specs.declared.till.NoTill.{NoTill}
+use Rattle.pay_serve.specs.Words.{Closing, IsOutOfPlan, Terms, IsServedBy, IsStopped}
 use Rattle.pay_serve.specs.declared.fault.ServeFault.{ServeFault}
 use Rattle.pay_serve.specs.declared.plan.Plan.{Plan}
 use Rattle.pay_jobs.specs.Alone.{IsTakenWith, IsNotTakenWith}
-use Rattle.pay_jobs.specs.Faults.{IsOpenFault, IsServeFault}
-use Rattle.pay_jobs.specs.Places.{Place}
-use Rattle.pay_jobs.specs.Run.{IsRefused, IsBadZone}
+use Rattle.pay_jobs.specs.Faults.{IsServeFault}
 use Rattle.pay_jobs.specs.declared.fault.Fault.{Fault}
 use Rattle.pay_jobs.specs.declared.fault.Fault.TheVariants.{BadZone, CannotListen, Output, JournalLineOf, Journal, LedgerAlone, Refused}
-
--- What a service begins with: the texts of its fare file, its zone and its journals, its keepers, and its plan.
-abbrev pub Setup : Type 0 → Type 0
-Setup K = List ℕ × List ℕ × List (List ℕ) × List K × Plan
-
--- The fare file and the zone are read, and these they are.
-pub record AreRead {K : Type 0} (setup : Setup K) (tables : FareTables) (zone : TimeZone) : Type 0 where
-  pub says : fare_text setup.0 ≡ Ok tables
-  pub rule : IsPosixZone setup.1 (plain_zone zone)
-
--- by these terms it then serves
-abbrev pub terms_of : {K : Type 0} → Keeping K → Setup K → FareTables → TimeZone → Terms
-terms_of keeper setup tables zone = terms tables zone setup.2 (map keeper.holds setup.3) setup.4.close
 
 -- whether one of these journals has a whole line
 abbrev pub have_line : List (List ℕ) → Bool
@@ -53,7 +36,7 @@ module _ {K S : Type 0} (keeper : Keeping K) (store : Ghosts S) where
     pub begun : Held S
     pub taken : IsTakenWith store before.0 begun (have_line terms.texts)
     pub ended : Result Bool ServeFault
-    pub served : IsServedBy (HoldsPassed keeper.holds keeper.HasFailed keeper.IsSettled) terms (state store begun, before.1) (state store after.0, after.1) ended
+    pub served : IsServedBy (HoldsPassed keeper.holds keeper.HasFailed keeper.IsSettled) terms (λ of put answer. Closes (state store begun) (state store after.0) of put answer) before.1 after.1 ended
     pub told : IsToldAs ended result
 
   -- Or this was not come to, nothing was written, and the ledger is as it was.
@@ -66,30 +49,28 @@ abbrev pub FailsToServe : {S : Type 0} → Ghosts S → Terms → Held S → Fau
 FailsToServe {S} store terms opened fault =
     ((read : Held S) × IsNotTakenWith store opened read (have_line terms.texts) fault) ⊎ ((why : ServeFault) × IsServeFault why fault × IsStopped terms why)
 
--- The texts were read, a ledger was opened at its place, and the service was held. The streams are what the writer held and what it holds.
-pub record IsHeld {K S : Type 0} {store : Ghosts S} (keeper : Keeping K) (place : Place store) (setup : Setup K) (streams : Option (List ℕ) × Option (List ℕ)) (result : Result Bool Fault) : Type 0 where
-  pub tables : FareTables
-  pub zone : TimeZone
-  pub read : AreRead setup tables zone
-  pub opened : Held S
-  pub opens : place.Opens opened
-  pub left : Held S
-  pub served : IsServedInto keeper store (terms_of keeper setup tables zone) (opened, streams.0) (left, streams.1) result
+-- ---- without a ledger
 
-module _ {K S : Type 0} {store : Ghosts S} (keeper : Keeping K) (place : Place store) where
-  -- The service was held, or it was not come to, and nothing was written.
-  abbrev pub Serves : Setup K → Option (List ℕ) × Option (List ℕ) → Result Bool Fault → Type 0
-  Serves setup streams result = IsHeld keeper place setup streams result ⊎ (IsErr result × (streams.1 ≡ streams.0))
+-- a close that asks for nothing and is refused, as there is no ledger
+abbrev pub IsNotHere : NoTill → NoTill → Closing
+IsNotHere before after of put answer = (put ≡ []) × (answer ≡ Err NotHere) × (after ≡ before)
 
-  -- no ledger was opened, or one was, and nothing is served over it any more
-  abbrev pub IsBehindTexts : Terms → Fault → Type 0
-  IsBehindTexts terms fault = IsOpenFault place.Refuses fault ⊎ ((opened : Held S) × place.Opens opened × FailsToServe store terms opened fault)
+module _ {K : Type 0} (keeper : Keeping K) where
+  -- All connections were served by these terms, and the close was refused, which is told.
+  pub record IsServedAlone (terms : Terms) (before after : Option (List ℕ)) (result : Result Bool Fault) : Type 0 where
+    pub till : NoTill
+    pub till_after : NoTill
+    pub ended : Result Bool ServeFault
+    pub served : IsServedBy (HoldsPassed keeper.holds keeper.HasFailed keeper.IsSettled) terms (IsNotHere till till_after) before after ended
+    pub told : IsToldAs ended result
 
-  -- Why nothing is served any more: the fare file; or, if it is read, the zone; or, if that is read too, the ledger, a port or the service.
-  abbrev pub ServiceFails : Setup K → Fault → Type 0
-  ServiceFails setup fault =
-      IsRefused fault setup.0 ⊎ ((fault ≡ BadZone) × IsBadZone setup.0 setup.1)
-      ⊎ ((tables : FareTables) × (zone : TimeZone) × AreRead setup tables zone × IsBehindTexts (terms_of keeper setup tables zone) fault)
+  -- Or this was not come to, and nothing was written.
+  abbrev pub IsServedAloneOrNot : Terms → Option (List ℕ) → Option (List ℕ) → Result Bool Fault → Type 0
+  IsServedAloneOrNot terms before after result = IsServedAlone terms before after result ⊎ (IsErr result × (after ≡ before))
+
+-- what such a service ended with
+abbrev pub FailsAlone : Terms → Fault → Type 0
+FailsAlone terms fault = (why : ServeFault) × IsServeFault why fault × IsStopped terms why
 
 -- With what a writer may answer, and whether something may not be kept: an output fault comes from what the writer answered last, a journal
 -- fault only where a keeper may fail, and 32 from the counts of the plan.

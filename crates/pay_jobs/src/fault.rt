@@ -4,12 +4,13 @@ ghost use Rattle.pay_jobs.specs.Faults.{IsRefusal, IsWantOfMemory, IsUnread, IsR
 ghost use Rattle.pay_fare_file.specs.Words.{fault_number, fault_name};
 ghost use Rattle.pay_ledger.specs.Words.{open_fault_number, open_fault_name};
 
-use crate::week::WeekFault;
 use pay_fare_file::FareFileFault;
+use pay_journal::ReplayFault;
 use pay_ledger::{LedgerFault, OpenFault};
 use pay_rules::PostFault;
+use pay_run::WeekFault;
 use pay_serve::ServeFault;
-use pay_session::{ReplayFault, SessionFault};
+use pay_session::SessionFault;
 use pay_wire::Refusal;
 use std::alloc::AllocError;
 use thiserror::Error;
@@ -35,7 +36,7 @@ pub enum Fault {
     /// Standard output failed.
     #[error("farebox: output fault")]
     Output,
-    /// The journal cannot be opened or read, or what stands behind its last newline cannot be cut off.
+    /// The journal cannot be opened or read.
     #[error("farebox: cannot use journal")]
     CannotUseJournal,
     /// The line of this number of the journal, from 1, is not accepted.

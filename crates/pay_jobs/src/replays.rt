@@ -8,16 +8,16 @@ ghost use Rattle.pay_session.specs.Words.{line_requests, rest_of};
 ghost use Rattle.pay_session.specs.declared.request.Request.{Request};
 ghost use Rattle.pay_tables.specs.Words.{FareTables};
 ghost use Rattle.pay_wire.specs.Words.{IsFlushed, HasFault};
-ghost use Rattle.pay_jobs.specs.Past.{HasReplayed};
-ghost use Rattle.pay_jobs.specs.Replays.{ReplayWritten, ReplayRefused, IsFaultOf, IsStoppedAt, IsStoppedAmong, IsSummed, IsNotSummed, account_of, all_requests, commands_in, each_once, instant_in, instant_in_what, instant_of, last_of, list_of, rests, sooner, summary_line, summary_of};
+ghost use Rattle.pay_run.specs.Words.{commands_in, HasReplayed, IsReplayedBehind};
+ghost use Rattle.pay_jobs.specs.Replays.{ReplayWritten, ReplayRefused, IsFaultOf, IsStoppedAt, IsStoppedAmong, IsSummed, IsNotSummed, account_of, all_requests, each_once, instant_in, instant_in_what, instant_of, last_of, list_of, rests, sooner, summary_line, summary_of};
 
 use crate::fault::Fault;
-use crate::lines::new_desk;
 use crate::output::write_text;
 use crate::run::{read_fares, read_zone};
 use jiff::tz::TimeZone;
 use pay_book::Book;
-use pay_session::{ReplayFault, replay, spelled_of};
+use pay_journal::{ReplayFault, spelled_of};
+use pay_run::{new_desk, replay_more, replayed_lines};
 use pay_shard::{Asked, Command, Journal, LocalDesk};
 use pay_wire::{SpelledWhat, ToldWriter};
 use std::alloc::{AllocError, Global};
@@ -66,8 +66,8 @@ fn summed(alloc: Global, fares: &str, zone: &str, texts: &[Vec<u8>]) -> Result<S
     let zone = read_zone(zone)?;
     let mut desk = new_desk(alloc, tables);
     let rest = replay_each(&mut desk, &zone, texts)?;
-    // Each of the journal's entries was asked for by its line.
-    pay_session::laws::one_line();
+    // What was replayed is what the journal has.
+    replayed_lines(&desk);
     let summary = summed_up(alloc, desk.shard().journal(), rest)?;
     let line = summary_line(alloc, summary)?;
     Ok(line)
@@ -81,14 +81,10 @@ fn replay_text(
     journal: u64,
 ) -> Result<u64, Fault>
     ensures rest { IfOk result (λ rest. rest ≡ length (rest_of text.now)) }
-    ensures replayed { OnOk result ((tables : FareTables) (before : List Request) → HasReplayed zone.now tables desk.old before → HasReplayed zone.now tables desk.new (before ++ line_requests text.now)) }
+    ensures replayed { OnOk result (IsReplayedBehind zone.now desk.old desk.new (line_requests text.now)) }
     ensures stopped { IfErr result (λ fault. (tables : FareTables) (before : List Request) → HasReplayed zone.now tables desk.old before → IsStoppedAt zone.now tables before text.now journal fault) }
 {
-    let ended = replay(text, zone, desk);
-    // The journal's entries stand at their tickets, and each was asked for by its line.
-    let _ = desk.shard();
-    pay_session::laws::one_line();
-    match ended {
+    match replay_more(desk, zone, text) {
         Ok(replayed) => Ok(text.len() as u64 - replayed.bytes),
         Err(fault) => Err(fault_of(journal, fault)),
     }

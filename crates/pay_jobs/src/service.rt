@@ -1,33 +1,30 @@
-//! The job `serve`, by the texts of its fare file, its zone and its journals: all that the program does below the reading of files.
+//! The job `serve`, by its fare file, its zone and its journals, over the ledger that was opened for it: the second step of a service, behind
+//! [`begin_service`](crate::begin_service).
 ghost use Rattle.std.specs.Prelude.{◌≡◌, length, map, vec_items, IfErr, OnOk};
-ghost use Rattle.std.specs.Arc.{arc_value};
-ghost use Rattle.sqlite.specs.WalFiles.{image_at};
+ghost use Rattle.sqlite.specs.Held.{state};
 ghost use Rattle.pay_wire.specs.Words.{IsFlushed};
 ghost use Rattle.pay_day.specs.Words.{IsDay};
-ghost use Rattle.pay_kept.specs.Words.{CanFail};
+ghost use Rattle.pay_close.specs.Closes.{Closes};
+ghost use Rattle.pay_journal.specs.Words.{CanFail};
+ghost use Rattle.pay_serve.specs.Words.{HoldsPassed};
 ghost use Rattle.pay_session.specs.Words.{has_newline};
-ghost use Rattle.pay_serve.specs.Words.{IsOutOfPlan, terms};
-ghost use Rattle.pay_jobs.specs.Places.{in_memory, in_file};
-ghost use Rattle.pay_jobs.specs.Service.{have_line, IsServedOrNot, FailsToServe, Serves, ServiceFails, HasServiceCause};
+ghost use Rattle.pay_serve.specs.Words.{IsOutOfPlan, IsServeCause, IsServed, IsStopped, terms_of};
+ghost use Rattle.pay_jobs.specs.Service.{have_line, FailsAlone, FailsToServe, HasServiceCause, IsServedAloneOrNot, IsServedOrNot};
 
 use crate::fault::Fault;
-use crate::ledger::{LedgerFile, new_ledger, take_with};
-use crate::run::{read_fares, read_zone};
-use jiff::tz::TimeZone;
-use pay_disk::ScratchFile;
-use pay_keeping::whole_bytes;
-use pay_kept::Keeper;
+use crate::ledger::take_with;
+use pay_book::Book;
+use pay_close::LedgerTill;
+use pay_journal::{Keeper, whole_bytes};
 use pay_ledger::Ledger;
-use pay_ledger_files::Ledgers;
-use pay_serve::{Plan, listen, serve};
-use pay_tables::Tables;
+use pay_serve::{Given, Plan, ServeFault, listen};
+use pay_session::NoTill;
 use pay_wire::ToldWriter;
-use sqlite::{Alter, FileFrom, Start};
-use sqlite_disk::Disk;
+use sqlite::Alter;
 use std::alloc::Global;
 use std::io::Eprint;
 use std::net::{Net, TcpListener, TcpStream};
-use std::sync::{Arc, Wait};
+use std::sync::Wait;
 use std::thread::Threads;
 
 /// Says on standard error where it listens.
@@ -60,15 +57,42 @@ fn has_one_line(texts: &[Vec<u8>]) -> bool
     false
 }
 
-/// Serves the connections of a plan over a ledger that was opened, and closes the plan's day into it when all have ended.
-fn serve_over<R, K, S: Alter, W: ToldWriter>(
+/// Serves the connections of what is given, and closes its day into a ledger that was taken.
+fn serve_into<R, K, S: Alter, W: ToldWriter>(
     rt: R,
     alloc: Global,
-    tables: Arc<Tables>,
-    zone: TimeZone<'static>,
-    plan: &Plan,
-    texts: &[Vec<u8>],
-    keepers: Vec<K>,
+    given: Given<'_, K>,
+    listeners: Vec<TcpListener>,
+    ledger: &mut Ledger<S>,
+    writer: &mut W,
+) -> Result<bool, ServeFault>
+where
+    R: Threads + Wait + Copy + Send + 'static,
+    K: Keeper + Send + 'static,
+    requires day { IsDay given.plan.close }
+    requires keepers { length given.keepers.items ≡ given.plan.shards }
+    requires listeners { length listeners.items ≡ given.plan.lanes }
+    ensures served { IsServed (HoldsPassed K.holds K.HasFailed K.IsSettled) (terms_of K.Keeper given.entry) (λ of put answer. Closes (state S.Store ledger.old) (state S.Store ledger.new) of put answer)
+        (W.contents writer.old, W.contents writer.new) result ((ledger.new ≡ ledger.old) × (writer.new ≡ writer.old)) }
+    ensures stopped { IfErr result (IsStopped (terms_of K.Keeper given.entry)) }
+    ensures flushed { OnOk result (IsFlushed W.Tells writer.new) }
+    ensures within { OnOk result (IsOutOfPlan given.entry.plan → ⊥) }
+    ensures cause { IfErr result (λ fault. IsServeCause W.Tells (CanFail K.HasFailed) given.entry.plan fault writer.new) }
+{
+    let mut till = LedgerTill::new(alloc, ledger);
+    pay_serve::serve::<Book, R, K, LedgerTill<'_, S>, W>(
+        rt, alloc, given, listeners, &mut till, writer,
+    )
+}
+
+/// Serves the connections of a plan by a fare file and the clock of a zone, and closes the plan's day into a ledger when all have ended.
+/// Whether the day was closed; if not, its refusal is written. The lines of journals, which are given by their numbers from 0 on, are
+/// taken again before the first connection; and each shard has a keeper of what it newly accepts. A ledger that archives something needs
+/// its journals: where none of them has a whole line, it gives `LedgerAlone`, and no port is taken.
+pub fn serve<R, K, S: Alter, W: ToldWriter>(
+    rt: R,
+    alloc: Global,
+    given: Given<'_, K>,
     ledger: &mut Ledger<S>,
     writer: &mut W,
 ) -> Result<bool, Fault>
@@ -81,37 +105,26 @@ where
         + Send
         + 'static,
     K: Keeper + Send + 'static,
-    requires day { IsDay plan.now.close }
-    requires keepers { length keepers.items ≡ plan.now.shards }
-    ensures served { IsServedOrNot K.Keeper S.Store (terms (arc_value tables) zone.entry (map vec_items texts.now) (map K.holds keepers.items) plan.now.close)
-        (ledger.old, W.contents writer.old) (ledger.new, W.contents writer.new) result }
-    ensures fails { IfErr result (FailsToServe S.Store (terms (arc_value tables) zone.entry (map vec_items texts.now) (map K.holds keepers.items) plan.now.close) ledger.old) }
+    requires day { IsDay given.plan.close }
+    requires keepers { length given.keepers.items ≡ given.plan.shards }
+    ensures served { IsServedOrNot K.Keeper S.Store (terms_of K.Keeper given.entry) (ledger.old, W.contents writer.old) (ledger.new, W.contents writer.new) result }
+    ensures fails { IfErr result (FailsToServe S.Store (terms_of K.Keeper given.entry) ledger.old) }
     ensures flushed { OnOk result (IsFlushed W.Tells writer.new) }
-    ensures within { OnOk result (IsOutOfPlan plan.now → ⊥) }
-    ensures cause { IfErr result (λ fault. HasServiceCause W.Tells (CanFail K.HasFailed) plan.now fault writer.new) }
+    ensures within { OnOk result (IsOutOfPlan given.entry.plan → ⊥) }
+    ensures cause { IfErr result (λ fault. HasServiceCause W.Tells (CanFail K.HasFailed) given.entry.plan fault writer.new) }
 {
-    take_with(ledger, has_one_line(texts))?;
-    let listeners = listen(&rt, alloc, plan)?;
-    tell_ports(&rt, plan);
-    let closed = serve(
-        rt, alloc, listeners, tables, zone, plan, texts, keepers, ledger, writer,
-    )?;
+    take_with(ledger, has_one_line(given.texts))?;
+    let listeners = listen(&rt, alloc, &given.plan)?;
+    tell_ports(&rt, &given.plan);
+    let closed = serve_into(rt, alloc, given, listeners, ledger, writer)?;
     Ok(closed)
 }
 
-/// Serves the connections of a plan by the fares of a fare file and the clock of a zone, which are given as texts, and closes the
-/// plan's day when all have ended, into a ledger in memory, which ends with the service. Whether the day was closed; if not, its
-/// refusal is written. The fare file is read before the zone, and both before a port is taken. The lines of journals, which are given
-/// as texts by their numbers from 0 on, are taken again before the first connection; and each shard has a keeper of what it newly
-/// accepts.
-pub fn serve_texts<R, K, W: ToldWriter>(
+/// The same without a ledger: the day is not closed, and its refusal `NO 34 NotHere` is written.
+pub fn serve_without_ledger<R, K, W: ToldWriter>(
     rt: R,
     alloc: Global,
-    fares: &str,
-    zone: &str,
-    plan: &Plan,
-    texts: &[Vec<u8>],
-    keepers: Vec<K>,
+    given: Given<'_, K>,
     writer: &mut W,
 ) -> Result<bool, Fault>
 where
@@ -123,76 +136,23 @@ where
         + Send
         + 'static,
     K: Keeper + Send + 'static,
-    requires day { IsDay plan.now.close }
-    requires keepers { length keepers.items ≡ plan.now.shards }
-    ensures served { Serves K.Keeper (in_memory {g = ⟦<ScratchFile as Disk>⟧}) (fares.now, zone.now, map vec_items texts.now, keepers.items, plan.now)
-        (W.contents writer.old, W.contents writer.new) result }
-    ensures fails { IfErr result (ServiceFails K.Keeper (in_memory {g = ⟦<ScratchFile as Disk>⟧}) (fares.now, zone.now, map vec_items texts.now, keepers.items, plan.now)) }
+    requires day { IsDay given.plan.close }
+    requires keepers { length given.keepers.items ≡ given.plan.shards }
+    ensures served { IsServedAloneOrNot K.Keeper (terms_of K.Keeper given.entry) (W.contents writer.old) (W.contents writer.new) result }
+    ensures fails { IfErr result (FailsAlone (terms_of K.Keeper given.entry)) }
     ensures flushed { OnOk result (IsFlushed W.Tells writer.new) }
-    ensures within { OnOk result (IsOutOfPlan plan.now → ⊥) }
-    ensures cause { IfErr result (λ fault. HasServiceCause W.Tells (CanFail K.HasFailed) plan.now fault writer.new) }
+    ensures within { OnOk result (IsOutOfPlan given.entry.plan → ⊥) }
+    ensures cause { IfErr result (λ fault. HasServiceCause W.Tells (CanFail K.HasFailed) given.entry.plan fault writer.new) }
 {
-    let tables = read_fares(alloc, fares)?;
-    let zone = read_zone(zone)?;
-    let mut ledger = new_ledger(alloc)?;
-    serve_over(
+    let listeners = listen(&rt, alloc, &given.plan)?;
+    tell_ports(&rt, &given.plan);
+    let closed = pay_serve::serve::<Book, R, K, NoTill, W>(
         rt,
         alloc,
-        tables,
-        zone,
-        plan,
-        texts,
-        keepers,
-        &mut ledger,
+        given,
+        listeners,
+        &mut NoTill,
         writer,
-    )
-}
-
-/// The same over a ledger in a file, which is opened behind the zone and before a port is taken. One that archives something needs its
-/// journals: where none of them has a whole line, it gives `LedgerAlone`. In the end, what the ledger's log has is copied into its file.
-pub fn serve_texts_into_file<R, K, W: ToldWriter, L: Ledgers, S: Start>(
-    rt: R,
-    alloc: Global,
-    fares: &str,
-    zone: &str,
-    plan: &Plan,
-    texts: &[Vec<u8>],
-    keepers: Vec<K>,
-    file: LedgerFile<'_, L, S>,
-    writer: &mut W,
-) -> Result<bool, Fault>
-where
-    R: Net<Listener = TcpListener, Stream = TcpStream>
-        + Threads
-        + Wait
-        + Eprint
-        + Copy
-        + Send
-        + 'static,
-    K: Keeper + Send + 'static,
-    requires day { IsDay plan.now.close }
-    requires keepers { length keepers.items ≡ plan.now.shards }
-    ensures served { Serves K.Keeper (in_file {g = ⟦<FileFrom<S> as Disk>⟧} (image_at S.Start)) (fares.now, zone.now, map vec_items texts.now, keepers.items, plan.now)
-        (W.contents writer.old, W.contents writer.new) result }
-    ensures fails { IfErr result (ServiceFails K.Keeper (in_file {g = ⟦<FileFrom<S> as Disk>⟧} (image_at S.Start)) (fares.now, zone.now, map vec_items texts.now, keepers.items, plan.now)) }
-    ensures flushed { OnOk result (IsFlushed W.Tells writer.new) }
-    ensures within { OnOk result (IsOutOfPlan plan.now → ⊥) }
-    ensures cause { IfErr result (λ fault. HasServiceCause W.Tells (CanFail K.HasFailed) plan.now fault writer.new) }
-{
-    let tables = read_fares(alloc, fares)?;
-    let zone = read_zone(zone)?;
-    let mut ledger = file.open()?;
-    let closed = serve_over(
-        rt,
-        alloc,
-        tables,
-        zone,
-        plan,
-        texts,
-        keepers,
-        &mut ledger,
-        writer,
-    );
-    let _ = ledger.into_connection().close();
-    closed
+    )?;
+    Ok(closed)
 }

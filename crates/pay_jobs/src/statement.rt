@@ -4,14 +4,17 @@ ghost use Rattle.pay_wire.specs.Words.{IsFlushed};
 ghost use Rattle.std.specs.Arc.{arc_value};
 ghost use Rattle.pay_day.specs.Words.{IsDay};
 ghost use Rattle.pay_statement.specs.Words.{statement_text};
-ghost use Rattle.pay_jobs.specs.Faults.{HasInputFault, HasCause};
+ghost use Rattle.pay_run.specs.Words.{HasInputFault};
+ghost use Rattle.pay_jobs.specs.Faults.{HasCause};
+ghost use Rattle.pay_jobs.specs.Texts.{texts};
 ghost use Rattle.pay_jobs.specs.Statement.{PageFails, IsPage, StatementWritten, StatementRefused};
 
 use crate::fault::Fault;
 use crate::output::write_text;
 use crate::run::{read_fares, read_zone};
-use crate::week::week_by_lines;
+use pay_book::Book;
 use pay_rules::Line;
+use pay_run::week_by_lines;
 use pay_session::ToldReader;
 use pay_statement::write_csv;
 use pay_tables::Tables;
@@ -33,9 +36,9 @@ pub fn statement_texts<R: ToldReader, W: ToldWriter>(
     writer: &mut W,
 ) -> Result<(), Fault>
     requires { IsDay day }
-    ensures ends { OnOk result (StatementWritten (fares.now, zone.now, past.now) (account, day) (R.remaining reader.old, W.contents writer.old)
+    ensures ends { OnOk result (StatementWritten (texts fares.now zone.now past.now) (account, day) (R.remaining reader.old, W.contents writer.old)
         (R.remaining reader.new, W.contents writer.new)) }
-    ensures fails { IfErr result (StatementRefused (fares.now, zone.now, past.now) (account, day) (R.remaining reader.old, W.contents writer.old)
+    ensures fails { IfErr result (StatementRefused (texts fares.now zone.now past.now) (account, day) (R.remaining reader.old, W.contents writer.old)
         (R.remaining reader.new, W.contents writer.new)) }
     ensures flushed { OnOk result (IsFlushed W.Tells writer.new) }
     ensures cause { IfErr result (λ fault. HasCause R.Tells W.Tells fault reader.old reader.new writer.new) }
@@ -55,14 +58,15 @@ fn read_page<R: ToldReader>(
     reader: &mut R,
 ) -> Result<Vec<u8>, Fault>
     requires { IsDay day }
-    ensures page { IfOk result (λ page. IsPage (fares.now, zone.now, past.now) (account, day) (R.remaining reader.old, R.remaining reader.new) page.items) }
-    ensures fails { IfErr result (λ fault. PageFails fault (fares.now, zone.now, past.now) (R.remaining reader.old, R.remaining reader.new)) }
+    ensures page { IfOk result (λ page. IsPage (texts fares.now zone.now past.now) (account, day) (R.remaining reader.old, R.remaining reader.new) page.items) }
+    ensures fails { IfErr result (λ fault. PageFails fault (texts fares.now zone.now past.now) (R.remaining reader.old, R.remaining reader.new)) }
     ensures cause { IfErr result (λ fault. fault ≡ Fault.Input → HasInputFault R.Tells reader.old reader.new) }
 {
+    pay_run::laws::all_else_stays();
     let tables = read_fares(alloc, fares)?;
     let zone = read_zone(zone)?;
     let shared = share(&tables)?;
-    let lines = week_by_lines(alloc, reader, &zone, shared, past, account, day)?;
+    let lines = week_by_lines::<Book, R>(alloc, reader, &zone, shared, past, account, day)?;
     let page = page_of(alloc, &tables, lines.as_slice())?;
     Ok(page)
 }

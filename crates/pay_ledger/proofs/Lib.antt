@@ -8,3 +8,4 @@ mod Looking
 mod Asked
 mod Bare
 mod Lasting
+mod Readied

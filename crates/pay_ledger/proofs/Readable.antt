@@ -226,3 +226,12 @@ module _ {S : Type 0} (store : Ghosts S) {A : Type 0} (answer : Result A LedgerF
     read = λ clean. subst (λ db. IfOk answer (λ _. (rows : LedgerRows) → HoldsRows db rows → AreReadable rows (asked quotes sets))) (same clean) (judged.read clean);
     bad_first = λ clean. subst (λ db. IfErr answer (λ fault. (rows : LedgerRows) → HoldsRows db rows → IsJudgedByRows rows (asked quotes sets) fault)) (same clean) (judged.bad_first clean);
   }
+
+-- what was answered is so between other states of the same database
+pub judged_done : {S : Type 0} (store : Ghosts S) {A : Type 0} (it : A) (quotes : List QuoteParts) (sets : List SetsParts) (old new first last : Held S) → (HasCleanDisk (state store last) → HasCleanDisk (state store new))
+    → (state store old).now ≡ (state store first).now → IsJudged store old new {A = A} (Ok it) quotes sets → IsJudged store first last {A = A} (Ok it) quotes sets
+judged_done store it quotes sets old new first last was same judged = record {
+  refused = λ clean. tt;
+  read = λ clean. subst (λ db. (rows : LedgerRows) → HoldsRows db rows → AreReadable rows (asked quotes sets)) same (judged.read (was clean));
+  bad_first = λ clean. tt;
+}

@@ -10,7 +10,7 @@ use Rattle.sqlite_keyed.proofs.ListLemmas.{map-map, filter-map, filter_same, fla
 use Rattle.pay_rules.specs.declared.tap.Tap.{Tap}
 use Rattle.pay_rules.specs.declared.fix.Fix.{Fix}
 use Rattle.pay_rules.specs.declared.posting.Posting.{Posting}
-use Rattle.pay_postings.specs.Words.{LedgerParts, ArchivedParts, archived_of, net, net_from_rows, taps_of, fixes_of}
+use Rattle.pay_postings.specs.Words.{LedgerParts, ArchivedParts, archived_of, net, taps_of, fixes_of}
 use Rattle.pay_postings.specs.Laws.{PostingsAreReadBack}
 use Rattle.pay_postings.specs.NetRows.{NetIsOfPostings}
 use Rattle.pay_rows.specs.declared.row.PostingRow.{PostingRow}

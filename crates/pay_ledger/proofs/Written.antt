@@ -1,13 +1,14 @@
 -- A posting, a tap and a correction more in a ledger.
-use Rattle.std.proofs.Common.{◌≡◌, ℤ, pos, List, [], ◌∷◌, ◌++◌, length, map, flat_map, refl, sym, ap, ap₂, ◌∙◌, append-nil, arith}
+use Rattle.std.proofs.Common.{◌≡◌, ℤ, pos, List, [], ◌∷◌, ◌++◌, length, map, flat_map, refl, sym, ap, ap₂, subst, ◌∙◌, append-nil, arith}
 use Rattle.std.specs.List.{zip}
 use Rattle.std.proofs.lemmas.List.{map-append}
 use Rattle.std.proofs.lemmas.Grind.{flat_map-append}
 use Rattle.sqlite.specs.Effect.{Database}
+use Rattle.sqlite.specs.State.{State}
 use Rattle.pay_rules.specs.declared.tap.Tap.{Tap}
 use Rattle.pay_rules.specs.declared.fix.Fix.{Fix}
 use Rattle.pay_rules.specs.declared.posting.Posting.{Posting}
-use Rattle.pay_postings.specs.Words.{LedgerParts}
+use Rattle.pay_postings.specs.Words.{LedgerParts, BatchLists, with_batch}
 use Rattle.pay_rows.specs.declared.row.ShareRow.{ShareRow}
 use Rattle.pay_rows.specs.declared.row.PostingRow.{PostingRow}
 use Rattle.pay_rows.specs.declared.row.TapRow.{TapRow}
@@ -15,7 +16,9 @@ use Rattle.pay_rows.specs.declared.row.FixRow.{FixRow}
 use Rattle.pay_postings.specs.PostingRows.{posting_row, share_rows}
 use Rattle.pay_set_rows.specs.SetRows.{tap_row, fix_row}
 use Rattle.pay_records.specs.Words.{LedgerRows, HoldsRows}
-use Rattle.pay_ledger.specs.Keeps.{Keeps, row_of_posting, row_of_tap, row_of_fix}
+use Rattle.pay_ledger.specs.Keeps.{Keeps, row_of_posting, row_of_tap, row_of_fix, with_postings, with_taps, with_fixes}
+use Rattle.pay_ledger.specs.Steps.{Grows}
+use Rattle.pay_ledger.proofs.Along.{others_then}
 
 zip_more : {A B : Type 0} (xs : List A) (bs : List B) (a : A) (b : B) → length xs ≡ length bs → zip (xs ++ a ∷ []) (bs ++ b ∷ []) ≡ zip xs bs ++ (a, b) ∷ []
 zip_more [] [] a b same = refl
@@ -77,3 +80,12 @@ fix_written db new fix account row of is one ledger k = record {
     fixes = ap₂ (λ l (r : ℤ × FixRow). l ++ r ∷ []) k.are.fixes (ap₂ (λ a r. (a, r)) of is) ∙ sym (map-append row_of_fix ledger.fixes (fix ∷ []));
   };
 }
+
+-- all that a batch adds
+pub batch_written : (a b c d : State) (batch : BatchLists) (postings : List Posting) (taps : List Tap) (fixes : List Fix) → postings ≡ batch.postings → taps ≡ batch.taps → fixes ≡ batch.fixes
+    → Grows a b (with_postings postings) → Grows b c (with_taps taps) → Grows c d (with_fixes fixes) → Grows a d (λ ledger. with_batch ledger batch)
+batch_written a b c d batch postings taps fixes posted tapped fixed first second third =
+    let one = subst (λ more. Grows a b (with_postings more)) posted first in
+    let two = subst (λ more. Grows b c (with_taps more)) tapped second in
+    let three = subst (λ more. Grows c d (with_fixes more)) fixed third in
+    (λ ledger kept. three.0 _ (two.0 _ (one.0 ledger kept)), others_then a.now c.now d.now (others_then a.now b.now c.now one.1 two.1) three.1)

@@ -49,6 +49,18 @@ BlankBecomesLedger old new = IsFree old → IsLedger new nothing
 abbrev pub BlankJustGrows : Database → Database → Type 0
 BlankJustGrows old new = IsFree old → Grows old new ledger_tables
 
+-- what a database is before and after it is made ready as a ledger
+pub record IsReadied (old new : Database) : Type 0 where
+  pub of_kind : IsLedgerOrBlank old
+  pub ledger : KeepsLedger old new
+  pub blank : BlankBecomesLedger old new
+  pub grows : BlankJustGrows old new
+
+-- Why a database is not: one in which the names of the tables are not used is refused by its store alone.
+pub record IsWhyNot (fault : OpenFault) (db : Database) : Type 0 where
+  pub why : IsWhy fault db
+  pub of_free : IsFree db → fault ≡ Store
+
 -- it is a ledger, or it is made one
 pub record IsOpened (old new : State) : Type 0 where
   pub is_open : IsTrue new.is_open

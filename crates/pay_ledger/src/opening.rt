@@ -1,6 +1,6 @@
 ghost use Rattle.std.specs.Prelude.{◌≡◌, false};
-ghost use Rattle.pay_records.specs.Words.{LeavesAsBeforeOr, Refuses, Does, IsFree};
-ghost use Rattle.pay_ledger.specs.Opening.{HasNoView, is_blank, IsWhy, IsOpened, MayLeaveOpened, KeepsLedger, BlankBecomesLedger, BlankJustGrows, IsLedgerOrBlank};
+ghost use Rattle.pay_records.specs.Words.{LeavesAsBeforeOr, Refuses, Does};
+ghost use Rattle.pay_ledger.specs.Opening.{HasNoView, is_blank, IsReadied, IsWhyNot, IsOpened, MayLeaveOpened, BlankJustGrows};
 ghost use Rattle.pay_ledger.specs.Steps.{IsStep};
 ghost use Rattle.pay_ledger.specs.Calls.{ChangesNothingIfRefused};
 
@@ -23,12 +23,8 @@ fn is_blank(kind: Kind) -> Result<bool, OpenFault>
 /// Makes the tables, if none is there, in a transaction that is not committed yet.
 fn ready<S: Alter>(tx: &mut Transaction<'_, S>) -> Result<(), OpenFault>
     ensures step { IsStep S.Store tx.old.conn tx.new.conn result }
-    ensures ledger { Does S.Store tx.old.conn.now tx.new.conn.now result (λ old new. KeepsLedger old.now new.now) }
-    ensures blank { Does S.Store tx.old.conn.now tx.new.conn.now result (λ old new. BlankBecomesLedger old.now new.now) }
-    ensures grows { Does S.Store tx.old.conn.now tx.new.conn.now result (λ old new. BlankJustGrows old.now new.now) }
-    ensures of_kind { Does S.Store tx.old.conn.now tx.new.conn.now result (λ old _. IsLedgerOrBlank old.now) }
-    ensures refused { Refuses S.Store tx.old.conn.now tx.new.conn.now result (λ old _ fault. IsWhy fault old.now) }
-    ensures of_blank { Refuses S.Store tx.old.conn.now tx.new.conn.now result (λ old _ fault. IsFree old.now → fault ≡ OpenFault.Store) }
+    ensures readied { Does S.Store tx.old.conn.now tx.new.conn.now result (λ old new. IsReadied old.now new.now) }
+    ensures refused { Refuses S.Store tx.old.conn.now tx.new.conn.now result (λ old _ fault. IsWhyNot fault old.now) }
 {
     let kind = kind_of(tx)?;
     if !is_blank(kind)? {
@@ -44,8 +40,7 @@ fn prepare_tables<S: Alter>(conn: &mut Connection<S>) -> Result<(), OpenFault>
     ensures autocommit { conn.new.in_transaction ≡ false }
     ensures opened { Does S.Store conn.old conn.new result IsOpened }
     ensures grows { Does S.Store conn.old conn.new result (λ old new. BlankJustGrows old.now new.now) }
-    ensures refused { Refuses S.Store conn.old conn.new result (λ old _ fault. IsWhy fault old.now) }
-    ensures of_blank { Refuses S.Store conn.old conn.new result (λ old _ fault. IsFree old.now → fault ≡ OpenFault.Store) }
+    ensures refused { Refuses S.Store conn.old conn.new result (λ old _ fault. IsWhyNot fault old.now) }
     ensures kept { ChangesNothingIfRefused S.Store conn.old conn.new result }
     ensures survives { LeavesAsBeforeOr S.Store conn.old conn.new MayLeaveOpened }
 {
@@ -63,8 +58,7 @@ pub(crate) fn prepare<S: Alter>(conn: &mut Connection<S>) -> Result<(), OpenFaul
     ensures opened { Does S.Store conn.old conn.new result IsOpened }
     ensures grows { Does S.Store conn.old conn.new result (λ old new. BlankJustGrows old.now new.now) }
     ensures no_view { Does S.Store conn.old conn.new result (λ old _. HasNoView old.now) }
-    ensures refused { Refuses S.Store conn.old conn.new result (λ old _ fault. IsWhy fault old.now) }
-    ensures of_blank { Refuses S.Store conn.old conn.new result (λ old _ fault. IsFree old.now → fault ≡ OpenFault.Store) }
+    ensures refused { Refuses S.Store conn.old conn.new result (λ old _ fault. IsWhyNot fault old.now) }
     ensures kept { ChangesNothingIfRefused S.Store conn.old conn.new result }
     ensures survives { LeavesAsBeforeOr S.Store conn.old conn.new MayLeaveOpened }
 {

@@ -12,9 +12,9 @@ use Rattle.pay_tables.specs.Words.{FareTables}
 use Rattle.pay_shard.specs.declared.limits.TheConstants.{MOST_SHARDS}
 use Rattle.pay_lanes.specs.declared.limits.TheConstants.{MOST_LANES}
 use Rattle.pay_lanes.specs.Words.{LaneParts, WorkerParts, AreTogether, lanes_of, numbers, shard_numbers, IsOutOfCount, IsNewLane, IsNewWorker}
-use Rattle.pay_keeping.specs.declared.limits.TheConstants.{SPARED_LANE}
+use Rattle.pay_serve.specs.declared.limits.TheConstants.{SPARED_LANE}
 use Rattle.pay_lanes.specs.Ends.{IsLaneOf}
-use Rattle.pay_lanes.proofs.Exchanges.{each_length}
+use Rattle.std.proofs.lemmas.List.{length-map}
 use Rattle.pay_serve.specs.Lanes.{HasShards, AreAllWith}
 use Rattle.pay_serve.specs.Machines.{IsNewOffice}
 
@@ -61,7 +61,7 @@ module _ {X : Type 0} (P : X → Type 0) where
 -- ---- what has begun
 
 count_of : (n : ℕ) (ls : List LaneParts) → numbers ls ≡ range_with_len 0 n → length ls ≡ n
-count_of n ls are = sym (each_length (λ (l : LaneParts). l.number) ls) ∙ (ap length are ∙ length-range_with_len 0 n)
+count_of n ls are = sym (length-map ls (λ (l : LaneParts). l.number)) ∙ (ap length are ∙ length-range_with_len 0 n)
 
 -- there is a first one
 pub some_lane : (n : ℕ) (ls : List LaneParts) → 1 ≤ n → numbers ls ≡ range_with_len 0 n → 0 < length ls
@@ -103,7 +103,7 @@ lanes_are tables shards lanes [] some are all =
 lanes_are tables shards lanes (w ∷ office) some are all = (All-head (IsNewWorker tables lanes) w office all).lanes
 
 pub office_count : (shards : ℕ) (office : List WorkerParts) → shard_numbers office ≡ range_with_len 0 shards → shards ≡ length office
-office_count shards office are = sym (length-range_with_len 0 shards) ∙ (sym (ap length are) ∙ each_length (λ (w : WorkerParts). w.shard.number) office)
+office_count shards office are = sym (length-range_with_len 0 shards) ∙ (sym (ap length are) ∙ length-map office (λ (w : WorkerParts). w.shard.number))
 
 -- the first one behind the others
 pub all_with : (tables : FareTables) (shards lanes : ℕ) (office : List WorkerParts) (ls rest : List LaneParts) (l : LaneParts)
@@ -120,7 +120,7 @@ all_with tables shards lanes office ls rest l some workers new are together part
 -- the office of which the lanes were opened
 pub new_office : (tables : FareTables) (shards lanes : ℕ) (office : List WorkerParts) → 1 ≤ shards → shard_numbers office ≡ range_with_len 0 shards → All (IsNewWorker tables lanes) office → IsNewOffice tables office
 new_office tables shards lanes office some are new =
-    let many : length office ≡ shards = sym (each_length (λ (w : WorkerParts). w.shard.number) office) ∙ (ap length are ∙ length-range_with_len 0 shards) in record {
+    let many : length office ≡ shards = sym (length-map office (λ (w : WorkerParts). w.shard.number)) ∙ (ap length are ∙ length-range_with_len 0 shards) in record {
       some = omega (arith, some, many);
       numbers = are ∙ ap (range_with_len 0) (sym many);
       tables = All-weaker (IsNewWorker tables lanes) (λ (w : WorkerParts). w.shard.tables ≡ tables) (λ w is. is.tables) office new;

@@ -4,6 +4,7 @@ use Rattle.std.specs.Prelude.{IsPermutation}
 use Rattle.std.specs.FinMap.{empty}
 use Rattle.std.specs.Io.KnownBytes.{Appends}
 use Rattle.std.specs.List.{AllByRecursion, AllZip, find, range_with_len}
+use Rattle.std.proofs.lemmas.List.{length-map}
 use Rattle.std.proofs.lemmas.List.Elements.{All-nil, All-cons, All-head, All-tail, length_all_zip}
 use Rattle.std.proofs.lemmas.List.FromFn.{length-range_with_len, get_or-range_with_len}
 use Rattle.std.proofs.lemmas.List.Sorted.{All-permutation, IsPermutation-sym}
@@ -22,20 +23,21 @@ use Rattle.pay_shard.specs.declared.asked.Asked.TheVariants as asked
 use Rattle.pay_shard.specs.declared.item.Entry.{Entry}
 use Rattle.pay_shard.specs.declared.item.Item.{Item}
 use Rattle.pay_shard.specs.declared.reply.Answer.{Answer}
-use Rattle.pay_kept.specs.Words.{IsRest}
+use Rattle.pay_rules.specs.InTurn.{IsIn}
+use Rattle.pay_journal.specs.Words.{IsRest, lines_of_items, requests_in, Puts, AreWholeOf, new_of, IsPricedIn, PartsAreTaken, PartAsksAlike}
 use Rattle.pay_lanes.specs.Ends.{IsLaneOf}
 use Rattle.pay_lanes.specs.Words.{LaneParts, WorkerParts, Passed, by_lane, by_shard, entries_of, passed_to, IsFirstOf, IsSameWorker, IsOfShards, IsNewLane, lanes_of, numbers, shard_numbers, arrived, sent_by}
-use Rattle.pay_lanes.proofs.Exchanges.{each_length}
-use Rattle.pay_lanes.proofs.Going.{same_count}
 use Rattle.pay_session.specs.Served.{AreQuotes}
-use Rattle.pay_session.specs.Words.{lines_of_items, Taken, commands_of, IsAskedIn}
+use Rattle.pay_session.specs.Words.{Taken, commands_of, IsAskedIn}
 use Rattle.pay_session.specs.declared.request.Request.{Request}
 use Rattle.pay_session.specs.declared.request.Request.TheVariants as requests
-use Rattle.pay_rules.specs.InTurn.{IsIn}
-use Rattle.pay_keeping.specs.Words.{is_other, of_others, GateParts, IsAllOrButLast, answered_of, HasKept, requests_in, texts_then, Puts, AreWholeOf, IsMergeOf, new_of, IsPricedIn, KeepNew, HaveKept, KeptGivesBack, PartsAreTaken}
-use Rattle.pay_keeping.specs.declared.limits.TheConstants.{SPARED_LANE}
-use Rattle.pay_keeping.proofs.KeptAgain.{in_front, in_back, in_either, in_map, into_map, one_in, of_new, of_merge, its_shard, HasLine}
-use Rattle.pay_keeping.proofs.PartsAgain.{part_alike}
+use Rattle.pay_serve.specs.Keeping.{is_other, of_others}
+use Rattle.pay_serve.specs.KeepingGates.{GateParts}
+use Rattle.pay_serve.specs.Kept.{IsAllOrButLast, answered_of, HasKept}
+use Rattle.pay_serve.specs.HaveKept.{texts_then, IsMergeOf, KeepNew, HaveKept, KeptGivesBack}
+use Rattle.pay_serve.specs.declared.limits.TheConstants.{SPARED_LANE}
+use Rattle.pay_serve.proofs.KeptAgain.{in_front, in_back, in_either, in_map, into_map, one_in, of_new, of_merge, its_shard, HasLine}
+use Rattle.pay_serve.proofs.NoneKept.{same_count}
 use Rattle.pay_office.specs.Waits.{commands_below}
 use Rattle.pay_office.specs.Words.{all_sent, desk_parts, commands_sent, answer_to, HasEnded}
 use Rattle.pay_serve.specs.Closes.{Terms}
@@ -376,8 +378,8 @@ module _ (Holds : GateParts → List Passed → Bool → Type 0) (terms : Terms)
 
   its_shards : length lane.shards ≡ length left.office
   its_shards =
-      sym (each_length (λ (s : SenderParts Entry). s.mailbox) lane.shards)
-      ∙ (ap length (left.same.shards ∙ lane_of.0) ∙ each_length (λ (w : WorkerParts). w.requests.mailbox) left.office)
+      sym (length-map lane.shards (λ (s : SenderParts Entry). s.mailbox))
+      ∙ (ap length (left.same.shards ∙ lane_of.0) ∙ length-map left.office (λ (w : WorkerParts). w.requests.mailbox))
 
   own : IsOfShards lane
   own = left.same.of_shards lane_of.2
@@ -496,8 +498,8 @@ pub service_gives_back : KeptGivesBack → (Holds : GateParts → List Passed �
 service_gives_back law Holds terms left merged later up = law terms.fares terms.zone merged left.gates terms.texts later (have_kept Holds terms left merged later up) up.alike
 
 -- A part in front of the texts asks for no more, so both together give back as well.
-pub service_parts_are_taken : KeptGivesBack → PartsAreTaken → (Holds : GateParts → List Passed → Bool → Type 0) → ServicePartsAreTaken Holds
-service_parts_are_taken law parts Holds terms left merged later part up within =
+pub service_parts_are_taken : KeptGivesBack → PartsAreTaken → PartAsksAlike → (Holds : GateParts → List Passed → Bool → Type 0) → ServicePartsAreTaken Holds
+service_parts_are_taken law parts part_alike Holds terms left merged later part up within =
     let both : TakesUp left merged (part ++ later) = record {
       kept = up.kept;
       whole = up.whole;

@@ -1,9 +1,12 @@
 pub mod Begun
+pub mod GatesKept
 pub mod GivenBack
 pub mod Going
+pub mod KeptAgain
 pub mod LinesAsked
 pub mod NoneKept
 pub mod OneClose
+pub mod Runs
 pub mod ServeCauses
 pub mod Served
 pub mod TakenAgain

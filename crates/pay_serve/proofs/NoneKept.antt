@@ -3,6 +3,7 @@ use Rattle.std.proofs.Common.{◌≡◌, ◌⊎◌, inl, inr, ℕ, zero, suc, �
 use Rattle.std.specs.List.{range_with_len, AllZip}
 use Rattle.std.specs.Prelude.{IsPermutation}
 use Rattle.std.specs.Io.KnownBytes.{Appends}
+use Rattle.std.proofs.lemmas.List.{length-map}
 use Rattle.std.proofs.lemmas.List.Elements.{All-nil, All-cons, All-head, All-tail, All-push, All-map}
 use Rattle.std.proofs.lemmas.List.FromFn.{length-range_with_len, get_or-range_with_len}
 use Rattle.std.proofs.lemmas.List.Sorted.{All-permutation, IsPermutation-sym}
@@ -12,14 +13,28 @@ use Rattle.pay_rules.specs.State.{State}
 use Rattle.pay_shard.specs.Words.{item_step, is_new, new_items}
 use Rattle.pay_shard.specs.declared.item.Entry.{Entry}
 use Rattle.pay_shard.specs.declared.item.Item.{Item}
-use Rattle.pay_session.specs.Words.{lines_of_items}
-use Rattle.pay_lanes.specs.Words.{LaneParts, WorkerParts, Passed, by_lane, entries_of, lanes_of, numbers, AreAll, AreKnown, arrived, sent_by, IsNewLane}
-use Rattle.pay_lanes.proofs.Going.{same_count}
-use Rattle.pay_lanes.proofs.Openings.{all_of_map}
-use Rattle.pay_keeping.specs.Words.{GateParts, HasKept, HasKeptNone, IsAllOrButLast, is_other, of_others}
-use Rattle.pay_keeping.specs.declared.limits.TheConstants.{SPARED_LANE}
+use Rattle.pay_shard.specs.declared.reply.Answer.{Answer}
+use Rattle.pay_journal.specs.Words.{lines_of_items}
+use Rattle.pay_lanes.specs.Words.{LaneParts, WorkerParts, Passed, by_lane, entries_of, lanes_of, numbers, AreAll, AreKnown, arrived, sent_by, IsNewLane, IsSameWorker}
+use Rattle.pay_serve.specs.KeepingGates.{GateParts}
+use Rattle.pay_serve.specs.Kept.{HasKept, HasKeptNone, IsAllOrButLast}
+use Rattle.pay_serve.specs.Keeping.{is_other, of_others}
+use Rattle.pay_serve.specs.declared.limits.TheConstants.{SPARED_LANE}
 use Rattle.pay_office.specs.Words.{HasEnded, HaveLetPass}
 use Rattle.pay_serve.proofs.Begun.{of_last}
+
+-- ---- workers and gates
+
+pub same_count : (ws vs : List WorkerParts) → AllZip IsSameWorker ws vs → lanes_of vs ≡ lanes_of ws
+same_count [] [] same = refl
+same_count [] (v ∷ vs) same = absurd same
+same_count (w ∷ ws) [] same = absurd same
+same_count (w ∷ ws) (v ∷ vs) same =
+    sym (length-map v.lanes (λ (s : SenderParts Answer). s.mailbox)) ∙ (ap length same.0.lanes ∙ length-map w.lanes (λ (s : SenderParts Answer). s.mailbox))
+
+all_of_map : {X Y : Type 0} (f : X → Y) (P : Y → Type 0) (xs : List X) → All P (map f xs) → All (λ x. P (f x)) xs
+all_of_map f P [] all = All-nil (λ x. P (f x))
+all_of_map f P (x ∷ xs) all = All-cons (λ x. P (f x)) x xs (All-head P (f x) (map f xs) all) (all_of_map f P xs (All-tail P (f x) (map f xs) all))
 
 abbrev IsEmpty : List Entry → Type 0
 IsEmpty entries = entries ≡ []

@@ -20,7 +20,7 @@ use Rattle.pay_shard.specs.declared.reply.Reply.{Reply}
 use Rattle.pay_shard.specs.declared.reply.Reply.TheVariants as replies
 use Rattle.pay_lanes.specs.Words.{LaneParts, WorkerParts, by_shard, at_lane, answers_for, shard_numbers, IsSameWorker, IsOfShards, IsAnswered, AreJournalsFrom}
 use Rattle.pay_lanes.specs.Ends.{IsLaneOf}
-use Rattle.pay_lanes.proofs.Exchanges.{each_length}
+use Rattle.std.proofs.lemmas.List.{length-map}
 use Rattle.pay_office.specs.Words.{answer_to}
 use Rattle.pay_session.specs.Served.{AreQuotes, gives_quotes, brings_quotes}
 use Rattle.pay_session.specs.Events.{IsAnswerTo, AreAnswered}
@@ -250,7 +250,7 @@ over_as_one law office ls l day shards put all count quotes its over = record {
       let ended = over.2 in
       let long = length_all_zip IsSameWorker office ended.workers ended.same in
       let mine : IsLaneOf office l = (of_last (IsLaneOf office) ls l all.0.lanes_of_them).1 in
-      let ways = sym (each_length (λ (s : SenderParts Entry). s.mailbox) l.shards) ∙ (ap length mine.0 ∙ each_length (λ (w : WorkerParts). w.requests.mailbox) office) in
+      let ways = sym (length-map l.shards (λ (s : SenderParts Entry). s.mailbox)) ∙ (ap length mine.0 ∙ length-map office (λ (w : WorkerParts). w.requests.mailbox)) in
       let some = new.some in
       one_close fares office ended.workers l (some_worker office some) day shards new ended.same
       (of_last (λ (m : LaneParts). All (IsAnswered m) ended.workers) ls l ended.ends.answered).1

@@ -3,15 +3,16 @@ use Rattle.std.proofs.Common.{◌≡◌, inl, inr, ℕ, Bool, true, false, List,
 use Rattle.std.specs.Prelude.{⊤}
 use Rattle.jiff.specs.declared.tz.timezone.TimeZone.{TimeZone}
 use Rattle.pay_shard.specs.Words.{DeskParts}
-use Rattle.pay_session.specs.declared.replaying.ReplayFault.{ReplayFault}
-use Rattle.pay_session.specs.declared.replaying.ReplayFault.TheVariants as replaying
+use Rattle.pay_journal.specs.declared.replaying.ReplayFault.{ReplayFault}
+use Rattle.pay_journal.specs.declared.replaying.ReplayFault.TheVariants as replaying
 use Rattle.pay_office.specs.declared.office.StartFault.{StartFault}
 use Rattle.pay_office.specs.declared.office.StartFault.TheVariants as starting
 use Rattle.pay_wire.specs.Words.{WriterCall, HasFault}
 use Rattle.pay_wire.specs.declared.output.WriteFault.{WriteFault}
 use Rattle.pay_lanes.specs.Words.{LaneParts, WorkerParts, IsOutOfCount, IsNewLane}
-use Rattle.pay_keeping.specs.Words.{GateParts, HasKeptNone}
-use Rattle.pay_keeping.specs.declared.limits.TheConstants.{SPARED_LANE}
+use Rattle.pay_serve.specs.KeepingGates.{GateParts}
+use Rattle.pay_serve.specs.Kept.{HasKeptNone}
+use Rattle.pay_serve.specs.declared.limits.TheConstants.{SPARED_LANE}
 use Rattle.pay_serve.specs.Causes.{IsOutOfPlan, IsUnopened, IsUnserved, IsServeCause}
 use Rattle.pay_serve.specs.Closes.{IsTold, Terms, IsStopped}
 use Rattle.pay_serve.specs.Machines.{IsNewOffice}

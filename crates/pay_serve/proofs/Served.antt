@@ -2,7 +2,8 @@
 use Rattle.std.proofs.Common.{ℕ, List, [], ◌∷◌, Option}
 use Rattle.std.specs.List.{AllZip}
 use Rattle.pay_lanes.specs.Words.{LaneParts, WorkerParts, HavePassed}
-use Rattle.pay_keeping.specs.Words.{GateParts, HoldsPassed, HasKept, PassedAreKept}
+use Rattle.pay_serve.specs.KeepingGates.{GateParts, HoldsPassed}
+use Rattle.pay_serve.specs.Kept.{HasKept, PassedAreKept}
 
 -- what all gates let pass they have kept
 pub all_kept : {K : Type 0} (holds : K → Option (List ℕ)) (HasFailed IsSettled : K → Type 0) → PassedAreKept holds HasFailed IsSettled → (lanes : List LaneParts) (workers : List WorkerParts) (gates : List GateParts)

@@ -5,11 +5,11 @@ use Rattle.std.proofs.lemmas.List.{drop_more, drop_all, get_or-map}
 use Rattle.std.proofs.lemmas.List.Folds.{list_any_none}
 use Rattle.jiff.specs.declared.tz.timezone.TimeZone.{TimeZone}
 use Rattle.pay_shard.specs.Words.{DeskParts, AreKept}
-use Rattle.pay_session.specs.Words.{IsReplayed, IsEnded}
-use Rattle.pay_session.specs.declared.replaying.Replayed.{Replayed}
-use Rattle.pay_session.specs.declared.replaying.ReplayFault.{ReplayFault}
-use Rattle.pay_lanes.proofs.Exchanges.{each_length, same_item}
-use Rattle.pay_keeping.specs.Words.{GateParts}
+use Rattle.pay_journal.specs.Words.{IsReplayed, IsEnded}
+use Rattle.pay_journal.specs.declared.replaying.Replayed.{Replayed}
+use Rattle.pay_journal.specs.declared.replaying.ReplayFault.{ReplayFault}
+use Rattle.std.proofs.lemmas.List.{length-map, get_or_default}
+use Rattle.pay_serve.specs.KeepingGates.{GateParts}
 use Rattle.pay_serve.specs.Journals.{AreTakenAgain, journal_fault, is_one_stuck}
 use Rattle.pay_serve.specs.declared.fault.ServeFault.{ServeFault}
 
@@ -19,7 +19,7 @@ module _ {D O V : Type 0} (items : V → List ℕ) (zone : TimeZone) (parts : D 
   module _ (v : V) (less : place < length vs) (is : v ≡ get_or vs place v) where
     whole : drop place (map items vs) ≡ items v ∷ drop (place + 1) (map items vs)
     whole =
-        let many = each_length items vs in
+        let many = length-map vs items in
         drop_more (map items vs) place (items v) (omega (arith, many, less)) ∙ ap (λ t. t ∷ drop (place + 1) (map items vs)) (get_or-map items vs place v (items v) less ∙ ap items (sym is))
 
     pub next_taken : (old new end : D) (it : Replayed) (result : Result ⊤ ServeFault) → IsReplayed zone parts old new (items v) it → AreKept (parts old).transcript (parts new).transcript
@@ -32,7 +32,7 @@ module _ {D O V : Type 0} (items : V → List ℕ) (zone : TimeZone) (parts : D 
 
   pub none_left : (desk : D) → length vs ≤ place → AreTakenAgain zone parts place (drop place (map items vs)) (desk, desk) (Ok tt)
   none_left desk most =
-      let many = each_length items vs in subst (λ ts. AreTakenAgain zone parts place ts (desk, desk) (Ok tt)) (sym (drop_all place (map items vs) (omega (arith, many, most)))) refl
+      let many = length-map vs items in subst (λ ts. AreTakenAgain zone parts place ts (desk, desk) (Ok tt)) (sym (drop_all place (map items vs) (omega (arith, many, most)))) refl
 
 -- ---- gates
 
@@ -53,4 +53,4 @@ pub none_is : (gates : List GateParts) (place : ℕ) → length gates ≤ place 
 none_is gates place most each = sym (list_any_none (λ (g : GateParts). g.stuck) gates (λ k d less. each k (omega (arith, most, less)) d))
 
 pub free_too : (gates : List GateParts) (place : ℕ) (gate : GateParts) → place < length gates → gate ≡ get_or gates place gate → gate.stuck ≡ false → (d : GateParts) → (get_or gates place d).stuck ≡ false
-free_too gates place gate less is free d = ap (λ (x : GateParts). x.stuck) (same_item gates place d gate less ∙ sym is) ∙ free
+free_too gates place gate less is free d = ap (λ (x : GateParts). x.stuck) (get_or_default gates place d gate less ∙ sym is) ∙ free

@@ -13,13 +13,13 @@ use Rattle.pay_wire.specs.declared.refusal.Refusal.{Refusal}
 use Rattle.pay_wire.specs.declared.refusal.Refusal.TheVariants as refusal
 use Rattle.pay_wire.specs.declared.reply.Reply.{Reply}
 use Rattle.pay_wire.specs.declared.reply.Reply.TheVariants as replies
-use Rattle.pay_session.specs.Words.{line_requests, asks_of, Taken, Event, said, all_put, commands_of, IsAnswerTo, AreAnswered, IsReplied, IsTaken, IsServedAs, AreServed, MaySometimeRefuse, MaySometimeBeLate, is_barred, IsPriced, ClosesNothing}
+use Rattle.pay_session.specs.Words.{line_requests, asks_of, Taken, Event, said, all_put, commands_of, IsAnswerTo, AreAnswered, IsReplied, IsTaken, IsServedAs, AreServed, MaySometimeRefuse, MaySometimeBeLate}
+use Rattle.pay_rules.specs.InTurn.{IsIn}
+use Rattle.pay_journal.specs.Words.{is_barred, IsPriced, ClosesNothing, requests_in, Puts}
 use Rattle.pay_session.specs.declared.asks.Asks.{Asks}
 use Rattle.pay_session.specs.declared.asks.Asks.TheVariants as asks
 use Rattle.pay_session.specs.declared.request.Request.{Request}
-use Rattle.pay_rules.specs.InTurn.{IsIn}
-use Rattle.pay_keeping.specs.Words.{requests_in, Puts}
-use Rattle.pay_keeping.proofs.KeptAgain.{in_front, in_back, in_either}
+use Rattle.pay_serve.proofs.KeptAgain.{in_front, in_back, in_either}
 use Rattle.pay_serve.specs.Journals.{AreTakenAgain, journal_fault}
 use Rattle.pay_serve.specs.declared.fault.ServeFault.{ServeFault}
 

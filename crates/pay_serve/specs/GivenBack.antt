@@ -1,15 +1,17 @@
 -- What a service leaves in its journals gives its accounts back.
 use Rattle.std.proofs.Common.{◌≡◌, ℕ, false, List, [], ◌∷◌, ◌++◌, All, length, map, Option, Result, Ok, Bool, sym, ap, ◌∙◌, subst}
 use Rattle.std.specs.List.{AllByRecursion, AllZip}
-use Rattle.sqlite.specs.State.{State}
 use Rattle.pay_shard.specs.Words.{items_of, AreAskedOf, AreKept}
 use Rattle.pay_shard.specs.declared.item.Item.{Item}
 use Rattle.pay_lanes.specs.Words.{LaneParts, WorkerParts, IsNewLane, IsSameLane, Passed}
 use Rattle.pay_session.specs.Words.{Taken, AreQuotes, commands_of}
-use Rattle.pay_keeping.specs.Words.{GateParts, HasKept, AskAlike, AskWithin, AreWholeOf, texts_then, GiveBack, AreTaken}
-use Rattle.pay_keeping.specs.declared.limits.TheConstants.{SPARED_LANE}
+use Rattle.pay_serve.specs.KeepingGates.{GateParts}
+use Rattle.pay_serve.specs.Kept.{HasKept}
+use Rattle.pay_journal.specs.Words.{AskAlike, AskWithin, AreWholeOf, GiveBack, AreTaken}
+use Rattle.pay_serve.specs.HaveKept.{texts_then}
+use Rattle.pay_serve.specs.declared.limits.TheConstants.{SPARED_LANE}
 use Rattle.pay_office.specs.Words.{desk_parts, commands_sent, NoneIsHidden, HaveLetPass}
-use Rattle.pay_serve.specs.Closes.{Terms, new_desk, IsServedBy}
+use Rattle.pay_serve.specs.Closes.{Closing, Terms, new_desk, IsServedBy}
 use Rattle.pay_serve.specs.Journals.{AreTakenThrough, is_one_stuck}
 use Rattle.pay_serve.specs.Lanes.{AreAllWith, HasAskedIn}
 use Rattle.pay_serve.specs.Machines.{IsNewOffice, IsOver}
@@ -42,8 +44,8 @@ pub record IsLeft (Holds : GateParts → List Passed → Bool → Type 0) (terms
   pub kept : AllZip (HasKept (others ++ lane ∷ [])) passed.workers gates
 
 -- each service leaves that
-pub left_by : {Holds : GateParts → List Passed → Bool → Type 0} {terms : Terms} {before after : State × Option (List ℕ)} {result : Result Bool ServeFault}
-    → IsServedBy Holds terms before after result → IsLeft Holds terms
+pub left_by : {Holds : GateParts → List Passed → Bool → Type 0} {terms : Terms} {Closed : Closing} {before after : Option (List ℕ)} {result : Result Bool ServeFault}
+    → IsServedBy Holds terms Closed before after result → IsLeft Holds terms
 left_by served =
     let through = served.closed.through in
     record {

@@ -3,12 +3,12 @@ use Rattle.std.specs.Prelude.{◌≡◌, ◌⊎◌, ℕ, ◌+◌, Bool, true, fa
 use Rattle.std.specs.List.{list_any}
 use Rattle.jiff.specs.declared.tz.timezone.TimeZone.{TimeZone}
 use Rattle.pay_shard.specs.Words.{DeskParts, AreKept}
-use Rattle.pay_session.specs.Words.{IsReplayed, IsEnded}
-use Rattle.pay_session.specs.declared.replaying.Replayed.{Replayed}
-use Rattle.pay_session.specs.declared.replaying.ReplayFault.{ReplayFault}
-use Rattle.pay_session.specs.declared.replaying.ReplayFault.TheVariants as replaying
+use Rattle.pay_journal.specs.Words.{IsReplayed, IsEnded}
+use Rattle.pay_journal.specs.declared.replaying.Replayed.{Replayed}
+use Rattle.pay_journal.specs.declared.replaying.ReplayFault.{ReplayFault}
+use Rattle.pay_journal.specs.declared.replaying.ReplayFault.TheVariants as replaying
 use Rattle.pay_lanes.specs.Words.{LaneParts, IsSameLane}
-use Rattle.pay_keeping.specs.Words.{GateParts}
+use Rattle.pay_serve.specs.KeepingGates.{GateParts}
 use Rattle.pay_office.specs.Words.{LaneDeskParts, desk_parts}
 use Rattle.pay_serve.specs.declared.fault.ServeFault.{ServeFault}
 use Rattle.pay_serve.specs.declared.fault.ServeFault.TheVariants.{Memory, Journal, JournalLine}

@@ -1,7 +1,11 @@
 pub mod Causes
 pub mod Closes
 pub mod GivenBack
+pub mod HaveKept
 pub mod Journals
+pub mod Keeping
+pub mod KeepingGates
+pub mod Kept
 pub mod Lanes
 pub mod Machines
 pub mod TriedLanes

@@ -1,46 +1,41 @@
 //! The close of a day over one lane, once all others have ended.
 ghost use Rattle.std.specs.Prelude.{◌≡◌, ◌≤◌, ◌<◌, [], ◌∷◌, ◌++◌, length, map as each, vec_capacity, OnOk, OnErr, IfErr};
-ghost use Rattle.sqlite.specs.Held.{state};
 ghost use Rattle.pay_day.specs.declared.limits.TheConstants.{FIRST_DAY, LAST_DAY};
 ghost use Rattle.pay_shard.specs.Words.{AreKept};
 ghost use Rattle.pay_wire.specs.Words.{IsFlushed, IsCaused, HasFault};
 ghost use Rattle.pay_lanes.specs.Words.{IsSameLane, began_of};
-ghost use Rattle.pay_serve.specs.Closes.{IsClosedOver, IsClosedThrough, IsTold, IsDayClosed};
+ghost use Rattle.pay_serve.specs.Closes.{IsClosedOver, IsClosedThrough, IsTold, IsDayClosed, day_of};
 ghost use Rattle.pay_serve.specs.Lanes.{HasShards, AreAllWith};
 ghost use Rattle.pay_office.specs.Words.{NoneIsHidden, HaveLetPass};
 ghost use Rattle.pay_serve.specs.Machines.{IsOverWith};
 
 use crate::fault::ServeFault;
-use pay_close::LedgerTill;
-use pay_ledger::Ledger;
 use pay_office::{Gate, Lane, LaneDesk, Office, shut};
 use pay_rules::Fares;
 use pay_session::Till;
 use pay_shard::Desk;
 use pay_wire::{Closed, Reply, ToldWriter, WriteFault, send};
-use sqlite::Alter;
 use std::alloc::Global;
 use std::sync::Wait;
 use std::thread::Threads;
 
-/// Closes a service day, counted from 1970-01-01, into a ledger over a desk, and writes what came of it. Whether it was closed; if
-/// not, its refusal is written.
-pub fn close_over<D: Desk, S: Alter, W: ToldWriter>(
-    alloc: Global,
+/// Closes a service day, counted from 1970-01-01, over a desk, and writes what came of it. Whether it was closed; if not, its refusal
+/// is written.
+pub fn close_over<D: Desk, T: Till, W: ToldWriter>(
     desk: &mut D,
-    ledger: &mut Ledger<S>,
+    till: &mut T,
     day: u32,
     writer: &mut W,
 ) -> Result<bool, WriteFault>
     requires { (FIRST_DAY ≤ day) × (day ≤ LAST_DAY) }
-    ensures closed { IsClosedOver D.parts day (desk.old, state S.Store ledger.old, W.contents writer.old)
-        (desk.new, state S.Store ledger.new, W.contents writer.new) result }
+    ensures closed { IsClosedOver D.parts (λ of put given. T.Closes till.old day of put given till.new) day (desk.old, W.contents writer.old)
+        (desk.new, W.contents writer.new) result }
     ensures flushed { OnOk result (IsFlushed W.Tells writer.new) }
     ensures cause { IfErr result (λ fault. IsCaused W.Tells fault writer.new) }
     ensures transcript { AreKept (D.parts desk.old).transcript (D.parts desk.new).transcript }
     ensures same_desk { (D.parts desk.new).standing ≡ (D.parts desk.old).standing }
+    ensures same_till { T.origin till.new ≡ T.origin till.old }
 {
-    let mut till = LedgerTill::new(alloc, ledger);
     match till.close(desk, day) {
         Ok(postings) => {
             send(writer, &Reply::Closed(Closed { day, postings }))?;
@@ -54,25 +49,26 @@ pub fn close_over<D: Desk, S: Alter, W: ToldWriter>(
 }
 
 /// The same over a desk that begins with a lane. The lane is given back.
-fn close_through<R: Wait + Copy, S: Alter, W: ToldWriter>(
+fn close_through<R: Wait + Copy, T: Till, W: ToldWriter>(
     rt: R,
     alloc: Global,
     lane: Lane,
-    ledger: &mut Ledger<S>,
+    till: &mut T,
     day: u32,
     writer: &mut W,
 ) -> (Result<bool, WriteFault>, Lane)
     requires day { (FIRST_DAY ≤ day) × (day ≤ LAST_DAY) }
     requires shards { HasShards lane }
-    ensures closed { IsClosedThrough day (lane, state S.Store ledger.old, W.contents writer.old)
-        (result.1, state S.Store ledger.new, W.contents writer.new) result.0 }
+    ensures closed { IsClosedThrough (λ of put given. T.Closes till.old day of put given till.new) day (lane, W.contents writer.old)
+        (result.1, W.contents writer.new) result.0 }
     ensures flushed { OnOk result.0 (IsFlushed W.Tells writer.new) }
     ensures cause { IfErr result.0 (λ fault. IsCaused W.Tells fault writer.new) }
     ensures same { IsSameLane lane result.1 }
     ensures none_hidden { NoneIsHidden result.1 }
+    ensures same_till { T.origin till.new ≡ T.origin till.old }
 {
     let mut desk = LaneDesk::new(rt, alloc, lane);
-    let closed = close_over(alloc, &mut desk, ledger, day, writer);
+    let closed = close_over(&mut desk, till, day, writer);
     (closed, desk.into_lane())
 }
 
@@ -103,17 +99,16 @@ fn told(closed: Result<bool, WriteFault>) -> Result<bool, ServeFault>
     Ok(closed?)
 }
 
-/// Closes a service day, counted from 1970-01-01, into a ledger over the last lane of an office, whose other lanes are back; writes
-/// what came of it; and ends the threads of the office, whose gates are given back. Whether the day was closed; if not, its refusal is
-/// written. Over a new office whose shards all gave their quotes it is the close of one machine that was asked what stands in their
-/// journals.
-pub fn close_day<F: Fares, G: Gate, R: Threads + Wait + Copy, S: Alter, W: ToldWriter>(
+/// Closes a service day, counted from 1970-01-01, over the last lane of an office, whose other lanes are back; writes what came of it;
+/// and ends the threads of the office, whose gates are given back. Whether the day was closed; if not, its refusal is written. Over a
+/// new office whose shards all gave their quotes it is the close of one machine that was asked what stands in their journals.
+pub fn close_day<F: Fares, G: Gate, R: Threads + Wait + Copy, T: Till, W: ToldWriter>(
     rt: R,
     alloc: Global,
     office: Office<F, G>,
     lanes: Vec<Lane>,
     last: Lane,
-    ledger: &mut Ledger<S>,
+    till: &mut T,
     day: u32,
     writer: &mut W,
 ) -> (Result<bool, ServeFault>, Vec<G>)
@@ -121,17 +116,18 @@ pub fn close_day<F: Fares, G: Gate, R: Threads + Wait + Copy, S: Alter, W: ToldW
     requires shards { HasShards last }
     requires room { length lanes.items < vec_capacity lanes }
     requires all { AreAllWith office lanes.items last }
-    ensures closed { IsDayClosed (λ ls journals. HaveLetPass G.Holds office ls journals result.1.items) office lanes.items day
-        (last, state S.Store ledger.old, W.contents writer.old) (state S.Store ledger.new, W.contents writer.new, result.0) }
+    ensures closed { IsDayClosed (day_of (λ ls journals. HaveLetPass G.Holds office ls journals result.1.items) office lanes.items day)
+        (λ of put given. T.Closes till.old day of put given till.new) (last, W.contents writer.old) (W.contents writer.new, result.0) }
     ensures began { each G.began result.1.items ≡ began_of office }
     ensures flushed { OnOk result.0 (IsFlushed W.Tells writer.new) }
     ensures cause { OnErr result.0 (HasFault W.Tells writer.new) }
+    ensures same_till { T.origin till.new ≡ T.origin till.old }
 {
     pay_lanes::laws::still_together();
     pay_lanes::laws::same_lanes();
     pay_lanes::laws::same_workers();
     pay_close::laws::any_shards();
-    let (closed, last) = close_through(rt, alloc, last, ledger, day, writer);
+    let (closed, last) = close_through(rt, alloc, last, till, day, writer);
     let gates = end(&rt, office, lanes, last);
     (told(closed), gates)
 }

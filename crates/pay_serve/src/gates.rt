@@ -1,11 +1,11 @@
 //! The gates of the shards of a service.
 ghost use Rattle.std.specs.Prelude.{◌≡◌, false, [], All, length, map as each, IfOk, IsTrue};
-ghost use Rattle.pay_kept.specs.Words.{CanFail};
-ghost use Rattle.pay_keeping.specs.Words.{HoldsPassed};
+ghost use Rattle.pay_journal.specs.Words.{CanFail};
+ghost use Rattle.pay_serve.specs.KeepingGates.{HoldsPassed};
 ghost use Rattle.pay_serve.specs.Journals.{is_one_stuck};
 
-use pay_keeping::KeepingGate;
-use pay_kept::Keeper;
+use crate::gate::KeepingGate;
+use pay_journal::Keeper;
 use std::alloc::{AllocError, Global};
 
 /// A gate for each keeper, in order.

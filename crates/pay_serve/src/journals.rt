@@ -7,8 +7,8 @@ ghost use Rattle.pay_serve.specs.Lanes.{HasShards};
 
 use crate::fault::ServeFault;
 use jiff::tz::TimeZone;
+use pay_journal::{ReplayFault, replay};
 use pay_office::{Lane, LaneDesk};
-use pay_session::{ReplayFault, replay};
 use pay_shard::Desk;
 use std::alloc::Global;
 use std::sync::Wait;

@@ -1,13 +1,16 @@
 //! Serves sessions at sockets: [`listen`] takes a port for each lane, and [`serve`] answers the connections of each lane in a thread of
 //! its own, over an office of several shards, until all have ended. What journals have is taken again before, and what the shards newly
-//! accept is kept behind it. [`close_day`] then closes a day, and shuts the office.
+//! accept is kept after it, by a [`KeepingGate`] for each. [`close_day`] then closes a day, and shuts the office. `laws` says what a
+//! gate keeps of a shard's journal, and what a service leaves in its journals.
 #![tactic(auto)]
 
 mod begins;
 mod closing;
 mod connection;
 mod fault;
+mod gate;
 mod gates;
+mod given;
 mod journals;
 mod lanes;
 pub mod laws;
@@ -20,6 +23,8 @@ mod sides;
 pub use closing::{close_day, close_over};
 pub use connection::{serve_connections, serve_lane};
 pub use fault::ServeFault;
+pub use gate::KeepingGate;
+pub use given::Given;
 pub use journals::{take_again, take_through};
 pub use listening::listen;
 pub use plan::Plan;

@@ -1,15 +1,14 @@
 //! The whole service.
-ghost use Rattle.std.specs.Prelude.{◌≡◌, ◌≤◌, ◌<◌, true, All, length, map as each, vec_items, vec_capacity, IfOk, IfErr, OnOk};
+ghost use Rattle.std.specs.Prelude.{◌≡◌, ◌≤◌, ◌<◌, true, All, length, map as each, vec_capacity, IfOk, IfErr, OnOk};
 ghost use Rattle.std.specs.Arc.{arc_value};
-ghost use Rattle.sqlite.specs.Held.{state};
 ghost use Rattle.pay_day.specs.declared.limits.TheConstants.{FIRST_DAY, LAST_DAY};
 ghost use Rattle.pay_wire.specs.Words.{IsFlushed};
-ghost use Rattle.pay_kept.specs.Words.{CanFail};
+ghost use Rattle.pay_journal.specs.Words.{CanFail};
 ghost use Rattle.pay_lanes.specs.Words.{IsNewLane, began_of};
-ghost use Rattle.pay_keeping.specs.Words.{HoldsPassed};
-ghost use Rattle.pay_keeping.specs.declared.limits.TheConstants.{SPARED_LANE};
+ghost use Rattle.pay_serve.specs.KeepingGates.{HoldsPassed};
+ghost use Rattle.pay_serve.specs.declared.limits.TheConstants.{SPARED_LANE};
 ghost use Rattle.pay_serve.specs.Causes.{IsOutOfPlan, IsUnopened, IsServeCause};
-ghost use Rattle.pay_serve.specs.Closes.{IsServed, IsStopped, terms};
+ghost use Rattle.pay_serve.specs.Closes.{IsServed, IsStopped, terms_of};
 ghost use Rattle.pay_serve.specs.Journals.{is_one_stuck, told_with};
 ghost use Rattle.pay_serve.specs.Lanes.{HasShards, AreAllWith};
 ghost use Rattle.pay_serve.specs.Machines.{IsNewOffice};
@@ -17,33 +16,33 @@ ghost use Rattle.pay_serve.specs.Machines.{IsNewOffice};
 use crate::begins::Begins;
 use crate::closing::{close_day, end};
 use crate::fault::ServeFault;
+use crate::gate::KeepingGate;
 use crate::gates::{all_gates, is_one_stuck};
+use crate::given::Given;
 use crate::journals::take_through;
 use crate::lanes::{Service, begin_all, end_all};
 use crate::plan::Plan;
-use jiff::tz::TimeZone;
-use pay_book::Book;
-use pay_keeping::KeepingGate;
-use pay_kept::Keeper;
-use pay_ledger::Ledger;
+use pay_journal::Keeper;
 use pay_office::{Lane, Office, start};
+use pay_rules::Fares;
+use pay_session::Till;
 use pay_tables::Tables;
 use pay_wire::ToldWriter;
-use sqlite::Alter;
 use std::alloc::{AllocError, Global};
 use std::net::TcpListener;
 use std::sync::{Arc, Wait};
 use std::thread::Threads;
 
 /// Begins the shards of a plan, each with a keeper, and opens its lanes to them and, before these, the one that is spared.
-fn open_office<R, K>(
+fn open_office<F, R, K>(
     rt: R,
     alloc: Global,
     tables: Arc<Tables>,
     plan: &Plan,
     keepers: Vec<K>,
-) -> Result<(Office<Book, KeepingGate<K>>, Lane, Vec<Lane>), ServeFault>
+) -> Result<(Office<F, KeepingGate<K>>, Lane, Vec<Lane>), ServeFault>
 where
+    F: Fares + Send + 'static,
     R: Threads + Wait + Copy + Send + 'static,
     K: Keeper + Send + 'static,
     requires { length keepers.items ≡ plan.now.shards }
@@ -81,38 +80,43 @@ fn told_with<K: Keeper>(
 
 /// Takes all lines of journals again over one lane, and then serves the connections of a plan's lanes, each lane's at the listener
 /// beside it and in a thread of its own, one after another, until all have ended. The line of what a shard newly accepts is kept by its
-/// keeper before any lane can have the answer. Then it closes the plan's day into a ledger over the first lane, and writes what came of
+/// keeper before any lane can have the answer. Then it closes the plan's day by a till over the first lane, and writes what came of
 /// it: what one machine says that was asked what all lanes asked. Whether the day was closed; if not, its refusal is written. Where a
 /// line of a journal is not accepted, or a lane gets no thread, no connection is served, no line is kept, and the day is not closed.
-pub fn serve<R, K, S: Alter, W: ToldWriter>(
+pub fn serve<F, R, K, T: Till, W: ToldWriter>(
     rt: R,
     alloc: Global,
+    given: Given<'_, K>,
     listeners: Vec<TcpListener>,
-    tables: Arc<Tables>,
-    zone: TimeZone<'static>,
-    plan: &Plan,
-    texts: &[Vec<u8>],
-    keepers: Vec<K>,
-    ledger: &mut Ledger<S>,
+    till: &mut T,
     writer: &mut W,
 ) -> Result<bool, ServeFault>
 where
+    F: Fares + Send + 'static,
     R: Threads + Wait + Copy + Send + 'static,
     K: Keeper + Send + 'static,
-    requires keepers { length keepers.items ≡ plan.now.shards }
-    requires day { (FIRST_DAY ≤ plan.now.close) × (plan.now.close ≤ LAST_DAY) }
-    requires listeners { length listeners.items ≡ plan.now.lanes }
-    ensures served { IsServed (HoldsPassed K.holds K.HasFailed K.IsSettled) (terms (arc_value tables) zone.entry (each vec_items texts.now) (each K.holds keepers.items) plan.now.close)
-        (state S.Store ledger.old, W.contents writer.old) (state S.Store ledger.new, W.contents writer.new) result ((ledger.new ≡ ledger.old) × (writer.new ≡ writer.old)) }
-    ensures stopped { IfErr result (IsStopped (terms (arc_value tables) zone.entry (each vec_items texts.now) (each K.holds keepers.items) plan.now.close)) }
+    requires keepers { length given.keepers.items ≡ given.plan.shards }
+    requires day { (FIRST_DAY ≤ given.plan.close) × (given.plan.close ≤ LAST_DAY) }
+    requires listeners { length listeners.items ≡ given.plan.lanes }
+    ensures served { IsServed (HoldsPassed K.holds K.HasFailed K.IsSettled) (terms_of K.Keeper given.entry) (λ of put answer. T.Closes till.old given.entry.plan.close of put answer till.new)
+        (W.contents writer.old, W.contents writer.new) result ((till.new ≡ till.old) × (writer.new ≡ writer.old)) }
+    ensures stopped { IfErr result (IsStopped (terms_of K.Keeper given.entry)) }
     ensures flushed { OnOk result (IsFlushed W.Tells writer.new) }
-    ensures within { OnOk result (IsOutOfPlan plan.now → ⊥) }
-    ensures cause { IfErr result (λ fault. IsServeCause W.Tells (CanFail K.HasFailed) plan.now fault writer.new) }
+    ensures within { OnOk result (IsOutOfPlan given.entry.plan → ⊥) }
+    ensures cause { IfErr result (λ fault. IsServeCause W.Tells (CanFail K.HasFailed) given.entry.plan fault writer.new) }
+    ensures same_till { T.origin till.new ≡ T.origin till.old }
 {
     pay_lanes::laws::still_together();
     pay_lanes::laws::same_lanes();
     pay_lanes::laws::same_workers();
-    pay_keeping::laws::passed_are_kept::<K>();
+    crate::laws::passed_are_kept::<K>();
+    let Given {
+        tables,
+        zone,
+        plan,
+        texts,
+        keepers,
+    } = given;
     let service = Service {
         alloc,
         sessions: plan.sessions,
@@ -121,7 +125,7 @@ where
     let service = Arc::new(alloc, service).map_err(AllocError::from)?;
     let mut tried = Vec::with_capacity(alloc, plan.lanes as usize)?;
     let mut back = Vec::with_capacity(alloc, plan.lanes as usize + 1)?;
-    let (office, first, lanes) = open_office(rt, alloc, tables, plan, keepers)?;
+    let (office, first, lanes) = open_office::<F, R, K>(rt, alloc, tables, &plan, keepers)?;
     let (taken, last) = take_through(rt, alloc, texts, &zone, first);
     match taken {
         Ok(()) => {}
@@ -137,6 +141,6 @@ where
         end(&rt, office, back, last);
         return Err(ServeFault::from(fault));
     }
-    let (closed, gates) = close_day(rt, alloc, office, back, last, ledger, plan.close, writer);
+    let (closed, gates) = close_day(rt, alloc, office, back, last, till, plan.close, writer);
     told_with(closed, gates.as_slice())
 }

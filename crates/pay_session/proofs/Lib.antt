@@ -1,15 +1,12 @@
 pub mod AskedFor
 pub mod BegunLines
-pub mod CommandLines
 pub mod Fills
 pub mod InputLines
 pub mod InputPieces
-pub mod LinesOfCommands
 pub mod Newlines
 pub mod OverDesk
 pub mod PutCommands
 pub mod ReaderCalls
-pub mod Replays
 pub mod SessionSteps
 pub mod UnendedLine
 pub mod WholeSession

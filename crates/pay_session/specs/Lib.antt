@@ -1,11 +1,8 @@
 pub mod Requests
-pub mod Replays
 pub mod Asks
 pub mod AskedFor
 pub mod Calls
-pub mod CommandLines
 pub mod Events
-pub mod Lines
 pub mod Served
 pub mod Serving
 pub mod Session

@@ -98,6 +98,15 @@ abbrev pub HasOneCutting : Type 0
 HasOneCutting = (input rest : List ℕ) (texts : List (List ℕ)) → AllByRecursion (λ (t : List ℕ). has_newline t ≡ false) texts → has_newline rest ≡ false
     → input ≡ flat_map (λ (t : List ℕ). t ++ codes "\n") texts ++ rest → (map (λ (l : InputLine). l.text) (input_lines input) ≡ texts) × (rest_of input ≡ rest)
 
+-- How each text is read: line by line, up to the rest.
+pub record IsReadByLine : Type 0 where
+  -- the first line, and then what stands after its newline
+  pub line : (text more : List ℕ) → has_newline text ≡ false → line_requests (text ++ 10 ∷ more) ≡ request_of text ∷ line_requests more
+  pub rest : (text more : List ℕ) → rest_of (text ++ 10 ∷ more) ≡ rest_of more
+  -- a text without a newline has no line, and is all rest
+  pub no_line : (text : List ℕ) → has_newline text ≡ false → line_requests text ≡ []
+  pub all_rest : (text : List ℕ) → has_newline text ≡ false → rest_of text ≡ text
+
 -- a line that is the spelling of no command
 abbrev pub SpellsNothing : List ℕ → Type 0
 SpellsNothing line = (command : Command) → Spells line command → ⊥

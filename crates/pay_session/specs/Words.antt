@@ -1,16 +1,13 @@
--- Words for the crates above: what requests are and come to, what they ask of a desk, what comes of them over a desk and a till, how a
--- session may end, what a replay is, and commands as lines.
-pub use Rattle.pay_session.specs.Requests.{input_lines, rest_of, has_newline, request_of, line_requests, requests_of, quits, unread}
+-- Words for the crates above: what requests are and come to, what they ask of a desk, what comes of them over a desk and a till, and how
+-- a session may end.
+pub use Rattle.pay_session.specs.Requests.{input_lines, rest_of, has_newline, request_of, line_requests, requests_of, quits, unread, IsReadByLine}
 pub use Rattle.pay_session.specs.Asks.{asks_of}
 pub use Rattle.pay_session.specs.AskedFor.{IsAskedIn, AreAllAskedIn}
 unfoldable pub use Rattle.pay_session.specs.AskedFor.{AreAskedIn}
 pub use Rattle.pay_session.specs.Calls.{ReaderCall, ShowsNothing, FailsBy, IsLastFill, HasNoEnd}
 pub use Rattle.pay_session.specs.Events.{Taken, Event, refusal_of, refusal_of_desk, said, said_of_close, text_of, all_put, commands_of, IsAnswerTo, AreAnswered, lacks_memory, any_lacks_memory}
-pub use Rattle.pay_session.specs.Lines.{spelled_of, line_of, lines_of_items, AskedByItsLine}
 pub use Rattle.pay_session.specs.Served.{AreQuotes, AreInTime, IsShort, is_of_close, IsClose, IsClosed, IsReplied, IsTaken, IsRefused, IsTillClosed, IsServedAs, AreServed}
 pub use Rattle.pay_session.specs.Serving.{IsWithin, IsClosedAt}
 unfoldable pub use Rattle.pay_session.specs.Serving.{MaySometimeRefuse, MaySometimeBeLate}
 pub use Rattle.pay_session.specs.Session.{Sides, IsSession, EndsSo, StopsReading, StopsWriting, FailsSo, sides, Ends, Fails}
 pub use Rattle.pay_session.specs.Stops.{IsBroken}
-pub use Rattle.pay_session.specs.Replays.{is_barred, IsPriced, why_ended, ClosesNothing, AreHanded, NoneIsBarred, AreAccepted, IsReplayed, IsEndedBy, IsEndedAt, IsEnded}
-pub use Rattle.pay_session.specs.CommandLines.{lines_of, IsCutTo, LinesAreReadBack, CutLinesAreRead, OneLineIsLost}

@@ -1,13 +1,11 @@
-//! Laws of the lines: what the definitions mean by which the input is cut, and what is read of commands that were written. Each law
-//! is the contract of a function that does nothing: a caller whose proof needs a law calls its function.
+//! Laws of the lines: what the definitions mean by which the input is cut. Each law is the contract of a function that does nothing: a
+//! caller whose proof needs a law calls its function.
 ghost use Rattle.std.specs.Prelude.{◌≡◌, ◌≢◌, ℕ, ◌<◌, ◌≤◌, true, false, List, [], ◌∷◌, ◌++◌, length, codes};
 ghost use Rattle.std.specs.List.{AllByRecursion, flat_map};
 ghost use Rattle.pay_wire.specs.declared.command.Command.TheVariants.{Quit};
 ghost use Rattle.pay_wire.specs.declared.limits.TheConstants.{MOST_LINE_BYTES};
-ghost use Rattle.pay_session.specs.Lines.{AskedByItsLine};
 ghost use Rattle.pay_session.specs.declared.request.Request.TheVariants as requests;
-ghost use Rattle.pay_session.specs.CommandLines.{LinesAreReadBack, CutLinesAreRead, OneLineIsLost};
-ghost use Rattle.pay_session.specs.Requests.{InputLine, input_lines, rest_of, has_newline, request_of, line_requests, requests_of, quits, unread, HasOneCutting, SpellsNothing};
+ghost use Rattle.pay_session.specs.Requests.{InputLine, input_lines, rest_of, has_newline, request_of, line_requests, requests_of, quits, unread, HasOneCutting, IsReadByLine, SpellsNothing};
 
 /// The lines and the rest are the input, cut at its newlines, and no other cutting is.
 pub fn cut_at_newlines()
@@ -51,25 +49,8 @@ pub fn session_goes_on()
     pay_wire::laws::read_as_spelled();
 }
 
-/// Commands that are written as lines are read back from them, and nothing is left over.
-pub fn read_back()
-    ensures { LinesAreReadBack }
-{
-    pay_wire::laws::read_as_spelled();
-    pay_wire::laws::each_is_a_line();
-}
-
-/// Where the text of such lines is cut, those that are whole are read, and no other command. So it is the last line alone that is
-/// lost where the cut is within that one.
-pub fn cut()
-    ensures anywhere { CutLinesAreRead }
-    ensures last { OneLineIsLost }
-{
-    pay_wire::laws::read_as_spelled();
-    pay_wire::laws::each_is_a_line();
-}
-
-/// What a line has a desk accept is spelled by that line: a tap and a correction have the command that asked for them.
-pub fn one_line()
-    ensures { AskedByItsLine }
+/// A text is read line by line: its first line, and then what stands after that. A text without a newline has no line, and is all
+/// rest.
+pub fn line_by_line()
+    ensures { IsReadByLine }
 {}

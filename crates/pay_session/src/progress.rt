@@ -7,7 +7,7 @@ ghost use Rattle.pay_session.specs.Calls.{IsFill, IsLastFill, ShowsNothing};
 ghost use Rattle.pay_session.specs.Stops.{IsStop, IsStopOfFill, IsWriteStop};
 
 use crate::begun_line::BegunLine;
-use crate::cut::cut;
+use crate::cutting::cut;
 use crate::limits::MOST_FILLS;
 use crate::request::{Request, request_of_rest};
 use crate::service::Answers;

@@ -60,7 +60,7 @@ impl<'a, D: Desk, T: Till> Answers for Service<'a, D, T> {
 
     fn answer(&mut self, request: Request) -> Reply {
         match asks_of(self.zone, request) {
-            Asks::Put(command) => put(self.desk, command),
+            Asks::Put(command) => reply_of(self.desk, command),
             Asks::Close(day) => close(self.till, self.desk, day),
             Asks::Quit => Reply::Bye,
             Asks::No(why) => Reply::No(why),
@@ -68,8 +68,8 @@ impl<'a, D: Desk, T: Till> Answers for Service<'a, D, T> {
     }
 }
 
-/// Hands a command to a desk and says its reply.
-pub(crate) fn put<D: Desk>(desk: &mut D, command: Command) -> Reply
+/// Hands a command to a desk and says its reply, as a line says it.
+pub fn reply_of<D: Desk>(desk: &mut D, command: Command) -> Reply
     requires { IsOfAccount command }
     ensures put { IsPutAt D.parts desk.old desk.new command result }
     ensures transcript { AreKept (D.parts desk.old).transcript (D.parts desk.new).transcript }

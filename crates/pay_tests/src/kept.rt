@@ -3,7 +3,7 @@
 use crate::desks::empty_desk;
 use crate::given::{MONDAY, expect_same, sample, tap_at};
 use pay_book::Book;
-use pay_kept::{FileKeeper, KeptDesk, Lasting};
+use pay_journal::{KeptDesk, Lasting, LineKeeper};
 use pay_rules::{Kind, Tap};
 use pay_shard::{Asked, Command, Desk, DeskFault};
 use std::io;
@@ -39,6 +39,8 @@ impl Lasting for Torn {
 
     ghost Settles = { λ _ _ _. ⊤ };
 
+    ghost Cuts = { λ _ _ _. ⊤ };
+
     fn settle(&mut self) -> io::Result<()> {
         if self.settles == 0 {
             return Err(io::Error::from(ErrorKind::StorageFull));
@@ -61,13 +63,13 @@ TAP 1 2 7 1704700800 50 BUS
 /// How long each is, with its newline.
 const LINE_BYTES: usize = 28;
 
-/// A desk that keeps lines behind three bytes, of which one is cut off.
+/// A desk that keeps lines after three bytes, of which the last is cut off before the first line.
 fn kept_desk<R: Abort + AllocGlobal>(
     rt: &R,
     room: usize,
     settles: usize,
     syncs: bool,
-) -> KeptDesk<Book, FileKeeper<Torn>> {
+) -> KeptDesk<Book, LineKeeper<Torn>> {
     let mut held = Vec::new(rt.alloc());
     held.extend_from_slice(b"..T").expect(rt, "memory");
     let writer = Torn {
@@ -75,17 +77,17 @@ fn kept_desk<R: Abort + AllocGlobal>(
         settles,
         held,
     };
-    let keeper = FileKeeper::begin(writer, 2, syncs).expect(rt, "a keeper");
+    let keeper = LineKeeper::begin(writer, 2, syncs);
     KeptDesk::begin(empty_desk(rt, sample(rt)), keeper)
 }
 
 /// How a desk refuses what is put, or whether its reply is got.
 fn put<R: Abort>(
     rt: &R,
-    desk: &mut KeptDesk<Book, FileKeeper<Torn>>,
+    desk: &mut KeptDesk<Book, LineKeeper<Torn>>,
     tap: Tap,
 ) -> Result<bool, DeskFault> {
-    pay_shard::laws::put_then_get::<KeptDesk<Book, FileKeeper<Torn>>>();
+    pay_shard::laws::put_then_get::<KeptDesk<Book, LineKeeper<Torn>>>();
     let command = Command::of(Asked::Tap(tap)).expect(rt, "a command");
     let ticket = desk.put(command)?;
     Ok(desk.get(ticket).is_ok())
@@ -100,7 +102,7 @@ fn second<R: Abort>(rt: &R) -> Tap {
 }
 
 /// So these are the bytes that are held.
-fn expect_held<R: Abort>(rt: &R, desk: &KeptDesk<Book, FileKeeper<Torn>>, lines: &[u8]) {
+fn expect_held<R: Abort>(rt: &R, desk: &KeptDesk<Book, LineKeeper<Torn>>, lines: &[u8]) {
     let held = desk.keeper().writer.held.as_slice();
     expect_same(
         rt,
@@ -157,8 +159,9 @@ fn settles_before_quotes(rt: HostRuntime) {
     let mut desk = kept_desk(&rt, 999, 1, false);
     expect_same(&rt, put(&rt, &mut desk, first(&rt)), Ok(true));
     expect_same(&rt, desk.put(quotes).is_ok(), true);
+    // The second is applied, but no reply to it can be got.
     expect_same(&rt, desk.put(quotes).err(), Some(DeskFault::NotKept));
-    expect_same(&rt, desk.shard().journal().len(), 2);
+    expect_same(&rt, desk.shard().journal().len(), 3);
 }
 
 #[test]

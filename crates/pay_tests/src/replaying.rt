@@ -5,7 +5,7 @@ use crate::desks::empty_desk;
 use crate::given::{expect_same, sample};
 use jiff::tz::TimeZone;
 use pay_book::Book;
-use pay_session::{ReplayFault, Replayed, replay};
+use pay_journal::{ReplayFault, Replayed, replay};
 use pay_shard::LocalDesk;
 use pay_wire::Refusal;
 use std::process::Abort;

@@ -119,7 +119,8 @@ The lines and replies, the fare file and the faults are described in docs/FORMAT
 /// What stands below the help of `run`.
 pub const BELOW_RUN: &str = "\
 With --journal FILE the lines that were accepted before are taken first, and with --ledger FILE days
-are closed into a file. --sync is taken with --journal alone.
+are closed into a file. With --journal and without --ledger nothing is closed, and a CLOSE is refused
+by 34: what is posted would not be there for the next session. --sync is taken with --journal alone.
 
 Example: account 7 boards a bus in London on Monday 8 January 2024 at 07:00. The reply names the
 day, counted from 1970-01-01, its price and that of its week, in pence.
@@ -185,7 +186,8 @@ another, in a thread of its own. On a connection lines come in, and the reply to
 CLOSE is refused by 34. The accounts are spread over N shards, each in a thread of its own. When
 all connections of all lanes have ended, DAY is closed, the lines of that close are printed, and
 the program ends. With --journal FOLDER the lines that were accepted before are taken first, and
-with --ledger FILE the day is closed into a file.
+with --ledger FILE the day is closed into a file. With --journal and without --ledger it is not
+closed: its refusal by 34 is printed, and the status is 1.
 
 Example: two lanes, on ports 9000 and 9001, serve a connection each, and day 19730 is closed.
   $ farebox serve examples/bus.toml GMT0BST,M3.5.0/1,M10.5.0 --port 9000 --lanes 2 --shards 4 \\

@@ -1,7 +1,7 @@
 use Rattle.std.proofs.Common.{◌≤◌, length, map, rules, sym, subst, arith, refl}
 use Rattle.std.proofs.lemmas.List.{length-map, take_all}
 use Rattle.std.proofs.lemmas.Result.{err_from_is_err_and}
-use Rattle.pay_jobs.specs.Past.{HasReplayed}
+use Rattle.pay_run.specs.Words.{HasReplayed}
 use Rattle.pay_jobs.specs.Replays.{all_requests}
 use Rattle.pay_jobs.proofs.Summaries.{rests_more, requests_more, stopped_among}
 use Rattle.pay_jobs.proofs.replays.replay_each.Goals as goal

@@ -1,6 +1,6 @@
 use Rattle.std.proofs.Common.{◌≡◌, ◌≤◌, ◌*◌, ◌-◌, ◌^◌, [], map, take}
 use Rattle.pay_tables.specs.Words.{FareTables}
-use Rattle.pay_jobs.specs.Past.{HasReplayed}
+use Rattle.pay_run.specs.Words.{HasReplayed}
 use Rattle.pay_jobs.specs.Replays.{all_requests, rests}
 use Rattle.pay_jobs.proofs.replays.replay_each.Given as goal
 

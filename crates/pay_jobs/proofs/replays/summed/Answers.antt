@@ -1,10 +1,9 @@
 use Rattle.std.proofs.Common.{◌∙◌, [], None, ap, refl, subst}
 use Rattle.std.proofs.lemmas.Result.{err_from_is_err_and}
 use Rattle.std.specs.Arc.{arc_value}
-use Rattle.pay_shard.specs.Words.{ShardParts, AreInPlace}
-use Rattle.pay_jobs.specs.Machine.{new_machine}
-use Rattle.pay_jobs.specs.Replays.{commands_in, summary_line, summary_of}
-use Rattle.pay_jobs.proofs.PastLines.{has_none, gives_back, journal_commands}
+use Rattle.pay_shard.specs.Words.{ShardParts}
+use Rattle.pay_run.specs.Words.{commands_in, new_machine}
+use Rattle.pay_jobs.specs.Replays.{summary_line, summary_of}
 use Rattle.pay_jobs.proofs.ToldReplays.{unsummed_refused, unsummed_memory, unsummed_stopped}
 use Rattle.pay_jobs.proofs.replays.summed.Goals as goal
 
@@ -24,7 +23,7 @@ returns-in_err-rest-clause-fails c =
     let begun = c.new_desk-desk.ensures in
     let p = err_from_is_err_and c.from_residual-in_err-rest.result c.from_residual-in_err-rest.ensures.1 in
     rw (p.1, p.2) (unsummed_stopped _ _ _ _ c.in_ok-zone.zone (arc_value c.in_ok-tables.tables) (record { says = c.in_ok-tables.ensures.ok; rule = c.in_ok-zone.ensures.ok; new = refl; posted = refl })
-    (c.in_err-rest.ensures.stopped (arc_value c.in_ok-tables.tables) (has_none _ _ _ begun.tables begun.base begun.journal)))
+    (c.in_err-rest.ensures.stopped (arc_value c.in_ok-tables.tables) (begun.none c.in_ok-zone.zone)))
 
 pub returns-in_err-summary-clause-fails : goal.returns-in_err-summary-clause-fails
 returns-in_err-summary-clause-fails c =
@@ -41,12 +40,11 @@ returns-clause-summed c =
     let begun = c.new_desk-desk.ensures in
     let zone = c.in_ok-zone.zone in
     let tables = arc_value c.in_ok-tables.tables in
-    let has = c.in_ok-rest.ensures.replayed tables (has_none _ _ _ begun.tables begun.base begun.journal) in
-    let placed = subst (λ (s : ShardParts). AreInPlace 0 s.journal) c.shard.ensures.value c.shard.ensures.in_place in
+    let has = c.in_ok-rest.ensures.replayed tables (begun.none zone) in
     let journal = c.journal.ensures.value ∙ ap (λ (s : ShardParts). s.journal) c.shard.ensures.value in
     record {
       machine = new_machine zone tables None;
       begins = record { says = c.in_ok-tables.ensures.ok; rule = c.in_ok-zone.ensures.ok; new = refl; posted = refl };
-      accepted = (gives_back c.one_line.ensures zone tables _ _ placed has).accepted;
-      says = c.in_ok-line.ensures ∙ ap summary_line (c.in_ok-summary.ensures ∙ ap (λ l. summary_of l c.in_ok-rest.rest) (ap commands_in journal ∙ journal_commands zone tables _ _ has) ∙ ap (summary_of _) c.in_ok-rest.ensures.rest);
+      accepted = (c.replayed_lines.ensures.accepted zone tables _ has).accepted;
+      says = c.in_ok-line.ensures ∙ ap summary_line (c.in_ok-summary.ensures ∙ ap (λ l. summary_of l c.in_ok-rest.rest) (ap commands_in journal ∙ c.replayed_lines.ensures.commands zone tables _ has) ∙ ap (summary_of _) c.in_ok-rest.ensures.rest);
     }

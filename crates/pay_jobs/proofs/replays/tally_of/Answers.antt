@@ -2,7 +2,8 @@ use Rattle.std.proofs.Common.{◌∙◌, [], None, ap, sym}
 use Rattle.std.specs.Prelude.{fold, max}
 use Rattle.std.specs.BTreeSet.{insert_key}
 use Rattle.std.specs.Ordering.{nat_cmp}
-use Rattle.pay_jobs.specs.Replays.{account_of, commands_in, instant_of, sooner}
+use Rattle.pay_run.specs.Words.{commands_in}
+use Rattle.pay_jobs.specs.Replays.{account_of, instant_of, sooner}
 use Rattle.pay_jobs.proofs.Summaries.{fold_more}
 use Rattle.pay_jobs.proofs.replays.tally_of.Goals as goal
 

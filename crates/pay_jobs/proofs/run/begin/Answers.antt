@@ -1,14 +1,15 @@
 use Rattle.std.proofs.Common.{None, refl}
 use Rattle.std.proofs.lemmas.Result.{err_from_is_err_and}
 use Rattle.std.specs.Arc.{arc_value}
-use Rattle.pay_jobs.specs.Machine.{new_machine}
+use Rattle.pay_run.specs.Words.{new_machine}
+use Rattle.pay_jobs.specs.Texts.{texts}
 use Rattle.pay_jobs.proofs.Runs.{begun_refused, begun_past}
 use Rattle.pay_jobs.proofs.run.begin.Goals as goal
 
 pub returns-in_err-tables-clause-fails : goal.returns-in_err-tables-clause-fails
 returns-in_err-tables-clause-fails c =
     let p = err_from_is_err_and c.from_residual.result c.from_residual.ensures.1 in
-    rw (p.1, p.2) (begun_refused (c.args.fares.now, c.args.zone.now, c.args.past.now) _ c.in_err-tables.ensures.refused)
+    rw (p.1, p.2) (begun_refused (texts c.args.fares.now c.args.zone.now c.args.past.now) _ c.in_err-tables.ensures.refused)
 
 pub returns-in_err-zone-clause-fails : goal.returns-in_err-zone-clause-fails
 returns-in_err-zone-clause-fails c =
@@ -19,7 +20,7 @@ returns-in_err-zone-clause-fails c =
 pub returns-in_err-begun-clause-fails : goal.returns-in_err-begun-clause-fails
 returns-in_err-begun-clause-fails c =
     let p = err_from_is_err_and c.from_residual-in_err-begun.result c.from_residual-in_err-begun.ensures.1 in
-    rw p.1 (begun_past (c.args.fares.now, c.args.zone.now, c.args.past.now) _ _ (new_machine c.in_ok-zone.zone (arc_value c.in_ok-tables.tables) None) p.2 (record { says = c.in_ok-tables.ensures.ok; rule = c.in_ok-zone.ensures.ok; new = refl; posted = refl }) c.in_err-begun.ensures.stopped)
+    rw p.1 (begun_past (texts c.args.fares.now c.args.zone.now c.args.past.now) _ _ (new_machine c.in_ok-zone.zone (arc_value c.in_ok-tables.tables) None) p.2 (record { says = c.in_ok-tables.ensures.ok; rule = c.in_ok-zone.ensures.ok; new = refl; posted = refl }) c.in_err-begun.ensures.stopped)
 
 pub returns-clause-begun : goal.returns-clause-begun
 returns-clause-begun c = record {

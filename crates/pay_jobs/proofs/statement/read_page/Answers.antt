@@ -2,6 +2,7 @@ use Rattle.std.proofs.Common.{◌∙◌, ap, sym, refl, Ok}
 use Rattle.std.proofs.lemmas.Result.{err_from_is_err_and}
 use Rattle.std.specs.Arc.{arc_value}
 use Rattle.pay_statement.specs.Words.{statement_text}
+use Rattle.pay_jobs.specs.Texts.{texts}
 use Rattle.pay_jobs.proofs.Statements.{week_not_told, not_spelled, page_stands}
 use Rattle.pay_jobs.proofs.StreamCauses.{not_input, not_memory, week_input}
 use Rattle.pay_jobs.proofs.statement.read_page.Goals as goal
@@ -15,16 +16,16 @@ returns-in_err-zone-clause-fails g c =
 pub returns-in_err-lines-clause-fails : goal.returns-in_err-lines-clause-fails
 returns-in_err-lines-clause-fails g c =
     let p = err_from_is_err_and c.from_residual-in_err-lines.result c.from_residual-in_err-lines.ensures.1 in
-    rw p.1 (week_not_told (c.args.fares.now, c.args.zone.now, c.args.past.now) c.in_ok-zone.zone (arc_value c.in_ok-shared.shared) (c.in_ok-tables.ensures.ok ∙ ap Ok (sym c.in_ok-shared.ensures)) c.in_ok-zone.ensures.ok _ _ _ p.2 c.in_err-lines.ensures.fails)
+    rw p.1 (week_not_told (texts c.args.fares.now c.args.zone.now c.args.past.now) c.in_ok-zone.zone (arc_value c.in_ok-shared.shared) (c.in_ok-tables.ensures.ok ∙ ap Ok (sym c.in_ok-shared.ensures)) c.in_ok-zone.ensures.ok _ _ _ p.2 c.in_err-lines.ensures.fails)
 
 pub returns-in_err-page-clause-fails : goal.returns-in_err-page-clause-fails
 returns-in_err-page-clause-fails g c =
     let p = err_from_is_err_and c.from_residual-in_err-page.result c.from_residual-in_err-page.ensures.1 in
-    rw p.1 (not_spelled (c.args.fares.now, c.args.zone.now, c.args.past.now) c.in_ok-zone.zone (arc_value c.in_ok-shared.shared) (c.in_ok-tables.ensures.ok ∙ ap Ok (sym c.in_ok-shared.ensures)) c.in_ok-zone.ensures.ok _ _ (c.args.account, c.args.day) c.in_ok-lines.lines p.2 c.in_ok-lines.ensures.week)
+    rw p.1 (not_spelled (texts c.args.fares.now c.args.zone.now c.args.past.now) c.in_ok-zone.zone (arc_value c.in_ok-shared.shared) (c.in_ok-tables.ensures.ok ∙ ap Ok (sym c.in_ok-shared.ensures)) c.in_ok-zone.ensures.ok _ _ (c.args.account, c.args.day) c.in_ok-lines.lines p.2 c.in_ok-lines.ensures.week)
 
 pub returns-clause-page : goal.returns-clause-page
 returns-clause-page g c =
-    page_stands (c.args.fares.now, c.args.zone.now, c.args.past.now) c.in_ok-zone.zone (arc_value c.in_ok-shared.shared) (c.in_ok-tables.ensures.ok ∙ ap Ok (sym c.in_ok-shared.ensures)) c.in_ok-zone.ensures.ok _ (c.args.account, c.args.day) c.in_ok-lines.lines _ c.in_ok-lines.ensures.week
+    page_stands (texts c.args.fares.now c.args.zone.now c.args.past.now) c.in_ok-zone.zone (arc_value c.in_ok-shared.shared) (c.in_ok-tables.ensures.ok ∙ ap Ok (sym c.in_ok-shared.ensures)) c.in_ok-zone.ensures.ok _ c.all_else_stays.ensures.zone c.all_else_stays.ensures.tables c.all_else_stays.ensures.ledger (c.args.account, c.args.day) c.in_ok-lines.lines _ c.in_ok-lines.ensures.week
     (c.in_ok-page.ensures ∙ ap (statement_text c.deref.result.now) c.as_slice.ensures ∙ ap (λ tables. statement_text tables c.in_ok-lines.lines) (c.deref.ensures ∙ sym c.in_ok-shared.ensures))
 
 pub returns-in_err-tables-clause-cause : goal.returns-in_err-tables-clause-cause

@@ -12,9 +12,9 @@ returns-in_err-commit-clause-survives g c =
     let last = c.ready.new.tx.conn.now in
     let P = MayLeaveOpened (state g.S.Store old) in
     let begun = c.transaction-tx.ensures.begun in
-    let ledger = λ (clean : HasCleanDisk (state g.S.Store last)). rw begun at (c.in_ok-ready.ensures.ledger clean) in
-    let blank = λ (clean : HasCleanDisk (state g.S.Store last)). rw begun at (c.in_ok-ready.ensures.blank clean) in
-    let grows = λ (clean : HasCleanDisk (state g.S.Store last)). rw begun at (c.in_ok-ready.ensures.grows clean) in
+    let ledger = λ (clean : HasCleanDisk (state g.S.Store last)). rw begun at ((c.in_ok-ready.ensures.readied clean).ledger) in
+    let blank = λ (clean : HasCleanDisk (state g.S.Store last)). rw begun at ((c.in_ok-ready.ensures.readied clean).blank) in
+    let grows = λ (clean : HasCleanDisk (state g.S.Store last)). rw begun at ((c.in_ok-ready.ensures.readied clean).grows) in
     let inside = c.in_ok-ready.ensures.step.goes_on.stays.survives in
     let whole = survives_then (state g.S.Store old) (state g.S.Store last) (state g.S.Store c.commit.new.self.0) _ _ P (λ _ db none. absurd none)
     (λ clean db is. ((state g.S.Store last).now, is, ledger (omega (arith, c.commit.ensures.survives.clean)), blank (omega (arith, c.commit.ensures.survives.clean)), grows (omega (arith, c.commit.ensures.survives.clean))))
@@ -28,9 +28,9 @@ returns-clause-survives g c =
     let last = c.ready.new.tx.conn.now in
     let P = MayLeaveOpened (state g.S.Store old) in
     let begun = c.transaction-tx.ensures.begun in
-    let ledger = λ (clean : HasCleanDisk (state g.S.Store last)). rw begun at (c.in_ok-ready.ensures.ledger clean) in
-    let blank = λ (clean : HasCleanDisk (state g.S.Store last)). rw begun at (c.in_ok-ready.ensures.blank clean) in
-    let grows = λ (clean : HasCleanDisk (state g.S.Store last)). rw begun at (c.in_ok-ready.ensures.grows clean) in
+    let ledger = λ (clean : HasCleanDisk (state g.S.Store last)). rw begun at ((c.in_ok-ready.ensures.readied clean).ledger) in
+    let blank = λ (clean : HasCleanDisk (state g.S.Store last)). rw begun at ((c.in_ok-ready.ensures.readied clean).blank) in
+    let grows = λ (clean : HasCleanDisk (state g.S.Store last)). rw begun at ((c.in_ok-ready.ensures.readied clean).grows) in
     let inside = c.in_ok-ready.ensures.step.goes_on.stays.survives in
     let whole = survives_then (state g.S.Store old) (state g.S.Store last) (state g.S.Store c.commit.new.self.0) _ _ P (λ _ db none. absurd none)
     (λ clean db is. ((state g.S.Store last).now, is, ledger (omega (arith, c.commit.ensures.survives.clean)), blank (omega (arith, c.commit.ensures.survives.clean)), grows (omega (arith, c.commit.ensures.survives.clean))))
@@ -43,7 +43,7 @@ returns-clause-grows g c =
     let old = c.args.conn.now in
     let last = c.ready.new.tx.conn.now in
     let begun = c.transaction-tx.ensures.begun in
-    let grows = λ (clean : HasCleanDisk (state g.S.Store last)). rw begun at (c.in_ok-ready.ensures.grows clean) in
+    let grows = λ (clean : HasCleanDisk (state g.S.Store last)). rw begun at ((c.in_ok-ready.ensures.readied clean).grows) in
     let whole : HasCleanDisk (state g.S.Store c.commit.new.self.0) → BlankJustGrows (state g.S.Store old).now (state g.S.Store c.commit.new.self.0).now = λ clean.
     let done = c.in_ok-commit.ensures.ok clean in
     subst (BlankJustGrows (state g.S.Store old).now) (sym done.1.now_is) (grows (omega (arith, clean, c.commit.ensures.survives.clean))) in

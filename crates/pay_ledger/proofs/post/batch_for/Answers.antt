@@ -1,4 +1,4 @@
-use Rattle.std.proofs.Common.{◌≡◌, Ok, Err, sym, ap, subst, rules}
+use Rattle.std.proofs.Common.{◌≡◌, Ok, Err, sym, ap, subst}
 use Rattle.sqlite.specs.Held.{state}
 use Rattle.pay_rules.specs.declared.post_fault.PostFault.TheVariants.{BadArchive}
 use Rattle.pay_postings.specs.Words.{posted, lists, with_batch, IsRefusedAs}

@@ -1,9 +1,12 @@
-use Rattle.std.proofs.Common.{◌≡◌, subst, arith, rules}
+use Rattle.std.proofs.Common.{◌≡◌, Ok, refl, ap, subst, arith, rules}
 use Rattle.sqlite.specs.State.{HasCleanDisk, Survives}
 use Rattle.sqlite.specs.Held.{state}
 use Rattle.sqlite.proofs.StateLemmas.{survives_then}
 use Rattle.sqlite.proofs.Callers.{survives_begin}
+use Rattle.pay_ledger.specs.declared.fault.LedgerFault.TheVariants.{Store}
 use Rattle.pay_ledger.specs.Steps.{MayLeave}
+use Rattle.pay_ledger.specs.Calls.{IsJudged}
+use Rattle.pay_ledger.proofs.Readable.{judged_by_store, judged_between, judged_done}
 use Rattle.pay_ledger.proofs.post.post.Goals as goal
 
 pub returns-in_err-commit-clause-survives : goal.returns-in_err-commit-clause-survives
@@ -33,3 +36,22 @@ returns-clause-survives g c =
     (survives_begin g.S.Store old (state g.S.Store last) _ (rw begun at inside)) c.commit.ensures.survives in
     let same : c.commit.new.self.0 ≡ c.conn-2-1.given.0 = search rules in
     subst (λ h. Survives (state g.S.Store old) (state g.S.Store h) P) same whole
+
+pub returns-in_err-given-clause-judged : goal.returns-in_err-given-clause-judged
+returns-in_err-given-clause-judged g c =
+    let last = c.drop-tx.new.self.0 in
+    let whole : IsJudged g.S.Store c.args.conn.now last c.from_residual.result c.args.quotes.now c.args.sets.now =
+    judged_between g.S.Store c.from_residual.result c.args.quotes.now c.args.sets.now c.in_err-given.field-0.0 c.from_residual.ensures.1 _ _ c.args.conn.now last (λ clean. let less = c.drop-tx.ensures.survives.clean in omega (arith, less, clean))
+    (ap (λ h. (state g.S.Store h).now) c.transaction-tx.ensures.begun) c.in_err-given.ensures.judged in
+    subst (λ h. IsJudged g.S.Store c.args.conn.now h c.from_residual.result c.args.quotes.now c.args.sets.now) (search rules) whole
+
+pub returns-in_err-commit-clause-judged : goal.returns-in_err-commit-clause-judged
+returns-in_err-commit-clause-judged g c = judged_by_store g.S.Store c.from_residual-in_err-commit.result c.args.quotes.now c.args.sets.now Store c.from_residual-in_err-commit.ensures.1 c.args.conn.now _ refl
+
+pub returns-clause-judged : goal.returns-clause-judged
+returns-clause-judged g c =
+    let last = c.commit.new.self.0 in
+    let whole : IsJudged g.S.Store c.args.conn.now last (Ok c.in_ok-given.given) c.args.quotes.now c.args.sets.now =
+    judged_done g.S.Store c.in_ok-given.given c.args.quotes.now c.args.sets.now _ _ c.args.conn.now last (λ clean. let less = c.commit.ensures.survives.clean in omega (arith, less, clean))
+    (ap (λ h. (state g.S.Store h).now) c.transaction-tx.ensures.begun) c.in_ok-given.ensures.judged in
+    subst (λ h. IsJudged g.S.Store c.args.conn.now h (Ok c.in_ok-given.given) c.args.quotes.now c.args.sets.now) (search rules) whole

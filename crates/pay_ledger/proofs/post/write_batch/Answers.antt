@@ -1,4 +1,8 @@
-use Rattle.pay_ledger.proofs.Along.{stopped, and_stopped, and_gone, and_on}
+use Rattle.std.proofs.Common.{Ok}
+use Rattle.sqlite.specs.Held.{state}
+use Rattle.pay_postings.specs.Words.{lists}
+use Rattle.pay_ledger.proofs.Along.{was, stopped, and_stopped, and_gone, and_on}
+use Rattle.pay_ledger.proofs.Written.{batch_written}
 use Rattle.pay_ledger.proofs.post.write_batch.Goals as goal
 
 pub returns-in_err-write_postings-clause-step : goal.returns-in_err-write_postings-clause-step
@@ -15,3 +19,16 @@ returns-in_err-write_fixes-clause-step g c =
 
 pub returns-clause-step : goal.returns-clause-step
 returns-clause-step g c = and_gone g.S.Store _ (and_on g.S.Store c.in_ok-write_postings.ensures.step c.in_ok-write_taps.ensures.step) c.in_ok-write_fixes.ensures.step
+
+pub returns-clause-writes : goal.returns-clause-writes
+returns-clause-writes g c clean inside =
+    let a = state g.S.Store c.args.tx.now.conn.now in
+    let b = state g.S.Store c.write_postings.new.tx.conn.now in
+    let d = state g.S.Store c.write_taps.new.tx.conn.now in
+    let e = state g.S.Store c.write_fixes.new.tx.conn.now in
+    let at_taps = was g.S.Store {r = Ok tt} c.in_ok-write_fixes.ensures.step clean in
+    let at_postings = was g.S.Store {r = Ok tt} c.in_ok-write_taps.ensures.step at_taps in
+    let in_taps = c.in_ok-write_postings.ensures.step.goes_on.inside at_postings inside in
+    let in_fixes = c.in_ok-write_taps.ensures.step.goes_on.inside at_taps in_taps in
+    batch_written a b d e (lists c.args.batch.now) _ _ _ c.deref.ensures.value c.deref-2.ensures.value c.deref-3.ensures.value
+    (c.in_ok-write_postings.ensures.writes at_postings inside) (c.in_ok-write_taps.ensures.writes at_taps in_taps) (c.in_ok-write_fixes.ensures.writes clean in_fixes)

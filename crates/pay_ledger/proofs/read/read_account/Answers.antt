@@ -1,4 +1,4 @@
-use Rattle.std.proofs.Common.{None, rules, ◌∙◌}
+use Rattle.std.proofs.Common.{None, rules}
 use Rattle.sqlite.specs.Held.{state}
 use Rattle.pay_postings.specs.Words.{parts}
 use Rattle.pay_ledger.specs.BadRows.{ReadsAs}

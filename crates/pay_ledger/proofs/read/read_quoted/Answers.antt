@@ -1,4 +1,4 @@
-use Rattle.std.proofs.Common.{Ok, ◌⊎◌, IsTrue, rules, sym, subst}
+use Rattle.std.proofs.Common.{Ok, Err, ◌⊎◌, IsTrue, rules, sym, subst}
 use Rattle.sqlite.specs.Held.{state}
 use Rattle.pay_rules.specs.QuoteParts.{QuoteParts}
 use Rattle.pay_postings.specs.Words.{IsThere}
@@ -35,8 +35,8 @@ loop-quote-preserved g c =
 pub returns-in_err-read_into-clause-bad : goal.returns-in_err-read_into-clause-bad
 returns-in_err-read_into-clause-bad g c clean =
     let first = state g.S.Store c.args.tx.now.conn.now in
-    let was_clean = was g.S.Store c.in_err-read_into.ensures.step clean in
     let fault = c.in_err-read_into.field-0.0 in
+    let was_clean = was g.S.Store {r = Err fault} c.in_err-read_into.ensures.step clean in
     by_fault c.from_residual.result (λ f. (rows : LedgerRows) → HoldsRows first.now rows → IsTrue (is_of_store f) ⊎ IsBadAmong rows (quoted c.args.quotes.now) f) fault c.from_residual.ensures.1
     (λ rows k. one_is_bad (λ (x : QuoteParts). x.account) c.args.quotes.now c.loop-quote.quote-index c.quote-item.result c.account.result rows fault c.loop-quote-test.true (search rules)
     (c.in_err-read_into.ensures.bad clean rows (subst (λ db. HoldsRows db rows) (sym (c.loop-quote.invariant.1.rows was_clean rows k).1) k)))

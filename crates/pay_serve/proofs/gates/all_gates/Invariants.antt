@@ -1,5 +1,5 @@
 use Rattle.std.proofs.Common.{◌≡◌, ◌≤◌, false, [], All, map as each, length, vec_capacity}
-use Rattle.pay_keeping.specs.Words.{HoldsPassed}
+use Rattle.pay_serve.specs.KeepingGates.{HoldsPassed}
 use Rattle.pay_serve.proofs.gates.all_gates.Given as goal
 
 abbrev pub invariant-loop-keeper : goal.invariant-loop-keeper

@@ -1,5 +1,5 @@
 use Rattle.std.proofs.Common.{◌≡◌, ℕ, ◌<◌, false, get_or}
-use Rattle.pay_keeping.specs.Words.{GateParts}
+use Rattle.pay_serve.specs.KeepingGates.{GateParts}
 use Rattle.pay_serve.proofs.gates.is_one_stuck.Given as goal
 
 abbrev pub invariant-loop-place : goal.invariant-loop-place

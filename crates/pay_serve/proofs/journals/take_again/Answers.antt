@@ -1,5 +1,5 @@
 use Rattle.std.proofs.Common.{◌∙◌, ap, Err, refl, subst, vec_items}
-use Rattle.pay_session.specs.Words.{IsReplayed, IsEnded}
+use Rattle.pay_journal.specs.Words.{IsReplayed, IsEnded}
 use Rattle.pay_serve.proofs.TakenAgain.{next_taken, not_taken, none_left}
 use Rattle.pay_serve.proofs.journals.take_again.Goals as goal
 

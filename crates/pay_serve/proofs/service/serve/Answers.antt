@@ -1,11 +1,10 @@
 use Rattle.std.proofs.Common.{◌≡◌, ◌≤◌, inl, List, map, vec_items, length, ◌∙◌, sym, subst, arith}
 use Rattle.std.proofs.lemmas.Result.{err_from_is_err_and}
 use Rattle.std.proofs.lemmas.Slice.Zip.{AllZip-long}
-use Rattle.std.specs.Arc.{arc_value}
 use Rattle.pay_shard.specs.declared.limits.TheConstants.{MOST_SHARDS}
-use Rattle.pay_kept.specs.Words.{CanFail}
-use Rattle.pay_keeping.specs.Words.{GateParts, HoldsPassed}
-use Rattle.pay_serve.specs.Closes.{terms}
+use Rattle.pay_journal.specs.Words.{CanFail}
+use Rattle.pay_serve.specs.KeepingGates.{GateParts, HoldsPassed}
+use Rattle.pay_serve.specs.Closes.{terms_of}
 use Rattle.pay_serve.specs.TriedLanes.{IsTried, GivesBack}
 use Rattle.pay_serve.specs.Journals.{AreTakenThrough, is_one_stuck, told_with}
 use Rattle.pay_serve.proofs.Going.{all_back, lanes_same}
@@ -24,13 +23,13 @@ end-requires-clause-all g c =
 -- all lanes are back, and there is room for the last
 pub end-requires-in-Some-clause-all : goal.end-requires-in-Some-clause-all
 end-requires-in-Some-clause-all g c =
-    let gone = all_gone c.args.zone c.in_ok-office.lanes.items c.end_all.new.lanes.items c.begin_all.new.tried.items c.begin_all.ensures c.end_all.ensures.lanes in
+    let gone = all_gone c.args.given.zone c.in_ok-office.lanes.items c.end_all.new.lanes.items c.begin_all.new.tried.items c.begin_all.ensures c.end_all.ensures.lanes in
     all_back c.still_together.ensures.in_order c.same_workers.ensures.itself c.in_ok-office.office c.in_ok-office.lanes.items c.end_all.new.lanes.items c.in_ok-office.first c.take_through-taken.result.1
-    (all_same c.args.zone _ _ gone) c.take_through-taken.ensures.same c.in_ok-office.ensures.all
+    (all_same c.args.given.zone _ _ gone) c.take_through-taken.ensures.same c.in_ok-office.ensures.all
 
 pub end_all-requires-clause-room : goal.end_all-requires-clause-room
 end_all-requires-clause-room g c =
-    let tried = AllZip-long (IsTried c.args.zone) _ _ c.begin_all.ensures in
+    let tried = AllZip-long (IsTried c.args.given.zone) _ _ c.begin_all.ensures in
     let count = c.in_ok-office.ensures.count in
     let room = c.in_ok-back.ensures.exact in
     omega (arith, tried, count, room)
@@ -38,7 +37,7 @@ end_all-requires-clause-room g c =
 pub end-requires-in-Some-clause-room : goal.end-requires-in-Some-clause-room
 end-requires-in-Some-clause-room g c =
     let many = AllZip-long GivesBack _ _ c.end_all.ensures.lanes in
-    let tried = AllZip-long (IsTried c.args.zone) _ _ c.begin_all.ensures in
+    let tried = AllZip-long (IsTried c.args.given.zone) _ _ c.begin_all.ensures in
     let count = c.in_ok-office.ensures.count in
     let room = c.in_ok-back.ensures.exact in
     let same = c.end_all.ensures.room in
@@ -47,7 +46,7 @@ end-requires-in-Some-clause-room g c =
 pub close_day-closed-requires-clause-room : goal.close_day-closed-requires-clause-room
 close_day-closed-requires-clause-room g c =
     let many = AllZip-long GivesBack _ _ c.end_all.ensures.lanes in
-    let tried = AllZip-long (IsTried c.args.zone) _ _ c.begin_all.ensures in
+    let tried = AllZip-long (IsTried c.args.given.zone) _ _ c.begin_all.ensures in
     let count = c.in_ok-office.ensures.count in
     let room = c.in_ok-back.ensures.exact in
     let same = c.end_all.ensures.room in
@@ -61,14 +60,14 @@ close_day-closed-requires-clause-shards g c =
 
 pub close_day-closed-requires-clause-all : goal.close_day-closed-requires-clause-all
 close_day-closed-requires-clause-all g c =
-    let gone = all_gone c.args.zone c.in_ok-office.lanes.items c.end_all.new.lanes.items c.begin_all.new.tried.items c.begin_all.ensures c.end_all.ensures.lanes in
+    let gone = all_gone c.args.given.zone c.in_ok-office.lanes.items c.end_all.new.lanes.items c.begin_all.new.tried.items c.begin_all.ensures c.end_all.ensures.lanes in
     all_back c.still_together.ensures.in_order c.same_workers.ensures.itself c.in_ok-office.office c.in_ok-office.lanes.items c.end_all.new.lanes.items c.in_ok-office.first c.take_through-taken.result.1
-    (all_same c.args.zone _ _ gone) c.take_through-taken.ensures.same c.in_ok-office.ensures.all
+    (all_same c.args.given.zone _ _ gone) c.take_through-taken.ensures.same c.in_ok-office.ensures.all
 
 pub returns-clause-served : goal.returns-clause-served
 returns-clause-served g c =
     let K = g.K.Keeper in
-    let gone = all_gone c.args.zone c.in_ok-office.lanes.items c.end_all.new.lanes.items c.begin_all.new.tried.items c.begin_all.ensures c.end_all.ensures.lanes in
+    let gone = all_gone c.args.given.zone c.in_ok-office.lanes.items c.end_all.new.lanes.items c.begin_all.new.tried.items c.begin_all.ensures c.end_all.ensures.lanes in
     let closed = c.close_day-closed.ensures.closed in
     inl (record {
       office = c.in_ok-office.office;
@@ -76,11 +75,11 @@ returns-clause-served g c =
       first = c.in_ok-office.first;
       spared = c.in_ok-office.ensures.spared;
       last = c.take_through-taken.result.1;
-      past = subst (AreTakenThrough c.args.zone (map vec_items c.args.texts.now) c.in_ok-office.first c.take_through-taken.result.1) c.in-Ok.is c.take_through-taken.ensures.taken;
+      past = subst (AreTakenThrough c.args.given.zone (map vec_items c.args.given.texts.now) c.in_ok-office.first c.take_through-taken.result.1) c.in-Ok.is c.take_through-taken.ensures.taken;
       others = c.end_all.new.lanes.items;
       all = all_back c.still_together.ensures.in_order c.same_workers.ensures.itself c.in_ok-office.office c.in_ok-office.lanes.items c.end_all.new.lanes.items c.in_ok-office.first c.take_through-taken.result.1
-          (all_same c.args.zone _ _ gone) c.take_through-taken.ensures.same c.in_ok-office.ensures.all;
-      asked = all_asked c.args.zone (length c.in_ok-office.office) c.in_ok-office.lanes.items c.end_all.new.lanes.items c.in_ok-office.ensures.others gone;
+          (all_same c.args.given.zone _ _ gone) c.take_through-taken.ensures.same c.in_ok-office.ensures.all;
+      asked = all_asked c.args.given.zone (length c.in_ok-office.office) c.in_ok-office.lanes.items c.end_all.new.lanes.items c.in_ok-office.ensures.others gone;
       gates = c.close_day-closed.result.1.items;
       began = c.close_day-closed.ensures.began ∙ c.in_ok-office.ensures.began;
       told = c.close_day-closed.result.0;
@@ -92,33 +91,33 @@ returns-clause-served g c =
 pub returns-in_err-service-clause-cause : goal.returns-in_err-service-clause-cause
 returns-in_err-service-clause-cause g c =
     let p = err_from_is_err_and c.from_residual.result c.from_residual.ensures.1 in
-    rw p.1 (unserved_cause g.W.ToldWriter.Tells (CanFail g.K.Keeper.HasFailed) c.args.plan.now _ _ (unopened c.args.plan.now _ (no_memory c.args.plan.now _ p.2)))
+    rw p.1 (unserved_cause g.W.ToldWriter.Tells (CanFail g.K.Keeper.HasFailed) c.args.given.plan _ _ (unopened c.args.given.plan _ (no_memory c.args.given.plan _ p.2)))
 
 pub returns-in_err-tried-clause-cause : goal.returns-in_err-tried-clause-cause
 returns-in_err-tried-clause-cause g c =
     let p = err_from_is_err_and c.from_residual-in_err-tried.result c.from_residual-in_err-tried.ensures.1 in
-    rw p.1 (unserved_cause g.W.ToldWriter.Tells (CanFail g.K.Keeper.HasFailed) c.args.plan.now _ _ (unopened c.args.plan.now _ (no_memory c.args.plan.now _ p.2)))
+    rw p.1 (unserved_cause g.W.ToldWriter.Tells (CanFail g.K.Keeper.HasFailed) c.args.given.plan _ _ (unopened c.args.given.plan _ (no_memory c.args.given.plan _ p.2)))
 
 pub returns-in_err-back-clause-cause : goal.returns-in_err-back-clause-cause
 returns-in_err-back-clause-cause g c =
     let p = err_from_is_err_and c.from_residual-in_err-back.result c.from_residual-in_err-back.ensures.1 in
-    rw p.1 (unserved_cause g.W.ToldWriter.Tells (CanFail g.K.Keeper.HasFailed) c.args.plan.now _ _ (unopened c.args.plan.now _ (no_memory c.args.plan.now _ p.2)))
+    rw p.1 (unserved_cause g.W.ToldWriter.Tells (CanFail g.K.Keeper.HasFailed) c.args.given.plan _ _ (unopened c.args.given.plan _ (no_memory c.args.given.plan _ p.2)))
 
 pub returns-in_err-office-clause-cause : goal.returns-in_err-office-clause-cause
 returns-in_err-office-clause-cause g c =
     let p = err_from_is_err_and c.from_residual-in_err-office.result c.from_residual-in_err-office.ensures.1 in
-    rw (p.1, p.2) (unserved_cause g.W.ToldWriter.Tells (CanFail g.K.Keeper.HasFailed) c.args.plan.now _ _ (unopened c.args.plan.now _ c.in_err-office.ensures.cause))
+    rw (p.1, p.2) (unserved_cause g.W.ToldWriter.Tells (CanFail g.K.Keeper.HasFailed) c.args.given.plan _ _ (unopened c.args.given.plan _ c.in_err-office.ensures.cause))
 
 pub returns-in-Err-clause-cause : goal.returns-in-Err-clause-cause
 returns-in-Err-clause-cause g c =
-    unserved_cause g.W.ToldWriter.Tells (CanFail g.K.Keeper.HasFailed) c.args.plan.now c.in-Err.fault _ (taken_cause _ _ c.args.plan.now 0 _ _ c.take_through-taken.result.0 c.in-Err.fault c.take_through-taken.ensures.taken.taken c.in-Err.is)
+    unserved_cause g.W.ToldWriter.Tells (CanFail g.K.Keeper.HasFailed) c.args.given.plan c.in-Err.fault _ (taken_cause _ _ c.args.given.plan 0 _ _ c.take_through-taken.result.0 c.in-Err.fault c.take_through-taken.ensures.taken.taken c.in-Err.is)
 
 pub returns-in-Some-clause-cause : goal.returns-in-Some-clause-cause
-returns-in-Some-clause-cause g c = lane_cause g.W.ToldWriter.Tells (CanFail g.K.Keeper.HasFailed) c.args.plan.now _ _ _ c.from.ensures
+returns-in-Some-clause-cause g c = lane_cause g.W.ToldWriter.Tells (CanFail g.K.Keeper.HasFailed) c.args.given.plan _ _ _ c.from.ensures
 
 pub returns-clause-cause : goal.returns-clause-cause
 returns-clause-cause g c =
-    told_cause g.W.ToldWriter.Tells (CanFail g.K.Keeper.HasFailed) _ _ c.close_day-closed.result.0 _ c.args.plan.now _ c.told_with.ensures.told c.told_with.ensures.cause c.close_day-closed.ensures.closed.told c.close_day-closed.ensures.cause
+    told_cause g.W.ToldWriter.Tells (CanFail g.K.Keeper.HasFailed) _ _ c.close_day-closed.result.0 _ c.args.given.plan _ c.told_with.ensures.told c.told_with.ensures.cause c.close_day-closed.ensures.closed.told c.close_day-closed.ensures.cause
 
 pub returns-clause-flushed : goal.returns-clause-flushed
 returns-clause-flushed g c = told_on_ok _ c.close_day-closed.result.0 _ _ c.told_with.ensures.told c.close_day-closed.ensures.flushed
@@ -131,22 +130,22 @@ returns-clause-within g c = within_plan c.told_with.result _ c.in_ok-office.ensu
 pub returns-in_err-service-clause-stopped : goal.returns-in_err-service-clause-stopped
 returns-in_err-service-clause-stopped g c =
     let p = err_from_is_err_and c.from_residual.result c.from_residual.ensures.1 in
-    rw p.1 (unopened_stopped _ c.args.plan.now _ (no_memory c.args.plan.now _ p.2))
+    rw p.1 (unopened_stopped _ c.args.given.plan _ (no_memory c.args.given.plan _ p.2))
 
 pub returns-in_err-tried-clause-stopped : goal.returns-in_err-tried-clause-stopped
 returns-in_err-tried-clause-stopped g c =
     let p = err_from_is_err_and c.from_residual-in_err-tried.result c.from_residual-in_err-tried.ensures.1 in
-    rw p.1 (unopened_stopped _ c.args.plan.now _ (no_memory c.args.plan.now _ p.2))
+    rw p.1 (unopened_stopped _ c.args.given.plan _ (no_memory c.args.given.plan _ p.2))
 
 pub returns-in_err-back-clause-stopped : goal.returns-in_err-back-clause-stopped
 returns-in_err-back-clause-stopped g c =
     let p = err_from_is_err_and c.from_residual-in_err-back.result c.from_residual-in_err-back.ensures.1 in
-    rw p.1 (unopened_stopped _ c.args.plan.now _ (no_memory c.args.plan.now _ p.2))
+    rw p.1 (unopened_stopped _ c.args.given.plan _ (no_memory c.args.given.plan _ p.2))
 
 pub returns-in_err-office-clause-stopped : goal.returns-in_err-office-clause-stopped
 returns-in_err-office-clause-stopped g c =
     let p = err_from_is_err_and c.from_residual-in_err-office.result c.from_residual-in_err-office.ensures.1 in
-    rw (p.1, p.2) (unopened_stopped _ c.args.plan.now _ c.in_err-office.ensures.cause)
+    rw (p.1, p.2) (unopened_stopped _ c.args.given.plan _ c.in_err-office.ensures.cause)
 
 pub returns-in-Err-clause-stopped : goal.returns-in-Err-clause-stopped
 returns-in-Err-clause-stopped g c =
@@ -156,8 +155,8 @@ returns-in-Err-clause-stopped g c =
     let last = c.take_through-taken.result.1 in
     let back = all_back c.still_together.ensures.in_order c.same_workers.ensures.itself c.in_ok-office.office ls ls c.in_ok-office.first last (lanes_same c.same_lanes.ensures.itself ls) c.take_through-taken.ensures.same opened.all in
     let over = c.end.ensures.over in
-    line_stopped (terms (arc_value c.args.tables) c.args.zone (map vec_items c.args.texts.now) (map K.holds c.args.keepers.items) c.args.plan.now.close) c.in_ok-office.office c.in_ok-office.first last c.in-Err.fault opened.new opened.spared
-    (subst (AreTakenThrough c.args.zone (map vec_items c.args.texts.now) c.in_ok-office.first last) c.in-Err.is c.take_through-taken.ensures.taken)
+    line_stopped (terms_of K c.args.given) c.in_ok-office.office c.in_ok-office.first last c.in-Err.fault opened.new opened.spared
+    (subst (AreTakenThrough c.args.given.zone (map vec_items c.args.given.texts.now) c.in_ok-office.first last) c.in-Err.is c.take_through-taken.ensures.taken)
     c.end.result.items (c.end.ensures.began ∙ opened.began)
     (none_kept (HoldsPassed K.holds K.HasFailed K.IsSettled) c.in_ok-office.office ls last (length c.in_ok-office.office) c.end.result.items over.0.0 over.0.1 back.1 opened.others (c.take_through-taken.ensures.same.number ∙ opened.spared.0) over.0.2 over.1
     (all_kept K.holds K.HasFailed K.IsSettled c.passed_are_kept.ensures _ over.1.workers c.end.result.items over.1.passed))

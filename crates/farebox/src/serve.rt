@@ -1,0 +1,252 @@
+//! The sessions of all lanes, and the close of a day, to standard output.
+ghost use Rattle.std.specs.Prelude.{◌≡◌, ◌≤◌, length, IfOk};
+ghost use Rattle.pay_jobs.specs.Words.{IsDay};
+ghost use Rattle.pay_words.specs.declared.limits.TheConstants.{MOST_SHARDS};
+
+use crate::input::{fares_text, report_line};
+use crate::journal::{Journals, open_journals, refuse_journal, settle_journals};
+use pay_jobs::{
+    Disk, FaresAndZone, Fault, FileStore, Given, Keeper, Ledger, Ledgers, NoKeeper, Plan, Wary,
+    begin_service, new_ledger, serve, serve_without_ledger,
+};
+use pay_wire::Refusal;
+use pay_words::ServeWords;
+use std::alloc::{AllocError, Global};
+use std::fs::File;
+use std::io;
+use std::io::Eprint;
+use std::net::{Net, TcpListener, TcpStream};
+use std::process::ExitCode;
+use std::rt::Files;
+use std::sync::Wait;
+use std::thread::Threads;
+
+/// The sessions of all lanes, and then the lines of the close, to standard output. The status says whether the day was closed.
+pub fn serve_sessions<R>(rt: R, words: &ServeWords<'_>) -> Result<ExitCode, Fault>
+where
+    R: Net<Listener = TcpListener, Stream = TcpStream>
+        + Threads
+        + Wait
+        + Files<File = File>
+        + Ledgers
+        + Print
+        + Eprint
+        + AllocGlobal
+        + Copy
+        + Send
+        + 'static,
+    requires day { IsDay words.now.close }
+    requires few { words.now.shards ≤ MOST_SHARDS }
+{
+    let fares = fares_text(&rt, words.fares)?;
+    match words.journal {
+        None => serve_unkept(rt, words, fares.as_str()),
+        Some(folder) => {
+            let journals = open_journals(&rt, folder, words.shards)?;
+            serve_kept(rt, words, fares.as_str(), folder, journals)
+        }
+    }
+}
+
+/// The plan that words ask for.
+fn plan_of(words: &ServeWords<'_>) -> Plan
+    ensures shards { result.shards ≡ words.now.shards }
+    ensures close { result.close ≡ words.now.close }
+{
+    Plan {
+        port: words.port,
+        lanes: words.lanes,
+        shards: words.shards,
+        sessions: words.sessions,
+        close: words.close,
+    }
+}
+
+/// A service without journals, over a ledger in a file, or in memory.
+fn serve_unkept<R>(rt: R, words: &ServeWords<'_>, fares: &str) -> Result<ExitCode, Fault>
+where
+    R: Net<Listener = TcpListener, Stream = TcpStream>
+        + Threads
+        + Wait
+        + Files<File = File>
+        + Ledgers
+        + Print
+        + Eprint
+        + AllocGlobal
+        + Copy
+        + Send
+        + 'static,
+    requires day { IsDay words.now.close }
+{
+    let keepers = no_keepers(rt.alloc(), words.shards)?;
+    let FaresAndZone { tables, zone } = begin_service(rt.alloc(), fares, words.zone)?;
+    let given = Given {
+        tables,
+        zone,
+        plan: plan_of(words),
+        texts: &[],
+        keepers,
+    };
+    match words.ledger {
+        None => {
+            let ledger = new_ledger(rt.alloc())?;
+            status_of(serve_over(rt, given, ledger))
+        }
+        Some(path) => status_of(serve_in_file(rt, path, given)),
+    }
+}
+
+/// A service with journals, over a ledger in a file. Without one the day is not closed, as for a session.
+fn serve_kept<R>(
+    rt: R,
+    words: &ServeWords<'_>,
+    fares: &str,
+    folder: &str,
+    journals: Journals,
+) -> Result<ExitCode, Fault>
+where
+    R: Net<Listener = TcpListener, Stream = TcpStream>
+        + Threads
+        + Wait
+        + Files<File = File>
+        + Ledgers
+        + Print
+        + Eprint
+        + AllocGlobal
+        + Copy
+        + Send
+        + 'static,
+    requires day { IsDay words.now.close }
+    requires keepers { length journals.keepers.items ≡ words.now.shards }
+{
+    let Journals {
+        texts,
+        keepers,
+        others: _held,
+    } = journals;
+    let FaresAndZone { tables, zone } = begin_service(rt.alloc(), fares, words.zone)?;
+    let given = Given {
+        tables,
+        zone,
+        plan: plan_of(words),
+        texts: texts.as_slice(),
+        keepers,
+    };
+    let closed = match words.ledger {
+        None => serve_alone(rt, folder, given),
+        Some(path) => serve_in_file(rt, path, given),
+    };
+    match closed {
+        Err(Fault::JournalLineOf { journal, line, why }) => {
+            report_in(&rt, folder, journal, line, why)
+        }
+        closed => status_of(closed),
+    }
+}
+
+/// A service without a ledger. Whether the day was closed, which it is not. What was kept is brought to the disk, as before a close.
+fn serve_alone<R, K>(rt: R, folder: &str, given: Given<'_, K>) -> Result<bool, Fault>
+where
+    R: Net<Listener = TcpListener, Stream = TcpStream>
+        + Threads
+        + Wait
+        + Files<File = File>
+        + Ledgers
+        + Print
+        + Eprint
+        + AllocGlobal
+        + Copy
+        + Send
+        + 'static,
+    K: Keeper + Send + 'static,
+    requires day { IsDay given.plan.close }
+    requires keepers { length given.keepers.items ≡ given.plan.shards }
+{
+    let shards = given.plan.shards;
+    let closed = serve_without_ledger(rt, rt.alloc(), given, &mut io::writer(&rt))?;
+    settle_journals(&rt, folder, shards)?;
+    Ok(closed)
+}
+
+/// A service over the ledger in the file at a path. Whether the day was closed.
+fn serve_in_file<R, K>(rt: R, path: &str, given: Given<'_, K>) -> Result<bool, Fault>
+where
+    R: Net<Listener = TcpListener, Stream = TcpStream>
+        + Threads
+        + Wait
+        + Files<File = File>
+        + Ledgers
+        + Print
+        + Eprint
+        + AllocGlobal
+        + Copy
+        + Send
+        + 'static,
+    K: Keeper + Send + 'static,
+    requires day { IsDay given.plan.close }
+    requires keepers { length given.keepers.items ≡ given.plan.shards }
+{
+    refuse_journal(&rt, path)?;
+    let ledger = rt.ledger(path, Wary)?;
+    serve_over(rt, given, ledger)
+}
+
+/// A service over a ledger. In the end, what the log of a ledger in a file has is copied into its file.
+fn serve_over<R, K, D: Disk + Drop>(
+    rt: R,
+    given: Given<'_, K>,
+    mut ledger: Ledger<FileStore<D>>,
+) -> Result<bool, Fault>
+where
+    R: Net<Listener = TcpListener, Stream = TcpStream>
+        + Threads
+        + Wait
+        + Files<File = File>
+        + Ledgers
+        + Print
+        + Eprint
+        + AllocGlobal
+        + Copy
+        + Send
+        + 'static,
+    K: Keeper + Send + 'static,
+    requires day { IsDay given.plan.close }
+    requires keepers { length given.keepers.items ≡ given.plan.shards }
+{
+    let closed = serve(rt, rt.alloc(), given, &mut ledger, &mut io::writer(&rt));
+    let _ = ledger.into_connection().close();
+    closed
+}
+
+/// Reports the line of a journal in a folder that is not accepted, by the path of its file.
+fn report_in<R: Eprint + AllocGlobal>(
+    rt: &R,
+    folder: &str,
+    journal: u64,
+    line: u64,
+    why: Refusal,
+) -> Result<ExitCode, Fault> {
+    let mut path = String::new(rt.alloc());
+    write!(path, "{folder}/{journal}.lines")?;
+    Ok(report_line(rt, path.as_str(), line, why))
+}
+
+/// The status of a service, by whether its day was closed.
+fn status_of(closed: Result<bool, Fault>) -> Result<ExitCode, Fault> {
+    match closed {
+        Ok(true) => Ok(ExitCode::SUCCESS),
+        Ok(false) => Ok(ExitCode::FAILURE),
+        Err(fault) => Err(fault),
+    }
+}
+
+/// A keeper that keeps nothing for each shard.
+fn no_keepers(alloc: Global, shards: u8) -> Result<Vec<NoKeeper>, AllocError>
+    ensures { IfOk result (λ keepers. length keepers.items ≡ shards) }
+{
+    let mut keepers = Vec::new(alloc);
+    for _ in 0..shards {
+        keepers.push(NoKeeper).map_err(AllocError::from)?;
+    }
+    Ok(keepers)
+}

@@ -1,5 +1,0 @@
-use Rattle.pay_jobs.proofs.Asked.{accounts_alike}
-use Rattle.pay_jobs.proofs.laws.failed_closes_leave_the_accounts.Goals as goal
-
-pub returns : goal.returns
-returns c m list marks ample = accounts_alike marks m list ample

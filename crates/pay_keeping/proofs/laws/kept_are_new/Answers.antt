@@ -1,5 +1,0 @@
-use Rattle.pay_keeping.proofs.Runs.{kept_are_new}
-use Rattle.pay_keeping.proofs.laws.kept_are_new.Goals as goal
-
-pub returns : goal.returns
-returns c = kept_are_new

@@ -1,5 +1,0 @@
-use Rattle.pay_keeping.proofs.Runs.{passed_are_kept}
-use Rattle.pay_keeping.proofs.laws.passed_are_kept.Goals as goal
-
-pub returns : goal.returns
-returns g c = passed_are_kept g.K.Keeper.holds g.K.Keeper.HasFailed g.K.Keeper.IsSettled

@@ -1,4 +1,0 @@
-pub mod Keeping
-pub mod KeptParts
-pub mod Puts
-pub mod Words

@@ -1,0 +1,16 @@
+pub mod Journals
+pub mod Closes
+pub mod Tills
+pub mod LedgerCloses
+pub mod OneRequest
+pub mod AllRequests
+pub mod WholeRuns
+pub mod Weeks
+pub mod MarkedRequests
+pub mod Asked
+pub mod ArrivalOrder
+pub mod NewRequests
+pub mod KeptBytes
+pub mod PastLines
+pub mod RequestLines
+pub mod WeekRuns

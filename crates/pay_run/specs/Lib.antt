@@ -1,0 +1,12 @@
+pub mod Commands
+pub mod Journals
+pub mod KeptBytes
+pub mod KeptLines
+pub mod Laws
+pub mod Ledgers
+pub mod LineRuns
+pub mod Machine
+pub mod Outcomes
+pub mod Past
+pub mod Week
+pub mod Words

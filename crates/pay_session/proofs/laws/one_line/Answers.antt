@@ -1,5 +1,0 @@
-use Rattle.pay_session.proofs.LinesOfCommands.{asked_by_its_line}
-use Rattle.pay_session.proofs.laws.one_line.Goals as goal
-
-pub returns : goal.returns
-returns c = asked_by_its_line
