@@ -104,7 +104,7 @@ def lone_taps(taps):
 
 
 def words_about(draw, form, tap):
-    """What stands behind the form in a correction about a tap. A Fill is the other end of a leg, at another station."""
+    """What stands after the form in a correction about a tap. A Fill is the other end of a leg, at another station."""
     if form == "VOID":
         return tap.number
     if form == "CREDIT":
@@ -120,7 +120,7 @@ def drawn_arrival(draw, after, last, may_be_before):
 
 
 def corrections(draw, taps, count):
-    """That many corrections, each behind how many taps arrive before it: Voids, Fills that complete lone taps, Credits,
+    """That many corrections, each after how many taps arrive before it: Voids, Fills that complete lone taps, Credits,
     Drops of some of these, and repeats."""
     arrives = {tap: at for at, tap in enumerate(taps)}
     lone, drops, repeats = lone_taps(taps) or taps, count // 10, count // 20

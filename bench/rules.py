@@ -77,7 +77,7 @@ class Tap(NamedTuple):
 
 
 class Fix(NamedTuple):
-    """A correction. Its words are those behind its form."""
+    """A correction. Its words are those after its form."""
 
     staff: int
     seq: int
@@ -186,7 +186,7 @@ def is_peak(fares, taps):
 
 
 def parts(fares, taps):
-    """Rail taps in their order: each In with the Out right behind it, if they are a leg, and every other one alone."""
+    """Rail taps in their order: each In with the Out right after it, if they are a leg, and every other one alone."""
     made = []
     for tap in taps:
         before = made[-1][-1] if made else None
@@ -197,10 +197,10 @@ def parts(fares, taps):
     return made
 
 
-def is_linked(fares, part, behind):
-    if len(part) == 1 or len(behind) == 1 or any(entry.place == out.place for entry, out in (part, behind)):
+def is_linked(fares, part, after):
+    if len(part) == 1 or len(after) == 1 or any(entry.place == out.place for entry, out in (part, after)):
         return False
-    out, entry = part[1], behind[0]
+    out, entry = part[1], after[0]
     return entry.utc - out.utc <= fares.interchanges.get(frozenset((out.place, entry.place)), -1)
 
 
@@ -418,7 +418,7 @@ def is_quoted(account, through):
 
 
 def posting(fares, number, account, through, before):
-    """What is due of an account's week through a day as a posting behind those of that account and week; or why it is refused."""
+    """What is due of an account's week through a day as a posting after those of that account and week; or why it is refused."""
     week, version = monday(through), len(account.taps) + len(account.fixes)
     due, shares = owed(fares, account, through)
     if before:

@@ -61,7 +61,7 @@ def killed_service(words, port, texts, all_are_heard, draw):
 
 
 class ServedStory(Story):
-    """Services. On each lane of one other accounts are spoken of; the day is closed behind all of them."""
+    """Services. On each lane of one other accounts are spoken of; the day is closed after all of them."""
 
     def __init__(self, folder, draw, has_ledger):
         self.files = tempfile.mkdtemp(dir=folder)

@@ -8,7 +8,7 @@ import subprocess
 # file that is the descriptor ODDS, where there is one; 0 there refuses none. Each is told by an x on the descriptor TELL. Where there is
 # MARKED, only those between the marks of a test count; marks are requests of sizes that nothing else asks for, and a third such size
 # tells by an m that a call has said so. And a send that takes ROOM bytes in all, of the one connection that there is. And an fdatasync
-# that fails behind the first SETTLED calls, and an fsync behind the first NAMED ones. It declares what it calls: the toolchain's compiler
+# that fails after the first SETTLED calls, and an fsync after the first NAMED ones. It declares what it calls: the toolchain's compiler
 # comes without the C library's headers.
 SOURCE = r"""
 typedef unsigned long size_t;

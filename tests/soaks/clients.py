@@ -36,9 +36,9 @@ class Way(NamedTuple):
     # By QUIT, by the end of what is sent, by a close or by a reset. The last two lose all but so many replies.
     end: str
     heard: int = 0
-    # How much of the next line is sent without the rest of it, and how many lines behind QUIT.
+    # How much of the next line is sent without the rest of it, and how many lines after QUIT.
     cut: float = 0
-    behind: int = 0
+    after: int = 0
 
     @property
     def is_lost(self):
@@ -157,8 +157,8 @@ class Connection:
         """Ends what is sent, and hears all that is to come. Whether it came."""
         last = None
         if self.way.end == "quit":
-            behind = [it.text for it, _ in zip(self.client.left, range(self.way.behind))]
-            self.send(b"QUIT\n" + b"".join(behind))
+            after = [it.text for it, _ in zip(self.client.left, range(self.way.after))]
+            self.send(b"QUIT\n" + b"".join(after))
             last = b"BYE\n"
         else:
             cut = self.cut() if self.way.cut else b""
@@ -174,7 +174,7 @@ class Connection:
         if came == b"" and last and not self.sent:
             return False
         if came != (last or b""):
-            raise Fault(f"behind the last line came {came[:200]!r}, and not {last!r}")
+            raise Fault(f"after the last line came {came[:200]!r}, and not {last!r}")
         self.client.count[f"ended by {'QUIT' if self.way.end == 'quit' else 'the end of what is sent'}"] += 1
         return True
 
@@ -229,7 +229,7 @@ class Client:
             time.sleep(0.005)
 
     def connect(self, way):
-        """One connection. What has no reply behind it is to be sent again."""
+        """One connection. What has no reply after it is to be sent again."""
         self.connections += 1
         if self.connections >= self.service.plan.sessions:
             raise Fault(f"no connection is left for {len(self.left):,} lines; for {self.count['without memory']:,} there was no memory")

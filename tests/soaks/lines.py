@@ -110,7 +110,7 @@ def unread(draw):
 
 
 def arrivals(draw, shape, accounts):
-    """The lines of these accounts, each behind its place in the order in which they are sent."""
+    """The lines of these accounts, each after its place in the order in which they are sent."""
     taps = loads.arriving(draw, [tap for account in accounts for tap in loads.trip_taps(draw, account, shape.taps)])
     commands = loads.corrected(draw, taps, len(taps) // 12)
     last = len(commands)

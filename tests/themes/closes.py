@@ -11,7 +11,7 @@ REFUNDED = (
     ("CLOSE 19730", "PAY 7 19730 19730 2 340 -520 1=-520\nDONE 19730 1"),
     ("CLOSE 19730", "PAY 7 19730 19730 2 340 -520 1=-520\nDONE 19730 1"),
 )
-# Nothing more is due through Tuesday, and Monday can't be closed behind it.
+# Nothing more is due through Tuesday, and Monday can't be closed after it.
 STALE = (
     ("TAP 1 1 7 1704697200 50 BUS", "OK 19730 175 175"),
     ("CLOSE 19730", "PAY 7 19730 19730 1 175 175 4=175\nDONE 19730 1"),
@@ -23,7 +23,7 @@ STALE = (
     ("CLOSE 19731", "PAY 7 19730 19731 2 350 175 4=175\nDONE 19731 1"),
     ("CLOSE 19736", "PAY 7 19730 19736 2 350 0\nDONE 19736 1"),
     ("CLOSE 19731", "NO 42 StaleQuote"),
-    # Neither the week before nor the one behind it has a tap.
+    # Neither the week before nor the one after it has a tap.
     ("CLOSE 19729", "DONE 19729 0"),
     ("CLOSE 19737", "DONE 19737 0"),
 )
@@ -69,7 +69,7 @@ FILLS_CLOSED = (
     ("TAP 1 1 8 1704783600 14 IN", "OK 19731 0 0"),
     ("CLOSE 19731", "PAY 7 19730 19731 3 0 0\nPAY 8 19730 19731 2 0 0\nDONE 19731 2"),
 )
-# A Sunday and the Monday behind it: two weeks, each with its own postings, at the same versions.
+# A Sunday and the Monday after it: two weeks, each with its own postings, at the same versions.
 TWO_WEEKS = (
     ("TAP 1 1 7 1704610800 50 BUS", "OK 19729 175 175"),
     ("TAP 1 2 7 1704697200 14 IN", "OK 19730 860 860"),
@@ -82,7 +82,7 @@ TWO_WEEKS = (
     ("CLOSE 19730", "PAY 7 19730 19730 3 860 0\nDONE 19730 1"),
     ("CLOSE 19729", "PAY 7 19723 19729 3 350 175 4=175\nDONE 19729 1"),
 )
-# Behind three journeys at 340, with the shares of THREE_RIDES.
+# After three journeys at 340, with the shares of THREE_RIDES.
 SHARES_CLOSED = (
     ("CLOSE 19730", "PAY 7 19730 19730 6 890 890 1=593 2=297\nDONE 19730 1"),
     ("TAP 1 7 7 1704708000 14 IN", "OK 19730 1750 1750"),
@@ -91,7 +91,7 @@ SHARES_CLOSED = (
     ("CLOSE 19730", "PAY 7 19730 19730 8 1050 -700 1=-37 2=-20 3=-643\nDONE 19730 1"),  # 595 - 632, 297 - 317, 158 - 801
     ("DUE 7 19730", "DUE 7 19730 19730 8 1050 1=595 2=297 3=158"),
 )
-# Behind three boardings a day from Monday to Friday: the days of QUOTED_WEEK, of which Friday is capped with the week.
+# After three boardings a day from Monday to Friday: the days of QUOTED_WEEK, of which Friday is capped with the week.
 WEEK_CLOSED = (
     *((f"CLOSE {day}", f"PAY 7 19730 {day} 15 {525 * (day - 19729)} 525 4=525\nDONE {day} 1") for day in range(19730, 19734)),
     ("CLOSE 19734", "PAY 7 19730 19734 15 2470 370 4=370\nDONE 19734 1"),
@@ -155,7 +155,7 @@ CLOSED_BETWEEN = (
 
 @test
 def closes_among_other_lines(_):
-    """What other lines are answered before a close and behind it."""
+    """What other lines are answered before a close and after it."""
     yield "an empty session that closes", *play(RUN, NOTHING_CLOSED)
     yield "closes between other lines", *play(RUN, CLOSED_BETWEEN)
 

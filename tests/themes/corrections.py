@@ -17,7 +17,7 @@ FILLED = (
     # Both ends of a change that were forgotten, between an In at 07:00 and an Out at 07:50.
     ("TAP 1 1 8 1704697200 14 IN", "OK 19730 860 860"),
     ("TAP 1 2 8 1704700200 11 OUT", "OK 19730 210 210"),
-    ("FIX 3 1 8 FILL 1704698400 12 OUT", "OK 19730 1070 1070"),  # 07:20: 210, and the Out behind it is alone
+    ("FIX 3 1 8 FILL 1704698400 12 OUT", "OK 19730 1070 1070"),  # 07:20: 210, and the Out after it is alone
     ("FIX 3 2 8 FILL 1704699600 10 IN", "OK 19730 370 370"),  # 07:40: linked, zones 1 to 3
     ("SHOW 8 19730", "SHOW 8 19730 1 370\nJNY RAIL 14 11 1704697200 370"),
 )

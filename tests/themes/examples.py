@@ -54,7 +54,7 @@ def rows_that_are_told(_):
 
 @test
 def sessions_that_go_on(folder):
-    """The replies to a session that is killed behind the last of them, and to the next one with the same journal and ledger."""
+    """The replies to a session that is killed after the last of them, and to the next one with the same journal and ledger."""
     told, journal, ledger = told_replies(), os.path.join(folder, "taps.txt"), os.path.join(folder, "ledger.db")
     given = [*RUN, "--journal", journal, "--ledger", ledger]
     with started(given) as ran:

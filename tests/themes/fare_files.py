@@ -60,7 +60,7 @@ REFUSED_SAMPLES = (
     # Thirteen bands are too many, before they are looked at; of twelve the first fault is told.
     (BUS_BAND, 11 * BUS_BAND, "16 TooMany"),
     (BUS_BAND, 10 * BUS_BAND, "14 Duplicate"),
-    # Bands stand behind the single fares, and before the holidays.
+    # Bands stand after the single fares, and before the holidays.
     ("{ from = 3, to = 3, peak = 200, off = 180 },\n]\nband = [", "]\nband = [1,", "11 MissingKey"),
     (f"{ZONES_1_TO_2}\n  {{ from = 1, to = 3, day = 1050, week = 5250 }},\n]\nholidays = [19723]", f"{BUS_BAND}\n]\nholidays = [3]", "14 Duplicate"),
 )
@@ -130,18 +130,18 @@ def through_a_pipe(folder, pieces):
 
 @test
 def long_fare_files(folder):
-    """A fare file whose rules stand behind 3 MiB, which would be missed if it were read in part, and one in pieces."""
+    """A fare file whose rules stand after 3 MiB, which would be missed if it were read in part, and one in pieces."""
     text = read("bus.toml")
-    front, rules_behind = text.split(b"[rules]")
-    long = front + (b"# " + b"-" * 1021 + b"\n") * 3072 + b"[rules]" + rules_behind
+    front, rules_after = text.split(b"[rules]")
+    long = front + (b"# " + b"-" * 1021 + b"\n") * 3072 + b"[rules]" + rules_after
     pairs = [(f"TAP 1 1 7 {SEVEN} 50 BUS", "OK 19730 175 175")]
-    yield "rules behind 3 MiB", *play(["run", written(folder, "long", long), LONDON], pairs)
+    yield "rules after 3 MiB", *play(["run", written(folder, "long", long), LONDON], pairs)
     half = len(text) // 2
     yield "a fare file in two pieces", *play(["run", through_a_pipe(folder, [text[:half], text[half:]]), LONDON], pairs)
     sample = read("sample.toml")
-    ahead, bands_behind = sample.split(b"band = [")
-    behind = ahead + (b"# " + b"-" * 1021 + b"\n") * 3072 + b"band = [" + bands_behind
-    yield "bands behind 3 MiB, checked", run(["check", written(folder, "long", behind)]), answers(COUNTED)
+    ahead, bands_after = sample.split(b"band = [")
+    after = ahead + (b"# " + b"-" * 1021 + b"\n") * 3072 + b"band = [" + bands_after
+    yield "bands after 3 MiB, checked", run(["check", written(folder, "long", after)]), answers(COUNTED)
 
 
 def counted(places, bands, interchanges, holidays):

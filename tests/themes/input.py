@@ -1,4 +1,4 @@
-"""Lines that come in pieces, last lines without their end, and what stands behind QUIT."""
+"""Lines that come in pieces, last lines without their end, and what stands after QUIT."""
 
 import contextlib
 
@@ -59,7 +59,7 @@ def ends_of_input(folder):
     first, reply = boardings(1)
     path = written(folder, "two", b"QUIT\n" + first)
     yield "no input", run(RUN), answers(b"")
-    yield "a file from behind its first line on", run_file(RUN, path, start=5), answers(reply)
+    yield "a file from after its first line on", run_file(RUN, path, start=5), answers(reply)
     for rest, refusal in CUT_LINES:
         name, wanted = f"a last line of {len(rest):,} bytes without its end", answers(reply + refusal)
         yield name, run(RUN, first + rest), wanted
@@ -81,7 +81,7 @@ LATE_REPLIES = (
 
 @test
 def cut_sessions(_):
-    """A session that ends behind each of its bytes."""
+    """A session that ends after each of its bytes."""
     lines = in_lines(LATE_LINES)
     for end in range(len(lines) + 1):
         whole = lines[:end].count(b"\n")
@@ -89,7 +89,7 @@ def cut_sessions(_):
         yield f"a session of {end} bytes", run(RUN, lines[:end]), answers(in_lines([*LATE_REPLIES[:whole], *rest]))
 
 
-BEHIND_QUIT = {
+AFTER_QUIT = {
     "nothing": b"",
     "3,000 lines": boardings(3_000)[0],
     "QUIT": b"QUIT\n",
@@ -100,13 +100,13 @@ NOT_QUIT = (b"QUIT ", b" QUIT", b"quit", b"QUIT\r", b"QUIT\0", b"QUIT 1", b"QUIT
 
 
 @test
-def behind_quit(folder):
-    """No line behind QUIT is answered."""
+def later_quit(folder):
+    """No line after QUIT is answered."""
     lines, replies = boardings(3_000)
-    for name, rest in BEHIND_QUIT.items():
+    for name, rest in AFTER_QUIT.items():
         given, wanted = lines + b"QUIT\n" + rest, answers(replies + b"BYE\n")
-        yield f"{name} behind QUIT, through a pipe", run(RUN, given), wanted
-        yield f"{name} behind QUIT, in a file", run_file(RUN, written(folder, "lines", given)), wanted
+        yield f"{name} after QUIT, through a pipe", run(RUN, given), wanted
+        yield f"{name} after QUIT, in a file", run_file(RUN, written(folder, "lines", given)), wanted
     yield "QUIT before all lines", run(RUN, b"QUIT\n" + lines), answers(b"BYE\n")
     first, reply = boardings(1)
     for name, given in (
@@ -121,10 +121,10 @@ def behind_quit(folder):
 
 @test
 def rest_of_a_file(folder):
-    """`(farebox run FARES ZONE; cat) < lines`: `cat` finds what stands behind QUIT, and all of it."""
+    """`(farebox run FARES ZONE; cat) < lines`: `cat` finds what stands after QUIT, and all of it."""
     for before in (0, 1, 145, 146, 147, 292, 293, 3_000):
         lines, replies = boardings(before)
         for rest in (b"", b"QUIT\n", b"cut", *(boardings(count)[0] for count in (1, 200, 40_000))):
             path = written(folder, "lines", lines + b"QUIT\n" + rest)
-            name = f"{len(rest)} bytes behind {before} lines and QUIT"
+            name = f"{len(rest)} bytes after {before} lines and QUIT"
             yield name, run_file(RUN, path, leaves=True), answers(replies + b"BYE\n")._replace(left=rest)

@@ -34,8 +34,8 @@ def replayed(*paths, fares=FARES):
 
 def counted(lines, accounts, first, last, rest=0):
     """What a replay comes to of so many lines and accounts, from an instant to another."""
-    behind = f" rest {rest}" if rest else ""
-    return answers(f"OK lines {lines} accounts {accounts} from {first} to {last}{behind}\n".encode())
+    after = f" rest {rest}" if rest else ""
+    return answers(f"OK lines {lines} accounts {accounts} from {first} to {last}{after}\n".encode())
 
 
 def bytes_of(path):
@@ -128,7 +128,7 @@ def sessions_that_go_on(folder):
         words = " ".join(("--journal", *more))
         yield f"{words}, no lines", kept(path, b"", RUN_SAMPLE, more), End(0, left=b"")
         yield f"{words}, the first session", kept(path, first + second, RUN_SAMPLE, more), End(0, told, left=one)
-        yield f"{words}, no lines behind it", kept(path, b"", RUN_SAMPLE, more), End(0, left=one)
+        yield f"{words}, no lines after it", kept(path, b"", RUN_SAMPLE, more), End(0, left=one)
         yield f"{words}, a cut line", kept(path, b"TAP 1 9 9 1704697200 50 BUS", RUN_SAMPLE, more), End(0, b"NO 50 BadLine\n", left=one)
         yield f"{words}, the second session", kept(path, second, RUN_SAMPLE, more), End(0, told_then, left=one + two)
         yield f"{words}, what it is asked then", kept(path, asked, RUN_SAMPLE, more), End(0, known, left=one + two)
@@ -254,18 +254,18 @@ def cut_journals(folder):
 
 @test
 def rests(folder):
-    """What stands behind a last newline is no line, whatever it is; but what has no newline, and is longer than a line, is no journal."""
+    """What stands after a last newline is no line, whatever it is; but what has no newline, and is longer than a line, is no journal."""
     lines, replies = boardings(2)
     again = replies.replace(b"OK", b"AGAIN")
     for rest in (b"TAP 1 1 9 1704697200 50 BUS", b"QUIT", b"\0", b"\r", b"\xff" * 128, b"TAP 1 1 1 1704697201 50 BUS", b" " * 129, b"\0" * 4_096):
         for before, came in ((lines, again), (b"", replies)):
             path = written(folder, "journal", before + rest)
             wanted = counted(before.count(b"\n"), before.count(b"\n"), *[SEVEN if before else 0] * 2, len(rest))
-            yield f"{rest[:30]!r} behind {len(before)} bytes, replayed", replayed(path), wanted
-            # Where nothing is new, what stands behind the last newline stays.
+            yield f"{rest[:30]!r} after {len(before)} bytes, replayed", replayed(path), wanted
+            # Where nothing is new, what stands after the last newline stays.
             wanted = End(0, came, left=lines + (rest if before else b"")) if before or len(rest) <= 128 else CANNOT_USE._replace(left=rest)
-            yield f"{len(rest)} bytes, {rest[:30]!r}, behind {len(before)} bytes", kept(path, lines), wanted
-    # Of several files all rests count, and none is joined with the file behind it.
+            yield f"{len(rest)} bytes, {rest[:30]!r}, after {len(before)} bytes", kept(path, lines), wanted
+    # Of several files all rests count, and none is joined with the file after it.
     one, two = written(folder, "one", lines + b"TAP 1 1 3 17046"), written(folder, "two", b"97200 50 BUS")
     yield "two files with rests", replayed(one, two), counted(2, 2, SEVEN, SEVEN, 15 + 12)
     yield "an empty file and a file", replayed(written(folder, "empty", b""), one), counted(2, 2, SEVEN, SEVEN, 15)
@@ -282,7 +282,7 @@ def a_large_journal(folder):
     yield "many lines, and the last one again", kept(path, last), End(0, b"AGAIN" + reply[2:], left=lines)
 
 
-# Lines that a journal may not have behind its first four, with why; and behind a correction.
+# Lines that a journal may not have after its first four, with why; and after a correction.
 BAD_LINES = (
     ("DUE 7 19730", "50 BadLine"), ("SHOW 7 19730", "50 BadLine"), ("CLOSE 19730", "50 BadLine"), ("QUIT", "50 BadLine"), ("", "50 BadLine"),
     ("fly", "50 BadLine"), ("OK 19730 175 175", "50 BadLine"), ("\0" * 20, "50 BadLine"), ("TAP 1 1 5 1704697200 50 BUS\r", "50 BadLine"),
@@ -327,7 +327,7 @@ def bad_journals(folder):
     path = written(folder, "journal", b"QUIT\n")
     yield from told_as_bad("QUIT alone", path, 1, "50 BadLine")
     path = written(folder, "journal", good * 3 + b"fly\n")
-    yield from told_as_bad("a bad line behind lines that come three times", path, 16, "50 BadLine")
+    yield from told_as_bad("a bad line after lines that come three times", path, 16, "50 BadLine")
 
 
 @test
@@ -384,7 +384,7 @@ def replies_with(count):
     return in_lines(stuck if number > count else reply for (_, reply, stuck), number in zip(FULL, newly_accepted))
 
 
-def again_behind(count):
+def again_after(count):
     """The pairs of that session's newly accepted lines, of which so many were kept."""
     accepted = [row[:2] for row in FULL if row[1].startswith("OK ")]
     # Those that were kept are answered as they are then.
@@ -412,8 +412,8 @@ def full_files(folder):
             path = missing(folder)
             came = kept(path, FULL_LINES, more=more, **limited_to(room))
             yield f"room for {room} bytes {more}", came, End(status, replies_with(count), errors, FULL_KEPT[:room])
-        lines, replies = session(again_behind(count))
-        yield f"without a limit behind {room} bytes", kept(path, lines), End(0, replies, left=FULL_KEPT)
+        lines, replies = session(again_after(count))
+        yield f"without a limit after {room} bytes", kept(path, lines), End(0, replies, left=FULL_KEPT)
 
 
 @test
@@ -439,8 +439,8 @@ def disks_that_fail(folder):
         has = b"".join(FULL_KEPT.splitlines(True)[:count + 1])
         came = kept(path, FULL_LINES, more=("--sync",), **settling(count))
         yield f"{count} lines settled", came, End(1, replies_with(count), JOURNAL_FAULT.errors, has)
-        lines, replies = session(again_behind(count + 1))
-        yield f"the next session behind {count} lines settled", kept(path, lines), End(0, replies, left=FULL_KEPT)
+        lines, replies = session(again_after(count + 1))
+        yield f"the next session after {count} lines settled", kept(path, lines), End(0, replies, left=FULL_KEPT)
     # Without a ledger nothing is settled before a close.
     replies = in_lines(reply for _, reply, _ in FULL)
     yield "nothing settled, and closes", kept(missing(folder), FULL_LINES, **settling(0)), End(1, replies, JOURNAL_FAULT.errors, FULL_KEPT)
@@ -509,7 +509,7 @@ def one_session_at_a_time(folder):
         ran.stdin.write(b"".join(others))
         ran.stdin.close()
         yield "the first session", leaving(path, end_of(ran, output)), End(0, replies, left=lines)
-    yield "a session behind it", kept(path, lines), End(0, replies.replace(b"OK", b"AGAIN"), left=lines)
+    yield "a session after it", kept(path, lines), End(0, replies.replace(b"OK", b"AGAIN"), left=lines)
     for at in range(2):
         with started(with_journal(path)) as ran:
             ran.stdin.write(first)
@@ -548,7 +548,7 @@ def naming(library, count):
 
 @test
 def names_on_the_disk(folder):
-    """Each start has the name of its journal on the disk, also if the file is there, which a start may have made that was cut off behind that."""
+    """Each start has the name of its journal on the disk, also if the file is there, which a start may have made that was cut off after that."""
     library, (lines, replies) = preloaded(folder), boardings(1)
     given = written(folder, "given", lines)
     os.mkdir(os.path.join(folder, "there"))

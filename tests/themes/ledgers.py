@@ -46,7 +46,7 @@ def closing(path, folder, came):
     return came._replace(left=copied_rows(path, folder))
 
 
-# Three sessions with one journal and one ledger, with examples/sample.toml, and the rows behind each of them. Of account 7 in the first an In
+# Three sessions with one journal and one ledger, with examples/sample.toml, and the rows after each of them. Of account 7 in the first an In
 # alone is charged; its Out comes in the second, and the rest is given back. In the third a boarding is filled in, and 40 pence are
 # credited: of 475, which are due, 475 * 340 / 515 is 313, and the rest is the bus operator's.
 FIRST_SESSION = (
@@ -55,7 +55,7 @@ FIRST_SESSION = (
     ("QUIT", "BYE"),
 )
 FIRST_POSTING, FIRST_SHARE, FIRST_TAP = (7, 19730, 19730, 1, 860, 860), (7, 1, 19730, 1, 860), (7, 1, 1, 1704697200, 19730, 25200, 10, 0)
-ROWS_BEHIND_FIRST = rows(FIRST_POSTING, FIRST_SHARE, FIRST_TAP)
+ROWS_AFTER_FIRST = rows(FIRST_POSTING, FIRST_SHARE, FIRST_TAP)
 SECOND_SESSION = (
     ("CLOSE 19730", "PAY 7 19730 19730 1 860 860 1=860\nDONE 19730 1"),
     ("TAP 1 1 7 1704697200 10 IN", "AGAIN 19730 860 860"),
@@ -64,7 +64,7 @@ SECOND_SESSION = (
     ("CLOSE 19730", "PAY 7 19730 19730 2 340 -520 1=-520\nDONE 19730 1"),
 )
 SECOND_POSTING, SECOND_SHARE, SECOND_TAP = (7, 19730, 19730, 2, 340, -520), (7, 2, 19730, 1, -520), (7, 1, 2, 1704699000, 19730, 27000, 12, 1)
-ROWS_BEHIND_SECOND = rows(FIRST_POSTING, SECOND_POSTING, FIRST_SHARE, SECOND_SHARE, FIRST_TAP, SECOND_TAP)
+ROWS_AFTER_SECOND = rows(FIRST_POSTING, SECOND_POSTING, FIRST_SHARE, SECOND_SHARE, FIRST_TAP, SECOND_TAP)
 THIRD_SESSION = (
     ("CLOSE 19730", "PAY 7 19730 19730 2 340 -520 1=-520\nDONE 19730 1"),
     ("FIX 3 1 7 CREDIT 19730 40", "OK 19730 340 340"),
@@ -75,7 +75,7 @@ THIRD_SESSION = (
     ("CLOSE 19731", "PAY 7 19730 19731 6 475 135 1=-27 4=162\nPAY 8 19730 19731 1 175 175 4=175\nDONE 19731 2"),
     ("CLOSE 19730", "NO 42 StaleQuote"),
 )
-ROWS_BEHIND_THIRD = rows(
+ROWS_AFTER_THIRD = rows(
     FIRST_POSTING, SECOND_POSTING, (7, 19730, 19731, 6, 475, 135), (8, 19730, 19731, 1, 175, 175),
     FIRST_SHARE, SECOND_SHARE, (7, 6, 19731, 1, -27), (7, 6, 19731, 4, 162), (8, 1, 19731, 4, 175),
     FIRST_TAP, SECOND_TAP, (8, 1, 1, 1704783600, 19731, 25200, 50, 2),
@@ -90,14 +90,14 @@ LAST_SESSION = (
 
 @test
 def sessions_that_go_on(folder):
-    """What closes of four sessions post one after another, and the rows behind each."""
+    """What closes of four sessions post one after another, and the rows after each."""
     for more in ((), ("--sync",)):
         path, journal = os.path.join(folder, f"ledger{len(more)}"), os.path.join(folder, f"journal{len(more)}")
         words, name = with_ledger(path, journal, RUN_SAMPLE, *more), " ".join(("--ledger", *more))
         yield f"{name}, no lines", closing(path, folder, run(words)), End(0, left=rows())
         for number, (pairs, left) in enumerate((
-            (FIRST_SESSION, ROWS_BEHIND_FIRST), (SECOND_SESSION, ROWS_BEHIND_SECOND), (THIRD_SESSION, ROWS_BEHIND_THIRD),
-            (LAST_SESSION, ROWS_BEHIND_THIRD),
+            (FIRST_SESSION, ROWS_AFTER_FIRST), (SECOND_SESSION, ROWS_AFTER_SECOND), (THIRD_SESSION, ROWS_AFTER_THIRD),
+            (LAST_SESSION, ROWS_AFTER_THIRD),
         ), 1):
             lines, replies = session(pairs)
             yield f"{name}, session {number}", closing(path, folder, run(words, lines)), End(0, replies, left=left)
@@ -258,7 +258,7 @@ def databases_of_others(folder):
     path = others_database(os.path.join(folder, "other"), "CREATE TABLE notes (text TEXT)", "INSERT INTO notes VALUES ('as it was')")
     for name, it in (("a database of others", path), ("an empty file", written(folder, "empty", b""))):
         came = closing(it, folder, run(with_ledger(it, os.path.join(folder, f"{os.path.basename(it)}.lines"), RUN_SAMPLE), lines))
-        yield name, came, End(0, replies, left=ROWS_BEHIND_FIRST)
+        yield name, came, End(0, replies, left=ROWS_AFTER_FIRST)
     with contextlib.closing(sqlite3.connect(path)) as it:
         notes = it.execute("SELECT text FROM notes").fetchall()
     yield "what others have in it", answers(repr(notes).encode()), answers(b"[('as it was',)]")
@@ -328,14 +328,14 @@ def one_session_at_a_time(folder):
         wanted = rows_of_statement("19730,RAIL,10,12,07:00:00,340,-")
         yield "a statement beside a session", run([*STATE, "--journal", journal]), wanted
         ran.stdin.close()
-        yield "the first session", closing(path, folder, end_of(ran, output)), End(0, replies, left=ROWS_BEHIND_SECOND)
+        yield "the first session", closing(path, folder, end_of(ran, output)), End(0, replies, left=ROWS_AFTER_SECOND)
     with contextlib.closing(sqlite3.connect(path)) as writer:
         writer.execute("BEGIN EXCLUSIVE")
         yield "beside SQLite", run_file(with_ledger(path, journal, RUN_SAMPLE), given, leaves=True), STORE._replace(left=lines)
 
 
 @test
-def killed_behind_a_close(folder):
+def killed_after_a_close(folder):
     """What was posted by a session that is killed stands in the file and its log, which SQLite reads together and no one else opens meanwhile."""
     (path, journal), (lines, replies) = opened_ledger(folder, "ledger"), session(SECOND_SESSION)
     with started(with_ledger(path, journal, RUN_SAMPLE)) as ran:
@@ -345,14 +345,14 @@ def killed_behind_a_close(folder):
             yield "SQLite beside it", answers(repr(other.execute("SELECT * FROM postings").fetchall()).encode()), answers(b"it is locked")
         ran.kill()
         ran.wait()
-    yield "the rows by SQLite", answers(rows_of(path)), answers(ROWS_BEHIND_SECOND)
+    yield "the rows by SQLite", answers(rows_of(path)), answers(ROWS_AFTER_SECOND)
     lines, replies = session(THIRD_SESSION)
-    yield "the next session", closing(path, folder, run(with_ledger(path, journal, RUN_SAMPLE), lines)), End(0, replies, left=ROWS_BEHIND_THIRD)
+    yield "the next session", closing(path, folder, run(with_ledger(path, journal, RUN_SAMPLE), lines)), End(0, replies, left=ROWS_AFTER_THIRD)
 
 
 @test
 def first_fault(folder):
-    """A ledger is opened behind the fare file, the zone and the journal, of which a line that is not accepted is told first."""
+    """A ledger is opened after the fare file, the zone and the journal, of which a line that is not accepted is told first."""
     text, lines = written(folder, "text", b"no ledger"), boardings(2)[0]
     good, bad, none = written(folder, "good", lines), written(folder, "bad", lines + b"fly\n"), os.path.join(folder, "no", "journal")
     path, _ = opened_ledger(folder, "ledger")
@@ -392,7 +392,7 @@ def full_files(folder):
     room = max(2 * len(lines), os.path.getsize(path) + (32 << 10))
     asked, told = b"CLOSE 19730\nDUE 7 19730\nCLOSE 19730\n", b"NO 43 Store\nDUE 7 19730 19730 1 860 1=860\nNO 43 Store\n"
     yield "a close without room", run(with_ledger(path, journal, RUN_SAMPLE), lines + asked, **limited_to(room)), answers(replies + told)
-    yield "a close without room, the rows then", answers(copied_rows(path, folder)), answers(ROWS_BEHIND_FIRST)
+    yield "a close without room, the rows then", answers(copied_rows(path, folder)), answers(ROWS_AFTER_FIRST)
     with started(with_ledger(path, journal, RUN_SAMPLE), **limited_to(room, resource.RLIM_INFINITY)) as ran:
         ran.stdin.write(b"CLOSE 19730\n")
         output = heard(ran.stdout, len(b"NO 43 Store\n"))
@@ -495,7 +495,7 @@ def ends_without_memory():
         yield start, Kept()
 
 
-# How many allocations are passed over behind one that is refused, of some five thousand.
+# How many allocations are passed over after one that is refused, of some five thousand.
 PASSED = 61
 
 

@@ -128,7 +128,7 @@ AT_LIMITS = (
     ("FIX 1 5 1 FILL 604800 1 IN", "NO 15 UnknownPlace"),
     ("FIX 1 5 1 FILL 604800 65535 IN", "NO 15 UnknownPlace"),
 )
-# A correction of each form, the least and the greatest of the two numbers behind its form, and its reply after those before it.
+# A correction of each form, the least and the greatest of the two numbers after its form, and its reply after those before it.
 SMALL, ANY, NOT_ZERO = (1, 65_535), (0, GREATEST), (1, GREATEST)
 SPELLED = (
     ("FIX 3 1 7 VOID 1 1", SMALL, ANY, "OK 0 0 0"),

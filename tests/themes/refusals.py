@@ -1,4 +1,4 @@
-"""Sessions over lanes that break off or cannot be answered behind each of their bytes, and full accounts: what is answered, and what stands then."""
+"""Sessions over lanes that break off or cannot be answered after each of their bytes, and full accounts: what is answered, and what stands then."""
 
 import socket
 
@@ -44,7 +44,7 @@ def cut_off(port, lines, replies):
 
 
 def broken_off(port, lines, replies):
-    """What is heard of a session that is broken off behind these bytes, once so many replies have come."""
+    """What is heard of a session that is broken off after these bytes, once so many replies have come."""
     peer = connected(port)
     peer.sendall(lines)
     came = heard(peer, len(replies))
@@ -54,7 +54,7 @@ def broken_off(port, lines, replies):
 
 @test
 def sessions_that_end_early(_):
-    """A session over a lane that ends, or is broken off, behind each of its bytes: the whole lines before are answered, and stand, and no more."""
+    """A session over a lane that ends, or is broken off, after each of its bytes: the whole lines before are answered, and stand, and no more."""
     numbers = range(ALL_LINES + 1)
     for name, end, cut in (("ends", cut_off, b"NO 50 BadLine\n"), ("breaks", broken_off, b"")):
         accounts, all_taps = {}, []
@@ -66,13 +66,13 @@ def sessions_that_end_early(_):
                 take(accounts, taps[:whole])
                 wanted = replies[:REPLY * whole]
                 came = end(port + number % 2, lines[:number], wanted)
-                yield f"a session that {name} behind {number} bytes", answers(came), answers(wanted + (cut if rest else b""))
+                yield f"a session that {name} after {number} bytes", answers(came), answers(wanted + (cut if rest else b""))
             shown = "".join(line for taps in all_taps for line in rules.shown(rules.BUS, accounts, taps[0].account, rules.service_day(taps[0].utc)))
             yield f"what stands of sessions each of which {name}", answers(days_shown(port, all_taps)), answers(shown.encode() + b"BYE\n")
             for lane in range(2):
                 come_and_go(port + lane, len(numbers) - len(numbers[lane::2]) - (lane == 0))
             paid = rules.closed(rules.BUS, accounts, {}, MONDAY).encode()
-            yield f"the close behind sessions each of which {name}", ended(ran, said), closed(port, 2, paid)
+            yield f"the close after sessions each of which {name}", ended(ran, said), closed(port, 2, paid)
 
 
 def line_by_line(port, lines):
@@ -90,7 +90,7 @@ def line_by_line(port, lines):
 
 @test
 def replies_with_room(folder):
-    """A session over a lane whose connection takes so many bytes and no more: these are heard, and no line behind is taken."""
+    """A session over a lane whose connection takes so many bytes and no more: these are heard, and no line after is taken."""
     library = preloaded(folder)
     taps, lines, replies = four_boardings(0)
     for room in range(len(replies) + 1):
@@ -99,7 +99,7 @@ def replies_with_room(folder):
             accounts = {}
             # The tap whose reply is the first that has no room is taken.
             take(accounts, taps[:room // REPLY + 1])
-            yield f"what stands behind {room} bytes", ended(ran, said), closed(port, 1, rules.closed(rules.BUS, accounts, {}, MONDAY).encode())
+            yield f"what stands after {room} bytes", ended(ran, said), closed(port, 1, rules.closed(rules.BUS, accounts, {}, MONDAY).encode())
 
 
 def full_account():

@@ -176,10 +176,10 @@ def two_lanes(_):
 
 @test
 def ends_of_sessions(_):
-    """A session ends by QUIT, by the end of input and by a cut line, and the lane serves the next; what stands behind QUIT is dropped."""
+    """A session ends by QUIT, by the end of input and by a cut line, and the lane serves the next; what stands after QUIT is dropped."""
     with serving(1, 1, 4) as (ran, port, said):
-        behind = talk(port, b"QUIT\n" + boarding(7).encode() * 20_000)
-        yield "QUIT, and much behind it", answers(behind), answers(b"BYE\n")
+        after = talk(port, b"QUIT\n" + boarding(7).encode() * 20_000)
+        yield "QUIT, and much after it", answers(after), answers(b"BYE\n")
         for name, lines, replies in (
             ("no line", b"", b""),
             ("a line, and the end of input", boarding(7).encode(), A_BOARDING.encode()),
@@ -483,7 +483,7 @@ def first_listening(library):
     return low
 
 
-# How many allocations are passed over behind one whose like `run` makes too, as tests/allocations has it refused: before the service
+# How many allocations are passed over after one whose like `run` makes too, as tests/allocations has it refused: before the service
 # listens, and in its close.
 PASSED = 10
 # For how many allocations memory is refused where it is for a while. Were it for good, a shard without room in its journal would answer

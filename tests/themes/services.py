@@ -16,9 +16,9 @@ from running import (
     MISSING, MONDAY, RUN_SAMPLE, SAMPLE, SEVEN, STATE, End, answers, end_of, fault, heard, in_lines, run, session, started, test, written,
 )
 from themes.journals import CANNOT_USE, bad_line, bytes_of, limited_to, naming, replayed, with_journal
-from themes.ledgers import ALONE, ROWS_BEHIND_FIRST, ROWS_BEHIND_SECOND, STORE, opened_ledger, refused_ledgers, rows, with_ledger
+from themes.ledgers import ALONE, ROWS_AFTER_FIRST, ROWS_AFTER_SECOND, STORE, opened_ledger, refused_ledgers, rows, with_ledger
 from themes.serve import (
-    WEEK_DAYS, boarding, closed, connected, ended, failed, free_ports, listening, paid, serving, side_by_side, talk, talk_ahead, words_of,
+    WEEK_DAYS, boarding, closed, connected, ended, free_ports, listening, paid, serving, side_by_side, talk, talk_ahead, words_of,
 )
 from themes.statements import A_BOARDING, rows_of_statement
 
@@ -37,7 +37,7 @@ def path_of(journals, number):
 
 
 def texts_of(journals):
-    """What the journals of a folder have, each behind its name."""
+    """What the journals of a folder have, each after its name."""
     names = sorted(os.listdir(journals), key=lambda name: int(name.split(".")[0]))
     return b"".join(b"== %s\n%s" % (name.encode(), bytes_of(os.path.join(journals, name))) for name in names)
 
@@ -206,7 +206,7 @@ RESTS = ("TAP 1 1 12 1704697200 50 BUS", "T", "fly\0", " " * 500)
 
 @test
 def cut_lines(folder):
-    """What stands behind a last newline is no line: it is cut off before the first line is kept there, and stays where none is."""
+    """What stands after a last newline is no line: it is cut off before the first line is kept there, and stays where none is."""
     for number, rest in enumerate(RESTS):
         journals = new_folder(folder, f"journals{number}")
         for at in range(3):
@@ -214,7 +214,7 @@ def cut_lines(folder):
         before = texts(boarding(7) + rest, boarding(8) + rest, boarding(9) + rest)
         with serving(1, 2, 1, more=with_new_ledger(journals)) as (ran, port, said):
             replies = talk(port, (boarding(7) + boarding(8) + boarding(9) + "DUE 12 19730\nQUIT\n").encode())
-            yield f"{rest[:20]!r} behind lines", answers(replies), answers(b"AGAIN 19730 175 175\n" * 3 + b"DUE 12 19730 19730 0 0\nBYE\n")
+            yield f"{rest[:20]!r} after lines", answers(replies), answers(b"AGAIN 19730 175 175\n" * 3 + b"DUE 12 19730 19730 0 0\nBYE\n")
             wanted = closed(port, 1, (paid(7) + paid(8) + paid(9) + done(3)).encode())._replace(left=before)
             yield f"{rest[:20]!r}, and no new line", leaving(journals, ended(ran, said)), wanted
         with serving(1, 2, 1, more=with_new_ledger(journals)) as (ran, port, said):
@@ -233,7 +233,7 @@ def refused_start(journals, shards, wanted, *more):
     return came, wanted._replace(errors=listening(port, 1) + wanted.errors)
 
 
-# Lines that may not stand behind a boarding and a Credit of account 7.
+# Lines that may not stand after a boarding and a Credit of account 7.
 BAD_LINES = (
     ("fly", "50 BadLine"), ("DUE 7 19730", "50 BadLine"), ("CLOSE 19730", "50 BadLine"), ("QUIT", "50 BadLine"), ("", "50 BadLine"),
     ("A" * 129, "51 LongLine"), (f"TAP 1 1 7 {SEVEN + 1} 50 BUS", "20 Conflict"), (f"TAP 1 3 7 {SEVEN} 51 BUS", "15 UnknownPlace"),
@@ -339,7 +339,7 @@ def one_service_at_a_time(folder):
         ran.kill()
         ran.wait()
     with serving(1, 1, 1, more=with_journals(journals)) as (ran, port, said):
-        yield "behind a service that is killed", answers(talk(port, b"QUIT\n")), answers(b"BYE\n")
+        yield "after a service that is killed", answers(talk(port, b"QUIT\n")), answers(b"BYE\n")
 
 
 @test
@@ -397,7 +397,7 @@ def names_on_the_disk(folder):
             for named, at in itertools.product(range(count), range(2)):
                 came = run([*words_of(port, 1, 2), *with_journals(journals)], **naming(library, named))
                 yield f"{name}, {named} folders named, start {at}", came, CANNOT_USE
-            # What comes behind the journals is that the port is another's.
+            # What comes after the journals is that the port is another's.
             came = run([*words_of(port, 1, 2), *with_journals(journals)], **naming(library, count))
             yield f"{name}, {count} folders named", came, fault("cannot listen")
         yield "a session beside services that do not begin", answers(talk(port, b"QUIT\n")), answers(b"BYE\n")
@@ -411,14 +411,21 @@ def full_journals(folder):
     """A journal that has no room for a line: its shard answers nothing any more, and the others go on; no day is closed, and all that was
     answered is there in the next service."""
     journals, room = new_folder(folder), 2 * len(boarding(10)) + 4
-    lines = boarding(10) + boarding(12) + boarding(11) + boarding(14) + "DUE 11 19730\n" + boarding(13) + "QUIT\n"
     # Account 14 is in shard 0, whose journal is full. Its lane waits some ten seconds for the reply, and the close as long.
-    with serving(1, 2, 1, more=with_journals(journals), **limited_to(room)) as (ran, port, said):
-        replies = talk(port, lines.encode())
-        wanted = 3 * "OK 19730 175 175\n" + LATE + "DUE 11 19730 19730 1 175 4=175\n" + "OK 19730 175 175\nBYE\n"
-        yield "lines of a full journal and of another", answers(replies), answers(wanted.encode())
+    before, after = boarding(10) + boarding(12) + boarding(11) + boarding(14), "DUE 11 19730\n" + boarding(13) + "QUIT\n"
+    lines, full = before + after, f"farebox: cannot keep lines in {path_of(journals, 0)}\n".encode()
+    with serving(1, 2, 1, more=with_journals(journals), **limited_to(room)) as (ran, port, said), connected(port) as peer:
+        peer.sendall(before.encode())
+        wanted = 3 * "OK 19730 175 175\n" + LATE
+        yield "lines of a full journal", answers(heard(peer, len(wanted))), answers(wanted.encode())
+        said += heard(ran.stderr, len(full))
+        yield "what is said while the service goes on", answers(said), answers(listening(port, 1) + full)
+        peer.sendall(after.encode())
+        wanted = "DUE 11 19730 19730 1 175 4=175\n" + "OK 19730 175 175\nBYE\n"
+        yield "lines of the other journal", answers(heard(peer, len(wanted))), answers(wanted.encode())
         left = texts(boarding(10) + boarding(12) + boarding(14)[:4], boarding(11) + boarding(13))
-        wanted = failed(port, 1, "journal fault", b"NO 34 NotHere\n")._replace(left=left)
+        wanted = fault("journal fault", b"NO 34 NotHere\n")
+        wanted = wanted._replace(errors=listening(port, 1) + full + wanted.errors, left=left)
         yield "how it ends", leaving(journals, ended(ran, said)), wanted
     with serving(1, 2, 1, more=with_new_ledger(journals)) as (ran, port, said):
         replies = talk(port, lines.encode())
@@ -444,8 +451,8 @@ def ledgers_of_services(folder):
     """What services close into one ledger in a file, one after another: what was posted is told again, and what came later given back."""
     journals, ledger = new_folder(folder), os.path.join(folder, "ledger")
     for number, (lines, replies, shards, output, left) in enumerate((
-        (TAP_IN, "OK 19730 860 860\n", 2, CHARGED, ROWS_BEHIND_FIRST), ("", "", 3, CHARGED, ROWS_BEHIND_FIRST),
-        (TAP_OUT, "OK 19730 340 340\n", 1, REFUNDED, ROWS_BEHIND_SECOND), (TAP_IN, "AGAIN 19730 340 340\n", 16, REFUNDED, ROWS_BEHIND_SECOND),
+        (TAP_IN, "OK 19730 860 860\n", 2, CHARGED, ROWS_AFTER_FIRST), ("", "", 3, CHARGED, ROWS_AFTER_FIRST),
+        (TAP_OUT, "OK 19730 340 340\n", 1, REFUNDED, ROWS_AFTER_SECOND), (TAP_IN, "AGAIN 19730 340 340\n", 16, REFUNDED, ROWS_AFTER_SECOND),
     ), 1):
         port, came, end = served(journals, ledger, lines, shards=shards)
         yield f"service {number}, its lane", answers(came), answers(replies.encode() + b"BYE\n")
@@ -459,7 +466,7 @@ def ledgers_of_services(folder):
     # A session goes on with what the services have kept and posted.
     both = written(folder, "both", b"".join(bytes_of(path_of(journals, number)) or b"" for number in FROM_EACH))
     lines, replies = session((("CLOSE 19731", "PAY 7 19730 19731 2 340 0\nDONE 19731 1"), ("DUE 7 19731", "DUE 7 19730 19731 2 340 1=340")))
-    yield "a session behind them", run(with_ledger(ledger, both, RUN_SAMPLE), lines), answers(replies)
+    yield "a session after them", run(with_ledger(ledger, both, RUN_SAMPLE), lines), answers(replies)
 
 
 @test

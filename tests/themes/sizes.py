@@ -70,12 +70,12 @@ def many_accounts_over_lanes(folder):
 
 
 STATIONS, OPERATORS, LONE = list(rules.SAMPLE.stations), rules.SAMPLE.operators, rules.SAMPLE.maximum
-# How many seconds a touch is behind the one before. A day has room for as many as an account may have.
+# How many seconds a touch is after the one before. A day has room for as many as an account may have.
 APART = 4
 
 
 def touched_out(number):
-    """The instant, the place and the kind of a touch out of this number: none is behind a touch in, and each is alone."""
+    """The instant, the place and the kind of a touch out of this number: none is after a touch in, and each is alone."""
     return BEGINS + APART * number, STATIONS[number % len(STATIONS)], "OUT"
 
 

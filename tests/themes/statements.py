@@ -243,5 +243,5 @@ def statements_of_streams(folder):
         yield f"a statement, a last line of {len(rest)} bytes without its end", run(STATE, lines + rest), wanted
     yield "a statement, lines in pieces", trickle(cut(lines, 3), 0.0005, STATE), wanted
     yield "a statement, QUIT in two pieces", trickle([lines + b"QU", b"IT\n" + more], 0.05, STATE), wanted
-    yield "a statement, and an input left open behind QUIT", unended(lines), wanted
+    yield "a statement, and an input left open after QUIT", unended(lines), wanted
     yield "a statement, a line of 17,000,000 bytes", run(STATE, b"A" * 17_000_000 + b"\n" + lines), wanted

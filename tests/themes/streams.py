@@ -201,7 +201,7 @@ def input_faults(folder):
 
 @test
 def connections_that_break(_):
-    """A session whose input breaks behind each of its bytes: the lines before are answered, and no more is read."""
+    """A session whose input breaks after each of its bytes: the lines before are answered, and no more is read."""
     lines = in_lines(LATE_LINES)
     for end in range(len(lines) + 1):
         whole = lines[:end].count(b"\n")

@@ -215,7 +215,7 @@ def help_texts(_):
         yield f"the version by the words {given}", run(given, lines), answers(VERSION)
 
 
-# Words behind options that ask for help or the version, and words that are refused.
+# Words after options that ask for help or the version, and words that are refused.
 MORE_WORDS = (
     (["-hV"], PROGRAM_HELP), (["--help", "--version"], PROGRAM_HELP), ([*RUN, "-h"], RUN_HELP), (["check", FARES, "-h"], CHECK_HELP),
     ([*STATE, "--help"], STATEMENT_HELP), ([*STATE[:4], "-h"], STATEMENT_HELP), (["-V", "statement"], VERSION), (["statement", "-V"], None),
@@ -325,7 +325,7 @@ REFUSED_BY_SERVE = (
     [*SERVE[:3], "--", *OPTIONS], [*SERVE, "--fly"], [*SERVE, "--fly", "1"], [*SERVE, "-p", "9000"], [*SERVE, "--version"], [*SERVE, "-V"],
     ["serve", FARES, "-UTC0", *OPTIONS], [*SERVE[:3], "--Port", *OPTIONS[1:]], [*SERVE[:3], "-port", *OPTIONS[1:]], [*SERVE[:3], "--port:9000", *OPTIONS[2:]],
     [*SERVE, b"\xff"], [*SERVE[:3], "--port", b"9000\xff", *OPTIONS[2:]],
-    # A number that is refused, and an option without one, come before a call for help behind them.
+    # A number that is refused, and an option without one, come before a call for help after them.
     ["serve", "--port", "0", "--help"], ["serve", "--port", "--help"], ["serve", "--lanes", "1", "--lanes", "1", "--help"],
 )
 # Numbers of each option outside its range, and in it. Ports are given with one lane.
@@ -363,7 +363,7 @@ def words_of_serve(_):
 
 @test
 def order_of_options(_):
-    """Options of lanes before, between and behind the words, each with its value behind it or behind an equals sign."""
+    """Options of lanes before, between and after the words, each with its value after it or after an equals sign."""
     pairs = [OPTIONS[at:at + 2] for at in range(0, len(OPTIONS), 2)]
     joined = [f"{name}={number}" for name, number in pairs]
     backwards = [word for pair in reversed(pairs) for word in pair]

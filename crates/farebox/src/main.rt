@@ -1,13 +1,8 @@
 //! The back office of pay as you go travel: reads taps as lines, and answers each with the price of its day and its week.
 #![tactic(auto)]
 
-mod errors;
-mod input;
-mod journal;
 mod program;
-mod run;
 mod serve;
-mod texts;
 
 use std::process::ExitCode;
 

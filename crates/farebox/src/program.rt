@@ -1,10 +1,8 @@
 //! The program: its words, and the job that they ask for.
 ghost use Rattle.farebox.specs.NoJob.{IsTextOrFault};
 
-use crate::errors::memory_or;
-use crate::run::run_session;
 use crate::serve::serve_sessions;
-use crate::texts::{check_fares, replay_journals, write_statement};
+use pay_files::{check_fares, memory_or, replay_journals, run_session, write_statement};
 use pay_jobs::{Fault, Ledgers};
 use pay_words::{Job, WordsFault, read_words};
 use std::alloc::{AllocError, Global};

@@ -3,12 +3,14 @@ ghost use Rattle.std.specs.Prelude.{◌≡◌, ◌≤◌, length, IfOk};
 ghost use Rattle.pay_jobs.specs.Words.{IsDay};
 ghost use Rattle.pay_words.specs.declared.limits.TheConstants.{MOST_SHARDS};
 
-use crate::input::{fares_text, report_line};
-use crate::journal::{Journals, open_journals, refuse_journal, settle_journals};
-use pay_jobs::{
-    Disk, FaresAndZone, Fault, FileStore, Given, Keeper, Ledger, Ledgers, NoKeeper, Plan, Wary,
-    begin_service, new_ledger, serve, serve_without_ledger,
+use pay_files::{
+    JournalFiles, fares_text, open_journals, path_in, refuse_journal, report_line, settle_journals,
 };
+use pay_jobs::{
+    Disk, FaresAndZone, Fault, FileStore, Keeper, Ledger, Ledgers, NoKeeper, Wary, begin_service,
+    new_ledger,
+};
+use pay_serve_job::{Given, Plan, serve, serve_without_ledger};
 use pay_wire::Refusal;
 use pay_words::ServeWords;
 use std::alloc::{AllocError, Global};
@@ -102,7 +104,7 @@ fn serve_kept<R>(
     words: &ServeWords<'_>,
     fares: &str,
     folder: &str,
-    journals: Journals,
+    journals: JournalFiles<R>,
 ) -> Result<ExitCode, Fault>
 where
     R: Net<Listener = TcpListener, Stream = TcpStream>
@@ -119,7 +121,7 @@ where
     requires day { IsDay words.now.close }
     requires keepers { length journals.keepers.items ≡ words.now.shards }
 {
-    let Journals {
+    let JournalFiles {
         texts,
         keepers,
         others: _held,
@@ -226,8 +228,7 @@ fn report_in<R: Eprint + AllocGlobal>(
     line: u64,
     why: Refusal,
 ) -> Result<ExitCode, Fault> {
-    let mut path = String::new(rt.alloc());
-    write!(path, "{folder}/{journal}.lines")?;
+    let path = path_in(rt.alloc(), folder, journal)?;
     Ok(report_line(rt, path.as_str(), line, why))
 }
 

@@ -7,7 +7,7 @@ use pay_day::Moment;
 use pay_rules::{Fix, Kind, Tap, What};
 
 /// Something went wrong: the words, the file, the clock, memory, or a command that is refused.
-#[derive(Debug, Drop)]
+#[derive(Drop)]
 pub struct Failed;
 
 /// How the stored taps lie, and what comes late.

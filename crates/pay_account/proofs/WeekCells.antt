@@ -17,31 +17,31 @@ use Rattle.pay_rules.specs.Journeys.{is_on}
 use Rattle.pay_rules.specs.Prices.{journeys_on, days_through}
 use Rattle.pay_account.specs.WeekCells.{with_journey, with_journeys, week_with_journey, week_with_journeys}
 
--- a fare more, behind the others
-abbrev pub AddsBehind : FareTables → Type 0
-AddsBehind tables = (journey : Journey) (list : List Journey) → cells_of tables (list ++ journey ∷ []) ≡ added (cell_of tables journey) (fare tables journey) (cells_of tables list)
+-- a fare more, after the others
+abbrev pub AddsAfter : FareTables → Type 0
+AddsAfter tables = (journey : Journey) (list : List Journey) → cells_of tables (list ++ journey ∷ []) ≡ added (cell_of tables journey) (fare tables journey) (cells_of tables list)
 
-one_by_one : (tables : FareTables) (day : ℕ) → AddsBehind tables → (done list : List Journey) → with_journeys tables day (cells_of tables done) list ≡ cells_of tables (done ++ journeys_on list day)
-one_by_one tables day behind done [] = ap (cells_of tables) (sym (append-nil done))
-one_by_one tables day behind done (journey ∷ list) = with_or_without (is_on day journey) (one_by_one tables day behind (done ++ journey ∷ []) list) (one_by_one tables day behind done list)
+one_by_one : (tables : FareTables) (day : ℕ) → AddsAfter tables → (done list : List Journey) → with_journeys tables day (cells_of tables done) list ≡ cells_of tables (done ++ journeys_on list day)
+one_by_one tables day beyond done [] = ap (cells_of tables) (sym (append-nil done))
+one_by_one tables day beyond done (journey ∷ list) = with_or_without (is_on day journey) (one_by_one tables day beyond (done ++ journey ∷ []) list) (one_by_one tables day beyond done list)
   where
     with_or_without : (b : Bool) → with_journeys tables day (cells_of tables (done ++ journey ∷ [])) list ≡ cells_of tables ((done ++ journey ∷ []) ++ journeys_on list day)
         → with_journeys tables day (cells_of tables done) list ≡ cells_of tables (done ++ journeys_on list day)
         → with_journeys tables day (if b then added (cell_of tables journey) (fare tables journey) (cells_of tables done) else cells_of tables done) list
         ≡ cells_of tables (done ++ (if b then journey ∷ journeys_on list day else journeys_on list day))
     with_or_without true more same =
-        ap (λ (sums : CellSums). with_journeys tables day sums list) (sym (behind journey done)) ∙ more ∙ ap (cells_of tables) (append_assoc done (journey ∷ []) (journeys_on list day))
+        ap (λ (sums : CellSums). with_journeys tables day sums list) (sym (beyond journey done)) ∙ more ∙ ap (cells_of tables) (append_assoc done (journey ∷ []) (journeys_on list day))
     with_or_without false more same = same
 
 -- the sums of a day's journeys
-pub of_day : (tables : FareTables) (day : ℕ) → AddsBehind tables → cells_of tables [] ≡ no_fares → (list : List Journey) → with_journeys tables day no_fares list ≡ cells_of tables (journeys_on list day)
-of_day tables day behind none list = ap (λ (sums : CellSums). with_journeys tables day sums list) (sym none) ∙ one_by_one tables day behind [] list
+pub of_day : (tables : FareTables) (day : ℕ) → AddsAfter tables → cells_of tables [] ≡ no_fares → (list : List Journey) → with_journeys tables day no_fares list ≡ cells_of tables (journeys_on list day)
+of_day tables day beyond none list = ap (λ (sums : CellSums). with_journeys tables day sums list) (sym none) ∙ one_by_one tables day beyond [] list
 
 -- where a loop has met all of them
-pub of_day_so_far : (tables : FareTables) (day : ℕ) → AddsBehind tables → cells_of tables [] ≡ no_fares → (list : List Journey) (sums : CellSums) (met : ℕ) → length list ≤ met
+pub of_day_so_far : (tables : FareTables) (day : ℕ) → AddsAfter tables → cells_of tables [] ≡ no_fares → (list : List Journey) (sums : CellSums) (met : ℕ) → length list ≤ met
     → with_journeys tables day sums (drop met list) ≡ with_journeys tables day no_fares list → sums ≡ cells_of tables (journeys_on list day)
-of_day_so_far tables day behind none list sums met all so_far =
-    ap (with_journeys tables day sums) (sym (drop_all met list all)) ∙ so_far ∙ of_day tables day behind none list
+of_day_so_far tables day beyond none list sums met all so_far =
+    ap (with_journeys tables day sums) (sym (drop_all met list all)) ∙ so_far ∙ of_day tables day beyond none list
 
 -- a week, from its Monday through its Sunday, has seven days
 pub days_of_week : (day : ℕ) → IsDay day → days_through (sunday day) ≡ range_with_len (monday day) DAYS_PER_WEEK
@@ -153,20 +153,20 @@ map_same f g h [] = refl
 map_same f g h (x ∷ xs) = ap (λ y. y ∷ map f xs) (h x) ∙ ap (λ ys. g x ∷ ys) (map_same f g h xs)
 
 -- journeys put to seven days without fares
-pub of_days : (tables : FareTables) → AddsBehind tables → cells_of tables [] ≡ no_fares → (day : ℕ) → IsDay day → (list : List Journey)
+pub of_days : (tables : FareTables) → AddsAfter tables → cells_of tables [] ≡ no_fares → (day : ℕ) → IsDay day → (list : List Journey)
     → week_with_journeys tables (monday day) (replicate DAYS_PER_WEEK no_fares) list ≡ map (λ each. cells_of tables (journeys_on list each)) (days_through (sunday day))
-of_days tables behind none day is_day list =
+of_days tables beyond none day is_day list =
     all_in_week tables (monday day) (λ _. no_fares) list
-    ∙ map_same (λ each. with_journeys tables each no_fares list) (λ each. cells_of tables (journeys_on list each)) (λ each. of_day tables each behind none list) (range_with_len (monday day) DAYS_PER_WEEK)
+    ∙ map_same (λ each. with_journeys tables each no_fares list) (λ each. cells_of tables (journeys_on list each)) (λ each. of_day tables each beyond none list) (range_with_len (monday day) DAYS_PER_WEEK)
     ∙ sym (ap (map (λ each. cells_of tables (journeys_on list each))) (days_of_week day is_day))
 
 -- and those of two lists, one after the other
-pub of_week : (tables : FareTables) → AddsBehind tables → cells_of tables [] ≡ no_fares → (day : ℕ) → IsDay day → (rail buses : List Journey)
+pub of_week : (tables : FareTables) → AddsAfter tables → cells_of tables [] ≡ no_fares → (day : ℕ) → IsDay day → (rail buses : List Journey)
     → week_with_journeys tables (monday day) (week_with_journeys tables (monday day) (replicate DAYS_PER_WEEK no_fares) rail) buses
     ≡ map (λ each. cells_of tables (journeys_on (rail ++ buses) each)) (days_through (sunday day))
-of_week tables behind none day is_day rail buses =
+of_week tables beyond none day is_day rail buses =
     sym (fold-append (week_with_journey tables (monday day)) (replicate DAYS_PER_WEEK no_fares) rail buses)
-    ∙ of_days tables behind none day is_day (rail ++ buses)
+    ∙ of_days tables beyond none day is_day (rail ++ buses)
 
 -- the sums of each of some days
 pub each_day : (tables : FareTables) (list : List Journey) (days : List ℕ) → map (λ (each : ℕ). cells_of tables (journeys_on list each)) days ≡ map (cells_of tables) (map (journeys_on list) days)

@@ -45,11 +45,11 @@ of_journeys tables same list (day ∷ days) =
 
 put_in_all : {X : Type 0} (P : X → Type 0) (touch : X → Touch) (x : X) → P x → (list : List X) → AllByRecursion P list → AllByRecursion P (put_in_by touch x list)
 put_in_all P touch x is [] all = (is, all)
-put_in_all P touch x is (other ∷ others) all = before_or_behind (comes_before (touch other) (touch x)) (put_in_all P touch x is others all.1)
+put_in_all P touch x is (other ∷ others) all = before_or_after (comes_before (touch other) (touch x)) (put_in_all P touch x is others all.1)
   where
-    before_or_behind : (b : Bool) → AllByRecursion P (put_in_by touch x others) → AllByRecursion P (if b then other ∷ put_in_by touch x others else x ∷ other ∷ others)
-    before_or_behind true behind = (all.0, behind)
-    before_or_behind false behind = (is, all)
+    before_or_after : (b : Bool) → AllByRecursion P (put_in_by touch x others) → AllByRecursion P (if b then other ∷ put_in_by touch x others else x ∷ other ∷ others)
+    before_or_after true beyond = (all.0, beyond)
+    before_or_after false beyond = (is, all)
 
 in_order_all : {X : Type 0} (P : X → Type 0) (touch : X → Touch) (list : List X) → AllByRecursion P list → AllByRecursion P (in_order_by touch list)
 in_order_all P touch [] all = all

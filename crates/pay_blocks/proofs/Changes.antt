@@ -5,7 +5,7 @@ use Rattle.std.specs.List.{insert}
 use Rattle.std.specs.Option.{option_to_list}
 use Rattle.pay_blocks.specs.declared.limits.TheConstants.{MOST}
 use Rattle.pay_blocks.specs.Parts.{BlockParts}
-use Rattle.pay_blocks.specs.Laid.{raised, joined, AreLaid, AreKept, IsPut}
+use Rattle.pay_blocks.specs.Laid.{raised, joined, AreLaid, AreBlocks, IsPut}
 use Rattle.pay_blocks.proofs.Edits.{holds_further}
 use Rattle.pay_blocks.proofs.Joins.{IsHeld, held_first, held_later, within_held, inside_held, get_held, insert_held, from_held, some_held, joined_append, joined_raised, laid_append, laid_at, laid_before, laid_raised, starts_within}
 use Rattle.pay_blocks.proofs.Puts.{length-insert}
@@ -92,7 +92,7 @@ module _ {X : Type 0} where
       → place < length all → 1 ≤ length (drop (place - b.start) b.items)
   some_later first later all place n b f some at lt = some_held _ _ _ _ _ _ (in_later first later all place n b f some at) lt
 
-  -- ---- what blocks that lie one behind another have
+  -- ---- what blocks that lie one after another have
 
   pub laid_few : (start : ℕ) (blocks : List (BlockParts X)) (k : ℕ) (d : BlockParts X) → AreLaid start blocks → k < length blocks → length (get_or blocks k d).items ≤ MOST
   laid_few start [] k d h lt = absurd (omega arith)
@@ -118,13 +118,13 @@ module _ {X : Type 0} where
       let all : length (new.items ++ joined (option_to_list next)) ≡ suc (length old.items) = ap length p.items ∙ length-insert old.items offset item low in
       omega arith
 
-  -- what lies behind a block into which one more was put
+  -- what lies after a block into which one more was put
   way_made : (old : BlockParts X) (offset : ℕ) (item : X) (new : BlockParts X) (next : Option (BlockParts X)) (rest : List (BlockParts X)) → IsPut old offset item new next → offset ≤ length old.items
       → AreLaid (old.start + length old.items) rest → AreLaid (new.start + length new.items) (option_to_list next ++ map raised rest)
   way_made old offset item new next rest p low h =
       let many = put_length old offset item new next p low in
       let same = p.start in
-      laid_append (new.start + length new.items) (option_to_list next) (map raised rest) p.behind
+      laid_append (new.start + length new.items) (option_to_list next) (map raised rest) p.beyond
       (laid_raised (old.start + length old.items) (new.start + length new.items + length (joined (option_to_list next))) rest (omega arith) h)
 
   way_items : (next : Option (BlockParts X)) (rest : List (BlockParts X)) → joined (option_to_list next ++ map raised rest) ≡ joined (option_to_list next) ++ joined rest
@@ -142,9 +142,9 @@ module _ {X : Type 0} where
 
   pub kept_first : (first : BlockParts X) (later later2 : List (BlockParts X)) (all : List X) (place n count room room2 spare_capacity spare_capacity2 blocks blocks2 : ℕ) (spare spare2 : List X) (item : X)
       (new : BlockParts X) (next : Option (BlockParts X))
-      → AreKept first later count room spare spare_capacity blocks
+      → AreBlocks first later count room spare spare_capacity blocks
       → IsFound first.items later all place n → n ≡ 0 → place ≤ length all → IsPut first place item new next → later2 ≡ option_to_list next ++ map raised later
-      → spare2 ≡ [] → room2 ≡ 0 → count + 1 < 2 ^ 64 → AreKept new later2 (count + 1) room2 spare2 spare_capacity2 blocks2
+      → spare2 ≡ [] → room2 ≡ 0 → count + 1 < 2 ^ 64 → AreBlocks new later2 (count + 1) room2 spare2 spare_capacity2 blocks2
   kept_first first later later2 all place n count room room2 spare_capacity spare_capacity2 blocks blocks2 spare spare2 item new next kept f none few p e unused no_room fits =
       let within = within_first first.items later all place n f none few in
       let start : new.start ≡ 0 = p.start ∙ kept.start in
@@ -165,14 +165,14 @@ module _ {X : Type 0} where
         ready = λ some. absurd (omega arith);
       }
 
-  -- a later block is another, and what lies behind it too
+  -- a later block is another, and what lies after it too
   pub exchanged : (later later1 later2 way : List (BlockParts X)) (k : ℕ) (new : BlockParts X) → k < length later → later1 ≡ set later k new
       → later2 ≡ take (k + 1) later1 ++ way → later2 ≡ take k later ++ new ∷ way
   exchanged later later1 later2 way k new lt e1 e2 =
       e2 ∙ ap (λ l. take (k + 1) l ++ way) e1 ∙ ap (λ l. l ++ way) (take_more_set later k new lt) ∙ append_assoc (take k later) (new ∷ []) way
 
-  pub behind_it : (later later1 : List (BlockParts X)) (k : ℕ) (new : BlockParts X) → later1 ≡ set later k new → drop (k + 1) later1 ≡ drop (k + 1) later
-  behind_it later later1 k new e = ap (λ l. drop (k + 1) l) e ∙ drop-set-lt (k + 1) later k new (omega arith)
+  pub after_it : (later later1 : List (BlockParts X)) (k : ℕ) (new : BlockParts X) → later1 ≡ set later k new → drop (k + 1) later1 ≡ drop (k + 1) later
+  after_it later later1 k new e = ap (λ l. drop (k + 1) l) e ∙ drop-set-lt (k + 1) later k new (omega arith)
 
   shape_put : (later later1 later2 : List (BlockParts X)) (n : ℕ) (new : BlockParts X) (next : Option (BlockParts X)) → n ≢ 0 → n ≤ length later
       → later1 ≡ set later (n - 1) new → later2 ≡ take n later1 ++ (option_to_list next ++ map raised (drop n later1))
@@ -181,7 +181,7 @@ module _ {X : Type 0} where
       let same : n ≡ n - 1 + 1 = omega arith in
       exchanged later later1 later2 _ (n - 1) new (omega arith) e1
       (e2 ∙ ap (λ m. take m later1 ++ (option_to_list next ++ map raised (drop m later1))) same
-      ∙ ap (λ l. take (n - 1 + 1) later1 ++ (option_to_list next ++ map raised l)) (behind_it later later1 (n - 1) new e1))
+      ∙ ap (λ l. take (n - 1 + 1) later1 ++ (option_to_list next ++ map raised l)) (after_it later later1 (n - 1) new e1))
 
   pub shape_items : (first : List X) (front rest : List (BlockParts X)) (new : BlockParts X) → first ++ joined (front ++ new ∷ rest) ≡ (first ++ joined front) ++ (new.items ++ joined rest)
   shape_items first front rest new = ap (λ (l : List X). first ++ l) (joined_append front (new ∷ rest)) ∙ sym (append_assoc first (joined front) (new.items ++ joined rest))
@@ -214,16 +214,16 @@ module _ {X : Type 0} where
       let from : old.start ≡ length first + length (joined front) = there.0 in
       let same : new.start ≡ old.start = p.start in
       let capacity : MOST ≤ new.capacity = let c = p.capacity in let d : MOST ≤ old.capacity = there.3 in omega arith in
-      let behind : AreLaid (new.start + length new.items) (option_to_list next ++ map raised rest)
+      let beyond : AreLaid (new.start + length new.items) (option_to_list next ++ map raised rest)
       = way_made old (place - old.start) item new next rest p (omega arith) (subst (λ m. AreLaid (m + length old.items) rest) (sym from) there.4) in
       subst (λ l. AreLaid (length first) l) (sym shape)
       (laid_append (length first) front (new ∷ (option_to_list next ++ map raised rest)) (laid_before (length first) later (n - 1) f.laid)
-      (same ∙ from, p.some, p.few, capacity, subst (λ m. AreLaid (m + length new.items) (option_to_list next ++ map raised rest)) (same ∙ from) behind))
+      (same ∙ from, p.some, p.few, capacity, subst (λ m. AreLaid (m + length new.items) (option_to_list next ++ map raised rest)) (same ∙ from) beyond))
 
   pub kept_later : (first : BlockParts X) (later later2 : List (BlockParts X)) (all : List X) (place count room room2 spare_capacity spare_capacity2 blocks blocks2 : ℕ) (spare spare2 : List X) (item : X)
-      → AreKept first later count room spare spare_capacity blocks → first.items ++ joined later ≡ all → place ≤ length all
+      → AreBlocks first later count room spare spare_capacity blocks → first.items ++ joined later ≡ all → place ≤ length all
       → first.items ++ joined later2 ≡ insert all place item → AreLaid (length first.items) later2
-      → spare2 ≡ [] → room2 ≡ 0 → count + 1 < 2 ^ 64 → AreKept first later2 (count + 1) room2 spare2 spare_capacity2 blocks2
+      → spare2 ≡ [] → room2 ≡ 0 → count + 1 < 2 ^ 64 → AreBlocks first later2 (count + 1) room2 spare2 spare_capacity2 blocks2
   kept_later first later later2 all place count room room2 spare_capacity spare_capacity2 blocks blocks2 spare spare2 item kept whole few e laid unused no_room fits =
       let many : length (first.items ++ joined later2) ≡ suc (length all) = ap length e ∙ length-insert all place item few in
       let before : length first.items + length (joined later) ≡ length all = sym (length-append first.items (joined later)) ∙ ap length whole in
@@ -238,7 +238,7 @@ module _ {X : Type 0} where
         ready = λ some. absurd (omega arith);
       }
 
-  -- blocks behind one that was changed begin as they did
+  -- blocks after one that was changed begin as they did
   pub starts_fit_set : (start count : ℕ) (later later1 : List (BlockParts X)) (n : ℕ) (new : BlockParts X) → AreLaid start later → count ≡ start + length (joined later) → count < 2 ^ 64 - 1 → n ≢ 0
       → later1 ≡ set later (n - 1) new → (k : ℕ) (d : BlockParts X) → n ≤ k → k < length later1 → (get_or later1 k d).start < 2 ^ 64 - 1
   starts_fit_set start count later later1 n new h e few some e1 k d low lt =

@@ -64,19 +64,19 @@ module _ {X : Type 0} where
       → take i xs ++ map f (drop i xs) ≡ goal → take (i + 1) (set xs i y) ++ map f (drop (i + 1) (set xs i y)) ≡ goal
   changed_more f xs i x y goal low at is h =
       let front : take (i + 1) (set xs i y) ≡ take i xs ++ y ∷ [] = take_more_set xs i y low in
-      let behind : drop (i + 1) (set xs i y) ≡ drop (i + 1) xs = drop-set-lt (i + 1) xs i y (omega arith) in
+      let beyond : drop (i + 1) (set xs i y) ≡ drop (i + 1) xs = drop-set-lt (i + 1) xs i y (omega arith) in
       let here : drop i xs ≡ get_or xs i x ∷ drop (i + 1) xs = drop_more xs i x low in
       let there : map f (drop i xs) ≡ f x ∷ map f (drop (i + 1) xs) = ap (map f) here ∙ ap (λ z. f z ∷ map f (drop (i + 1) xs)) (sym at) in
       let joined : (take i xs ++ y ∷ []) ++ map f (drop (i + 1) xs) ≡ take i xs ++ (y ∷ map f (drop (i + 1) xs)) = append_assoc (take i xs) (y ∷ []) (map f (drop (i + 1) xs)) in
       let all : take i xs ++ (y ∷ map f (drop (i + 1) xs)) ≡ take i xs ++ map f (drop i xs) =
       ap (λ (l : List X). take i xs ++ l) (ap (λ z. z ∷ map f (drop (i + 1) xs)) is ∙ sym there) in
-      rw (front, behind) (joined ∙ all ∙ h)
+      rw (front, beyond) (joined ∙ all ∙ h)
 
   pub changed_all : (f : X → X) (xs : List X) (i : ℕ) (goal : List X) → length xs ≤ i → take i xs ++ map f (drop i xs) ≡ goal → xs ≡ goal
   changed_all f xs i goal low h =
       let front : take i xs ≡ xs = take_all i xs low in
-      let behind : drop i xs ≡ [] = drop_all i xs low in
-      let end : take i xs ++ map f (drop i xs) ≡ xs = rw (front, behind) (append-nil xs) in
+      let beyond : drop i xs ≡ [] = drop_all i xs low in
+      let end : take i xs ++ map f (drop i xs) ≡ xs = rw (front, beyond) (append-nil xs) in
       sym end ∙ h
 
   pub holds_further : (P : X → Type 0) (xs : List X) (i : ℕ) (y : X) → ((k : ℕ) (d : X) → i ≤ k → k < length xs → P (get_or xs k d))

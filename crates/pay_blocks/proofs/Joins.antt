@@ -1,4 +1,4 @@
--- Blocks that lie one behind another, and where a place of the list lies in them.
+-- Blocks that lie one after another, and where a place of the list lies in them.
 use Rattle.std.proofs.Common.{◌≡◌, ℕ, zero, suc, ◌+◌, ◌-◌, ◌<◌, ◌≤◌, true, false, nat_le, List, [], ◌∷◌, ◌++◌, length, take, drop, map, get_or, slice_get, refl, sym, ap, ◌∙◌, subst, arith, append_assoc, length-append}
 use Rattle.std.proofs.lemmas.List.{append-nil, take-append-drop, drop_more, length-drop, get_or-drop}
 use Rattle.std.proofs.lemmas.List.Concat.{flat_map-append}
@@ -39,10 +39,10 @@ module _ {X : Type 0} where
       by_numbers : (a : ℕ) → nat_le a place ≡ true → a ≤ place
       by_numbers a f = grind (arith, nat_tests)
 
-  pub begun_behind : (place k : ℕ) (blocks : List (BlockParts X)) (n : ℕ) (d : BlockParts X)
+  pub begun_after : (place k : ℕ) (blocks : List (BlockParts X)) (n : ℕ) (d : BlockParts X)
       → IsPartitionPoint (λ block. nat_le block.start place ≡ true) (λ block. nat_le block.start place ≡ false) blocks n
       → n ≤ k → k < length blocks → place < (get_or blocks k d).start
-  begun_behind place k blocks n d h low lt = by_numbers (get_or blocks k d).start (h.1 k d low lt)
+  begun_after place k blocks n d h low lt = by_numbers (get_or blocks k d).start (h.1 k d low lt)
     where
       by_numbers : (a : ℕ) → nat_le a place ≡ false → place < a
       by_numbers a f = grind (arith, nat_tests)
@@ -71,17 +71,17 @@ module _ {X : Type 0} where
   laid_front start [] b h = tt
   laid_front start (x ∷ a) b h = (h.0, h.1, h.2, h.3, laid_front (start + length x.items) a b h.4)
 
-  pub laid_behind : (start : ℕ) (a b : List (BlockParts X)) → AreLaid start (a ++ b) → AreLaid (start + length (joined a)) b
-  laid_behind start [] b h = let e : start ≡ start + 0 = omega arith in subst (λ n. AreLaid n b) e h
-  laid_behind start (x ∷ a) b h =
+  pub laid_after : (start : ℕ) (a b : List (BlockParts X)) → AreLaid start (a ++ b) → AreLaid (start + length (joined a)) b
+  laid_after start [] b h = let e : start ≡ start + 0 = omega arith in subst (λ n. AreLaid n b) e h
+  laid_after start (x ∷ a) b h =
       let many : length (x.items ++ joined a) ≡ length x.items + length (joined a) = length-append x.items (joined a) in
       let e : start + length x.items + length (joined a) ≡ start + length (x.items ++ joined a) = omega arith in
-      subst (λ n. AreLaid n b) e (laid_behind (start + length x.items) a b h.4)
+      subst (λ n. AreLaid n b) e (laid_after (start + length x.items) a b h.4)
 
-  -- a block, and those behind it, among blocks that lie from a place on
+  -- a block, and those after it, among blocks that lie from a place on
   pub laid_at : (start : ℕ) (blocks : List (BlockParts X)) (k : ℕ) (b : BlockParts X) → AreLaid start blocks → k < length blocks → b ≡ get_or blocks k b
       → AreLaid (start + length (joined (take k blocks))) (b ∷ drop (k + 1) blocks)
-  laid_at start blocks k b h lt at = laid_behind start (take k blocks) (b ∷ drop (k + 1) blocks) (subst (AreLaid start) (parts_at blocks k b lt at) h)
+  laid_at start blocks k b h lt at = laid_after start (take k blocks) (b ∷ drop (k + 1) blocks) (subst (AreLaid start) (parts_at blocks k b lt at) h)
 
   pub laid_before : (start : ℕ) (blocks : List (BlockParts X)) (k : ℕ) → AreLaid start blocks → AreLaid start (take k blocks)
   laid_before start blocks k h = laid_front start (take k blocks) (drop k blocks) (subst (AreLaid start) (sym (take-append-drop k blocks)) h)
@@ -107,11 +107,11 @@ module _ {X : Type 0} where
   -- ---- where a place lies
 
   -- a place of all lies in a part, which begins so many items from the front, or at its end where that is the end of all
-  pub record IsHeld (all before own behind : List X) (place from : ℕ) : Type 0 where
-    pub parts : all ≡ before ++ (own ++ behind)
+  pub record IsHeld (all before own beyond : List X) (place from : ℕ) : Type 0 where
+    pub parts : all ≡ before ++ (own ++ beyond)
     pub start : length before ≡ from
     pub begun : from ≤ place
-    pub ends : 1 ≤ length behind → place < from + length own
+    pub ends : 1 ≤ length beyond → place < from + length own
 
   pub held_first : (first : List X) (later : List (BlockParts X)) (place : ℕ) → AreLaid (length first) later
       → ((k : ℕ) (d : BlockParts X) → 0 ≤ k → k < length later → place < (get_or later k d).start)
@@ -149,76 +149,76 @@ module _ {X : Type 0} where
             in omega arith;
       }
 
-  pub length_held : (all before own behind : List X) (place from : ℕ) → IsHeld all before own behind place from → length all ≡ from + (length own + length behind)
-  length_held all before own behind place from h =
-      ap length h.parts ∙ length-append before (own ++ behind) ∙ ap (λ n. n + length (own ++ behind)) h.start ∙ ap (λ n. from + n) (length-append own behind)
+  pub length_held : (all before own beyond : List X) (place from : ℕ) → IsHeld all before own beyond place from → length all ≡ from + (length own + length beyond)
+  length_held all before own beyond place from h =
+      ap length h.parts ∙ length-append before (own ++ beyond) ∙ ap (λ n. n + length (own ++ beyond)) h.start ∙ ap (λ n. from + n) (length-append own beyond)
 
-  pub within_held : (all before own behind : List X) (place from : ℕ) → IsHeld all before own behind place from → place ≤ length all → place ≤ from + length own
-  within_held all before own behind place from h few =
-      let many = length_held all before own behind place from h in
-      up_to (length behind) place (from + length own) h.ends (omega arith)
+  pub within_held : (all before own beyond : List X) (place from : ℕ) → IsHeld all before own beyond place from → place ≤ length all → place ≤ from + length own
+  within_held all before own beyond place from h few =
+      let many = length_held all before own beyond place from h in
+      up_to (length beyond) place (from + length own) h.ends (omega arith)
     where
       up_to : (n place end : ℕ) → (1 ≤ n → place < end) → place ≤ end + n → place ≤ end
       up_to zero place end ends low = omega arith
       up_to (suc n) place end ends low = let near = ends (omega arith) in omega arith
 
-  pub inside_held : (all before own behind : List X) (place from : ℕ) → IsHeld all before own behind place from → place < length all → place < from + length own
-  inside_held all before own behind place from h few =
-      let many = length_held all before own behind place from h in
-      below (length behind) place (from + length own) h.ends (omega arith)
+  pub inside_held : (all before own beyond : List X) (place from : ℕ) → IsHeld all before own beyond place from → place < length all → place < from + length own
+  inside_held all before own beyond place from h few =
+      let many = length_held all before own beyond place from h in
+      below (length beyond) place (from + length own) h.ends (omega arith)
     where
       below : (n place end : ℕ) → (1 ≤ n → place < end) → place < end + n → place < end
       below zero place end ends low = omega arith
       below (suc n) place end ends low = ends (omega arith)
 
-  pub get_held : (all before own behind : List X) (place from : ℕ) → IsHeld all before own behind place from → slice_get own (place - from) ≡ slice_get all place
-  get_held all before own behind place from h =
+  pub get_held : (all before own beyond : List X) (place from : ℕ) → IsHeld all before own beyond place from → slice_get own (place - from) ≡ slice_get all place
+  get_held all before own beyond place from h =
       let low : length before ≤ place = let e = h.start in let f = h.begun in omega arith in
-      sym (ap (λ (l : List X). slice_get l place) h.parts ∙ get_right before (own ++ behind) place low ∙ ap (λ n. slice_get (own ++ behind) (place - n)) h.start ∙ inner behind h.ends)
+      sym (ap (λ (l : List X). slice_get l place) h.parts ∙ get_right before (own ++ beyond) place low ∙ ap (λ n. slice_get (own ++ beyond) (place - n)) h.start ∙ inner beyond h.ends)
     where
       inner : (rest : List X) → (1 ≤ length rest → place < from + length own) → slice_get (own ++ rest) (place - from) ≡ slice_get own (place - from)
       inner [] ends = ap (λ (l : List X). slice_get l (place - from)) (append-nil own)
       inner (x ∷ rest) ends = let f = h.begun in let near : place < from + length own = ends (omega arith) in get_left own (x ∷ rest) (place - from) (omega arith)
 
-  drop_held : (all before own behind : List X) (place from : ℕ) → IsHeld all before own behind place from → place ≤ length all → drop place all ≡ drop (place - from) own ++ behind
-  drop_held all before own behind place from h few =
+  drop_held : (all before own beyond : List X) (place from : ℕ) → IsHeld all before own beyond place from → place ≤ length all → drop place all ≡ drop (place - from) own ++ beyond
+  drop_held all before own beyond place from h few =
       let e = h.start in
       let f = h.begun in
-      let near = within_held all before own behind place from h few in
-      ap (λ (l : List X). drop place l) h.parts ∙ drop_right before (own ++ behind) place (omega arith) ∙ ap (λ n. drop (place - n) (own ++ behind)) h.start
-      ∙ drop_left own behind (place - from) (omega arith)
+      let near = within_held all before own beyond place from h few in
+      ap (λ (l : List X). drop place l) h.parts ∙ drop_right before (own ++ beyond) place (omega arith) ∙ ap (λ n. drop (place - n) (own ++ beyond)) h.start
+      ∙ drop_left own beyond (place - from) (omega arith)
 
-  pub from_held : (all before own behind : List X) (place from : ℕ) → IsHeld all before own behind place from → place ≤ length all
+  pub from_held : (all before own beyond : List X) (place from : ℕ) → IsHeld all before own beyond place from → place ≤ length all
       → drop (place - from) own ≡ take (length (drop (place - from) own)) (drop place all)
-  from_held all before own behind place from h few =
-      sym (ap (λ (l : List X). take (length (drop (place - from) own)) l) (drop_held all before own behind place from h few) ∙ take_front (drop (place - from) own) behind)
+  from_held all before own beyond place from h few =
+      sym (ap (λ (l : List X). take (length (drop (place - from) own)) l) (drop_held all before own beyond place from h few) ∙ take_front (drop (place - from) own) beyond)
 
-  pub some_held : (all before own behind : List X) (place from : ℕ) → IsHeld all before own behind place from → place < length all → 1 ≤ length (drop (place - from) own)
-  some_held all before own behind place from h lt =
-      let near = inside_held all before own behind place from h lt in
+  pub some_held : (all before own beyond : List X) (place from : ℕ) → IsHeld all before own beyond place from → place < length all → 1 ≤ length (drop (place - from) own)
+  some_held all before own beyond place from h lt =
+      let near = inside_held all before own beyond place from h lt in
       let f = h.begun in
       let many : length (drop (place - from) own) ≡ length own - (place - from) = length-drop (place - from) own in
       omega arith
 
-  pub insert_held : (all before own behind : List X) (place from : ℕ) (item : X) → IsHeld all before own behind place from → place ≤ length all
-      → insert all place item ≡ before ++ (insert own (place - from) item ++ behind)
-  insert_held all before own behind place from item h few =
+  pub insert_held : (all before own beyond : List X) (place from : ℕ) (item : X) → IsHeld all before own beyond place from → place ≤ length all
+      → insert all place item ≡ before ++ (insert own (place - from) item ++ beyond)
+  insert_held all before own beyond place from item h few =
       let e = h.start in
       let f = h.begun in
-      let near = within_held all before own behind place from h few in
-      ap (λ (l : List X). insert l place item) h.parts ∙ insert_right before (own ++ behind) place item (omega arith)
-      ∙ ap (λ n. before ++ insert (own ++ behind) (place - n) item) h.start
-      ∙ ap (λ (l : List X). before ++ l) (insert_left own behind (place - from) item (omega arith))
+      let near = within_held all before own beyond place from h few in
+      ap (λ (l : List X). insert l place item) h.parts ∙ insert_right before (own ++ beyond) place item (omega arith)
+      ∙ ap (λ n. before ++ insert (own ++ beyond) (place - n) item) h.start
+      ∙ ap (λ (l : List X). before ++ l) (insert_left own beyond (place - from) item (omega arith))
 
-  pub remove_held : (all before own behind : List X) (place from : ℕ) → IsHeld all before own behind place from → place < length all
-      → remove all place ≡ before ++ (remove own (place - from) ++ behind)
-  remove_held all before own behind place from h few =
+  pub remove_held : (all before own beyond : List X) (place from : ℕ) → IsHeld all before own beyond place from → place < length all
+      → remove all place ≡ before ++ (remove own (place - from) ++ beyond)
+  remove_held all before own beyond place from h few =
       let e = h.start in
       let f = h.begun in
-      let near = inside_held all before own behind place from h few in
-      ap (λ (l : List X). remove l place) h.parts ∙ remove_right before (own ++ behind) place (omega arith)
-      ∙ ap (λ n. before ++ remove (own ++ behind) (place - n)) h.start
-      ∙ ap (λ (l : List X). before ++ l) (remove_left own behind (place - from) (omega arith))
+      let near = inside_held all before own beyond place from h few in
+      ap (λ (l : List X). remove l place) h.parts ∙ remove_right before (own ++ beyond) place (omega arith)
+      ∙ ap (λ n. before ++ remove (own ++ beyond) (place - n)) h.start
+      ∙ ap (λ (l : List X). before ++ l) (remove_left own beyond (place - from) (omega arith))
 
   pub starts_within : (start : ℕ) (blocks : List (BlockParts X)) (k : ℕ) (d : BlockParts X) → AreLaid start blocks → k < length blocks
       → (get_or blocks k d).start + length (get_or blocks k d).items ≤ start + length (joined blocks)

@@ -27,11 +27,11 @@ module _ {X : Type 0} where
   pub parted_at : (p : X → Bool) (xs : List X) (n : ℕ) → IsPartitionedBy p xs → n ≤ length xs
       → ((d : X) → 1 ≤ n → p (get_or xs (n - 1) d) ≡ true) → ((d : X) → n < length xs → p (get_or xs n d) ≡ false)
       → IsPartitionPoint (λ x. p x ≡ true) (λ x. p x ≡ false) xs n
-  parted_at p xs n h few before behind =
+  parted_at p xs n h few before beyond =
       ((λ k d low lt. h k (n - 1) d (omega arith) (omega arith) (before d (omega arith))), (λ k d low lt. ends k d low lt))
     where
       ends : (k : ℕ) (d : X) → n ≤ k → k < length xs → p (get_or xs k d) ≡ false
       ends k d low lt = elim (p (get_or xs k d)) as (λ b. p (get_or xs k d) ≡ b → b ≡ false) [
         | false ↦ λ e. refl
-        | true ↦ λ e. let holds : p (get_or xs n d) ≡ true = h n k d low lt e in let not : p (get_or xs n d) ≡ false = behind d (omega arith) in absurd (cc)
+        | true ↦ λ e. let holds : p (get_or xs n d) ≡ true = h n k d low lt e in let not : p (get_or xs n d) ≡ false = beyond d (omega arith) in absurd (cc)
       ] refl

@@ -36,7 +36,7 @@ module _ {X : Type 0} where
         some = omega arith;
         few = omega arith;
         capacity = omega arith;
-        behind = (omega arith, omega arith, omega arith, omega arith, tt);
+        beyond = (omega arith, omega arith, omega arith, omega arith, tt);
         full = λ _. omega arith;
       }
 
@@ -62,7 +62,7 @@ module _ {X : Type 0} where
         some = omega arith;
         few = omega arith;
         capacity = omega arith;
-        behind = (omega arith, omega arith, omega arith, omega arith, tt);
+        beyond = (omega arith, omega arith, omega arith, omega arith, tt);
         full = λ _. omega arith;
       }
 
@@ -78,11 +78,11 @@ module _ {X : Type 0} where
         some = omega arith;
         few = omega arith;
         capacity = omega arith;
-        behind = (omega arith, omega arith, omega arith, omega arith, tt);
+        beyond = (omega arith, omega arith, omega arith, omega arith, tt);
         full = λ _. omega arith;
       }
 
-  -- what is copied behind nothing
+  -- what is copied after nothing
   pub copied_rest : (spare all own new : List X) (n : ℕ) → spare ≡ [] → all ≡ own → new ≡ spare ++ take (length all - n) (drop n all) → new ≡ drop n own
   copied_rest spare all own new n none same e =
       e ∙ ap (λ (l : List X). l ++ take (length all - n) (drop n all)) none ∙ take_rest all n ∙ ap (λ (l : List X). drop n l) same

@@ -4,10 +4,10 @@ use Rattle.std.proofs.lemmas.List.{get_or_at, length-take-le}
 use Rattle.std.specs.List.{remove}
 use Rattle.pay_blocks.specs.declared.limits.TheConstants.{MOST}
 use Rattle.pay_blocks.specs.Parts.{BlockParts}
-use Rattle.pay_blocks.specs.Laid.{lowered, joined, AreLaid, AreKept}
+use Rattle.pay_blocks.specs.Laid.{lowered, joined, AreLaid, AreBlocks}
 use Rattle.pay_blocks.proofs.Edits.{remove_right}
 use Rattle.pay_blocks.proofs.Joins.{remove_held, inside_held, joined_append, joined_lowered, laid_append, laid_at, laid_before, laid_lowered}
-use Rattle.pay_blocks.proofs.Changes.{IsFound, in_first, in_later, inside_first, exchanged, behind_it, shape_items}
+use Rattle.pay_blocks.proofs.Changes.{IsFound, in_first, in_later, inside_first, exchanged, after_it, shape_items}
 
 by_number : (P : Type 0) (n : ℕ) → (n ≡ 0 → P) → (1 ≤ n → P) → P
 by_number P zero none some = none refl
@@ -34,9 +34,9 @@ module _ {X : Type 0} where
       ∙ ap (λ (l : List X). l ++ joined later) (e ∙ ap (λ m. remove first.items m) (sym zero_less)) ∙ sym taken
 
   pub kept_removed_first : (first : BlockParts X) (later later2 : List (BlockParts X)) (all : List X) (place n count room room2 spare_capacity spare_capacity2 blocks blocks2 : ℕ) (spare : List X) (new : BlockParts X)
-      → AreKept first later count room spare spare_capacity blocks
+      → AreBlocks first later count room spare spare_capacity blocks
       → IsFound first.items later all place n → n ≡ 0 → place < length all → new.start ≡ first.start → new.items ≡ remove first.items place → later2 ≡ map lowered later
-      → room2 ≡ 0 → AreKept new later2 (count - 1) room2 spare spare_capacity2 blocks2
+      → room2 ≡ 0 → AreBlocks new later2 (count - 1) room2 spare spare_capacity2 blocks2
   kept_removed_first first later later2 all place n count room room2 spare_capacity spare_capacity2 blocks blocks2 spare new kept f none lt start e e2 no_room =
       let inside = inside_first first.items later all place n f none lt in
       let one_less : suc (length new.items) ≡ length first.items = ap (λ (l : List X). suc (length l)) e ∙ length-remove first.items place inside in
@@ -73,7 +73,7 @@ module _ {X : Type 0} where
       let front : length (take (n - 1) later) ≡ n - 1 = length-take-le (n - 1) later (omega arith) in
       let shape : later2 ≡ take (n - 1) later ++ new ∷ map lowered (drop (n - 1 + 1) later) =
       exchanged later later1 later2 (map lowered (drop (n - 1 + 1) later)) (n - 1) new (omega arith) e1
-      (e2 ∙ ap (λ m. take m later1 ++ map lowered (drop m later1)) same ∙ ap (λ l. take (n - 1 + 1) later1 ++ map lowered l) (behind_it later later1 (n - 1) new e1)) in
+      (e2 ∙ ap (λ m. take m later1 ++ map lowered (drop m later1)) same ∙ ap (λ l. take (n - 1 + 1) later1 ++ map lowered l) (after_it later later1 (n - 1) new e1)) in
       let there : get_or later2 (n - 1) new ≡ new =
       ap (λ l. get_or l (n - 1) new) shape ∙ get_or_at (take (n - 1) later) new (map lowered (drop (n - 1 + 1) later)) new (n - 1) front in
       record {
@@ -118,20 +118,20 @@ module _ {X : Type 0} where
       let from : old.start ≡ length first + length (joined front) = there.0 in
       let few : length old.items ≤ MOST = there.2 in
       let capacity : MOST ≤ new.capacity = let c = out.capacity in let d : MOST ≤ old.capacity = there.3 in omega arith in
-      let behind : AreLaid (length first + length (joined front) + length new.items) (map lowered rest) =
+      let beyond : AreLaid (length first + length (joined front) + length new.items) (map lowered rest) =
       laid_lowered (length first + length (joined front) + length old.items) (length first + length (joined front) + length new.items) rest (omega arith) there.4 in
       by_number (AreLaid (length first) later3) (length new.items)
       (λ none. let same : length first + length (joined front) + length new.items ≡ length first + length (joined front) = omega arith in
       subst (λ l. AreLaid (length first) l) (sym (out.empty none))
-      (laid_append (length first) front (map lowered rest) (laid_before (length first) later (n - 1) f.laid) (subst (λ m. AreLaid m (map lowered rest)) same behind)))
+      (laid_append (length first) front (map lowered rest) (laid_before (length first) later (n - 1) f.laid) (subst (λ m. AreLaid m (map lowered rest)) same beyond)))
       (λ has. subst (λ l. AreLaid (length first) l) (sym (out.kept has))
       (laid_append (length first) front (new ∷ map lowered rest) (laid_before (length first) later (n - 1) f.laid)
-      (out.start ∙ from, has, omega arith, capacity, behind)))
+      (out.start ∙ from, has, omega arith, capacity, beyond)))
 
   pub kept_removed : (first : BlockParts X) (later later3 : List (BlockParts X)) (all : List X) (place count room room2 spare_capacity spare_capacity2 blocks blocks2 : ℕ) (spare : List X)
-      → AreKept first later count room spare spare_capacity blocks → first.items ++ joined later ≡ all → place < length all
+      → AreBlocks first later count room spare spare_capacity blocks → first.items ++ joined later ≡ all → place < length all
       → first.items ++ joined later3 ≡ remove all place → AreLaid (length first.items) later3
-      → room2 ≡ 0 → AreKept first later3 (count - 1) room2 spare spare_capacity2 blocks2
+      → room2 ≡ 0 → AreBlocks first later3 (count - 1) room2 spare spare_capacity2 blocks2
   kept_removed first later later3 all place count room room2 spare_capacity spare_capacity2 blocks blocks2 spare kept whole lt e laid no_room =
       let many : suc (length (first.items ++ joined later3)) ≡ length all = ap (λ (l : List X). suc (length l)) e ∙ length-remove all place lt in
       let before : length first.items + length (joined later) ≡ length all = sym (length-append first.items (joined later)) ∙ ap length whole in

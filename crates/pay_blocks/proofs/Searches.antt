@@ -16,40 +16,40 @@ by_end P (suc m) (suc n) low inside at = by_end P m n (omega arith) (λ lt. insi
 
 module _ {X : Type 0} where
   -- an item of a part
-  own_item : (before own behind all : List X) (m : ℕ) (d : X) → all ≡ before ++ (own ++ behind) → m < length own → get_or all (length before + m) d ≡ get_or own m d
-  own_item before own behind all m d e lt =
+  own_item : (before own beyond all : List X) (m : ℕ) (d : X) → all ≡ before ++ (own ++ beyond) → m < length own → get_or all (length before + m) d ≡ get_or own m d
+  own_item before own beyond all m d e lt =
       let back : length before + m - length before ≡ m = omega arith in
-      ap (λ (l : List X). get_or l (length before + m) d) e ∙ get_or-append_right before (own ++ behind) (length before) (length before + m) d refl (omega arith)
-      ∙ ap (λ k. get_or (own ++ behind) k d) back ∙ get_or_append_left own behind d m lt
+      ap (λ (l : List X). get_or l (length before + m) d) e ∙ get_or-append_right before (own ++ beyond) (length before) (length before + m) d refl (omega arith)
+      ∙ ap (λ k. get_or (own ++ beyond) k d) back ∙ get_or_append_left own beyond d m lt
 
-  -- and the one behind it
-  next_item : (before own behind all : List X) (d : X) → all ≡ before ++ (own ++ behind) → get_or all (length before + length own) d ≡ get_or behind 0 d
-  next_item before own behind all d e =
+  -- and the one after it
+  next_item : (before own beyond all : List X) (d : X) → all ≡ before ++ (own ++ beyond) → get_or all (length before + length own) d ≡ get_or beyond 0 d
+  next_item before own beyond all d e =
       let back : length before + length own - length before ≡ length own = omega arith in
       let none : length own - length own ≡ 0 = omega arith in
-      ap (λ (l : List X). get_or l (length before + length own) d) e ∙ get_or-append_right before (own ++ behind) (length before) (length before + length own) d refl (omega arith)
-      ∙ ap (λ k. get_or (own ++ behind) k d) back ∙ get_or-append_right own behind (length own) (length own) d refl (omega arith) ∙ ap (λ k. get_or behind k d) none
+      ap (λ (l : List X). get_or l (length before + length own) d) e ∙ get_or-append_right before (own ++ beyond) (length before) (length before + length own) d refl (omega arith)
+      ∙ ap (λ k. get_or (own ++ beyond) k d) back ∙ get_or-append_right own beyond (length own) (length own) d refl (omega arith) ∙ ap (λ k. get_or beyond k d) none
 
   -- where the test ends to hold in a part, it ends to hold in all
-  pub found_part : (p : X → Bool) (before own behind all : List X) (m : ℕ) → all ≡ before ++ (own ++ behind) → IsPartitionedBy p all → m ≤ length own
-      → IsPartitionPoint (λ x. p x ≡ true) (λ x. p x ≡ false) own m → (m ≡ 0 → length before ≡ 0) → begins p behind ≡ false
+  pub found_part : (p : X → Bool) (before own beyond all : List X) (m : ℕ) → all ≡ before ++ (own ++ beyond) → IsPartitionedBy p all → m ≤ length own
+      → IsPartitionPoint (λ x. p x ≡ true) (λ x. p x ≡ false) own m → (m ≡ 0 → length before ≡ 0) → begins p beyond ≡ false
       → IsPartitionPoint (λ x. p x ≡ true) (λ x. p x ≡ false) all (length before + m)
-  found_part p before own behind all m e parted few point none next =
-      let many : length all ≡ length before + (length own + length behind) = ap length e ∙ length-append before (own ++ behind) ∙ ap (λ k. length before + k) (length-append own behind) in
+  found_part p before own beyond all m e parted few point none next =
+      let many : length all ≡ length before + (length own + length beyond) = ap length e ∙ length-append before (own ++ beyond) ∙ ap (λ k. length before + k) (length-append own beyond) in
       parted_at p all (length before + m) parted (omega arith) (λ d some. held m none point d some few) (λ d lt. by_end (p (get_or all (length before + m) d) ≡ false) m (length own) few
-      (λ inside. ap p (own_item before own behind all m d e inside) ∙ point.1 m d (omega arith) inside)
-      (λ at. ap (λ k. p (get_or all (length before + k) d)) at ∙ ap p (next_item before own behind all d e) ∙ first_behind behind d next (omega arith)))
+      (λ inside. ap p (own_item before own beyond all m d e inside) ∙ point.1 m d (omega arith) inside)
+      (λ at. ap (λ k. p (get_or all (length before + k) d)) at ∙ ap p (next_item before own beyond all d e) ∙ first_after beyond d next (omega arith)))
     where
       held : (m : ℕ) → (m ≡ 0 → length before ≡ 0) → IsPartitionPoint (λ x. p x ≡ true) (λ x. p x ≡ false) own m → (d : X) → 1 ≤ length before + m → m ≤ length own
           → p (get_or all (length before + m - 1) d) ≡ true
       held zero none point d some few = let empty : length before ≡ 0 = none refl in absurd (omega arith)
       held (suc m) none point d some few =
           let at : length before + suc m - 1 ≡ length before + m = omega arith in
-          ap (λ k. p (get_or all k d)) at ∙ ap p (own_item before own behind all m d e (omega arith)) ∙ point.0 m d (omega arith) (omega arith)
+          ap (λ k. p (get_or all k d)) at ∙ ap p (own_item before own beyond all m d e (omega arith)) ∙ point.0 m d (omega arith) (omega arith)
 
-      first_behind : (behind : List X) (d : X) → begins p behind ≡ false → 1 ≤ length behind → p (get_or behind 0 d) ≡ false
-      first_behind [] d fails some = absurd (omega arith)
-      first_behind (x ∷ xs) d fails some = fails
+      first_after : (beyond : List X) (d : X) → begins p beyond ≡ false → 1 ≤ length beyond → p (get_or beyond 0 d) ≡ false
+      first_after [] d fails some = absurd (omega arith)
+      first_after (x ∷ xs) d fails some = fails
 
   begins_first : (p : X → Bool) (own : List X) (d : X) → 1 ≤ length own → begins p own ≡ p (get_or own 0 d)
   begins_first p [] d some = absurd (omega arith)
@@ -60,7 +60,7 @@ module _ {X : Type 0} where
   laid_some start (b ∷ bs) zero d h lt = h.1
   laid_some start (b ∷ bs) (suc k) d h lt = laid_some (start + length b.items) bs k d h.4 (omega arith)
 
-  -- a list as what stands before a block, the block's items, and what stands behind
+  -- a list as what stands before a block, the block's items, and what stands after
   pub parts_of : (first : List X) (later : List (BlockParts X)) (all : List X) (k : ℕ) (b : BlockParts X) → first ++ joined later ≡ all → k < length later → b ≡ get_or later k b
       → all ≡ (first ++ joined (take k later)) ++ (b.items ++ joined (drop (k + 1) later))
   parts_of first later all k b whole lt at =

@@ -1,15 +1,15 @@
--- How blocks lie one behind another.
+-- How blocks lie one after another.
 use Rattle.std.specs.Prelude.{◌≡◌, ℕ, ◌+◌, ◌-◌, ◌^◌, ◌<◌, ◌≤◌, Bool, false, Option, Some, List, [], ◌∷◌, ◌++◌, length, slice_get, slice_set, slice_index_or}
 use Rattle.std.specs.List.{flat_map, insert, remove}
 use Rattle.std.specs.Option.{option_to_list}
 use Rattle.pay_blocks.specs.declared.limits.TheConstants.{MOST}
 use Rattle.pay_blocks.specs.Parts.{BlockParts}
 
--- the items of blocks, one block behind another
+-- the items of blocks, one block after another
 abbrev pub joined : {X : Type 0} → List (BlockParts X) → List X
 joined = flat_map (λ block. block.items)
 
--- blocks that lie one behind another from a place on, none of them empty or too long, each with memory for as many as a block may have
+-- blocks that lie one after another from a place on, none of them empty or too long, each with memory for as many as a block may have
 abbrev pub AreLaid : {X : Type 0} → ℕ → List (BlockParts X) → Type 0
 AreLaid start [] = Unit {0}
 AreLaid start (block ∷ blocks) =
@@ -28,14 +28,14 @@ abbrev pub begins : {X : Type 0} → (X → Bool) → List X → Bool
 begins p [] = false
 begins p (x ∷ xs) = p x
 
--- a block once one more is put in, and what is split off where it was full: that lies behind it
+-- a block once one more is put in, and what is split off where it was full: that lies after it
 pub record IsPut {X : Type 0} (old : BlockParts X) (offset : ℕ) (item : X) (new : BlockParts X) (next : Option (BlockParts X)) : Type 0 where
   pub start : new.start ≡ old.start
   pub items : new.items ++ joined (option_to_list next) ≡ insert old.items offset item
   pub some : 1 ≤ length new.items
   pub few : length new.items ≤ MOST
   pub capacity : old.capacity ≤ new.capacity
-  pub behind : AreLaid (new.start + length new.items) (option_to_list next)
+  pub beyond : AreLaid (new.start + length new.items) (option_to_list next)
   pub full : 1 ≤ length (option_to_list next) → MOST ≤ length old.items
 
 -- memory is there for one more, wherever it comes: for a short list in the first block, and else for a block more
@@ -45,8 +45,8 @@ pub record IsReady {X : Type 0} (first : BlockParts X) (later : List (BlockParts
   pub full : MOST ≤ length first.items → (MOST ≤ spare) × (length later < blocks)
   pub long : 1 ≤ length later → (MOST ≤ spare) × (length later < blocks)
 
--- the first block, and the later ones behind it; how many items there are; for how many more there is room
-pub record AreKept {X : Type 0} (first : BlockParts X) (later : List (BlockParts X)) (count room : ℕ) (spare : List X) (spare_capacity blocks : ℕ) : Type 0 where
+-- the first block, and the later ones after it; how many items there are; for how many more there is room
+pub record AreBlocks {X : Type 0} (first : BlockParts X) (later : List (BlockParts X)) (count room : ℕ) (spare : List X) (spare_capacity blocks : ℕ) : Type 0 where
   pub start : first.start ≡ 0
   pub few : length first.items ≤ MOST
   pub laid : AreLaid (length first.items) later

@@ -11,7 +11,7 @@ use std::alloc::{AllocError, Global};
 use std::marker::Model;
 use std::mem::replace;
 
-/// Items that stand one behind another in a list.
+/// Items that stand one after another in a list.
 #[derive(Drop)]
 pub struct Block<T: Copy> {
     start: usize,
@@ -53,7 +53,7 @@ impl<T: Copy> Block<T> {
         self.items.len()
     }
 
-    /// The item that stands so many behind its first.
+    /// The item that stands so many after its first.
     pub fn get(&self, offset: usize) -> Option<T>
         ensures { result ≡ slice_get self.now.items offset }
     {
@@ -180,8 +180,8 @@ impl<T: Copy> Block<T> {
         next
     }
 
-    /// Puts one more behind a full block, into one of its own.
-    fn put_behind(&mut self, item: T, mut spare: Vec<T>) -> Block<T>
+    /// Puts one more after a full block, into one of its own.
+    fn put_after(&mut self, item: T, mut spare: Vec<T>) -> Block<T>
         requires full { length self.old.items ≡ MOST }
         requires fits { self.old.start + MOST < 2 ^ 64 }
         requires spare { spare.items ≡ [] }
@@ -198,8 +198,8 @@ impl<T: Copy> Block<T> {
         }
     }
 
-    /// Puts in one more. A full block is split, and what lies behind it then is answered; the last one stays
-    /// full where one more comes behind it.
+    /// Puts in one more. A full block is split, and what lies after it then is answered; the last one stays
+    /// full where one more comes after it.
     pub fn put(
         &mut self,
         offset: usize,
@@ -223,7 +223,7 @@ impl<T: Copy> Block<T> {
         let alloc = *spare.allocator();
         let spare = replace(spare, Vec::new(alloc));
         if is_last && offset == MOST {
-            return Some(self.put_behind(item, spare));
+            return Some(self.put_after(item, spare));
         }
         Some(self.put_halved(offset, item, spare))
     }

@@ -25,7 +25,7 @@ impl<T: Copy> Model for Blocks<T> {
     ghost use Rattle.std.specs.Prelude.{◌++◌};
     ghost use Rattle.std.specs.Vec.{vec_capacity};
     ghost use Rattle.pay_blocks.specs.Parts.{BlocksParts, blocks_code};
-    ghost use Rattle.pay_blocks.specs.Laid.{joined, AreKept};
+    ghost use Rattle.pay_blocks.specs.Laid.{joined, AreBlocks};
 
     ghost Value = { BlocksParts T };
 
@@ -33,7 +33,7 @@ impl<T: Copy> Model for Blocks<T> {
 
     ghost view = { λ b. record { items = b.first.items ++ joined b.later.items; room = b.room } };
 
-    ghost invariant = { λ b. AreKept b.first b.later.items b.count b.room b.spare.items (vec_capacity b.spare) (vec_capacity b.later) };
+    ghost invariant = { λ b. AreBlocks b.first b.later.items b.count b.room b.spare.items (vec_capacity b.spare) (vec_capacity b.later) };
 }
 
 impl<T: Copy> Blocks<T> {

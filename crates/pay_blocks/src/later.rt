@@ -55,7 +55,7 @@ pub fn lower_from<T: Copy>(blocks: &mut Vec<Block<T>>, from: usize)
     }
 }
 
-/// Blocks behind one into which one more was put: they begin one place later, and what was split off comes before them.
+/// Blocks after one into which one more was put: they begin one place later, and what was split off comes before them.
 pub fn make_way<T: Copy>(blocks: &mut Vec<Block<T>>, from: usize, next: Option<Block<T>>)
     requires within { from ≤ length blocks.old.items }
     requires fits { (k : ℕ) (d : BlockParts T) → from ≤ k → k < length blocks.old.items → (slice_index_or blocks.old.items k d).start < 2 ^ 64 - 1 }

@@ -22,10 +22,10 @@ use Rattle.pay_rules.specs.Accepted.{Accepted, nothing, touches, with_tap, with_
 use Rattle.pay_rules.specs.Prices.{prices}
 use Rattle.pay_rules.specs.FixResults.{prices_named, fix_added, fix_result}
 use Rattle.pay_rules.specs.TapResults.{tap_added, tap_result}
-use Rattle.pay_book.specs.declared.kept.Kept.{Kept}
+use Rattle.pay_book.specs.declared.marked_taps.MarkedTaps.{MarkedTaps}
 use Rattle.pay_book.specs.Disturbed.{disturbed}
-use Rattle.pay_book.specs.Kept.{IsKeptOf, IsPossibleFor, taps_after, disturbed_by_change, ChangesEachKind, ChangesArePossible}
-use Rattle.pay_book.specs.Stored.{IsKept, IsChange, AreKeptTaps, TapIsChange, FixIsChange, ChangeIsPossible, ChangeIsMade, ChangeDisturbs}
+use Rattle.pay_book.specs.MarkedTaps.{IsMarkedBy, IsPossibleFor, taps_after, disturbed_by_change, ChangesEachKind, ChangesArePossible}
+use Rattle.pay_book.specs.Stored.{IsConsistent, IsChange, AreStoredTaps, TapIsChange, FixIsChange, ChangeIsPossible, ChangeIsMade, ChangeDisturbs}
 
 -- ---- each kind
 
@@ -33,14 +33,14 @@ both_kinds : (list : List Touch) → length (filter is_bus list) + length (filte
 both_kinds list = length-filter_both is_bus is_rail (λ touch. refl) list
 
 pub made : ChangesEachKind → ChangeIsMade
-made each change before after kept is taps = (
+made each change before after held is taps = (
   ap (taps_after is_rail change) taps.rail ∙ sym (each is_rail change before after is.timed is.timed_then is.changed),
   ap (taps_after is_bus change) taps.buses ∙ sym (each is_bus change before after is.timed is.timed_then is.changed),
 )
 
 pub can_be : ChangesEachKind → ChangesArePossible → ChangeIsPossible
-can_be each possible change before after kept is taps =
-    let then = made each change before after kept is taps in
+can_be each possible change before after held is taps =
+    let then = made each change before after held is taps in
     record {
       rail = subst (IsPossibleFor is_rail change) (sym taps.rail) (possible is_rail change before after is.timed is.timed_then is.changed);
       buses = subst (IsPossibleFor is_bus change) (sym taps.buses) (possible is_bus change before after is.timed is.timed_then is.changed);
@@ -94,18 +94,18 @@ no_touches accepted is =
     ∙ ap (effective_of []) (no_values accepted.fixes (ap (λ (those : Accepted). those.fixes) is))
 
 -- a book of nothing
-pub nothing_kept : (tables : FareTables) (account : ℕ × Accepted) (kept : Kept) (steps : ℕ) → account.1 ≡ nothing → IsKeptOf tables [] kept
-    → IsKept tables (record {
+pub nothing_stored : (tables : FareTables) (account : ℕ × Accepted) (held : MarkedTaps) (steps : ℕ) → account.1 ≡ nothing → IsMarkedBy tables [] held
+    → IsConsistent tables (record {
       account = account.0;
       accepted = account.1;
-      rail = kept.rail.touches;
-      starts = kept.starts.items;
-      buses = kept.buses.touches;
-      pays = kept.pays.items;
-      days = kept.days;
+      rail = held.rail.touches;
+      starts = held.starts.items;
+      buses = held.buses.touches;
+      pays = held.pays.items;
+      days = held.days;
       steps = steps;
     })
-nothing_kept tables account kept steps is of = record {
+nothing_stored tables account held steps is of = record {
   rail = of.rail ∙ ap (filter is_rail) (sym (no_touches account.1 is));
   starts = of.right.starts;
   buses = of.buses ∙ ap (filter is_bus) (sym (no_touches account.1 is));
@@ -154,10 +154,10 @@ fix_more tables accepted more fix addition priced result is grown its =
 
 -- ---- what was read
 
-pub read_for : ChangeDisturbs → (tables : FareTables) (change : Change) (kept : Kept) (old after more : Accepted) (steps first before last : ℕ) → IsChange change (touches old) (touches more) → AreKeptTaps kept (touches old)
-    → after ≡ more → first ≡ steps → before ≤ first + 8 + 2 * disturbed_by_change tables kept change → last ≤ before + 16
+pub read_for : ChangeDisturbs → (tables : FareTables) (change : Change) (held : MarkedTaps) (old after more : Accepted) (steps first before last : ℕ) → IsChange change (touches old) (touches more) → AreStoredTaps held (touches old)
+    → after ≡ more → first ≡ steps → before ≤ first + 8 + 2 * disturbed_by_change tables held change → last ≤ before + 16
     → last ≤ steps + 24 + 2 * disturbed tables (touches old) (touches after)
-read_for law tables change kept old after more steps first before last is are grown begun found made =
-    let its = law tables change (touches old) (touches more) kept is are in
+read_for law tables change held old after more steps first before last is are grown begun found made =
+    let its = law tables change (touches old) (touches more) held is are in
     let same : disturbed tables (touches old) (touches after) ≡ disturbed tables (touches old) (touches more) = ap (λ (those : Accepted). disturbed tables (touches old) (touches those)) grown in
     omega (arith, its, same, begun, found, made)

@@ -26,7 +26,7 @@ one_more_in taps from at le =
     let span : (at + 1) - from ≡ suc (at - from) = omega arith in
     let there : from + (at - from) ≡ at = omega arith in
     ap (λ (n : ℕ). take n (drop from taps)) span ∙ one_more (drop from taps) (at - from)
-    ∙ ap (λ (found : Option Touch). taps_in from at taps ++ at_most_one found) (get_behind taps from (at - from) ∙ ap (slice_get taps) there)
+    ∙ ap (λ (found : Option Touch). taps_in from at taps ++ at_most_one found) (get_after taps from (at - from) ∙ ap (slice_get taps) there)
   where
     one_more : (list : List Touch) (n : ℕ) → take (suc n) list ≡ take n list ++ at_most_one (slice_get list n)
     one_more [] zero = refl
@@ -34,11 +34,11 @@ one_more_in taps from at le =
     one_more (tap ∷ list) zero = refl
     one_more (tap ∷ list) (suc n) = ap (λ (later : List Touch). tap ∷ later) (one_more list n)
 
-    get_behind : (list : List Touch) (n k : ℕ) → slice_get (drop n list) k ≡ slice_get list (n + k)
-    get_behind [] zero k = refl
-    get_behind [] (suc n) k = refl
-    get_behind (tap ∷ list) zero k = let e : k ≡ 0 + k = omega arith in ap (slice_get (tap ∷ list)) e
-    get_behind (tap ∷ list) (suc n) k = let e : suc (n + k) ≡ suc n + k = omega arith in get_behind list n k ∙ ap (slice_get (tap ∷ list)) e
+    get_after : (list : List Touch) (n k : ℕ) → slice_get (drop n list) k ≡ slice_get list (n + k)
+    get_after [] zero k = refl
+    get_after [] (suc n) k = refl
+    get_after (tap ∷ list) zero k = let e : k ≡ 0 + k = omega arith in ap (slice_get (tap ∷ list)) e
+    get_after (tap ∷ list) (suc n) k = let e : suc (n + k) ≡ suc n + k = omega arith in get_after list n k ∙ ap (slice_get (tap ∷ list)) e
 
 -- a loop that adds the tap there
 pub grown : (taps : List Touch) (from at : ℕ) (list more : List Touch) (found : Option Touch) → from ≤ at → more ≡ list ++ at_most_one found → list ≡ taps_in from at taps →
@@ -83,11 +83,11 @@ cut_marked tables taps place le cut =
     let long : length (take place taps) ≡ place = let n = length-take place taps in omega arith in
     sym (ap (λ (list : List Touch). mark_in (starts tables list) (length (take place taps))) (take-append-drop place taps) ∙ ap (mark_in (starts tables taps)) long) ∙ cut
 
--- a stretch, and what stands before and behind it
+-- a stretch, and what stands before and after it
 pub fewer_in_three : (tables : FareTables) (fewer : List Touch) (touch : Touch) (place from to : ℕ) → IsStretch tables fewer touch place from to →
     AreInThree tables fewer (take from fewer) (taps_in from to fewer) (drop to fewer)
 fewer_in_three tables fewer touch place from to s =
-    let over = s.from_before in let under = s.to_behind in let within = s.within in
+    let over = s.from_before in let under = s.to_after in let within = s.within in
     let long_a : length (take from fewer) ≡ from = let n = length-take from fewer in omega arith in
     let long_b : length (taps_in from to fewer) ≡ to - from = length-between fewer from to within in
     let both : length (take from fewer) + length (taps_in from to fewer) ≡ to = omega arith in
@@ -101,7 +101,7 @@ fewer_in_three tables fewer touch place from to s =
 pub more_in_three : (tables : FareTables) (fewer : List Touch) (touch : Touch) (place from to : ℕ) → IsStretch tables fewer touch place from to →
     AreInThree tables (insert fewer place touch) (take from fewer) (insert (taps_in from to fewer) (place - from) touch) (drop to fewer)
 more_in_three tables fewer touch place from to s =
-    let over = s.from_before in let under = s.to_behind in let within = s.within in
+    let over = s.from_before in let under = s.to_after in let within = s.within in
     let a = take from fewer in
     let b = taps_in from to fewer in
     let c = drop to fewer in
@@ -123,7 +123,7 @@ pub disturbed : JourneysAreCut → MarksAreCut → (tables : FareTables) (fewer 
     (journeys tables (legs tables (insert (taps_in from to fewer) (place - from) touch)))
 disturbed cut marks tables fewer touch place from to s = record {
   before = journeys tables (legs tables (take from fewer));
-  behind = journeys tables (legs tables (drop to fewer));
+  beyond = journeys tables (legs tables (drop to fewer));
   all_fewer = journeys_in_three cut marks tables fewer _ _ _ (fewer_in_three tables fewer touch place from to s);
   all_more = journeys_in_three cut marks tables (insert fewer place touch) _ _ _ (more_in_three tables fewer touch place from to s);
 }
@@ -142,9 +142,9 @@ finished cut marks tables stored touch is_there place at from to taps more less 
     let P : ℕ → Type 0 = λ n. IsDisturbed tables (fewer_of is_there n stored) (insert (fewer_of is_there n stored) n touch) less with_it in
     subst P e (record {
       before = base.before;
-      behind = base.behind;
-      all_fewer = base.all_fewer ∙ ap (λ (list : List Journey). (base.before ++ list) ++ base.behind) (sym a);
-      all_more = base.all_more ∙ ap (λ (list : List Journey). (base.before ++ list) ++ base.behind) (sym b);
+      beyond = base.beyond;
+      all_fewer = base.all_fewer ∙ ap (λ (list : List Journey). (base.before ++ list) ++ base.beyond) (sym a);
+      all_more = base.all_more ∙ ap (λ (list : List Journey). (base.before ++ list) ++ base.beyond) (sym b);
     })
 
 -- what is disturbed where a tap enters, and where one leaves, in terms of the timeline

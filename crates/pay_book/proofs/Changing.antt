@@ -7,8 +7,8 @@ use Rattle.pay_taps.specs.Words.{place_of, AreTimed, StandsAtPlace, TakenOutAtPl
 use Rattle.pay_rules.specs.Order.{put_in}
 use Rattle.pay_rules.specs.declared.limits.TheConstants.{MOST_TOUCHES}
 use Rattle.pay_rules.specs.Journeys.{is_bus, is_rail}
-use Rattle.pay_book.specs.Kept.{taps_after, ChangesEachKind, ChangesArePossible}
-use Rattle.pay_book.proofs.KeptMarks.{one_more}
+use Rattle.pay_book.specs.MarkedTaps.{taps_after, ChangesEachKind, ChangesArePossible}
+use Rattle.pay_book.proofs.MarksOfTaps.{one_more}
 
 -- ---- a touch of the kind
 

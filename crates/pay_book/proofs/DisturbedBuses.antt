@@ -17,7 +17,7 @@ use Rattle.pay_book.specs.Disturbed.{is_apart, up_to_apart, around_first, distur
 use Rattle.pay_book.specs.Fewer.{fewer_of, more_of}
 use Rattle.pay_book.proofs.Boarded.{boarded_each, boarded_in_stretches}
 
--- ---- a tap that is apart from all earlier ones pays behind them
+-- ---- a tap that is apart from all earlier ones pays after them
 
 -- whatever taps are apart from each of some earlier ones pay by the last that paid
 abbrev PayApart : ℕ → List Touch → Option Stamp → Type 0
@@ -73,12 +73,12 @@ ends hopper earlier (tap ∷ later) a b (suc few) (suc many) pay_a pay_b le long
 
 -- ---- what a tap disturbs
 
-front_of : {X : Type 0} (front behind list : List X) → front ++ behind ≡ list → front ≡ take (length front) list
-front_of front behind list e = sym (take-append_seam front behind) ∙ ap (take (length front)) e
+front_of : {X : Type 0} (front beyond list : List X) → front ++ beyond ≡ list → front ≡ take (length front) list
+front_of front beyond list e = sym (take-append_seam front beyond) ∙ ap (take (length front)) e
 
-rest_of : {X : Type 0} (left some right front behind : List X) → left ++ some ++ right ≡ front ++ behind → length left ≡ length front → some ++ right ≡ behind
-rest_of left some right front behind e long =
-    sym (drop-append_seam left (some ++ right)) ∙ ap (drop (length left)) (sym (append_assoc left some right) ∙ e) ∙ ap (λ (n : ℕ). drop n (front ++ behind)) long ∙ drop-append_seam front behind
+rest_of : {X : Type 0} (left some right front beyond : List X) → left ++ some ++ right ≡ front ++ beyond → length left ≡ length front → some ++ right ≡ beyond
+rest_of left some right front beyond e long =
+    sym (drop-append_seam left (some ++ right)) ∙ ap (drop (length left)) (sym (append_assoc left some right) ∙ e) ∙ ap (λ (n : ℕ). drop n (front ++ beyond)) long ∙ drop-append_seam front beyond
 
 fewer_than_later : {X : Type 0} (some right list : List X) → some ++ right ≡ list → length some ≤ length list
 fewer_than_later some right list e = omega (arith, length-append some right, ap length e)
@@ -131,23 +131,23 @@ few_boardings put hopper fewer touch less more within d =
 pub few_around : PutInAtPlace → PlaceWithoutIt → PutInAgain → (hopper : ℕ) (taps : List Touch) (touch : Touch) (is_there : Bool) (less more : List Journey) → AreTimed taps
     → (is_there ≡ true → slice_get taps (place_of touch taps) ≡ Some touch) → place_of touch taps ≤ length taps → IsDisturbed hopper (fewer_of is_there (place_of touch taps) taps) touch less more
     → length less ≤ disturbed_by_bus hopper (more_of is_there touch taps) (place_of touch taps)
-few_around put kept again hopper taps touch true less more timed there within d =
+few_around put held again hopper taps touch true less more timed there within d =
     let fewer = remove taps (place_of touch taps) in
     let under = slice_get_within taps (place_of touch taps) touch (there refl) in
-    let same : place_of touch fewer ≡ place_of touch taps = kept touch taps timed (there refl) in
+    let same : place_of touch fewer ≡ place_of touch taps = held touch taps timed (there refl) in
     let all : put_in touch fewer ≡ taps = again touch taps timed (there refl) in
     let few = few_boardings put hopper fewer touch less more (omega (arith, same, under, length-remove taps (place_of touch taps) under)) d in
     let its : disturbed_by_bus hopper (put_in touch fewer) (place_of touch fewer) ≡ disturbed_by_bus hopper taps (place_of touch taps) =
     ap (λ (list : List Touch). disturbed_by_bus hopper list (place_of touch fewer)) all ∙ ap (disturbed_by_bus hopper taps) same in
     omega (arith, few, its)
-few_around put kept again hopper taps touch false less more timed there within d = few_boardings put hopper taps touch less more within d
+few_around put held again hopper taps touch false less more timed there within d = few_boardings put hopper taps touch less more within d
 
 -- and so it reads few
 pub few_read : PutInAtPlace → PlaceWithoutIt → PutInAgain → (hopper : ℕ) (taps now : List Touch) (touch : Touch) (is_there : Bool) (less more : List Journey) (steps read : ℕ) → now ≡ taps → AreTimed now
     → (is_there ≡ true → slice_get taps (place_of touch taps) ≡ Some touch) → IsDisturbed hopper (fewer_of is_there (place_of touch now) now) touch less more → read ≤ steps + length less + 2
     → read ≤ steps + 2 + disturbed_by_bus hopper (more_of is_there touch taps) (place_of touch taps)
-few_read put kept again hopper taps now touch is_there less more steps read same timed there d most =
-    let few = few_around put kept again hopper taps touch is_there less more (subst AreTimed same timed) there (place_within taps touch)
+few_read put held again hopper taps now touch is_there less more steps read same timed there d most =
+    let few = few_around put held again hopper taps touch is_there less more (subst AreTimed same timed) there (place_within taps touch)
     (subst (λ (list : List Touch). IsDisturbed hopper (fewer_of is_there (place_of touch list) list) touch less more) same d) in
     omega (arith, few, most)
   where

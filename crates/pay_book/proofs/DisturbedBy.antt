@@ -11,7 +11,7 @@ use Rattle.pay_fix.specs.declared.change.Change.TheVariants.{Nothing, Enters, Le
 use Rattle.pay_rules.specs.Journeys.{is_bus, is_rail}
 use Rattle.pay_book.specs.Disturbed.{place_of_further, disturbed_between, disturbed, disturbed_by_rail, disturbed_by_bus}
 use Rattle.pay_book.specs.Stored.{ChangeDisturbs}
-use Rattle.pay_book.proofs.KeptMarks.{one_more}
+use Rattle.pay_book.proofs.MarksOfTaps.{one_more}
 
 -- ---- the place of the one whose number none of the others has
 
@@ -107,33 +107,33 @@ module _ (stands : StandsAtPlace) (some : SomeWithOneMore) (own : OwnNumberAmong
       (none_between by (filter p fewer) (filter p more) same, none_between by (filter p more) (filter p fewer) (sym same))
 
   pub as_by_command : ChangeDisturbs
-  as_by_command tables Nothing before after kept is are =
+  as_by_command tables Nothing before after held is are =
       let rail = none_between (disturbed_by_rail tables) (filter is_rail before) (filter is_rail after) (ap (filter is_rail) is.changed) in
       let buses = none_between (disturbed_by_bus tables.rules.hopper) (filter is_bus before) (filter is_bus after) (ap (filter is_bus) is.changed) in
       omega (arith, rail, buses)
-  as_by_command tables (Enters touch) before after kept is are =
+  as_by_command tables (Enters touch) before after held is are =
       let e = is.changed in
       let by_rail = disturbed_by_rail tables in
       let by_bus = disturbed_by_bus tables.rules.hopper in
       elim (is_bus touch) as (λ (b : Bool). is_bus touch ≡ b →
-      (if b then by_bus (put_in touch kept.buses.touches) (place_of touch kept.buses.touches) else by_rail (put_in touch kept.rail.touches) (place_of touch kept.rail.touches)) ≡ disturbed tables before after) [
+      (if b then by_bus (put_in touch held.buses.touches) (place_of touch held.buses.touches) else by_rail (put_in touch held.rail.touches) (place_of touch held.rail.touches)) ≡ disturbed tables before after) [
         | true ↦ λ kind.
-            let its = entered by_bus is_bus touch kept.buses.touches before after are.buses kind is.timed e.in_place e.own_numbers in
+            let its = entered by_bus is_bus touch held.buses.touches before after are.buses kind is.timed e.in_place e.own_numbers in
             let none = (no_other tables touch before after is.timed e.in_place by_rail is_rail (ap not kind)).0 in omega (arith, its, none)
         | false ↦ λ kind.
-            let its = entered by_rail is_rail touch kept.rail.touches before after are.rail (ap not kind) is.timed e.in_place e.own_numbers in
+            let its = entered by_rail is_rail touch held.rail.touches before after are.rail (ap not kind) is.timed e.in_place e.own_numbers in
             let none = (no_other tables touch before after is.timed e.in_place by_bus is_bus kind).0 in omega (arith, its, none)
       ] refl
-  as_by_command tables (Leaves touch) before after kept is are =
+  as_by_command tables (Leaves touch) before after held is are =
       let e = is.changed in
       let by_rail = disturbed_by_rail tables in
       let by_bus = disturbed_by_bus tables.rules.hopper in
       elim (is_bus touch) as (λ (b : Bool). is_bus touch ≡ b →
-      (if b then by_bus kept.buses.touches (place_of touch kept.buses.touches) else by_rail kept.rail.touches (place_of touch kept.rail.touches)) ≡ disturbed tables before after) [
+      (if b then by_bus held.buses.touches (place_of touch held.buses.touches) else by_rail held.rail.touches (place_of touch held.rail.touches)) ≡ disturbed tables before after) [
         | true ↦ λ kind.
-            let its = left by_bus is_bus touch kept.buses.touches before after are.buses kind is.timed_then e.in_place e.own_numbers in
+            let its = left by_bus is_bus touch held.buses.touches before after are.buses kind is.timed_then e.in_place e.own_numbers in
             let none = (no_other tables touch after before is.timed_then e.in_place by_rail is_rail (ap not kind)).1 in omega (arith, its, none)
         | false ↦ λ kind.
-            let its = left by_rail is_rail touch kept.rail.touches before after are.rail (ap not kind) is.timed_then e.in_place e.own_numbers in
+            let its = left by_rail is_rail touch held.rail.touches before after are.rail (ap not kind) is.timed_then e.in_place e.own_numbers in
             let none = (no_other tables touch after before is.timed_then e.in_place by_bus is_bus kind).1 in omega (arith, its, none)
       ] refl

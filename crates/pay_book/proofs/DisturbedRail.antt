@@ -18,7 +18,7 @@ use Rattle.pay_rules.specs.declared.journey.Journey.TheVariants as journey
 use Rattle.pay_book.specs.Disturbed.{taps_of_any, disturbed_by_rail}
 use Rattle.pay_book.specs.Fewer.{fewer_of, more_of}
 use Rattle.pay_book.specs.Rail.{mark_in, IsStretch}
-use Rattle.pay_book.proofs.Marks.{put_back, marks_before, marks_behind_it}
+use Rattle.pay_book.proofs.Marks.{put_back, marks_before, marks_after_it}
 
 -- ---- the journey that goes on from one place to another
 
@@ -33,9 +33,9 @@ first_marked (journey.Same leg ∷ later) = refl
 first_marked (journey.Lone tap ∷ later) = refl
 first_marked (journey.Bus tap pays ∷ later) = refl
 
--- marks behind those of one journey
-behind_one : (one : Journey) (later : List Journey) (on : ℕ) → mark_in (start_marks (one ∷ later)) (length (taps_of_journey one) + on) ≡ mark_in (start_marks later) on
-behind_one one later on =
+-- marks after those of one journey
+after_one : (one : Journey) (later : List Journey) (on : ℕ) → mark_in (start_marks (one ∷ later)) (length (taps_of_journey one) + on) ≡ mark_in (start_marks later) on
+after_one one later on =
     ap (λ (n : ℕ). mark_in (marks_of_one (taps_of_journey one) ++ start_marks later) (n + on)) (sym (as_many (taps_of_journey one)))
     ∙ get_or-append-add (marks_of_one (taps_of_journey one)) (start_marks later) on true
 
@@ -45,7 +45,7 @@ is_below a b lt = grind (arith, nat_tests)
 counted : (from to at many rest : ℕ) → from < at + many → at < to → (if nat_lt from (at + many) && nat_lt at to then many else 0) + rest ≡ many + rest
 counted from to at many rest under over = rw (is_below from (at + many) under) (rw (is_below at to over) refl)
 
--- all taps from one place through another are of the journey that has one of them, where none starts behind the first of them
+-- all taps from one place through another are of the journey that has one of them, where none starts after the first of them
 pub held : (list : List Journey) (from to at first last x : ℕ) → at ≤ first → first ≤ last → last < at + length (flat_map taps_of_journey list)
     → ((place : ℕ) → first < place → place ≤ last → mark_in (start_marks list) (place - at) ≡ false)
     → first ≤ x → x ≤ last → from ≤ x → x < to → suc last ≤ first + taps_of_any from to at list
@@ -60,13 +60,13 @@ held (one ∷ later) from to at first last x begin up within none low high over 
     (λ beyond.
     let none_there = none (at + many) here beyond in
     let on : (at + many) - at ≡ many + 0 = omega arith in
-    let one_there = ap (mark_in (start_marks (one ∷ later))) on ∙ behind_one one later 0 ∙ first_marked later in
+    let one_there = ap (mark_in (start_marks (one ∷ later))) on ∙ after_one one later 0 ∙ first_marked later in
     let both : true ≡ false = sym one_there ∙ none_there in absurd (cc))
     (cases_lt last (at + many)))
     (λ further.
     let rest = held later from to (at + many) first last x further up (omega (arith, within, all))
     (λ place lt le. let on : place - at ≡ many + (place - (at + many)) = omega (arith, lt, further) in
-    sym (behind_one one later (place - (at + many))) ∙ ap (mark_in (start_marks (one ∷ later))) (sym on) ∙ none place lt le)
+    sym (after_one one later (place - (at + many))) ∙ ap (mark_in (start_marks (one ∷ later))) (sym on) ∙ none place lt le)
     low high over under in
     omega (arith, rest))
     (cases_lt first (at + many))
@@ -86,7 +86,7 @@ module _ (local : StartsAreLocal) (each : JourneysHaveEachTap) (tables : FareTab
   before_it : (fewer : List Touch) (touch : Touch) (place from to : ℕ) → IsStretch tables fewer touch place from to
       → place ≤ from + 1 + (taps_of_any (place - 1) (place + 1) 0 (journeys tables (legs tables fewer)) + taps_of_any (place - 1) (place + 2) 0 (journeys tables (legs tables (insert fewer place touch))))
   before_it fewer touch place from to s =
-      let inside : place ≤ length fewer = omega (arith, s.to_behind, s.within) in
+      let inside : place ≤ length fewer = omega (arith, s.to_after, s.within) in
       let long = length-insert fewer place touch inside in
       ⊎_elim
       (λ far. ⊎_elim
@@ -112,10 +112,10 @@ module _ (local : StartsAreLocal) (each : JourneysHaveEachTap) (tables : FareTab
       (cases_lt (suc from) place)
 
   -- and from it up to the last place
-  behind_it : (fewer : List Touch) (touch : Touch) (place from to : ℕ) → IsStretch tables fewer touch place from to
+  after_it : (fewer : List Touch) (touch : Touch) (place from to : ℕ) → IsStretch tables fewer touch place from to
       → to ≤ place + 1 + (taps_of_any (place - 1) (place + 1) 0 (journeys tables (legs tables fewer)) + taps_of_any (place - 1) (place + 2) 0 (journeys tables (legs tables (insert fewer place touch))))
-  behind_it fewer touch place from to s =
-      let inside : place ≤ length fewer = omega (arith, s.to_behind, s.within) in
+  after_it fewer touch place from to s =
+      let inside : place ≤ length fewer = omega (arith, s.to_after, s.within) in
       let long = length-insert fewer place touch inside in
       let within = s.within in
       ⊎_elim
@@ -123,7 +123,7 @@ module _ (local : StartsAreLocal) (each : JourneysHaveEachTap) (tables : FareTab
       (λ goes.
       let it = held_among fewer (place - 1) (place + 1) place (to - 1) place (omega (arith, far)) (omega (arith, far, within))
       (λ other lt le. ⊎_elim
-      (λ above. s.none_behind other above (omega (arith, le, far)))
+      (λ above. s.none_after other above (omega (arith, le, far)))
       (λ there. let same : other ≡ suc place = omega (arith, there, lt) in ap (mark_in (starts tables fewer)) same ∙ goes)
       (cases_lt (suc place) other))
       (omega arith) (omega (arith, far)) (omega arith) (omega arith) in
@@ -133,12 +133,12 @@ module _ (local : StartsAreLocal) (each : JourneysHaveEachTap) (tables : FareTab
       let it = held_among more (place - 1) (place + 2) (suc place) to (suc place) (omega (arith, far)) (omega (arith, within, long))
       (λ other lt le. ⊎_elim
       (λ above. let on : other ≡ suc (other - 1) = omega (arith, lt) in
-      ap (mark_in (starts tables more)) on ∙ marks_behind_it tables fewer place (other - 1) touch (omega (arith, above)) inside ∙ s.none_behind (other - 1) (omega (arith, above)) (omega (arith, le, lt)))
+      ap (mark_in (starts tables more)) on ∙ marks_after_it tables fewer place (other - 1) touch (omega (arith, above)) inside ∙ s.none_after (other - 1) (omega (arith, above)) (omega (arith, le, lt)))
       (λ there. let same : other ≡ suc (suc place) = omega (arith, there, lt) in ap (mark_in (starts tables more)) same ∙ goes)
       (cases_lt (suc (suc place)) other))
       (omega arith) (omega (arith, far)) (omega arith) (omega arith) in
       omega (arith, it, far))
-      (s.goes_on_behind far))
+      (s.goes_on_after far))
       (λ near. omega (arith, near))
       (cases_lt (suc place) to)
 
@@ -150,7 +150,7 @@ module _ (local : StartsAreLocal) (each : JourneysHaveEachTap) (tables : FareTab
       let a = taps_of_any (place - 1) (place + 1) 0 (journeys tables (legs tables fewer)) in
       let b = taps_of_any (place - 1) (place + 2) 0 (journeys tables (legs tables more)) in
       let same : disturbed_by_rail tables more place ≡ a + b = ap (λ (taps : List Touch). taps_of_any (place - 1) (place + 1) 0 (journeys tables (legs tables taps)) + b) out in
-      omega (arith, before_it fewer touch place from to s, behind_it fewer touch place from to s, same)
+      omega (arith, before_it fewer touch place from to s, after_it fewer touch place from to s, same)
 
   remove_inserted : (taps : List Touch) (place : ℕ) (touch : Touch) → place ≤ length taps → remove (insert taps place touch) place ≡ taps
   remove_inserted [] zero touch le = refl

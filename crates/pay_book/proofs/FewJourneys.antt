@@ -12,7 +12,7 @@ use Rattle.pay_links.specs.Words.{starts, start_marks, MarksAreCut, StartsAreLoc
 use Rattle.pay_rules.specs.declared.journey.Journey.{Journey}
 use Rattle.pay_rules.specs.declared.journey.Journey.TheVariants as journey
 use Rattle.pay_book.specs.Rail.{mark_in, taps_in, IsStretch}
-use Rattle.pay_book.proofs.Marks.{as_many, marks_before, marks_behind_it}
+use Rattle.pay_book.proofs.Marks.{as_many, marks_before, marks_after_it}
 use Rattle.pay_book.proofs.Between.{AreInThree, first_apart, second_apart, fewer_in_three, more_in_three}
 
 -- ---- how many journeys start
@@ -35,12 +35,12 @@ first_few (suc few) (false ∷ marks) none =
 -- marks of which only that before a place, and a few from there on, may be true
 few_around : (middle few : ℕ) (marks : List Bool) → ((place : ℕ) → suc place < middle → mark_in marks place ≡ false) →
     ((place : ℕ) → middle + few ≤ place → place < length marks → mark_in marks place ≡ false) → count marks ≤ suc few
-few_around zero few marks before behind = let most = first_few few marks (λ place le lt. behind place (omega arith) lt) in omega arith
-few_around (suc zero) few marks before behind = first_few (suc few) marks (λ place le lt. behind place (omega arith) lt)
-few_around (suc (suc middle)) few [] before behind = omega arith
-few_around (suc (suc middle)) few (true ∷ marks) before behind = let one : true ≡ false = before zero (omega arith) in absurd (cc)
-few_around (suc (suc middle)) few (false ∷ marks) before behind =
-    few_around (suc middle) few marks (λ place lt. before (suc place) (omega arith)) (λ place le lt. behind (suc place) (omega arith) (omega arith))
+few_around zero few marks before beyond = let most = first_few few marks (λ place le lt. beyond place (omega arith) lt) in omega arith
+few_around (suc zero) few marks before beyond = first_few (suc few) marks (λ place le lt. beyond place (omega arith) lt)
+few_around (suc (suc middle)) few [] before beyond = omega arith
+few_around (suc (suc middle)) few (true ∷ marks) before beyond = let one : true ≡ false = before zero (omega arith) in absurd (cc)
+few_around (suc (suc middle)) few (false ∷ marks) before beyond =
+    few_around (suc middle) few marks (λ place lt. before (suc place) (omega arith)) (λ place le lt. beyond (suc place) (omega arith) (omega arith))
 
 -- and the first mark of all
 one_more : (mark : Bool) (marks : List Bool) → count (mark ∷ marks) ≤ suc (count marks)
@@ -49,9 +49,9 @@ one_more false marks = omega arith
 
 few_with_first : (middle few : ℕ) (marks : List Bool) → ((place : ℕ) → 0 < place → suc place < middle → mark_in marks place ≡ false) →
     ((place : ℕ) → middle + few ≤ place → place < length marks → mark_in marks place ≡ false) → count marks ≤ suc (suc few)
-few_with_first middle few [] before behind = omega arith
-few_with_first middle few (mark ∷ marks) before behind =
-    let rest = few_around (middle - 1) few marks (λ place lt. before (suc place) (omega arith) (omega arith)) (λ place le lt. behind (suc place) (omega arith) (omega arith)) in
+few_with_first middle few [] before beyond = omega arith
+few_with_first middle few (mark ∷ marks) before beyond =
+    let rest = few_around (middle - 1) few marks (λ place lt. before (suc place) (omega arith) (omega arith)) (λ place le lt. beyond (suc place) (omega arith) (omega arith)) in
     let all = one_more mark marks in omega arith
 
 -- ---- a journey for each start
@@ -89,7 +89,7 @@ mark_within marks tables taps a b c three from place long lt =
 pub few_fewer : MarksAreCut → StartsAreLocal → (tables : FareTables) (fewer : List Touch) (touch : Touch) (place from to : ℕ) → IsStretch tables fewer touch place from to →
     length (journeys tables (legs tables (taps_in from to fewer))) ≤ 4
 few_fewer marks local tables fewer touch place from to s =
-    let over = s.from_before in let under = s.to_behind in let within = s.within in
+    let over = s.from_before in let under = s.to_after in let within = s.within in
     let b = taps_in from to fewer in
     let long_a : length (take from fewer) ≡ from = let n = length-take from fewer in omega arith in
     let long_b : length b ≡ to - from = length-between fewer from to within in
@@ -98,13 +98,13 @@ few_fewer marks local tables fewer touch place from to s =
     λ k lt. mark_within marks tables fewer (take from fewer) b (drop to fewer) (fewer_in_three tables fewer touch place from to s) from k long_a lt in
     let most : count (starts tables b) ≤ 4 = few_with_first (place - from) 2 (starts tables b)
     (λ k some lt. same k (omega arith) ∙ s.none_before (from + k) (omega arith) (omega arith))
-    (λ k le lt. same k (omega arith) ∙ s.none_behind (from + k) (omega arith) (omega arith)) in
+    (λ k le lt. same k (omega arith) ∙ s.none_after (from + k) (omega arith) (omega arith)) in
     let counted = counted_by_marks local tables b in omega arith
 
 pub few_more : MarksAreCut → StartsAreLocal → (tables : FareTables) (fewer : List Touch) (touch : Touch) (place from to : ℕ) → IsStretch tables fewer touch place from to →
     length (journeys tables (legs tables (insert (taps_in from to fewer) (place - from) touch))) ≤ 5
 few_more marks local tables fewer touch place from to s =
-    let over = s.from_before in let under = s.to_behind in let within = s.within in
+    let over = s.from_before in let under = s.to_after in let within = s.within in
     let inside : place ≤ length fewer = omega arith in
     let b = insert (taps_in from to fewer) (place - from) touch in
     let long_a : length (take from fewer) ≡ from = let n = length-take from fewer in omega arith in
@@ -115,10 +115,10 @@ few_more marks local tables fewer touch place from to s =
     λ k lt. mark_within marks tables (insert fewer place touch) (take from fewer) b (drop to fewer) (more_in_three tables fewer touch place from to s) from k long_a lt in
     let back : (k : ℕ) → place + 3 ≤ k → mark_in (starts tables (insert fewer place touch)) k ≡ mark_in (starts tables fewer) (k - 1) =
     λ k le. let e : k ≡ suc (k - 1) = omega arith in
-    ap (mark_in (starts tables (insert fewer place touch))) e ∙ marks_behind_it tables fewer place (k - 1) touch (omega arith) inside in
+    ap (mark_in (starts tables (insert fewer place touch))) e ∙ marks_after_it tables fewer place (k - 1) touch (omega arith) inside in
     let most : count (starts tables b) ≤ 5 = few_with_first (place - from) 3 (starts tables b)
     (λ k some lt. same k (omega arith) ∙ marks_before tables fewer place (from + k) touch (omega arith) inside ∙ s.none_before (from + k) (omega arith) (omega arith))
-    (λ k le lt. same k (omega arith) ∙ back (from + k) (omega arith) ∙ s.none_behind (from + k - 1) (omega arith) (omega arith)) in
+    (λ k le lt. same k (omega arith) ∙ back (from + k) (omega arith) ∙ s.none_after (from + k - 1) (omega arith) (omega arith)) in
     let counted = counted_by_marks local tables b in omega arith
 
 -- ---- the same of what was computed

@@ -15,25 +15,25 @@ removed_before (tap ∷ taps) zero other lt = absurd (omega arith)
 removed_before (tap ∷ taps) (suc place) zero lt = refl
 removed_before (tap ∷ taps) (suc place) (suc other) lt = removed_before taps place other (omega arith)
 
-removed_behind : (taps : List Touch) (place other : ℕ) → place ≤ other → slice_get (remove taps place) other ≡ slice_get taps (suc other)
-removed_behind [] zero other le = refl
-removed_behind [] (suc place) other le = refl
-removed_behind (tap ∷ taps) zero other le = refl
-removed_behind (tap ∷ taps) (suc place) zero le = absurd (omega arith)
-removed_behind (tap ∷ taps) (suc place) (suc other) le = removed_behind taps place other (omega arith)
+removed_after : (taps : List Touch) (place other : ℕ) → place ≤ other → slice_get (remove taps place) other ≡ slice_get taps (suc other)
+removed_after [] zero other le = refl
+removed_after [] (suc place) other le = refl
+removed_after (tap ∷ taps) zero other le = refl
+removed_after (tap ∷ taps) (suc place) zero le = absurd (omega arith)
+removed_after (tap ∷ taps) (suc place) (suc other) le = removed_after taps place other (omega arith)
 
 pub get_fewer_before : (is_there : Bool) (taps : List Touch) (place other : ℕ) → other < place → slice_get (fewer_of is_there place taps) other ≡ slice_get taps other
 get_fewer_before true taps place other lt = removed_before taps place other lt
 get_fewer_before false taps place other lt = refl
 
-pub get_fewer_behind : (taps : List Touch) (place other : ℕ) → place ≤ other → slice_get (fewer_of true place taps) other ≡ slice_get taps (suc other)
-get_fewer_behind taps place other le = removed_behind taps place other le
+pub get_fewer_after : (taps : List Touch) (place other : ℕ) → place ≤ other → slice_get (fewer_of true place taps) other ≡ slice_get taps (suc other)
+get_fewer_after taps place other le = removed_after taps place other le
 
--- behind the last of a timeline there is none of these either
+-- after the last of a timeline there is none of these either
 pub none_so_far_on : (is_there : Bool) (taps : List Touch) (place other : ℕ) → length taps ≤ other → slice_get (fewer_of is_there place taps) other ≡ None
 none_so_far_on true taps place other le = ⊎_elim
     (λ before. removed_before taps place other before ∙ slice_get_past taps other le)
-    (λ behind. removed_behind taps place other behind ∙ slice_get_past taps (suc other) (omega arith))
+    (λ beyond. removed_after taps place other beyond ∙ slice_get_past taps (suc other) (omega arith))
     (cases_lt other place)
 none_so_far_on false taps place other le = slice_get_past taps other le
 

@@ -14,7 +14,7 @@ use Rattle.smallvec.specs.SmallVec.{SmallVec, with_items}
 use Rattle.smallvec.proofs.SmallVecLemmas.{items-with_items}
 use Rattle.std.proofs.lemmas.Bool.{cases_lt, eqb-true, ltb-true, ltb-false, lt-ltb}
 use Rattle.pay_caps.specs.Words.{CellSums, no_fares, total}
-use Rattle.pay_book.specs.Days.{Days, kept_on, sums_on, StayKept}
+use Rattle.pay_book.specs.Days.{Days, stored_on, sums_on, StaySummed}
 use Rattle.pay_book.specs.InStep.{AreRising, IsPlaceOf, AreInStep}
 
 -- ---- one day and another
@@ -25,17 +25,17 @@ at_itself day = ap is_eq (sym (nat_cmp_is day day Equal refl))
 pub not_before : (day other : ℕ) → other < day → is_at (nat_cmp day) other ≡ false
 not_before day other lt = ap is_eq (sym (nat_cmp_is day other Greater lt))
 
-pub not_behind : (day other : ℕ) → day < other → is_at (nat_cmp day) other ≡ false
-not_behind day other lt = ap is_eq (sym (nat_cmp_is day other Less lt))
+pub not_after : (day other : ℕ) → day < other → is_at (nat_cmp day) other ≡ false
+not_after day other lt = ap is_eq (sym (nat_cmp_is day other Less lt))
 
 either : (day other : ℕ) → (day ≡ other) ⊎ (is_at (nat_cmp day) other ≡ false)
 either day other =
-    ⊎_elim (λ lt. inr (not_behind day other lt)) (λ ge. ⊎_elim (λ lt. inr (not_before day other lt)) (λ le. inl (omega arith)) (cases_lt other day)) (cases_lt day other)
+    ⊎_elim (λ lt. inr (not_after day other lt)) (λ ge. ⊎_elim (λ lt. inr (not_before day other lt)) (λ le. inl (omega arith)) (cases_lt other day)) (cases_lt day other)
 
 either_way : (day other : ℕ) → is_at (nat_cmp day) other ≡ is_at (nat_cmp other) day
 either_way day other =
-    ⊎_elim (λ lt. not_behind day other lt ∙ sym (not_before other day lt))
-    (λ ge. ⊎_elim (λ lt. not_before day other lt ∙ sym (not_behind other day lt)) (λ le. let same : day ≡ other = omega arith in subst (λ (d : ℕ). is_at (nat_cmp day) d ≡ is_at (nat_cmp d) day) same refl) (cases_lt other day))
+    ⊎_elim (λ lt. not_after day other lt ∙ sym (not_before other day lt))
+    (λ ge. ⊎_elim (λ lt. not_before day other lt ∙ sym (not_after other day lt)) (λ le. let same : day ≡ other = omega arith in subst (λ (d : ℕ). is_at (nat_cmp day) d ≡ is_at (nat_cmp d) day) same refl) (cases_lt other day))
     (cases_lt day other)
 
 -- ---- what is kept of a day
@@ -50,10 +50,10 @@ found day (d ∷ days) (s ∷ sums) zero long at there =
 found day (d ∷ days) (s ∷ sums) (suc place) long at there =
     ap (λ b. cond b (Some s) (lookup (is_at (nat_cmp day)) (zip days sums))) (not_before day d at.0) ∙ found day days sums place (omega arith) at.1 there
 
-pub none_behind : (day : ℕ) (days : List ℕ) (sums : List CellSums) → AllByRecursion (λ other. day < other) days → lookup (is_at (nat_cmp day)) (zip days sums) ≡ None
-none_behind day [] sums all = refl
-none_behind day (d ∷ days) [] all = refl
-none_behind day (d ∷ days) (s ∷ sums) all = ap (λ b. cond b (Some s) (lookup (is_at (nat_cmp day)) (zip days sums))) (not_behind day d all.0) ∙ none_behind day days sums all.1
+pub none_after : (day : ℕ) (days : List ℕ) (sums : List CellSums) → AllByRecursion (λ other. day < other) days → lookup (is_at (nat_cmp day)) (zip days sums) ≡ None
+none_after day [] sums all = refl
+none_after day (d ∷ days) [] all = refl
+none_after day (d ∷ days) (s ∷ sums) all = ap (λ b. cond b (Some s) (lookup (is_at (nat_cmp day)) (zip days sums))) (not_after day d all.0) ∙ none_after day days sums all.1
 
 pub all_further : (day other : ℕ) (days : List ℕ) → day < other → AllByRecursion (λ d. other < d) days → AllByRecursion (λ d. day < d) days
 all_further day other [] lt all = tt
@@ -64,7 +64,7 @@ pub not_found : (day : ℕ) (days : List ℕ) (sums : List CellSums) (place : �
 not_found day [] sums place rising at none = refl
 not_found day (d ∷ days) [] place rising at none = refl
 not_found day (d ∷ days) (s ∷ sums) zero rising at none =
-    ⊎_elim (λ lt. ap (λ b. cond b (Some s) (lookup (is_at (nat_cmp day)) (zip days sums))) (not_behind day d lt) ∙ none_behind day days sums (all_further day d days lt rising.0))
+    ⊎_elim (λ lt. ap (λ b. cond b (Some s) (lookup (is_at (nat_cmp day)) (zip days sums))) (not_after day d lt) ∙ none_after day days sums (all_further day d days lt rising.0))
     (λ le. let same : d ≡ day = omega arith in absurd (none (ap Some same)))
     (cases_lt day d)
 not_found day (d ∷ days) (s ∷ sums) (suc place) rising at none =
@@ -177,11 +177,11 @@ is_not_there day days lent other place b l o at tells is = record {
 
 -- ---- days as they are kept
 
-pub kept_there : (day : ℕ) (days : List ℕ) (sums : List CellSums) (place : ℕ) (whole : Days) → AreInStep days sums → Stands day days place → zip days sums ≡ whole → kept_on whole day ≡ slice_get sums place
-kept_there day days sums place whole step at is = ap (λ (list : Days). kept_on list day) (sym is) ∙ found day days sums place step.as_long at.at at.there
+pub stored_there : (day : ℕ) (days : List ℕ) (sums : List CellSums) (place : ℕ) (whole : Days) → AreInStep days sums → Stands day days place → zip days sums ≡ whole → stored_on whole day ≡ slice_get sums place
+stored_there day days sums place whole step at is = ap (λ (list : Days). stored_on list day) (sym is) ∙ found day days sums place step.as_long at.at at.there
 
-pub kept_nowhere : (day : ℕ) (days : List ℕ) (sums : List CellSums) (place : ℕ) (whole : Days) → AreInStep days sums → StandsNot day days place → zip days sums ≡ whole → kept_on whole day ≡ None
-kept_nowhere day days sums place whole step at is = ap (λ (list : Days). kept_on list day) (sym is) ∙ not_found day days sums place step.rising at.at at.there
+pub stored_nowhere : (day : ℕ) (days : List ℕ) (sums : List CellSums) (place : ℕ) (whole : Days) → AreInStep days sums → StandsNot day days place → zip days sums ≡ whole → stored_on whole day ≡ None
+stored_nowhere day days sums place whole step at is = ap (λ (list : Days). stored_on list day) (sym is) ∙ not_found day days sums place step.rising at.at at.there
 
 some_within : (days : List ℕ) (sums : List CellSums) (place : ℕ) (day : ℕ) → length days ≡ length sums → slice_get days place ≡ Some day → IsSome (slice_get sums place)
 some_within [] sums place day long there = absurd (cc)
@@ -195,20 +195,20 @@ within (d ∷ days) zero day there = omega arith
 within (d ∷ days) (suc place) day there = omega (arith, within days place day there)
 
 -- a day that is kept stands at its place
-stands_if_kept : (day : ℕ) (days : List ℕ) (sums : List CellSums) (place : ℕ) → AreRising days → IsPlaceOf day days place → IsSome (lookup (is_at (nat_cmp day)) (zip days sums)) → slice_get days place ≡ Some day
-stands_if_kept day [] sums place rising at some = absurd (cc)
-stands_if_kept day (d ∷ days) [] place rising at some = absurd (cc)
-stands_if_kept day (d ∷ days) (s ∷ sums) zero rising at some =
+stands_if_stored : (day : ℕ) (days : List ℕ) (sums : List CellSums) (place : ℕ) → AreRising days → IsPlaceOf day days place → IsSome (lookup (is_at (nat_cmp day)) (zip days sums)) → slice_get days place ≡ Some day
+stands_if_stored day [] sums place rising at some = absurd (cc)
+stands_if_stored day (d ∷ days) [] place rising at some = absurd (cc)
+stands_if_stored day (d ∷ days) (s ∷ sums) zero rising at some =
     ⊎_elim
     (λ lt.
     let none : lookup (is_at (nat_cmp day)) (zip (d ∷ days) (s ∷ sums)) ≡ None =
-    ap (λ b. cond b (Some s) (lookup (is_at (nat_cmp day)) (zip days sums))) (not_behind day d lt) ∙ none_behind day days sums (all_further day d days lt rising.0) in
+    ap (λ b. cond b (Some s) (lookup (is_at (nat_cmp day)) (zip days sums))) (not_after day d lt) ∙ none_after day days sums (all_further day d days lt rising.0) in
     let some_of_none = subst IsSome none some in
     absurd (cc))
     (λ le. let same : d ≡ day = omega arith in ap Some same)
     (cases_lt day d)
-stands_if_kept day (d ∷ days) (s ∷ sums) (suc place) rising at some =
-    stands_if_kept day days sums place rising.1 at.1 (subst IsSome (ap (λ b. cond b (Some s) (lookup (is_at (nat_cmp day)) (zip days sums))) (not_before day d at.0)) some)
+stands_if_stored day (d ∷ days) (s ∷ sums) (suc place) rising at some =
+    stands_if_stored day days sums place rising.1 at.1 (subst IsSome (ap (λ b. cond b (Some s) (lookup (is_at (nat_cmp day)) (zip days sums))) (not_before day d at.0)) some)
 
 pub item_there : (day : ℕ) (days : List ℕ) (sums : List CellSums) (place : ℕ) (x : CellSums) → length days ≡ length sums → slice_get days place ≡ Some day → x ≡ get_or sums place x → Some x ≡ slice_get sums place
 item_there day [] sums place x long there is = absurd (cc)
@@ -216,17 +216,17 @@ item_there day (d ∷ days) [] place x long there is = absurd (omega arith)
 item_there day (d ∷ days) (s ∷ sums) zero x long there is = ap Some is
 item_there day (d ∷ days) (s ∷ sums) (suc place) x long there is = item_there day days sums place x (omega arith) there is
 
-pub some_there : (day : ℕ) (days : List ℕ) (sums : List CellSums) (place : ℕ) (whole : Days) → AreInStep days sums → Stands day days place → zip days sums ≡ whole → IsSome (kept_on whole day)
-some_there day days sums place whole step at is = subst IsSome (sym (kept_there day days sums place whole step at is)) (some_within days sums place day step.as_long at.there)
+pub some_there : (day : ℕ) (days : List ℕ) (sums : List CellSums) (place : ℕ) (whole : Days) → AreInStep days sums → Stands day days place → zip days sums ≡ whole → IsSome (stored_on whole day)
+some_there day days sums place whole step at is = subst IsSome (sym (stored_there day days sums place whole step at is)) (some_within days sums place day step.as_long at.there)
 
 -- a change of the sums of a day that is kept
 module _ (day : ℕ) (days lent : List ℕ) (sums : SmallVec CellSums) (lent_sums : List CellSums) (place : ℕ) (whole : Days) (step : AreInStep days sums.items) (is : zip days sums.items ≡ whole) (same : lent ≡ days)
-    (same_sums : lent_sums ≡ sums.items) (at : IsPlaceOf day lent place) (some : IsSome (kept_on whole day)) where
+    (same_sums : lent_sums ≡ sums.items) (at : IsPlaceOf day lent place) (some : IsSome (stored_on whole day)) where
   its_place : IsPlaceOf day days place
   its_place = subst (λ (list : List ℕ). IsPlaceOf day list place) same at
 
   it_stands : Stands day days place
-  it_stands = record { at = its_place; there = stands_if_kept day days sums.items place step.rising its_place (subst (λ (list : Days). IsSome (kept_on list day)) (sym is) some) }
+  it_stands = record { at = its_place; there = stands_if_stored day days sums.items place step.rising its_place (subst (λ (list : Days). IsSome (stored_on list day)) (sym is) some) }
 
   pub place_within : place < length lent_sums
   place_within = omega (arith, ap length same_sums, step.as_long, within days place day it_stands.there)
@@ -235,52 +235,52 @@ module _ (day : ℕ) (days lent : List ℕ) (sums : SmallVec CellSums) (lent_sum
   its_sums x item =
       sym item
       ∙ ap (λ (o : Option CellSums). unwrap_or o no_fares)
-      (item_there day days sums.items place x step.as_long it_stands.there (item ∙ ap (λ (list : List CellSums). get_or list place x) same_sums) ∙ sym (kept_there day days sums.items place whole step it_stands is))
+      (item_there day days sums.items place x step.as_long it_stands.there (item ∙ ap (λ (list : List CellSums). get_or list place x) same_sums) ∙ sym (stored_there day days sums.items place whole step it_stands is))
 
-  pub changed_kept : (change : CellSums → CellSums) (x y : CellSums) → x ≡ get_or lent_sums place x → y ≡ change (get_or lent_sums place x)
-      → (other : ℕ) → kept_on (zip days (with_items sums (slice_set lent_sums place y)).items) other ≡ cond (is_at (nat_cmp day) other) (Some (change (sums_on whole day))) (kept_on whole other)
-  changed_kept change x y item changed other =
-      ap (λ (list : List CellSums). kept_on (zip days list) other)
+  pub changed_marks : (change : CellSums → CellSums) (x y : CellSums) → x ≡ get_or lent_sums place x → y ≡ change (get_or lent_sums place x)
+      → (other : ℕ) → stored_on (zip days (with_items sums (slice_set lent_sums place y)).items) other ≡ cond (is_at (nat_cmp day) other) (Some (change (sums_on whole day))) (stored_on whole other)
+  changed_marks change x y item changed other =
+      ap (λ (list : List CellSums). stored_on (zip days list) other)
       (items-with_items sums (slice_set lent_sums place y) (length-set lent_sums place y ∙ ap length same_sums) ∙ ap (λ (list : List CellSums). slice_set list place y) same_sums)
       ∙ set_there other day days sums.items place y step.as_long it_stands.at it_stands.there
-      ∙ ap (λ (list : Days). cond (is_at (nat_cmp day) other) (Some y) (kept_on list other)) is
-      ∙ ap (λ (z : CellSums). cond (is_at (nat_cmp day) other) (Some z) (kept_on whole other)) (changed ∙ ap change (its_sums x item))
+      ∙ ap (λ (list : Days). cond (is_at (nat_cmp day) other) (Some y) (stored_on list other)) is
+      ∙ ap (λ (z : CellSums). cond (is_at (nat_cmp day) other) (Some z) (stored_on whole other)) (changed ∙ ap change (its_sums x item))
 
   pub sum_within : (pence : ℕ) (x y : CellSums) → x ≡ get_or lent_sums place x → total y ≡ total (get_or lent_sums place x) + pence
       → (other : ℕ) → total (sums_on (zip days (with_items sums (slice_set lent_sums place y)).items) other) ≤ total (sums_on whole other) + pence
   sum_within pence x y item more other =
-      subst (λ (o : Option CellSums). total (unwrap_or o no_fares) ≤ total (sums_on whole other) + pence) (sym (changed_kept (λ _. y) x y item refl other))
+      subst (λ (o : Option CellSums). total (unwrap_or o no_fares) ≤ total (sums_on whole other) + pence) (sym (changed_marks (λ _. y) x y item refl other))
       (⊎_elim
-      (λ here. subst (λ (d : ℕ). total (unwrap_or (cond (is_at (nat_cmp day) d) (Some y) (kept_on whole d)) no_fares) ≤ total (sums_on whole d) + pence) here
-      (subst (λ b. total (unwrap_or (cond b (Some y) (kept_on whole day)) no_fares) ≤ total (sums_on whole day) + pence) (sym (at_itself day)) (omega (arith, more, ap total (its_sums x item)))))
-      (λ apart. subst (λ b. total (unwrap_or (cond b (Some y) (kept_on whole other)) no_fares) ≤ total (sums_on whole other) + pence) (sym apart) (omega arith))
+      (λ here. subst (λ (d : ℕ). total (unwrap_or (cond (is_at (nat_cmp day) d) (Some y) (stored_on whole d)) no_fares) ≤ total (sums_on whole d) + pence) here
+      (subst (λ b. total (unwrap_or (cond b (Some y) (stored_on whole day)) no_fares) ≤ total (sums_on whole day) + pence) (sym (at_itself day)) (omega (arith, more, ap total (its_sums x item)))))
+      (λ apart. subst (λ b. total (unwrap_or (cond b (Some y) (stored_on whole other)) no_fares) ≤ total (sums_on whole other) + pence) (sym apart) (omega arith))
       (either day other))
 
 -- a further day
 module _ (day : ℕ) (days more : List ℕ) (sums with_more : List CellSums) (place : ℕ) (whole : Days) (step : AreInStep days sums) (at : StandsNot day days place) (is : zip days sums ≡ whole)
     (more_days : more ≡ insert days place day) (more_sums : with_more ≡ insert sums place no_fares) where
-  opened : (other : ℕ) → kept_on (zip more with_more) other ≡ cond (is_at (nat_cmp day) other) (Some no_fares) (kept_on whole other)
+  opened : (other : ℕ) → stored_on (zip more with_more) other ≡ cond (is_at (nat_cmp day) other) (Some no_fares) (stored_on whole other)
   opened other =
-      ap (λ (list : List ℕ). kept_on (zip list with_more) other) more_days ∙ ap (λ (list : List CellSums). kept_on (zip (insert days place day) list) other) more_sums
-      ∙ put_there other day days sums place no_fares step.as_long at.at ∙ ap (λ (list : Days). cond (is_at (nat_cmp day) other) (Some no_fares) (kept_on list other)) is
+      ap (λ (list : List ℕ). stored_on (zip list with_more) other) more_days ∙ ap (λ (list : List CellSums). stored_on (zip (insert days place day) list) other) more_sums
+      ∙ put_there other day days sums place no_fares step.as_long at.at ∙ ap (λ (list : Days). cond (is_at (nat_cmp day) other) (Some no_fares) (stored_on list other)) is
 
-  as_before : (other : ℕ) (b : Bool) → is_at (nat_cmp day) other ≡ b → unwrap_or (cond b (Some no_fares) (kept_on whole other)) no_fares ≡ sums_on whole other
+  as_before : (other : ℕ) (b : Bool) → is_at (nat_cmp day) other ≡ b → unwrap_or (cond b (Some no_fares) (stored_on whole other)) no_fares ≡ sums_on whole other
   as_before other false e = refl
   as_before other true e =
-      ⊎_elim (λ same. sym (ap (λ (o : Option CellSums). unwrap_or o no_fares) (subst (λ (d : ℕ). kept_on whole d ≡ None) same (kept_nowhere day days sums place whole step at is)))) (λ apart. absurd (cc)) (either day other)
+      ⊎_elim (λ same. sym (ap (λ (o : Option CellSums). unwrap_or o no_fares) (subst (λ (d : ℕ). stored_on whole d ≡ None) same (stored_nowhere day days sums place whole step at is)))) (λ apart. absurd (cc)) (either day other)
 
   pub opened_same : (other : ℕ) → sums_on (zip more with_more) other ≡ sums_on whole other
   opened_same other = ap (λ (o : Option CellSums). unwrap_or o no_fares) (opened other) ∙ as_before other (is_at (nat_cmp day) other) refl
 
-  pub opened_keeps : StayKept whole (zip more with_more)
+  pub opened_keeps : StaySummed whole (zip more with_more)
   opened_keeps other some = subst IsSome (sym (opened other)) (still (is_at (nat_cmp day) other) some)
     where
-      still : (b : Bool) → IsSome (kept_on whole other) → IsSome (cond b (Some no_fares) (kept_on whole other))
+      still : (b : Bool) → IsSome (stored_on whole other) → IsSome (cond b (Some no_fares) (stored_on whole other))
       still true some = refl
       still false some = some
 
-  pub opened_day : IsSome (kept_on (zip more with_more) day)
-  opened_day = subst IsSome (sym (opened day ∙ ap (λ b. cond b (Some no_fares) (kept_on whole day)) (at_itself day))) refl
+  pub opened_day : IsSome (stored_on (zip more with_more) day)
+  opened_day = subst IsSome (sym (opened day ∙ ap (λ b. cond b (Some no_fares) (stored_on whole day)) (at_itself day))) refl
 
   pub opened_in_step : AreInStep more with_more
   opened_in_step =

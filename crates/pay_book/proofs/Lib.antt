@@ -4,7 +4,7 @@ pub mod Sums
 pub mod Replacing
 pub mod Weeks
 pub mod Boarded
-pub mod KeptMarks
+pub mod MarksOfTaps
 pub mod LastPaid
 pub mod Written
 pub mod Marks
@@ -15,7 +15,7 @@ pub mod FewJourneys
 pub mod DisturbedRail
 pub mod DisturbedBuses
 pub mod DisturbedBy
-pub mod Keeping
+pub mod Marking
 pub mod Changing
 pub mod Accepting
 pub mod Stored

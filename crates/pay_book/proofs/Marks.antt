@@ -9,38 +9,38 @@ use Rattle.pay_rules.specs.Order.{put_in}
 use Rattle.pay_taps.specs.Words.{place_of, PutInAtPlace}
 use Rattle.pay_tables.specs.Words.{FareTables}
 use Rattle.pay_rules.specs.declared.tap.Touch.{Touch}
-use Rattle.pay_links.specs.Words.{starts_behind, starts}
+use Rattle.pay_links.specs.Words.{starts_after, starts}
 use Rattle.pay_book.specs.Rail.{starts_if_there, starts_in, mark_in, AreMarkedElsewhere}
 
 -- ---- one mark
 
-pub as_many : (tables : FareTables) (farther nearer : Option Touch) (taps : List Touch) → length (starts_behind tables farther nearer taps) ≡ length taps
+pub as_many : (tables : FareTables) (farther nearer : Option Touch) (taps : List Touch) → length (starts_after tables farther nearer taps) ≡ length taps
 as_many tables farther nearer [] = refl
 as_many tables farther nearer (tap ∷ later) = ap suc (as_many tables nearer (Some tap) later)
 
--- the tap before a place, and the one before that, behind two others
-abbrev first_behind : Option Touch → List Touch → ℕ → Option Touch
-first_behind nearer taps zero = nearer
-first_behind nearer taps (suc place) = slice_get taps place
+-- the tap before a place, and the one before that, after two others
+abbrev first_after : Option Touch → List Touch → ℕ → Option Touch
+first_after nearer taps zero = nearer
+first_after nearer taps (suc place) = slice_get taps place
 
-abbrev second_behind : Option Touch → Option Touch → List Touch → ℕ → Option Touch
-second_behind farther nearer taps zero = farther
-second_behind farther nearer taps (suc place) = first_behind nearer taps place
+abbrev second_after : Option Touch → Option Touch → List Touch → ℕ → Option Touch
+second_after farther nearer taps zero = farther
+second_after farther nearer taps (suc place) = first_after nearer taps place
 
-mark_behind : (tables : FareTables) (farther nearer : Option Touch) (taps : List Touch) (place : ℕ) →
-    get_or (starts_behind tables farther nearer taps) place true
-    ≡ starts_if_there tables (second_behind farther nearer taps place) (first_behind nearer taps place) (slice_get taps place) (slice_get taps (suc place))
-mark_behind tables farther nearer [] place = refl
-mark_behind tables farther nearer (tap ∷ later) zero = refl
-mark_behind tables farther nearer (tap ∷ later) (suc zero) = mark_behind tables nearer (Some tap) later zero
-mark_behind tables farther nearer (tap ∷ later) (suc (suc zero)) = mark_behind tables nearer (Some tap) later (suc zero)
-mark_behind tables farther nearer (tap ∷ later) (suc (suc (suc place))) = mark_behind tables nearer (Some tap) later (suc (suc place))
+mark_after : (tables : FareTables) (farther nearer : Option Touch) (taps : List Touch) (place : ℕ) →
+    get_or (starts_after tables farther nearer taps) place true
+    ≡ starts_if_there tables (second_after farther nearer taps place) (first_after nearer taps place) (slice_get taps place) (slice_get taps (suc place))
+mark_after tables farther nearer [] place = refl
+mark_after tables farther nearer (tap ∷ later) zero = refl
+mark_after tables farther nearer (tap ∷ later) (suc zero) = mark_after tables nearer (Some tap) later zero
+mark_after tables farther nearer (tap ∷ later) (suc (suc zero)) = mark_after tables nearer (Some tap) later (suc zero)
+mark_after tables farther nearer (tap ∷ later) (suc (suc (suc place))) = mark_after tables nearer (Some tap) later (suc (suc place))
 
 -- the taps next to a place decide its mark
 pub mark_by_place : (tables : FareTables) (taps : List Touch) (place : ℕ) → mark_in (starts tables taps) place ≡ starts_in tables taps place
-mark_by_place tables taps zero = mark_behind tables None None taps zero
-mark_by_place tables taps (suc zero) = mark_behind tables None None taps (suc zero)
-mark_by_place tables taps (suc (suc place)) = mark_behind tables None None taps (suc (suc place))
+mark_by_place tables taps zero = mark_after tables None None taps zero
+mark_by_place tables taps (suc zero) = mark_after tables None None taps (suc zero)
+mark_by_place tables taps (suc (suc place)) = mark_after tables None None taps (suc (suc place))
 
 -- ---- all marks, made one after another
 
@@ -55,7 +55,7 @@ same_marks (mark ∷ marks) (other ∷ others) long same =
 pub record AreMarkedBut (tables : FareTables) (taps : List Touch) (from to : ℕ) (marks : List Bool) : Type 0 where
   pub as_many : length marks ≡ length taps
   pub before : (other : ℕ) → other < from → mark_in marks other ≡ mark_in (starts tables taps) other
-  pub behind : (other : ℕ) → to ≤ other → mark_in marks other ≡ mark_in (starts tables taps) other
+  pub beyond : (other : ℕ) → to ≤ other → mark_in marks other ≡ mark_in (starts tables taps) other
 
 pub one_marked : (tables : FareTables) (taps : List Touch) (from to : ℕ) (marks : List Bool) (mark : Bool) → AreMarkedBut tables taps from to marks → from < length marks → from < to →
     mark ≡ mark_in (starts tables taps) from → AreMarkedBut tables taps (from + 1) to (set marks from mark)
@@ -64,12 +64,12 @@ one_marked tables taps from to marks mark are within below right = record {
   before = below_more (λ other. mark_in (set marks from mark) other ≡ mark_in (starts tables taps) other) from
       (λ other lt. let ne : other ≢ from = omega arith in get_or-set_other marks from other mark true ne ∙ are.before other lt)
       (get_or-set_same marks from mark true within ∙ right);
-  behind = λ other le. let ne : other ≢ from = omega arith in get_or-set_other marks from other mark true ne ∙ are.behind other le;
+  beyond = λ other le. let ne : other ≢ from = omega arith in get_or-set_other marks from other mark true ne ∙ are.beyond other le;
 }
 
 pub all_marked : (tables : FareTables) (taps : List Touch) (from to : ℕ) (marks : List Bool) → to ≤ from → AreMarkedBut tables taps from to marks → marks ≡ starts tables taps
 all_marked tables taps from to marks over are =
-    same_marks marks (starts tables taps) (are.as_many ∙ sym (as_many tables None None taps)) (λ place. ⊎_elim (are.before place) (are.behind place) (either place))
+    same_marks marks (starts tables taps) (are.as_many ∙ sym (as_many tables None None taps)) (λ place. ⊎_elim (are.before place) (are.beyond place) (either place))
   where
     either : (place : ℕ) → (place < from) ⊎ (to ≤ place)
     either place = ⊎_elim (λ h. inl h) (λ h. inr (omega arith)) (cases_lt place from)
@@ -84,13 +84,13 @@ pub marked_around : (tables : FareTables) (taps : List Touch) (place from to : �
 marked_around tables taps place from to marks are low high = record {
   as_many = are.as_many;
   before = λ other lt. are.before other (omega arith);
-  behind = λ other le. ⊎_elim (λ (far : place + 3 ≤ to). are.behind other (omega arith)) (λ (end : length marks ≤ to). over other (omega arith)) high;
+  beyond = λ other le. ⊎_elim (λ (far : place + 3 ≤ to). are.beyond other (omega arith)) (λ (end : length marks ≤ to). over other (omega arith)) high;
 }
   where
     over : (other : ℕ) → length marks ≤ other → mark_in marks other ≡ mark_in (starts tables taps) other
     over other le = past_end marks other le ∙ sym (past_end (starts tables taps) other (let long = as_many tables None None taps in let same = are.as_many in omega arith))
 
--- two places behind one are reached, or the end
+-- two places after one are reached, or the end
 pub reached : (place sum to long : ℕ) → sum ≡ min (place + 3) (2 ^ 64 - 1) → to ≡ min sum long → long < 2 ^ 64 → (place + 3 ≤ to) ⊎ (long ≤ to)
 reached place sum to long a b few = ⊎_elim (λ h. inl (omega arith)) (λ h. inr h) (cases_lt to long)
 
@@ -105,12 +105,12 @@ before_same (tap ∷ taps) (suc place) zero touch lt le = refl
 before_same (tap ∷ taps) (suc place) (suc other) touch lt le = before_same taps place other touch (omega arith) (omega arith)
 
 -- from there on it moves all one place on
-pub behind_same : (taps : List Touch) (place other : ℕ) (touch : Touch) → place ≤ other → place ≤ length taps → slice_get (insert taps place touch) (suc other) ≡ slice_get taps other
-behind_same [] zero other touch lt le = refl
-behind_same [] (suc place) other touch lt le = absurd (omega arith)
-behind_same (tap ∷ taps) zero other touch lt le = refl
-behind_same (tap ∷ taps) (suc place) zero touch lt le = absurd (omega arith)
-behind_same (tap ∷ taps) (suc place) (suc other) touch lt le = behind_same taps place other touch (omega arith) (omega arith)
+pub after_same : (taps : List Touch) (place other : ℕ) (touch : Touch) → place ≤ other → place ≤ length taps → slice_get (insert taps place touch) (suc other) ≡ slice_get taps other
+after_same [] zero other touch lt le = refl
+after_same [] (suc place) other touch lt le = absurd (omega arith)
+after_same (tap ∷ taps) zero other touch lt le = refl
+after_same (tap ∷ taps) (suc place) zero touch lt le = absurd (omega arith)
+after_same (tap ∷ taps) (suc place) (suc other) touch lt le = after_same taps place other touch (omega arith) (omega arith)
 
 pub it_stands : (taps : List Touch) (place : ℕ) (touch : Touch) → place ≤ length taps → slice_get (insert taps place touch) place ≡ Some touch
 it_stands [] zero touch le = refl
@@ -140,26 +140,26 @@ starts_before tables taps place (suc (suc other)) touch lt le =
     let here = before_same taps place (suc (suc other)) touch (omega arith) le in
     let next = before_same taps place (suc (suc (suc other))) touch lt le in cc
 
--- behind the second tap behind it they are the same, one place on
-starts_behind_it : (tables : FareTables) (taps : List Touch) (place other : ℕ) (touch : Touch) → place + 2 ≤ other → place ≤ length taps →
+-- after the second tap after it they are the same, one place on
+starts_after_it : (tables : FareTables) (taps : List Touch) (place other : ℕ) (touch : Touch) → place + 2 ≤ other → place ≤ length taps →
     starts_in tables (insert taps place touch) (suc other) ≡ starts_in tables taps other
-starts_behind_it tables taps place zero touch lt le = absurd (omega arith)
-starts_behind_it tables taps place (suc zero) touch lt le = absurd (omega arith)
-starts_behind_it tables taps place (suc (suc other)) touch lt le =
-    let farther = behind_same taps place other touch (omega arith) le in
-    let nearer = behind_same taps place (suc other) touch (omega arith) le in
-    let here = behind_same taps place (suc (suc other)) touch (omega arith) le in
-    let next = behind_same taps place (suc (suc (suc other))) touch (omega arith) le in cc
+starts_after_it tables taps place zero touch lt le = absurd (omega arith)
+starts_after_it tables taps place (suc zero) touch lt le = absurd (omega arith)
+starts_after_it tables taps place (suc (suc other)) touch lt le =
+    let farther = after_same taps place other touch (omega arith) le in
+    let nearer = after_same taps place (suc other) touch (omega arith) le in
+    let here = after_same taps place (suc (suc other)) touch (omega arith) le in
+    let next = after_same taps place (suc (suc (suc other))) touch (omega arith) le in cc
 
 pub marks_before : (tables : FareTables) (taps : List Touch) (place other : ℕ) (touch : Touch) → suc other < place → place ≤ length taps →
     mark_in (starts tables (insert taps place touch)) other ≡ mark_in (starts tables taps) other
 marks_before tables taps place other touch lt le =
     mark_by_place tables (insert taps place touch) other ∙ starts_before tables taps place other touch lt le ∙ sym (mark_by_place tables taps other)
 
-pub marks_behind_it : (tables : FareTables) (taps : List Touch) (place other : ℕ) (touch : Touch) → place + 2 ≤ other → place ≤ length taps →
+pub marks_after_it : (tables : FareTables) (taps : List Touch) (place other : ℕ) (touch : Touch) → place + 2 ≤ other → place ≤ length taps →
     mark_in (starts tables (insert taps place touch)) (suc other) ≡ mark_in (starts tables taps) other
-marks_behind_it tables taps place other touch lt le =
-    mark_by_place tables (insert taps place touch) (suc other) ∙ starts_behind_it tables taps place other touch lt le ∙ sym (mark_by_place tables taps other)
+marks_after_it tables taps place other touch lt le =
+    mark_by_place tables (insert taps place touch) (suc other) ∙ starts_after_it tables taps place other touch lt le ∙ sym (mark_by_place tables taps other)
 
 -- once a tap is put in, and a mark beside it, the marks are right elsewhere
 pub marked_with_one_more : (tables : FareTables) (taps : List Touch) (place : ℕ) (touch : Touch) (mark : Bool) → place ≤ length taps →
@@ -167,18 +167,18 @@ pub marked_with_one_more : (tables : FareTables) (taps : List Touch) (place : �
 marked_with_one_more tables taps place touch mark le = record {
   as_many = length-insert (starts tables taps) place mark fits ∙ ap (λ (n : ℕ). n + 1) (as_many tables None None taps) ∙ sym (length-insert taps place touch le);
   before = λ other lt. get_or-insert_below (starts tables taps) place mark true other (omega arith) fits ∙ sym (marks_before tables taps place other touch lt le);
-  behind = behind;
+  beyond = beyond;
 }
   where
     fits : place ≤ length (starts tables taps)
     fits = let long = as_many tables None None taps in omega arith
 
-    behind : (other : ℕ) → place + 2 < other → mark_in (insert (starts tables taps) place mark) other ≡ mark_in (starts tables (insert taps place touch)) other
-    behind zero lt = absurd (omega arith)
-    behind (suc other) lt =
+    beyond : (other : ℕ) → place + 2 < other → mark_in (insert (starts tables taps) place mark) other ≡ mark_in (starts tables (insert taps place touch)) other
+    beyond zero lt = absurd (omega arith)
+    beyond (suc other) lt =
         let on : suc other ≡ other + 1 = omega arith in
         ap (mark_in (insert (starts tables taps) place mark)) on ∙ get_or-insert_above (starts tables taps) place mark true other (omega arith) fits
-        ∙ sym (marks_behind_it tables taps place other touch (omega arith) le)
+        ∙ sym (marks_after_it tables taps place other touch (omega arith) le)
 
 -- once a tap is taken out, and its mark, the marks are right elsewhere
 pub marked_with_one_fewer : (tables : FareTables) (taps : List Touch) (place : ℕ) (touch : Touch) → slice_get taps place ≡ Some touch →
@@ -197,9 +197,9 @@ marked_with_one_fewer tables taps place touch there =
     record {
       as_many = omega arith;
       before = λ other lt. get_or-remove_below (starts tables taps) place true other (omega arith) fits ∙ was other ∙ marks_before tables fewer place other touch lt le;
-      behind = λ other lt. let on : other + 1 ≡ suc other = omega arith in
+      beyond = λ other lt. let on : other + 1 ≡ suc other = omega arith in
           get_or-remove_above (starts tables taps) place true other (omega arith) fits ∙ ap (mark_in (starts tables taps)) on ∙ was (suc other)
-          ∙ marks_behind_it tables fewer place other touch (omega arith) le;
+          ∙ marks_after_it tables fewer place other touch (omega arith) le;
     }
 
 -- the same of a timeline and its marks after they were changed: a tap was put in at its place, and a mark there

@@ -1,4 +1,4 @@
--- The sums of some days one behind another, as they lie.
+-- The sums of some days one after another, as they lie.
 use Rattle.std.proofs.Common.{◌≡◌, ℕ, zero, suc, ◌+◌, ◌-◌, ◌<◌, ◌≤◌, cond, Option, Some, None, List, [], ◌∷◌, ◌++◌, length, take, drop, true, refl, sym, ap, ◌∙◌, subst, arith, length-append}
 use Rattle.std.specs.BTreeMap.{is_at}
 use Rattle.std.specs.List.{zip, range_with_len, AllByRecursion}
@@ -6,9 +6,9 @@ use Rattle.std.specs.Ordering.{nat_cmp}
 use mathlib.Core.Logic.{⊎_elim}
 use Rattle.std.proofs.lemmas.Bool.{cases_lt}
 use Rattle.pay_caps.specs.Words.{CellSums}
-use Rattle.pay_book.specs.Days.{Days, kept_on, if_kept, kept_of}
+use Rattle.pay_book.specs.Days.{Days, stored_on, if_stored, stored_of}
 use Rattle.pay_book.specs.InStep.{AreRising, IsPlaceOf}
-use Rattle.pay_book.proofs.InStep.{at_itself, not_before, not_behind, none_behind, all_further}
+use Rattle.pay_book.proofs.InStep.{at_itself, not_before, not_after, none_after, all_further}
 
 -- ---- places
 
@@ -20,7 +20,7 @@ no_sooner first other (d ∷ days) (suc from) (suc to) le a b = let rest = no_so
 
 -- ---- lists of nothing
 
-none_of_none : (those : List ℕ) → kept_of [] those ≡ []
+none_of_none : (those : List ℕ) → stored_of [] those ≡ []
 none_of_none [] = refl
 none_of_none (day ∷ those) = none_of_none those
 
@@ -31,17 +31,17 @@ none_taken zero (suc m) [] none = refl
 none_taken (suc k) zero [] none = refl
 none_taken (suc k) (suc m) [] none = refl
 
--- ---- days behind one
+-- ---- days after one
 
-skip_head : (d : ℕ) (s : CellSums) (rest : Days) (first n : ℕ) → d < first → kept_of ((d, s) ∷ rest) (range_with_len first n) ≡ kept_of rest (range_with_len first n)
+skip_head : (d : ℕ) (s : CellSums) (rest : Days) (first n : ℕ) → d < first → stored_of ((d, s) ∷ rest) (range_with_len first n) ≡ stored_of rest (range_with_len first n)
 skip_head d s rest first zero lt = refl
 skip_head d s rest first (suc n) lt =
-    ap (λ (list : List CellSums). if_kept (kept_on ((d, s) ∷ rest) first) ++ list) (skip_head d s rest (first + 1) n (omega arith))
-    ∙ ap (λ b. if_kept (cond b (Some s) (kept_on rest first)) ++ kept_of rest (range_with_len (first + 1) n)) (not_before first d lt)
+    ap (λ (list : List CellSums). if_stored (stored_on ((d, s) ∷ rest) first) ++ list) (skip_head d s rest (first + 1) n (omega arith))
+    ∙ ap (λ b. if_stored (cond b (Some s) (stored_on rest first)) ++ stored_of rest (range_with_len (first + 1) n)) (not_before first d lt)
 
 -- of days from one on, as far as before another
 from_one_on : (n first : ℕ) (days : List ℕ) (sums : List CellSums) (to : ℕ) → length days ≡ length sums → AreRising days → AllByRecursion (λ o. first ≤ o) days → IsPlaceOf (first + n) days to
-    → take to sums ≡ kept_of (zip days sums) (range_with_len first n)
+    → take to sums ≡ stored_of (zip days sums) (range_with_len first n)
 from_one_on zero first [] sums to long rising all at = ap (λ (k : ℕ). take k sums) at
 from_one_on zero first (d ∷ days) sums zero long rising all at = refl
 from_one_on zero first (d ∷ days) sums (suc to) long rising all at = absurd (omega (arith, all.0, at.0))
@@ -50,12 +50,12 @@ from_one_on (suc n) first (d ∷ days) [] to long rising all at = absurd (omega 
 from_one_on (suc n) first (d ∷ days) (s ∷ sums) to long rising all at =
     ⊎_elim
     (λ lt.
-    let next = not_behind first d lt in
-    let here : kept_on (zip (d ∷ days) (s ∷ sums)) first ≡ None = ap (λ b. cond b (Some s) (kept_on (zip days sums) first)) next ∙ none_behind first days sums (all_further first d days lt rising.0) in
+    let next = not_after first d lt in
+    let here : stored_on (zip (d ∷ days) (s ∷ sums)) first ≡ None = ap (λ b. cond b (Some s) (stored_on (zip days sums) first)) next ∙ none_after first days sums (all_further first d days lt rising.0) in
     let further : AllByRecursion (λ o. first + 1 ≤ o) (d ∷ days) = (omega arith, all_above (first + 1) d days (omega arith) rising.0) in
     let place : IsPlaceOf (first + 1 + n) (d ∷ days) to = subst (λ (k : ℕ). IsPlaceOf k (d ∷ days) to) (omega arith) at in
     from_one_on n (first + 1) (d ∷ days) (s ∷ sums) to long rising further place
-    ∙ sym (ap (λ (o : Option CellSums). if_kept o ++ kept_of (zip (d ∷ days) (s ∷ sums)) (range_with_len (first + 1) n)) here))
+    ∙ sym (ap (λ (o : Option CellSums). if_stored o ++ stored_of (zip (d ∷ days) (s ∷ sums)) (range_with_len (first + 1) n)) here))
     (λ le.
     let same : d ≡ first = omega (arith, all.0) in
     its (λ k place. from_one_on n (first + 1) days sums k (omega arith) rising.1 (all_above (first + 1) d days (omega arith) rising.0) place) to same at)
@@ -65,41 +65,41 @@ from_one_on (suc n) first (d ∷ days) (s ∷ sums) to long rising all at =
     all_above low d [] le all = tt
     all_above low d (o ∷ days) le all = (omega (arith, all.0), all_above low d days le all.1)
 
-    its : ((k : ℕ) → IsPlaceOf (first + 1 + n) days k → take k sums ≡ kept_of (zip days sums) (range_with_len (first + 1) n)) → (to : ℕ) → d ≡ first → IsPlaceOf (first + suc n) (d ∷ days) to → take to (s ∷ sums) ≡ kept_of (zip (d ∷ days) (s ∷ sums)) (range_with_len first (suc n))
+    its : ((k : ℕ) → IsPlaceOf (first + 1 + n) days k → take k sums ≡ stored_of (zip days sums) (range_with_len (first + 1) n)) → (to : ℕ) → d ≡ first → IsPlaceOf (first + suc n) (d ∷ days) to → take to (s ∷ sums) ≡ stored_of (zip (d ∷ days) (s ∷ sums)) (range_with_len first (suc n))
     its rest zero same at = absurd (omega arith)
     its rest (suc to) same at =
         let place : IsPlaceOf (first + 1 + n) days to = subst (λ (k : ℕ). IsPlaceOf k days to) (omega arith) at.1 in
-        let here : kept_on (zip (d ∷ days) (s ∷ sums)) first ≡ Some s = ap (λ b. cond b (Some s) (kept_on (zip days sums) first)) (subst (λ (o : ℕ). is_at (nat_cmp first) o ≡ true) (sym same) (at_itself first)) in
+        let here : stored_on (zip (d ∷ days) (s ∷ sums)) first ≡ Some s = ap (λ b. cond b (Some s) (stored_on (zip days sums) first)) (subst (λ (o : ℕ). is_at (nat_cmp first) o ≡ true) (sym same) (at_itself first)) in
         ap (λ (list : List CellSums). s ∷ list)
         (rest to place ∙ sym (skip_head d s (zip days sums) (first + 1) n (omega arith)))
-        ∙ sym (ap (λ (o : Option CellSums). if_kept o ++ kept_of (zip (d ∷ days) (s ∷ sums)) (range_with_len (first + 1) n)) here)
+        ∙ sym (ap (λ (o : Option CellSums). if_stored o ++ stored_of (zip (d ∷ days) (s ∷ sums)) (range_with_len (first + 1) n)) here)
 
 -- ---- from the place of the first on
 
-pub slice_kept : (first n : ℕ) (days : List ℕ) (sums : List CellSums) (from to : ℕ) → length days ≡ length sums → AreRising days → IsPlaceOf first days from → IsPlaceOf (first + n) days to
-    → take (to - from) (drop from sums) ≡ kept_of (zip days sums) (range_with_len first n)
-slice_kept first n [] [] from to long rising a b = none_taken (to - from) from [] refl ∙ sym (none_of_none (range_with_len first n))
-slice_kept first n [] (s ∷ sums) from to long rising a b = absurd (omega arith)
-slice_kept first n (d ∷ days) [] from to long rising a b = absurd (omega arith)
-slice_kept first n (d ∷ days) (s ∷ sums) zero to long rising a b =
+pub slice_stored : (first n : ℕ) (days : List ℕ) (sums : List CellSums) (from to : ℕ) → length days ≡ length sums → AreRising days → IsPlaceOf first days from → IsPlaceOf (first + n) days to
+    → take (to - from) (drop from sums) ≡ stored_of (zip days sums) (range_with_len first n)
+slice_stored first n [] [] from to long rising a b = none_taken (to - from) from [] refl ∙ sym (none_of_none (range_with_len first n))
+slice_stored first n [] (s ∷ sums) from to long rising a b = absurd (omega arith)
+slice_stored first n (d ∷ days) [] from to long rising a b = absurd (omega arith)
+slice_stored first n (d ∷ days) (s ∷ sums) zero to long rising a b =
     let cut : to - 0 ≡ to = omega arith in
     ap (λ (k : ℕ). take k (s ∷ sums)) cut ∙ from_one_on n first (d ∷ days) (s ∷ sums) to long rising (a, all_above days rising.0) b
   where
     all_above : (rest : List ℕ) → AllByRecursion (λ o. d < o) rest → AllByRecursion (λ o. first ≤ o) rest
     all_above [] all = tt
     all_above (o ∷ rest) all = (omega (arith, a, all.0), all_above rest all.1)
-slice_kept first n (d ∷ days) (s ∷ sums) (suc from) zero long rising a b = absurd (omega (arith, a.0, b))
-slice_kept first n (d ∷ days) (s ∷ sums) (suc from) (suc to) long rising a b =
+slice_stored first n (d ∷ days) (s ∷ sums) (suc from) zero long rising a b = absurd (omega (arith, a.0, b))
+slice_stored first n (d ∷ days) (s ∷ sums) (suc from) (suc to) long rising a b =
     let same : suc to - suc from ≡ to - from = omega arith in
-    ap (λ (k : ℕ). take k (drop from sums)) same ∙ slice_kept first n days sums from to (omega arith) rising.1 a.1 b.1 ∙ sym (skip_head d s (zip days sums) first n a.0)
+    ap (λ (k : ℕ). take k (drop from sums)) same ∙ slice_stored first n days sums from to (omega arith) rising.1 a.1 b.1 ∙ sym (skip_head d s (zip days sums) first n a.0)
 
 -- ---- there are no more than days
 
-at_most_one : (o : Option CellSums) → length (if_kept o) ≤ 1
+at_most_one : (o : Option CellSums) → length (if_stored o) ≤ 1
 at_most_one None = omega arith
 at_most_one (Some sums) = omega arith
 
-pub few_kept : (days : Days) (first n : ℕ) → length (kept_of days (range_with_len first n)) ≤ n
-few_kept days first zero = omega arith
-few_kept days first (suc n) =
-    omega (arith, length-append (if_kept (kept_on days first)) (kept_of days (range_with_len (first + 1) n)), at_most_one (kept_on days first), few_kept days (first + 1) n)
+pub few_stored : (days : Days) (first n : ℕ) → length (stored_of days (range_with_len first n)) ≤ n
+few_stored days first zero = omega arith
+few_stored days first (suc n) =
+    omega (arith, length-append (if_stored (stored_on days first)) (stored_of days (range_with_len (first + 1) n)), at_most_one (stored_on days first), few_stored days (first + 1) n)

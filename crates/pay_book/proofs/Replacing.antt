@@ -13,14 +13,14 @@ use Rattle.pay_rules.specs.JourneyFares.{fare}
 use Rattle.pay_rules.specs.DayPrices.{fares}
 use Rattle.pay_rules.specs.Journeys.{is_on}
 use Rattle.pay_rules.specs.Prices.{journeys_on}
-use Rattle.pay_book.specs.Days.{Days, sums_on, day_of, AreKept, AreSums, AreThere, HaveRoomFor, StayKept}
+use Rattle.pay_book.specs.Days.{Days, sums_on, day_of, AreSummed, AreSums, AreThere, HaveRoomFor, StaySummed}
 
 -- ---- the parts of a day
 
 parts_on : (left some right : List Journey) (day : ℕ) → journeys_on (left ++ some ++ right) day ≡ journeys_on left day ++ journeys_on some day ++ journeys_on right day
 parts_on left some right day = filter-append (is_on day) (left ++ some) right ∙ ap (λ (l : List Journey). l ++ journeys_on right day) (filter-append (is_on day) left some)
 
--- those before and behind a journey on its own day
+-- those before and after a journey on its own day
 around : (done : List Journey) (one : Journey) (rest : List Journey) → journeys_on (done ++ one ∷ rest) (day_of one) ≡ journeys_on done (day_of one) ++ one ∷ journeys_on rest (day_of one)
 around done one rest =
     filter-append (is_on (day_of one)) done (one ∷ rest)
@@ -28,24 +28,24 @@ around done one rest =
 
 -- ---- what is kept
 
-kept_front : (days : Days) (front back : List Journey) → AreKept days (front ++ back) → AreKept days front
-kept_front days [] back h = tt
-kept_front days (one ∷ front) back h = (h.0, kept_front days front back h.1)
+stored_front : (days : Days) (front back : List Journey) → AreSummed days (front ++ back) → AreSummed days front
+stored_front days [] back h = tt
+stored_front days (one ∷ front) back h = (h.0, stored_front days front back h.1)
 
-kept_back : (days : Days) (front back : List Journey) → AreKept days (front ++ back) → AreKept days back
-kept_back days [] back h = h
-kept_back days (one ∷ front) back h = kept_back days front back h.1
+stored_back : (days : Days) (front back : List Journey) → AreSummed days (front ++ back) → AreSummed days back
+stored_back days [] back h = h
+stored_back days (one ∷ front) back h = stored_back days front back h.1
 
-kept_both : (days : Days) (front back : List Journey) → AreKept days front → AreKept days back → AreKept days (front ++ back)
-kept_both days [] back f b = b
-kept_both days (one ∷ front) back f b = (f.0, kept_both days front back f.1 b)
+stored_both : (days : Days) (front back : List Journey) → AreSummed days front → AreSummed days back → AreSummed days (front ++ back)
+stored_both days [] back f b = b
+stored_both days (one ∷ front) back f b = (f.0, stored_both days front back f.1 b)
 
-pub kept_still : (before now : Days) (list : List Journey) → StayKept before now → AreKept before list → AreKept now list
-kept_still before now [] stay h = tt
-kept_still before now (one ∷ list) stay h = (stay (day_of one) h.0, kept_still before now list stay h.1)
+pub stored_still : (before now : Days) (list : List Journey) → StaySummed before now → AreSummed before list → AreSummed now list
+stored_still before now [] stay h = tt
+stored_still before now (one ∷ list) stay h = (stay (day_of one) h.0, stored_still before now list stay h.1)
 
-pub middle_kept : (tables : FareTables) (days : Days) (left some right : List Journey) → AreSums tables days (left ++ some ++ right) → AreKept days some
-middle_kept tables days left some right are = kept_back days left some (kept_front days (left ++ some) right are.kept)
+pub middle_stored : (tables : FareTables) (days : Days) (left some right : List Journey) → AreSums tables days (left ++ some ++ right) → AreSummed days some
+middle_stored tables days left some right are = stored_back days left some (stored_front days (left ++ some) right are.held)
 
 -- ---- taken
 
@@ -91,11 +91,11 @@ sums_then tables law now last left new right are added day =
     added day ∙ ap (all_added tables (journeys_on new day)) (are day) ∙ law (journeys_on left day) (journeys_on new day) (journeys_on right day)
     ∙ ap (cells_of tables) (sym (parts_on left new right day))
 
-pub kept_then : (tables : FareTables) (days last : Days) (left old new right : List Journey) → AreSums tables days (left ++ old ++ right) → AreKept days new → StayKept days last → AreKept last (left ++ new ++ right)
-kept_then tables days last left old new right are kept stay =
-    kept_still days last (left ++ new ++ right) stay
-    (kept_both days (left ++ new) right (kept_both days left new (kept_front days left old (kept_front days (left ++ old) right are.kept)) kept) (kept_back days (left ++ old) right are.kept))
+pub stored_then : (tables : FareTables) (days last : Days) (left old new right : List Journey) → AreSums tables days (left ++ old ++ right) → AreSummed days new → StaySummed days last → AreSummed last (left ++ new ++ right)
+stored_then tables days last left old new right are held stay =
+    stored_still days last (left ++ new ++ right) stay
+    (stored_both days (left ++ new) right (stored_both days left new (stored_front days left old (stored_front days (left ++ old) right are.held)) held) (stored_back days (left ++ old) right are.held))
 
 -- days of which more sums are kept, and the same, are right for the same journeys
-pub sums_stay : (before now : Days) → ((day : ℕ) → sums_on now day ≡ sums_on before day) → StayKept before now → (tables : FareTables) (list : List Journey) → AreSums tables before list → AreSums tables now list
-sums_stay before now same stay tables list are = record { kept = kept_still before now list stay are.kept; sums = λ day. same day ∙ are.sums day }
+pub sums_stay : (before now : Days) → ((day : ℕ) → sums_on now day ≡ sums_on before day) → StaySummed before now → (tables : FareTables) (list : List Journey) → AreSums tables before list → AreSums tables now list
+sums_stay before now same stay tables list are = record { held = stored_still before now list stay are.held; sums = λ day. same day ∙ are.sums day }

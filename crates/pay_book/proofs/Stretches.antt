@@ -10,9 +10,9 @@ use Rattle.pay_tables.specs.Words.{FareTables}
 use Rattle.pay_rules.specs.declared.tap.Touch.{Touch}
 use Rattle.pay_links.specs.Words.{starts}
 use Rattle.pay_book.specs.declared.stretch.Around.{Around}
-use Rattle.pay_book.specs.Rail.{second_before, starts_if_there, starts_in, mark_in, IsCut, IsAround, IsPlaced, IsFirstPlace, IsLastPlace, IsStretch, StandsThere, starts_at_it, starts_before_it, starts_behind_it, starts_further, GoesOnInOne}
+use Rattle.pay_book.specs.Rail.{second_before, starts_if_there, starts_in, mark_in, IsCut, IsAround, IsPlaced, IsFirstPlace, IsLastPlace, IsStretch, StandsThere, starts_at_it, starts_before_it, starts_after_it, starts_further, GoesOnInOne}
 use Rattle.pay_book.specs.Fewer.{fewer_of}
-use Rattle.pay_book.proofs.Marks.{as_many, put_back, before_same, behind_same, it_stands, mark_by_place, marks_before, marks_behind_it}
+use Rattle.pay_book.proofs.Marks.{as_many, put_back, before_same, after_same, it_stands, mark_by_place, marks_before, marks_after_it}
 
 -- where a journey starts the taps are cut
 pub cut_at : (tables : FareTables) (taps : List Touch) (place : ℕ) → place ≤ length taps → mark_in (starts tables taps) place ≡ true → IsCut tables taps place
@@ -38,7 +38,7 @@ at_it tables taps place touch le =
     let farther = second_same taps place place touch (omega arith) le in
     let nearer = first_same taps place place touch (omega arith) le in
     let here = it_stands taps place touch le in
-    let next = behind_same taps place place touch (omega arith) le in cc
+    let next = after_same taps place place touch (omega arith) le in cc
 
 -- at the tap before it
 before_it : (tables : FareTables) (taps : List Touch) (place : ℕ) (touch : Touch) → suc place ≤ length taps →
@@ -49,23 +49,23 @@ before_it tables taps place touch le =
     let here = before_same taps (suc place) place touch (omega arith) le in
     let next = it_stands taps (suc place) touch le in cc
 
--- at the tap behind it
-behind_it : (tables : FareTables) (taps : List Touch) (place : ℕ) (touch : Touch) → place ≤ length taps →
+-- at the tap after it
+after_it : (tables : FareTables) (taps : List Touch) (place : ℕ) (touch : Touch) → place ≤ length taps →
     starts_in tables (insert taps place touch) (suc place) ≡ starts_if_there tables (touch_before taps place) (Some touch) (slice_get taps place) (slice_get taps (suc place))
-behind_it tables taps place touch le =
+after_it tables taps place touch le =
     let farther = first_same taps place place touch (omega arith) le in
     let nearer = it_stands taps place touch le in
-    let here = behind_same taps place place touch (omega arith) le in
-    let next = behind_same taps place (suc place) touch (omega arith) le in cc
+    let here = after_same taps place place touch (omega arith) le in
+    let next = after_same taps place (suc place) touch (omega arith) le in cc
 
--- at the second tap behind it
+-- at the second tap after it
 further : (tables : FareTables) (taps : List Touch) (place : ℕ) (touch : Touch) → place ≤ length taps →
     starts_in tables (insert taps place touch) (suc (suc place)) ≡ starts_if_there tables (Some touch) (slice_get taps place) (slice_get taps (suc place)) (slice_get taps (suc (suc place)))
 further tables taps place touch le =
     let farther = it_stands taps place touch le in
-    let nearer = behind_same taps place place touch (omega arith) le in
-    let here = behind_same taps place (suc place) touch (omega arith) le in
-    let next = behind_same taps place (suc (suc place)) touch (omega arith) le in cc
+    let nearer = after_same taps place place touch (omega arith) le in
+    let here = after_same taps place (suc place) touch (omega arith) le in
+    let next = after_same taps place (suc (suc place)) touch (omega arith) le in cc
 
 -- ---- where a journey goes on
 
@@ -90,7 +90,7 @@ goes_on_ahead tables fewer touch (suc place) near le around not_there some =
     let back : place ≡ suc place - 1 = omega arith in
     subst (λ (n : ℕ). GoesOnInOne tables fewer n (insert fewer (suc place) touch) n) back (goes_before tables fewer touch place near le around not_there)
 
--- at the second tap behind it
+-- at the second tap after it
 goes_on_further : (tables : FareTables) (fewer : List Touch) (touch : Touch) (place : ℕ) (near : Around) → place ≤ length fewer → IsAround fewer place near →
     starts_further tables near touch ≡ false → GoesOnInOne tables fewer (suc place) (insert fewer place touch) (suc (suc place))
 goes_on_further tables fewer touch place near le around not_there =
@@ -196,32 +196,32 @@ pub last_place_from_marks : (tables : FareTables) (fewer : List Touch) (touch : 
 last_place_from_marks tables fewer touch place to over within none goes a b =
     let long = long_more fewer place touch (omega arith) in
     record {
-      to_behind = over;
-      none_behind = none;
-      goes_on_behind = goes;
+      to_after = over;
+      none_after = none;
+      goes_on_after = goes;
       within = within;
       fewer_to = cut_at tables fewer to within a;
       more_to = cut_at tables (insert fewer place touch) (suc to) (omega arith) b;
     }
 
-pub last_behind_it : (tables : FareTables) (fewer : List Touch) (touch : Touch) (place : ℕ) (near : Around) → place ≤ length fewer → IsAround fewer place near →
-    starts_behind_it tables near touch ≡ true → IsLastPlace tables fewer touch place place
-last_behind_it tables fewer touch place near le around there =
+pub last_after_it : (tables : FareTables) (fewer : List Touch) (touch : Touch) (place : ℕ) (near : Around) → place ≤ length fewer → IsAround fewer place near →
+    starts_after_it tables near touch ≡ true → IsLastPlace tables fewer touch place place
+last_after_it tables fewer touch place near le around there =
     let both = and_parts _ _ there in
     let with_it : starts_if_there tables near.first (Some touch) near.here near.next ≡ true = both.0 in
     let without : starts_if_there tables near.second near.first near.here near.next ≡ true = both.1 in
     let a : starts_in tables fewer place ≡ true = cc in
-    let window = behind_it tables fewer place touch le in
+    let window = after_it tables fewer place touch le in
     let b : starts_in tables (insert fewer place touch) (suc place) ≡ true = cc in
     last_place_from_marks tables fewer touch place place (omega arith) le (λ other lt far. absurd (omega arith)) (λ far. absurd (omega (arith, far))) (mark_by_place tables fewer place ∙ a)
     (mark_by_place tables (insert fewer place touch) (suc place) ∙ b)
 
 -- what is no start is there
-none_starts_behind : (tables : FareTables) (fewer : List Touch) (touch : Touch) (place : ℕ) (near : Around) → IsAround fewer place near →
-    starts_behind_it tables near touch ≡ false → place < length fewer
-none_starts_behind tables fewer touch place near around not_there = ⊎_elim (λ h. h)
+none_starts_after : (tables : FareTables) (fewer : List Touch) (touch : Touch) (place : ℕ) (near : Around) → IsAround fewer place near →
+    starts_after_it tables near touch ≡ false → place < length fewer
+none_starts_after tables fewer touch place near around not_there = ⊎_elim (λ h. h)
     (λ over. let none : near.here ≡ None = around.here ∙ slice_get_past fewer place over in
-    let starts : starts_behind_it tables near touch ≡ true = rw none refl in absurd (cc))
+    let starts : starts_after_it tables near touch ≡ true = rw none refl in absurd (cc))
     (cases_lt place (length fewer))
 
 none_starts_further : (tables : FareTables) (fewer : List Touch) (touch : Touch) (place : ℕ) (near : Around) → IsAround fewer place near →
@@ -232,15 +232,15 @@ none_starts_further tables fewer touch place near around not_there = ⊎_elim (�
     (cases_lt (suc place) (length fewer))
 
 pub last_further : (tables : FareTables) (fewer : List Touch) (touch : Touch) (place to : ℕ) (near : Around) → place ≤ length fewer → IsAround fewer place near →
-    starts_behind_it tables near touch ≡ false → starts_further tables near touch ≡ true → to ≡ suc place → IsLastPlace tables fewer touch place to
-last_further tables fewer touch place to near le around not_behind there on =
+    starts_after_it tables near touch ≡ false → starts_further tables near touch ≡ true → to ≡ suc place → IsLastPlace tables fewer touch place to
+last_further tables fewer touch place to near le around not_after there on =
     let both = and_parts _ _ there in
     let with_it : starts_if_there tables (Some touch) near.here near.next near.later ≡ true = both.0 in
     let without : starts_if_there tables near.first near.here near.next near.later ≡ true = both.1 in
     let a : starts_in tables fewer (suc place) ≡ true = cc in
     let window = further tables fewer place touch le in
     let b : starts_in tables (insert fewer place touch) (suc (suc place)) ≡ true = cc in
-    let within = none_starts_behind tables fewer touch place near around not_behind in
+    let within = none_starts_after tables fewer touch place near around not_after in
     let last : IsLastPlace tables fewer touch place (suc place) = last_place_from_marks tables fewer touch place (suc place) (omega arith) (omega arith) (λ other lt far. absurd (omega arith)) (λ far. absurd (omega (arith, far))) (mark_by_place tables fewer (suc place) ∙ a)
     (mark_by_place tables (insert fewer place touch) (suc (suc place)) ∙ b) in
     subst (IsLastPlace tables fewer touch place) (sym on) last
@@ -262,10 +262,10 @@ last_by_mark tables fewer touch true place first to marks near around placed not
     let many : length marks ≡ suc (length fewer) = ap length placed.marked ∙ as_many tables None None (insert fewer place touch) ∙ long_more fewer place touch placed.inside in
     let on : first + more ≡ suc to = omega arith in
     let same : (other : ℕ) → place + 2 ≤ other → mark_in (starts tables fewer) other ≡ mark_in marks (suc other) =
-    λ other le. sym (marks_behind_it tables fewer place other touch le placed.inside) ∙ ap (λ (list : List Bool). mark_in list (suc other)) (sym placed.marked) in
+    λ other le. sym (marks_after_it tables fewer place other touch le placed.inside) ∙ ap (λ (list : List Bool). mark_in list (suc other)) (sym placed.marked) in
     let a : mark_in (starts tables fewer) to ≡ true = same to (omega arith) ∙ ap (mark_in marks) (sym on) ∙ marked in
     last_place_from_marks tables fewer touch place to (omega arith) (omega arith) (λ other lt before. same other (omega arith) ∙ none (suc other) (omega arith) (omega arith))
-    (λ far. goes_on_further tables fewer touch place near placed.inside around not_further) a (marks_behind_it tables fewer place to touch (omega arith) placed.inside ∙ a)
+    (λ far. goes_on_further tables fewer touch place near placed.inside around not_further) a (marks_after_it tables fewer place to touch (omega arith) placed.inside ∙ a)
 last_by_mark tables fewer touch false place first to marks near around placed not_further at more far within marked none =
     let room = none_starts_further tables fewer touch place near around not_further in
     let many : length marks ≡ length fewer = ap length placed.marked ∙ as_many tables None None fewer in
@@ -273,7 +273,7 @@ last_by_mark tables fewer touch false place first to marks near around placed no
     let same : (other : ℕ) → mark_in (starts tables fewer) other ≡ mark_in marks other = λ other. ap (λ (list : List Bool). mark_in list other) (sym placed.marked) in
     let a : mark_in (starts tables fewer) to ≡ true = same to ∙ ap (mark_in marks) (sym on) ∙ marked in
     last_place_from_marks tables fewer touch place to (omega arith) (omega arith) (λ other lt before. same other ∙ none other (omega arith) (omega arith))
-    (λ far. goes_on_further tables fewer touch place near placed.inside around not_further) a (marks_behind_it tables fewer place to touch (omega arith) placed.inside ∙ a)
+    (λ far. goes_on_further tables fewer touch place near placed.inside around not_further) a (marks_after_it tables fewer place to touch (omega arith) placed.inside ∙ a)
 
 -- ---- both
 
@@ -295,12 +295,12 @@ pub from_to : (tables : FareTables) (fewer : List Touch) (touch : Touch) (place 
     IsStretch tables fewer touch place from to
 from_to tables fewer touch place from to a b = record {
   from_before = a.from_before;
-  to_behind = b.to_behind;
+  to_after = b.to_after;
   within = b.within;
   none_before = a.none_before;
-  none_behind = b.none_behind;
+  none_after = b.none_after;
   goes_on_before = a.goes_on_before;
-  goes_on_behind = b.goes_on_behind;
+  goes_on_after = b.goes_on_after;
   fewer_from = a.fewer_from;
   fewer_to = b.fewer_to;
   more_from = a.more_from;

@@ -10,9 +10,9 @@ use Rattle.pay_caps.specs.Words.{CellSums, cell_of, sum_at, all_taken}
 use Rattle.pay_rules.specs.JourneyFares.{fare}
 use Rattle.pay_rules.specs.Journeys.{is_on}
 use Rattle.pay_rules.specs.Prices.{journeys_on}
-use Rattle.pay_book.specs.Days.{Days, kept_on, sums_on, day_of, AreKept, AreThere, StayKept}
+use Rattle.pay_book.specs.Days.{Days, stored_on, sums_on, day_of, AreSummed, AreThere, StaySummed}
 
--- the journey at an index, and those behind it
+-- the journey at an index, and those after it
 pub next_of : (list : List Journey) (i : ℕ) (journey : Journey) → i < length list → journey ≡ get_or list i journey → drop i list ≡ journey ∷ drop (i + 1) list
 next_of list i journey below same =
     drop-cons list i journey below ∙ ap (λ (j : Journey). j ∷ drop (suc i) list) (sym same) ∙ ap (λ (k : ℕ). journey ∷ drop k list) (sym (add-one i))
@@ -28,7 +28,7 @@ one_more_done change before now list i journey day below same is =
     ∙ ap (fold change before) (sym (filter-append (is_on day) (journey ∷ []) rest))
     ∙ ap (λ (l : List Journey). fold change before (journeys_on l day)) (sym (next_of list i journey below same))
 
--- the fares of those behind one are there, once its own was taken
+-- the fares of those after one are there, once its own was taken
 pub rest_there : (tables : FareTables) (before now : Days) (list : List Journey) (i : ℕ) (journey : Journey) → i < length list → journey ≡ get_or list i journey
     → ((day : ℕ) → sums_on now day ≡ all_taken tables (journeys_on (journey ∷ []) day) (sums_on before day))
     → AreThere tables before (drop i list) → AreThere tables now (drop (i + 1) list)
@@ -47,18 +47,18 @@ pub next_there : (tables : FareTables) (days : Days) (list : List Journey) (i : 
 next_there tables days list i journey below same there = there [] journey (drop (i + 1) list) (next_of list i journey below same)
 
 -- sums are kept of the day of the next one
-pub next_kept : (before now : Days) (list : List Journey) (i : ℕ) (journey : Journey) → i < length list → journey ≡ get_or list i journey
-    → AreKept before list → StayKept before now → IsSome (kept_on now (day_of journey))
-next_kept before now list i journey below same kept stay =
-    stay (day_of journey) (subst (λ (j : Journey). IsSome (kept_on before (day_of j))) (sym same) (All-from_recursion (λ j. IsSome (kept_on before (day_of j))) list kept i journey below))
+pub next_stored : (before now : Days) (list : List Journey) (i : ℕ) (journey : Journey) → i < length list → journey ≡ get_or list i journey
+    → AreSummed before list → StaySummed before now → IsSome (stored_on now (day_of journey))
+next_stored before now list i journey below same held stay =
+    stay (day_of journey) (subst (λ (j : Journey). IsSome (stored_on before (day_of j))) (sym same) (All-from_recursion (λ j. IsSome (stored_on before (day_of j))) list held i journey below))
 
 -- and of one more than before
-pub one_more_kept : (before now : Days) (list : List Journey) (i : ℕ) (journey : Journey) → i < length list → journey ≡ get_or list i journey
-    → StayKept before now → IsSome (kept_on now (day_of journey)) → AreKept before (take i list) → AreKept now (take (i + 1) list)
-one_more_kept before now list i journey below same stay here kept =
-    subst (λ (k : ℕ). AreKept now (take k list)) (sym (add-one i)) (pushed list i below same kept)
+pub one_more_stored : (before now : Days) (list : List Journey) (i : ℕ) (journey : Journey) → i < length list → journey ≡ get_or list i journey
+    → StaySummed before now → IsSome (stored_on now (day_of journey)) → AreSummed before (take i list) → AreSummed now (take (i + 1) list)
+one_more_stored before now list i journey below same stay here held =
+    subst (λ (k : ℕ). AreSummed now (take k list)) (sym (add-one i)) (pushed list i below same held)
   where
-    pushed : (list : List Journey) (i : ℕ) → i < length list → journey ≡ get_or list i journey → AreKept before (take i list) → AreKept now (take (suc i) list)
-    pushed [] i below same kept = absurd (omega arith)
-    pushed (one ∷ list) zero below same kept = (subst (λ (j : Journey). IsSome (kept_on now (day_of j))) same here, tt)
-    pushed (one ∷ list) (suc i) below same kept = (stay (day_of one) kept.0, pushed list i (omega arith) same kept.1)
+    pushed : (list : List Journey) (i : ℕ) → i < length list → journey ≡ get_or list i journey → AreSummed before (take i list) → AreSummed now (take (suc i) list)
+    pushed [] i below same held = absurd (omega arith)
+    pushed (one ∷ list) zero below same held = (subst (λ (j : Journey). IsSome (stored_on now (day_of j))) same here, tt)
+    pushed (one ∷ list) (suc i) below same held = (stay (day_of one) held.0, pushed list i (omega arith) same held.1)

@@ -23,7 +23,7 @@ pub one_written : (old now : List Bool) (place index : ℕ) (boardings : List Jo
 one_written old now place index boardings journey mark so_far room few its value =
     let done : length (marks_of (take index boardings)) ≡ index = omega (arith, length-map (take index boardings) is_paying, length-take index boardings) in
     let next : index + 1 ≡ suc index = omega arith in
-    let behind : suc (place + index) ≡ place + (index + 1) = omega arith in
+    let beyond : suc (place + index) ≡ place + (index + 1) = omega arith in
     let last : is_paying (get_or boardings index journey) ≡ mark = ap is_paying (sym its) ∙ sym value in
     let more : marks_of (take index boardings) ++ mark ∷ [] ≡ marks_of (take (index + 1) boardings) =
     ap (λ (b : Bool). marks_of (take index boardings) ++ b ∷ []) (sym last)
@@ -32,4 +32,4 @@ one_written old now place index boardings journey mark so_far room few its value
     ap (λ (l : List Bool). set l (place + index) mark) so_far
     ∙ written_at old place (marks_of (take index boardings)) mark (place + index) (omega arith) (omega arith)
     ∙ ap (λ (l : List Bool). take place old ++ l ++ drop (suc (place + index)) old) more
-    ∙ ap (λ (n : ℕ). take place old ++ marks_of (take (index + 1) boardings) ++ drop n old) behind
+    ∙ ap (λ (n : ℕ). take place old ++ marks_of (take (index + 1) boardings) ++ drop n old) beyond

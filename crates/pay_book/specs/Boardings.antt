@@ -31,7 +31,7 @@ is_paying (journey.Lone tap) = false
 abbrev pub any_pays_twice : List Journey → List Journey → Bool
 any_pays_twice one other = list_any (λ both. is_paying both.0 && is_paying both.1) (zip one other)
 
--- Boardings that a touch disturbs: without it these are `fewer`, and with it `more`, of which it is the first. Before and behind
+-- Boardings that a touch disturbs: without it these are `fewer`, and with it `more`, of which it is the first. Before and after
 -- them all are the same, and none of the others pays both ways.
 pub record IsDisturbed (hopper : ℕ) (touches : List Touch) (touch : Touch) (fewer more : List Journey) : Type 0 where
   pub left : List Journey

@@ -18,36 +18,36 @@ abbrev pub Days : Type 0
 Days = List (ℕ × CellSums)
 
 -- what is kept of a day
-abbrev pub kept_on : Days → ℕ → Option CellSums
-kept_on days day = lookup (is_at (nat_cmp day)) days
+abbrev pub stored_on : Days → ℕ → Option CellSums
+stored_on days day = lookup (is_at (nat_cmp day)) days
 
 -- the sums of a day, where they are kept
-abbrev pub if_kept : Option CellSums → List CellSums
-if_kept None = []
-if_kept (Some sums) = sums ∷ []
+abbrev pub if_stored : Option CellSums → List CellSums
+if_stored None = []
+if_stored (Some sums) = sums ∷ []
 
 -- those of some days that are kept
-abbrev pub kept_of : Days → List ℕ → List CellSums
-kept_of days those = flat_map (λ day. if_kept (kept_on days day)) those
+abbrev pub stored_of : Days → List ℕ → List CellSums
+stored_of days those = flat_map (λ day. if_stored (stored_on days day)) those
 
 -- the sums of a day: of one that is not kept there are no fares
 abbrev pub sums_on : Days → ℕ → CellSums
-sums_on days day = unwrap_or (kept_on days day) no_fares
+sums_on days day = unwrap_or (stored_on days day) no_fares
 
 -- the day of a journey
 abbrev pub day_of : Journey → ℕ
 day_of journey = (first_tap journey).stamp.day
 
 -- sums are kept of the day of each journey
-abbrev pub AreKept : Days → List Journey → Type 0
-AreKept days list = AllByRecursion (λ journey. IsSome (kept_on days (day_of journey))) list
+abbrev pub AreSummed : Days → List Journey → Type 0
+AreSummed days list = AllByRecursion (λ journey. IsSome (stored_on days (day_of journey))) list
 
 -- what is kept is the sums of these journeys, and so of each of their days
 pub record AreSums (tables : FareTables) (days : Days) (list : List Journey) : Type 0 where
-  pub kept : AreKept days list
+  pub held : AreSummed days list
   pub sums : (day : ℕ) → sums_on days day ≡ cells_of tables (journeys_on list day)
 
--- the fare of each of these journeys is there when it is taken, behind those before it
+-- the fare of each of these journeys is there when it is taken, after those before it
 abbrev pub AreThere : FareTables → Days → List Journey → Type 0
 AreThere tables days list = (done : List Journey) (journey : Journey) (rest : List Journey) → list ≡ done ++ journey ∷ rest
     → fare tables journey ≤ sum_at (cell_of tables journey) (all_taken tables (journeys_on done (day_of journey)) (sums_on days (day_of journey)))
@@ -57,13 +57,13 @@ abbrev pub HaveRoomFor : Days → ℕ → Type 0
 HaveRoomFor days pence = (day : ℕ) → total (sums_on days day) + pence ≤ MOST_MONEY
 
 -- sums that are kept stay kept
-abbrev pub StayKept : Days → Days → Type 0
-StayKept before after = (day : ℕ) → IsSome (kept_on before day) → IsSome (kept_on after day)
+abbrev pub StaySummed : Days → Days → Type 0
+StaySummed before after = (day : ℕ) → IsSome (stored_on before day) → IsSome (stored_on after day)
 
 -- some journeys, whose sums are kept beside those of others, can be replaced by other ones: sums are kept of their days, and with them there are not too many
 pub record CanReplace (tables : FareTables) (days : Days) (old new : List Journey) : Type 0 where
   pub left : List Journey
   pub right : List Journey
   pub sums : AreSums tables days (left ++ old ++ right)
-  pub kept : AreKept days new
+  pub held : AreSummed days new
   pub few : length (left ++ new ++ right) ≤ MOST_TOUCHES

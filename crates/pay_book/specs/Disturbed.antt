@@ -31,12 +31,12 @@ disturbed_by_rail tables taps place =
 abbrev pub is_apart : ℕ → Touch → Touch → Bool
 is_apart hopper tap other = nat_lt (other.stamp.utc + hopper) tap.stamp.utc
 
--- of bus taps in order behind some earlier ones, how many there are up to and including the first that is apart from each before it
+-- of bus taps in order after some earlier ones, how many there are up to and including the first that is apart from each before it
 abbrev pub up_to_apart : ℕ → List Touch → List Touch → ℕ
 up_to_apart hopper earlier [] = 0
 up_to_apart hopper earlier (tap ∷ later) = suc (if list_all (is_apart hopper tap) earlier then 0 else up_to_apart hopper (tap ∷ earlier) later)
 
--- of bus taps in order, the first behind some earlier ones: how many earlier ones it is not apart from, and those behind it up to the first that is apart
+-- of bus taps in order, the first after some earlier ones: how many earlier ones it is not apart from, and those after it up to the first that is apart
 abbrev pub around_first : ℕ → List Touch → List Touch → ℕ
 around_first hopper earlier [] = 0
 around_first hopper earlier (tap ∷ later) = length (filter (λ other. not (is_apart hopper tap other)) earlier) + up_to_apart hopper (tap ∷ earlier) later
@@ -79,17 +79,17 @@ a_second_more : is_apart 3600 (bus_tap 3601) (bus_tap 0) ≡ true
 unfolding bus_tap
 a_second_more = refl
 
--- Boardings each 4,000 seconds, and one more half way between two: the one before it, and two behind it, the second of which is apart.
+-- Boardings each 4,000 seconds, and one more half way between two: the one before it, and two after it, the second of which is apart.
 one_between : disturbed_by_bus 3600 (map bus_tap (0 ∷ 4000 ∷ 8000 ∷ 10_000 ∷ 12_000 ∷ 16_000 ∷ 20_000 ∷ [])) 3 ≡ 3
 unfolding bus_tap
 one_between = refl
 
 -- Boardings each 3,000 seconds, and one 1,000 before all: each of the others.
-all_behind : disturbed_by_bus 3600 (map bus_tap (0 ∷ 1000 ∷ 4000 ∷ 7000 ∷ 10_000 ∷ [])) 0 ≡ 4
+all_after : disturbed_by_bus 3600 (map bus_tap (0 ∷ 1000 ∷ 4000 ∷ 7000 ∷ 10_000 ∷ [])) 0 ≡ 4
 unfolding bus_tap
-all_behind = refl
+all_after = refl
 
--- One behind all, of which two are at most an hour before it.
+-- One after all, of which two are at most an hour before it.
 two_before : disturbed_by_bus 3600 (map bus_tap (0 ∷ 3000 ∷ 6000 ∷ 6600 ∷ [])) 3 ≡ 2
 unfolding bus_tap
 two_before = refl
@@ -124,13 +124,13 @@ half_an_hour tables = record tables { rules = record tables.rules { same_limit =
 in_tap : ℕ → Touch
 in_tap seconds = record { filled = false; first = 1; second = seconds; stamp = record { utc = 1_704_697_200 + seconds; day = 19_730; second = 25_200 + seconds }; place = 11; kind = In }
 
--- Behind two legs a tap on the way out, and another one: without the first of these the second leg and the other one, and with it these and it.
-behind_legs : (tables : FareTables) →
+-- After two legs a tap on the way out, and another one: without the first of these the second leg and the other one, and with it these and it.
+after_legs : (tables : FareTables) →
     disturbed_by_rail (half_an_hour tables) (in_tap 0 ∷ out_tap 600 ∷ in_tap 1200 ∷ out_tap 1800 ∷ out_tap 2400 ∷ out_tap 3000 ∷ []) 4 ≡ 7
 unfolding out_tap in_tap half_an_hour
-behind_legs tables = refl
+after_legs tables = refl
 
--- A tap on the way out between the taps of a leg, which it ends: without it the leg, and with it that to it and the tap behind it.
+-- A tap on the way out between the taps of a leg, which it ends: without it the leg, and with it that to it and the tap after it.
 inside_a_leg : (tables : FareTables) →
     disturbed_by_rail (half_an_hour tables) (in_tap 0 ∷ out_tap 600 ∷ in_tap 7200 ∷ out_tap 7800 ∷ out_tap 8400 ∷ in_tap 14400 ∷ out_tap 15000 ∷ []) 3 ≡ 5
 unfolding out_tap in_tap half_an_hour

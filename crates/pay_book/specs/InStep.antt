@@ -3,12 +3,12 @@ use Rattle.std.specs.Prelude.{◌≡◌, ℕ, zero, suc, ◌<◌, ◌≤◌, ⊤
 use Rattle.std.specs.List.{AllByRecursion}
 use Rattle.pay_caps.specs.Words.{CellSums}
 
--- each day comes before those behind it
+-- each day comes before those after it
 abbrev pub AreRising : List ℕ → Type 0
 AreRising [] = ⊤
 AreRising (day ∷ others) = AllByRecursion (λ other. day < other) others × AreRising others
 
--- where a day stands among days, or would stand: behind those before it
+-- where a day stands among days, or would stand: after those before it
 abbrev pub IsPlaceOf : ℕ → List ℕ → ℕ → Type 0
 IsPlaceOf day [] place = place ≡ 0
 IsPlaceOf day (other ∷ others) zero = day ≤ other

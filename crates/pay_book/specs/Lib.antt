@@ -5,7 +5,7 @@ pub mod Boardings
 pub mod Stretches
 pub mod Rail
 pub mod Disturbed
-pub mod Kept
+pub mod MarkedTaps
 pub mod Books
 pub mod Stored
 pub mod History

@@ -32,15 +32,15 @@ starts_if_there tables farther nearer (Some tap) next = starts_at tables farther
 abbrev pub starts_in : FareTables → List Touch → ℕ → Bool
 starts_in tables taps place = starts_if_there tables (second_before taps place) (touch_before taps place) (slice_get taps place) (slice_get taps (suc place))
 
--- the mark at a place, which is true behind the last
+-- the mark at a place, which is true after the last
 abbrev pub mark_in : List Bool → ℕ → Bool
 mark_in marks place = get_or marks place true
 
--- marks that are right but for those next to a place: from the one before it to the second behind it
+-- marks that are right but for those next to a place: from the one before it to the second after it
 pub record AreMarkedElsewhere (tables : FareTables) (taps : List Touch) (place : ℕ) (marks : List Bool) : Type 0 where
   pub as_many : length marks ≡ length taps
   pub before : (other : ℕ) → suc other < place → mark_in marks other ≡ mark_in (starts tables taps) other
-  pub behind : (other : ℕ) → place + 2 < other → mark_in marks other ≡ mark_in (starts tables taps) other
+  pub beyond : (other : ℕ) → place + 2 < other → mark_in marks other ≡ mark_in (starts tables taps) other
 
 -- ---- the stretch that a tap disturbs
 
@@ -70,11 +70,11 @@ starts_at_it tables a touch = starts_if_there tables a.second a.first (Some touc
 abbrev pub starts_before_it : FareTables → Around → Touch → Bool
 starts_before_it tables a touch = starts_if_there tables a.third a.second a.first (Some touch) && starts_if_there tables a.third a.second a.first a.here
 
--- at the tap behind it
-abbrev pub starts_behind_it : FareTables → Around → Touch → Bool
-starts_behind_it tables a touch = starts_if_there tables a.first (Some touch) a.here a.next && starts_if_there tables a.second a.first a.here a.next
+-- at the tap after it
+abbrev pub starts_after_it : FareTables → Around → Touch → Bool
+starts_after_it tables a touch = starts_if_there tables a.first (Some touch) a.here a.next && starts_if_there tables a.second a.first a.here a.next
 
--- at the second tap behind it
+-- at the second tap after it
 abbrev pub starts_further : FareTables → Around → Touch → Bool
 starts_further tables a touch = starts_if_there tables (Some touch) a.here a.next a.later && starts_if_there tables a.first a.here a.next a.later
 
@@ -97,9 +97,9 @@ pub record IsFirstPlace (tables : FareTables) (fewer : List Touch) (touch : Touc
 
 -- a place from that of a tap on, at which they do, the nearest one but for the two there
 pub record IsLastPlace (tables : FareTables) (fewer : List Touch) (touch : Touch) (place to : ℕ) : Type 0 where
-  pub to_behind : place ≤ to
-  pub none_behind : (other : ℕ) → suc place < other → other < to → mark_in (starts tables fewer) other ≡ false
-  pub goes_on_behind : suc place < to → GoesOnInOne tables fewer (suc place) (insert fewer place touch) (suc (suc place))
+  pub to_after : place ≤ to
+  pub none_after : (other : ℕ) → suc place < other → other < to → mark_in (starts tables fewer) other ≡ false
+  pub goes_on_after : suc place < to → GoesOnInOne tables fewer (suc place) (insert fewer place touch) (suc (suc place))
   pub within : to ≤ length fewer
   pub fewer_to : IsCut tables fewer to
   pub more_to : IsCut tables (insert fewer place touch) (suc to)
@@ -113,15 +113,15 @@ abbrev pub at_most_one : Option Touch → List Touch
 at_most_one None = []
 at_most_one (Some touch) = touch ∷ []
 
--- from one place up to before another, both with a tap put in between and without it, the taps stand apart from those before and behind
+-- from one place up to before another, both with a tap put in between and without it, the taps stand apart from those before and after
 pub record IsStretch (tables : FareTables) (fewer : List Touch) (touch : Touch) (place from to : ℕ) : Type 0 where
   pub from_before : from ≤ place
-  pub to_behind : place ≤ to
+  pub to_after : place ≤ to
   pub within : to ≤ length fewer
   pub none_before : (other : ℕ) → from < other → suc other < place → mark_in (starts tables fewer) other ≡ false
-  pub none_behind : (other : ℕ) → suc place < other → other < to → mark_in (starts tables fewer) other ≡ false
+  pub none_after : (other : ℕ) → suc place < other → other < to → mark_in (starts tables fewer) other ≡ false
   pub goes_on_before : suc from < place → GoesOnInOne tables fewer (place - 1) (insert fewer place touch) (place - 1)
-  pub goes_on_behind : suc place < to → GoesOnInOne tables fewer (suc place) (insert fewer place touch) (suc (suc place))
+  pub goes_on_after : suc place < to → GoesOnInOne tables fewer (suc place) (insert fewer place touch) (suc (suc place))
   pub fewer_from : IsCut tables fewer from
   pub fewer_to : IsCut tables fewer to
   pub more_from : IsCut tables (insert fewer place touch) from
@@ -130,9 +130,9 @@ pub record IsStretch (tables : FareTables) (fewer : List Touch) (touch : Touch) 
 -- these journeys stand between the same others, once without a tap and once with it
 pub record IsDisturbed (tables : FareTables) (fewer more : List Touch) (without with_it : List Journey) : Type 0 where
   pub before : List Journey
-  pub behind : List Journey
-  pub all_fewer : journeys tables (legs tables fewer) ≡ before ++ without ++ behind
-  pub all_more : journeys tables (legs tables more) ≡ before ++ with_it ++ behind
+  pub beyond : List Journey
+  pub all_fewer : journeys tables (legs tables fewer) ≡ before ++ without ++ beyond
+  pub all_more : journeys tables (legs tables more) ≡ before ++ with_it ++ beyond
 
 -- the same of a tap that enters taps at its place, or leaves them where it is there
 abbrev pub IsDisturbedBy : FareTables → List Touch → Touch → Bool → List Journey → List Journey → Type 0
@@ -174,14 +174,14 @@ from_second_on = refl
 nothing_between : taps_in 2 2 three ≡ []
 nothing_between = refl
 
--- a mark, and what counts as one behind the last
+-- a mark, and what counts as one after the last
 last_mark : mark_in (true ∷ false ∷ []) 1 ≡ false
 last_mark = refl
 
-behind_last_mark : mark_in (true ∷ false ∷ []) 2 ≡ true
-behind_last_mark = refl
+after_last_mark : mark_in (true ∷ false ∷ []) 2 ≡ true
+after_last_mark = refl
 
--- a journey starts at each tap on the way out that follows another, and behind the last as well
+-- a journey starts at each tap on the way out that follows another, and after the last as well
 lone_tap_starts : (tables : FareTables) → starts_in tables three 1 ≡ true
 lone_tap_starts tables = refl
 

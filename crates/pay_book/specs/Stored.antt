@@ -21,11 +21,11 @@ use Rattle.pay_rules.specs.declared.journey.Journey.{Journey}
 use Rattle.pay_book.specs.Books.{BookParts}
 use Rattle.pay_book.specs.Days.{AreSums}
 use Rattle.pay_book.specs.Disturbed.{disturbed}
-use Rattle.pay_book.specs.Kept.{all_journeys, IsPossible, taps_after, disturbed_by_change}
-use Rattle.pay_book.specs.declared.kept.Kept.{Kept}
+use Rattle.pay_book.specs.MarkedTaps.{all_journeys, IsPossible, taps_after, disturbed_by_change}
+use Rattle.pay_book.specs.declared.marked_taps.MarkedTaps.{MarkedTaps}
 
 -- what a book keeps is that of the effective taps of what it has accepted, by these tables
-pub record IsKept (tables : FareTables) (book : BookParts) : Type 0 where
+pub record IsConsistent (tables : FareTables) (book : BookParts) : Type 0 where
   pub rail : book.rail ≡ filter is_rail (touches book.accepted)
   pub starts : book.starts ≡ starts tables book.rail
   pub buses : book.buses ≡ filter is_bus (touches book.accepted)
@@ -69,19 +69,19 @@ FixIsChange = (accepted : Accepted) (fix : Fix) → AreNumbered accepted → jud
     → IsChange (change_by_fix accepted.taps accepted.fixes fix) (touches accepted) (touches (with_fix accepted fix))
 
 -- where the kept taps are those of before
-pub record AreKeptTaps (kept : Kept) (touches : List Touch) : Type 0 where
-  pub rail : kept.rail.touches ≡ filter is_rail touches
-  pub buses : kept.buses.touches ≡ filter is_bus touches
+pub record AreStoredTaps (held : MarkedTaps) (touches : List Touch) : Type 0 where
+  pub rail : held.rail.touches ≡ filter is_rail touches
+  pub buses : held.buses.touches ≡ filter is_bus touches
 
 abbrev pub ChangeIsPossible : Type 0
-ChangeIsPossible = (change : Change) (before after : List Touch) (kept : Kept) → IsChange change before after → AreKeptTaps kept before → IsPossible kept change
+ChangeIsPossible = (change : Change) (before after : List Touch) (held : MarkedTaps) → IsChange change before after → AreStoredTaps held before → IsPossible held change
 
 -- and the taps that it makes of them are those of after
 abbrev pub ChangeIsMade : Type 0
-ChangeIsMade = (change : Change) (before after : List Touch) (kept : Kept) → IsChange change before after → AreKeptTaps kept before
-    → (taps_after is_rail change kept.rail.touches ≡ filter is_rail after) × (taps_after is_bus change kept.buses.touches ≡ filter is_bus after)
+ChangeIsMade = (change : Change) (before after : List Touch) (held : MarkedTaps) → IsChange change before after → AreStoredTaps held before
+    → (taps_after is_rail change held.rail.touches ≡ filter is_rail after) × (taps_after is_bus change held.buses.touches ≡ filter is_bus after)
 
 -- and it disturbs as many of the kept taps as its command does of the effective ones
 abbrev pub ChangeDisturbs : Type 0
-ChangeDisturbs = (tables : FareTables) (change : Change) (before after : List Touch) (kept : Kept) → IsChange change before after → AreKeptTaps kept before
-    → disturbed_by_change tables kept change ≡ disturbed tables before after
+ChangeDisturbs = (tables : FareTables) (change : Change) (before after : List Touch) (held : MarkedTaps) → IsChange change before after → AreStoredTaps held before
+    → disturbed_by_change tables held change ≡ disturbed tables before after

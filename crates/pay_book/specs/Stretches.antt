@@ -5,7 +5,7 @@ use Rattle.pay_rules.specs.declared.journey.Journey.{Journey}
 use Rattle.pay_book.specs.Boardings.{boarded_after, any_pays_twice}
 use Rattle.pay_book.specs.declared.boardings.Stretch.{Stretch}
 
--- a stretch, and the boardings of later touches behind it
+-- a stretch, and the boardings of later touches after it
 abbrev pub with_later : ℕ → Stretch → List Touch → List Journey
 with_later hopper stretch later = stretch.boardings.items ++ boarded_after hopper stretch.last_paid later
 

@@ -23,7 +23,7 @@ pub(crate) struct Boardings {
     pub more: Vec<Journey>,
 }
 
-/// Boardings one behind another, and the moment of the last one up to them that paid.
+/// Boardings one after another, and the moment of the last one up to them that paid.
 #[derive(Drop)]
 struct Stretch {
     boardings: Vec<Journey>,
@@ -42,14 +42,14 @@ impl Stretch {
         }
     }
 
-    /// Whether a tap pays behind these.
+    /// Whether a tap pays after these.
     fn pays(&self, tables: &Tables, tap: &Touch) -> bool
         ensures { result ≡ pays_by_last tables.now.rules.hopper self.now.last_paid tap.now.stamp.utc }
     {
         pay_hopper::pays(tables, &self.last_paid, tap)
     }
 
-    /// Boards a tap behind these. An `Err` is out of memory.
+    /// Boards a tap after these. An `Err` is out of memory.
     fn board(&mut self, tables: &Tables, tap: &Touch) -> Result<(), AllocError>
         ensures boarded { OnOk result (self.new.boardings.items ≡ self.old.boardings.items ++ boarding (tap.now, pays_by_last tables.now.rules.hopper self.old.last_paid tap.now.stamp.utc) ∷ []) }
         ensures later { OnOk result ((later : List Touch) → with_later tables.now.rules.hopper self.old (tap.now ∷ later) ≡ with_later tables.now.rules.hopper self.new later) }
@@ -72,7 +72,7 @@ fn moment_at(buses: &Timeline, place: usize, steps: &mut Steps) -> Option<Moment
     buses.at(place, steps).map(|tap| tap.stamp)
 }
 
-/// The moment of the last tap before a place that pays, found from behind by the marks.
+/// The moment of the last tap before a place that pays, found from after by the marks.
 fn last_paid_before(
     tables: &Tables,
     buses: &Timeline,
@@ -95,7 +95,7 @@ fn last_paid_before(
     None
 }
 
-/// The tap at a place, unless it pays behind both stretches: it and all behind it are then as they were.
+/// The tap at a place, unless it pays after both stretches: it and all after it are then as they were.
 fn disturbed_at(
     tables: &Tables,
     buses: &Timeline,
@@ -124,7 +124,7 @@ fn disturbed_at(
     Some(tap)
 }
 
-/// Boards the taps from a place on behind both stretches, up to the first that pays behind both. An
+/// Boards the taps from a place on after both stretches, up to the first that pays after both. An
 /// `Err` is out of memory.
 fn board_disturbed(
     tables: &Tables,
@@ -150,8 +150,8 @@ fn board_disturbed(
     Ok(())
 }
 
-/// The place behind the tap that stands at this one, and this place itself where it doesn't stand there yet.
-fn first_behind(buses: &Timeline, place: usize, is_there: bool) -> usize
+/// The place after the tap that stands at this one, and this place itself where it doesn't stand there yet.
+fn first_after(buses: &Timeline, place: usize, is_there: bool) -> usize
     requires within { place ≤ length buses.now.touches }
     requires there { is_there ≡ true → place < length buses.now.touches }
     ensures value { result ≡ (if is_there then suc place else place) }
@@ -188,7 +188,7 @@ pub(crate) fn disturbed(
 {
     pay_taps::laws::places();
     let place = buses.place(touch);
-    let first = first_behind(buses, place, is_there);
+    let first = first_after(buses, place, is_there);
     let last_paid = last_paid_before(tables, buses, pays, place, steps);
     let mut fewer = Stretch::new(alloc, &last_paid);
     let mut more = Stretch::new(alloc, &last_paid);

@@ -8,9 +8,9 @@ ghost use Rattle.pay_rules.specs.FixResults.{prices_named, IsFixResult, after_fi
 ghost use Rattle.pay_rules.specs.Accepted.{with_tap, with_fix, touches};
 ghost use Rattle.pay_rules.specs.TapResults.{IsTapResult, after_tap};
 ghost use Rattle.pay_book.specs.Disturbed.{disturbed};
-ghost use Rattle.pay_book.specs.Stored.{IsKept};
+ghost use Rattle.pay_book.specs.Stored.{IsConsistent};
 
-use crate::kept::Kept;
+use crate::marked_taps::MarkedTaps;
 use crate::{days, laws};
 use pay_account::Account;
 use pay_fix::{change_by_fix, change_by_tap, day_named};
@@ -29,7 +29,7 @@ use std::marker::Model;
 pub struct Book {
     alloc: Global,
     account: Account,
-    kept: Kept,
+    held: MarkedTaps,
     steps: Steps,
 }
 
@@ -43,11 +43,11 @@ impl Model for Book {
     ghost view = { λ b. record {
       account = b.account.0;
       accepted = b.account.1;
-      rail = b.kept.rail.touches;
-      starts = b.kept.starts.items;
-      buses = b.kept.buses.touches;
-      pays = b.kept.pays.items;
-      days = b.kept.days;
+      rail = b.held.rail.touches;
+      starts = b.held.starts.items;
+      buses = b.held.buses.touches;
+      pays = b.held.pays.items;
+      days = b.held.days;
       steps = b.steps;
     } };
 }
@@ -63,16 +63,16 @@ impl Book {
     /// The prices of a day and its week.
     fn prices(&self, tables: &Tables, again: bool, day: u32) -> Priced
         requires is_day { IsDay day }
-        requires kept { IsKept tables.now self.now }
+        requires held { IsConsistent tables.now self.now }
         ensures { result ≡ prices tables.now self.now.accepted again day }
     {
         laws::boarded_by_all();
-        days::prices(tables, &self.kept.days, again, day)
+        days::prices(tables, &self.held.days, again, day)
     }
 
     /// The prices of the day that a correction names.
     fn prices_named(&self, tables: &Tables, again: bool, what: &What) -> Priced
-        requires kept { IsKept tables.now self.now }
+        requires held { IsConsistent tables.now self.now }
         ensures { result ≡ prices_named tables.now self.now.accepted again what.now }
     {
         match day_named(self.account.taps(), self.account.fixes(), what) {
@@ -90,11 +90,11 @@ impl Book {
     /// disturbs: none is disturbed by a tap that is refused or repeated, or that a standing Void names.
     pub fn tap(&mut self, tables: &Tables, tap: Tap) -> Result<Priced, TapFault>
         requires own { tap.account ≡ self.old.account }
-        requires priced_by { IsKept tables.now self.old }
+        requires priced_by { IsConsistent tables.now self.old }
         ensures same_account { self.new.account ≡ self.old.account }
         ensures answer { IsTapResult result tables.now self.old.accepted tap }
         ensures after { self.new.accepted ≡ after_tap result self.old.accepted tap }
-        ensures priced_by { IsKept tables.now self.new }
+        ensures priced_by { IsConsistent tables.now self.new }
         ensures steps { result ≢ Err TapFault.Memory → self.new.steps ≤ 64 + 4 * disturbed tables.now (touches self.old.accepted) (touches self.new.accepted) }
     {
         pay_rule_laws::accounts::refusals();
@@ -112,11 +112,11 @@ impl Book {
     /// for each one that it disturbs: a Credit disturbs none.
     pub fn fix(&mut self, tables: &Tables, fix: Fix) -> Result<Priced, FixFault>
         requires own { fix.account ≡ self.old.account }
-        requires priced_by { IsKept tables.now self.old }
+        requires priced_by { IsConsistent tables.now self.old }
         ensures same_account { self.new.account ≡ self.old.account }
         ensures answer { IsFixResult result tables.now self.old.accepted fix }
         ensures after { self.new.accepted ≡ after_fix result self.old.accepted fix }
-        ensures priced_by { IsKept tables.now self.new }
+        ensures priced_by { IsConsistent tables.now self.new }
         ensures steps { result ≢ Err FixFault.Memory → self.new.steps ≤ 64 + 4 * disturbed tables.now (touches self.old.accepted) (touches self.new.accepted) }
     {
         pay_rule_laws::accounts::refusals_of_fixes();
@@ -134,11 +134,11 @@ impl Book {
     fn add_tap(&mut self, tables: &Tables, tap: Tap) -> Result<(), AllocError>
         requires own { tap.account ≡ self.old.account }
         requires judged { judged self.old.accepted.taps tap ≡ Ok Addition.Added }
-        requires kept { IsKept tables.now self.old }
+        requires held { IsConsistent tables.now self.old }
         ensures same_account { self.new.account ≡ self.old.account }
         ensures accepted { OnOk result (self.new.accepted ≡ with_tap self.old.accepted tap) }
         ensures same { OnErr result (self.new.accepted ≡ self.old.accepted) }
-        ensures kept { IsKept tables.now self.new }
+        ensures held { IsConsistent tables.now self.new }
         ensures rises { self.old.steps ≤ self.new.steps }
         ensures steps { OnOk result (self.new.steps ≤ self.old.steps + 24 + 2 * disturbed tables.now (touches self.old.accepted) (touches self.new.accepted)) }
     {
@@ -148,10 +148,10 @@ impl Book {
         self.account.fixes().len();
         let change = change_by_tap(self.account.fixes(), &tap);
         let repair = self
-            .kept
+            .held
             .prepare(self.alloc, tables, &change, &mut self.steps)?;
         self.account.accept_tap(tap)?;
-        self.kept.apply(tables, &change, &repair, &mut self.steps);
+        self.held.apply(tables, &change, &repair, &mut self.steps);
         Ok(())
     }
 
@@ -159,11 +159,11 @@ impl Book {
     fn add_fix(&mut self, tables: &Tables, fix: Fix) -> Result<(), AllocError>
         requires own { fix.account ≡ self.old.account }
         requires judged { judged_fix self.old.accepted.fixes fix ≡ Ok Addition.Added }
-        requires kept { IsKept tables.now self.old }
+        requires held { IsConsistent tables.now self.old }
         ensures same_account { self.new.account ≡ self.old.account }
         ensures accepted { OnOk result (self.new.accepted ≡ with_fix self.old.accepted fix) }
         ensures same { OnErr result (self.new.accepted ≡ self.old.accepted) }
-        ensures kept { IsKept tables.now self.new }
+        ensures held { IsConsistent tables.now self.new }
         ensures rises { self.old.steps ≤ self.new.steps }
         ensures steps { OnOk result (self.new.steps ≤ self.old.steps + 24 + 2 * disturbed tables.now (touches self.old.accepted) (touches self.new.accepted)) }
     {
@@ -173,28 +173,28 @@ impl Book {
         self.account.fixes().len();
         let change = change_by_fix(self.account.taps(), self.account.fixes(), &fix);
         let repair = self
-            .kept
+            .held
             .prepare(self.alloc, tables, &change, &mut self.steps)?;
         self.account.accept_fix(fix)?;
-        self.kept.apply(tables, &change, &repair, &mut self.steps);
+        self.held.apply(tables, &change, &repair, &mut self.steps);
         Ok(())
     }
 }
 
 impl Fares for Book {
-    ghost use Rattle.pay_book.specs.Stored.{IsKept};
+    ghost use Rattle.pay_book.specs.Stored.{IsConsistent};
 
     ghost account = { λ b. b.account };
 
     ghost accepted = { λ b. b.accepted };
 
-    ghost IsPricedBy = { IsKept };
+    ghost IsPricedBy = { IsConsistent };
 
     fn new(alloc: Global, number: u32) -> Book {
         Book {
             alloc,
             account: Account::new(alloc, number),
-            kept: Kept::new(alloc),
+            held: MarkedTaps::new(alloc),
             steps: Steps::new(),
         }
     }

@@ -5,7 +5,7 @@ ghost use Rattle.std.specs.Ordering.{nat_cmp};
 ghost use Rattle.pay_money.specs.declared.limits.TheConstants.{MOST_MONEY};
 ghost use Rattle.pay_tables.specs.declared.limits.TheConstants.{MOST_ZONES};
 ghost use Rattle.pay_caps.specs.Words.{IsCell, added, taken, sum_at, total};
-ghost use Rattle.pay_book.specs.Days.{kept_on, kept_of, sums_on, StayKept};
+ghost use Rattle.pay_book.specs.Days.{stored_on, stored_of, sums_on, StaySummed};
 ghost use Rattle.pay_book.specs.InStep.{AreRising, IsPlaceOf};
 
 use crate::put_in::put_in;
@@ -80,7 +80,7 @@ impl DaySums {
 
     /// The sums of a day, where they are kept.
     pub(crate) fn get(&self, day: u32) -> Option<&Cells>
-        ensures { option_map (λ cells. cells.now) result ≡ kept_on self.now day }
+        ensures { option_map (λ cells. cells.now) result ≡ stored_on self.now day }
     {
         let place = place_in(&self.days, day);
         if stands_at(&self.days, place, day) {
@@ -93,7 +93,7 @@ impl DaySums {
     /// The kept sums of so many days from one on, in their order.
     pub(crate) fn of_days(&self, first: u32, count: u32) -> &[Cells]
         requires { first + count < 2 ^ 32 }
-        ensures kept { result.now ≡ kept_of self.now (range_with_len first count) }
+        ensures held { result.now ≡ stored_of self.now (range_with_len first count) }
         ensures few { length result.now ≤ count }
     {
         let from = place_in(&self.days, first);
@@ -103,10 +103,10 @@ impl DaySums {
 
     /// Adds a fare to the sums of a day, which are kept.
     pub(crate) fn add(&mut self, day: u32, cell: Cell, fare: Pence)
-        requires kept { IsSome (kept_on self.old day) }
+        requires held { IsSome (stored_on self.old day) }
         requires is_cell { IsCell MOST_ZONES cell }
         requires fits { total (sums_on self.old day) + fare ≤ MOST_MONEY }
-        ensures sums { (other : ℕ) → kept_on self.new other ≡ cond (is_at (nat_cmp day) other) (Some (added cell fare (sums_on self.old day))) (kept_on self.old other) }
+        ensures sums { (other : ℕ) → stored_on self.new other ≡ cond (is_at (nat_cmp day) other) (Some (added cell fare (sums_on self.old day))) (stored_on self.old other) }
         ensures in_range { (other : ℕ) → total (sums_on self.new other) ≤ total (sums_on self.old other) + fare }
     {
         let place = place_in(&self.days, day);
@@ -115,10 +115,10 @@ impl DaySums {
 
     /// Takes a fare from the sums of a day, which are kept.
     pub(crate) fn take(&mut self, day: u32, cell: Cell, fare: Pence)
-        requires kept { IsSome (kept_on self.old day) }
+        requires held { IsSome (stored_on self.old day) }
         requires is_cell { IsCell MOST_ZONES cell }
         requires there { fare ≤ sum_at cell (sums_on self.old day) }
-        ensures { (other : ℕ) → kept_on self.new other ≡ cond (is_at (nat_cmp day) other) (Some (taken cell fare (sums_on self.old day))) (kept_on self.old other) }
+        ensures { (other : ℕ) → stored_on self.new other ≡ cond (is_at (nat_cmp day) other) (Some (taken cell fare (sums_on self.old day))) (stored_on self.old other) }
     {
         let place = place_in(&self.days, day);
         self.sums[place].take(cell, fare);
@@ -127,8 +127,8 @@ impl DaySums {
     /// Keeps sums of a day: no fares, where none were kept. An `Err` is out of memory.
     pub(crate) fn open(&mut self, day: u32) -> Result<(), AllocError>
         ensures same { (other : ℕ) → sums_on self.new other ≡ sums_on self.old other }
-        ensures kept { StayKept self.old self.new }
-        ensures open { OnOk result (IsSome (kept_on self.new day)) }
+        ensures held { StaySummed self.old self.new }
+        ensures open { OnOk result (IsSome (stored_on self.new day)) }
     {
         let place = place_in(&self.days, day);
         if stands_at(&self.days, place, day) {

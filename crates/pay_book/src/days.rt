@@ -9,7 +9,7 @@ ghost use Rattle.pay_rules.specs.JourneyFares.{fare};
 ghost use Rattle.pay_rules.specs.WeekPrices.{week_price};
 ghost use Rattle.pay_rules.specs.declared.journey.Journey.{Journey};
 ghost use Rattle.pay_rules.specs.Prices.{journeys_on, price_of_day, prices_of_journeys};
-ghost use Rattle.pay_book.specs.Days.{kept_on, sums_on, day_of, AreKept, AreSums, AreThere, CanReplace, HaveRoomFor, StayKept};
+ghost use Rattle.pay_book.specs.Days.{stored_on, sums_on, day_of, AreSummed, AreSums, AreThere, CanReplace, HaveRoomFor, StaySummed};
 
 use crate::day_sums::DaySums;
 use pay_caps::{Cells, cell_of, fare};
@@ -23,8 +23,8 @@ use std::alloc::AllocError;
 /// Keeps sums of the day of each of these journeys, and changes none. An `Err` is out of memory.
 pub(crate) fn open_all(days: &mut DaySums, journeys: &[Journey]) -> Result<(), AllocError>
     ensures same { (other : ℕ) → sums_on days.new other ≡ sums_on days.old other }
-    ensures kept { StayKept days.old days.new }
-    ensures open { OnOk result (AreKept days.new journeys.now) }
+    ensures held { StaySummed days.old days.new }
+    ensures open { OnOk result (AreSummed days.new journeys.now) }
 {
     for journey in journeys {
         days.open(journey.first_tap().stamp.day())?;
@@ -34,11 +34,11 @@ pub(crate) fn open_all(days: &mut DaySums, journeys: &[Journey]) -> Result<(), A
 
 /// Adds the fare of a journey to the sums of its day.
 fn add(days: &mut DaySums, tables: &Tables, journey: &Journey)
-    requires kept { IsSome (kept_on days.old (day_of journey.now)) }
+    requires held { IsSome (stored_on days.old (day_of journey.now)) }
     requires fits { HaveRoomFor days.old MOST_FARE }
     ensures sums { (day : ℕ) → sums_on days.new day ≡ all_added tables.now (journeys_on (journey.now ∷ []) day) (sums_on days.old day) }
     ensures in_range { (day : ℕ) → total (sums_on days.new day) ≤ total (sums_on days.old day) + MOST_FARE }
-    ensures kept { StayKept days.old days.new }
+    ensures held { StaySummed days.old days.new }
 {
     pay_caps::laws::day_prices(tables);
     let day = journey.first_tap().stamp.day();
@@ -47,10 +47,10 @@ fn add(days: &mut DaySums, tables: &Tables, journey: &Journey)
 
 /// Takes the fare of a journey from the sums of its day.
 fn take(days: &mut DaySums, tables: &Tables, journey: &Journey)
-    requires kept { IsSome (kept_on days.old (day_of journey.now)) }
+    requires held { IsSome (stored_on days.old (day_of journey.now)) }
     requires there { fare tables.now journey.now ≤ sum_at (cell_of tables.now journey.now) (sums_on days.old (day_of journey.now)) }
     ensures sums { (day : ℕ) → sums_on days.new day ≡ all_taken tables.now (journeys_on (journey.now ∷ []) day) (sums_on days.old day) }
-    ensures kept { StayKept days.old days.new }
+    ensures held { StaySummed days.old days.new }
 {
     pay_caps::laws::day_prices(tables);
     let day = journey.first_tap().stamp.day();
@@ -59,10 +59,10 @@ fn take(days: &mut DaySums, tables: &Tables, journey: &Journey)
 
 /// Adds the fares of journeys to the sums of their days.
 pub(crate) fn add_all(days: &mut DaySums, tables: &Tables, journeys: &[Journey])
-    requires kept { AreKept days.old journeys.now }
+    requires held { AreSummed days.old journeys.now }
     requires fits { HaveRoomFor days.old (length journeys.now * MOST_FARE) }
     ensures sums { (day : ℕ) → sums_on days.new day ≡ all_added tables.now (journeys_on journeys.now day) (sums_on days.old day) }
-    ensures kept { StayKept days.old days.new }
+    ensures held { StaySummed days.old days.new }
 {
     for journey in journeys {
         add(days, tables, journey);
@@ -71,10 +71,10 @@ pub(crate) fn add_all(days: &mut DaySums, tables: &Tables, journeys: &[Journey])
 
 /// Takes the fares of journeys from the sums of their days.
 pub(crate) fn take_all(days: &mut DaySums, tables: &Tables, journeys: &[Journey])
-    requires kept { AreKept days.old journeys.now }
+    requires held { AreSummed days.old journeys.now }
     requires there { AreThere tables.now days.old journeys.now }
     ensures sums { (day : ℕ) → sums_on days.new day ≡ all_taken tables.now (journeys_on journeys.now day) (sums_on days.old day) }
-    ensures kept { StayKept days.old days.new }
+    ensures held { StaySummed days.old days.new }
 {
     for journey in journeys {
         take(days, tables, journey);

@@ -4,7 +4,7 @@ ghost use Rattle.std.specs.List.{AllByRecursion};
 ghost use Rattle.pay_rules.specs.Accepted.{nothing};
 ghost use Rattle.pay_rules.specs.Changes.{after, after_all};
 ghost use Rattle.pay_book.specs.History.{account_of, change_of};
-ghost use Rattle.pay_book.specs.Stored.{IsKept, IsStored};
+ghost use Rattle.pay_book.specs.Stored.{IsConsistent, IsStored};
 
 use crate::book::Book;
 use crate::laws;
@@ -13,7 +13,7 @@ use pay_tables::Tables;
 use std::alloc::{AllocError, Global};
 
 /// What comes to an account.
-#[derive(Clone, Copy, Debug, PartialEq, Eq)]
+#[derive(Clone, Copy)]
 pub enum Sent {
     /// A tap.
     Tap(Tap),
@@ -24,9 +24,9 @@ pub enum Sent {
 /// Hands a tap or a correction to a book, which refuses it or not. An `Err` is out of memory.
 fn hand(book: &mut Book, tables: &Tables, sent: &Sent) -> Result<(), AllocError>
     requires own { account_of sent.now ≡ book.old.account }
-    requires kept { IsKept tables.now book.old }
+    requires held { IsConsistent tables.now book.old }
     ensures same_account { book.new.account ≡ book.old.account }
-    ensures kept { IsKept tables.now book.new }
+    ensures held { IsConsistent tables.now book.new }
     ensures accepted { OnOk result (book.new.accepted ≡ after tables.now book.old.accepted (change_of sent.now)) }
 {
     match sent {
@@ -52,7 +52,7 @@ pub fn book_of(
     requires { AllByRecursion (λ one. account_of one ≡ account) sent.now }
     ensures account { IfOk result (λ book. book.account ≡ account) }
     ensures accepted { IfOk result (λ book. book.accepted ≡ after_all tables.now nothing (map change_of sent.now)) }
-    ensures priced_by { IfOk result (λ book. IsKept tables.now book) }
+    ensures priced_by { IfOk result (λ book. IsConsistent tables.now book) }
     ensures stored { IfOk result (λ book. IsStored tables.now book) }
 {
     laws::stored();

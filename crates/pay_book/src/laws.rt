@@ -4,8 +4,8 @@ ghost use Rattle.pay_book.specs.Boardings.{BoardedByAll, MarkedWithIt, MarkedWit
 ghost use Rattle.std.specs.Prelude.{List, [], ◌≡◌};
 ghost use Rattle.pay_tables.specs.Words.{FareTables};
 ghost use Rattle.pay_book.specs.Books.{BookParts};
-ghost use Rattle.pay_book.specs.Kept.{ChangesEachKind, ChangesArePossible};
-ghost use Rattle.pay_book.specs.Stored.{IsKept, IsStored, TapIsChange, FixIsChange, ChangeIsPossible, ChangeIsMade, ChangeDisturbs};
+ghost use Rattle.pay_book.specs.MarkedTaps.{ChangesEachKind, ChangesArePossible};
+ghost use Rattle.pay_book.specs.Stored.{IsConsistent, IsStored, TapIsChange, FixIsChange, ChangeIsPossible, ChangeIsMade, ChangeDisturbs};
 
 use pay_rules::{Fix, Tap};
 
@@ -17,7 +17,7 @@ pub(crate) fn boarded_by_all()
 }
 
 /// Marks that are kept are those of the taps that are there, once a tap has entered or left and what it disturbs is marked.
-pub(crate) fn kept_marks()
+pub(crate) fn stored_marks()
     ensures with_it { MarkedWithIt }
     ensures without_it { MarkedWithoutIt }
     ensures room_with_it { RoomWithIt }
@@ -61,7 +61,7 @@ pub(crate) fn fix_is_change()
 /// What a book keeps is right: its stored journeys by rail, the marks of its boardings and the sums of its days are those of the
 /// definitions over all that it has accepted, whatever came, and in whatever order.
 pub fn stored()
-    ensures { (tables : FareTables) (book : BookParts) → IsKept tables book → IsStored tables book }
+    ensures { (tables : FareTables) (book : BookParts) → IsConsistent tables book → IsStored tables book }
 {
     pay_links::laws::kept_as_marks();
     pay_hopper::laws::by_the_last();

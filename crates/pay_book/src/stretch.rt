@@ -5,7 +5,7 @@ ghost use Rattle.pay_rules.specs.declared.tap.Touch.{Touch};
 ghost use Rattle.pay_links.specs.Words.{starts};
 ghost use Rattle.pay_book.specs.Rail.{second_before, third_before, mark_in, starts_if_there};
 ghost use Rattle.pay_book.specs.Fewer.{fewer_of};
-ghost use Rattle.pay_book.specs.Rail.{IsAround, starts_at_it, starts_before_it, starts_behind_it, starts_further};
+ghost use Rattle.pay_book.specs.Rail.{IsAround, starts_at_it, starts_before_it, starts_after_it, starts_further};
 ghost use Rattle.pay_book.specs.Rail.{IsPlaced, IsFirstPlace, IsLastPlace, IsStretch, StandsThere};
 
 use pay_rules::Touch;
@@ -32,7 +32,7 @@ pub(crate) struct Stretch {
 }
 
 /// The tap at a place of the taps without one that may be there.
-#[tactic(auto, using(crate::proofs::Fewer::get_fewer_before, crate::proofs::Fewer::get_fewer_behind, crate::proofs::Fewer::at_most_one_read))]
+#[tactic(auto, using(crate::proofs::Fewer::get_fewer_before, crate::proofs::Fewer::get_fewer_after, crate::proofs::Fewer::at_most_one_read))]
 pub(crate) fn tap_at(
     rail: &Timeline,
     place: usize,
@@ -105,7 +105,7 @@ fn third_before(
     second_before(rail, place, is_there, at - 1, steps)
 }
 
-/// The tap so many places behind one of these.
+/// The tap so many places after one of these.
 #[tactic(auto, using(crate::proofs::Fewer::none_so_far_on))]
 fn tap_after(
     rail: &Timeline,
@@ -175,16 +175,16 @@ fn starts_before_it(tables: &Tables, near: &Around, touch: &Touch) -> bool
         && starts_if_there(tables, &near.third, &near.second, &near.first, &near.here)
 }
 
-/// Whether one does at the tap behind it.
-fn starts_behind_it(tables: &Tables, near: &Around, touch: &Touch) -> bool
-    ensures { result ≡ starts_behind_it tables.now near.now touch.now }
+/// Whether one does at the tap after it.
+fn starts_after_it(tables: &Tables, near: &Around, touch: &Touch) -> bool
+    ensures { result ≡ starts_after_it tables.now near.now touch.now }
 {
     let tap = Some(*touch);
     starts_if_there(tables, &near.first, &tap, &near.here, &near.next)
         && starts_if_there(tables, &near.second, &near.first, &near.here, &near.next)
 }
 
-/// Whether one does at the second tap behind it.
+/// Whether one does at the second tap after it.
 fn starts_further(tables: &Tables, near: &Around, touch: &Touch) -> bool
     ensures { result ≡ starts_further tables.now near.now touch.now }
 {
@@ -253,7 +253,7 @@ fn last_place(
     ensures { (fewer : List Touch) → IsAround fewer place near.now →
         IsPlaced tables.now fewer touch.now is_there place marks.now → IsLastPlace tables.now fewer touch.now place result }
 {
-    if starts_behind_it(tables, near, touch) {
+    if starts_after_it(tables, near, touch) {
         return place;
     }
     if starts_further(tables, near, touch) {

@@ -62,15 +62,15 @@ added_where tables list grown cell.Maximum pence h =
     (omega (arith, h cell.Buses))
     (h cell.Maximum)
 
--- before the others, or behind them
+-- before the others, or after them
 pub one_journey_more : (tables : FareTables) (journey : Journey) (list : List Journey) → cells_of tables (journey ∷ list) ≡ added (cell_of tables journey) (fare tables journey) (cells_of tables list)
 one_journey_more tables journey list =
     added_where tables list (journey ∷ list) (cell_of tables journey) (fare tables journey) (λ one.
     sum_kept (fare tables) (is_cell one (cell_of tables journey)) journey (filter (λ other. is_cell one (cell_of tables other)) list))
 
-pub one_journey_behind : (tables : FareTables) (journey : Journey) (list : List Journey)
+pub one_journey_after : (tables : FareTables) (journey : Journey) (list : List Journey)
     → cells_of tables (list ++ journey ∷ []) ≡ added (cell_of tables journey) (fare tables journey) (cells_of tables list)
-one_journey_behind tables journey list =
+one_journey_after tables journey list =
     added_where tables list (list ++ journey ∷ []) (cell_of tables journey) (fare tables journey) (λ one.
     let p : Journey → Bool = λ other. is_cell one (cell_of tables other) in
     sum_passed (fare tables) p (list ++ journey ∷ []) ∙ sum_by_push (λ other. if_passed (p other) (fare tables other)) list journey

@@ -6,7 +6,7 @@ use Rattle.std.proofs.lemmas.List.Sums.{sum_by-cons}
 use Rattle.pay_caps.proofs.Sums.{if_passed}
 use Rattle.pay_caps.proofs.Weights.{weighed}
 
--- what weighs from a place on is the item there, and what weighs behind it
+-- what weighs from a place on is the item there, and what weighs after it
 weighs_from_at : {X : Type 0} (g : X → Bool) (xs : List X) (ns : List ℕ) (i : ℕ) (d : X) (e : ℕ) → i < length xs → i < length ns
     → weighed g (drop i xs) (drop i ns) ≡ if_passed (g (get_or xs i d)) (get_or ns i e) + weighed g (drop (suc i) xs) (drop (suc i) ns)
 weighs_from_at g [] ns i d e below there = absurd (omega (arith, below))
@@ -22,13 +22,13 @@ weighs_nothing : {X : Type 0} (g : X → Bool) (xs : List X) → weighed g xs []
 weighs_nothing g [] = refl
 weighs_nothing g (x ∷ xs) = refl
 
--- behind the last number nothing weighs
-pub weighs_behind : {X : Type 0} (g : X → Bool) (xs : List X) (ns : List ℕ) (i : ℕ) → length ns ≤ i → weighed g (drop i xs) (drop i ns) ≡ 0
-weighs_behind g xs [] zero h = weighs_nothing g xs
-weighs_behind g xs (n ∷ ns) zero h = absurd (omega (arith, h))
-weighs_behind g [] ns (suc i) h = refl
-weighs_behind g (x ∷ xs) [] (suc i) h = weighs_nothing g (drop i xs)
-weighs_behind g (x ∷ xs) (n ∷ ns) (suc i) h = weighs_behind g xs ns i (omega (arith, h))
+-- after the last number nothing weighs
+pub weighs_after : {X : Type 0} (g : X → Bool) (xs : List X) (ns : List ℕ) (i : ℕ) → length ns ≤ i → weighed g (drop i xs) (drop i ns) ≡ 0
+weighs_after g xs [] zero h = weighs_nothing g xs
+weighs_after g xs (n ∷ ns) zero h = absurd (omega (arith, h))
+weighs_after g [] ns (suc i) h = refl
+weighs_after g (x ∷ xs) [] (suc i) h = weighs_nothing g (drop i xs)
+weighs_after g (x ∷ xs) (n ∷ ns) (suc i) h = weighs_after g xs ns i (omega (arith, h))
 
 -- numbers beside items, without those whose items pass
 abbrev pub cleared : {X : Type 0} → (X → Bool) → List X → List ℕ → List ℕ

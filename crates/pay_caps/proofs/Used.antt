@@ -1,4 +1,4 @@
--- How many of some sums are in use: all behind these are 0, so that a walk may end there.
+-- How many of some sums are in use: all after these are 0, so that a walk may end there.
 use Rattle.std.proofs.Common.{◌≡◌, ◌≢◌, ℕ, ◌+◌, ◌≤◌, ◌<◌, zero, suc, Bool, if◌then◌else◌, List, [], ◌∷◌, length, set, get_or, take, max, refl, ap, ◌∙◌, arith, get_or-set_other, inl, inr}
 use Rattle.std.specs.Prelude.{◌⊎◌, replicate, sum}
 use Rattle.std.specs.List.{zip}
@@ -30,11 +30,11 @@ at_most_one_more (suc n) used = omega arith
 
 -- ---- what is in use
 
-pub behind_used : (ns : List ℕ) (i : ℕ) → used_of ns ≤ i → get_or ns i 0 ≡ 0
+pub after_used : (ns : List ℕ) (i : ℕ) → used_of ns ≤ i → get_or ns i 0 ≡ 0
 unfolding used_of
-behind_used [] i h = refl
-behind_used (n ∷ ns) zero h = none_used n (used_of ns) h
-behind_used (n ∷ ns) (suc i) h = behind_used ns i (fewer_used n (used_of ns) i h)
+after_used [] i h = refl
+after_used (n ∷ ns) zero h = none_used n (used_of ns) h
+after_used (n ∷ ns) (suc i) h = after_used ns i (fewer_used n (used_of ns) i h)
 
 pub used_at_most : (ns : List ℕ) (most : ℕ) → ((i : ℕ) → most ≤ i → get_or ns i 0 ≡ 0) → used_of ns ≤ most
 unfolding used_of
@@ -61,15 +61,15 @@ pub used_with_one : (ns : List ℕ) (place n : ℕ) → used_of (set ns place n)
 used_with_one ns place n =
     used_at_most (set ns place n) (max (used_of ns) (place + 1)) (λ i low.
     let other : i ≢ place = omega (arith, low) in
-    get_or-set_other ns place i n 0 other ∙ behind_used ns i (omega (arith, low)))
+    get_or-set_other ns place i n 0 other ∙ after_used ns i (omega (arith, low)))
 
--- a walk from behind: past a 0, and to what is not 0
+-- a walk from after: past a 0, and to what is not 0
 pub one_less_used : (ns : List ℕ) (place : ℕ) → used_of ns ≤ place + 1 → get_or ns place 0 ≡ 0 → used_of ns ≤ place
 one_less_used ns place h none =
     used_at_most ns place (λ i low.
     elim (here_or_later place i low) [
       | inl here ↦ ap (λ (j : ℕ). get_or ns j 0) here ∙ none
-      | inr later ↦ behind_used ns i (omega (arith, h, later))
+      | inr later ↦ after_used ns i (omega (arith, h, later))
     ])
   where
     here_or_later : (place i : ℕ) → place ≤ i → (i ≡ place) ⊎ (place + 1 ≤ i)
@@ -79,7 +79,7 @@ pub last_used : (ns : List ℕ) (place : ℕ) → used_of ns ≤ place + 1 → 0
 last_used ns place h there =
     elim (all_or_fewer (used_of ns) place h) [
       | inl all ↦ all
-      | inr fewer ↦ absurd (omega (arith, behind_used ns place fewer, there))
+      | inr fewer ↦ absurd (omega (arith, after_used ns place fewer, there))
     ]
   where
     all_or_fewer : (used place : ℕ) → used ≤ place + 1 → (place + 1 ≡ used) ⊎ (used ≤ place)
@@ -87,16 +87,16 @@ last_used ns place h there =
 
 -- ---- walks
 
-pub nothing_behind : (ns : List ℕ) → used_of ns ≤ 0 → sum ns ≡ 0
+pub nothing_after : (ns : List ℕ) → used_of ns ≤ 0 → sum ns ≡ 0
 unfolding used_of
-nothing_behind [] h = refl
-nothing_behind (n ∷ ns) h = omega (arith, sum_by-cons (λ (m : ℕ). m) n ns, none_used n (used_of ns) h, later_used n (used_of ns), nothing_behind ns (omega (arith, h, later_used n (used_of ns))))
+nothing_after [] h = refl
+nothing_after (n ∷ ns) h = omega (arith, sum_by-cons (λ (m : ℕ). m) n ns, none_used n (used_of ns) h, later_used n (used_of ns), nothing_after ns (omega (arith, h, later_used n (used_of ns))))
 
 pub sum_of_used : (ns : List ℕ) (used : ℕ) → used_of ns ≤ used → sum (take used ns) ≡ sum ns
 unfolding used_of
 sum_of_used [] zero h = refl
 sum_of_used [] (suc used) h = refl
-sum_of_used (n ∷ ns) zero h = omega (arith, nothing_behind (n ∷ ns) h)
+sum_of_used (n ∷ ns) zero h = omega (arith, nothing_after (n ∷ ns) h)
 sum_of_used (n ∷ ns) (suc used) h =
     omega (arith, sum_by-cons (λ (m : ℕ). m) n ns, sum_by-cons (λ (m : ℕ). m) n (take used ns), sum_of_used ns used (fewer_used n (used_of ns) used h))
 
@@ -105,7 +105,7 @@ unfolding used_of
 weighs_used g [] ns used h = refl
 weighs_used g (x ∷ xs) [] zero h = refl
 weighs_used g (x ∷ xs) [] (suc used) h = refl
-weighs_used g (x ∷ xs) (n ∷ ns) zero h = omega (arith, weighs_at_most g (x ∷ xs) (n ∷ ns), nothing_behind (n ∷ ns) h)
+weighs_used g (x ∷ xs) (n ∷ ns) zero h = omega (arith, weighs_at_most g (x ∷ xs) (n ∷ ns), nothing_after (n ∷ ns) h)
 weighs_used {X} g (x ∷ xs) (n ∷ ns) (suc used) h =
     let one : X × ℕ → ℕ = λ (one : X × ℕ). if g one.0 then one.1 else 0 in
     omega (arith, sum_by-cons one (x, n) (zip xs ns), sum_by-cons one (x, n) (zip xs (take used ns)), weighs_used g xs ns used (fewer_used n (used_of ns) used h))

@@ -24,7 +24,7 @@ pub fn sums()
     ensures none { (tables : FareTables) → cells_of tables [] ≡ no_fares }
     ensures one_more { (tables : FareTables) (journey : Journey) (list : List Journey) →
         cells_of tables (journey ∷ list) ≡ added (cell_of tables journey) (fare tables journey) (cells_of tables list) }
-    ensures one_behind { (tables : FareTables) (journey : Journey) (list : List Journey) →
+    ensures one_after { (tables : FareTables) (journey : Journey) (list : List Journey) →
         cells_of tables (list ++ journey ∷ []) ≡ added (cell_of tables journey) (fare tables journey) (cells_of tables list) }
     ensures in_any_order { (tables : FareTables) (list other : List Journey) → IsPermutation list other → cells_of tables list ≡ cells_of tables other }
     ensures taken_again { (cell : Cell) (pence : ℕ) (sums : CellSums) → length sums.spans ≡ SPANS → taken cell pence (added cell pence sums) ≡ sums }

@@ -4,7 +4,7 @@ use Rattle.std.specs.Prelude.{OnOk, IfOk, IfErr, slice_index_or}
 use Rattle.std.specs.Result.{result_err}
 use Rattle.std.specs.List.{AllByRecursion}
 use Rattle.pay_rules.specs.InTurn.{IsIn}
-use Rattle.pay_shard.specs.Words.{AreKept, BatchParts, Standing, DeskParts, with_waiting, IsAfterAll, IsNoneOf, without, command_under, IsReplyTo}
+use Rattle.pay_shard.specs.Words.{NothingIsLost, BatchParts, Standing, DeskParts, with_waiting, IsAfterAll, IsNoneOf, without, command_under, IsReplyTo}
 use Rattle.pay_shard.specs.declared.asked.Asked.{Asked}
 use Rattle.pay_shard.specs.declared.asked.Asked.TheVariants as asked
 use Rattle.pay_shard.specs.declared.desk.DeskFault.{DeskFault}
@@ -117,7 +117,7 @@ under : (t : ℕ) (c : Asked) (base more : List (ℕ × Asked)) → IsAfterAll t
 under t c [] more above = ap (λ (b : Bool). if b then Some c else command_under t more) (eq-eqb t t refl)
 under t c (b ∷ base) more above = ap (λ (its : Bool). if its then Some b.1 else command_under t (base ++ (t, c) ∷ more)) (other b.0 t above.0) ∙ under t c base more above.1
 
--- ---- what is left to get, behind what waited
+-- ---- what is left to get, after what waited
 
 pub record IsLeft (day of : ℕ) (taken : List (ℕ × Asked)) (waited : List ℕ) (from : ℕ) (ts : List ℕ) : Type 0 where
   pub base : List (ℕ × Asked)
@@ -139,8 +139,8 @@ module _ (day of : ℕ) (taken : List (ℕ × Asked)) (waited : List ℕ) (from 
   left_under : command_under t taken ≡ Some (asked.Quotes day from of)
   left_under = ap (command_under t) l.whole ∙ under t (asked.Quotes day from of) l.base (quotes_put day of (suc from) ts) l.new.0
 
-  left_behind : IsNoneOf t waited
-  left_behind = l.apart t l.new.1
+  left_after : IsNoneOf t waited
+  left_after = l.apart t l.new.1
 
   left_later : IsNoneOf t ts
   left_later = none_later day of (suc from) (l.base ++ (t, asked.Quotes day from of) ∷ []) (l.waiting ++ t ∷ []) ts t l.new.2 (λ u none. none_middle u t l.waiting [] none)
@@ -250,7 +250,7 @@ module _ {O : Type 0} (Late : Type 0) (day of : ℕ) (tickets : List ℕ) (befor
 
   module _ (count : ℕ) (taken now : List (ℕ × Asked)) (old new : ℕ → Option Answer) (stands after : Standing O) (a b : Answered) (t : ℕ) (rest : List ℕ)
       (g : AreGot count taken old stands a) (is : drop count tickets ≡ t ∷ rest) (next : rest ≡ drop (suc count) tickets) (below : count < of)
-      (same : now ≡ taken) (kept : AreKept old new) (got : after ≡ with_waiting (without t stands.waiting) stands) where
+      (same : now ≡ taken) (kept : NothingIsLost old new) (got : after ≡ with_waiting (without t stands.waiting) stands) where
     abbrev its : Option Answer → Taken
     its o = record { ticket = t; asked = asked.Quotes day count of; answer = o }
 
@@ -260,7 +260,7 @@ module _ {O : Type 0} (Late : Type 0) (day of : ℕ) (tickets : List ℕ) (befor
     now_waits : after ≡ with_waiting (stood.waiting ++ rest) stood
     now_waits =
         got ∙ (ap (λ (x : Standing O). with_waiting (without t x.waiting) x) (g.waits ∙ ap (λ (l : List ℕ). with_waiting (stood.waiting ++ l) stood) is)
-        ∙ ap (λ (w : List ℕ). with_waiting w stood) (without_middle t stood.waiting rest (left_behind day of taken stood.waiting count t rest here) (left_later day of taken stood.waiting count t rest here)))
+        ∙ ap (λ (w : List ℕ). with_waiting w stood) (without_middle t stood.waiting rest (left_after day of taken stood.waiting count t rest here) (left_later day of taken stood.waiting count t rest here)))
 
     one_more : (o : Option Answer) → IfNone o Late → IfSome o (IsAnswerTo new (its o)) → Knows b (g.done ++ its o ∷ []) → AreGot (suc count) now new after b
     one_more o late said knows = subst (λ (m : List (ℕ × Asked)). AreGot (suc count) m new after b) (sym same) (record {

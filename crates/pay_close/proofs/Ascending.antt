@@ -20,11 +20,11 @@ module _ {X Y : Type 0} (account : Y → ℕ) (p : ℕ × X → Bool) (f : ℕ �
   not_before : (x : Y) (n : ℕ) (e : ℕ × X) → account x ≡ n → is_lt (nat_cmp n e.0) ≡ true → before (f e) x ≡ false
   not_before x n e is h = (ranked account).one_way x (f e) (ap (λ m. is_lt (nat_cmp m (account (f e)))) is ∙ ap (λ m. is_lt (nat_cmp n m)) (same e) ∙ h)
 
-  all_behind : (x : Y) (n : ℕ) (es : List (ℕ × X)) → account x ≡ n → T (below_all nat_cmp n es) → AllByRecursion (λ y. before y x ≡ false) (map f (filter p es))
-  all_behind x n [] is h = tt
-  all_behind x n (e ∷ es) is h =
+  all_after : (x : Y) (n : ℕ) (es : List (ℕ × X)) → account x ≡ n → T (below_all nat_cmp n es) → AllByRecursion (λ y. before y x ≡ false) (map f (filter p es))
+  all_after x n [] is h = tt
+  all_after x n (e ∷ es) is h =
       let both = parts (is_lt (nat_cmp n e.0)) (below_all nat_cmp n es) h in
-      let rest = all_behind x n es is both.1 in
+      let rest = all_after x n es is both.1 in
       elim (p e) as (λ b. AllByRecursion (λ y. before y x ≡ false) (map f (cond b (e ∷ filter p es) (filter p es)))) [
         | true ↦ (not_before x n e is (so _ both.0), rest)
         | false ↦ rest
@@ -37,6 +37,6 @@ module _ {X Y : Type 0} (account : Y → ℕ) (p : ℕ × X → Bool) (f : ℕ �
       let both = parts (below_all nat_cmp e.0 es) (is_sorted nat_cmp es) h in
       let rest = rises es both.1 in
       elim (p e) as (λ b. Rises before (map f (cond b (e ∷ filter p es) (filter p es)))) [
-        | true ↦ (all_behind (f e) e.0 es (same e) both.0, rest)
+        | true ↦ (all_after (f e) e.0 es (same e) both.0, rest)
         | false ↦ rest
       ]

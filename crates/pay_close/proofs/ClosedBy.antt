@@ -70,7 +70,7 @@ module _ (Refuses : DeskFault → Type 0) (Late : Type 0) (of : ℕ) where
     closed = λ clean. tt;
     refused = λ clean ledger is. why ledger;
     of_open = λ clean. inl outside;
-    kept = λ clean live. record { was_open = live; now = refl; committed = refl };
+    unchanged = λ clean live. record { was_open = live; now = refl; committed = refl };
     survives = survives_itself s (IsWhole of put) (gathered put).quotes (gathered put).sets;
   }
 
@@ -119,7 +119,7 @@ module _ (Refuses : DeskFault → Type 0) (Late : Type 0) (of : ℕ) where
         closed = λ clean. (whole, subst (λ (s : List SetsParts). Posts old new (gathered put).quotes s given) same_sets (subst (λ (q : List QuoteParts). Posts old new q sets given) same_quotes (posts clean)));
         refused = λ clean. tt;
         of_open = λ clean. tt;
-        kept = λ clean live. tt;
+        unchanged = λ clean live. tt;
         survives = survives_so;
       };
     }
@@ -131,13 +131,13 @@ module _ (Refuses : DeskFault → Type 0) (Late : Type 0) (of : ℕ) where
     -- or the ledger did not post them
     pub closed_not : (fault : LedgerFault) → (HasCleanDisk new → (ledger : LedgerParts) → IsLedger old.now ledger → IsRefused fault (posted ledger quotes sets)) → (HasCleanDisk new → IsTrue (is_of_store fault) ⊎ IsTrue old.is_open)
         → (HasCleanDisk new → IsTrue new.is_open → IsAsBefore old new) → ClosedSo old new put (Err (Ledger fault))
-    closed_not fault refused of_open kept = record {
+    closed_not fault refused of_open unchanged = record {
       stopped = λ other e. absurd (not_of_desk fault other e);
       closes = record {
         closed = λ clean. tt;
         refused = λ clean ledger is. why_refused ledger fault (refused clean ledger is);
         of_open = λ clean. outside_or_open fault (IsTrue old.is_open) (of_open clean);
-        kept = kept;
+        unchanged = unchanged;
         survives = survives_so;
       };
     }
@@ -198,8 +198,8 @@ module _ (Refuses : DeskFault → Type 0) (Late : Type 0) (of : ℕ) where
   why_said put ledger (Ledger (ledger_fault.Refused why)) (inr f) = inr (f.0, ap refusal_of_posting (refused_is why f.0 f.1), f.2, f.3)
 
   said_closes : (old new : State) (put : List Taken) (result : Result (List Posting) NotClosed) → ClosesBy is_from_outside (IsWhy of put) old new of put result → Closes old new of put (as_said result)
-  said_closes old new put (Ok given) f = record { closed = f.closed; refused = λ clean. tt; of_open = λ clean. tt; kept = f.kept; survives = f.survives }
-  said_closes old new put (Err fault) f = record { closed = λ clean. tt; refused = λ clean ledger is. why_said put ledger fault (f.refused clean ledger is); of_open = f.of_open; kept = f.kept; survives = f.survives }
+  said_closes old new put (Ok given) f = record { closed = f.closed; refused = λ clean. tt; of_open = λ clean. tt; unchanged = f.unchanged; survives = f.survives }
+  said_closes old new put (Err fault) f = record { closed = λ clean. tt; refused = λ clean ledger is. why_said put ledger fault (f.refused clean ledger is); of_open = f.of_open; unchanged = f.unchanged; survives = f.survives }
 
   pub till_closed : (old new : State) (day : ℕ) (before after : List (ℕ × Asked)) (transcript : ℕ → Option Answer) (result : Result (List Posting) NotClosed) (said : Result (List Posting) Refusal) → said ≡ as_said result
       → IsAsked Refuses Late (AreQuotes day of 0) before after transcript (λ put. ClosedSo old new put result)
@@ -249,8 +249,8 @@ module _ (Refuses : DeskFault → Type 0) (Late : Type 0) (of : ℕ) where
       pub close_refused : (its : LedgerFault) (fault : NotClosed) (result : Result (List Posting) NotClosed) → result ≡ Err fault → fault ≡ Ledger its
           → (HasCleanDisk new → (ledger : LedgerParts) → IsLedger old.now ledger → IsRefused its (posted ledger quotes sets)) → (HasCleanDisk new → IsTrue (is_of_store its) ⊎ IsTrue old.is_open)
           → (HasCleanDisk new → IsTrue new.is_open → IsAsBefore old new) → AskedSo result
-      close_refused its fault result is e refused of_open kept =
+      close_refused its fault result is e refused of_open unchanged =
           subst AskedSo (sym is)
           (subst (λ (w : NotClosed). AskedSo (Err w)) (sym e)
           (weaker Refuses Late (AreQuotes day of 0) before after transcript _ _
-          (λ put told. closed_not old new put quotes sets told.0 (same_quotes ∙ ap (λ (b : BatchParts). b.quotes) told.1) (same_sets ∙ ap (λ (b : BatchParts). b.sets) told.1) survives its refused of_open kept) all))
+          (λ put told. closed_not old new put quotes sets told.0 (same_quotes ∙ ap (λ (b : BatchParts). b.quotes) told.1) (same_sets ∙ ap (λ (b : BatchParts). b.sets) told.1) survives its refused of_open unchanged) all))

@@ -1,7 +1,7 @@
 -- What was asked of the shards, and put in order.
 use Rattle.std.proofs.Common.{◌≡◌, ℕ, ◌+◌, suc, ◌≤◌, List, [], ◌∷◌, ◌++◌, length, Option, Some, None, IfSome, Result, Ok, Err, refl, sym, ap, ◌∙◌, subst, arith, append_assoc, append-nil}
 use Rattle.std.specs.List.{AllByRecursion}
-use Rattle.pay_shard.specs.Words.{AreKept, BatchParts, Standing, DeskParts}
+use Rattle.pay_shard.specs.Words.{NothingIsLost, BatchParts, Standing, DeskParts}
 use Rattle.pay_shard.specs.declared.asked.Asked.{Asked}
 use Rattle.pay_shard.specs.declared.desk.DeskFault.{DeskFault}
 use Rattle.pay_shard.specs.declared.reply.Answer.{Answer}
@@ -22,11 +22,11 @@ pub all_both : {X : Type 0} (P : X → Type 0) (xs ys : List X) → AllByRecursi
 all_both P [] ys f g = g
 all_both P (x ∷ xs) ys f g = (f.0, all_both P xs ys f.1 g)
 
-one_kept : (old new : ℕ → Option Answer) (t : Taken) (o : Option Answer) → AreKept old new → IfSome o (IsAnswerTo old t) → IfSome o (IsAnswerTo new t)
+one_kept : (old new : ℕ → Option Answer) (t : Taken) (o : Option Answer) → NothingIsLost old new → IfSome o (IsAnswerTo old t) → IfSome o (IsAnswerTo new t)
 one_kept old new t None kept f = tt
 one_kept old new t (Some answer) kept f = (kept t.ticket answer f.0, f.1, f.2)
 
-pub answered_kept : (old new : ℕ → Option Answer) (ts : List Taken) → AreKept old new → AreAnswered old ts → AreAnswered new ts
+pub answered_kept : (old new : ℕ → Option Answer) (ts : List Taken) → NothingIsLost old new → AreAnswered old ts → AreAnswered new ts
 answered_kept old new [] kept f = tt
 answered_kept old new (t ∷ ts) kept f = (one_kept old new t t.answer kept f.0, answered_kept old new ts kept f.1)
 

@@ -1,4 +1,4 @@
--- Lists one behind another, of which one alone has what is looked for.
+-- Lists one after another, of which one alone has what is looked for.
 use Rattle.std.proofs.Common.{◌≡◌, ℕ, zero, suc, ◌+◌, ◌<◌, ◌≤◌, Bool, List, [], ◌++◌, filter, inl, inr, refl, ◌∙◌, arith, append-nil, eq-or-lt_of_le}
 use Rattle.std.proofs.lemmas.List.Elements.{filter-append}
 

@@ -33,7 +33,7 @@ in_order b = record { quotes = in_order_by (λ (q : QuoteParts). q.account) b.qu
 abbrev pub no_batch : BatchParts
 no_batch = record { quotes = []; sets = [] }
 
--- a batch behind another
+-- a batch after another
 abbrev pub both : BatchParts → BatchParts → BatchParts
 both b c = record { quotes = b.quotes ++ c.quotes; sets = b.sets ++ c.sets }
 
@@ -47,7 +47,7 @@ abbrev pub batch_of_answer : Option Answer → BatchParts
 batch_of_answer (Some answer) = batch_in answer.reply
 batch_of_answer None = no_batch
 
--- the batches of all answers, one behind another
+-- the batches of all answers, one after another
 abbrev pub brought : List Taken → BatchParts
 brought [] = no_batch
 brought (t ∷ ts) = both (batch_of_answer t.answer) (brought ts)

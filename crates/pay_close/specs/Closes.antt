@@ -28,7 +28,7 @@ pub record ClosesBy {E : Type 0} (from_outside : E → Bool) (Why : LedgerParts 
   pub closed : HasCleanDisk new → IfOk result (λ given. IsWhole of put × Posts old new (gathered put).quotes (gathered put).sets given)
   pub refused : HasCleanDisk new → IfErr result (λ fault. (ledger : LedgerParts) → IsLedger old.now ledger → Why ledger fault)
   pub of_open : HasCleanDisk new → IfErr result (λ fault. IsTrue (from_outside fault) ⊎ IsTrue old.is_open)
-  pub kept : HasCleanDisk new → IsTrue new.is_open → OnErr result (IsAsBefore old new)
+  pub unchanged : HasCleanDisk new → IsTrue new.is_open → OnErr result (IsAsBefore old new)
   pub survives : Survives old new (λ trees. IsWhole of put × MayLeave old (gathered put).quotes (gathered put).sets trees)
 
 -- why a ledger does not post: the store failed, or memory was wanting; or all quotes came, and it is what posting them is refused for

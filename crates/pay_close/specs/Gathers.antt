@@ -34,7 +34,7 @@ AreNew day of from taken waiting [] = ⊤
 AreNew day of from taken waiting (ticket ∷ tickets) =
     IsAfterAll ticket taken × IsNoneOf ticket waiting × AreNew day of (suc from) (taken ++ (ticket, asked.Quotes day from of) ∷ []) (waiting ++ ticket ∷ []) tickets
 
--- A desk took the commands to the first shards under these tickets, which wait behind what waited.
+-- A desk took the commands to the first shards under these tickets, which wait after what waited.
 pub record ArePut {O : Type 0} (day of : ℕ) (tickets : List ℕ) (before after : List (ℕ × Asked)) (stood stands : Standing O) : Type 0 where
   pub taken : after ≡ before ++ quotes_put day of 0 tickets
   pub waits : stands ≡ with_waiting (stood.waiting ++ tickets) stood

@@ -3,7 +3,7 @@ ghost use Rattle.std.specs.Prelude.{◌≡◌, ◌≤◌, ◌<◌, [], false, If
 ghost use Rattle.pay_day.specs.declared.limits.TheConstants.{FIRST_DAY, LAST_DAY};
 ghost use Rattle.pay_shard.specs.declared.asked.Asked.TheVariants.{Quotes};
 ghost use Rattle.pay_shard.specs.declared.limits.TheConstants.{MOST_SHARDS};
-ghost use Rattle.pay_shard.specs.Words.{AreKept};
+ghost use Rattle.pay_shard.specs.Words.{NothingIsLost};
 ghost use Rattle.pay_session.specs.Words.{AreQuotes, MaySometimeRefuse};
 ghost use Rattle.pay_close.specs.Batches.{brought, no_batch};
 ghost use Rattle.pay_close.specs.Gathers.{ArePut, Keeps, first_fault, told_of, IsAskedAt, IsToldAt};
@@ -33,7 +33,7 @@ fn quotes_command(day: u32, shard: u8, of: u8) -> Command
 /// What is known of the answers so far.
 #[derive(Drop)]
 pub struct Answered {
-    /// What they brought, one behind another, if none was without quotes and there was memory.
+    /// What they brought, one after another, if none was without quotes and there was memory.
     all: Gathered,
     /// The fault of the first that brought no quotes.
     fault: Option<DeskFault>,
@@ -106,7 +106,7 @@ fn put_all<D: Desk>(desk: &mut D, day: u32, of: u8, tickets: &mut Tickets) -> Re
     ensures put { ArePut day of tickets.new.items (D.parts desk.old).taken (D.parts desk.new).taken (D.parts desk.old).standing (D.parts desk.new).standing }
     ensures all { OnOk result (length tickets.new.items ≡ of) }
     ensures refused { IfErr result (λ fault. (length tickets.new.items < of) × MaySometimeRefuse D.parts (D.parts desk.old).standing fault) }
-    ensures transcript { AreKept (D.parts desk.old).transcript (D.parts desk.new).transcript }
+    ensures transcript { NothingIsLost (D.parts desk.old).transcript (D.parts desk.new).transcript }
 {
     for shard in 0..of {
         let ticket = match desk.put(quotes_command(day, shard, of)) {
@@ -118,14 +118,14 @@ fn put_all<D: Desk>(desk: &mut D, day: u32, of: u8, tickets: &mut Tickets) -> Re
     Ok(())
 }
 
-/// Asks the shards of a desk, from shard 0 on, and then gets what they bring, one behind another. Once a command is refused no more is
+/// Asks the shards of a desk, from shard 0 on, and then gets what they bring, one after another. Once a command is refused no more is
 /// put; whatever comes of one, the replies to all that were put are got.
 pub(crate) fn ask_all<D: Desk>(alloc: Global, desk: &mut D, day: u32) -> Result<Gathered, NotClosed>
     requires { (FIRST_DAY ≤ day) × (day ≤ LAST_DAY) }
     ensures asked { IsAskedAt D.parts desk.old desk.new (AreQuotes day (D.parts desk.old).standing.shards 0)
         (IsToldAt D.parts desk.old (D.parts desk.old).standing.shards brought result) }
     ensures some { 1 ≤ (D.parts desk.old).standing.shards }
-    ensures transcript { AreKept (D.parts desk.old).transcript (D.parts desk.new).transcript }
+    ensures transcript { NothingIsLost (D.parts desk.old).transcript (D.parts desk.new).transcript }
     ensures same_desk { (D.parts desk.new).standing ≡ (D.parts desk.old).standing }
 {
     let of = desk.shards();

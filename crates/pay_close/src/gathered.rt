@@ -1,7 +1,7 @@
 //! What the shards of a desk give for the close of a day.
 ghost use Rattle.std.specs.Prelude.{◌≡◌, ◌≤◌, [], OnOk};
 ghost use Rattle.pay_day.specs.declared.limits.TheConstants.{FIRST_DAY, LAST_DAY};
-ghost use Rattle.pay_shard.specs.Words.{AreKept};
+ghost use Rattle.pay_shard.specs.Words.{NothingIsLost};
 ghost use Rattle.pay_session.specs.Words.{AreQuotes};
 ghost use Rattle.pay_close.specs.Batches.{in_order_by, in_order, both, gathered};
 ghost use Rattle.pay_close.specs.Gathers.{IsAskedAt, IsToldAt};
@@ -56,7 +56,7 @@ impl Gathered {
         }
     }
 
-    /// A shard's batch behind what there is. After an `Err` what there is is of no further use.
+    /// A shard's batch after what there is. After an `Err` what there is is of no further use.
     pub(crate) fn add(&mut self, batch: Batch) -> Result<(), AllocError>
         ensures { OnOk result (self.new ≡ both self.old batch) }
     {
@@ -97,7 +97,7 @@ pub fn gather<D: Desk>(alloc: Global, desk: &mut D, day: u32) -> Result<Gathered
     requires { (FIRST_DAY ≤ day) × (day ≤ LAST_DAY) }
     ensures asked { IsAskedAt D.parts desk.old desk.new (AreQuotes day (D.parts desk.old).standing.shards 0)
         (IsToldAt D.parts desk.old (D.parts desk.old).standing.shards gathered result) }
-    ensures transcript { AreKept (D.parts desk.old).transcript (D.parts desk.new).transcript }
+    ensures transcript { NothingIsLost (D.parts desk.old).transcript (D.parts desk.new).transcript }
     ensures same_desk { (D.parts desk.new).standing ≡ (D.parts desk.old).standing }
 {
     let mut all = ask_all(alloc, desk, day)?;

@@ -3,7 +3,7 @@ ghost use Rattle.std.specs.Prelude.{◌≡◌, ◌≤◌, OnOk};
 ghost use Rattle.sqlite.specs.Held.{state};
 ghost use Rattle.sqlite.specs.State.{HasCleanDisk};
 ghost use Rattle.pay_day.specs.declared.limits.TheConstants.{FIRST_DAY, LAST_DAY};
-ghost use Rattle.pay_shard.specs.Words.{AreKept};
+ghost use Rattle.pay_shard.specs.Words.{NothingIsLost};
 ghost use Rattle.pay_ledger.specs.Words.{IsOnDisk};
 ghost use Rattle.pay_session.specs.Words.{AreQuotes};
 ghost use Rattle.pay_close.specs.Closes.{IsClosedSoAt};
@@ -31,7 +31,7 @@ pub fn close<D: Desk, S: Alter>(
     ensures closed { IsAskedAt D.parts desk.old desk.new (AreQuotes day (D.parts desk.old).standing.shards 0)
         (IsClosedSoAt D.parts desk.old (state S.Store ledger.old) (state S.Store ledger.new) result) }
     ensures lasts { HasCleanDisk (state S.Store ledger.new) → OnOk result (IsOnDisk (state S.Store ledger.new)) }
-    ensures transcript { AreKept (D.parts desk.old).transcript (D.parts desk.new).transcript }
+    ensures transcript { NothingIsLost (D.parts desk.old).transcript (D.parts desk.new).transcript }
     ensures same_desk { (D.parts desk.new).standing ≡ (D.parts desk.old).standing }
 {
     let gathered = gather(alloc, desk, day)?;

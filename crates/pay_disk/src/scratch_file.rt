@@ -119,7 +119,7 @@ fn resize(file: &mut Vec<u8>, len: usize) -> Result<(), AllocError>
     file.resize(len, 0)
 }
 
-/// Bytes written over those from a place on, or behind the end.
+/// Bytes written over those from a place on, or after the end.
 fn overwrite(file: &mut Vec<u8>, at: usize, bytes: &[u8]) -> Result<(), AllocError>
     ensures written { OnOk result (Holds file.new.items at bytes.now) }
     ensures others { Torn at (length bytes.now) file.old.items file.new.items }

@@ -56,7 +56,7 @@ impl FareFileFault {
         }
     }
 
-    /// The name that is printed behind the number.
+    /// The name that is printed after the number.
     pub fn name(self) -> &'static str
         ensures { result.now ≡ fault_name self }
     {

@@ -14,7 +14,7 @@ use Rattle.pay_rules.specs.Effective.{is_voided}
 use Rattle.pay_fix.specs.Changes.{IsOneMore, IsChanged}
 use Rattle.pay_rules.specs.SameFix.{number_from_same}
 use Rattle.pay_fix.proofs.AmongFixes.{filter_same}
-use Rattle.pay_fix.proofs.OneMore.{HasOneMore, more_behind, more_before, more_mapped, more_pass}
+use Rattle.pay_fix.proofs.OneMore.{HasOneMore, more_after, more_before, more_mapped, more_pass}
 use Rattle.pay_fix.proofs.OwnTouches.{own_numbers_moved}
 
 -- ---- of touches in whatever arrangement
@@ -68,7 +68,7 @@ one_more_tap taps low tap high p q fills others is agree fails passes same =
 pub one_more_fill : (taps : List Tap) (p q : Tap → Bool) (touch : Touch) (fewer more : List Touch) → AllByRecursion (λ t. p t ≡ q t) taps → HasOneMore touch fewer more
     → HasOneMore touch (map touch_of (filter p taps) ++ fewer) (map touch_of (filter q taps) ++ more)
 one_more_fill taps p q touch fewer more agree h =
-    subst (λ l. HasOneMore touch (map touch_of (filter p taps) ++ fewer) (map touch_of l ++ more)) (filter_same p q taps agree) (more_behind (map touch_of (filter p taps)) touch fewer more h)
+    subst (λ l. HasOneMore touch (map touch_of (filter p taps) ++ fewer) (map touch_of l ++ more)) (filter_same p q taps agree) (more_after (map touch_of (filter p taps)) touch fewer more h)
 
 -- ---- tests
 

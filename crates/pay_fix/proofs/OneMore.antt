@@ -9,11 +9,11 @@ pub record HasOneMore {X : Type 0} (x : X) (fewer more : List X) : Type 0 where
   pub is_fewer : fewer ≡ before ++ after
   pub is_more : more ≡ before ++ x ∷ after
 
--- ---- behind and before others, and mapped
+-- ---- after and before others, and mapped
 
 module _ {X : Type 0} where
-  pub more_behind : (front : List X) (x : X) (fewer more : List X) → HasOneMore x fewer more → HasOneMore x (front ++ fewer) (front ++ more)
-  more_behind front x fewer more h = record {
+  pub more_after : (front : List X) (x : X) (fewer more : List X) → HasOneMore x fewer more → HasOneMore x (front ++ fewer) (front ++ more)
+  more_after front x fewer more h = record {
     before = front ++ h.before;
     after = h.after;
     is_fewer = ap (λ l. front ++ l) h.is_fewer ∙ sym (append_assoc front h.before h.after);
@@ -44,7 +44,7 @@ module _ {X : Type 0} where
 
 module _ {X : Type 0} where
   more_kept : (b c : Bool) (y x : X) (fewer more : List X) → b ≡ c → HasOneMore x fewer more → HasOneMore x (cond b (y ∷ fewer) fewer) (cond c (y ∷ more) more)
-  more_kept true true y x fewer more e h = more_behind (y ∷ []) x fewer more h
+  more_kept true true y x fewer more e h = more_after (y ∷ []) x fewer more h
   more_kept true false y x fewer more e h = absurd (cc)
   more_kept false true y x fewer more e h = absurd (cc)
   more_kept false false y x fewer more e h = h
@@ -79,7 +79,7 @@ module _ {X : Type 0} where
     is_more = ap (λ l. l ++ flat_map g high) one ∙ ap (λ l. y ∷ l) (sym (flat_same f g high agree));
   }
   more_given f g (z ∷ low) x high y agree none one =
-      subst (λ l. HasOneMore y (f z ++ flat_map f (low ++ x ∷ high)) (l ++ flat_map g (low ++ x ∷ high))) agree.0 (more_behind (f z) y _ _ (more_given f g low x high y agree.1 none one))
+      subst (λ l. HasOneMore y (f z ++ flat_map f (low ++ x ∷ high)) (l ++ flat_map g (low ++ x ∷ high))) agree.0 (more_after (f z) y _ _ (more_given f g low x high y agree.1 none one))
 
   pub given_with : {Y : Type 0} (f : X → List Y) (low : List X) (x : X) (high : List X) (y : Y) → f x ≡ y ∷ [] → HasOneMore y (flat_map f (low ++ high)) (flat_map f (low ++ x ∷ high))
   given_with f [] x high y one = record {
@@ -88,7 +88,7 @@ module _ {X : Type 0} where
     is_fewer = refl;
     is_more = ap (λ l. l ++ flat_map f high) one;
   }
-  given_with f (z ∷ low) x high y one = more_behind (f z) y _ _ (given_with f low x high y one)
+  given_with f (z ∷ low) x high y one = more_after (f z) y _ _ (given_with f low x high y one)
 
   -- ---- an element put back among the others
 

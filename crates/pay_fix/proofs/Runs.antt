@@ -1,4 +1,4 @@
--- Accepted taps in runs, one behind another.
+-- Accepted taps in runs, one after another.
 use Rattle.std.proofs.Common.{◌≡◌, ℕ, ◌+◌, ◌≤◌, not, List, ◌++◌, length, map, take, drop, sym, ap, ◌∙◌, arith, append_assoc, append-nil, length-drop, length-take, take-append-drop, drop-drop, drop_of_length-le}
 use Rattle.std.proofs.lemmas.List.{map-append}
 use Rattle.std.proofs.lemmas.List.Elements.{filter-append}
@@ -14,7 +14,7 @@ module _ {X : Type 0} where
   pub run_within : (all run : List X) (place : ℕ) → run ≡ take (length run) (drop place all) → place ≤ length all → place + length run ≤ length all
   run_within all run place is within = omega (arith, ap length is, length-take (length run) (drop place all), length-drop place all)
 
-  -- what is left is the run, and what is left behind it
+  -- what is left is the run, and what is left after it
   left : (all run : List X) (place : ℕ) → run ≡ take (length run) (drop place all) → drop place all ≡ run ++ drop (place + length run) all
   left all run place is =
       sym (take-append-drop (length run) (drop place all)) ∙ ap (λ l. l ++ drop (length run) (drop place all)) (sym is) ∙ ap (λ l. run ++ l) (simp drop-drop)

@@ -8,7 +8,7 @@ use pay_rules::{Fix, Numbered, Tap, Touch, What};
 use pay_taps::TapSet;
 
 /// What an accepted tap or correction does to the effective taps of its account.
-#[derive(Clone, Copy, Debug, PartialEq, Eq)]
+#[derive(Clone, Copy)]
 pub enum Change {
     /// They stay as they are.
     Nothing,

@@ -140,12 +140,12 @@ is_filtered : {X : Type 0} (p : X → Bool) (list : List X) (x : X) → p x ≡ 
 is_filtered p [] x is there = absurd there
 is_filtered p (y ∷ list) x is there = elim there [
   | inl here ↦ subst (λ b. IsIn (cond b (y ∷ filter p list) (filter p list)) x) (sym (ap p here ∙ is)) (inl here)
-  | inr later ↦ behind (p y) (is_filtered p list x is later)
+  | inr later ↦ beyond (p y) (is_filtered p list x is later)
 ]
   where
-    behind : (b : Bool) → IsIn (filter p list) x → IsIn (cond b (y ∷ filter p list) (filter p list)) x
-    behind true h = inr h
-    behind false h = h
+    beyond : (b : Bool) → IsIn (filter p list) x → IsIn (cond b (y ∷ filter p list) (filter p list)) x
+    beyond true h = inr h
+    beyond false h = h
 
 -- an account with a tap or a Fill on these days is among those of the close
 pub is_in_batch : (state : State) (day account : ℕ) → is_quoted day (sets account (accepted_of state account)) ≡ true → IsIn (quoted state day 0 1) (account, accepted_of state account)

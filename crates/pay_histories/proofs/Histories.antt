@@ -13,7 +13,7 @@ use Rattle.pay_rules.specs.QuoteParts.{QuoteParts, IsQuote}
 use Rattle.pay_rules.specs.Quotes.{quote}
 use Rattle.pay_rules.specs.SetsParts.{SetsParts, sets}
 use Rattle.pay_rules.specs.State.{State, accepted_of}
-use Rattle.pay_postings.specs.Kept.{AreKept}
+use Rattle.pay_postings.specs.Paid.{ArePaid}
 use Rattle.pay_postings.specs.Ledger.{LedgerParts, posted}
 use Rattle.pay_postings.specs.Postings.{net, shares_posted, last_of}
 use Rattle.pay_rules.specs.declared.post_fault.PostFault.{PostFault}
@@ -117,14 +117,14 @@ module _ (tables : FareTables) (operators : (account : ℕ) (accepted : Accepted
 -- ---- postings that were posted one after another
 
 abbrev pub KeepsOne : Type 0
-KeepsOne = (ledger after : LedgerParts) (quotes : List QuoteParts) (sets : List SetsParts) (given : List Posting) → AreKept ledger.postings → AllByRecursion IsQuote quotes → posted ledger quotes sets ≡ Ok (given, after) → AreKept after.postings
+KeepsOne = (ledger after : LedgerParts) (quotes : List QuoteParts) (sets : List SetsParts) (given : List Posting) → ArePaid ledger.postings → AllByRecursion IsQuote quotes → posted ledger quotes sets ≡ Ok (given, after) → ArePaid after.postings
 
 module _ (keeps : KeepsOne) (tables : FareTables) where
-  kept_by : (books : Books) (day : ℕ) (r : Closing) → close tables books day ≡ r → AllByRecursion IsQuote (batch_of_all tables books.state day).quotes → AreKept books.ledger.postings → AreKept (ledger_after books.ledger r).postings
+  kept_by : (books : Books) (day : ℕ) (r : Closing) → close tables books day ≡ r → AllByRecursion IsQuote (batch_of_all tables books.state day).quotes → ArePaid books.ledger.postings → ArePaid (ledger_after books.ledger r).postings
   kept_by books day (Ok answer) e are kept = keeps books.ledger answer.1 (batch_of_all tables books.state day).quotes (batch_of_all tables books.state day).sets answer.0 kept are e
   kept_by books day (Err why) e are kept = kept
 
-  pub kept_after : (books : Books) (events : List Event) → AreQuotes tables books events → AreKept books.ledger.postings → AreKept (after_all tables books events).ledger.postings
+  pub kept_after : (books : Books) (events : List Event) → AreQuotes tables books events → ArePaid books.ledger.postings → ArePaid (after_all tables books events).ledger.postings
   kept_after books [] are kept = kept
   kept_after books (Answered item ∷ events) are kept = kept_after (after tables books (Answered item)) events are kept
   kept_after books (Closed day ∷ events) are kept = kept_after (after tables books (Closed day)) events are.1 (kept_by books day (close tables books day) refl are.0 kept)

@@ -5,7 +5,7 @@ ghost use Rattle.std.specs.FinMap.{empty};
 ghost use Rattle.pay_tables.specs.Words.{FareTables};
 ghost use Rattle.pay_rules.specs.declared.post_fault.PostFault.{PostFault};
 ghost use Rattle.pay_rules.specs.declared.post_fault.PostFault.TheVariants as fault;
-ghost use Rattle.pay_postings.specs.Words.{total, net, shares_posted, AreKept};
+ghost use Rattle.pay_postings.specs.Words.{total, net, shares_posted, ArePaid};
 ghost use Rattle.pay_shard.specs.Words.{replay};
 ghost use Rattle.pay_close.specs.Close.{new_books, close, IsLate, Event, history, postings_after, answered, AreQuotes};
 ghost use Rattle.pay_histories.specs.Payments.{NetIsDueByLast, SharesAreByLast, ClosedNetIsDue, ClosedSharesAreDue};
@@ -52,10 +52,10 @@ pub fn states()
 
 /// Whatever was answered and closed, the postings of the ledger were posted one after another, so that as much is posted as
 /// was due at each of them. That each quote is in its ranges is what its type says.
-pub fn kept()
-    ensures { (tables : FareTables) (events : List Event) → AreQuotes tables new_books events → AreKept (postings_after tables events) }
+pub fn paid()
+    ensures { (tables : FareTables) (events : List Event) → AreQuotes tables new_books events → ArePaid (postings_after tables events) }
 {
-    pay_postings::laws::kept();
+    pay_postings::laws::paid();
 }
 
 /// What closes archived is restored, whatever was answered and closed, as long as each command has its numbers in their ranges: the

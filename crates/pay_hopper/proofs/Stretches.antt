@@ -4,7 +4,7 @@ use Rattle.std.specs.List.{fold, zip}
 use Rattle.pay_day.specs.Words.{Stamp}
 use Rattle.pay_rules.specs.declared.tap.Touch.{Touch}
 use Rattle.pay_hopper.specs.LastPaid.{pays_by_last, last_paid_after, marks_by_last, last_paid_over}
-use Rattle.pay_hopper.specs.Laws.{MarksInStretches, LastInStretches, PayingTapsRestart, LastPaidIsMarked, LastMarkedFromBehind}
+use Rattle.pay_hopper.specs.Laws.{MarksInStretches, LastInStretches, PayingTapsRestart, LastPaidIsMarked, LastMarkedFromAfter}
 
 pub marks_in_stretches : MarksInStretches
 marks_in_stretches hopper last [] later = refl
@@ -34,12 +34,12 @@ last_is_marked hopper last (tap ∷ later) = last_is_marked hopper (last_paid_af
 pub last_paid_is_marked : LastPaidIsMarked
 last_paid_is_marked hopper taps = last_is_marked hopper None taps
 
-one_behind : (last : Option Stamp) (marks : List Bool) (taps : List Touch) (mark : Bool) (tap : Touch) → length marks ≡ length taps
+one_after : (last : Option Stamp) (marks : List Bool) (taps : List Touch) (mark : Bool) (tap : Touch) → length marks ≡ length taps
     → fold one_more last (zip (marks ++ mark ∷ []) (taps ++ tap ∷ [])) ≡ (if mark then Some tap.stamp else fold one_more last (zip marks taps))
-one_behind last [] [] mark tap same = refl
-one_behind last [] (first ∷ taps) mark tap same = absurd (omega (arith, same))
-one_behind last (first ∷ marks) [] mark tap same = absurd (omega (arith, same))
-one_behind last (its ∷ marks) (first ∷ taps) mark tap same = one_behind (one_more last (its, first)) marks taps mark tap (omega (arith, same))
+one_after last [] [] mark tap same = refl
+one_after last [] (first ∷ taps) mark tap same = absurd (omega (arith, same))
+one_after last (first ∷ marks) [] mark tap same = absurd (omega (arith, same))
+one_after last (its ∷ marks) (first ∷ taps) mark tap same = one_after (one_more last (its, first)) marks taps mark tap (omega (arith, same))
 
-pub last_marked_from_behind : LastMarkedFromBehind
-last_marked_from_behind marks taps mark tap same = one_behind None marks taps mark tap same
+pub last_marked_from_after : LastMarkedFromAfter
+last_marked_from_after marks taps mark tap same = one_after None marks taps mark tap same

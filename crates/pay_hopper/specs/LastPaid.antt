@@ -81,7 +81,7 @@ over_free_ones = refl
 over_none : last_paid_over 3600 None [] ≡ None
 over_none = refl
 
--- the last one that is marked stands behind all others that are
+-- the last one that is marked stands after all others that are
 last_of_marked : last_marked (true ∷ false ∷ true ∷ false ∷ []) (map boarding (0 ∷ 3000 ∷ 5000 ∷ 6601 ∷ [])) ≡ Some (morning 5000)
 unfolding boarding morning
 last_of_marked = refl

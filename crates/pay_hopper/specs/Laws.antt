@@ -14,7 +14,7 @@ abbrev pub LastInStretches : Type 0
 LastInStretches = (hopper : ℕ) (last : Option Stamp) (earlier later : List Touch)
     → last_paid_over hopper last (earlier ++ later) ≡ last_paid_over hopper (last_paid_over hopper last earlier) later
 
--- where a boarding pays after either of two last ones that paid, it and all behind it have the same marks after both
+-- where a boarding pays after either of two last ones that paid, it and all after it have the same marks after both
 abbrev pub PayingTapsRestart : Type 0
 PayingTapsRestart = (hopper : ℕ) (last other : Option Stamp) (tap : Touch) (later : List Touch)
     → pays_by_last hopper last tap.stamp.utc ≡ true → pays_by_last hopper other tap.stamp.utc ≡ true
@@ -24,7 +24,7 @@ PayingTapsRestart = (hopper : ℕ) (last other : Option Stamp) (tap : Touch) (la
 abbrev pub LastPaidIsMarked : Type 0
 LastPaidIsMarked = (hopper : ℕ) (taps : List Touch) → last_paid_over hopper None taps ≡ last_marked (marks_by_last hopper None taps) taps
 
--- the last marked boarding is the one behind all others, if it is marked, and else the last marked one of the others
-abbrev pub LastMarkedFromBehind : Type 0
-LastMarkedFromBehind = (marks : List Bool) (taps : List Touch) (mark : Bool) (tap : Touch) → length marks ≡ length taps
+-- the last marked boarding is the one after all others, if it is marked, and else the last marked one of the others
+abbrev pub LastMarkedFromAfter : Type 0
+LastMarkedFromAfter = (marks : List Bool) (taps : List Touch) (mark : Bool) (tap : Touch) → length marks ≡ length taps
     → last_marked (marks ++ mark ∷ []) (taps ++ tap ∷ []) ≡ (if mark then Some tap.stamp else last_marked marks taps)

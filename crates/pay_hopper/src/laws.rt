@@ -4,7 +4,7 @@ ghost use Rattle.std.specs.Prelude.{◌≡◌, ℕ, Bool, List, None};
 ghost use Rattle.pay_rules.specs.declared.tap.Touch.{Touch};
 ghost use Rattle.pay_rules.specs.Hopper.{IsPayingSet, instants_of, paying_marks};
 ghost use Rattle.pay_hopper.specs.LastPaid.{marks_by_last};
-ghost use Rattle.pay_hopper.specs.Laws.{MarksInStretches, LastInStretches, PayingTapsRestart, LastPaidIsMarked, LastMarkedFromBehind};
+ghost use Rattle.pay_hopper.specs.Laws.{MarksInStretches, LastInStretches, PayingTapsRestart, LastPaidIsMarked, LastMarkedFromAfter};
 
 /// The rule speaks of paying taps to say which taps pay, and still there is one such set for any
 /// instants, and it can be computed.
@@ -26,13 +26,13 @@ pub fn in_stretches()
 {}
 
 /// Where a bus tap pays by either of two moments of the last one before it that paid, it and all taps
-/// behind it have the same marks by both.
+/// after it have the same marks by both.
 pub fn paying_taps_restart()
     ensures { PayingTapsRestart }
 {}
 
-/// The last bus tap that paid is the last that is marked, and that one is found from behind.
+/// The last bus tap that paid is the last that is marked, and that one is found from after.
 pub fn last_paid_by_marks()
     ensures same { LastPaidIsMarked }
-    ensures from_behind { LastMarkedFromBehind }
+    ensures from_after { LastMarkedFromAfter }
 {}

@@ -6,16 +6,16 @@ use Rattle.pay_jobs.specs.Check.{CheckEnds, CheckFails, IsCounted}
 use Rattle.pay_jobs.specs.declared.fault.Fault.{Fault}
 use Rattle.pay_jobs.specs.declared.fault.Fault.TheVariants.{Output}
 
--- what stands before a piece, and all that stands behind it
-behind : (before piece rest all : List ℕ) → all ≡ before ++ piece → all ++ rest ≡ before ++ (piece ++ rest)
-behind before piece rest all is = ap (λ l. l ++ rest) is ∙ append_assoc before piece rest
+-- what stands before a piece, and all that stands after it
+beyond : (before piece rest all : List ℕ) → all ≡ before ++ piece → all ++ rest ≡ before ++ (piece ++ rest)
+beyond before piece rest all is = ap (λ l. l ++ rest) is ∙ append_assoc before piece rest
 
--- four pieces and an end, each put behind those before it
+-- four pieces and an end, each put after those before it
 pub four_and_end : (none one two three four all a b c d e : List ℕ) → none ≡ [] → one ≡ none ++ a → two ≡ one ++ b → three ≡ two ++ c → four ≡ three ++ d → all ≡ four ++ e
     → all ≡ (a ++ (b ++ (c ++ d))) ++ e
 four_and_end none one two three four all a b c d e empty is-a is-b is-c is-d is-e =
-    is-e ∙ ap (λ l. l ++ e) (is-d ∙ (behind two c d three is-c ∙ (behind one b (c ++ d) two is-b
-    ∙ (behind none a (b ++ (c ++ d)) one is-a ∙ ap (λ l. l ++ (a ++ (b ++ (c ++ d)))) empty))))
+    is-e ∙ ap (λ l. l ++ e) (is-d ∙ (beyond two c d three is-c ∙ (beyond one b (c ++ d) two is-b
+    ∙ (beyond none a (b ++ (c ++ d)) one is-a ∙ ap (λ l. l ++ (a ++ (b ++ (c ++ d)))) empty))))
 
 pub check_ends : {T E : Type 0} (r : Result T E) (fares line : List ℕ) (held written : Option (List ℕ)) → IsCounted fares line
     → OnOk r (Appends held written line) → OnOk r (CheckEnds fares held written)

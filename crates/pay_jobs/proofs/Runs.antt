@@ -86,7 +86,7 @@ module _ {S : Type 0} (store : Ghosts S) (old new : Held S) where
 
   same_ledger : (has_line : Bool) → IsTakenWith store old new has_line → HasCleanDisk (state store new) → (found : LedgerParts) → IsLedger (state store old).now found → HasLedger (state store new) (Some found)
   same_ledger true taken clean found is live = subst (λ h. IsLedger (state store h).now found) (sym taken) is
-  same_ledger false taken clean found is live = subst (λ db. IsLedger db found) (sym (taken.kept clean live).now) is
+  same_ledger false taken clean found is live = subst (λ db. IsLedger db found) (sym (taken.unchanged clean live).now) is
 
   bare_without : (lines : ℕ) → lines ≡ 0 → IsTakenWith store old new (nat_lt 0 lines) → IsBare store old new true
   bare_without lines none taken = (subst (λ n. IsTakenWith store old new (nat_lt 0 n)) none taken).bare

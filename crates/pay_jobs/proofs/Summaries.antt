@@ -10,7 +10,7 @@ use Rattle.pay_rules.specs.declared.fix.What.{What}
 use Rattle.pay_rules.specs.declared.fix.What.TheVariants as what
 use Rattle.pay_shard.specs.declared.asked.Asked.{Asked}
 use Rattle.pay_shard.specs.declared.asked.Asked.TheVariants as asked
-use Rattle.pay_wire.specs.declared.command.Command.{Command}
+use Rattle.pay_wire.specs.declared.command.SpelledCommand.{SpelledCommand}
 use Rattle.pay_journal.specs.Lines.{spelled_what}
 use Rattle.pay_session.specs.Words.{line_requests, rest_of}
 use Rattle.pay_journal.specs.Words.{spelled_of}
@@ -19,7 +19,7 @@ use Rattle.pay_jobs.specs.Replays.{IsStoppedAt, IsStoppedAmong, all_requests, in
 use Rattle.pay_jobs.specs.declared.fault.Fault.{Fault}
 
 -- those of the command that a line spells, if there is one
-abbrev pub instants_in : Option Command → List ℕ
+abbrev pub instants_in : Option SpelledCommand → List ℕ
 instants_in None = []
 instants_in (Some c) = instant_in c
 
@@ -85,7 +85,7 @@ stopped_among zone tables texts n text fault e stops = record {
 -- ---- instants
 
 -- the instant that the line of a command spells is its own
-pub by_spelling : (a : Asked) (o : Option Command) → o ≡ spelled_of a → instant_of a ≡ instants_in o
+pub by_spelling : (a : Asked) (o : Option SpelledCommand) → o ≡ spelled_of a → instant_of a ≡ instants_in o
 by_spelling a o e = spelled_instant a ∙ ap instants_in (sym e)
   where
     spelled_what_instant : (what : What) → instant_of_what what ≡ instant_in_what (spelled_what what)

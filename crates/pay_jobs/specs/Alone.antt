@@ -19,7 +19,7 @@ module _ {S : Type 0} (store : Ghosts S) (old new : Held S) where
   -- the ledger there was read, and archives nothing; all is as it was
   pub record IsFoundBare : Type 0 where
     pub bare : IsBare true
-    pub kept : ChangesNothing store old new
+    pub unchanged : ChangesNothing store old new
     pub survives : LeavesAsBefore store old new
 
   -- Whether a journal has a whole line decides how it is taken: with one, as it is; with none, if it is found bare.
@@ -36,7 +36,7 @@ module _ {S : Type 0} (store : Ghosts S) (old new : Held S) where
   -- Why it is not taken without its journal: it archives something, or what it archives was not read. All is as it was.
   pub record IsNotTakenAlone (fault : Fault) : Type 0 where
     pub why : ((fault ≡ LedgerAlone) × IsBare false) ⊎ IsNotRead fault
-    pub kept : ChangesNothing store old new
+    pub unchanged : ChangesNothing store old new
     pub survives : LeavesAsBefore store old new
 
   -- why it is not taken: it always is with a line of a journal

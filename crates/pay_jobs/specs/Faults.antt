@@ -14,8 +14,6 @@ use Rattle.pay_journal.specs.declared.replaying.ReplayFault.TheVariants as repla
 use Rattle.pay_session.specs.declared.sessions.Done.{Done}
 use Rattle.pay_session.specs.declared.stop.SessionFault.{SessionFault}
 use Rattle.pay_session.specs.declared.stop.SessionFault.TheVariants.{Read, Write}
-use Rattle.pay_serve.specs.declared.fault.ServeFault.{ServeFault}
-use Rattle.pay_serve.specs.declared.fault.ServeFault.TheVariants as serving
 use Rattle.pay_run.specs.declared.week.WeekFault.{WeekFault}
 use Rattle.pay_run.specs.declared.week.WeekFault.TheVariants.{Broken, NotAccepted, Memory}
 
@@ -64,16 +62,6 @@ abbrev pub IsWeekFault : WeekFault → Fault → Type 0
 IsWeekFault (Broken answered) fault = fault ≡ Input
 IsWeekFault (NotAccepted line why) fault = fault ≡ JournalLine line why
 IsWeekFault Memory fault = IsWantOfMemory fault
-
--- what ended a service
-abbrev pub IsServeFault : ServeFault → Fault → Type 0
-IsServeFault serving.CannotListen fault = fault ≡ CannotListen
-IsServeFault serving.Count fault = IsRefusal fault 32 (codes "Count")
-IsServeFault serving.NoThread fault = IsRefusal fault 35 (codes "NoThread")
-IsServeFault serving.Memory fault = IsWantOfMemory fault
-IsServeFault (serving.JournalLine journal line why) fault = fault ≡ JournalLineOf journal line why
-IsServeFault serving.Journal fault = fault ≡ Journal
-IsServeFault serving.Output fault = fault ≡ Output
 
 -- With what a reader and a writer may answer, from the reader before to both after: the fault of a stream comes from what it answered.
 module _ {R W : Type 0} (reads : R → ReaderCall → R → Type 0) (writes : W → WriterCall → W → Type 0) where

@@ -4,7 +4,6 @@ pub mod Faults
 pub mod Memory
 pub mod Replays
 pub mod Run
-pub mod Service
 pub mod Statement
 pub mod Texts
 pub mod Words

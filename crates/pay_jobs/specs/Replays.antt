@@ -12,8 +12,8 @@ use Rattle.pay_shard.specs.declared.asked.Asked.{Asked}
 use Rattle.pay_shard.specs.declared.asked.Asked.TheVariants as asked
 use Rattle.pay_tables.specs.Words.{FareTables}
 use Rattle.pay_wire.specs.Words.{AppendsFront}
-use Rattle.pay_wire.specs.declared.command.Command.{Command}
-use Rattle.pay_wire.specs.declared.command.Command.TheVariants as command
+use Rattle.pay_wire.specs.declared.command.SpelledCommand.{SpelledCommand}
+use Rattle.pay_wire.specs.declared.command.SpelledCommand.TheVariants as command
 use Rattle.pay_wire.specs.declared.command.SpelledWhat.{SpelledWhat}
 use Rattle.pay_wire.specs.declared.command.SpelledWhat.TheVariants as spelled
 use Rattle.pay_session.specs.Words.{line_requests, rest_of}
@@ -53,7 +53,7 @@ abbrev pub instant_in_what : SpelledWhat → List ℕ
 instant_in_what (spelled.Fill utc place kind) = utc ∷ []
 instant_in_what _ = []
 
-abbrev pub instant_in : Command → List ℕ
+abbrev pub instant_in : SpelledCommand → List ℕ
 instant_in (command.Tap tap) = tap.utc ∷ []
 instant_in (command.Fix fix) = instant_in_what fix.what
 instant_in _ = []
@@ -91,7 +91,7 @@ summary_of commands rest = record {
   rest = rest;
 }
 
--- the requests of all whole lines, and the bytes behind them
+-- the requests of all whole lines, and the bytes after them
 abbrev pub all_requests : List (List ℕ) → List Request
 all_requests = flat_map line_requests
 
@@ -110,7 +110,7 @@ summary_line s = (codes "OK lines " ++ decimal s.lines) ++ (codes " accounts " +
 
 -- ---- how the job ends
 
--- a fare file and a zone are read, each line of all journals, one behind the other, is accepted or was before, and this is told of them
+-- a fare file and a zone are read, each line of all journals, one after the other, is accepted or was before, and this is told of them
 pub record IsSummed (fares zone : List ℕ) (texts : List (List ℕ)) (line : List ℕ) : Type 0 where
   pub machine : Machine
   pub begins : Begins fares zone None machine
@@ -122,7 +122,7 @@ abbrev pub IsFaultOf : ℕ → ReplayFault → Fault → Type 0
 IsFaultOf number (replaying.Line line why) fault = fault ≡ JournalLineOf number line why
 IsFaultOf number replaying.Memory fault = IsWantOfMemory fault
 
--- Why a journal of this number is not accepted behind what was: a line of it is refused so, or memory was wanting.
+-- Why a journal of this number is not accepted after what was: a line of it is refused so, or memory was wanting.
 abbrev pub IsStoppedAt : TimeZone → FareTables → List Request → List ℕ → ℕ → Fault → Type 0
 IsStoppedAt zone tables before text number fault =
     AreAllPriced (outcome [] (new_machine zone tables None) before).replies × ((why : ReplayFault) × IsFaultOf number why fault × IsNotReplayed (machine_of zone tables before None) (line_requests text) why)

@@ -1,10 +1,9 @@
 -- Words for the program above: how its jobs end, what its faults are, and what a service day is.
-pub use Rattle.pay_jobs.specs.Faults.{status_of, stream_fault, told_of, IsRefusal, IsWantOfMemory, IsUnread, IsServeFault}
+pub use Rattle.pay_jobs.specs.Faults.{status_of, stream_fault, told_of, IsRefusal, IsWantOfMemory, IsUnread}
 pub use Rattle.pay_jobs.specs.Memory.{ReturnsAll}
 pub use Rattle.pay_jobs.specs.Texts.{Texts, texts}
 pub use Rattle.pay_jobs.specs.Run.{IsRefused, Begins, Resumes, AreRead, HasBegun, AreNotRead, IsNotBegun, RanOver, IsTaken, JobRan, HasRun, IsLeftAlone, HasNotRun}
 pub use Rattle.pay_jobs.specs.Alone.{IsBare, IsFoundBare, IsTakenWith, IsNotTakenAlone, IsNotTakenWith}
-pub use Rattle.pay_jobs.specs.Service.{have_line, IsToldAs, IsServedInto, IsServedOrNot, FailsToServe, IsServedAlone, IsServedAloneOrNot, FailsAlone, HasServiceCause}
 pub use Rattle.pay_jobs.specs.Check.{CheckEnds, CheckFails}
 pub use Rattle.pay_jobs.specs.Statement.{StatementWritten, StatementRefused}
 pub use Rattle.pay_day.specs.Words.{IsDay}

@@ -9,15 +9,15 @@ use crate::fault::Fault;
 use crate::output::write_text;
 use pay_fare_file::read_tables;
 use pay_tables::Counts;
-use pay_wire::ToldWriter;
+use pay_wire::KnownWriter;
 use std::alloc::{AllocError, Global};
 
 /// Writes how many of each thing the fare file of a text has, as one line, and flushes the writer.
-pub fn check_text<W: ToldWriter>(alloc: Global, fares: &str, writer: &mut W) -> Result<(), Fault>
+pub fn check_text<W: KnownWriter>(alloc: Global, fares: &str, writer: &mut W) -> Result<(), Fault>
     ensures ends { OnOk result (CheckEnds fares.now (W.contents writer.old) (W.contents writer.new)) }
     ensures fails { IfErr result (λ fault. CheckFails fault fares.now (W.contents writer.old) (W.contents writer.new)) }
-    ensures flushed { OnOk result (IsFlushed W.Tells writer.new) }
-    ensures cause { IfErr result (λ fault. fault ≡ Fault.Output → HasFault W.Tells writer.new) }
+    ensures flushed { OnOk result (IsFlushed W.MayAnswer writer.new) }
+    ensures cause { IfErr result (λ fault. fault ≡ Fault.Output → HasFault W.MayAnswer writer.new) }
 {
     let line = counted(alloc, fares)?;
     write_text(writer, line.as_str().as_bytes())

@@ -1,6 +1,6 @@
 //! Why the program fails, and the status that it ends with.
 ghost use Rattle.std.specs.Prelude.{◌≡◌};
-ghost use Rattle.pay_jobs.specs.Faults.{IsRefusal, IsWantOfMemory, IsUnread, IsReplayFault, IsWeekFault, IsServeFault, status_of, stream_fault};
+ghost use Rattle.pay_jobs.specs.Faults.{IsRefusal, IsWantOfMemory, IsUnread, IsReplayFault, IsWeekFault, status_of, stream_fault};
 ghost use Rattle.pay_fare_file.specs.Words.{fault_number, fault_name};
 ghost use Rattle.pay_ledger.specs.Words.{open_fault_number, open_fault_name};
 
@@ -9,7 +9,6 @@ use pay_journal::ReplayFault;
 use pay_ledger::{LedgerFault, OpenFault};
 use pay_rules::PostFault;
 use pay_run::WeekFault;
-use pay_serve::ServeFault;
 use pay_session::SessionFault;
 use pay_wire::Refusal;
 use std::alloc::AllocError;
@@ -157,30 +156,6 @@ impl From<WeekFault> for Fault {
             WeekFault::Broken { .. } => Fault::Input,
             WeekFault::NotAccepted { line, why } => Fault::JournalLine { line, why },
             WeekFault::Memory => Fault::from(AllocError),
-        }
-    }
-}
-
-impl From<ServeFault> for Fault {
-    ghost from_gives = { λ of fault. IsServeFault of fault };
-
-    fn from(fault: ServeFault) -> Fault {
-        match fault {
-            ServeFault::CannotListen => Fault::CannotListen,
-            ServeFault::Count => Fault::Refused {
-                number: 32,
-                name: "Count",
-            },
-            ServeFault::NoThread => Fault::Refused {
-                number: 35,
-                name: "NoThread",
-            },
-            ServeFault::Memory => Fault::from(AllocError),
-            ServeFault::JournalLine { journal, line, why } => {
-                Fault::JournalLineOf { journal, line, why }
-            }
-            ServeFault::Journal => Fault::Journal,
-            ServeFault::Output => Fault::Output,
         }
     }
 }

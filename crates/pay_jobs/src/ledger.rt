@@ -26,7 +26,7 @@ pub fn new_ledger(alloc: Global) -> Result<Ledger<FileStore<ScratchFile>>, OpenF
 
 /// Takes a ledger with journals that have a whole line, or have none. One that archives something needs the journal of what it
 /// archives, and is not taken without.
-pub(crate) fn take_with<S: Alter>(ledger: &mut Ledger<S>, has_line: bool) -> Result<(), Fault>
+pub fn take_with<S: Alter>(ledger: &mut Ledger<S>, has_line: bool) -> Result<(), Fault>
     ensures taken { OnOk result (IsTakenWith S.Store ledger.old ledger.new has_line) }
     ensures refused { IfErr result (IsNotTakenWith S.Store ledger.old ledger.new has_line) }
 {

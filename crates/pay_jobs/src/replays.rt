@@ -8,7 +8,7 @@ ghost use Rattle.pay_session.specs.Words.{line_requests, rest_of};
 ghost use Rattle.pay_session.specs.declared.request.Request.{Request};
 ghost use Rattle.pay_tables.specs.Words.{FareTables};
 ghost use Rattle.pay_wire.specs.Words.{IsFlushed, HasFault};
-ghost use Rattle.pay_run.specs.Words.{commands_in, HasReplayed, IsReplayedBehind};
+ghost use Rattle.pay_run.specs.Words.{commands_in, HasReplayed, IsReplayedAfter};
 ghost use Rattle.pay_jobs.specs.Replays.{ReplayWritten, ReplayRefused, IsFaultOf, IsStoppedAt, IsStoppedAmong, IsSummed, IsNotSummed, account_of, all_requests, each_once, instant_in, instant_in_what, instant_of, last_of, list_of, rests, sooner, summary_line, summary_of};
 
 use crate::fault::Fault;
@@ -19,12 +19,12 @@ use pay_book::Book;
 use pay_journal::{ReplayFault, spelled_of};
 use pay_run::{new_desk, replay_more, replayed_lines};
 use pay_shard::{Asked, Command, Journal, LocalDesk};
-use pay_wire::{SpelledWhat, ToldWriter};
+use pay_wire::{KnownWriter, SpelledCommand, SpelledWhat};
 use std::alloc::{AllocError, Global};
 use std::collections::BTreeSet;
 
 /// What is told of journals.
-#[derive(Clone, Copy, Debug, PartialEq, Eq)]
+#[derive(Clone, Copy)]
 pub(crate) struct Summary {
     /// The whole lines.
     pub lines: usize,
@@ -34,14 +34,14 @@ pub(crate) struct Summary {
     pub first: u64,
     /// The last one.
     pub last: u64,
-    /// The bytes that stand behind a last newline.
+    /// The bytes that stand after a last newline.
     pub rest: u128,
 }
 
-/// Replays journals, which are given as texts, one behind the other, and writes what they have as one line: `OK lines 3 accounts 2
-/// from 1704697200 to 1704702200`, and ` rest 12` behind it where bytes stand behind a last newline. The instants are those of taps
+/// Replays journals, which are given as texts, one after the other, and writes what they have as one line: `OK lines 3 accounts 2
+/// from 1704697200 to 1704702200`, and ` rest 12` after it where bytes stand after a last newline. The instants are those of taps
 /// and of Fills, and 0 where there is none. The fare file is read before the zone, and both before the journals.
-pub fn replay_texts<W: ToldWriter>(
+pub fn replay_texts<W: KnownWriter>(
     alloc: Global,
     fares: &str,
     zone: &str,
@@ -50,8 +50,8 @@ pub fn replay_texts<W: ToldWriter>(
 ) -> Result<(), Fault>
     ensures ends { OnOk result (ReplayWritten fares.now zone.now (each (λ text. text.items) texts.now) (W.contents writer.old) (W.contents writer.new)) }
     ensures fails { IfErr result (λ fault. ReplayRefused fault fares.now zone.now (each (λ text. text.items) texts.now) (W.contents writer.old) (W.contents writer.new)) }
-    ensures flushed { OnOk result (IsFlushed W.Tells writer.new) }
-    ensures cause { IfErr result (λ fault. fault ≡ Fault.Output → HasFault W.Tells writer.new) }
+    ensures flushed { OnOk result (IsFlushed W.MayAnswer writer.new) }
+    ensures cause { IfErr result (λ fault. fault ≡ Fault.Output → HasFault W.MayAnswer writer.new) }
 {
     let line = summed(alloc, fares, zone, texts)?;
     write_text(writer, line.as_str().as_bytes())
@@ -73,7 +73,7 @@ fn summed(alloc: Global, fares: &str, zone: &str, texts: &[Vec<u8>]) -> Result<S
     Ok(line)
 }
 
-/// Replays one journal over what a desk has. The answer is how many bytes stand behind its last newline.
+/// Replays one journal over what a desk has. The answer is how many bytes stand after its last newline.
 fn replay_text(
     desk: &mut LocalDesk<Book>,
     zone: &TimeZone<'_>,
@@ -81,7 +81,7 @@ fn replay_text(
     journal: u64,
 ) -> Result<u64, Fault>
     ensures rest { IfOk result (λ rest. rest ≡ length (rest_of text.now)) }
-    ensures replayed { OnOk result (IsReplayedBehind zone.now desk.old desk.new (line_requests text.now)) }
+    ensures replayed { OnOk result (IsReplayedAfter zone.now desk.old desk.new (line_requests text.now)) }
     ensures stopped { IfErr result (λ fault. (tables : FareTables) (before : List Request) → HasReplayed zone.now tables desk.old before → IsStoppedAt zone.now tables before text.now journal fault) }
 {
     match replay_more(desk, zone, text) {
@@ -100,7 +100,7 @@ fn fault_of(journal: u64, fault: ReplayFault) -> Fault
     }
 }
 
-/// Replays journals, one behind the other. The answer is how many bytes stand behind their last newlines.
+/// Replays journals, one after the other. The answer is how many bytes stand after their last newlines.
 fn replay_each(
     desk: &mut LocalDesk<Book>,
     zone: &TimeZone<'_>,
@@ -231,12 +231,12 @@ fn instant_of(command: Command) -> Option<u64>
 }
 
 /// The instant that a line spells of a tap or of a Fill.
-fn instant_in(spelled: pay_wire::Command) -> Option<u64>
+fn instant_in(spelled: SpelledCommand) -> Option<u64>
     ensures { list_of result ≡ instant_in spelled }
 {
     match spelled {
-        pay_wire::Command::Tap(tap) => Some(tap.utc),
-        pay_wire::Command::Fix(fix) => instant_in_what(fix.what),
+        SpelledCommand::Tap(tap) => Some(tap.utc),
+        SpelledCommand::Fix(fix) => instant_in_what(fix.what),
         _ => None,
     }
 }

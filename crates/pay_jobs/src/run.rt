@@ -21,15 +21,15 @@ use pay_fare_file::read_tables;
 use pay_journal::Keeper;
 use pay_ledger::Ledger;
 use pay_run::{Ran, replayed_desk, run_lines, run_lines_without_ledger};
-use pay_session::{Done, ToldReader};
+use pay_session::{Done, KnownReader};
 use pay_tables::Tables;
-use pay_wire::ToldWriter;
+use pay_wire::KnownWriter;
 use sqlite::Alter;
 use std::alloc::{AllocError, Global};
 use std::sync::Arc;
 
 /// The first step of a session: reads the fare file, then the zone, and takes the whole lines of the journal, in this order. What stands
-/// behind the last newline of the journal is no line. The caller then opens the ledger.
+/// after the last newline of the journal is no line. The caller then opens the ledger.
 pub fn begin(alloc: Global, fares: &str, zone: &str, past: &[u8]) -> Result<Begun, Fault>
     ensures begun { IfOk result (HasBegun (texts fares.now zone.now past.now)) }
     ensures fails { IfErr result (IsNotBegun (texts fares.now zone.now past.now)) }
@@ -47,9 +47,9 @@ pub fn begin(alloc: Global, fares: &str, zone: &str, past: &[u8]) -> Result<Begu
 
 impl Begun {
     /// The second step: answers the lines of a reader, beginning with what the journal gives back, and closes days into the ledger that was
-    /// opened. The keeper keeps lines behind the whole ones of the journal. A ledger that archives something needs its journal: beside one
+    /// opened. The keeper keeps lines after the whole ones of the journal. A ledger that archives something needs its journal: beside one
     /// without a line it gives `LedgerAlone`, and nothing is read, written or kept. What came of the session is [told](told).
-    pub fn run<K: Keeper, S: Alter, R: ToldReader, W: ToldWriter>(
+    pub fn run<K: Keeper, S: Alter, R: KnownReader, W: KnownWriter>(
         self,
         alloc: Global,
         keeper: K,
@@ -62,8 +62,8 @@ impl Begun {
         ensures fails { IfErr result (HasNotRun S.Store self ledger.old ledger.new) }
         ensures settled { IfOk result (λ ran. ran.desk.stuck ≡ false → (it : K) × K.IsSettled it × (K.holds it ≡ ran.desk.holds)) }
         ensures untouched { OnErr result ((reader.new ≡ reader.old) × (writer.new ≡ writer.old)) }
-        ensures ended { IfOk result (λ ran. IfOk ran.ended (λ done. done.quit ≡ false → IsLastFill R.Tells (ShowsNothing R.Tells) reader.old reader.new)) }
-        ensures cause { IfOk result (λ ran. IfErr ran.ended (λ fault. IsBroken R.Tells W.Tells fault reader.old reader.new writer.new)) }
+        ensures ended { IfOk result (λ ran. IfOk ran.ended (λ done. done.quit ≡ false → IsLastFill R.MayAnswer (ShowsNothing R.MayAnswer) reader.old reader.new)) }
+        ensures cause { IfOk result (λ ran. IfErr ran.ended (λ fault. IsBroken R.MayAnswer W.MayAnswer fault reader.old reader.new writer.new)) }
     {
         let Begun {
             zone,
@@ -75,7 +75,7 @@ impl Begun {
     }
 
     /// The second step without a ledger: nothing is closed, and each close is answered by `NO 34 NotHere`.
-    pub fn run_without_ledger<K: Keeper, R: ToldReader, W: ToldWriter>(
+    pub fn run_without_ledger<K: Keeper, R: KnownReader, W: KnownWriter>(
         self,
         keeper: K,
         reader: &mut R,
@@ -83,8 +83,8 @@ impl Begun {
     ) -> Ran<Book, K>
         ensures ran { HasRun (without_ledger K.Keeper R.remaining W.contents) self (before keeper tt reader.old writer.old) (after result.desk tt reader.new writer.new) result.ended }
         ensures settled { result.desk.stuck ≡ false → (it : K) × K.IsSettled it × (K.holds it ≡ result.desk.holds) }
-        ensures ended { IfOk result.ended (λ done. done.quit ≡ false → IsLastFill R.Tells (ShowsNothing R.Tells) reader.old reader.new) }
-        ensures cause { IfErr result.ended (λ fault. IsBroken R.Tells W.Tells fault reader.old reader.new writer.new) }
+        ensures ended { IfOk result.ended (λ done. done.quit ≡ false → IsLastFill R.MayAnswer (ShowsNothing R.MayAnswer) reader.old reader.new) }
+        ensures cause { IfErr result.ended (λ fault. IsBroken R.MayAnswer W.MayAnswer fault reader.old reader.new writer.new) }
     {
         let Begun {
             zone,

@@ -15,17 +15,17 @@ use crate::run::{read_fares, read_zone};
 use pay_book::Book;
 use pay_rules::Line;
 use pay_run::week_by_lines;
-use pay_session::ToldReader;
+use pay_session::KnownReader;
 use pay_statement::write_csv;
 use pay_tables::Tables;
-use pay_wire::ToldWriter;
+use pay_wire::KnownWriter;
 use std::alloc::{AllocError, Global};
 use std::sync::Arc;
 
 /// Writes the statement of the week that holds a service day, counted from 1970-01-01, of an account that has accepted what a
 /// journal has, and then what the lines of a reader ask for. The fare file is read before the zone, then the journal, all three
 /// before the first line, and all of them before anything is written.
-pub fn statement_texts<R: ToldReader, W: ToldWriter>(
+pub fn statement_texts<R: KnownReader, W: KnownWriter>(
     alloc: Global,
     fares: &str,
     zone: &str,
@@ -40,15 +40,15 @@ pub fn statement_texts<R: ToldReader, W: ToldWriter>(
         (R.remaining reader.new, W.contents writer.new)) }
     ensures fails { IfErr result (StatementRefused (texts fares.now zone.now past.now) (account, day) (R.remaining reader.old, W.contents writer.old)
         (R.remaining reader.new, W.contents writer.new)) }
-    ensures flushed { OnOk result (IsFlushed W.Tells writer.new) }
-    ensures cause { IfErr result (λ fault. HasCause R.Tells W.Tells fault reader.old reader.new writer.new) }
+    ensures flushed { OnOk result (IsFlushed W.MayAnswer writer.new) }
+    ensures cause { IfErr result (λ fault. HasCause R.MayAnswer W.MayAnswer fault reader.old reader.new writer.new) }
 {
     let page = read_page(alloc, fares, zone, past, account, day, reader)?;
     write_text(writer, &page)
 }
 
 /// The text of the statement.
-fn read_page<R: ToldReader>(
+fn read_page<R: KnownReader>(
     alloc: Global,
     fares: &str,
     zone: &str,
@@ -60,7 +60,7 @@ fn read_page<R: ToldReader>(
     requires { IsDay day }
     ensures page { IfOk result (λ page. IsPage (texts fares.now zone.now past.now) (account, day) (R.remaining reader.old, R.remaining reader.new) page.items) }
     ensures fails { IfErr result (λ fault. PageFails fault (texts fares.now zone.now past.now) (R.remaining reader.old, R.remaining reader.new)) }
-    ensures cause { IfErr result (λ fault. fault ≡ Fault.Input → HasInputFault R.Tells reader.old reader.new) }
+    ensures cause { IfErr result (λ fault. fault ≡ Fault.Input → HasInputFault R.MayAnswer reader.old reader.new) }
 {
     pay_run::laws::all_else_stays();
     let tables = read_fares(alloc, fares)?;

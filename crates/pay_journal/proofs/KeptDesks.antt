@@ -9,7 +9,7 @@ use Rattle.std.proofs.lemmas.List.{append-nil, map-append}
 use Rattle.pay_rules.specs.InTurn.{IsIn}
 use Rattle.pay_tables.specs.Words.{FareTables}
 use Rattle.pay_rules.specs.State.{State}
-use Rattle.pay_shard.specs.Words.{LocalParts, commands_of, transcript_of, AreInPlace, AreBelow, ShardParts, with_item, with_items, with_room, state_now, replay, new_items, IsHistory, with_waiting, without, IsAfterAll, IsNoneOf, IsReplyTo, AreKept, ReplayGoesOn, NewStandBehind, FrontHasReply}
+use Rattle.pay_shard.specs.Words.{LocalParts, commands_of, transcript_of, AreInPlace, AreBelow, ShardParts, with_item, with_items, with_room, state_now, replay, new_items, IsHistory, with_waiting, without, IsAfterAll, IsNoneOf, IsReplyTo, NothingIsLost, ReplayGoesOn, NewStandAfter, FrontHasReply}
 use Rattle.pay_shard.specs.declared.asked.Asked.{Asked}
 use Rattle.pay_shard.specs.declared.asked.Asked.TheVariants as asked
 use Rattle.pay_shard.specs.declared.desk.DeskFault.{DeskFault}
@@ -56,7 +56,7 @@ same_shard stuck seen desk free is = is.is_more ∙ ap (λ (l : List Item). with
 -- ---- a command was taken
 
 -- the lines that were kept, and the next one
-kept_next : (goes : ReplayGoesOn) (new : NewStandBehind) (tables : FareTables) (base : State) (first later journal : List Item) (item : Item) (rest : List ℕ) (held_first held holds : Option (List ℕ))
+kept_next : (goes : ReplayGoesOn) (new : NewStandAfter) (tables : FareTables) (base : State) (first later journal : List Item) (item : Item) (rest : List ℕ) (held_first held holds : Option (List ℕ))
     → rest ≡ [] → journal ≡ first ++ later → Appends held_first held (lines_of_items (new_items tables (replay tables base first) later) ++ rest)
     → Appends held holds (lines_of_items (new_items tables (replay tables base journal) (item ∷ [])))
     → Appends held_first holds (lines_of_items (new_items tables (replay tables base first) (later ++ item ∷ [])) ++ [])
@@ -94,8 +94,8 @@ module _ (ticket : ℕ) (command : Asked) (k : KeptParts) (before after : LocalP
   pub taken_fresh : IsNoneOf ticket k.seen.waiting
   taken_fresh = subst (IsNoneOf ticket) (sym same_waiting) put.fresh
 
-  pub taken_transcript : AreKept (transcript_of k.seen.shard) (transcript_of after.shard)
-  taken_transcript = subst (λ (s : ShardParts). AreKept (transcript_of s) (transcript_of after.shard)) was put.transcript
+  pub taken_transcript : NothingIsLost (transcript_of k.seen.shard) (transcript_of after.shard)
+  taken_transcript = subst (λ (s : ShardParts). NothingIsLost (transcript_of s) (transcript_of after.shard)) was put.transcript
 
   pub taken_stands : (Fails : Type 0) → (kept_parts Fails later_kept).standing ≡ with_waiting (k.seen.waiting ++ ticket ∷ []) (kept_parts Fails k).standing
   taken_stands Fails =
@@ -105,7 +105,7 @@ module _ (ticket : ℕ) (command : Asked) (k : KeptParts) (before after : LocalP
         waiting = (put.waits ∙ ap (λ (l : List ℕ). l ++ ticket ∷ []) (sym same_waiting)) i;
       }
 
-  pub taken_keeps : ReplayGoesOn → NewStandBehind → KeepsLines k → KeepsLines later_kept
+  pub taken_keeps : ReplayGoesOn → NewStandAfter → KeepsLines k → KeepsLines later_kept
   taken_keeps goes new lines =
       let s = k.seen.shard in
       let none = rest_of_none k.stuck lines.rest free lines.is_rest in
@@ -245,7 +245,7 @@ module _ {K : Type 0} (HasFailed : K → Type 0) (holds : K → Option (List ℕ
     }
 
   module _ (began before keeper : K) (first shown : ShardParts) (desk after : LocalParts) (stuck : Bool) (is : IsKeptDesk (HasFailed before) desk (parts_of began before first shown desk.waiting stuck)) (free : stuck ≡ false) where
-    pub all_put : ReplayGoesOn → NewStandBehind → (ticket : ℕ) (command : Asked) (now : ShardParts) → IsPutKept ticket command desk after (holds before) (holds keeper) → now ≡ after.shard
+    pub all_put : ReplayGoesOn → NewStandAfter → (ticket : ℕ) (command : Asked) (now : ShardParts) → IsPutKept ticket command desk after (holds before) (holds keeper) → now ≡ after.shard
         → after.shard.number ≡ 0 → AreInPlace 0 after.shard.journal → IsHistory after.shard.tables after.shard.base after.shard.journal → AreBelow (length after.shard.journal) after.waiting
         → IsKeptDesk (HasFailed keeper) after (parts_of began keeper first now after.waiting stuck)
     all_put goes new ticket command now put is_now number placed history below =

@@ -1,11 +1,6 @@
 pub mod Bytes
-pub mod CommandLines
 pub mod KeptDesks
 pub mod LinesOfCommands
-pub mod MergedNew
-pub mod PartsAgain
 pub mod Puts
-pub mod Repeats
 pub mod Replays
-pub mod TextsAgain
 pub mod WholeLines

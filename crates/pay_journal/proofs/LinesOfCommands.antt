@@ -9,8 +9,8 @@ use Rattle.pay_rules.specs.declared.fix.What.TheVariants as what
 use Rattle.pay_rules.specs.declared.limits.TheConstants.{MOST_CREDIT}
 use Rattle.pay_shard.specs.declared.asked.Asked.{Asked}
 use Rattle.pay_shard.specs.declared.asked.Asked.TheVariants as asked
-use Rattle.pay_wire.specs.declared.command.Command.{Command}
-use Rattle.pay_wire.specs.declared.command.Command.TheVariants as command
+use Rattle.pay_wire.specs.declared.command.SpelledCommand.{SpelledCommand}
+use Rattle.pay_wire.specs.declared.command.SpelledCommand.TheVariants as command
 use Rattle.pay_wire.specs.declared.command.SpelledFix.{SpelledFix}
 use Rattle.pay_wire.specs.declared.command.SpelledWhat.{SpelledWhat}
 use Rattle.pay_wire.specs.declared.command.SpelledWhat.TheVariants as spelled
@@ -24,13 +24,13 @@ put_is : (x y : Asked) → asks.Put x ≡ asks.Put y → x ≡ y
 put_is x y e = cc
 
 -- a command, by a desk's
-abbrev IsIts : Command → Asked → Type 0
+abbrev IsIts : SpelledCommand → Asked → Type 0
 IsIts c a = IfSome (spelled_of a) (λ its. its ≡ c)
 
-its_one : (c : Command) (x a : Asked) → asks.Put x ≡ asks.Put a → IsIts c x → IsIts c a
+its_one : (c : SpelledCommand) (x a : Asked) → asks.Put x ≡ asks.Put a → IsIts c x → IsIts c a
 its_one c x a e its = subst (IsIts c) (put_is x a e) its
 
-by_instant : (b : Bool) (c : Command) (x a : Asked) → (if b then asks.Put x else asks.No refusal.OutOfTime) ≡ asks.Put a → IsIts c x → IsIts c a
+by_instant : (b : Bool) (c : SpelledCommand) (x a : Asked) → (if b then asks.Put x else asks.No refusal.OutOfTime) ≡ asks.Put a → IsIts c x → IsIts c a
 by_instant true c x a e its = its_one c x a e its
 by_instant false c x a e its = absurd (cc)
 

@@ -7,7 +7,7 @@ use Rattle.std.proofs.lemmas.List.{append-nil}
 use Rattle.pay_tables.specs.Words.{FareTables}
 use Rattle.pay_wire.specs.Words.{AppendsFront}
 use Rattle.pay_rules.specs.State.{State}
-use Rattle.pay_shard.specs.Words.{LocalParts, commands_of, transcript_of, desk_parts, IsTaken, ShardParts, with_items, with_room, state_now, item_step, is_new, new_items, Standing, with_waiting, without, IsAfterAll, IsNoneOf, AreKept, StandsAsBefore}
+use Rattle.pay_shard.specs.Words.{LocalParts, commands_of, transcript_of, desk_parts, IsTaken, ShardParts, with_items, with_room, state_now, item_step, is_new, new_items, Standing, with_waiting, without, IsAfterAll, IsNoneOf, NothingIsLost, StandsAsBefore}
 use Rattle.pay_shard.specs.declared.asked.Asked.{Asked}
 use Rattle.pay_shard.specs.declared.desk.DeskFault.{DeskFault}
 use Rattle.pay_shard.specs.declared.desk.DeskFault.TheVariants.{Memory, NotKept}
@@ -40,7 +40,7 @@ with_none s room = ap (λ (j : List Item). record { number = s.number; tables = 
 
 module _ (ticket : ℕ) (command : Asked) (before put after : LocalParts) (held holds : Option (List ℕ)) where
   pub put_kept : IsTaken ticket command before.shard put.shard → IsAfterAll ticket (commands_of before.shard.journal) → IsNoneOf ticket before.waiting
-      → (desk_parts put).standing ≡ with_waiting (before.waiting ++ ticket ∷ []) (desk_parts before).standing → AreKept (transcript_of before.shard) (transcript_of put.shard)
+      → (desk_parts put).standing ≡ with_waiting (before.waiting ++ ticket ∷ []) (desk_parts before).standing → NothingIsLost (transcript_of before.shard) (transcript_of put.shard)
       → after.shard ≡ put.shard → after.waiting ≡ put.waiting → Appends held holds (line_if (is_new_answer (transcript_of put.shard ticket)) command)
       → IsPutKept ticket command before after held holds
   put_kept taken later fresh waits transcript same_shard same_waiting more =

@@ -9,11 +9,11 @@ use Rattle.pay_rules.specs.declared.posting.Posting.{Posting}
 use Rattle.pay_shard.specs.declared.asked.Asked.{Asked}
 use Rattle.pay_shard.specs.declared.desk.DeskFault.{DeskFault}
 use Rattle.pay_shard.specs.declared.reply.Answer.{Answer}
-use Rattle.pay_shard.specs.Words.{AreKept, Standing, DeskParts}
+use Rattle.pay_shard.specs.Words.{NothingIsLost, Standing, DeskParts}
 use Rattle.pay_wire.specs.declared.refusal.Refusal.{Refusal}
 use Rattle.pay_wire.specs.declared.refusal.Refusal.TheVariants as refusal
-use Rattle.pay_wire.specs.declared.reply.Reply.{Reply}
-use Rattle.pay_wire.specs.declared.reply.Reply.TheVariants as replies
+use Rattle.pay_wire.specs.declared.reply.SpelledReply.{SpelledReply}
+use Rattle.pay_wire.specs.declared.reply.SpelledReply.TheVariants as replies
 use Rattle.pay_session.specs.Asks.{asks_of}
 use Rattle.pay_session.specs.Events.{Taken, Event, all_put, commands_of, IsAnswerTo, AreAnswered}
 use Rattle.pay_journal.specs.Replays.{is_barred, IsPriced, why_ended, ClosesNothing, IsReplayStep, IsFaultOf, AreHanded, AreAccepted, IsReplayed, IsEndedAt, IsEnded}
@@ -34,7 +34,7 @@ answered_both : (transcript : ℕ → Option Answer) (ts us : List Taken) → Ar
 answered_both transcript [] us f g = g
 answered_both transcript (t ∷ ts) us f g = (f.0, answered_both transcript ts us f.1 g)
 
-answered_still : (old new : ℕ → Option Answer) (ts : List Taken) → AreKept old new → AreAnswered old ts → AreAnswered new ts
+answered_still : (old new : ℕ → Option Answer) (ts : List Taken) → NothingIsLost old new → AreAnswered old ts → AreAnswered new ts
 answered_still old new [] kept f = tt
 answered_still old new (t ∷ ts) kept f = (its t.answer f.0, answered_still old new ts kept f.1)
   where
@@ -63,7 +63,7 @@ no_none : (why : Refusal) → ◌≡◌ {A = Option Refusal} (Some why) None →
 no_none why e = cc
 
 -- what ends no replay is prices
-priced : (reply : Reply) → why_ended reply ≡ None → IsPriced reply
+priced : (reply : SpelledReply) → why_ended reply ≡ None → IsPriced reply
 priced (replies.Priced p) e = (p, refl)
 priced (replies.No why) e = absurd (no_none why e)
 priced (replies.Due quote) e = absurd (no_none refusal.DeskFault e)
@@ -75,7 +75,7 @@ priced replies.Bye e = absurd (no_none refusal.DeskFault e)
 
 module _ {D O : Type 0} (parts : D → DeskParts O) where
   -- a tap or a correction that was put
-  pub put_step : (before after : D) (a : Asked) (line : Reply) (ended : Option Refusal) → is_barred (asks.Put a) ≡ false → IsPutAt parts before after a line → AreKept (parts before).transcript (parts after).transcript
+  pub put_step : (before after : D) (a : Asked) (line : SpelledReply) (ended : Option Refusal) → is_barred (asks.Put a) ≡ false → IsPutAt parts before after a line → NothingIsLost (parts before).transcript (parts after).transcript
       → (parts after).standing ≡ (parts before).standing → ended ≡ why_ended line → IsReplayStep parts before after (asks.Put a) ended
   put_step before after a line ended allowed f kept same is =
       inl (f.event, allowed, record { served = (f.answered, refl); added = f.added; said = f.said; kept = kept; same = same }, is ∙ ap why_ended (sym f.told))
@@ -127,7 +127,7 @@ module _ {D O : Type 0} (zone : TimeZone) (parts : D → DeskParts O) where
     pub accepted : AreAccepted zone parts before now done events
     pub counted : lines ≡ length done
     pub fits : lines + length ahead ≤ length text
-    pub kept : AreKept (parts before).transcript (parts now).transcript
+    pub kept : NothingIsLost (parts before).transcript (parts now).transcript
     pub same : (parts now).standing ≡ (parts before).standing
 
   pub underway_none : (text : List ℕ) (desk : D) → IsUnderway text desk desk text 0
@@ -144,65 +144,65 @@ module _ {D O : Type 0} (zone : TimeZone) (parts : D → DeskParts O) where
   }
 
   -- the line at the front of what is ahead
-  first_ahead : IsReadByLine → (text line ahead behind : List ℕ) (done : List Request) → line_requests text ≡ done ++ line_requests ahead → ahead ≡ line ++ 10 ∷ behind → has_newline line ≡ false
-      → line_requests text ≡ done ++ request_of line ∷ line_requests behind
-  first_ahead read text line ahead behind done e cut whole = e ∙ ap (λ l. done ++ l) (ap line_requests cut ∙ read.line line behind whole)
+  first_ahead : IsReadByLine → (text line ahead beyond : List ℕ) (done : List Request) → line_requests text ≡ done ++ line_requests ahead → ahead ≡ line ++ 10 ∷ beyond → has_newline line ≡ false
+      → line_requests text ≡ done ++ request_of line ∷ line_requests beyond
+  first_ahead read text line ahead beyond done e cut whole = e ∙ ap (λ l. done ++ l) (ap line_requests cut ∙ read.line line beyond whole)
 
   one_longer : (done : List Request) (r : Request) (lines : ℕ) → lines ≡ length done → lines + 1 ≡ length (done ++ r ∷ [])
   one_longer done r lines e =
       let longer : length (done ++ r ∷ []) ≡ length done + 1 = length-append done (r ∷ []) in
       omega (arith, e, longer)
 
-  pub still_fits : (text line ahead behind : List ℕ) (lines : ℕ) → lines + length ahead ≤ length text → ahead ≡ line ++ 10 ∷ behind → lines + 1 + length behind ≤ length text
-  still_fits text line ahead behind lines fits cut =
-      let size : length (line ++ 10 ∷ behind) ≡ length line + suc (length behind) = length-append line (10 ∷ behind) in
+  pub still_fits : (text line ahead beyond : List ℕ) (lines : ℕ) → lines + length ahead ≤ length text → ahead ≡ line ++ 10 ∷ beyond → lines + 1 + length beyond ≤ length text
+  still_fits text line ahead beyond lines fits cut =
+      let size : length (line ++ 10 ∷ beyond) ≡ length line + suc (length beyond) = length-append line (10 ∷ beyond) in
       omega (arith, fits, ap length cut, size)
 
   -- it was accepted
-  underway_one : IsReadByLine → (text : List ℕ) (a b c : D) (ahead line behind : List ℕ) (lines : ℕ) (event : Event) → IsUnderway text a b ahead lines → ahead ≡ line ++ 10 ∷ behind → has_newline line ≡ false
+  underway_one : IsReadByLine → (text : List ℕ) (a b c : D) (ahead line beyond : List ℕ) (lines : ℕ) (event : Event) → IsUnderway text a b ahead lines → ahead ≡ line ++ 10 ∷ beyond → has_newline line ≡ false
       → is_barred (asks_of zone (request_of line)) ≡ false
-      → IsStep parts ClosesNothing (asks_of zone (request_of line)) event (b, tt) (c, tt) → IsPriced event.reply → IsUnderway text a c behind (lines + 1)
-  underway_one read text a b c ahead line behind lines event u cut whole allowed step prices = record {
+      → IsStep parts ClosesNothing (asks_of zone (request_of line)) event (b, tt) (c, tt) → IsPriced event.reply → IsUnderway text a c beyond (lines + 1)
+  underway_one read text a b c ahead line beyond lines event u cut whole allowed step prices = record {
     done = u.done ++ request_of line ∷ [];
     events = u.events ++ event ∷ [];
-    requests = first_ahead read text line ahead behind u.done u.requests cut whole ∙ sym (append_assoc u.done (request_of line ∷ []) (line_requests behind));
-    rest = u.rest ∙ ap rest_of cut ∙ read.rest line behind;
+    requests = first_ahead read text line ahead beyond u.done u.requests cut whole ∙ sym (append_assoc u.done (request_of line ∷ []) (line_requests beyond));
+    rest = u.rest ∙ ap rest_of cut ∙ read.rest line beyond;
     accepted = (
       handed_one a b c u.done u.events (request_of line) event u.accepted.0 u.same step,
       all_one (λ (r : Request). is_barred (asks_of zone r) ≡ false) u.done (request_of line) u.accepted.1 allowed,
       all_one (λ (e : Event). IsPriced e.reply) u.events event u.accepted.2 prices,
     );
     counted = one_longer u.done (request_of line) lines u.counted;
-    fits = still_fits text line ahead behind lines u.fits cut;
+    fits = still_fits text line ahead beyond lines u.fits cut;
     kept = λ ticket answer h. step.kept ticket answer (u.kept ticket answer h);
     same = step.same ∙ u.same;
   }
 
-  pub underway_line : IsReadByLine → (text : List ℕ) (a b c : D) (ahead line behind : List ℕ) (lines : ℕ) (ended : Option Refusal) → IsUnderway text a b ahead lines → ahead ≡ line ++ 10 ∷ behind
-      → has_newline line ≡ false → IsReplayStep parts b c (asks_of zone (request_of line)) ended → ended ≡ None → IsUnderway text a c behind (lines + 1)
-  underway_line read text a b c ahead line behind lines ended u cut whole (inl step) none =
-      underway_one read text a b c ahead line behind lines step.0 u cut whole step.1 step.2 (priced step.0.reply (sym step.3 ∙ none))
-  underway_line read text a b c ahead line behind lines ended u cut whole (inr barred) none = absurd (no_none refusal.BadLine (sym barred.1 ∙ none))
+  pub underway_line : IsReadByLine → (text : List ℕ) (a b c : D) (ahead line beyond : List ℕ) (lines : ℕ) (ended : Option Refusal) → IsUnderway text a b ahead lines → ahead ≡ line ++ 10 ∷ beyond
+      → has_newline line ≡ false → IsReplayStep parts b c (asks_of zone (request_of line)) ended → ended ≡ None → IsUnderway text a c beyond (lines + 1)
+  underway_line read text a b c ahead line beyond lines ended u cut whole (inl step) none =
+      underway_one read text a b c ahead line beyond lines step.0 u cut whole step.1 step.2 (priced step.0.reply (sym step.3 ∙ none))
+  underway_line read text a b c ahead line beyond lines ended u cut whole (inr barred) none = absurd (no_none refusal.BadLine (sym barred.1 ∙ none))
 
   -- it was not
-  pub ended_at : IsReadByLine → (text : List ℕ) (a b c : D) (ahead line behind : List ℕ) (lines : ℕ) (ended : Option Refusal) (why : Refusal) → IsUnderway text a b ahead lines → ahead ≡ line ++ 10 ∷ behind
+  pub ended_at : IsReadByLine → (text : List ℕ) (a b c : D) (ahead line beyond : List ℕ) (lines : ℕ) (ended : Option Refusal) (why : Refusal) → IsUnderway text a b ahead lines → ahead ≡ line ++ 10 ∷ beyond
       → has_newline line ≡ false → IsReplayStep parts b c (asks_of zone (request_of line)) ended → ended ≡ Some why → IsEndedAt zone parts a c text (lines + 1) why
-  ended_at read text a b c ahead line behind lines ended why u cut whole (inl step) is = record {
+  ended_at read text a b c ahead line beyond lines ended why u cut whole (inl step) is = record {
     done = u.done;
     request = request_of line;
-    others = line_requests behind;
-    requests = first_ahead read text line ahead behind u.done u.requests cut whole;
+    others = line_requests beyond;
+    requests = first_ahead read text line ahead beyond u.done u.requests cut whole;
     counted = ap (λ n. n + 1) u.counted;
     events = u.events;
     unbarred = u.accepted.1;
     priced = u.accepted.2;
     ended = inl (step.0, step.1, handed_one a b c u.done u.events (request_of line) step.0 u.accepted.0 u.same step.2, sym step.3 ∙ is);
   }
-  ended_at read text a b c ahead line behind lines ended why u cut whole (inr barred) is = record {
+  ended_at read text a b c ahead line beyond lines ended why u cut whole (inr barred) is = record {
     done = u.done;
     request = request_of line;
-    others = line_requests behind;
-    requests = first_ahead read text line ahead behind u.done u.requests cut whole;
+    others = line_requests beyond;
+    requests = first_ahead read text line ahead beyond u.done u.requests cut whole;
     counted = ap (λ n. n + 1) u.counted;
     events = u.events;
     unbarred = u.accepted.1;

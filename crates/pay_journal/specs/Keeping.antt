@@ -21,7 +21,7 @@ HasFailedBy {W = W} Answers now = (before : W) × (kind : ErrorKind) × Answers 
 
 -- With what a writer may answer to a write or a flush, where it is settled, and where it is cut: a call of one of these kinds failed last.
 abbrev pub HasFailed : {W : Type 0} → (W → WriterCall → W → Type 0) → (W → Option ErrorKind → W → Type 0) → (W → Option ErrorKind → W → Type 0) → W → Type 0
-HasFailed Tells Settles Cuts now = HasFault Tells now ⊎ (HasFailedBy Settles now ⊎ HasFailedBy Cuts now)
+HasFailed MayAnswer Settles Cuts now = HasFault MayAnswer now ⊎ (HasFailedBy Settles now ⊎ HasFailedBy Cuts now)
 
 -- it was settled last
 abbrev pub IsSettled : {W : Type 0} → (W → Option ErrorKind → W → Type 0) → W → Type 0

@@ -62,7 +62,7 @@ kept_parts Fails k = record {
 abbrev pub new_since : KeptParts → List Item → List Item
 new_since k later = new_items k.seen.shard.tables (replay k.seen.shard.tables k.seen.shard.base k.first) later
 
--- behind the lines that were kept there is nothing; or where the desk is stuck, a front of one line more, which may be all of it
+-- after the lines that were kept there is nothing; or where the desk is stuck, a front of one line more, which may be all of it
 abbrev pub IsRest : Bool → List ℕ → Type 0
 IsRest false rest = rest ≡ []
 IsRest true rest = (a : Asked) × (n : ℕ) × (rest ≡ take n (line_of a))

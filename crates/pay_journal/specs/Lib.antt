@@ -1,10 +1,7 @@
 pub mod Lines
-pub mod CommandLines
 pub mod Replays
 pub mod Keeping
 pub mod KeptAnswers
 pub mod KeptParts
 pub mod Puts
-pub mod Texts
-pub mod GivenBack
 pub mod Words

@@ -11,8 +11,8 @@ use Rattle.pay_shard.specs.declared.asked.Asked.{Asked}
 use Rattle.pay_shard.specs.declared.asked.Asked.TheVariants as asked
 use Rattle.pay_shard.specs.declared.item.Item.{Item}
 use Rattle.pay_wire.specs.Words.{spelling_of_command}
-use Rattle.pay_wire.specs.declared.command.Command.{Command}
-use Rattle.pay_wire.specs.declared.command.Command.TheVariants as command
+use Rattle.pay_wire.specs.declared.command.SpelledCommand.{SpelledCommand}
+use Rattle.pay_wire.specs.declared.command.SpelledCommand.TheVariants as command
 use Rattle.pay_wire.specs.declared.command.SpelledTap.{SpelledTap}
 use Rattle.pay_wire.specs.declared.command.SpelledFix.{SpelledFix}
 use Rattle.pay_wire.specs.declared.command.SpelledWhat.{SpelledWhat}
@@ -36,13 +36,13 @@ abbrev pub spelled_fix : Fix → SpelledFix
 spelled_fix fix = record { staff = fix.staff; seq = fix.seq; account = fix.account; what = spelled_what fix.what }
 
 -- the command of a line by which a desk's tap or correction is asked for; what only asks has none here
-abbrev pub spelled_of : Asked → Option Command
+abbrev pub spelled_of : Asked → Option SpelledCommand
 spelled_of (asked.Tap tap) = Some (command.Tap (spelled_tap tap))
 spelled_of (asked.Fix fix) = Some (command.Fix (spelled_fix fix))
 spelled_of _ = None
 
 -- a command's line, newline included, or nothing
-abbrev pub line_of_spelled : Option Command → List ℕ
+abbrev pub line_of_spelled : Option SpelledCommand → List ℕ
 line_of_spelled None = []
 line_of_spelled (Some c) = spelling_of_command c ++ codes "\n"
 
@@ -56,7 +56,7 @@ lines_of_items items = flat_map (λ (i : Item). line_of i.entry.command) items
 
 -- what a line asks of a desk is spelled by this line, if it has one
 abbrev pub AskedByItsLine : Type 0
-AskedByItsLine = (zone : TimeZone) (c : Command) (a : Asked) → asks_of zone (requests.Command c) ≡ asks.Put a → IfSome (spelled_of a) (λ its. its ≡ c)
+AskedByItsLine = (zone : TimeZone) (c : SpelledCommand) (a : Asked) → asks_of zone (requests.Command c) ≡ asks.Put a → IfSome (spelled_of a) (λ its. its ≡ c)
 
 -- ---- worked rows
 

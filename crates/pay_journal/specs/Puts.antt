@@ -1,7 +1,7 @@
 -- One command at a desk that keeps lines.
 use Rattle.std.specs.Prelude.{◌≡◌, ◌⊎◌, ℕ, Bool, true, false, List, [], ◌∷◌, ◌++◌, take, Option, Some, None}
 use Rattle.std.specs.Io.KnownBytes.{Appends}
-use Rattle.pay_shard.specs.Words.{LocalParts, commands_of, transcript_of, IsTaken, with_items, state_now, is_new, new_items, IsAfterAll, IsNoneOf, AreKept}
+use Rattle.pay_shard.specs.Words.{LocalParts, commands_of, transcript_of, IsTaken, with_items, state_now, is_new, new_items, IsAfterAll, IsNoneOf, NothingIsLost}
 use Rattle.pay_shard.specs.declared.asked.Asked.{Asked}
 use Rattle.pay_shard.specs.declared.desk.DeskFault.{DeskFault}
 use Rattle.pay_shard.specs.declared.desk.DeskFault.TheVariants.{Memory, NotKept}
@@ -24,7 +24,7 @@ pub record IsPutKept (ticket : ℕ) (command : Asked) (before after : LocalParts
   pub later : IsAfterAll ticket (commands_of before.shard.journal)
   pub fresh : IsNoneOf ticket before.waiting
   pub waits : after.waiting ≡ before.waiting ++ ticket ∷ []
-  pub transcript : AreKept (transcript_of before.shard) (transcript_of after.shard)
+  pub transcript : NothingIsLost (transcript_of before.shard) (transcript_of after.shard)
   pub bytes : Appends held holds (lines_of_items (new_items before.shard.tables (state_now before.shard) (taken.item ∷ [])))
 
 -- A command was not taken, for want of memory; or it could not be kept, and stands in the journal or not.

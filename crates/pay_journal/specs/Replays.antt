@@ -6,11 +6,11 @@ use Rattle.pay_rules.specs.declared.posting.Posting.{Posting}
 use Rattle.pay_rules.specs.declared.priced.Priced.{Priced}
 use Rattle.pay_shard.specs.declared.asked.Asked.TheVariants as asked
 use Rattle.pay_shard.specs.Words.{DeskParts}
-use Rattle.pay_wire.specs.declared.command.Command.TheVariants as command
+use Rattle.pay_wire.specs.declared.command.SpelledCommand.TheVariants as command
 use Rattle.pay_wire.specs.declared.refusal.Refusal.{Refusal}
 use Rattle.pay_wire.specs.declared.refusal.Refusal.TheVariants as refusal
-use Rattle.pay_wire.specs.declared.reply.Reply.{Reply}
-use Rattle.pay_wire.specs.declared.reply.Reply.TheVariants as replies
+use Rattle.pay_wire.specs.declared.reply.SpelledReply.{SpelledReply}
+use Rattle.pay_wire.specs.declared.reply.SpelledReply.TheVariants as replies
 use Rattle.pay_session.specs.Asks.{asks_of}
 use Rattle.pay_session.specs.Events.{Taken, Event}
 use Rattle.pay_session.specs.Requests.{line_requests, rest_of}
@@ -32,12 +32,12 @@ is_barred (asks.No why) = false
 is_barred _ = true
 
 -- prices: what was asked is accepted, or was before
-abbrev pub IsPriced : Reply → Type 0
+abbrev pub IsPriced : SpelledReply → Type 0
 IsPriced reply = (priced : Priced) × (reply ≡ replies.Priced priced)
 
 -- Why a reply ends a replay, where it does: each does but prices. A desk that answers a tap or a correction by anything else than
 -- prices or a refusal has failed.
-abbrev pub why_ended : Reply → Option Refusal
+abbrev pub why_ended : SpelledReply → Option Refusal
 why_ended (replies.Priced priced) = None
 why_ended (replies.No why) = Some why
 why_ended _ = Some refusal.DeskFault
@@ -80,7 +80,7 @@ module _ {D O : Type 0} (zone : TimeZone) (parts : D → DeskParts O) (before af
     pub counted : it.lines ≡ length (line_requests text)
     pub sized : it.bytes + length (rest_of text) ≡ length text
 
-  -- Behind these, a request was answered by something else than prices; or it is barred, and the desk was not asked.
+  -- After these, a request was answered by something else than prices; or it is barred, and the desk was not asked.
   abbrev pub IsEndedBy : List Request → List Event → Request → Refusal → Type 0
   IsEndedBy done events request why =
       ((last : Event) × (is_barred (asks_of zone request) ≡ false) × AreHanded (done ++ request ∷ []) (events ++ last ∷ []) × (why_ended last.reply ≡ Some why))

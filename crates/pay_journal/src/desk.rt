@@ -3,7 +3,7 @@ ghost use Rattle.std.specs.Prelude.{◌≡◌, ◌≢◌, ◌⊎◌, ◌↔◌, 
 ghost use Rattle.std.specs.Io.KnownBytes.{Appends, Keeps};
 ghost use Rattle.pay_rules.specs.InTurn.{IsIn};
 ghost use Rattle.pay_wire.specs.Words.{AppendsFront};
-ghost use Rattle.pay_shard.specs.Words.{IsForShards, IsHistory, AreInPlace, IsAfterAll, IsNoneOf, AreKept, commands_of, transcript_of, with_items, with_waiting, without};
+ghost use Rattle.pay_shard.specs.Words.{IsForShards, IsHistory, AreInPlace, IsAfterAll, IsNoneOf, NothingIsLost, commands_of, transcript_of, with_items, with_waiting, without};
 ghost use Rattle.pay_shard.specs.declared.desk.DeskFault.TheVariants as desk_fault;
 ghost use Rattle.pay_shard.specs.declared.item.Item.{Item};
 ghost use Rattle.pay_journal.specs.KeptAnswers.{is_quotes, line_if};
@@ -143,7 +143,7 @@ impl<F: Fares, K: Keeper> KeptDesk<F, K> {
         ensures not_added { OnErr result (commands_of self.new.seen.shard.journal ≡ commands_of self.old.seen.shard.journal) }
         ensures none_waits { OnErr result (standing_of self.new ≡ standing_of self.old) }
         ensures refused { IfErr result (λ fault. (fault ≡ desk_fault.Memory) ⊎ ((fault ≡ desk_fault.NotKept) × CanFail K.HasFailed)) }
-        ensures transcript { AreKept (transcript_of self.old.seen.shard) (transcript_of self.new.seen.shard) }
+        ensures transcript { NothingIsLost (transcript_of self.old.seen.shard) (transcript_of self.new.seen.shard) }
     {
         if self.stuck {
             return Err(DeskFault::NotKept);

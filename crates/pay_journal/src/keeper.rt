@@ -37,7 +37,7 @@ pub trait Keeper: Drop {
 }
 
 /// A keeper that keeps nothing. It does not fail.
-#[derive(Clone, Copy, Debug, PartialEq, Eq)]
+#[derive(Clone, Copy)]
 pub struct NoKeeper;
 
 impl Keeper for NoKeeper {

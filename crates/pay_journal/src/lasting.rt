@@ -6,13 +6,13 @@ ghost use Rattle.std.specs.declared.io.ErrorKind.{ErrorKind};
 ghost use Rattle.pay_wire.specs.Words.{failure_of};
 ghost use Rattle.pay_journal.specs.Keeping.{IsCutTo};
 
-use pay_wire::ToldWriter;
+use pay_wire::KnownWriter;
 use std::fs::File;
 use std::io;
 
 /// A writer whose bytes are to outlast the machine's power, and may be cut. Of a call it is known what the writer answered: the writer
 /// before it, how it failed, if it did, and the writer after it.
-pub trait Lasting: ToldWriter + Drop {
+pub trait Lasting: KnownWriter + Drop {
     /// What it may answer to `settle`.
     ghost Settles: { Self → Option ErrorKind → Self → Type 0 };
 

@@ -1,7 +1,7 @@
 //! Journals: files of lines, one for each tap and each correction that was newly accepted. [`line_of`] spells such a line, and
 //! [`keep_answer`] says when one is kept, by whatever [`Keeper`]: by a [`LineKeeper`], which writes it to a file, or by [`NoKeeper`].
 //! [`KeptDesk`] is a desk over a shard that has it kept before its reply can be got. [`replay`] hands the lines of a journal to a desk
-//! once more. `laws` says what journals give back, whole, cut or torn.
+//! once more. What journals give back, whole, cut or torn, is said in `pay_journal_laws`.
 #![tactic(auto)]
 
 mod desk;

@@ -9,7 +9,7 @@ use crate::keeper::{Keeper, NotKept};
 use crate::lasting::Lasting;
 use crate::lines::line_of;
 use pay_shard::Command;
-use pay_wire::{ToldWriter, send_line};
+use pay_wire::{KnownWriter, send_line};
 
 /// Keeps lines after the first bytes of what a writer has, each by one write where the writer takes it whole. What stands after these
 /// bytes is cut off before the first line is kept, and not at all if none is.
@@ -41,7 +41,7 @@ impl<W: Lasting> LineKeeper<W> {
     pub fn keep(&mut self, command: Command) -> Result<(), NotKept>
         ensures kept { OnOk result (Appends (held self.old.whole (W.contents self.old.writer)) (held self.new.whole (W.contents self.new.writer)) (line_of command)) }
         ensures front { OnErr result (AppendsFront (held self.old.whole (W.contents self.old.writer)) (held self.new.whole (W.contents self.new.writer)) (line_of command)) }
-        ensures failed { OnErr result (HasFailed W.Tells W.Settles W.Cuts self.new.writer) }
+        ensures failed { OnErr result (HasFailed W.MayAnswer W.Settles W.Cuts self.new.writer) }
         ensures settled { OnOk result (self.old.syncs ≡ true → IsSettled W.Settles self.new.writer) }
         ensures syncs { self.new.syncs ≡ self.old.syncs }
         ensures cut { OnOk result (self.new.whole ≡ None) }
@@ -56,7 +56,7 @@ impl<W: Lasting> LineKeeper<W> {
     pub fn settle(&mut self) -> Result<(), NotKept>
         ensures same { Keeps (W.contents self.old.writer) (W.contents self.new.writer) }
         ensures settled { OnOk result (IsSettled W.Settles self.new.writer) }
-        ensures failed { OnErr result (HasFailed W.Tells W.Settles W.Cuts self.new.writer) }
+        ensures failed { OnErr result (HasFailed W.MayAnswer W.Settles W.Cuts self.new.writer) }
         ensures syncs { self.new.syncs ≡ self.old.syncs }
         ensures whole { self.new.whole ≡ self.old.whole }
     {
@@ -67,7 +67,7 @@ impl<W: Lasting> LineKeeper<W> {
     fn cut(&mut self) -> Result<(), NotKept>
         ensures same { Keeps (held self.old.whole (W.contents self.old.writer)) (held self.new.whole (W.contents self.new.writer)) }
         ensures done { OnOk result (self.new.whole ≡ None) }
-        ensures failed { OnErr result (HasFailed W.Tells W.Settles W.Cuts self.new.writer) }
+        ensures failed { OnErr result (HasFailed W.MayAnswer W.Settles W.Cuts self.new.writer) }
         ensures syncs { self.new.syncs ≡ self.old.syncs }
     {
         let Some(whole) = self.whole else {
@@ -86,7 +86,7 @@ impl<W: Lasting> LineKeeper<W> {
     fn append(&mut self, command: Command) -> Result<(), NotKept>
         ensures kept { OnOk result (Appends (W.contents self.old.writer) (W.contents self.new.writer) (line_of command)) }
         ensures front { OnErr result (AppendsFront (W.contents self.old.writer) (W.contents self.new.writer) (line_of command)) }
-        ensures failed { OnErr result (HasFailed W.Tells W.Settles W.Cuts self.new.writer) }
+        ensures failed { OnErr result (HasFailed W.MayAnswer W.Settles W.Cuts self.new.writer) }
         ensures settled { OnOk result (self.old.syncs ≡ true → IsSettled W.Settles self.new.writer) }
         ensures syncs { self.new.syncs ≡ self.old.syncs }
         ensures whole { self.new.whole ≡ self.old.whole }
@@ -100,7 +100,7 @@ impl<W: Lasting> LineKeeper<W> {
     /// Settles what it holds, if each line is settled at once.
     fn settle_line(&mut self) -> Result<(), NotKept>
         ensures same { Keeps (W.contents self.old.writer) (W.contents self.new.writer) }
-        ensures failed { OnErr result (HasFailed W.Tells W.Settles W.Cuts self.new.writer) }
+        ensures failed { OnErr result (HasFailed W.MayAnswer W.Settles W.Cuts self.new.writer) }
         ensures settled { OnOk result (self.new.syncs ≡ true → IsSettled W.Settles self.new.writer) }
         ensures syncs { self.new.syncs ≡ self.old.syncs }
         ensures whole { self.new.whole ≡ self.old.whole }
@@ -116,7 +116,7 @@ impl<W: Lasting> LineKeeper<W> {
 fn settled<W: Lasting>(writer: &mut W) -> Result<(), NotKept>
     ensures same { Keeps (W.contents writer.old) (W.contents writer.new) }
     ensures settled { OnOk result (IsSettled W.Settles writer.new) }
-    ensures failed { OnErr result (HasFailed W.Tells W.Settles W.Cuts writer.new) }
+    ensures failed { OnErr result (HasFailed W.MayAnswer W.Settles W.Cuts writer.new) }
 {
     match writer.settle() {
         Ok(()) => Ok(()),
@@ -124,12 +124,12 @@ fn settled<W: Lasting>(writer: &mut W) -> Result<(), NotKept>
     }
 }
 
-impl<W: Lasting + ToldWriter> Keeper for LineKeeper<W> {
+impl<W: Lasting + KnownWriter> Keeper for LineKeeper<W> {
     ghost use Rattle.pay_journal.specs.Keeping.{held, HasFailed, IsSettled};
 
     ghost holds = { λ k. held k.whole (W.contents k.writer) };
 
-    ghost HasFailed = { λ k. HasFailed W.Tells W.Settles W.Cuts k.writer };
+    ghost HasFailed = { λ k. HasFailed W.MayAnswer W.Settles W.Cuts k.writer };
 
     ghost IsSettled = { λ k. IsSettled W.Settles k.writer };
 

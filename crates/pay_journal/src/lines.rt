@@ -5,16 +5,18 @@ ghost use Rattle.pay_journal.specs.Lines.{spelled_tap, spelled_what, spelled_fix
 use arrayvec::ArrayVec;
 use pay_rules::{Fix, Tap, What};
 use pay_shard::{Asked, Command};
-use pay_wire::{SpelledCredit, SpelledFix, SpelledLine, SpelledTap, SpelledWhat, command_line};
+use pay_wire::{
+    SpelledCommand, SpelledCredit, SpelledFix, SpelledLine, SpelledTap, SpelledWhat, command_line,
+};
 
 /// The command of a line by which a tap or a correction is asked for: its numbers, and its instant without where that falls. What
 /// only asks has none here.
-pub fn spelled_of(command: Command) -> Option<pay_wire::Command>
+pub fn spelled_of(command: Command) -> Option<SpelledCommand>
     ensures { result ≡ spelled_of command }
 {
     match command.asked() {
-        Asked::Tap(tap) => Some(pay_wire::Command::Tap(spelled_tap(&tap))),
-        Asked::Fix(fix) => Some(pay_wire::Command::Fix(spelled_fix(&fix))),
+        Asked::Tap(tap) => Some(SpelledCommand::Tap(spelled_tap(&tap))),
+        Asked::Fix(fix) => Some(SpelledCommand::Fix(spelled_fix(&fix))),
         Asked::Due { .. } | Asked::Show { .. } | Asked::Quotes { .. } => None,
     }
 }

@@ -1,6 +1,6 @@
 //! Replaying a text of lines: the commands that an earlier session accepted are handed to a desk once more.
 ghost use Rattle.std.specs.Prelude.{◌≡◌, IfOk, IfErr};
-ghost use Rattle.pay_shard.specs.Words.{AreKept};
+ghost use Rattle.pay_shard.specs.Words.{NothingIsLost};
 ghost use Rattle.pay_session.specs.Asks.{asks_of, IsOfAccount};
 ghost use Rattle.pay_journal.specs.Replays.{IsReplayed, IsEnded, IsReplayStep, IsFaultOf, is_barred, why_ended};
 ghost use Rattle.pay_session.specs.Requests.{request_of};
@@ -8,13 +8,13 @@ ghost use Rattle.pay_session.specs.Requests.{request_of};
 use jiff::tz::TimeZone;
 use pay_session::{Asks, asks_of, cut, reply_of, request_of};
 use pay_shard::{Asked, Command, Desk};
-use pay_wire::{Refusal, Reply};
+use pay_wire::{Refusal, SpelledReply};
 use thiserror::Error;
 
 /// What a text of lines came to that were replayed.
 #[derive(Clone, Copy, Debug, PartialEq, Eq)]
 pub struct Replayed {
-    /// The whole lines. What stands behind the last newline is none.
+    /// The whole lines. What stands after the last newline is none.
     pub lines: u64,
     /// Their bytes, with their newlines.
     pub bytes: u64,
@@ -41,18 +41,18 @@ pub fn replay<D: Desk>(
 ) -> Result<Replayed, ReplayFault>
     ensures replayed { IfOk result (IsReplayed zone.now D.parts desk.old desk.new text.now) }
     ensures ended { IfErr result (IsEnded zone.now D.parts desk.old desk.new text.now) }
-    ensures transcript { AreKept (D.parts desk.old).transcript (D.parts desk.new).transcript }
+    ensures transcript { NothingIsLost (D.parts desk.old).transcript (D.parts desk.new).transcript }
     ensures same_desk { (D.parts desk.new).standing ≡ (D.parts desk.old).standing }
 {
     pay_session::laws::line_by_line();
     let mut ahead = text;
     let mut lines = 0;
-    while let Some((line, behind)) = cut(ahead) {
+    while let Some((line, rest)) = cut(ahead) {
         lines += 1;
         if let Some(why) = replay_line(line, zone, desk) {
             return Err(fault_at(lines, why));
         }
-        ahead = behind;
+        ahead = rest;
     }
     Ok(Replayed {
         lines,
@@ -74,7 +74,7 @@ fn fault_at(line: u64, why: Refusal) -> ReplayFault
 /// Hands the command of a line to a desk. The answer is why the replay ends there, if it does.
 fn replay_line<D: Desk>(line: &[u8], zone: &TimeZone<'_>, desk: &mut D) -> Option<Refusal>
     ensures step { IsReplayStep D.parts desk.old desk.new (asks_of zone.now (request_of line.now)) result }
-    ensures transcript { AreKept (D.parts desk.old).transcript (D.parts desk.new).transcript }
+    ensures transcript { NothingIsLost (D.parts desk.old).transcript (D.parts desk.new).transcript }
     ensures same_desk { (D.parts desk.new).standing ≡ (D.parts desk.old).standing }
 {
     match asks_of(zone, request_of(line)) {
@@ -88,7 +88,7 @@ fn replay_line<D: Desk>(line: &[u8], zone: &TimeZone<'_>, desk: &mut D) -> Optio
 fn put_again<D: Desk>(desk: &mut D, command: Command) -> Option<Refusal>
     requires { IsOfAccount command }
     ensures step { IsReplayStep D.parts desk.old desk.new (Asks.Put command) result }
-    ensures transcript { AreKept (D.parts desk.old).transcript (D.parts desk.new).transcript }
+    ensures transcript { NothingIsLost (D.parts desk.old).transcript (D.parts desk.new).transcript }
     ensures same_desk { (D.parts desk.new).standing ≡ (D.parts desk.old).standing }
 {
     if is_question(&command) {
@@ -106,12 +106,12 @@ fn is_question(command: &Command) -> bool
 }
 
 /// Why a reply ends a replay, if it does: each does but prices.
-fn why_ended(reply: &Reply) -> Option<Refusal>
+fn why_ended(reply: &SpelledReply) -> Option<Refusal>
     ensures { result ≡ why_ended reply.now }
 {
     match reply {
-        Reply::Priced(_) => None,
-        Reply::No(why) => Some(*why),
+        SpelledReply::Priced(_) => None,
+        SpelledReply::No(why) => Some(*why),
         _ => Some(Refusal::DeskFault),
     }
 }

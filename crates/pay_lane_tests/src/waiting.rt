@@ -3,7 +3,7 @@
 use crate::gates::{Counting, passing};
 use crate::given::{due, expect_same, gates, one_route, opened, pence};
 use pay_book::Book;
-use pay_lanes::{Lane, OpenFault, OpenGate, Opened, SendFault, Turn, Worker, open};
+use pay_lanes::{Lane, OpenGate, OpenLanesFault, Opened, SendFault, Turn, Worker, open};
 use std::process::Abort;
 use std::sync::Wait;
 
@@ -12,7 +12,7 @@ fn refused<R: Abort + AllocGlobal>(
     shards: u8,
     lanes: u8,
     gate_count: u8,
-) -> Option<OpenFault> {
+) -> Option<OpenLanesFault> {
     let gates = gates(rt, gate_count);
     let opened = open::<Book, OpenGate>(rt.alloc(), one_route(rt), shards, lanes, gates);
     opened.err()
@@ -24,7 +24,7 @@ fn counts_out_of_limits(rt: HostRuntime) {
         expect_same(
             &rt,
             refused(&rt, shards, lanes, gates),
-            Some(OpenFault::Count),
+            Some(OpenLanesFault::Count),
         );
     }
     expect_same(&rt, refused(&rt, 16, 16, 16), None);

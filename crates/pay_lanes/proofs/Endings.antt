@@ -201,8 +201,8 @@ pub one_gate_more : {G : Type 0} (Holds : G → List Passed → Bool → Type 0)
 one_gate_more Holds lanes w gates after n m long more one = let pushed = ap length one.pushed ∙ length_push gates one.gate in omega (arith, pushed, long, more)
 
 -- one more gate, which began as its worker says
-pub began_behind : {G : Type 0} (began : G → Option (List ℕ)) (gates after : List G) (gate : G) (b : Option (List ℕ)) → after ≡ gates ++ gate ∷ [] → began gate ≡ b → map began after ≡ map began gates ++ b ∷ []
-began_behind began gates after gate b more its = ap (map began) more ∙ (each_and began gates gate ∙ ap (λ x. map began gates ++ x ∷ []) its)
+pub began_after : {G : Type 0} (began : G → Option (List ℕ)) (gates after : List G) (gate : G) (b : Option (List ℕ)) → after ≡ gates ++ gate ∷ [] → began gate ≡ b → map began after ≡ map began gates ++ b ∷ []
+began_after began gates after gate b more its = ap (map began) more ∙ (each_and began gates gate ∙ ap (λ x. map began gates ++ x ∷ []) its)
 
 -- ---- the loop over the workers
 

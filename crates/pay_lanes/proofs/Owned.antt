@@ -88,12 +88,12 @@ none_single number [] new = tt
 none_single number (s ∷ xs) new =
     subst (λ (entries : List Entry). AreSingle (entries ++ all_sent xs)) (sym (All-head (IsNewSender number) s xs new).1) (none_single number xs (All-tail (IsNewSender number) s xs new))
 
-single_behind : (front back : List Entry) → AreSingle (front ++ back) → AreSingle back
+single_after : (front back : List Entry) → AreSingle (front ++ back) → AreSingle back
 unfolding IsDistinct
-single_behind [] back single = single
-single_behind (e ∷ front) back single = single_behind front back single.1
+single_after [] back single = single
+single_after (e ∷ front) back single = single_after front back single.1
 
 -- without the first way
 pub single_rest : (xs : List (SenderParts Entry)) → AreSingle (all_sent xs) → AreSingle (all_sent (drop 1 xs))
 single_rest [] single = single
-single_rest (s ∷ xs) single = single_behind s.sent (all_sent xs) single
+single_rest (s ∷ xs) single = single_after s.sent (all_sent xs) single

@@ -88,7 +88,7 @@ fn exchange(lane: &mut Lane, way: Outbox<Answer, ByShard>) -> Outbox<Entry, ByLa
     lane.shards.remove(0)
 }
 
-/// Puts a gate behind others. Where there are none it takes the room for all.
+/// Puts a gate after others. Where there are none it takes the room for all.
 fn keep_gate<G: Gate>(gates: &mut Vec<G>, room: Vec<G>, gate: G)
     requires few { length gates.old.items < MOST_JOURNALS }
     requires empty { room.items ≡ [] }

@@ -18,7 +18,7 @@ mod worker;
 pub use ending::{EndFault, Ended, end, put_in_order};
 pub use gate::{Gate, OpenGate};
 pub use lane::{Lane, SendFault};
-pub use opening::{OpenFault, Opened, open};
+pub use opening::{OpenLanesFault, Opened, open};
 pub use outgoing::Outgoing;
 pub use senders::{ByLane, ByShard};
 pub use worker::{Turn, Worker};

@@ -6,7 +6,7 @@ ghost use Rattle.pay_lanes.specs.Ends.{numbers, AreTogether};
 ghost use Rattle.pay_lanes.specs.Openings.{IsOutOfCount, IsNewWorker, IsNewLane, IsNewReceiver, IsNewSender, AreNewSenders, IsReady, shard_numbers, began_of, requests_of, ways_of, having_made_more, senders_after, lanes_from};
 ghost use Rattle.pay_shard.specs.declared.limits.TheConstants.{MOST_SHARDS};
 ghost use Rattle.pay_lanes.specs.declared.limits.TheConstants.{MOST_LANES, MOST_REQUESTS};
-ghost use Rattle.pay_lanes.specs.declared.opening.OpenFault.TheVariants.{Count};
+ghost use Rattle.pay_lanes.specs.declared.opening.OpenLanesFault.TheVariants.{Count};
 
 use crate::gate::Gate;
 use crate::lane::Lane;
@@ -24,7 +24,7 @@ use thiserror::Error;
 
 /// Why nothing is opened.
 #[derive(Clone, Copy, Debug, PartialEq, Eq, Error)]
-pub enum OpenFault {
+pub enum OpenLanesFault {
     /// 32: the number of shards or of lanes is not from 1 to 16, or there is not one gate for each shard.
     #[error("32 Count")]
     Count,
@@ -33,14 +33,14 @@ pub enum OpenFault {
     Memory,
 }
 
-impl From<AllocError> for OpenFault {
+impl From<AllocError> for OpenLanesFault {
     ghost use Rattle.std.specs.Prelude.{◌≡◌};
-    ghost use Rattle.pay_lanes.specs.declared.opening.OpenFault.TheVariants.{Memory};
+    ghost use Rattle.pay_lanes.specs.declared.opening.OpenLanesFault.TheVariants.{Memory};
 
     ghost from_gives = { λ _ fault. fault ≡ Memory };
 
-    fn from(_: AllocError) -> OpenFault {
-        OpenFault::Memory
+    fn from(_: AllocError) -> OpenLanesFault {
+        OpenLanesFault::Memory
     }
 }
 
@@ -185,7 +185,7 @@ pub fn open<F: Fares, G: Gate>(
     shards: u8,
     lanes: u8,
     gates: Vec<G>,
-) -> Result<Opened<F, G>, OpenFault>
+) -> Result<Opened<F, G>, OpenLanesFault>
     requires { All (λ gate. G.Holds gate [] false) gates.items }
     ensures count { (result ≡ Err Count) ↔ IsOutOfCount shards lanes (length gates.items) }
     ensures workers { IfOk result (λ opened. shard_numbers opened.workers.items ≡ range_with_len 0 shards) }
@@ -201,7 +201,7 @@ pub fn open<F: Fares, G: Gate>(
         || lanes > MOST_LANES
         || gates.len() != shards as usize
     {
-        return Err(OpenFault::Count);
+        return Err(OpenLanesFault::Count);
     }
     let mut requests = inboxes(alloc, shards, MOST_REQUESTS)?;
     let mut answers = inboxes(alloc, lanes, MOST_ANSWERS)?;

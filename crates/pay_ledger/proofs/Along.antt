@@ -23,7 +23,7 @@ pub kept_same : (s : State) → KeepsCommit s s
 kept_same s = record { was_open = λ live. live; committed = λ _. refl }
 
 pub goes_on_same : (s : State) → GoesOn s s
-goes_on_same s = record { stays = record { kept = λ clean inside. kept_same s; survives = survives_same s }; inside = λ clean inside. inside }
+goes_on_same s = record { stays = record { unchanged = λ clean inside. kept_same s; survives = survives_same s }; inside = λ clean inside. inside }
 
 pub was_clean : (a b : State) → Survives a b (λ _. ⊥) → HasCleanDisk b → HasCleanDisk a
 was_clean a b h clean = let less = h.clean in omega (arith, less, clean)
@@ -34,9 +34,9 @@ module _ (a b c : State) where
 
   pub stays_then : GoesOn a b → Stays b c → Stays a c
   stays_then one two = record {
-    kept = λ clean inside.
+    unchanged = λ clean inside.
         let first = was_clean b c two.survives clean in
-        keeps_then a b c (one.stays.kept first inside) (two.kept clean (one.inside first inside));
+        keeps_then a b c (one.stays.unchanged first inside) (two.unchanged clean (one.inside first inside));
     survives = both_survive one.stays.survives two.survives;
   }
 
@@ -59,7 +59,7 @@ pub store_only : {A : Type 0} (r : Result A LedgerFault) → IfErr r (λ fault. 
 store_only (Ok x) h = tt
 store_only (Err fault) h = ap is_of_store h
 
--- a list with the first of others behind it, and one more of these
+-- a list with the first of others after it, and one more of these
 pub one_more : {X : Type 0} (list more : List X) (i : ℕ) (d : X) → i < length more → (list ++ take i more) ++ get_or more i d ∷ [] ≡ list ++ take (i + 1) more
 one_more list more i d below = append_assoc list (take i more) (get_or more i d ∷ []) ∙ ap (λ l. list ++ l) (sym (take_more more i d below))
 
@@ -91,14 +91,14 @@ module _ {S : Type 0} (store : Ghosts S) where
   -- by what one call says of its own
   pub goes : (a b : MutBor (Held S)) → b.ghost_name ≡ a.ghost_name → CommitsNothingInside store a.now b.now
       → (HasCleanDisk (state store b.now) → IsTrue (state store a.now).in_transaction → IsTrue (state store b.now).in_transaction) → LeavesAsBefore store a.now b.now → HasGoneOn store a b
-  goes a b same kept inside survives = record { same_reference = same; goes_on = record { stays = record { kept = kept; survives = survives }; inside = inside }; stays = tt }
+  goes a b same unchanged inside survives = record { same_reference = same; goes_on = record { stays = record { unchanged = unchanged; survives = survives }; inside = inside }; stays = tt }
 
   pub goes_by_read : (a b : MutBor (Held S)) → b.ghost_name ≡ a.ghost_name → CommitsNothingInside store a.now b.now
       → (HasCleanDisk (state store b.now) → (state store b.now).in_transaction ≡ (state store a.now).in_transaction) → LeavesAsBefore store a.now b.now → HasGoneOn store a b
-  goes_by_read a b same kept inside survives = goes a b same kept (λ clean was. subst IsTrue (sym (inside clean)) was) survives
+  goes_by_read a b same unchanged inside survives = goes a b same unchanged (λ clean was. subst IsTrue (sym (inside clean)) was) survives
 
   pub stops : (a b : MutBor (Held S)) → b.ghost_name ≡ a.ghost_name → CommitsNothingInside store a.now b.now → LeavesAsBefore store a.now b.now → HasStopped store a b
-  stops a b same kept survives = record { same_reference = same; goes_on = tt; stays = record { kept = kept; survives = survives } }
+  stops a b same unchanged survives = record { same_reference = same; goes_on = tt; stays = record { unchanged = unchanged; survives = survives } }
 
   -- the disk was clean before a step if it is clean after it
   pub was : {A E : Type 0} {a b : MutBor (Held S)} {r : Result A E} → IsStep store a b r → HasCleanDisk (state store b.now) → HasCleanDisk (state store a.now)

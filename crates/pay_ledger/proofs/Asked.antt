@@ -16,13 +16,13 @@ module _ (old new : State) where
 
   -- it did not answer
   pub not_run_stays : (sql : List ℕ) (e : Error) → (HasCleanDisk new → (params : Row) → IsNotRun old new sql params e) → Survives old new (λ _. ⊥) → Stays old new
-  not_run_stays sql e refused survives = record { kept = λ clean inside. kept_not_run sql [] e (refused clean []); survives = survives }
+  not_run_stays sql e refused survives = record { unchanged = λ clean inside. kept_not_run sql [] e (refused clean []); survives = survives }
 
   -- it answered
   pub unchanged_goes_on : (HasCleanDisk new → IsUnchanged old new) → Survives old new (λ _. ⊥) → GoesOn old new
   unchanged_goes_on same survives = record {
     stays = record {
-      kept = λ clean inside. record { was_open = λ _. (same clean).0.was_open; committed = λ _. (same clean).0.committed_is };
+      unchanged = λ clean inside. record { was_open = λ _. (same clean).0.was_open; committed = λ _. (same clean).0.committed_is };
       survives = survives;
     };
     inside = λ clean inside. subst IsTrue (sym (same clean).0.mode) inside;

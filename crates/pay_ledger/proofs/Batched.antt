@@ -15,7 +15,7 @@ use Rattle.pay_records.specs.Words.{KeepsOthers}
 use Rattle.pay_ledger.specs.declared.fault.LedgerFault.TheVariants.{Refused}
 use Rattle.pay_records.specs.Words.{LedgerRows, HoldsRows}
 use Rattle.pay_ledger.specs.BadRows.{asked, AreReadable}
-use Rattle.pay_ledger.specs.Keeps.{IsLedger}
+use Rattle.pay_ledger.specs.Stores.{IsLedger}
 use Rattle.pay_ledger.specs.Steps.{Grows, FindsLedger, ReadsInto, IsRefused, BecomesPosted}
 use Rattle.pay_ledger.proofs.Gathered.{reads_then, none_read}
 use Rattle.pay_ledger.proofs.Readable.{all_readable, agrees_of_ledger}
@@ -36,8 +36,8 @@ module _ (a b c : State) (none one two : AccountsParts) (quotes : List QuotePart
   -- and what is so of accounts that agree with a ledger is so of the ledger
   pub found_of : PostingsAreReadBack → (IsSo : LedgerParts → Type 0) → ((ledger : LedgerParts) → Agrees two ledger → Covers two quotes sets → IsSo ledger) → HasCleanDisk c → FindsLedger a c IsSo
   found_of back IsSo so clean ledger k =
-      let read = (reads_then a b c none one two was first second).rows clean k.keeps.rows k.keeps.held in
-      (so ledger (agrees_of_ledger back a.now ledger k two (read.0 (none_read k.keeps.rows none is))) covers, read.1)
+      let read = (reads_then a b c none one two was first second).rows clean k.stores.rows k.stores.held in
+      (so ledger (agrees_of_ledger back a.now ledger k two (read.0 (none_read k.stores.rows none is))) covers, read.1)
 
 pub refused_so : {A : Type 0} (answer : Result A PostFault) (fault : PostFault) → (fault ≢ Memory → answer ≡ Err fault) → IsRefused (Refused fault) answer
 refused_so answer BadArchive h = inr (BadArchive, refl, h (λ e. cc))
@@ -49,7 +49,7 @@ refused_so answer Memory h = inl refl
 -- a posting, with what was posted before it, is a ledger again
 pub posted_ledger : PostedStayKept → (a b c : State) (quotes : List QuoteParts) (sets : List SetsParts) (given : List Posting) (change : LedgerParts → LedgerParts) → AllByRecursion IsQuote quotes
     → FindsLedger a b (λ ledger. posted ledger quotes sets ≡ Ok (given, change ledger)) → Grows b c change → BecomesPosted a.now c.now (quotes, sets) given
-posted_ledger kept a b c quotes sets given change are found grows ledger k =
+posted_ledger paid a b c quotes sets given change are found grows ledger k =
     let it = found ledger k in
     let same : IsLedger b.now ledger = subst (λ db. IsLedger db ledger) (sym it.1) k in
-    (change ledger, it.0, record { keeps = grows.0 ledger same.keeps; kept = kept ledger (change ledger) quotes sets given k.kept are it.0 }, subst (λ db. KeepsOthers db c.now) it.1 grows.1)
+    (change ledger, it.0, record { stores = grows.0 ledger same.stores; paid = paid ledger (change ledger) quotes sets given k.paid are it.0 }, subst (λ db. KeepsOthers db c.now) it.1 grows.1)

@@ -27,7 +27,7 @@ use Rattle.pay_ledger.specs.declared.fault.LedgerFault.{LedgerFault}
 use Rattle.pay_ledger.specs.declared.fault.LedgerFault.TheVariants.{Refused}
 use Rattle.pay_ledger.specs.Faults.{is_of_store, ledger_fault_of_read}
 use Rattle.pay_ledger.specs.BadRows.{ReadsAs, IsReadable, quoted, in_sets, asked, IsAmong, AreReadable, IsReadFrom, WereRead, IsBadAmong, IsJudgedByRows}
-use Rattle.pay_ledger.specs.Keeps.{IsLedger}
+use Rattle.pay_ledger.specs.Stores.{IsLedger}
 use Rattle.pay_ledger.specs.Steps.{FindsRows, IsRefused}
 use Rattle.pay_ledger.specs.Calls.{IsJudged}
 use Rattle.pay_ledger.proofs.Along.{no_answer}
@@ -168,10 +168,10 @@ judged_second rows accounts more fault (inr h) = inr (inl (h.0, h.1, among_secon
 
 -- what an account's rows or several accounts' rows refuse of a ledger, the database refuses
 module _ (back : PostingsAreReadBack) (db : Database) (ledger : LedgerParts) (k : IsLedger db ledger) where
-  store_among : (accounts : List ℕ) (fault : LedgerFault) → IsBadOrStore k.keeps.rows accounts fault → IsTrue (is_of_store fault)
+  store_among : (accounts : List ℕ) (fault : LedgerFault) → IsBadOrStore k.stores.rows accounts fault → IsTrue (is_of_store fault)
   store_among accounts fault h = elim h [ inl store ↦ store | inr bad ↦ absurd (never_bad_of_ledger back db ledger k bad.1 bad.3) ]
 
-  pub agrees_of_ledger : (there : AccountsParts) → WereRead k.keeps.rows there → Agrees there ledger
+  pub agrees_of_ledger : (there : AccountsParts) → WereRead k.stores.rows there → Agrees there ledger
   agrees_of_ledger there were account read is = read_of_ledger back db ledger k account read (were account read is)
 
 -- ---- what posting comes to
@@ -194,13 +194,13 @@ module _ {S : Type 0} (store : Ghosts S) {A : Type 0} (answer : Result A LedgerF
     -- by the accounts of the quotes
     pub judged_at_quotes : PostingsAreReadBack → (old new : Held S) → (HasCleanDisk (state store new) → (rows : LedgerRows) → HoldsRows (state store old).now rows → IsBadOrStore rows (quoted quotes) why) → IsJudged store old new answer quotes sets
     judged_at_quotes back old new bad =
-        judged_as old new (λ clean ledger k. inl (store_among back (state store old).now ledger k (quoted quotes) why (bad clean k.keeps.rows k.keeps.held)))
+        judged_as old new (λ clean ledger k. inl (store_among back (state store old).now ledger k (quoted quotes) why (bad clean k.stores.rows k.stores.held)))
         (λ clean rows k. judged_first rows (quoted quotes) (in_sets sets) why (bad clean rows k))
 
     -- by those of the sets
     pub judged_at_sets : PostingsAreReadBack → (old new : Held S) → (HasCleanDisk (state store new) → (rows : LedgerRows) → HoldsRows (state store old).now rows → IsBadOrStore rows (in_sets sets) why) → IsJudged store old new answer quotes sets
     judged_at_sets back old new bad =
-        judged_as old new (λ clean ledger k. inl (store_among back (state store old).now ledger k (in_sets sets) why (bad clean k.keeps.rows k.keeps.held)))
+        judged_as old new (λ clean ledger k. inl (store_among back (state store old).now ledger k (in_sets sets) why (bad clean k.stores.rows k.stores.held)))
         (λ clean rows k. judged_second rows (quoted quotes) (in_sets sets) why (bad clean rows k))
 
     -- by what was posted

@@ -19,7 +19,7 @@ use Rattle.pay_rows.specs.declared.row.TapRow.{TapRow}
 use Rattle.pay_rows.specs.declared.row.FixRow.{FixRow}
 use Rattle.pay_postings.specs.PostingRows.{posting_row, share_rows, share_rows_from, postings_from_rows}
 use Rattle.pay_set_rows.specs.SetRows.{tap_row, fix_row}
-use Rattle.pay_postings.specs.AccountRows.{is_of_account, of_account, numbered_of, rows_of, shares_of, RiseBehind}
+use Rattle.pay_postings.specs.AccountRows.{is_of_account, of_account, numbered_of, rows_of, shares_of, RiseAfter}
 use Rattle.sqlite.specs.Effect.{Database}
 use Rattle.pay_records.specs.Words.{LedgerRows, HoldsRows, RiseFrom, posting_row as stored}
 use Rattle.pay_records.specs.Found as found
@@ -29,7 +29,7 @@ use Rattle.pay_ledger.specs.declared.fault.LedgerFault.TheVariants.{Refused}
 use Rattle.pay_ledger.specs.Faults.{is_of_store}
 use Rattle.pay_ledger.specs.BadRows.{ReadsAs, net_said, IsNetOf, IsReadFrom}
 use Rattle.pay_ledger.proofs.Looking.{net_of_own}
-use Rattle.pay_ledger.specs.Keeps.{IsLedger, AreRowsOf, row_of_posting, row_of_tap, row_of_fix}
+use Rattle.pay_ledger.specs.Stores.{IsLedger, AreRowsOf, row_of_posting, row_of_tap, row_of_fix}
 
 same_account : (a b : ℕ) → int_eq (pos a) (pos b) ≡ (a == b)
 same_account a b = grind (arith, ints, nat_tests)
@@ -57,13 +57,13 @@ postings_read account ledger rows are =
     (filter_same (λ (n : ℤ × Posting). int_eq (pos n.1.quote.account) (pos account)) (λ (n : ℤ × Posting). is_of_account account n.1) (λ n. same_account n.1.quote.account account) (zip are.ids ledger.postings))
 
 -- numbers that rise, as the rows of postings have them
-pub ids_rise : (low : ℤ) (ids : List ℤ) (list : List Posting) → length ids ≡ length list → RiseFrom low (map stored (map row_of_posting (zip ids list))) → RiseBehind low ids
+pub ids_rise : (low : ℤ) (ids : List ℤ) (list : List Posting) → length ids ≡ length list → RiseFrom low (map stored (map row_of_posting (zip ids list))) → RiseAfter low ids
 ids_rise low [] [] same up = tt
 ids_rise low [] (p ∷ list) same up = absurd (omega (arith, same))
 ids_rise low (id ∷ ids) [] same up = absurd (omega (arith, same))
 ids_rise low (id ∷ ids) (p ∷ list) same up =
     let is : id ≡ up.0 = let e = up.1 in cc in
-    (subst (λ n. low <ℤ n) (sym is) up.2, subst (λ n. RiseBehind n ids) (sym is) (ids_rise up.0 ids list (omega (arith, same)) up.3))
+    (subst (λ n. low <ℤ n) (sym is) up.2, subst (λ n. RiseAfter n ids) (sym is) (ids_rise up.0 ids list (omega (arith, same)) up.3))
 
 -- all shares of a posting have its number, and those of others have not
 abbrev of_number : ℤ → ShareRow → Bool
@@ -91,7 +91,7 @@ abbrev shares_of_each : List (ℤ × Posting) → List ShareRow
 shares_of_each list = flat_map (λ n. share_rows n.0 n.1) list
 
 -- of shares whose numbers are all greater none has a number
-none_above : (low : ℤ) (ids : List ℤ) (list : List Posting) (id : ℤ) → RiseBehind low ids → (id <ℤ low) ⊎ (id ≡ low) → filter (of_number id) (shares_of_each (zip ids list)) ≡ []
+none_above : (low : ℤ) (ids : List ℤ) (list : List Posting) (id : ℤ) → RiseAfter low ids → (id <ℤ low) ⊎ (id ≡ low) → filter (of_number id) (shares_of_each (zip ids list)) ≡ []
 none_above low [] list id up below = refl
 none_above low (next ∷ ids) [] id up below = refl
 none_above low (next ∷ ids) (p ∷ list) id up below =
@@ -101,7 +101,7 @@ none_above low (next ∷ ids) (p ∷ list) id up below =
     (none_above next ids list id up.1 (inl less))
 
 -- the shares of one posting among those of all
-one_number : (low : ℤ) (ids : List ℤ) (list : List Posting) → length ids ≡ length list → RiseBehind low ids
+one_number : (low : ℤ) (ids : List ℤ) (list : List Posting) → length ids ≡ length list → RiseAfter low ids
     → AllByRecursion (λ (n : ℤ × Posting). filter (of_number n.0) (shares_of_each (zip ids list)) ≡ share_rows n.0 n.1) (zip ids list)
 one_number low [] list same up = tt
 one_number low (id ∷ ids) [] same up = tt
@@ -111,7 +111,7 @@ one_number low (id ∷ ids) (p ∷ list) same up =
     let first = filter-append (of_number id) (share_rows id p) (shares_of_each (zip ids list)) ∙ ap₂ ◌++◌ mine (none_above id ids list id up.1 (inr refl)) ∙ append-nil (share_rows id p) in
     (first, others (zip ids list) (later id ids list up.1) rest)
   where
-    later : (low : ℤ) (ids : List ℤ) (list : List Posting) → RiseBehind low ids → AllByRecursion (λ (n : ℤ × Posting). low <ℤ n.0) (zip ids list)
+    later : (low : ℤ) (ids : List ℤ) (list : List Posting) → RiseAfter low ids → AllByRecursion (λ (n : ℤ × Posting). low <ℤ n.0) (zip ids list)
     later low [] list up = tt
     later low (id ∷ ids) [] up = tt
     later low (id ∷ ids) (p ∷ list) up =
@@ -130,7 +130,7 @@ each_of : {X Y : Type 0} (f g : X → List Y) (xs : List X) → AllByRecursion (
 each_of f g [] h = refl
 each_of f g (x ∷ xs) h = ap₂ ◌++◌ h.0 (each_of f g xs h.1)
 
-pub shares_read : (account : ℕ) (ledger : LedgerParts) (rows : LedgerRows) → (are : AreRowsOf ledger rows) → RiseBehind (pos 0) are.ids → found.shares_of (pos account) rows ≡ shares_of account are.ids ledger.postings
+pub shares_read : (account : ℕ) (ledger : LedgerParts) (rows : LedgerRows) → (are : AreRowsOf ledger rows) → RiseAfter (pos 0) are.ids → found.shares_of (pos account) rows ≡ shares_of account are.ids ledger.postings
 shares_read account ledger rows are up =
     let numbered = numbered_of account are.ids ledger.postings in
     ap (λ l. flat_map (λ (p : ℤ × PostingRow). filter (λ (s : ShareRow). int_eq s.posting p.0) rows.shares) l) (postings_read account ledger rows are)
@@ -149,41 +149,41 @@ rows_rise db rows held = subst (RiseFrom (pos 0)) held.2.postings held.2.posting
 
 -- what the rows of a ledger say of an account is what was posted for it
 module _ (back : PostingsAreReadBack) (db : Database) (ledger : LedgerParts) (k : IsLedger db ledger) (account : ℕ) where
-  ledger_reads : (shares : List ShareRow) → IsPermutation (found.shares_of (pos account) k.keeps.rows) shares
-      → postings_from_rows account (found.postings_of (pos account) k.keeps.rows) shares ≡ Some (of_account account ledger.postings)
+  ledger_reads : (shares : List ShareRow) → IsPermutation (found.shares_of (pos account) k.stores.rows) shares
+      → postings_from_rows account (found.postings_of (pos account) k.stores.rows) shares ≡ Some (of_account account ledger.postings)
   ledger_reads shares moved =
-      let rows = k.keeps.rows in
-      let are = k.keeps.are in
-      let up = ids_rise (pos 0) are.ids ledger.postings are.as_long (subst (λ l. RiseFrom (pos 0) (map stored l)) are.postings (rows_rise db rows k.keeps.held)) in
+      let rows = k.stores.rows in
+      let are = k.stores.are in
+      let up = ids_rise (pos 0) are.ids ledger.postings are.as_long (subst (λ l. RiseFrom (pos 0) (map stored l)) are.postings (rows_rise db rows k.stores.held)) in
       ap (λ l. postings_from_rows account l shares) (postings_read account ledger rows are)
-      ∙ back account (pos 0) are.ids ledger.postings shares k.kept are.as_long up (subst (λ l. IsPermutation l shares) (shares_read account ledger rows are up) moved)
+      ∙ back account (pos 0) are.ids ledger.postings shares k.paid are.as_long up (subst (λ l. IsPermutation l shares) (shares_read account ledger rows are up) moved)
 
-  said_of_ledger : (said : Option (List Posting)) → ReadsAs k.keeps.rows account said → said ≡ Some (of_account account ledger.postings)
+  said_of_ledger : (said : Option (List Posting)) → ReadsAs k.stores.rows account said → said ≡ Some (of_account account ledger.postings)
   said_of_ledger said is = sym is.2 ∙ ledger_reads is.0 is.1
 
-  pub posted_of_ledger : (posted : List Posting) → ReadsAs k.keeps.rows account (Some posted) → posted ≡ of_account account ledger.postings
+  pub posted_of_ledger : (posted : List Posting) → ReadsAs k.stores.rows account (Some posted) → posted ≡ of_account account ledger.postings
   posted_of_ledger posted is = same_some (said_of_ledger (Some posted) is)
 
   -- so they are never bad
-  pub never_bad_of_ledger : ReadsAs k.keeps.rows account None → ⊥
+  pub never_bad_of_ledger : ReadsAs k.stores.rows account None → ⊥
   never_bad_of_ledger is = let none = said_of_ledger None is in cc
 
-  pub read_of_ledger : (read : ArchivedParts) → IsReadFrom k.keeps.rows account read → read ≡ archived_of account ledger
+  pub read_of_ledger : (read : ArchivedParts) → IsReadFrom k.stores.rows account read → read ≡ archived_of account ledger
   read_of_ledger read is =
       let postings = posted_of_ledger read.postings is.postings in
-      let taps = is.taps ∙ taps_read account ledger k.keeps.rows k.keeps.are in
-      let fixes = is.fixes ∙ fixes_read account ledger k.keeps.rows k.keeps.are in
+      let taps = is.taps ∙ taps_read account ledger k.stores.rows k.stores.are in
+      let fixes = is.fixes ∙ fixes_read account ledger k.stores.rows k.stores.are in
       λ i. record { postings = postings i; taps = taps i; fixes = fixes i }
 
   -- and are refused for want of memory or for the store alone
-  pub store_of_ledger : (fault : LedgerFault) → IsTrue (is_of_store fault) ⊎ ((fault ≡ Refused BadArchive) × ReadsAs k.keeps.rows account None) → IsTrue (is_of_store fault)
+  pub store_of_ledger : (fault : LedgerFault) → IsTrue (is_of_store fault) ⊎ ((fault ≡ Refused BadArchive) × ReadsAs k.stores.rows account None) → IsTrue (is_of_store fault)
   store_of_ledger fault h = elim h [ inl store ↦ store | inr bad ↦ absurd (never_bad_of_ledger bad.1) ]
 
 -- what the rows of a ledger come to for an account and a week is what it has of these
-pub net_of_ledger : PostingsAreReadBack → NetIsOfPostings → (db : Database) (ledger : LedgerParts) (k : IsLedger db ledger) (account week : ℕ) → net_said k.keeps.rows account week ≡ Some (net account week ledger.postings)
+pub net_of_ledger : PostingsAreReadBack → NetIsOfPostings → (db : Database) (ledger : LedgerParts) (k : IsLedger db ledger) (account week : ℕ) → net_said k.stores.rows account week ≡ Some (net account week ledger.postings)
 net_of_ledger back sums db ledger k account week =
-    let shares = found.shares_of (pos account) k.keeps.rows in
-    sums account week (found.postings_of (pos account) k.keeps.rows) shares (of_account account ledger.postings) (ledger_reads back db ledger k account shares (IsPermutation-refl shares))
+    let shares = found.shares_of (pos account) k.stores.rows in
+    sums account week (found.postings_of (pos account) k.stores.rows) shares (of_account account ledger.postings) (ledger_reads back db ledger k account shares (IsPermutation-refl shares))
     ∙ ap Some (net_of_own account week ledger.postings)
 
 -- so it is refused for want of memory or for the store alone

@@ -16,7 +16,7 @@ use Rattle.pay_rows.specs.declared.row.FixRow.{FixRow}
 use Rattle.pay_postings.specs.PostingRows.{posting_row, share_rows}
 use Rattle.pay_set_rows.specs.SetRows.{tap_row, fix_row}
 use Rattle.pay_records.specs.Words.{LedgerRows, HoldsRows}
-use Rattle.pay_ledger.specs.Keeps.{Keeps, row_of_posting, row_of_tap, row_of_fix, with_postings, with_taps, with_fixes}
+use Rattle.pay_ledger.specs.Stores.{Stores, row_of_posting, row_of_tap, row_of_fix, with_postings, with_taps, with_fixes}
 use Rattle.pay_ledger.specs.Steps.{Grows}
 use Rattle.pay_ledger.proofs.Along.{others_then}
 
@@ -34,7 +34,7 @@ long_more (x ∷ xs) (y ∷ bs) a b same = let more = long_more xs bs a b (omega
 
 pub posting_written : (db mid new : Database) (id account : ℤ) (row : PostingRow) (shares : List ShareRow) (posting : Posting) → account ≡ pos posting.quote.account → row ≡ posting_row posting → shares ≡ share_rows id posting
     → ((l : LedgerRows) → HoldsRows db l → HoldsRows mid (record l { postings = l.postings ++ (id, account, row) ∷ [] })) → ((l : LedgerRows) → HoldsRows mid l → HoldsRows new (record l { shares = l.shares ++ shares }))
-    → (ledger : LedgerParts) → Keeps db ledger → Keeps new (record ledger { postings = ledger.postings ++ posting ∷ [] })
+    → (ledger : LedgerParts) → Stores db ledger → Stores new (record ledger { postings = ledger.postings ++ posting ∷ [] })
 posting_written db mid new id account row shares posting of is are one two ledger k =
     let more : zip (k.are.ids ++ id ∷ []) (ledger.postings ++ posting ∷ []) ≡ zip k.are.ids ledger.postings ++ (id, posting) ∷ [] = zip_more k.are.ids ledger.postings id posting k.are.as_long in
     record {
@@ -52,7 +52,7 @@ posting_written db mid new id account row shares posting of is are one two ledge
     }
 
 pub tap_written : (db new : Database) (tap : Tap) (account : ℤ) (row : TapRow) → account ≡ pos tap.account → row ≡ tap_row tap → ((l : LedgerRows) → HoldsRows db l → HoldsRows new (record l { taps = l.taps ++ (account, row) ∷ [] }))
-    → (ledger : LedgerParts) → Keeps db ledger → Keeps new (record ledger { taps = ledger.taps ++ tap ∷ [] })
+    → (ledger : LedgerParts) → Stores db ledger → Stores new (record ledger { taps = ledger.taps ++ tap ∷ [] })
 tap_written db new tap account row of is one ledger k = record {
   rows = record k.rows { taps = k.rows.taps ++ (account, row) ∷ [] };
   held = one k.rows k.held;
@@ -67,7 +67,7 @@ tap_written db new tap account row of is one ledger k = record {
 }
 
 pub fix_written : (db new : Database) (fix : Fix) (account : ℤ) (row : FixRow) → account ≡ pos fix.account → row ≡ fix_row fix → ((l : LedgerRows) → HoldsRows db l → HoldsRows new (record l { fixes = l.fixes ++ (account, row) ∷ [] }))
-    → (ledger : LedgerParts) → Keeps db ledger → Keeps new (record ledger { fixes = ledger.fixes ++ fix ∷ [] })
+    → (ledger : LedgerParts) → Stores db ledger → Stores new (record ledger { fixes = ledger.fixes ++ fix ∷ [] })
 fix_written db new fix account row of is one ledger k = record {
   rows = record k.rows { fixes = k.rows.fixes ++ (account, row) ∷ [] };
   held = one k.rows k.held;
@@ -88,4 +88,4 @@ batch_written a b c d batch postings taps fixes posted tapped fixed first second
     let one = subst (λ more. Grows a b (with_postings more)) posted first in
     let two = subst (λ more. Grows b c (with_taps more)) tapped second in
     let three = subst (λ more. Grows c d (with_fixes more)) fixed third in
-    (λ ledger kept. three.0 _ (two.0 _ (one.0 ledger kept)), others_then a.now c.now d.now (others_then a.now b.now c.now one.1 two.1) three.1)
+    (λ ledger unchanged. three.0 _ (two.0 _ (one.0 ledger unchanged)), others_then a.now c.now d.now (others_then a.now b.now c.now one.1 two.1) three.1)

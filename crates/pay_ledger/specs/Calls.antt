@@ -1,4 +1,4 @@
--- What a call says of the ledger behind a connection, from what the connection holds before it to what it holds after it.
+-- What a call says of the ledger after a connection, from what the connection holds before it to what it holds after it.
 use Rattle.std.specs.Prelude.{◌≡◌, ◌⊎◌, ℕ, ℤ, List, Option, Some, None, Result, MatchResult, OnOk, OnErr, IsTrue}
 use Rattle.sqlite.specs.Store.{Ghosts}
 use Rattle.sqlite.specs.Held.{Held, state}
@@ -15,7 +15,7 @@ use Rattle.pay_ledger.specs.declared.fault.LedgerFault.{LedgerFault}
 use Rattle.pay_ledger.specs.declared.fault.LedgerFault.TheVariants.{Refused}
 use Rattle.pay_ledger.specs.Faults.{is_of_store}
 use Rattle.pay_ledger.specs.BadRows.{ReadsAs, net_said, asked, AreReadable, IsBadAmong, IsJudgedByRows}
-use Rattle.pay_ledger.specs.Keeps.{IsLedger}
+use Rattle.pay_ledger.specs.Stores.{IsLedger}
 use Rattle.pay_ledger.specs.Steps.{Grows, FindsRows, FindsLedger, ReadsInto, IsRefused, IsAsBefore}
 
 -- a fault is one that the database gives, or the archive is bad and has no accounts

@@ -1,7 +1,7 @@
 pub mod Faults
 pub mod BadRows
 pub mod OneReading
-pub mod Keeps
+pub mod Stores
 pub mod Opening
 pub mod Steps
 pub mod Bare

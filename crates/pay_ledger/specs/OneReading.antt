@@ -9,7 +9,7 @@ use Rattle.std.proofs.lemmas.List.Sorted.{list_any-IsPermutation}
 use Rattle.pay_rows.specs.declared.row.PostingRow.{PostingRow}
 use Rattle.pay_rows.specs.declared.row.ShareRow.{ShareRow}
 use Rattle.pay_rules.specs.declared.posting.Posting.{Posting}
-use Rattle.pay_postings.specs.PostingRows.{is_share_row, is_share_of, amount_or_none, amount_of, amounts_of, week_from_row, posting_behind, posting_from_row, with_rows, postings_from_rows}
+use Rattle.pay_postings.specs.PostingRows.{is_share_row, is_share_of, amount_or_none, amount_of, amounts_of, week_from_row, posting_after, posting_from_row, with_rows, postings_from_rows}
 use Rattle.pay_set_rows.specs.Ranged.{◌>>=◌}
 use Rattle.pay_records.specs.Words.{LedgerRows}
 use Rattle.pay_records.specs.Found.{postings_of, shares_of}
@@ -74,7 +74,7 @@ module _ (shares others : List ShareRow) (one : HaveOneAmount shares) (moved : I
   same_with_rows : (account : ℕ) (before : List Posting) (list : List (ℤ × PostingRow)) → with_rows account others before list ≡ with_rows account shares before list
   same_with_rows account before [] = refl
   same_with_rows account before (row ∷ list) =
-      ap (λ amounts. (week_from_row row.1 >>= (λ week. posting_behind account week before amounts row.1)) >>= (λ p. with_rows account others (before ++ p ∷ []) list)) (same_amounts row.0)
+      ap (λ amounts. (week_from_row row.1 >>= (λ week. posting_after account week before amounts row.1)) >>= (λ p. with_rows account others (before ++ p ∷ []) list)) (same_amounts row.0)
       ∙ (λ i. posting_from_row account shares before row.0 row.1 >>= (λ p. same_with_rows account (before ++ p ∷ []) list i))
 
   same_reading : (account : ℕ) (list : List (ℤ × PostingRow)) → postings_from_rows account list others ≡ postings_from_rows account list shares

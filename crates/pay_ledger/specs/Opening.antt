@@ -5,11 +5,11 @@ use Rattle.sqlite.specs.Effect.{Database}
 use Rattle.sqlite.specs.State.{State}
 use Rattle.pay_postings.specs.Words.{LedgerParts}
 use Rattle.pay_records.specs.Words.{IsFree, IsOfKind, has_view, Grows, ledger_tables}
-use Rattle.pay_records.specs.declared.kind.Kind.{Kind}
-use Rattle.pay_records.specs.declared.kind.Kind.TheVariants as kind
+use Rattle.pay_records.specs.declared.kind.DatabaseKind.{DatabaseKind}
+use Rattle.pay_records.specs.declared.kind.DatabaseKind.TheVariants as kind
 use Rattle.pay_ledger.specs.declared.fault.OpenFault.{OpenFault}
 use Rattle.pay_ledger.specs.declared.fault.OpenFault.TheVariants.{NotALedger, Version, Store, Memory}
-use Rattle.pay_ledger.specs.Keeps.{IsLedger}
+use Rattle.pay_ledger.specs.Stores.{IsLedger}
 
 -- nothing was posted, and nothing archived
 abbrev pub nothing : LedgerParts
@@ -20,7 +20,7 @@ abbrev pub HasNoView : Database → Type 0
 HasNoView db = has_view db.schema ≡ false
 
 -- whether a ledger is to be made in a database of a kind, or is there; or why it is not opened
-abbrev pub is_blank : Kind → Result Bool OpenFault
+abbrev pub is_blank : DatabaseKind → Result Bool OpenFault
 is_blank kind.Blank = Ok true
 is_blank kind.Ledger = Ok false
 is_blank kind.Version = Err Version

@@ -16,11 +16,11 @@ use Rattle.pay_ledger.specs.declared.fault.LedgerFault.{LedgerFault}
 use Rattle.pay_ledger.specs.declared.fault.LedgerFault.TheVariants.{Store, Refused}
 use Rattle.pay_ledger.specs.Faults.{is_of_store}
 use Rattle.pay_ledger.specs.BadRows.{WereRead}
-use Rattle.pay_ledger.specs.Keeps.{Keeps, IsLedger}
+use Rattle.pay_ledger.specs.Stores.{Stores, IsLedger}
 
 -- nothing is committed by it, and a crash leaves what it would have left before
 pub record Stays (old new : State) : Type 0 where
-  pub kept : HasCleanDisk new → IsTrue old.in_transaction → KeepsCommit old new
+  pub unchanged : HasCleanDisk new → IsTrue old.in_transaction → KeepsCommit old new
   pub survives : Survives old new (λ _. ⊥)
 
 -- and the transaction goes on
@@ -48,7 +48,7 @@ RowsGrow old new change = ((rows : LedgerRows) → HoldsRows old.now rows → Ho
 
 -- a ledger becomes another, and so
 abbrev pub Grows : State → State → (LedgerParts → LedgerParts) → Type 0
-Grows old new change = ((ledger : LedgerParts) → Keeps old.now ledger → Keeps new.now (change ledger)) × KeepsOthers old.now new.now
+Grows old new change = ((ledger : LedgerParts) → Stores old.now ledger → Stores new.now (change ledger)) × KeepsOthers old.now new.now
 
 -- this is so of the rows of a ledger, and nothing changes
 abbrev pub FindsRows : State → State → (LedgerRows → Type 0) → Type 0

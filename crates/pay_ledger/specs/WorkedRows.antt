@@ -20,7 +20,7 @@ use Rattle.pay_records.specs.Words.{LedgerRows, HoldsRows, no_rows, ledger_schem
 use Rattle.pay_records.specs.declared.fault.ReadFault.TheVariants as read
 use Rattle.pay_ledger.specs.declared.fault.LedgerFault.TheVariants.{Refused}
 use Rattle.pay_ledger.specs.Faults.{ledger_fault_of_read, is_of_store, open_fault_number, open_fault_of_read}
-use Rattle.pay_ledger.specs.Keeps.{row_of_posting, row_of_tap, row_of_fix, AreRowsOf, Keeps, with_shares, with_postings, with_taps, with_fixes}
+use Rattle.pay_ledger.specs.Stores.{row_of_posting, row_of_tap, row_of_fix, AreRowsOf, Stores, with_shares, with_postings, with_taps, with_fixes}
 use Rattle.pay_ledger.specs.Opening.{nothing}
 use Rattle.pay_ledger.specs.BadRows.{ReadsAs, IsReadable, IsBad, asked, IsJudgedByRows}
 use Rattle.pay_ledger.specs.OneReading.{HaveOneAmount, share_is_bad, bad_is_not_readable, reads_one}
@@ -92,7 +92,7 @@ rows_in tree = if tree == 0 then meta_rows else if tree == 2 then posting_rows e
 abbrev database : Database
 database = record { schema = ledger_schema; trees = rows_in }
 
-it_is_kept : Keeps database ledger
+it_is_kept : Stores database ledger
 unfolding HoldsRows
 it_is_kept = record {
   rows = rows;
@@ -123,7 +123,7 @@ rows_among_others tree =
     else if tree == 10 then meta_rows
     else []
 
-it_is_kept_among_others : Keeps (record { schema = other_schema; trees = rows_among_others }) ledger
+it_is_kept_among_others : Stores (record { schema = other_schema; trees = rows_among_others }) ledger
 unfolding HoldsRows
 it_is_kept_among_others = record {
   rows = rows;

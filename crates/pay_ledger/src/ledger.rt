@@ -73,7 +73,7 @@ impl<S: Alter> Ledger<S> {
         ensures no_view { IfOk result (λ ledger. OnCleanDisk S.Store conn ledger (λ old _. HasNoView old.now)) }
         ensures refused { IfErr result (λ e. OnCleanDisk S.Store conn e.1 (λ old _. IsWhy e.0 old.now)) }
         ensures of_blank { IfErr result (λ e. OnCleanDisk S.Store conn e.1 (λ old _. IsFree old.now → e.0 ≡ OpenFault.Store)) }
-        ensures kept { IfErr result (λ e. ChangesNothing S.Store conn e.1) }
+        ensures unchanged { IfErr result (λ e. ChangesNothing S.Store conn e.1) }
         ensures autocommit { IfErr result (λ e. e.1.in_transaction ≡ false) }
         ensures survives { IfOk result (λ ledger. LeavesAsBeforeOr S.Store conn ledger MayLeaveOpened) }
         ensures survives_err { IfErr result (λ e. LeavesAsBeforeOr S.Store conn e.1 MayLeaveOpened) }
@@ -96,7 +96,7 @@ impl<S: Alter> Ledger<S> {
         ensures read { AnswersOfReadable S.Store self.old self.new result (asked quotes.now sets.now) }
         ensures bad_first { RefusesBadRowsFirst S.Store self.old self.new result (asked quotes.now sets.now) }
         ensures of_open { RefusesOpenAlone S.Store self.old self.new result }
-        ensures kept { ChangesNothingIfRefused S.Store self.old self.new result }
+        ensures unchanged { ChangesNothingIfRefused S.Store self.old self.new result }
         ensures survives { LeavesAsBeforeOr S.Store self.old self.new (λ old. MayLeave old quotes.now sets.now) }
     {
         post(self.alloc, &mut self.conn, quotes, sets)
@@ -108,7 +108,7 @@ impl<S: Alter> Ledger<S> {
         ensures never_bad { FailsByStoreAlone S.Store self.old self.new result }
         ensures read { AnswersOfRows S.Store self.old self.new result (λ rows list. (all : List Posting) × ReadsAs rows account (Some all) × (list ≡ postings_of account week all)) }
         ensures bad { RefusesBadRows S.Store self.old self.new result account }
-        ensures kept { ChangesNothing S.Store self.old self.new }
+        ensures unchanged { ChangesNothing S.Store self.old self.new }
         ensures survives { LeavesAsBefore S.Store self.old self.new }
     {
         pay_postings::laws::postings_back();
@@ -124,7 +124,7 @@ impl<S: Alter> Ledger<S> {
         ensures never_bad { FailsByStoreAlone S.Store self.old self.new result }
         ensures read { AnswersOfRows S.Store self.old self.new result (λ rows amount. net_said rows account week ≡ Some amount) }
         ensures bad { RefusesBadAmounts S.Store self.old self.new result account week }
-        ensures kept { ChangesNothing S.Store self.old self.new }
+        ensures unchanged { ChangesNothing S.Store self.old self.new }
         ensures survives { LeavesAsBefore S.Store self.old self.new }
     {
         pay_postings::laws::postings_back();
@@ -142,7 +142,7 @@ impl<S: Alter> Ledger<S> {
         ensures ascending { IfOk result (λ accounts. IsStrictlySortedBy nat_cmp (each F.account accounts.items)) }
         ensures distinct { IfOk result (λ accounts. IsDistinct (eq_by_cmp nat_cmp) (each F.account accounts.items)) }
         ensures priced { IfOk result (λ accounts. ArePriced F.account (F.IsPricedBy tables.now) accounts.items) }
-        ensures kept { ChangesNothing S.Store self.old self.new }
+        ensures unchanged { ChangesNothing S.Store self.old self.new }
         ensures survives { LeavesAsBefore S.Store self.old self.new }
     {
         let archive = archive_of(self.alloc, &mut self.conn)?;
@@ -154,7 +154,7 @@ impl<S: Alter> Ledger<S> {
         ensures told { AnswersOfLedger S.Store self.old self.new result (λ ledger none. none ≡ is_bare ledger) }
         ensures rows { AnswersOfRows S.Store self.old self.new result (λ rows none. none ≡ has_bare_rows rows) }
         ensures never_bad { FailsByStoreAloneOfRows S.Store self.old self.new result }
-        ensures kept { ChangesNothing S.Store self.old self.new }
+        ensures unchanged { ChangesNothing S.Store self.old self.new }
         ensures survives { LeavesAsBefore S.Store self.old self.new }
     {
         let archive = archive_of(self.alloc, &mut self.conn)?;

@@ -25,7 +25,7 @@ pub(crate) fn posted_of<S: Alter>(
     ensures autocommit { conn.new.in_transaction ≡ false }
     ensures found { AnswersOfRows S.Store conn.old conn.new result (λ rows posted. ReadsAs rows account (Some posted)) }
     ensures bad { RefusesBadRows S.Store conn.old conn.new result account }
-    ensures kept { ChangesNothing S.Store conn.old conn.new }
+    ensures unchanged { ChangesNothing S.Store conn.old conn.new }
     ensures survives { LeavesAsBefore S.Store conn.old conn.new }
 {
     let _ = conn.is_autocommit();
@@ -68,7 +68,7 @@ pub(crate) fn net_of<S: Alter>(
     ensures autocommit { conn.new.in_transaction ≡ false }
     ensures found { AnswersOfRows S.Store conn.old conn.new result (λ rows net. net_said rows account week ≡ Some net) }
     ensures bad { RefusesBadAmounts S.Store conn.old conn.new result account week }
-    ensures kept { ChangesNothing S.Store conn.old conn.new }
+    ensures unchanged { ChangesNothing S.Store conn.old conn.new }
     ensures survives { LeavesAsBefore S.Store conn.old conn.new }
 {
     let _ = conn.is_autocommit();
@@ -145,7 +145,7 @@ pub(crate) fn archive_of<S: Alter>(
     ensures autocommit { conn.new.in_transaction ≡ false }
     ensures found { AnswersOfRows S.Store conn.old conn.new result (λ rows archive. (archive.taps.items ≡ rows.taps) × (archive.fixes.items ≡ rows.fixes)) }
     ensures never_bad { FailsByStoreAloneOfRows S.Store conn.old conn.new result }
-    ensures kept { ChangesNothing S.Store conn.old conn.new }
+    ensures unchanged { ChangesNothing S.Store conn.old conn.new }
     ensures survives { LeavesAsBefore S.Store conn.old conn.new }
 {
     let _ = conn.is_autocommit();

@@ -5,18 +5,18 @@ ghost use Rattle.pay_ledger.specs.Steps.{IsStep};
 ghost use Rattle.pay_ledger.specs.Calls.{ChangesNothingIfRefused};
 
 use crate::fault::OpenFault;
-use pay_records::{Kind, has_view, kind_of, make};
+use pay_records::{DatabaseKind, has_view, kind_of, make};
 use sqlite::{Alter, Connection, Transaction};
 
 /// Whether a ledger is to be made in a database of a kind, or is there; or why it is not opened.
-fn is_blank(kind: Kind) -> Result<bool, OpenFault>
+fn is_blank(kind: DatabaseKind) -> Result<bool, OpenFault>
     ensures { result ≡ is_blank kind }
 {
     match kind {
-        Kind::Blank => Ok(true),
-        Kind::Ledger => Ok(false),
-        Kind::Version => Err(OpenFault::Version),
-        Kind::Other => Err(OpenFault::NotALedger),
+        DatabaseKind::Blank => Ok(true),
+        DatabaseKind::Ledger => Ok(false),
+        DatabaseKind::Version => Err(OpenFault::Version),
+        DatabaseKind::Other => Err(OpenFault::NotALedger),
     }
 }
 
@@ -41,7 +41,7 @@ fn prepare_tables<S: Alter>(conn: &mut Connection<S>) -> Result<(), OpenFault>
     ensures opened { Does S.Store conn.old conn.new result IsOpened }
     ensures grows { Does S.Store conn.old conn.new result (λ old new. BlankJustGrows old.now new.now) }
     ensures refused { Refuses S.Store conn.old conn.new result (λ old _ fault. IsWhyNot fault old.now) }
-    ensures kept { ChangesNothingIfRefused S.Store conn.old conn.new result }
+    ensures unchanged { ChangesNothingIfRefused S.Store conn.old conn.new result }
     ensures survives { LeavesAsBeforeOr S.Store conn.old conn.new MayLeaveOpened }
 {
     let _ = conn.is_autocommit();
@@ -59,7 +59,7 @@ pub(crate) fn prepare<S: Alter>(conn: &mut Connection<S>) -> Result<(), OpenFaul
     ensures grows { Does S.Store conn.old conn.new result (λ old new. BlankJustGrows old.now new.now) }
     ensures no_view { Does S.Store conn.old conn.new result (λ old _. HasNoView old.now) }
     ensures refused { Refuses S.Store conn.old conn.new result (λ old _ fault. IsWhyNot fault old.now) }
-    ensures kept { ChangesNothingIfRefused S.Store conn.old conn.new result }
+    ensures unchanged { ChangesNothingIfRefused S.Store conn.old conn.new result }
     ensures survives { LeavesAsBeforeOr S.Store conn.old conn.new MayLeaveOpened }
 {
     if has_view(conn) {

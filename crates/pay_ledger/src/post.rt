@@ -11,7 +11,7 @@ use crate::crashes::settled;
 use crate::fault::LedgerFault;
 use crate::read::{ask, read_quoted, read_sets};
 use crate::write::{write_fixes, write_postings, write_taps};
-use pay_postings::{Accounts, Batch};
+use pay_postings::{LedgerAccounts, PostingBatch};
 use pay_rules::{Posting, Quote, Sets};
 use sqlite::{Alter, Connection, Transaction};
 use std::alloc::Global;
@@ -40,13 +40,13 @@ fn batch_for<S: Alter>(
     tx: &mut Transaction<'_, S>,
     quotes: &[Quote],
     sets: &[Sets],
-) -> Result<Batch, LedgerFault>
+) -> Result<PostingBatch, LedgerFault>
     ensures step { IsStep S.Store tx.old.conn tx.new.conn result }
     ensures posts { FindsInLedger S.Store tx.old.conn.now tx.new.conn.now result (λ ledger batch. posted ledger quotes.now sets.now ≡ Ok (batch.given.items, with_batch ledger (lists batch))) }
     ensures judged { IsJudged S.Store tx.old.conn.now tx.new.conn.now result quotes.now sets.now }
 {
     pay_postings::laws::postings_back();
-    let mut accounts = Accounts::new(alloc);
+    let mut accounts = LedgerAccounts::new(alloc);
     read_quoted(alloc, tx, &mut accounts, quotes)?;
     read_sets(alloc, tx, &mut accounts, sets)?;
     Ok(accounts.post(alloc, quotes, sets)?)
@@ -56,7 +56,7 @@ fn batch_for<S: Alter>(
 fn write_batch<S: Alter>(
     alloc: Global,
     tx: &mut Transaction<'_, S>,
-    batch: &Batch,
+    batch: &PostingBatch,
 ) -> Result<(), LedgerFault>
     ensures step { IsStep S.Store tx.old.conn tx.new.conn result }
     ensures writes { GrowsInside S.Store tx.old.conn.now tx.new.conn.now result (λ ledger. with_batch ledger (lists batch.now)) }
@@ -80,7 +80,7 @@ fn add_batch<S: Alter>(
     ensures judged { IsJudged S.Store tx.old.conn.now tx.new.conn.now result quotes.now sets.now }
 {
     are_quotes(quotes);
-    pay_postings::laws::kept();
+    pay_postings::laws::paid();
     let batch = batch_for(alloc, tx, quotes, sets)?;
     write_batch(alloc, tx, &batch)?;
     Ok(batch.given)
@@ -114,7 +114,7 @@ pub(crate) fn post<S: Alter>(
     ensures posts { Answers S.Store conn.old conn.new result (λ old new given. Posts old new quotes.now sets.now given.items) }
     ensures judged { IsJudged S.Store conn.old conn.new result quotes.now sets.now }
     ensures of_open { RefusesOpenAlone S.Store conn.old conn.new result }
-    ensures kept { ChangesNothingIfRefused S.Store conn.old conn.new result }
+    ensures unchanged { ChangesNothingIfRefused S.Store conn.old conn.new result }
     ensures survives { LeavesAsBeforeOr S.Store conn.old conn.new (λ old. MayLeave old quotes.now sets.now) }
 {
     let _ = conn.is_autocommit();

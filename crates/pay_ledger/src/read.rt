@@ -10,7 +10,7 @@ ghost use Rattle.pay_ledger.specs.Steps.{IsStep};
 ghost use Rattle.pay_ledger.specs.Calls.{ReadsIntoIfDone, FindsInHeldRows, RefusesBadRows, RefusesBadRowsOf};
 
 use crate::fault::LedgerFault;
-use pay_postings::{Accounts, Archived, Posted, postings_from_rows};
+use pay_postings::{Archived, LedgerAccounts, Posted, postings_from_rows};
 use pay_records::{fixes_of, postings_of, shares_of, taps_of};
 use pay_rules::{Quote, Sets};
 use sqlite::{Alter, Transaction};
@@ -65,7 +65,7 @@ pub(crate) fn read_account<S: Alter>(
 fn read_into<S: Alter>(
     alloc: Global,
     tx: &mut Transaction<'_, S>,
-    accounts: &mut Accounts,
+    accounts: &mut LedgerAccounts,
     account: u32,
 ) -> Result<(), LedgerFault>
     ensures step { IsStep S.Store tx.old.conn tx.new.conn result }
@@ -85,7 +85,7 @@ fn read_into<S: Alter>(
 pub(crate) fn read_quoted<S: Alter>(
     alloc: Global,
     tx: &mut Transaction<'_, S>,
-    accounts: &mut Accounts,
+    accounts: &mut LedgerAccounts,
     quotes: &[Quote],
 ) -> Result<(), LedgerFault>
     ensures step { IsStep S.Store tx.old.conn tx.new.conn result }
@@ -103,7 +103,7 @@ pub(crate) fn read_quoted<S: Alter>(
 pub(crate) fn read_sets<S: Alter>(
     alloc: Global,
     tx: &mut Transaction<'_, S>,
-    accounts: &mut Accounts,
+    accounts: &mut LedgerAccounts,
     sets: &[Sets],
 ) -> Result<(), LedgerFault>
     ensures step { IsStep S.Store tx.old.conn tx.new.conn result }

@@ -1,7 +1,7 @@
 ghost use Rattle.std.specs.Prelude.{◌≡◌, ◌∷◌, [], IsTrue, IsOkUnless, IfErr};
 ghost use Rattle.pay_ledger.specs.Faults.{is_of_store};
 ghost use Rattle.pay_records.specs.Words.{Does};
-ghost use Rattle.pay_ledger.specs.Keeps.{with_shares, with_postings, with_taps, with_fixes};
+ghost use Rattle.pay_ledger.specs.Stores.{with_shares, with_postings, with_taps, with_fixes};
 ghost use Rattle.pay_ledger.specs.Steps.{IsStep, RowsGrow};
 ghost use Rattle.pay_ledger.specs.Calls.{GrowsInside};
 

@@ -207,7 +207,7 @@ const CHARGED: Told = (7, 1, 860, 860, 860, 0);
 
 const GIVEN_BACK: Told = (7, 2, 340, -520, -520, 0);
 
-/// All rows behind both.
+/// All rows after both.
 pub const JOURNEY: &str = "meta farebox 1
 posting 1 7 19730 19730 1 860 860
 posting 2 7 19730 19730 2 340 -520
@@ -257,7 +257,7 @@ const STALE: PostFault = PostFault::StaleQuote {
     through: MONDAY,
 };
 
-/// This is refused, and the ledger is as it was behind the journey.
+/// This is refused, and the ledger is as it was after the journey.
 fn expect_refused<R: Abort + AllocGlobal>(
     rt: &R,
     mut ledger: Ledger<MemStore>,
@@ -314,7 +314,7 @@ PAY 7 19730 19730 6 0 0
 DONE 19730 1
 ";
 
-/// All rows behind them: version 6, of one tap and five corrections.
+/// All rows after them: version 6, of one tap and five corrections.
 const CORRECTED: &str = "meta farebox 1
 posting 1 7 19730 19730 6 0 0
 tap 7 1 1 1704697200 19730 25200 10 0
@@ -364,7 +364,7 @@ const BOARDED: [Told; 2] = [(8, 1, 175, 175, 0, 175), (7, 1, 175, 175, 0, 175)];
 
 const VOIDED: [Told; 2] = [(8, 2, 0, -175, 0, -175), (7, 1, 175, 175, 0, 175)];
 
-/// All rows behind two boardings.
+/// All rows after two boardings.
 const BOARDINGS: &str = "meta farebox 1
 posting 1 8 19730 19730 1 175 175
 posting 2 7 19730 19730 1 175 175

@@ -43,7 +43,7 @@ fn expect_closed<R: Abort + AllocGlobal>(
     }
 }
 
-/// A ledger behind these commands, as its database.
+/// A ledger after these commands, as its database.
 fn changed<R: Abort + AllocGlobal>(rt: &R, sql: &str) -> Connection<MemStore> {
     let mut conn = empty_ledger(rt).into_connection();
     run(&mut conn, sql).expect(rt, sql);
@@ -207,7 +207,7 @@ const ONE_POSTING: &str = "CREATE UNIQUE INDEX one_posting ON postings (account)
 const REFUSED: &str =
     "OK 19730 860 860\nPAY 7 19730 19730 1 860 860 1=860\nDONE 19730 1\nOK 19730 340 340\nNO 43 Store\n";
 
-/// The rows behind the first close.
+/// The rows after the first close.
 const ENTERED: &str = "meta farebox 1
 posting 1 7 19730 19730 1 860 860
 share 1 1 860
@@ -234,7 +234,7 @@ fn stands_beside_others(rt: HostRuntime) {
 /// The file, in the folder that the test is run in. It is made anew and stays there, for `tests/ledger` to read.
 const PATH: &str = "ledger.db";
 
-/// A journey that is closed behind each of its taps.
+/// A journey that is closed after each of its taps.
 const LINES: &str =
     "TAP 1 1 7 1704697200 10 IN\nCLOSE 19730\nTAP 1 2 7 1704699000 12 OUT\nCLOSE 19730\n";
 

@@ -7,7 +7,7 @@ use Rattle.pay_rules.specs.declared.tap.Touch.{Touch}
 use Rattle.pay_rules.specs.Legs.{legs}
 use Rattle.pay_rules.specs.declared.parts.Leg.{Leg}
 use Rattle.pay_rules.specs.RailJourneys.{journeys}
-use Rattle.pay_links.specs.Starts.{leg_between, are_linked, starts_at, starts_behind, starts, until_start, journey_of_taps, journeys_by_marks}
+use Rattle.pay_links.specs.Starts.{leg_between, are_linked, starts_at, starts_after, starts, until_start, journey_of_taps, journeys_by_marks}
 use Rattle.pay_links.specs.Laws.{AsManyMarksAsTaps, JourneysAreKeptAsMarks, MarksAreCut, JourneysAreCut}
 
 -- ---- marks
@@ -22,41 +22,41 @@ no_leg_ends : (tables : FareTables) (farther nearer : Option Touch) (tap : Touch
 no_leg_ends tables farther nearer tap next h = none_found (leg_between tables nearer (Some tap)) (and_parts _ _ h).0
 
 -- from there on the taps before do not count
-later_alone : (tables : FareTables) (farther nearer : Option Touch) (later : List Touch) → get_or (starts_behind tables farther nearer later) 0 true ≡ true →
-    starts_behind tables farther nearer later ≡ starts tables later
+later_alone : (tables : FareTables) (farther nearer : Option Touch) (later : List Touch) → get_or (starts_after tables farther nearer later) 0 true ≡ true →
+    starts_after tables farther nearer later ≡ starts tables later
 later_alone tables farther nearer [] h = refl
 later_alone tables farther nearer (tap ∷ []) h = ap (λ mark. mark ∷ []) h
 later_alone tables farther nearer (tap ∷ next ∷ later) h =
     let here = leg_between tables (Some tap) (Some next) in
-    let behind = leg_between tables (Some next) (slice_get later 0) in
-    let rest = starts_behind tables (Some tap) (Some next) later in
-    ap (λ mark. mark ∷ starts_behind tables nearer (Some tap) (next ∷ later)) h
-    ∙ ap (λ before. true ∷ (is_none here && not (are_linked tables before behind)) ∷ rest) (no_leg_ends tables farther nearer tap (Some next) h)
+    let beyond = leg_between tables (Some next) (slice_get later 0) in
+    let rest = starts_after tables (Some tap) (Some next) later in
+    ap (λ mark. mark ∷ starts_after tables nearer (Some tap) (next ∷ later)) h
+    ∙ ap (λ before. true ∷ (is_none here && not (are_linked tables before beyond)) ∷ rest) (no_leg_ends tables farther nearer tap (Some next) h)
 
 -- and to the tap before the one there does not count
 last_alone : (tables : FareTables) (farther nearer : Option Touch) (tap : Touch) (later : List Touch) →
-    get_or (starts_behind tables nearer (Some tap) later) 0 true ≡ true → starts_at tables farther nearer tap (slice_get later 0) ≡ starts_at tables farther nearer tap None
+    get_or (starts_after tables nearer (Some tap) later) 0 true ≡ true → starts_at tables farther nearer tap (slice_get later 0) ≡ starts_at tables farther nearer tap None
 last_alone tables farther nearer tap [] h = refl
 last_alone tables farther nearer tap (next ∷ later) h =
     ap (λ leg. is_none (leg_between tables nearer (Some tap)) && not (are_linked tables (leg_between tables farther nearer) leg))
     (no_leg_ends tables nearer (Some tap) next (slice_get later 0) h)
 
-marks_cut_behind : (tables : FareTables) (farther nearer : Option Touch) (earlier later : List Touch) →
-    get_or (starts_behind tables farther nearer (earlier ++ later)) (length earlier) true ≡ true →
-    starts_behind tables farther nearer (earlier ++ later) ≡ starts_behind tables farther nearer earlier ++ starts tables later
-marks_cut_behind tables farther nearer [] later h = later_alone tables farther nearer later h
-marks_cut_behind tables farther nearer (tap ∷ []) later h =
-    ap (λ mark. mark ∷ starts_behind tables nearer (Some tap) later) (last_alone tables farther nearer tap later h)
+marks_cut_after : (tables : FareTables) (farther nearer : Option Touch) (earlier later : List Touch) →
+    get_or (starts_after tables farther nearer (earlier ++ later)) (length earlier) true ≡ true →
+    starts_after tables farther nearer (earlier ++ later) ≡ starts_after tables farther nearer earlier ++ starts tables later
+marks_cut_after tables farther nearer [] later h = later_alone tables farther nearer later h
+marks_cut_after tables farther nearer (tap ∷ []) later h =
+    ap (λ mark. mark ∷ starts_after tables nearer (Some tap) later) (last_alone tables farther nearer tap later h)
     ∙ ap (λ marks. starts_at tables farther nearer tap None ∷ marks) (later_alone tables nearer (Some tap) later h)
-marks_cut_behind tables farther nearer (tap ∷ next ∷ earlier) later h =
-    ap (λ marks. starts_at tables farther nearer tap (Some next) ∷ marks) (marks_cut_behind tables nearer (Some tap) (next ∷ earlier) later h)
+marks_cut_after tables farther nearer (tap ∷ next ∷ earlier) later h =
+    ap (λ marks. starts_at tables farther nearer tap (Some next) ∷ marks) (marks_cut_after tables nearer (Some tap) (next ∷ earlier) later h)
 
 pub marks_cut : MarksAreCut
-marks_cut tables earlier later apart = marks_cut_behind tables None None earlier later apart
+marks_cut tables earlier later apart = marks_cut_after tables None None earlier later apart
 
 -- ---- journeys
 
-as_many : (tables : FareTables) (farther nearer : Option Touch) (taps : List Touch) → length (starts_behind tables farther nearer taps) ≡ length taps
+as_many : (tables : FareTables) (farther nearer : Option Touch) (taps : List Touch) → length (starts_after tables farther nearer taps) ≡ length taps
 as_many tables farther nearer [] = refl
 as_many tables farther nearer (tap ∷ later) = ap suc (as_many tables nearer (Some tap) later)
 

@@ -19,7 +19,7 @@ use Rattle.pay_links.proofs.Divisions.{journeys_are}
 
 -- ---- each tap
 
--- the taps of legs, and of the parts behind them
+-- the taps of legs, and of the parts after them
 taps_of_run : (run : List Leg) (parts : List RailPart) → flat_map taps_of_leg run ++ taps_of parts ≡ taps_of (map part.Leg run ++ parts)
 taps_of_run [] parts = refl
 taps_of_run (leg ∷ run) parts = ap (λ taps. leg.entry ∷ leg.exit ∷ taps) (taps_of_run run parts)

@@ -4,14 +4,14 @@ use Rattle.std.proofs.lemmas.List.{drop_all}
 use Rattle.pay_rules.specs.declared.parts.RailPart.{RailPart}
 use Rattle.pay_tables.specs.Words.{FareTables, interchange}
 use Rattle.pay_rules.specs.declared.parts.Leg.{Leg}
-use Rattle.pay_rules.specs.LinkedLegs.{LinkedLegs, last_behind, last_leg, joined}
+use Rattle.pay_rules.specs.LinkedLegs.{LinkedLegs, last_after, last_leg, joined}
 use Rattle.pay_rules.specs.RailJourneys.{is_same, is_in_time, is_linked, alone, run_before, leg_before, journeys}
 use Rattle.pay_links.specs.OpenRun.{closed, open_before}
 use Rattle.pay_rules.specs.declared.journey.Journey.{Journey}
 use Rattle.pay_rules.specs.declared.journey.Journey.TheVariants as journey
 
 -- the last leg, where a leg goes on from others
-pub last_joined : (first : Leg) (others : List Leg) (leg : Leg) → last_behind first (others ++ leg ∷ []) ≡ leg
+pub last_joined : (first : Leg) (others : List Leg) (leg : Leg) → last_after first (others ++ leg ∷ []) ≡ leg
 last_joined first [] leg = refl
 last_joined first (next ∷ later) leg = last_joined next later leg
 

@@ -9,12 +9,12 @@ use Rattle.pay_rules.specs.declared.parts.RailPart.TheVariants as part
 use Rattle.pay_rules.specs.LinkedLegs.{LinkedLegs, last_leg, joined}
 use Rattle.pay_rules.specs.RailJourneys.{is_same, is_linked, alone, run_before, leg_before, journeys}
 use Rattle.pay_links.specs.OpenRun.{open_before}
-use Rattle.pay_links.specs.Starts.{leg_of, leg_between, are_linked, starts_at, starts_behind, taps_of_leg, taps_of_journey, unmarked, marks_of_one, start_marks}
+use Rattle.pay_links.specs.Starts.{leg_of, leg_between, are_linked, starts_at, starts_after, taps_of_leg, taps_of_journey, unmarked, marks_of_one, start_marks}
 use Rattle.pay_links.specs.Laws.{StartsAreLocal}
 use Rattle.pay_rules.specs.declared.journey.Journey.TheVariants as journey
 use Rattle.pay_links.proofs.OpenRun.{last_joined, run_goes_on, run_ends}
 
--- the marks of parts behind a leg, or behind none
+-- the marks of parts after a leg, or after none
 abbrev pub marks_of_parts : FareTables → Option Leg → List RailPart → List Bool
 marks_of_parts tables before [] = []
 marks_of_parts tables before (part.Lone tap ∷ parts) = true ∷ marks_of_parts tables None parts
@@ -36,7 +36,7 @@ starts_alone : (tables : FareTables) (farther nearer : Option Touch) (tap : Touc
 starts_alone tables farther nearer tap next a b =
     let none = linked_with_none tables (leg_between tables farther nearer) in rw (a, b, none) refl
 
--- behind a leg no leg begins with its exit
+-- after a leg no leg begins with its exit
 exit_is_apart : (tables : FareTables) → OneLegEach tables → (entry exit : Touch) (later : List Touch) → is_leg tables entry exit ≡ true →
     leg_between tables (Some exit) (slice_get later 0) ≡ None
 exit_is_apart tables one entry exit [] h = refl
@@ -45,24 +45,24 @@ exit_is_apart tables one entry exit (next ∷ later) h = rw (one entry exit next
 -- the marks of two taps more, by whether they are a leg
 by_first_two : (tables : FareTables) (farther nearer : Option Touch) (tap next : Touch) (later : List Touch) (together : Bool) → is_leg tables tap next ≡ together →
     leg_between tables nearer (Some tap) ≡ None →
-    (is_leg tables tap next ≡ true → starts_behind tables (Some tap) (Some next) later ≡ marks_of_parts tables (leg_between tables (Some tap) (Some next)) (legs tables later)) →
-    (is_leg tables tap next ≡ false → starts_behind tables nearer (Some tap) (next ∷ later) ≡ marks_of_parts tables (leg_between tables nearer (Some tap)) (legs tables (next ∷ later))) →
-    starts_behind tables farther nearer (tap ∷ next ∷ later)
+    (is_leg tables tap next ≡ true → starts_after tables (Some tap) (Some next) later ≡ marks_of_parts tables (leg_between tables (Some tap) (Some next)) (legs tables later)) →
+    (is_leg tables tap next ≡ false → starts_after tables nearer (Some tap) (next ∷ later) ≡ marks_of_parts tables (leg_between tables nearer (Some tap)) (legs tables (next ∷ later))) →
+    starts_after tables farther nearer (tap ∷ next ∷ later)
     ≡ marks_of_parts tables (leg_between tables farther nearer) (if together then part.Leg (leg_of tap next) ∷ legs tables later else part.Lone tap ∷ legs tables (next ∷ later))
 by_first_two tables farther nearer tap next later true h apart both one =
     let first : starts_at tables farther nearer tap (Some next) ≡ not (are_linked tables (leg_between tables farther nearer) (Some (leg_of tap next))) = rw (apart, h) refl in
     let second : starts_at tables nearer (Some tap) next (slice_get later 0) ≡ false = rw h refl in
-    let rest : starts_behind tables (Some tap) (Some next) later ≡ marks_of_parts tables (Some (leg_of tap next)) (legs tables later) = rw h at (both h) in
+    let rest : starts_after tables (Some tap) (Some next) later ≡ marks_of_parts tables (Some (leg_of tap next)) (legs tables later) = rw h at (both h) in
     cc
 by_first_two tables farther nearer tap next later false h apart both one =
     let none : leg_between tables (Some tap) (Some next) ≡ None = rw h refl in
     let first : starts_at tables farther nearer tap (Some next) ≡ true = starts_alone tables farther nearer tap (Some next) apart none in
-    let rest : starts_behind tables nearer (Some tap) (next ∷ later) ≡ marks_of_parts tables None (legs tables (next ∷ later)) =
+    let rest : starts_after tables nearer (Some tap) (next ∷ later) ≡ marks_of_parts tables None (legs tables (next ∷ later)) =
     one h ∙ ap (λ before. marks_of_parts tables before (legs tables (next ∷ later))) apart in
     cc
 
 marks_of_taps : (tables : FareTables) → OneLegEach tables → (farther nearer : Option Touch) (taps : List Touch) → leg_between tables nearer (slice_get taps 0) ≡ None →
-    starts_behind tables farther nearer taps ≡ marks_of_parts tables (leg_between tables farther nearer) (legs tables taps)
+    starts_after tables farther nearer taps ≡ marks_of_parts tables (leg_between tables farther nearer) (legs tables taps)
 marks_of_taps tables each farther nearer [] apart = refl
 marks_of_taps tables each farther nearer (tap ∷ []) apart = ap (λ mark. mark ∷ []) (starts_alone tables farther nearer tap None apart refl)
 marks_of_taps tables each farther nearer (tap ∷ next ∷ later) apart =
@@ -80,11 +80,11 @@ same_is_not_linked tables leg next s = by_first (is_same leg) refl
     by_first true f = rw f refl
     by_first false f = rw (f, s) refl
 
--- behind such a leg the marks are as behind none
-behind_same : (tables : FareTables) (leg : Leg) (parts : List RailPart) → is_same leg ≡ true → marks_of_parts tables (Some leg) parts ≡ marks_of_parts tables None parts
-behind_same tables leg [] s = refl
-behind_same tables leg (part.Lone tap ∷ parts) s = refl
-behind_same tables leg (part.Leg next ∷ parts) s = rw s refl
+-- after such a leg the marks are as after none
+after_same : (tables : FareTables) (leg : Leg) (parts : List RailPart) → is_same leg ≡ true → marks_of_parts tables (Some leg) parts ≡ marks_of_parts tables None parts
+after_same tables leg [] s = refl
+after_same tables leg (part.Lone tap ∷ parts) s = refl
+after_same tables leg (part.Leg next ∷ parts) s = rw s refl
 
 -- the marks of a run that may go on, and its last leg
 abbrev marks_of_run : Option LinkedLegs → List Bool
@@ -103,43 +103,43 @@ unmarked_more (one ∷ others) leg = ap (λ marks. false ∷ false ∷ marks) (u
 one_leg_more : (run : LinkedLegs) (leg : Leg) → marks_of_run (Some (joined run (alone leg))) ≡ marks_of_run (Some run) ++ false ∷ false ∷ []
 one_leg_more run leg = ap (λ marks. true ∷ false ∷ marks) (unmarked_more run.others leg)
 
--- a leg behind no run
+-- a leg after no run
 leg_first : (tables : FareTables) (leg : Leg) (parts : List RailPart) (same : Bool) → is_same leg ≡ same →
     start_marks (journeys tables parts) ≡ marks_of_parts tables None parts →
     start_marks (run_before tables (alone leg) (journeys tables parts)) ≡ true ∷ false ∷ marks_of_parts tables (Some leg) parts →
     start_marks (leg_before tables leg (journeys tables parts)) ≡ true ∷ false ∷ marks_of_parts tables (Some leg) parts
 leg_first tables leg parts true s none run =
     let stands : leg_before tables leg (journeys tables parts) ≡ journey.Same leg ∷ journeys tables parts = rw s refl in
-    ap start_marks stands ∙ ap (λ marks. true ∷ false ∷ marks) (none ∙ sym (behind_same tables leg parts s))
+    ap start_marks stands ∙ ap (λ marks. true ∷ false ∷ marks) (none ∙ sym (after_same tables leg parts s))
 leg_first tables leg parts false s none run =
     let stands : leg_before tables leg (journeys tables parts) ≡ run_before tables (alone leg) (journeys tables parts) = rw s refl in
     ap start_marks stands ∙ run
 
--- a leg behind a run, into which that goes on or not
-leg_behind : (tables : FareTables) (run : LinkedLegs) (leg : Leg) (parts : List RailPart) (same on : Bool) → is_same leg ≡ same → is_linked tables (last_leg run) leg ≡ on →
+-- a leg after a run, into which that goes on or not
+leg_after : (tables : FareTables) (run : LinkedLegs) (leg : Leg) (parts : List RailPart) (same on : Bool) → is_same leg ≡ same → is_linked tables (last_leg run) leg ≡ on →
     start_marks (journeys tables parts) ≡ marks_of_parts tables None parts →
     start_marks (run_before tables (alone leg) (journeys tables parts)) ≡ true ∷ false ∷ marks_of_parts tables (Some leg) parts →
     start_marks (run_before tables (joined run (alone leg)) (journeys tables parts))
     ≡ marks_of_run (Some (joined run (alone leg))) ++ marks_of_parts tables (Some (last_leg (joined run (alone leg)))) parts →
     start_marks (run_before tables run (leg_before tables leg (journeys tables parts)))
     ≡ marks_of_run (Some run) ++ not (is_linked tables (last_leg run) leg) ∷ false ∷ marks_of_parts tables (Some leg) parts
-leg_behind tables run leg parts same true s l none one more =
+leg_after tables run leg parts same true s l none one more =
     let last : last_leg (joined run (alone leg)) ≡ leg = last_joined run.first run.others leg in
     ap start_marks (run_goes_on tables run leg (journeys tables parts) l) ∙ more
     ∙ ap (λ marks. marks ++ marks_of_parts tables (Some (last_leg (joined run (alone leg)))) parts) (one_leg_more run leg)
     ∙ ap (λ before. (marks_of_run (Some run) ++ false ∷ false ∷ []) ++ marks_of_parts tables (Some before) parts) last
     ∙ append_assoc (marks_of_run (Some run)) (false ∷ false ∷ []) (marks_of_parts tables (Some leg) parts)
     ∙ ap (λ on. marks_of_run (Some run) ++ not on ∷ false ∷ marks_of_parts tables (Some leg) parts) (sym l)
-leg_behind tables run leg parts true false s l none one more =
+leg_after tables run leg parts true false s l none one more =
     let stands : leg_before tables leg (journeys tables parts) ≡ journey.Same leg ∷ journeys tables parts = rw s refl in
     ap (λ later. start_marks (run_before tables run later)) stands
-    ∙ ap (λ marks. marks_of_run (Some run) ++ true ∷ false ∷ marks) (none ∙ sym (behind_same tables leg parts s))
+    ∙ ap (λ marks. marks_of_run (Some run) ++ true ∷ false ∷ marks) (none ∙ sym (after_same tables leg parts s))
     ∙ ap (λ on. marks_of_run (Some run) ++ not on ∷ false ∷ marks_of_parts tables (Some leg) parts) (sym l)
-leg_behind tables run leg parts false false s l none one more =
+leg_after tables run leg parts false false s l none one more =
     ap start_marks (run_ends tables run leg (journeys tables parts) s l) ∙ ap (λ marks. marks_of_run (Some run) ++ marks) one
     ∙ ap (λ on. marks_of_run (Some run) ++ not on ∷ false ∷ marks_of_parts tables (Some leg) parts) (sym l)
 
--- the marks of the journeys of parts behind a run that may go on
+-- the marks of the journeys of parts after a run that may go on
 marks_with : (tables : FareTables) (current : Option LinkedLegs) (parts : List RailPart) →
     start_marks (open_before tables current (journeys tables parts)) ≡ marks_of_run current ++ marks_of_parts tables (last_of_run current) parts
 marks_with tables None [] = refl
@@ -149,7 +149,7 @@ marks_with tables (Some run) (part.Lone tap ∷ parts) = ap (λ marks. marks_of_
 marks_with tables None (part.Leg leg ∷ parts) =
     leg_first tables leg parts (is_same leg) refl (marks_with tables None parts) (marks_with tables (Some (alone leg)) parts)
 marks_with tables (Some run) (part.Leg leg ∷ parts) =
-    leg_behind tables run leg parts (is_same leg) (is_linked tables (last_leg run) leg) refl refl
+    leg_after tables run leg parts (is_same leg) (is_linked tables (last_leg run) leg) refl refl
     (marks_with tables None parts) (marks_with tables (Some (alone leg)) parts) (marks_with tables (Some (joined run (alone leg))) parts)
 
 pub starts_are_local : ((tables : FareTables) → OneLegEach tables) → StartsAreLocal

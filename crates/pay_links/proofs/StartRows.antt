@@ -84,7 +84,7 @@ lone_tap_between =
 back_at_the_station : starts sample (entry 14 0 ∷ exit 12 1_200 ∷ entry 10 1_260 ∷ exit 10 1_320 ∷ []) ≡ true ∷ false ∷ true ∷ false ∷ []
 back_at_the_station = rw (get-from_entries nat_cmp_total stations 14, get-from_entries nat_cmp_total stations 12) refl
 
--- by the taps next to it alone: a leg that goes on, and one behind an exit that is in no leg
+-- by the taps next to it alone: a leg that goes on, and one after an exit that is in no leg
 goes_on_there : starts_at sample (Some (entry 14 0)) (Some (exit 12 1_200)) (entry 10 2_400) (Some (exit 11 3_000)) ≡ false
 goes_on_there =
     rw (get-from_entries nat_cmp_total stations 14, get-from_entries nat_cmp_total stations 12, get-from_entries nat_cmp_total stations 10, get-from_entries nat_cmp_total stations 11) refl

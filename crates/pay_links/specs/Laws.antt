@@ -1,4 +1,4 @@
--- What is so of marks: they are those of the journeys, and where a journey starts, the taps before and behind stand by themselves.
+-- What is so of marks: they are those of the journeys, and where a journey starts, the taps before and after stand by themselves.
 use Rattle.std.specs.Prelude.{◌≡◌, List, ◌++◌, length}
 use Rattle.std.specs.List.{flat_map}
 use Rattle.pay_tables.specs.Words.{FareTables}

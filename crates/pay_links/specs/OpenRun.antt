@@ -12,7 +12,7 @@ abbrev pub closed : Option LinkedLegs → List Journey
 closed None = []
 closed (Some run) = journey.Run run ∷ []
 
--- the journeys, if these are behind it
+-- the journeys, if these are after it
 abbrev pub open_before : FareTables → Option LinkedLegs → List Journey → List Journey
 open_before tables None later = later
 open_before tables (Some run) later = run_before tables run later

@@ -23,7 +23,7 @@ leg_between tables None next = None
 leg_between tables (Some tap) None = None
 leg_between tables (Some tap) (Some next) = if is_leg tables tap next then Some (leg_of tap next) else None
 
--- whether there are a leg and one right behind it, and the one is linked with the other
+-- whether there are a leg and one right after it, and the one is linked with the other
 abbrev pub are_linked : FareTables → Option Leg → Option Leg → Bool
 are_linked tables None next = false
 are_linked tables (Some leg) None = false
@@ -35,14 +35,14 @@ abbrev pub starts_at : FareTables → Option Touch → Option Touch → Touch �
 starts_at tables farther nearer tap next =
     is_none (leg_between tables nearer (Some tap)) && not (are_linked tables (leg_between tables farther nearer) (leg_between tables (Some tap) next))
 
--- the marks of rail taps in order, behind two others
-abbrev pub starts_behind : FareTables → Option Touch → Option Touch → List Touch → List Bool
-starts_behind tables farther nearer [] = []
-starts_behind tables farther nearer (tap ∷ later) = starts_at tables farther nearer tap (slice_get later 0) ∷ starts_behind tables nearer (Some tap) later
+-- the marks of rail taps in order, after two others
+abbrev pub starts_after : FareTables → Option Touch → Option Touch → List Touch → List Bool
+starts_after tables farther nearer [] = []
+starts_after tables farther nearer (tap ∷ later) = starts_at tables farther nearer tap (slice_get later 0) ∷ starts_after tables nearer (Some tap) later
 
 -- the marks of all rail taps of an account, in order
 abbrev pub starts : FareTables → List Touch → List Bool
-starts tables taps = starts_behind tables None None taps
+starts tables taps = starts_after tables None None taps
 
 -- between earlier and later taps no journey goes on: one starts at the first of the later taps, if there is one
 abbrev pub AreApart : FareTables → List Touch → List Touch → Type 0

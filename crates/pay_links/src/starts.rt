@@ -23,7 +23,7 @@ fn leg_between(tables: &Tables, tap: &Option<Touch>, next: &Option<Touch>) -> Op
     }
 }
 
-/// Whether there are a leg and one right behind it, and the one is linked with the other.
+/// Whether there are a leg and one right after it, and the one is linked with the other.
 fn are_linked(tables: &Tables, leg: &Option<Leg>, next: &Option<Leg>) -> bool
     ensures { result ≡ are_linked tables.now leg.now next.now }
 {
@@ -34,9 +34,9 @@ fn are_linked(tables: &Tables, leg: &Option<Leg>, next: &Option<Leg>) -> bool
 }
 
 /// Whether a journey starts at a rail tap, by the two taps before it, the farther first, and the one
-/// behind it.
+/// after it.
 ///
-/// None does where the tap before it and it are a leg, nor where it and the one behind it are a leg with
+/// None does where the tap before it and it are a leg, nor where it and the one after it are a leg with
 /// which the leg of the two taps before it is linked. One does at every other tap.
 pub fn starts_at(
     tables: &Tables,
@@ -52,6 +52,6 @@ pub fn starts_at(
         return false;
     }
     let before = leg_between(tables, farther, nearer);
-    let behind = leg_between(tables, &here, next);
-    !are_linked(tables, &before, &behind)
+    let after = leg_between(tables, &here, next);
+    !are_linked(tables, &before, &after)
 }

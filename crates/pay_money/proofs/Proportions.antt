@@ -65,12 +65,12 @@ parts_together total count h =
       ap reached e ∙ all_of_it total count h,
     )
 
--- the weights so far grow by the next one; there is none behind the last
+-- the weights so far grow by the next one; there is none after the last
 pub weights_so_far : (weights : List ℕ) (index : ℕ) → sum (take (index + 1) weights) ≡ sum (take index weights) + get_or weights index 0
-weights_so_far weights index = elim (cases_lt index (length weights)) [ inl within ↦ sum_by_more (λ n. n) weights index 0 within | inr past ↦ behind past ]
+weights_so_far weights index = elim (cases_lt index (length weights)) [ inl within ↦ sum_by_more (λ n. n) weights index 0 within | inr past ↦ beyond past ]
   where
-    behind : length weights ≤ index → sum (take (index + 1) weights) ≡ sum (take index weights) + get_or weights index 0
-    behind past =
+    beyond : length weights ≤ index → sum (take (index + 1) weights) ≡ sum (take index weights) + get_or weights index 0
+    beyond past =
         omega (
           arith,
           ap sum (take_all (index + 1) weights (omega arith)),
@@ -119,13 +119,13 @@ pub part_there : (total count index : ℕ) → index < count → get_or (parts t
 part_there total count index within = get_or-map-range_with_len (part total count) 0 count index index 0 within (omega arith)
 
 pub share_there : (total : ℕ) (weights : List ℕ) (index : ℕ) → get_or (shares total weights) index 0 ≡ share total weights index
-share_there total weights index = elim (cases_lt index (length weights)) [ inl within ↦ there within | inr past ↦ behind past ]
+share_there total weights index = elim (cases_lt index (length weights)) [ inl within ↦ there within | inr past ↦ beyond past ]
   where
     there : index < length weights → get_or (shares total weights) index 0 ≡ share total weights index
     there within = get_or-map-range_with_len (share total weights) 0 (length weights) index index 0 within (omega arith)
 
-    behind : length weights ≤ index → get_or (shares total weights) index 0 ≡ share total weights index
-    behind past =
+    beyond : length weights ≤ index → get_or (shares total weights) index 0 ≡ share total weights index
+    beyond past =
         get_or_past (shares total weights) index 0 (omega (arith, length-map-range_with_len (share total weights) 0 (length weights)))
         ∙ sym (no_share total weights index (get_or_past weights index 0 past))
 

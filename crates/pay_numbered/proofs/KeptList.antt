@@ -10,7 +10,7 @@ use Rattle.std.specs.FinMap.Entries.{below_all, by_order, is_sorted-put, is_sort
 use Rattle.std.proofs.lemmas.List.{length-map}
 use Rattle.std.proofs.lemmas.List.Edits.{length-insert}
 use Rattle.std.proofs.lemmas.List.Sorted.{searchable_from_sorted}
-use Rattle.pay_numbered.specs.Kept.{numbered, set_of, IsKept, IsPlace}
+use Rattle.pay_numbered.specs.Sound.{numbered, set_of, IsSound, IsPlace}
 use Rattle.pay_rules.specs.declared.addition.Addition.TheVariants.{Added}
 use Rattle.pay_rules.specs.Numbers.{ByNumber, IsNumbered, number_cmp, judged}
 use Rattle.pay_rules.specs.NumberOrder.{number_total, exact_numbers, entries_made, length_values, one_more}
@@ -141,13 +141,13 @@ module _ {X : Type 0} (number : X → ℕ × ℕ) where
       ∙ ap (λ (es : List ((ℕ × ℕ) × X)). (number x, x) ∷ es) (without list i q d (second _ _ h) (omega (arith, lt)) e)
 
   module _ (most : ℕ) where
-    pub set_values : (list : List X) → IsKept number most list → values (set_of number list) ≡ list
+    pub set_values : (list : List X) → IsSound number most list → values (set_of number list) ≡ list
     set_values list h = ap (λ (es : List ((ℕ × ℕ) × X)). map (λ (e : (ℕ × ℕ) × X). e.1) es) (entries_made _ h.ascending) ∙ numbered_values list
 
-    pub set_len : (list : List X) → IsKept number most list → len (set_of number list) ≡ length list
+    pub set_len : (list : List X) → IsSound number most list → len (set_of number list) ≡ length list
     set_len list h = len-entries _ ∙ ap length (entries_made _ h.ascending) ∙ length-map list (λ (t : X). (number t, t))
 
-    pub set_numbered : (list : List X) → IsKept number most list → IsNumbered number most (set_of number list)
+    pub set_numbered : (list : List X) → IsSound number most list → IsNumbered number most (set_of number list)
     set_numbered list h = record {
       own_numbers = subst (λ (es : List ((ℕ × ℕ) × X)). map number (map (λ (e : (ℕ × ℕ) × X). e.1) es) ≡ map (λ (e : (ℕ × ℕ) × X). e.0) es) (sym (entries_made _ h.ascending)) (numbered_own list);
       within = omega (arith, set_len list h, h.within);
@@ -155,46 +155,46 @@ module _ {X : Type 0} (number : X → ℕ × ℕ) where
 
     -- ---- what a search of the kept list finds
 
-    pub found : (list shown : List X) (set : ByNumber X) (q : ℕ × ℕ) (i : ℕ) (x : X) → IsKept number most list → set_of number list ≡ set → shown ≡ list → i < length shown → IsBinarySearchResult (cmp_with q) shown (Ok i) → x ≡ get_or list i x
+    pub found : (list shown : List X) (set : ByNumber X) (q : ℕ × ℕ) (i : ℕ) (x : X) → IsSound number most list → set_of number list ≡ set → shown ≡ list → i < length shown → IsBinarySearchResult (cmp_with q) shown (Ok i) → x ≡ get_or list i x
         → map.get set q ≡ Some x
     found list shown set q i x h kept e lt at is =
         ap (λ m. map.get m q) (sym kept) ∙ get-from_entries number_total (numbered number list) q
         ∙ there list q i x h.ascending (omega (arith, ap length e, lt)) (ap (λ (l : List X). number_cmp (number (get_or l i x)) q) (sym e) ∙ at x)
         ∙ ap Some (sym is)
 
-    pub not_found : (list shown : List X) (set : ByNumber X) (q : ℕ × ℕ) (i : ℕ) → IsKept number most list → set_of number list ≡ set → shown ≡ list → IsBinarySearchResult (cmp_with q) shown (Err i) → map.get set q ≡ None
+    pub not_found : (list shown : List X) (set : ByNumber X) (q : ℕ × ℕ) (i : ℕ) → IsSound number most list → set_of number list ≡ set → shown ≡ list → IsBinarySearchResult (cmp_with q) shown (Err i) → map.get set q ≡ None
     not_found list shown set q i h kept e between =
         ap (λ m. map.get m q) (sym kept) ∙ get-from_entries number_total (numbered number list) q
         ∙ missing list q i (subst (λ l. IsBinarySearchResult (cmp_with q) l (Err i)) e between (searchable list q h.ascending))
 
     -- a set has as many as its list
-    pub count_of : (list : List X) (set : ByNumber X) → IsKept number most list → set_of number list ≡ set → len set ≡ length list
+    pub count_of : (list : List X) (set : ByNumber X) → IsSound number most list → set_of number list ≡ set → len set ≡ length list
     count_of list set h kept = ap len (sym kept) ∙ set_len list h
 
     -- and is made of just these
-    pub listed : (list : List X) (set : ByNumber X) → IsKept number most list → set_of number list ≡ set → list ≡ values set
+    pub listed : (list : List X) (set : ByNumber X) → IsSound number most list → set_of number list ≡ set → list ≡ values set
     listed list set h kept = sym (set_values list h) ∙ ap values kept
 
     -- ---- one that is put at its position
 
-    put_found : (list shown : List X) (t : X) (i : ℕ) → IsKept number most list → shown ≡ list → IsBinarySearchResult (cmp_with (number t)) shown (Err i) → put number_cmp (number t) t (numbered number list) ≡ numbered number (insert list i t)
+    put_found : (list shown : List X) (t : X) (i : ℕ) → IsSound number most list → shown ≡ list → IsBinarySearchResult (cmp_with (number t)) shown (Err i) → put number_cmp (number t) t (numbered number list) ≡ numbered number (insert list i t)
     put_found list shown t i h e between = put_between list t i (subst (λ l. IsBinarySearchResult (cmp_with (number t)) l (Err i)) e between (searchable list (number t) h.ascending))
 
-    set_with : (list shown : List X) (t : X) (i : ℕ) → IsKept number most list → shown ≡ list → IsBinarySearchResult (cmp_with (number t)) shown (Err i) → set_of number (insert list i t) ≡ map.insert (set_of number list) (number t) t
+    set_with : (list shown : List X) (t : X) (i : ℕ) → IsSound number most list → shown ≡ list → IsBinarySearchResult (cmp_with (number t)) shown (Err i) → set_of number (insert list i t) ≡ map.insert (set_of number list) (number t) t
     set_with list shown t i h e between = same_map number_total exact_numbers _ _ (λ q.
         get-from_entries number_total (numbered number (insert list i t)) q
         ∙ ap (find number_cmp q) (sym (put_found list shown t i h e between))
         ∙ find-put number_cmp number_total q (number t) t (numbered number list)
         ∙ sym (get-insert number_total (set_of number list) (number t) t q ∙ ap (cond (eq_by_cmp number_cmp q (number t)) (Some t)) (get-from_entries number_total (numbered number list) q)))
 
-    listed_with : (list shown : List X) (t : X) (i : ℕ) → IsKept number most list → shown ≡ list → IsBinarySearchResult (cmp_with (number t)) shown (Err i) → i ≤ length shown → length list < most → IsKept number most (insert list i t)
+    listed_with : (list shown : List X) (t : X) (i : ℕ) → IsSound number most list → shown ≡ list → IsBinarySearchResult (cmp_with (number t)) shown (Err i) → i ≤ length shown → length list < most → IsSound number most (insert list i t)
     listed_with list shown t i h e between le room = record {
       ascending = subst (λ (es : List ((ℕ × ℕ) × X)). T (is_sorted number_cmp es)) (put_found list shown t i h e between) (is_sorted-put number_cmp number_total (number t) t (numbered number list) h.ascending);
       within = omega (arith, length-insert list i t (omega (arith, le, ap length e)), room);
     }
 
     -- where none has its number, and there is room, the position is the place of a further one
-    pub place_of : (same : X → X → Bool) (list shown : List X) (set : ByNumber X) (t : X) (i : ℕ) → IsKept number most list → set_of number list ≡ set → shown ≡ list → i ≤ length shown → IsBinarySearchResult (cmp_with (number t)) shown (Err i)
+    pub place_of : (same : X → X → Bool) (list shown : List X) (set : ByNumber X) (t : X) (i : ℕ) → IsSound number most list → set_of number list ≡ set → shown ≡ list → i ≤ length shown → IsBinarySearchResult (cmp_with (number t)) shown (Err i)
         → length list < most → judged same number most set t ≡ Ok Added → IsPlace same number most i set t
     place_of same list shown set t i h kept e le between room is_new =
         let count = count_of list set h kept in
@@ -206,7 +206,7 @@ module _ {X : Type 0} (number : X → ℕ × ℕ) where
               ∙ ap (λ l. insert l i t) (sym (set_values list h) ∙ ap values kept);
         }
 
-    listed_values : (set : ByNumber X) → IsNumbered number most set → IsKept number most (values set)
+    listed_values : (set : ByNumber X) → IsNumbered number most set → IsSound number most (values set)
     listed_values set is = record {
       ascending = subst (λ (es : List ((ℕ × ℕ) × X)). T (is_sorted number_cmp es)) (sym (numbered_entries (entries set) is.own_numbers)) (entries_sorted set);
       within = omega (arith, length_values set, is.within);
@@ -224,13 +224,13 @@ module _ {X : Type 0} (number : X → ℕ × ℕ) where
     shorter (x ∷ list) zero lt = omega arith
     shorter (x ∷ list) (suc i) lt = let rest = shorter list i (omega (arith, lt)) in omega (arith, rest)
 
-    kept_without : (list : List X) (i : ℕ) (q : ℕ × ℕ) (d : X) → IsKept number most list → i < length list → number_cmp (number (get_or list i d)) q ≡ Equal → IsKept number most (remove list i)
+    kept_without : (list : List X) (i : ℕ) (q : ℕ × ℕ) (d : X) → IsSound number most list → i < length list → number_cmp (number (get_or list i d)) q ≡ Equal → IsSound number most (remove list i)
     kept_without list i q d h lt e = record {
       ascending = subst (λ (es : List ((ℕ × ℕ) × X)). T (is_sorted number_cmp es)) (without list i q d h.ascending lt e) (is_sorted-where_key number_cmp (other q) (numbered number list) h.ascending);
       within = omega (arith, shorter list i lt, h.within);
     }
 
-    set_without : (list : List X) (i : ℕ) (q : ℕ × ℕ) (d : X) → IsKept number most list → i < length list → number_cmp (number (get_or list i d)) q ≡ Equal → set_of number (remove list i) ≡ map.remove (set_of number list) q
+    set_without : (list : List X) (i : ℕ) (q : ℕ × ℕ) (d : X) → IsSound number most list → i < length list → number_cmp (number (get_or list i d)) q ≡ Equal → set_of number (remove list i) ≡ map.remove (set_of number list) q
     set_without list i q d h lt e = same_map number_total exact_numbers _ _ (λ n.
         get-from_entries number_total (numbered number (remove list i)) n
         ∙ ap (find number_cmp n) (sym (without list i q d h.ascending lt e))
@@ -240,17 +240,17 @@ module _ {X : Type 0} (number : X → ℕ × ℕ) where
         ∙ sym (get-remove number_total (set_of number list) q n ∙ ap (cond (eq_by_cmp number_cmp n q) None) (get-from_entries number_total (numbered number list) n)))
 
     -- what a search found is taken out of the set
-    pub taken_out : (list shown after : List X) (set : ByNumber X) (q : ℕ × ℕ) (i : ℕ) (x : X) → IsKept number most list → set_of number list ≡ set → shown ≡ list → i < length shown → IsBinarySearchResult (cmp_with q) shown (Ok i) → after ≡ remove list i
-        → (set_of number after ≡ map.remove set q) × IsKept number most after
+    pub taken_out : (list shown after : List X) (set : ByNumber X) (q : ℕ × ℕ) (i : ℕ) (x : X) → IsSound number most list → set_of number list ≡ set → shown ≡ list → i < length shown → IsBinarySearchResult (cmp_with q) shown (Ok i) → after ≡ remove list i
+        → (set_of number after ≡ map.remove set q) × IsSound number most after
     taken_out list shown after set q i x h kept e lt at is =
         let below : i < length list = omega (arith, ap length e, lt) in
         let equal : number_cmp (number (get_or list i x)) q ≡ Equal = ap (λ (l : List X). number_cmp (number (get_or l i x)) q) (sym e) ∙ at x in
-        (ap (set_of number) is ∙ set_without list i q x h below equal ∙ ap (λ m. map.remove m q) kept, subst (IsKept number most) (sym is) (kept_without list i q x h below equal))
+        (ap (set_of number) is ∙ set_without list i q x h below equal ∙ ap (λ m. map.remove m q) kept, subst (IsSound number most) (sym is) (kept_without list i q x h below equal))
 
     -- one that is put at its place is in the set, and the list is in order
-    pub put_in_place : (same : X → X → Bool) (list after : List X) (set : ByNumber X) (t : X) (i : ℕ) → IsKept number most list → set_of number list ≡ set → IsPlace same number most i set t → map.get set (number t) ≡ None → len set < most → after ≡ insert list i t
-        → (set_of number after ≡ map.insert set (number t) t) × IsKept number most after
+    pub put_in_place : (same : X → X → Bool) (list after : List X) (set : ByNumber X) (t : X) (i : ℕ) → IsSound number most list → set_of number list ≡ set → IsPlace same number most i set t → map.get set (number t) ≡ None → len set < most → after ≡ insert list i t
+        → (set_of number after ≡ map.insert set (number t) t) × IsSound number most after
     put_in_place same list after set t i h e place none room put_at =
         let more : IsNumbered number most (map.insert set (number t) t) = one_more number most set t (subst (IsNumbered number most) e (set_numbered list h)) none room in
         let is : values (map.insert set (number t) t) ≡ after = place.grown ∙ ap (λ l. insert l i t) (ap values (sym e) ∙ set_values list h) ∙ sym put_at in
-        (ap (set_of number) (sym is) ∙ set_of_values _ more, subst (IsKept number most) is (listed_values _ more))
+        (ap (set_of number) (sym is) ∙ set_of_values _ more, subst (IsSound number most) is (listed_values _ more))

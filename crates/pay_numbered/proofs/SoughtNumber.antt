@@ -5,7 +5,7 @@ use Rattle.std.specs.List.Sorted.{IsBinarySearchResult, IsPartitionedBy, IsParti
 use Rattle.std.specs.FinMap as map
 use Rattle.std.proofs.lemmas.Cmp.{tied_itself}
 use Rattle.std.proofs.lemmas.Option.{none-some, slice_get-get_or, slice_get_within, get_or_from_slice_get}
-use Rattle.pay_numbered.specs.Kept.{set_of, IsKept, IsRising, IsSought}
+use Rattle.pay_numbered.specs.Sound.{set_of, IsSound, IsRising, IsSought}
 use Rattle.pay_rules.specs.Numbers.{ByNumber, number_cmp}
 use Rattle.pay_rules.specs.NumberOrder.{number_total, exact_numbers}
 use Rattle.pay_numbered.proofs.KeptList.{cmp_with, searchable, found, not_found}
@@ -24,12 +24,12 @@ less_before Greater Less le e = absurd (omega arith)
 less_before Greater Equal le e = absurd (cc)
 less_before Greater Greater le e = absurd (cc)
 
-greater_behind : (r s : Ordering) → ordering_index r ≤ ordering_index s → is_lt r ≡ false → r ≢ Equal → s ≡ Greater
-greater_behind Less s le e other = absurd (cc)
-greater_behind Equal s le e other = absurd (other refl)
-greater_behind Greater Less le e other = absurd (omega arith)
-greater_behind Greater Equal le e other = absurd (omega arith)
-greater_behind Greater Greater le e other = refl
+greater_after : (r s : Ordering) → ordering_index r ≤ ordering_index s → is_lt r ≡ false → r ≢ Equal → s ≡ Greater
+greater_after Less s le e other = absurd (cc)
+greater_after Equal s le e other = absurd (other refl)
+greater_after Greater Less le e other = absurd (omega arith)
+greater_after Greater Equal le e other = absurd (omega arith)
+greater_after Greater Greater le e other = refl
 
 -- ---- whether two numbers are one
 
@@ -60,14 +60,14 @@ module _ {X : Type 0} (number : X → ℕ × ℕ) where
       → ((d : X) → i < length list → number (get_or list i d) ≢ q) → IsBinarySearchResult (cmp_with number q) list (Err i)
   between list q i h p other = λ rises. (
     (λ k d low lt. is_less _ (p.0 k d low lt)),
-    (λ k d low lt. greater_behind _ _ (searchable number list q h i k d low lt) (p.1 i d (omega arith) (omega arith)) (λ e. other d (omega arith) (exact_numbers _ _ e))),
+    (λ k d low lt. greater_after _ _ (searchable number list q h i k d low lt) (p.1 i d (omega arith) (omega arith)) (λ e. other d (omega arith) (exact_numbers _ _ e))),
   )
 
   -- none has the number where none stands at its place
-  pub behind_all : (list : List X) (q : ℕ × ℕ) (i : ℕ) → IsRising number list
+  pub after_all : (list : List X) (q : ℕ × ℕ) (i : ℕ) → IsRising number list
       → IsPartitionPoint (λ (x : X). is_lt (number_cmp (number x) q) ≡ true) (λ (x : X). is_lt (number_cmp (number x) q) ≡ false) list i
       → slice_get list i ≡ None → IsBinarySearchResult (cmp_with number q) list (Err i)
-  behind_all list q i h p none = between list q i h p (λ d lt. absurd (none-some _ (sym none ∙ slice_get-get_or list i d lt)))
+  after_all list q i h p none = between list q i h p (λ d lt. absurd (none-some _ (sym none ∙ slice_get-get_or list i d lt)))
 
   -- or where another one does
   pub before_another : (list : List X) (q : ℕ × ℕ) (i : ℕ) (x : X) → IsRising number list
@@ -86,8 +86,8 @@ module _ {X : Type 0} (number : X → ℕ × ℕ) where
   module _ (most : ℕ) where
     -- ---- what a search tells of the set
 
-    pub has : (list : List X) (set : ByNumber X) (q : ℕ × ℕ) (there : ℕ × X) → IsKept number most list → set_of number list ≡ set → IsSought number q list (Ok there) → map.get set q ≡ Some there.1
+    pub has : (list : List X) (set : ByNumber X) (q : ℕ × ℕ) (there : ℕ × X) → IsSound number most list → set_of number list ≡ set → IsSought number q list (Ok there) → map.get set q ≡ Some there.1
     has list set q there h kept s = found number most list list set q there.0 there.1 h kept refl s.1 s.0 (sym (get_or_from_slice_get list there.0 there.1 there.1 s.2))
 
-    pub has_none : (list : List X) (set : ByNumber X) (q : ℕ × ℕ) (i : ℕ) → IsKept number most list → set_of number list ≡ set → IsSought number q list (Err i) → map.get set q ≡ None
+    pub has_none : (list : List X) (set : ByNumber X) (q : ℕ × ℕ) (i : ℕ) → IsSound number most list → set_of number list ≡ set → IsSought number q list (Err i) → map.get set q ≡ None
     has_none list set q i h kept s = not_found number most list list set q i h kept refl s.0

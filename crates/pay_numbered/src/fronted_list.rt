@@ -13,7 +13,7 @@ use std::marker::Model;
 #[derive(Drop)]
 pub struct FrontedList<T: Copy, const FRONT: usize> {
     front: ArrayVec<T, FRONT, Global>,
-    behind: Blocks<T>,
+    rest: Blocks<T>,
 }
 
 impl<T: Copy, const FRONT: usize> Model for FrontedList<T, FRONT> {
@@ -24,7 +24,7 @@ impl<T: Copy, const FRONT: usize> Model for FrontedList<T, FRONT> {
 
     ghost coded = { coded_list T.code };
 
-    ghost view = { λ list. list.front.items ++ list.behind.items };
+    ghost view = { λ list. list.front.items ++ list.rest.items };
 }
 
 /// How many of some items come before what is sought.
@@ -36,22 +36,22 @@ fn place_among<T: Copy, S: ComesAfter<T>>(items: &[T], sought: &S) -> usize
     items.partition_point(|item| sought.comes_after(item))
 }
 
-/// Puts an item into a full front, whose last one then is the first behind it, where there is room for that.
+/// Puts an item into a full front, whose last one then is the first after it, where there is room for that.
 fn put_in_full<T: Copy + MadeWith<Global>, const FRONT: usize>(
     front: &mut ArrayVec<T, FRONT, Global>,
-    behind: &mut Blocks<T>,
+    rest: &mut Blocks<T>,
     place: usize,
     item: T,
 )
     requires within { place < length front.old.items }
     requires few { length front.old.items ≤ FRONT }
-    requires room { 1 ≤ behind.old.room }
-    ensures { front.new.items ++ behind.new.items ≡ insert (front.old.items ++ behind.old.items) place item }
+    requires room { 1 ≤ rest.old.room }
+    ensures { front.new.items ++ rest.new.items ≡ insert (front.old.items ++ rest.old.items) place item }
 {
     let Some(last) = front.pop() else {
         unreachable!()
     };
-    behind.insert(0, last);
+    rest.insert(0, last);
     front.insert(place, item);
 }
 
@@ -62,7 +62,7 @@ impl<T: Copy + MadeWith<Global>, const FRONT: usize> FrontedList<T, FRONT> {
     {
         FrontedList {
             front: ArrayVec::new_in(alloc),
-            behind: Blocks::new(alloc),
+            rest: Blocks::new(alloc),
         }
     }
 
@@ -71,7 +71,7 @@ impl<T: Copy + MadeWith<Global>, const FRONT: usize> FrontedList<T, FRONT> {
         requires { length self.now < 2 ^ 64 }
         ensures { result ≡ length self.now }
     {
-        self.front.len() + self.behind.len()
+        self.front.len() + self.rest.len()
     }
 
     /// The item at a place.
@@ -82,7 +82,7 @@ impl<T: Copy + MadeWith<Global>, const FRONT: usize> FrontedList<T, FRONT> {
         if place < front.len() {
             return Some(front[place]);
         }
-        self.behind.get(place - front.len())
+        self.rest.get(place - front.len())
     }
 
     /// Items from a place on: as many as lie in one piece, and at least one where one is there.
@@ -95,7 +95,7 @@ impl<T: Copy + MadeWith<Global>, const FRONT: usize> FrontedList<T, FRONT> {
         if place < front.len() {
             return &front[place..];
         }
-        self.behind.from(place - front.len())
+        self.rest.from(place - front.len())
     }
 
     /// All items, copied. An `Err` is out of memory.
@@ -123,7 +123,7 @@ impl<T: Copy + MadeWith<Global>, const FRONT: usize> FrontedList<T, FRONT> {
         if place < front.len() {
             return place;
         }
-        place + self.behind.place(sought)
+        place + self.rest.place(sought)
     }
 
     /// Puts in one more, at a place. An `Err` is out of memory, and then all is as before.
@@ -137,12 +137,12 @@ impl<T: Copy + MadeWith<Global>, const FRONT: usize> FrontedList<T, FRONT> {
             self.front.insert(place, item);
             return Ok(());
         }
-        self.behind.reserve()?;
+        self.rest.reserve()?;
         if place < first {
-            put_in_full(&mut self.front, &mut self.behind, place, item);
+            put_in_full(&mut self.front, &mut self.rest, place, item);
             return Ok(());
         }
-        self.behind.insert(place - first, item);
+        self.rest.insert(place - first, item);
         Ok(())
     }
 
@@ -156,6 +156,6 @@ impl<T: Copy + MadeWith<Global>, const FRONT: usize> FrontedList<T, FRONT> {
             self.front.remove(place);
             return;
         }
-        self.behind.remove(place - first);
+        self.rest.remove(place - first);
     }
 }

@@ -1,7 +1,7 @@
 ghost use Rattle.std.specs.Prelude.{◌≡◌, ◌^◌, ◌≤◌, ◌<◌, ◌↔◌, length, take, drop, IsTrue, IfOk, IfSome};
 ghost use Rattle.std.specs.FinMap as map;
 ghost use Rattle.std.specs.Ordering.{is_lt};
-ghost use Rattle.pay_numbered.specs.Kept.{IsRising, IsSought, IsPlaceFor};
+ghost use Rattle.pay_numbered.specs.Sound.{IsRising, IsSought, IsPlaceFor};
 ghost use Rattle.pay_rules.specs.Numbers.{IsNumbered, number_cmp, judged, IsJudged, set_after};
 
 use crate::fronted_list::FrontedList;
@@ -25,7 +25,7 @@ impl<T: Numbered, const MOST: usize, const INLINE: usize> Model
     ghost use Rattle.std.specs.FinMap as map;
     ghost use Rattle.std.specs.Coded.{coded×, coded_ℕ};
     ghost use Rattle.pay_rules.specs.Numbers.{ByNumber};
-    ghost use Rattle.pay_numbered.specs.Kept.{set_of, IsKept};
+    ghost use Rattle.pay_numbered.specs.Sound.{set_of, IsSound};
 
     ghost Value = { ByNumber T };
 
@@ -33,7 +33,7 @@ impl<T: Numbered, const MOST: usize, const INLINE: usize> Model
 
     ghost view = { λ set. set_of T.number set.items };
 
-    ghost invariant = { λ set. IsKept T.number MOST set.items };
+    ghost invariant = { λ set. IsSound T.number MOST set.items };
 }
 
 /// A number that is sought.

@@ -1,7 +1,7 @@
 ghost use Rattle.std.specs.Prelude.{◌≡◌, ◌≤◌, ◌↔◌, length, IsTrue, IfOk, IfSome};
 ghost use Rattle.std.specs.FinMap as map;
 ghost use Rattle.std.specs.List.Sorted.{IsBinarySearchResult, IsSearchInRange};
-ghost use Rattle.pay_numbered.specs.Kept.{IsPlaceFor};
+ghost use Rattle.pay_numbered.specs.Sound.{IsPlaceFor};
 ghost use Rattle.pay_rules.specs.Numbers.{IsNumbered, number_cmp, judged, IsJudged, set_after};
 
 use pay_rules::{Addition, AdditionFault, Numbered};
@@ -22,7 +22,7 @@ impl<T: Numbered, const MOST: usize, const INLINE: usize> Model for NumberedSet<
     ghost use Rattle.std.specs.FinMap as map;
     ghost use Rattle.std.specs.Coded.{coded×, coded_ℕ};
     ghost use Rattle.pay_rules.specs.Numbers.{ByNumber};
-    ghost use Rattle.pay_numbered.specs.Kept.{set_of, IsKept};
+    ghost use Rattle.pay_numbered.specs.Sound.{set_of, IsSound};
 
     ghost Value = { ByNumber T };
 
@@ -30,7 +30,7 @@ impl<T: Numbered, const MOST: usize, const INLINE: usize> Model for NumberedSet<
 
     ghost view = { λ set. set_of T.number set.items.items };
 
-    ghost invariant = { λ set. IsKept T.number MOST set.items.items };
+    ghost invariant = { λ set. IsSound T.number MOST set.items.items };
 }
 
 /// Where a number stands among what has ascending numbers, or else where it would stand.

@@ -158,7 +158,7 @@ under_below : (n ticket : ℕ) (es : List Entry) (e : Entry) → ticket < n → 
 under_below zero ticket es e less found = absurd (omega (arith, less))
 under_below (suc n) ticket es e less found = elim (cases_lt ticket n) [
   | inl before ↦ under_kept ticket (commands_below n es) (command_beside n (entry_under n es)) e.command (under_below n ticket es e before found)
-  | inr behind ↦ (let here : ticket ≡ n = omega (arith, less, behind) in subst (λ t. command_under t (commands_below (suc n) es) ≡ Some e.command) (sym here) (last (subst (λ t. entry_under t es ≡ Some e) here found)))
+  | inr beyond ↦ (let here : ticket ≡ n = omega (arith, less, beyond) in subst (λ t. command_under t (commands_below (suc n) es) ≡ Some e.command) (sym here) (last (subst (λ t. entry_under t es ≡ Some e) here found)))
 ]
   where
     last : entry_under n es ≡ Some e → command_under n (commands_below (suc n) es) ≡ Some e.command
@@ -174,19 +174,19 @@ not_its x y off = by (y == x) refl
 abbrev IsFirst : List Entry → Entry → Type 0
 IsFirst entries e = entry_under e.ticket entries ≡ Some e
 
--- behind an entry of another ticket
-behind_one : (x : Entry) (es entries : List Entry) → AllByRecursion (λ (y : Entry). (y.ticket == x.ticket) ≡ false) entries → AllByRecursion (IsFirst es) entries → AllByRecursion (IsFirst (x ∷ es)) entries
-behind_one x es [] off first = tt
-behind_one x es (e ∷ entries) off first = (
+-- after an entry of another ticket
+after_one : (x : Entry) (es entries : List Entry) → AllByRecursion (λ (y : Entry). (y.ticket == x.ticket) ≡ false) entries → AllByRecursion (IsFirst es) entries → AllByRecursion (IsFirst (x ∷ es)) entries
+after_one x es [] off first = tt
+after_one x es (e ∷ entries) off first = (
   ap (λ (b : Bool). cond b (Some x) (entry_under e.ticket es)) (not_its e.ticket x.ticket off.0) ∙ first.0,
-  behind_one x es entries off.1 first.1,
+  after_one x es entries off.1 first.1,
 )
 
 -- each is the first under its ticket
 each_first : (es : List Entry) → AreSingle es → AllByRecursion (IsFirst es) es
 unfolding IsDistinct
 each_first [] single = tt
-each_first (e ∷ es) single = (ap (λ (b : Bool). cond b (Some e) (entry_under e.ticket es)) (eq-eqb e.ticket e.ticket refl), behind_one e es es single.0 (each_first es single.1))
+each_first (e ∷ es) single = (ap (λ (b : Bool). cond b (Some e) (entry_under e.ticket es)) (eq-eqb e.ticket e.ticket refl), after_one e es es single.0 (each_first es single.1))
 
 pub none_hidden : (l : LaneParts) → All (IsOwn l.number l.next) l.shards → AreSingle (all_sent l.shards) → NoneIsHidden l
 none_hidden l own single = by (all_sent l.shards) (own_below l own) (each_first (all_sent l.shards) single)

@@ -5,7 +5,7 @@ use Rattle.std.specs.Option.{is_none}
 use Rattle.std.proofs.lemmas.Bool.{lt-ltb, eqb-true, eq-eqb}
 use Rattle.std.proofs.lemmas.List.Elements.{All-head, All-tail}
 use Rattle.pay_rules.specs.InTurn.{IsIn}
-use Rattle.pay_shard.specs.Words.{IsNoneOf, without, command_under, IsReplyTo, AreKept}
+use Rattle.pay_shard.specs.Words.{IsNoneOf, without, command_under, IsReplyTo, NothingIsLost}
 use Rattle.pay_shard.specs.declared.asked.Asked.{Asked}
 use Rattle.pay_shard.specs.declared.reply.Answer.{Answer}
 use Rattle.pay_shard.specs.declared.reply.Reply.{Reply}
@@ -138,7 +138,7 @@ stays l m taken = subst (Stays l) (sym taken.1) (stays_all l taken.0)
 pub commands_stay : (l m : LaneParts) → Stays l m → AreBelow l.next (all_sent l.shards) → commands_sent m ≡ commands_sent l
 commands_stay l m s below = ap (λ x. commands_below m.next (all_sent x)) s.shards ∙ commands_later l.next m.next (all_sent l.shards) below s.later
 
-pub answers_stay : (l m : LaneParts) → Stays l m → AreKept (λ ticket. answer_to ticket l.answers.got) (λ ticket. answer_to ticket m.answers.got)
+pub answers_stay : (l m : LaneParts) → Stays l m → NothingIsLost (λ ticket. answer_to ticket l.answers.got) (λ ticket. answer_to ticket m.answers.got)
 answers_stay l m s ticket a e = ap (answer_to ticket) s.more.1 ∙ find_kept (λ (x : Answer). x.ticket == ticket) l.answers.got s.more.0 a e
 
 -- ---- a command was put

@@ -4,15 +4,15 @@ use Rattle.std.specs.List.{AllZip}
 use Rattle.pay_shard.specs.declared.item.Entry.{Entry}
 use Rattle.pay_shard.specs.declared.item.Item.{Item}
 use Rattle.pay_lanes.specs.Words.{LaneParts, WorkerParts, IsSameWorker, arrived, sent_by, AreKnown, IsAnswered, AreJournalsFrom, IsRight, Passed, HavePassed}
-use Rattle.pay_lanes.specs.declared.opening.OpenFault.{OpenFault}
-use Rattle.pay_lanes.specs.declared.opening.OpenFault.TheVariants as opening
+use Rattle.pay_lanes.specs.declared.opening.OpenLanesFault.{OpenLanesFault}
+use Rattle.pay_lanes.specs.declared.opening.OpenLanesFault.TheVariants as opening
 use Rattle.pay_office.specs.declared.office.StartFault.{StartFault}
 use Rattle.pay_office.specs.declared.office.StartFault.TheVariants.{Count, NoThread, Memory}
 use Rattle.pay_office.specs.declared.work.BeginFault.{BeginFault}
 use Rattle.pay_office.specs.declared.work.BeginFault.TheVariants as beginning
 
 -- why no office begins whose queues were not opened
-abbrev pub start_fault : OpenFault → StartFault
+abbrev pub start_fault : OpenLanesFault → StartFault
 start_fault opening.Count = Count
 start_fault opening.Memory = Memory
 

@@ -3,7 +3,7 @@ ghost use Rattle.std.specs.Prelude.{◌≡◌, ◌≤◌, [], ◌∷◌, ◌++�
 ghost use Rattle.pay_shard.specs.declared.limits.TheConstants.{MOST_SHARDS};
 ghost use Rattle.pay_lanes.specs.Words.{IsSameLane};
 ghost use Rattle.pay_rules.specs.InTurn.{IsIn};
-ghost use Rattle.pay_shard.specs.Words.{IsForShards, IsAfterAll, IsNoneOf, IsReplyTo, AreKept, with_waiting, without};
+ghost use Rattle.pay_shard.specs.Words.{IsForShards, IsAfterAll, IsNoneOf, IsReplyTo, NothingIsLost, with_waiting, without};
 ghost use Rattle.pay_shard.specs.declared.desk.DeskFault.TheVariants.{Busy, Late};
 ghost use Rattle.pay_office.specs.Waits.{commands_sent, NoneIsHidden};
 ghost use Rattle.pay_office.specs.LaneDesks.{desk_parts, refusal_of, MayRefuse, WasBusy, HasNoReply};
@@ -100,7 +100,7 @@ impl<R: Wait + Copy> Desk for LaneDesk<R> {
         ensures none_waits { OnErr result ((desk_parts self.new).standing ≡ (desk_parts self.old).standing) }
         ensures refused { IfErr result (MayRefuse self.old) }
         ensures busy { result ≡ Err Busy → WasBusy self.old self.new }
-        ensures transcript { AreKept (desk_parts self.old).transcript (desk_parts self.new).transcript }
+        ensures transcript { NothingIsLost (desk_parts self.old).transcript (desk_parts self.new).transcript }
     {
         take_all(&self.rt, &mut self.lane, &mut self.waiting);
         if self.waiting.is_full() {
@@ -126,7 +126,7 @@ impl<R: Wait + Copy> Desk for LaneDesk<R> {
         ensures none { OnErr result (HasNoReply ticket self.new) }
         ensures got { (desk_parts self.new).standing ≡ with_waiting (without ticket self.old.waiting) (desk_parts self.old).standing }
         ensures none_added { commands_sent self.new.lane ≡ commands_sent self.old.lane }
-        ensures transcript { AreKept (desk_parts self.old).transcript (desk_parts self.new).transcript }
+        ensures transcript { NothingIsLost (desk_parts self.old).transcript (desk_parts self.new).transcript }
     {
         take_until(&self.rt, &mut self.lane, &mut self.waiting, ticket.number());
         let Some(Answer { reply, .. }) = take_out(&mut self.waiting, ticket.number()) else {

@@ -8,7 +8,7 @@ ghost use Rattle.pay_office.specs.declared.office.StartFault.TheVariants.{Count}
 ghost use Rattle.pay_office.specs.declared.office.ShutFault.TheVariants.{LaneMissing};
 
 use crate::work::{BeginFault, Stop, Working, begin};
-use pay_lanes::{Ended, Gate, Lane, OpenFault, Opened, Worker, end, open, put_in_order};
+use pay_lanes::{Ended, Gate, Lane, OpenLanesFault, Opened, Worker, end, open, put_in_order};
 use pay_rules::Fares;
 use pay_tables::Tables;
 use std::alloc::{AllocError, Global};
@@ -41,15 +41,15 @@ impl From<AllocError> for StartFault {
     }
 }
 
-impl From<OpenFault> for StartFault {
+impl From<OpenLanesFault> for StartFault {
     ghost use Rattle.pay_office.specs.Offices.{start_fault};
 
     ghost from_gives = { λ from fault. fault ≡ start_fault from };
 
-    fn from(fault: OpenFault) -> StartFault {
+    fn from(fault: OpenLanesFault) -> StartFault {
         match fault {
-            OpenFault::Count => StartFault::Count,
-            OpenFault::Memory => StartFault::Memory,
+            OpenLanesFault::Count => StartFault::Count,
+            OpenLanesFault::Memory => StartFault::Memory,
         }
     }
 }

@@ -55,7 +55,7 @@ impl Stop {
 pub(crate) type Working<F, G> = PromisedHandle<Worker<F, G>, SameWorker<F, G>>;
 
 /// Why a worker does not begin.
-#[derive(Clone, Copy, Debug, PartialEq, Eq)]
+#[derive(Clone, Copy)]
 pub(crate) enum BeginFault {
     /// The system refused a thread.
     NoThread,

@@ -30,8 +30,8 @@ exit_is_no_entry tables entry exit next h k =
     cc
 
 -- so no leg begins with an exit
-pub no_leg_behind : (tables : FareTables) (entry exit next : Touch) → is_leg tables entry exit ≡ true → is_leg tables exit next ≡ false
-no_leg_behind tables entry exit next h = not_both (is_leg tables exit next) refl
+pub no_leg_after : (tables : FareTables) (entry exit next : Touch) → is_leg tables entry exit ≡ true → is_leg tables exit next ≡ false
+no_leg_after tables entry exit next h = not_both (is_leg tables exit next) refl
   where
     not_both : (together : Bool) → is_leg tables exit next ≡ together → together ≡ false
     not_both true k = absurd (exit_is_no_entry tables entry exit next h k)
@@ -43,13 +43,13 @@ leg_first : (tables : FareTables) (entry exit : Touch) (taps : List Touch) (part
 leg_first tables entry exit taps parts h rest = record {
   each_tap = cc (rest.each_tap);
   each_part = All-cons (IsPart tables) _ _ h rest.each_part;
-  each_leg = behind;
+  each_leg = beyond;
 } where
-  behind : (before after : List Touch) (a b : Touch) → entry ∷ exit ∷ taps ≡ before ++ a ∷ b ∷ after → is_leg tables a b ≡ true →
+  beyond : (before after : List Touch) (a b : Touch) → entry ∷ exit ∷ taps ≡ before ++ a ∷ b ∷ after → is_leg tables a b ≡ true →
       HasLeg (leg entry exit ∷ parts) before a b
-  behind [] after a b e k = ([], parts, cc, refl)
-  behind (x ∷ []) after a b e k = absurd (exit_is_no_entry tables entry exit b h (cc))
-  behind (x ∷ y ∷ before) after a b e k =
+  beyond [] after a b e k = ([], parts, cc, refl)
+  beyond (x ∷ []) after a b e k = absurd (exit_is_no_entry tables entry exit b h (cc))
+  beyond (x ∷ y ∷ before) after a b e k =
       let there = rest.each_leg before after a b (cc) k in
       (leg entry exit ∷ there.0, there.1, cc (there.2), cc (there.3))
 
@@ -59,27 +59,27 @@ lone_first : (tables : FareTables) (tap next : Touch) (taps : List Touch) (parts
 lone_first tables tap next taps parts h rest = record {
   each_tap = cc (rest.each_tap);
   each_part = All-cons (IsPart tables) _ _ tt rest.each_part;
-  each_leg = behind;
+  each_leg = beyond;
 } where
-  behind : (before after : List Touch) (a b : Touch) → tap ∷ next ∷ taps ≡ before ++ a ∷ b ∷ after → is_leg tables a b ≡ true →
+  beyond : (before after : List Touch) (a b : Touch) → tap ∷ next ∷ taps ≡ before ++ a ∷ b ∷ after → is_leg tables a b ≡ true →
       HasLeg (part.Lone tap ∷ parts) before a b
-  behind [] after a b e k = cc
-  behind (x ∷ before) after a b e k =
+  beyond [] after a b e k = cc
+  beyond (x ∷ before) after a b e k =
       let there = rest.each_leg before after a b (cc) k in
       (part.Lone tap ∷ there.0, there.1, cc (there.2), cc (there.3))
 
 no_taps : (tables : FareTables) → AreParts tables [] []
-no_taps tables = record { each_tap = refl; each_part = All-nil (IsPart tables); each_leg = behind } where
-  behind : (before after : List Touch) (a b : Touch) → [] ≡ before ++ a ∷ b ∷ after → is_leg tables a b ≡ true → HasLeg [] before a b
-  behind [] after a b e k = cc
-  behind (x ∷ before) after a b e k = cc
+no_taps tables = record { each_tap = refl; each_part = All-nil (IsPart tables); each_leg = beyond } where
+  beyond : (before after : List Touch) (a b : Touch) → [] ≡ before ++ a ∷ b ∷ after → is_leg tables a b ≡ true → HasLeg [] before a b
+  beyond [] after a b e k = cc
+  beyond (x ∷ before) after a b e k = cc
 
 one_tap : (tables : FareTables) (tap : Touch) → AreParts tables (tap ∷ []) (part.Lone tap ∷ [])
-one_tap tables tap = record { each_tap = refl; each_part = All-cons (IsPart tables) (part.Lone tap) [] tt (All-nil (IsPart tables)); each_leg = behind } where
-  behind : (before after : List Touch) (a b : Touch) → tap ∷ [] ≡ before ++ a ∷ b ∷ after → is_leg tables a b ≡ true → HasLeg (part.Lone tap ∷ []) before a b
-  behind [] after a b e k = cc
-  behind (x ∷ []) after a b e k = cc
-  behind (x ∷ y ∷ before) after a b e k = cc
+one_tap tables tap = record { each_tap = refl; each_part = All-cons (IsPart tables) (part.Lone tap) [] tt (All-nil (IsPart tables)); each_leg = beyond } where
+  beyond : (before after : List Touch) (a b : Touch) → tap ∷ [] ≡ before ++ a ∷ b ∷ after → is_leg tables a b ≡ true → HasLeg (part.Lone tap ∷ []) before a b
+  beyond [] after a b e k = cc
+  beyond (x ∷ []) after a b e k = cc
+  beyond (x ∷ y ∷ before) after a b e k = cc
 
 -- the same by whether the first two are a leg
 by_first_two : (tables : FareTables) (tap next : Touch) (later : List Touch) (together : Bool) → is_leg tables tap next ≡ together →
@@ -99,7 +99,7 @@ are_parts tables taps parts e = rw e (legs_are_parts tables taps)
 
 -- ---- and there is no other
 
--- a leg behind a first part stands among the others
+-- a leg after a first part stands among the others
 among_others : (p : RailPart) (parts : List RailPart) (before : List Touch) (entry exit : Touch) →
     HasLeg (p ∷ parts) (taps_of_part p ++ before) entry exit → HasLeg parts before entry exit
 among_others (part.Lone tap) parts before entry exit ([], back, e, f) = cc
@@ -109,7 +109,7 @@ among_others (part.Leg l) parts before entry exit (part.Lone other ∷ front, ba
 among_others (part.Lone tap) parts before entry exit (part.Lone other ∷ front, back, e, f) = (front, back, cc, cc)
 among_others (part.Leg l) parts before entry exit (part.Leg other ∷ front, back, e, f) = (front, back, cc, cc)
 
--- the parts behind a first one are a parting of their taps
+-- the parts after a first one are a parting of their taps
 rest_are : (tables : FareTables) (p : RailPart) (parts : List RailPart) (taps rest : List Touch) →
     AreParts tables taps (p ∷ parts) → taps_of parts ≡ rest → AreParts tables rest parts
 rest_are tables p parts taps rest h r = record {

@@ -10,8 +10,8 @@ use Rattle.pay_rules.specs.declared.post_fault.PostFault.{PostFault}
 use Rattle.pay_rules.specs.declared.post_fault.PostFault.TheVariants.{ArchiveConflict}
 use Rattle.pay_postings.specs.Faults.{◌>>=◌}
 use Rattle.pay_postings.specs.Archive.{archived_beside, archived_each}
-use Rattle.pay_postings.specs.NewRows.{unless_other, is_new_beside, with_new, new_behind}
-use Rattle.pay_postings.proofs.Postings.{behind}
+use Rattle.pay_postings.specs.NewRows.{unless_other, is_new_beside, with_new, new_after}
+use Rattle.pay_postings.proofs.Postings.{beyond}
 
 pub all_more : {X : Type 0} (P : X → Type 0) (list : List X) (x : X) → AllByRecursion P list → P x → AllByRecursion P (list ++ x ∷ [])
 all_more P [] x all one = (one, tt)
@@ -116,13 +116,13 @@ module _ {X R : Type 0} (row : X → R) (account : X → ℕ) (numbered : X → 
   off_more x new (y ∷ xs) is off apart = (all_new (λ z. at (row y) (row z) ≡ false) new x is off.0 apart.0, off_more x new xs is off.1 apart.1)
 
   by_new : (rows : List R) (list new xs : List X) (x : X) (first : Result Bool PostFault)
-      → ((is : Bool) → archived_each archived (list ++ with_new is x new) xs ≡ (new_behind (is_new rows) (with_new is x new) xs >>= (λ n. Ok (list ++ n))))
-      → ((first >>= (λ is. Ok (with_new is x (list ++ new)))) >>= (λ now. archived_each archived now xs)) ≡ ((first >>= (λ is. new_behind (is_new rows) (with_new is x new) xs)) >>= (λ n. Ok (list ++ n)))
+      → ((is : Bool) → archived_each archived (list ++ with_new is x new) xs ≡ (new_after (is_new rows) (with_new is x new) xs >>= (λ n. Ok (list ++ n))))
+      → ((first >>= (λ is. Ok (with_new is x (list ++ new)))) >>= (λ now. archived_each archived now xs)) ≡ ((first >>= (λ is. new_after (is_new rows) (with_new is x new) xs)) >>= (λ n. Ok (list ++ n)))
   by_new rows list new xs x (Err f) more = refl
-  by_new rows list new xs x (Ok is) more = ap (λ l. archived_each archived l xs) (sym (behind list new is x)) ∙ more is
+  by_new rows list new xs x (Ok is) more = ap (λ l. archived_each archived l xs) (sym (beyond list new is x)) ∙ more is
 
-  -- some of an account, each number once, behind a list with what is new of it already
-  pub each_archived : (a : ℕ) (list new xs : List X) → AreOf a new → AreOf a xs → AreOff new xs → AreApart (λ x y. at (row x) (row y)) xs → archived_each archived (list ++ new) xs ≡ (new_behind (is_new (rows_of a list)) new xs >>= (λ n. Ok (list ++ n)))
+  -- some of an account, each number once, after a list with what is new of it already
+  pub each_archived : (a : ℕ) (list new xs : List X) → AreOf a new → AreOf a xs → AreOff new xs → AreApart (λ x y. at (row x) (row y)) xs → archived_each archived (list ++ new) xs ≡ (new_after (is_new (rows_of a list)) new xs >>= (λ n. Ok (list ++ n)))
   each_archived a list new [] of_new of off apart = refl
   each_archived a list new (x ∷ xs) of_new of off apart =
       ap (λ first. first >>= (λ now. archived_each archived now xs)) (one_archived x (list ++ new) ∙ ap (λ first. first >>= (λ is. Ok (with_new is x (list ++ new)))) (still_new a x list new of.0 of_new off.0))
@@ -132,15 +132,15 @@ module _ {X R : Type 0} (row : X → R) (account : X → ℕ) (numbered : X → 
   off_none [] = tt
   off_none (x ∷ xs) = (tt, off_none xs)
 
-  pub all_archived : (a : ℕ) (list xs : List X) (rows : List R) → rows ≡ rows_of a list → AreOf a xs → AreApart (λ x y. at (row x) (row y)) xs → archived_each archived list xs ≡ (new_behind (is_new rows) [] xs >>= (λ n. Ok (list ++ n)))
+  pub all_archived : (a : ℕ) (list xs : List X) (rows : List R) → rows ≡ rows_of a list → AreOf a xs → AreApart (λ x y. at (row x) (row y)) xs → archived_each archived list xs ≡ (new_after (is_new rows) [] xs >>= (λ n. Ok (list ++ n)))
   all_archived a list xs rows e of apart =
-      ap (λ l. archived_each archived l xs) (sym (append-nil list)) ∙ each_archived a list [] xs tt of (off_none xs) apart ∙ ap (λ r. new_behind (is_new r) [] xs >>= (λ n. Ok (list ++ n))) (sym e)
+      ap (λ l. archived_each archived l xs) (sym (append-nil list)) ∙ each_archived a list [] xs tt of (off_none xs) apart ∙ ap (λ r. new_after (is_new r) [] xs >>= (λ n. Ok (list ++ n))) (sym e)
 
 -- what is new of those of a kind is of the kind
-pub new_are : {X : Type 0} (P : X → Type 0) (is_new : X → Result Bool PostFault) (new xs n : List X) → AllByRecursion P new → AllByRecursion P xs → new_behind is_new new xs ≡ Ok n → AllByRecursion P n
+pub new_are : {X : Type 0} (P : X → Type 0) (is_new : X → Result Bool PostFault) (new xs n : List X) → AllByRecursion P new → AllByRecursion P xs → new_after is_new new xs ≡ Ok n → AllByRecursion P n
 new_are P is_new new [] n all_new all e = let same : new ≡ n = cc in subst (AllByRecursion P) same all_new
 new_are P is_new new (x ∷ xs) n before all e = by (is_new x) e (λ is. new_are P is_new (with_new is x new) xs n (all_new P new x is before all.0) all.1)
   where
-    by : (first : Result Bool PostFault) → (first >>= (λ is. new_behind is_new (with_new is x new) xs)) ≡ Ok n → ((is : Bool) → new_behind is_new (with_new is x new) xs ≡ Ok n → AllByRecursion P n) → AllByRecursion P n
+    by : (first : Result Bool PostFault) → (first >>= (λ is. new_after is_new (with_new is x new) xs)) ≡ Ok n → ((is : Bool) → new_after is_new (with_new is x new) xs ≡ Ok n → AllByRecursion P n) → AllByRecursion P n
     by (Err f) e more = absurd (cc)
     by (Ok is) e more = more is e

@@ -11,24 +11,24 @@ use Rattle.pay_rows.specs.declared.row.ShareRow.{ShareRow}
 use Rattle.pay_postings.specs.Amounts.{added}
 use Rattle.pay_postings.specs.Postings.{is_of, net, shares_posted}
 use Rattle.pay_set_rows.specs.Ranged.{◌>>=◌, ranged}
-use Rattle.pay_postings.specs.PostingRows.{is_money, is_share_row, is_natural, amounts_of, quote_behind, is_amount_behind, posting_behind, week_from_row, posting_from_row, with_rows, postings_from_rows}
+use Rattle.pay_postings.specs.PostingRows.{is_money, is_share_row, is_natural, amounts_of, quote_after, is_amount_after, posting_after, week_from_row, posting_from_row, with_rows, postings_from_rows}
 use Rattle.pay_postings.specs.NetRows.{with_amount_of, with_amounts_of, net_from_rows}
 use Rattle.pay_postings.proofs.Reading.{if_some, quotes_amounts, net_more, others_net}
 use Rattle.pay_postings.proofs.Sets.{int_itself, pos_is}
 
--- a row says a posting behind others
+-- a row says a posting after others
 record Says (account week : ℕ) (before : List Posting) (row : PostingRow) (p : Posting) : Type 0 where
   of_account : p.quote.account ≡ account
   of_week : p.quote.week ≡ week
   amount : p.amount ≡ row.amount
-  money : is_amount_behind account week before row.amount ≡ true
+  money : is_amount_after account week before row.amount ≡ true
 
-said_by : (account week : ℕ) (before : List Posting) (amounts : List ℤ) (row : PostingRow) (p : Posting) (quote : Option QuoteParts) → quote_behind account week before amounts row ≡ quote
-    → (quote >>= (λ q. if is_amount_behind account week before row.amount then Some (record { quote = q; amount = row.amount; share_amounts = amounts }) else None)) ≡ Some p → Says account week before row p
+said_by : (account week : ℕ) (before : List Posting) (amounts : List ℤ) (row : PostingRow) (p : Posting) (quote : Option QuoteParts) → quote_after account week before amounts row ≡ quote
+    → (quote >>= (λ q. if is_amount_after account week before row.amount then Some (record { quote = q; amount = row.amount; share_amounts = amounts }) else None)) ≡ Some p → Says account week before row p
 said_by account week before amounts row p None is e = absurd (cc)
 said_by account week before amounts row p (Some q) is e =
     let given : Posting = record { quote = q; amount = row.amount; share_amounts = amounts } in
-    let one = if_some (is_amount_behind account week before row.amount) given p e in
+    let one = if_some (is_amount_after account week before row.amount) given p e in
     let sum = added (shares_posted account week before) amounts in
     let parts = (quotes_amounts account week row sum q (list_all is_natural sum) refl is).0 in
     record {
@@ -48,10 +48,10 @@ record SaysOf (account : ℕ) (before : List Posting) (row : PostingRow) (p : Po
   says : Says account p.quote.week before row p
 
 says_of : (account : ℕ) (shares : List ShareRow) (before : List Posting) (id : ℤ) (row : PostingRow) (p : Posting) (week : Option ℕ) → week_from_row row ≡ week
-    → (week >>= (λ w. posting_behind account w before (amounts_of shares id) row)) ≡ Some p → SaysOf account before row p
+    → (week >>= (λ w. posting_after account w before (amounts_of shares id) row)) ≡ Some p → SaysOf account before row p
 says_of account shares before id row p None is e = absurd (cc)
 says_of account shares before id row p (Some w) is e =
-    let said : Says account w before row p = said_by account w before (amounts_of shares id) row p (quote_behind account w before (amounts_of shares id) row) refl e in
+    let said : Says account w before row p = said_by account w before (amounts_of shares id) row p (quote_after account w before (amounts_of shares id) row) refl e in
     record {
       week_is = of_range FIRST_DAY LAST_DAY row.week w is ∙ ap pos (sym said.of_week);
       says = subst (λ (n : ℕ). Says account n before row p) (sym said.of_week) said;
@@ -62,7 +62,7 @@ one_more : (account week : ℕ) (before : List Posting) (row : PostingRow) (p : 
 one_more account week before row p true e of =
     let same : p.quote.week ≡ week = eqb-true _ _ e in
     let here : int_eq row.week (pos week) ≡ true = ap (λ (n : ℤ). int_eq n (pos week)) (of.week_is ∙ ap pos same) ∙ int_itself (pos week) in
-    let money : (is_money row.amount && is_money (net account week before +ℤ row.amount)) ≡ true = subst (λ (n : ℕ). is_amount_behind account n before row.amount ≡ true) same of.says.money in
+    let money : (is_money row.amount && is_money (net account week before +ℤ row.amount)) ≡ true = subst (λ (n : ℕ). is_amount_after account n before row.amount ≡ true) same of.says.money in
     let its : is_of account week p ≡ true = ap (λ (k : ℕ). k == account && p.quote.week == week) of.says.of_account ∙ (λ i. eq-eqb account account refl i && e i) in
     let sum : net account week (before ++ p ∷ []) ≡ net account week before +ℤ row.amount = net_more account week before p its ∙ ap (λ (n : ℤ). net account week before +ℤ n) of.says.amount in
     ap (λ (b : Bool). if b then (if is_money row.amount && is_money (net account week before +ℤ row.amount) then Some (net account week before +ℤ row.amount) else None) else Some (net account week before)) here

@@ -11,7 +11,7 @@ use Rattle.pay_rules.specs.declared.post_fault.PostFault.TheVariants.{BadArchive
 use Rattle.pay_postings.specs.Faults.{◌>>=◌}
 use Rattle.pay_postings.specs.Postings.{is_stale, is_again, is_as_due, last_of, post, posted_anew, posted_after}
 use Rattle.pay_set_rows.specs.SetRows.{tap_row, fix_row}
-use Rattle.pay_postings.specs.NewRows.{is_tap_at, is_tap_row, is_fix_at, is_fix_row, unless_other, is_new_beside, is_new_tap, is_new_fix, with_new, new_behind, new_taps, new_fixes}
+use Rattle.pay_postings.specs.NewRows.{is_tap_at, is_tap_row, is_fix_at, is_fix_row, unless_other, is_new_beside, is_new_tap, is_new_fix, with_new, new_after, new_taps, new_fixes}
 
 pub post_never_bad : (list : List Posting) (quote : QuoteParts) → post list quote ≡ Err BadArchive → ⊥
 post_never_bad list quote e = go (last_of quote.account quote.week list) e
@@ -37,12 +37,12 @@ beside_never_bad same row (Some there) e = go (same row there) e
     go true e = cc
     go false e = cc
 
-new_never_bad : {X : Type 0} (is_new : X → Result Bool PostFault) → ((x : X) → is_new x ≡ Err BadArchive → ⊥) → (list more : List X) → new_behind is_new list more ≡ Err BadArchive → ⊥
+new_never_bad : {X : Type 0} (is_new : X → Result Bool PostFault) → ((x : X) → is_new x ≡ Err BadArchive → ⊥) → (list more : List X) → new_after is_new list more ≡ Err BadArchive → ⊥
 new_never_bad is_new never list [] e = cc
 new_never_bad is_new never list (x ∷ more) e = go (is_new x) (never x) (λ is. new_never_bad is_new never (with_new is x list) more) e
   where
-    go : (first : Result Bool PostFault) → (first ≡ Err BadArchive → ⊥) → ((is : Bool) → new_behind is_new (with_new is x list) more ≡ Err BadArchive → ⊥)
-        → (first >>= (λ is. new_behind is_new (with_new is x list) more)) ≡ Err BadArchive → ⊥
+    go : (first : Result Bool PostFault) → (first ≡ Err BadArchive → ⊥) → ((is : Bool) → new_after is_new (with_new is x list) more ≡ Err BadArchive → ⊥)
+        → (first >>= (λ is. new_after is_new (with_new is x list) more)) ≡ Err BadArchive → ⊥
     go (Ok is) first rest e = rest is e
     go (Err why) first rest e = let bad : why ≡ BadArchive = cc in first (ap Err bad)
 

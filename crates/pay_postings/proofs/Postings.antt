@@ -140,11 +140,11 @@ refused list rows quote why own e =
     post_told list quote ∙ ap (with_told list) (sym (told_own list quote) ∙ ap (λ (l : List Posting). told_of l quote) (sym own))
     ∙ still_refused list rows why (told_of rows quote) (sym (post_told rows quote) ∙ e)
 
--- ---- one more behind others
+-- ---- one more after others
 
-pub behind : {X : Type 0} (xs ys : List X) (b : Bool) (x : X) → xs ++ with_new b x ys ≡ with_new b x (xs ++ ys)
-behind xs ys true x = sym (append_assoc xs ys (x ∷ []))
-behind xs ys false x = refl
+pub beyond : {X : Type 0} (xs ys : List X) (b : Bool) (x : X) → xs ++ with_new b x ys ≡ with_new b x (xs ++ ys)
+beyond xs ys true x = sym (append_assoc xs ys (x ∷ []))
+beyond xs ys false x = refl
 
 pub own_more : {X : Type 0} (test : X → Bool) (list : List X) (x : X) (b : Bool) → (b ≡ true → test x ≡ true) → filter test (with_new b x list) ≡ with_new b x (filter test list)
 own_more test list x true is = filter-append test list (x ∷ []) ∙ ap (λ t. filter test list ++ cond t (x ∷ []) []) (is refl)

@@ -14,12 +14,12 @@ use Rattle.pay_rules.specs.declared.posting.Posting.{Posting}
 use Rattle.pay_rules.specs.QuoteParts.{QuoteParts, IsQuote}
 use Rattle.pay_postings.specs.Amounts.{added, no_amounts}
 use Rattle.pay_postings.specs.Postings.{is_of, with_amount, net, with_shares, shares_posted}
-use Rattle.pay_postings.specs.Kept.{EachStands, IsKept, AreKept}
+use Rattle.pay_postings.specs.Paid.{EachStands, IsPaid, ArePaid}
 use Rattle.pay_rows.specs.declared.row.PostingRow.{PostingRow}
 use Rattle.pay_rows.specs.declared.row.ShareRow.{ShareRow}
 use Rattle.pay_set_rows.specs.Ranged.{◌>>=◌}
-use Rattle.pay_postings.specs.PostingRows.{is_money, is_share_row, is_natural, amounts_of, naturals, quote_from_row, quote_behind, is_amount_behind, posting_behind, week_from_row, posting_from_row, with_rows, postings_from_rows, posting_row, share_row, share_rows_from, share_rows}
-use Rattle.pay_postings.specs.AccountRows.{is_of_account, of_account, rows_of, shares_of, RiseBehind}
+use Rattle.pay_postings.specs.PostingRows.{is_money, is_share_row, is_natural, amounts_of, naturals, quote_from_row, quote_after, is_amount_after, posting_after, week_from_row, posting_from_row, with_rows, postings_from_rows, posting_row, share_row, share_rows_from, share_rows}
+use Rattle.pay_postings.specs.AccountRows.{is_of_account, of_account, rows_of, shares_of, RiseAfter}
 use Rattle.pay_postings.proofs.Reading.{of_its_own, net_more, shares_more, others_net, others_shares, quote_of}
 use Rattle.pay_set_rows.proofs.SetsBack.{number_back}
 use Rattle.pay_postings.proofs.SharesBack.{HasAmounts, all_moved, amounts_back, numbered_rise, all_kept, rise_kept}
@@ -58,12 +58,12 @@ posting_back shares before id p is amounts sums due money =
     let row = posting_row p in
     let day = monday_is_day q.week q.through is.of_week.its_monday is.of_week.through_day in
     let week : week_from_row row ≡ Some q.week = number_back FIRST_DAY LAST_DAY q.week day.0 day.1 in
-    let quote : quote_behind q.account q.week before p.share_amounts row ≡ Some q =
+    let quote : quote_after q.account q.week before p.share_amounts row ≡ Some q =
     ap (λ (l : List ℤ). naturals l >>= quote_from_row q.account q.week row) sums ∙ ap (λ (o : Option (List ℕ)). o >>= quote_from_row q.account q.week row) (naturals_back q.shares) ∙ quote_back p is in
-    let amount : is_amount_behind q.account q.week before p.amount ≡ true = and_from _ _ money (ap is_money due ∙ le-leb q.due MOST_MONEY is.in_range) in
-    ap (λ (o : Option ℕ). o >>= (λ w. posting_behind q.account w before (amounts_of shares id) row)) week
-    ∙ ap (λ (l : List ℤ). posting_behind q.account q.week before l row) amounts
-    ∙ ap (λ (o : Option QuoteParts). o >>= (λ given. if is_amount_behind q.account q.week before p.amount then Some (record { quote = given; amount = p.amount; share_amounts = p.share_amounts }) else None)) quote
+    let amount : is_amount_after q.account q.week before p.amount ≡ true = and_from _ _ money (ap is_money due ∙ le-leb q.due MOST_MONEY is.in_range) in
+    ap (λ (o : Option ℕ). o >>= (λ w. posting_after q.account w before (amounts_of shares id) row)) week
+    ∙ ap (λ (l : List ℤ). posting_after q.account q.week before l row) amounts
+    ∙ ap (λ (o : Option QuoteParts). o >>= (λ given. if is_amount_after q.account q.week before p.amount then Some (record { quote = given; amount = p.amount; share_amounts = p.share_amounts }) else None)) quote
     ∙ ap (λ (b : Bool). if b then Some p else None) amount
 
 -- ---- what is posted is within the largest sum of money
@@ -91,11 +91,11 @@ shares_within quote is = each_of_sum quote.shares MOST_MONEY (omega (arith, is.s
 nothing_within : AllWithin []
 nothing_within account week = record { due = 0; parts = replicate 16 0; amount_is = refl; due_within = omega arith; shares_are = refl; each_within = each_of_sum (replicate 16 0) MOST_MONEY (omega arith) }
 
-kept_within : (p : Posting) (amount : ℤ) (shares : List ℤ) → IsKept p amount shares → IsWithin amount shares
+kept_within : (p : Posting) (amount : ℤ) (shares : List ℤ) → IsPaid p amount shares → IsWithin amount shares
 kept_within p amount shares kept = record { due = p.quote.due; parts = p.quote.shares; amount_is = kept.due; due_within = kept.quote.in_range; shares_are = kept.shared; each_within = shares_within p.quote kept.quote }
 
 abbrev Stands : List Posting → Posting → Type 0
-Stands list p = IsKept p (net p.quote.account p.quote.week (list ++ p ∷ [])) (shares_posted p.quote.account p.quote.week (list ++ p ∷ []))
+Stands list p = IsPaid p (net p.quote.account p.quote.week (list ++ p ∷ [])) (shares_posted p.quote.account p.quote.week (list ++ p ∷ []))
 
 within_by : (account week : ℕ) (list : List Posting) (p : Posting) (is : Bool) → is_of account week p ≡ is → AllWithin list → Stands list p → IsWithin (net account week (list ++ p ∷ [])) (shares_posted account week (list ++ p ∷ []))
 within_by account week list p false e all kept =
@@ -171,7 +171,7 @@ all_are_shares (n ∷ list) has money =
     list_all-append is_share_row (share_rows n.0 n.1) (flat_map (λ (m : ℤ × Posting). share_rows m.0 m.1) list)
     ∙ and_from _ _ (rows_are_shares n.0 1 n.1.share_amounts (omega arith) (omega (arith, has.0)) money.0) (all_are_shares list has.1 money.1)
 
-all_money : (done list : List Posting) → AllWithin done → EachStands IsKept done list → AllByRecursion HasAmounts list → AllByRecursion IsMoneyAll list
+all_money : (done list : List Posting) → AllWithin done → EachStands IsPaid done list → AllByRecursion HasAmounts list → AllByRecursion IsMoneyAll list
 all_money done [] within kept has = tt
 all_money done (p ∷ list) within kept has = ((adds done p within kept.0 has.0).shares_money, all_money (done ++ p ∷ []) list (within_more done p within kept.0) kept.1 has.1)
 
@@ -180,7 +180,7 @@ all_beside P [] list all = tt
 all_beside P (id ∷ ids) [] all = tt
 all_beside P (id ∷ ids) (p ∷ list) all = (all.0, all_beside P ids list all.1)
 
-all_have : (done list : List Posting) → EachStands IsKept done list → AllByRecursion HasAmounts list
+all_have : (done list : List Posting) → EachStands IsPaid done list → AllByRecursion HasAmounts list
 all_have done [] kept = tt
 all_have done (p ∷ list) kept = (kept.0.amounts, all_have (done ++ p ∷ []) list kept.1)
 
@@ -238,7 +238,7 @@ back_by account shares done before n others true e add is alike have further =
     ∙ further (before ++ n.1 ∷ []) (alike_both account done before n.1 alike) have.1
     ∙ ap Some (append_assoc before (n.1 ∷ []) (map second others))
 
-all_back : (account : ℕ) (shares : List ShareRow) (done before : List Posting) (list : List (ℤ × Posting)) → AllWithin done → EachStands IsKept done (map second list) → AllByRecursion (λ (n : ℤ × Posting). HasAmounts n.1) list
+all_back : (account : ℕ) (shares : List ShareRow) (done before : List Posting) (list : List (ℤ × Posting)) → AllWithin done → EachStands IsPaid done (map second list) → AllByRecursion (λ (n : ℤ × Posting). HasAmounts n.1) list
     → IsAlike account done before → HaveBack shares (filter (λ (n : ℤ × Posting). is_of_account account n.1) list)
     → AreBack account shares before (filter (λ (n : ℤ × Posting). is_of_account account n.1) list)
 all_back account shares done before [] within kept has alike have = ap Some (sym (append-nil before))
@@ -260,7 +260,7 @@ kept_seconds : (account : ℕ) (list : List (ℤ × Posting)) → map second (fi
 kept_seconds account [] = refl
 kept_seconds account (n ∷ list) = kept_by n (filter (λ (m : ℤ × Posting). is_of_account account m.1) list) (of_account account (map second list)) (is_of_account account n.1) (kept_seconds account list)
 
-pub postings_back : (account : ℕ) (low : ℤ) (ids : List ℤ) (list : List Posting) (shares : List ShareRow) → AreKept list → length ids ≡ length list → RiseBehind low ids
+pub postings_back : (account : ℕ) (low : ℤ) (ids : List ℤ) (list : List Posting) (shares : List ShareRow) → ArePaid list → length ids ≡ length list → RiseAfter low ids
     → IsPermutation (shares_of account ids list) shares → postings_from_rows account (rows_of account ids list) shares ≡ Some (of_account account list)
 postings_back account low ids list shares kept long rise moved =
     let test : ℤ × Posting → Bool = λ n. is_of_account account n.1 in
@@ -273,7 +273,7 @@ postings_back account low ids list shares kept long rise moved =
     let are : list_all is_share_row shares ≡ true = all_moved is_share_row (shares_of account ids list) shares moved ∙ all_are_shares (filter test beside) own_has own_money in
     let have = amounts_back shares (filter test beside) moved (rise_kept test beside (numbered_rise low ids list rise)) own_has in
     let alike : IsAlike account [] [] = record { nets = λ week. refl; shares = λ week. refl } in
-    let back = all_back account shares [] [] beside nothing_within (subst (EachStands IsKept []) (sym seen) kept) has_each alike have in
+    let back = all_back account shares [] [] beside nothing_within (subst (EachStands IsPaid []) (sym seen) kept) has_each alike have in
     ap (λ (b : Bool). if b then with_rows account shares [] (rows_of account ids list) else None) are
     ∙ back
     ∙ ap Some (kept_seconds account beside ∙ ap (of_account account) seen)

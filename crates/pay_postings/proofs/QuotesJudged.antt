@@ -143,9 +143,9 @@ fold_or : (account week : ℕ) (o : Option QuoteParts) (quotes : List QuoteParts
 fold_or account week o [] = refl
 fold_or account week o (quote ∷ quotes) = fold_by account week o quote quotes (is_quote_of account week quote) (fold_or account week (Some quote) quotes) (fold_or account week o quotes)
 
--- ---- quotes behind others
+-- ---- quotes after others
 
--- postings that are given in front of others, one, and those of quotes behind them
+-- postings that are given in front of others, one, and those of quotes after them
 abbrev given_front : List Posting → List Posting × List Posting → Answers
 given_front before o = Ok (before ++ o.0, o.1)
 
@@ -202,12 +202,12 @@ ok_through before (Ok f) is = refl
 ok_through before (Err why) is = absurd (cc)
 
 module _ (list : List Posting) (before later : List QuoteParts) (quote : QuoteParts) (g : List Posting × List Posting) (e : post_each list before ≡ Ok g) where
-  behind_front : (more : List QuoteParts) → post_each list (before ++ more) ≡ (post_each g.1 more >>= given_front g.0)
-  behind_front more = append_each list before more ∙ ap (λ (r : Answers). r >>= and_later more) e
+  after_front : (more : List QuoteParts) → post_each list (before ++ more) ≡ (post_each g.1 more >>= given_front g.0)
+  after_front more = append_each list before more ∙ ap (λ (r : Answers). r >>= and_later more) e
 
   next_judged : (o : Result Bool PostFault) → JudgedAs o (post g.1 quote) → MatchResult o (λ _. IsOk (post_each list (before ++ quote ∷ []))) (IsWhy (post_each list (before ++ quote ∷ later)))
-  next_judged (Ok is) judged = ap is_ok (behind_front (quote ∷ [])) ∙ ok_through g.0 (post g.1 quote) judged
-  next_judged (Err why) judged = (behind_front (quote ∷ later) ∙ ap (λ (r : Answer). (r >>= and_others later) >>= given_front g.0) judged.0, judged.1, judged.2)
+  next_judged (Ok is) judged = ap is_ok (after_front (quote ∷ [])) ∙ ok_through g.0 (post g.1 quote) judged
+  next_judged (Err why) judged = (after_front (quote ∷ later) ∙ ap (λ (r : Answer). (r >>= and_others later) >>= given_front g.0) judged.0, judged.1, judged.2)
 
 -- a quote is judged by the postings of its account, and by the quotes before it
 module _ (list rows : List Posting) (before later : List QuoteParts) (quote : QuoteParts) (own : rows ≡ of_account quote.account list) where

@@ -12,21 +12,21 @@ use Rattle.pay_rules.specs.declared.posting.Posting.{Posting}
 use Rattle.pay_rules.specs.QuoteParts.{QuoteParts, IsQuote}
 use Rattle.pay_postings.specs.Amounts.{added, no_amounts, IsMoney}
 use Rattle.pay_postings.specs.Postings.{is_quote_of, is_of, with_amount, net, with_shares, shares_posted}
-use Rattle.pay_postings.specs.Kept.{EachStands, IsRead, AreRead}
+use Rattle.pay_postings.specs.Paid.{EachStands, IsRead, AreRead}
 use Rattle.pay_rows.specs.declared.row.PostingRow.{PostingRow}
 use Rattle.pay_rows.specs.declared.row.ShareRow.{ShareRow}
 use Rattle.pay_set_rows.specs.Ranged.{◌>>=◌, ranged}
-use Rattle.pay_postings.specs.PostingRows.{is_natural, quote_from_row, quote_behind, is_amount_behind, posting_behind, week_from_row, amounts_of, posting_from_row}
+use Rattle.pay_postings.specs.PostingRows.{is_natural, quote_from_row, quote_after, is_amount_after, posting_after, week_from_row, amounts_of, posting_from_row}
 
--- ---- what stands behind postings
+-- ---- what stands after postings
 
 module _ (Stands : Posting → ℤ → List ℤ → Type 0) where
-  abbrev StandsBehind : Posting → List Posting → Type 0
-  StandsBehind p l = Stands p (net p.quote.account p.quote.week (l ++ p ∷ [])) (shares_posted p.quote.account p.quote.week (l ++ p ∷ []))
+  abbrev StandsAfter : Posting → List Posting → Type 0
+  StandsAfter p l = Stands p (net p.quote.account p.quote.week (l ++ p ∷ [])) (shares_posted p.quote.account p.quote.week (l ++ p ∷ []))
 
-  pub each_more : (before list : List Posting) (p : Posting) → EachStands Stands before list → StandsBehind p (before ++ list) → EachStands Stands before (list ++ p ∷ [])
-  each_more before [] p each one = (subst (StandsBehind p) (append-nil before) one, tt)
-  each_more before (q ∷ list) p each one = (each.0, each_more (before ++ q ∷ []) list p each.1 (subst (StandsBehind p) (sym (append_assoc before (q ∷ []) list)) one))
+  pub each_more : (before list : List Posting) (p : Posting) → EachStands Stands before list → StandsAfter p (before ++ list) → EachStands Stands before (list ++ p ∷ [])
+  each_more before [] p each one = (subst (StandsAfter p) (append-nil before) one, tt)
+  each_more before (q ∷ list) p each one = (each.0, each_more (before ++ q ∷ []) list p each.1 (subst (StandsAfter p) (sym (append_assoc before (q ∷ []) list)) one))
 
 pub of_its_own : (account week : ℕ) (quote : QuoteParts) → quote.account ≡ account → quote.week ≡ week → is_quote_of account week quote ≡ true
 of_its_own account week quote a w = and_from _ _ (eq-eqb quote.account account a) (eq-eqb quote.week week w)
@@ -93,13 +93,13 @@ quotes_amounts account week row amounts quote true is e =
     let q = quotes_row account week row (map unsigned_abs amounts) quote e in
     (q, sym (naturals_themselves amounts is) ∙ ap (map pos) (sym q.of_shares))
 
-pub read_behind : (account week : ℕ) (before : List Posting) (amounts : List ℤ) (row : PostingRow) (quote : QuoteParts) (amount : ℤ)
-    → AreRead before → IsQuote quote → amount ≡ row.amount → Some quote ≡ quote_behind account week before amounts row → is_amount_behind account week before row.amount ≡ true
+pub read_after : (account week : ℕ) (before : List Posting) (amounts : List ℤ) (row : PostingRow) (quote : QuoteParts) (amount : ℤ)
+    → AreRead before → IsQuote quote → amount ≡ row.amount → Some quote ≡ quote_after account week before amounts row → is_amount_after account week before row.amount ≡ true
     → AreRead (before ++ record { quote = quote; amount = amount; share_amounts = amounts } ∷ [])
-read_behind account week before amounts row quote amount read is e behind money =
+read_after account week before amounts row quote amount read is e beyond money =
     let p : Posting = record { quote = quote; amount = amount; share_amounts = amounts } in
     let sum = added (shares_posted account week before) amounts in
-    let posted = quotes_amounts account week row sum quote (list_all is_natural sum) refl (sym behind) in
+    let posted = quotes_amounts account week row sum quote (list_all is_natural sum) refl (sym beyond) in
     let q = posted.0 in
     let of = of_its_own quote.account quote.week quote refl refl in
     let sums : added (shares_posted quote.account quote.week before) amounts ≡ map pos quote.shares =
@@ -117,6 +117,6 @@ read_behind account week before amounts row quote amount read is e behind money 
     })
 
 pub from_week : (account week : ℕ) (shares : List ShareRow) (before : List Posting) (id : ℤ) (row : PostingRow) (amounts : List ℤ) (answer : Option Posting)
-    → Some week ≡ week_from_row row → amounts ≡ amounts_of shares id → answer ≡ posting_behind account week before amounts row → answer ≡ posting_from_row account shares before id row
+    → Some week ≡ week_from_row row → amounts ≡ amounts_of shares id → answer ≡ posting_after account week before amounts row → answer ≡ posting_from_row account shares before id row
 from_week account week shares before id row amounts answer named are is =
-    is ∙ ap (λ (a : List ℤ). posting_behind account week before a row) are ∙ ap (λ (w : Option ℕ). w >>= (λ (n : ℕ). posting_behind account n before (amounts_of shares id) row)) named
+    is ∙ ap (λ (a : List ℤ). posting_after account week before a row) are ∙ ap (λ (w : Option ℕ). w >>= (λ (n : ℕ). posting_after account n before (amounts_of shares id) row)) named

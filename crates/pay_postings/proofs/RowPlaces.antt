@@ -79,7 +79,7 @@ amounts_in_range shares number amounts n are all each =
     All-from_get_or IsMoney amounts (pos 0)
     (λ k below. subst IsMoney (sym (each k (omega (arith, below, all)))) (amount_in_range (find (is_share_of number (k + 1)) shares) (found_in_range shares (is_share_of number (k + 1)) are)))
 
--- nothing is left behind the last operator
+-- nothing is left after the last operator
 pub rows_are : (id number : ℤ) (place : ℕ) (amounts : List ℤ) (rows : List ShareRow) → number ≡ id → length amounts ≡ 16 → 16 ≤ place
     → rows ++ share_rows_from number (place + 1) (drop place amounts) ≡ share_rows_from number 1 amounts → rows ≡ share_rows_from id 1 amounts
 rows_are id number place amounts rows is long past e =

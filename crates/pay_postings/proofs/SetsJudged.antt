@@ -20,7 +20,7 @@ use Rattle.pay_rules.specs.declared.post_fault.PostFault.TheVariants.{ArchiveCon
 use Rattle.pay_postings.specs.Faults.{◌>>=◌}
 use Rattle.pay_postings.specs.Archive.{is_numbered_as, is_fix_numbered_as, archived_beside, archived_each, archived_tap, archived_fix, archived_set, archived_sets}
 use Rattle.pay_set_rows.specs.SetRows.{tap_row, fix_row}
-use Rattle.pay_postings.specs.NewRows.{is_tap_at, is_tap_row, is_fix_at, is_fix_row, unless_other, is_new_beside, with_new, new_behind}
+use Rattle.pay_postings.specs.NewRows.{is_tap_at, is_tap_row, is_fix_at, is_fix_row, unless_other, is_new_beside, with_new, new_after}
 use Rattle.pay_postings.specs.Postings.{post_each}
 use Rattle.pay_postings.specs.Ledger.{LedgerParts, posted}
 use Rattle.pay_postings.specs.Archived.{ArchivedParts}
@@ -110,12 +110,12 @@ by_other same row (Some there) = by (same row there)
     by true = refl
     by false = refl
 
-each_judged : {X : Type 0} (is_new : X → Result Bool PostFault) (refused : X → Bool) (new xs : List X) → AllByRecursion (λ x. JudgedBy (is_new x) (refused x)) xs → JudgedBy (new_behind is_new new xs) (list_any refused xs)
+each_judged : {X : Type 0} (is_new : X → Result Bool PostFault) (refused : X → Bool) (new xs : List X) → AllByRecursion (λ x. JudgedBy (is_new x) (refused x)) xs → JudgedBy (new_after is_new new xs) (list_any refused xs)
 each_judged is_new refused new [] all = refl
 each_judged is_new refused new (x ∷ xs) all = by (is_new x) (refused x) all.0 (λ is. each_judged is_new refused (with_new is x new) xs all.1)
   where
-    by : (first : Result Bool PostFault) (b : Bool) → JudgedBy first b → ((is : Bool) → JudgedBy (new_behind is_new (with_new is x new) xs) (list_any refused xs)) → JudgedBy (first >>= (λ is. new_behind is_new (with_new is x new) xs)) (b || list_any refused xs)
-    by first true one more = ap (λ (r : Result Bool PostFault). r >>= (λ is. new_behind is_new (with_new is x new) xs)) one
+    by : (first : Result Bool PostFault) (b : Bool) → JudgedBy first b → ((is : Bool) → JudgedBy (new_after is_new (with_new is x new) xs) (list_any refused xs)) → JudgedBy (first >>= (λ is. new_after is_new (with_new is x new) xs)) (b || list_any refused xs)
+    by first true one more = ap (λ (r : Result Bool PostFault). r >>= (λ is. new_after is_new (with_new is x new) xs)) one
     by (Ok is) false one more = more is
     by (Err why) false one more = absurd (cc)
 
@@ -156,7 +156,7 @@ module _ {X R : Type 0} (row : X → R) (account : X → ℕ) (numbered : X → 
       (λ x is. subst (λ (o : Option R). JudgedBy (is_new_beside same_rows (row x) o) (refused x)) (sym (same_there a x list now more rows is own (found x)))
       (by_other same_rows (row x) (option_or (find (at (row x)) rows) (option_map row (find (numbered x) more))))) xs of in
       subst (λ (r : Result (List X) PostFault). JudgedBy r (list_any refused xs)) (sym (all_archived row account numbered at same_rows same own_number other_number same_content a now xs (rows_at a now) refl of apart))
-      (through (λ (n : List X). now ++ n) (new_behind is_new [] xs) (list_any refused xs) (each_judged is_new refused [] xs each))
+      (through (λ (n : List X). now ++ n) (new_after is_new [] xs) (list_any refused xs) (each_judged is_new refused [] xs each))
 
 -- ---- taps and corrections
 
@@ -217,7 +217,7 @@ sets_found archive now (set ∷ sets) e = by (archived_each archived_tap archive
           at_fixes = λ fix. found_on (is_fix_numbered_as fix) archive.1 fixes now.1 set.fixes (fixes_in sets) (all_found is_fix_numbered_as same_fix fix_alike fix archive.1 set.fixes fixes f) (rest.at_fixes fix);
         }
 
--- ---- a set behind others
+-- ---- a set after others
 
 abbrev with_fixes : List Tap → List Fix → Result Archives PostFault
 with_fixes t f = Ok (t, f)

@@ -19,7 +19,7 @@ use Rattle.pay_rules.specs.declared.post_fault.PostFault.TheVariants as fault
 use Rattle.pay_postings.specs.Faults.{◌>>=◌}
 use Rattle.pay_postings.specs.Amounts.{total, no_amounts, added, less, IsMoney}
 use Rattle.pay_postings.specs.Postings.{is_quote_of, is_of, with_amount, net, with_shares, shares_posted, later_of, last_of, posting_of, is_stale, is_again, is_as_due, posted_anew, posted_again, posted_after, post, post_each, later_quote_of, last_quote_of}
-use Rattle.pay_postings.specs.Kept.{EachStands, IsKept, AreKept, IsRead, AreRead}
+use Rattle.pay_postings.specs.Paid.{EachStands, IsPaid, ArePaid, IsRead, AreRead}
 use Rattle.pay_postings.specs.Archive.{archived_sets}
 use Rattle.pay_postings.specs.Ledger.{LedgerParts, posted}
 
@@ -124,7 +124,7 @@ module _ (Stands : Posting → ℤ → List ℤ → Type 0) where
 shares_long : (posting : Posting) (amount : ℤ) (shares : List ℤ) → IsQuote posting.quote → shares ≡ map pos posting.quote.shares → length shares ≡ OPERATORS
 shares_long posting amount shares is e = ap length e ∙ length_of_shares posting.quote.shares ∙ is.operators
 
-kept_long : (last : Option Posting) (amount : ℤ) (shares : List ℤ) → Settled IsKept last amount shares → length shares ≡ OPERATORS
+kept_long : (last : Option Posting) (amount : ℤ) (shares : List ℤ) → Settled IsPaid last amount shares → length shares ≡ OPERATORS
 kept_long None amount shares settled = ap length settled.1
 kept_long (Some last) amount shares settled = shares_long last amount shares settled.quote settled.shared
 
@@ -147,7 +147,7 @@ front_is_money account week list n read = net_is_money account week (take n list
 
 -- what a posting leaves: for its quote as much is posted as is due, and nothing is changed elsewhere
 pub record Comes (list : List Posting) (quote : QuoteParts) (after : List Posting) : Type 0 where
-  pub kept : AreKept after
+  pub kept : ArePaid after
   pub due : net quote.account quote.week after ≡ pos quote.due
   pub shares : shares_posted quote.account quote.week after ≡ map pos quote.shares
   pub net_elsewhere : (account week : ℕ) → is_quote_of account week quote ≡ false → net account week after ≡ net account week list
@@ -170,12 +170,12 @@ shares_anew list quote long =
     let s = shares_posted quote.account quote.week list in
     shares_more quote.account quote.week list p ∙ ap (λ (b : Bool). if b then added s p.share_amounts else s) (of_its_own quote) ∙ added_less s quote.shares long
 
-anew : (list : List Posting) (quote : QuoteParts) → AreKept list → IsQuote quote → Comes list quote (list ++ posting_of list quote ∷ [])
+anew : (list : List Posting) (quote : QuoteParts) → ArePaid list → IsQuote quote → Comes list quote (list ++ posting_of list quote ∷ [])
 anew list quote kept is =
     let p = posting_of list quote in
-    let long : length (shares_posted quote.account quote.week list) ≡ length quote.shares = kept_long (last_of quote.account quote.week list) (net quote.account quote.week list) (shares_posted quote.account quote.week list) (settled_all IsKept quote.account quote.week list kept) ∙ sym is.operators in
+    let long : length (shares_posted quote.account quote.week list) ≡ length quote.shares = kept_long (last_of quote.account quote.week list) (net quote.account quote.week list) (shares_posted quote.account quote.week list) (settled_all IsPaid quote.account quote.week list kept) ∙ sym is.operators in
     record {
-      kept = each_more IsKept [] list p kept (record { quote = is; due = due_anew list quote; shared = shares_anew list quote long; amounts = less_long (shares_posted quote.account quote.week list) quote.shares long ∙ is.operators });
+      kept = each_more IsPaid [] list p kept (record { quote = is; due = due_anew list quote; shared = shares_anew list quote long; amounts = less_long (shares_posted quote.account quote.week list) quote.shares long ∙ is.operators });
       due = due_anew list quote;
       shares = shares_anew list quote long;
       net_elsewhere = λ a w e. net_more a w list p ∙ ap (λ (b : Bool). if b then net a w list +ℤ p.amount else net a w list) e;
@@ -187,11 +187,11 @@ read_more list quote read is =
     let long : length (shares_posted quote.account quote.week list) ≡ length quote.shares = read_long (last_of quote.account quote.week list) (net quote.account quote.week list) (shares_posted quote.account quote.week list) (settled_all IsRead quote.account quote.week list read) ∙ sym is.operators in
     each_more IsRead [] list (posting_of list quote) read (record { quote = is; money = subst IsMoney (sym (due_anew list quote)) is.in_range; shared = shares_anew list quote long })
 
-again : (list : List Posting) (quote : QuoteParts) (last : Posting) → AreKept list → last_of quote.account quote.week list ≡ Some last → is_as_due quote last.quote ≡ true → Comes list quote list
+again : (list : List Posting) (quote : QuoteParts) (last : Posting) → ArePaid list → last_of quote.account quote.week list ≡ Some last → is_as_due quote last.quote ≡ true → Comes list quote list
 again list quote last kept is same =
     let parts = and_parts _ _ same in
-    let settled : IsKept last (net quote.account quote.week list) (shares_posted quote.account quote.week list) =
-    subst (λ (o : Option Posting). Settled IsKept o (net quote.account quote.week list) (shares_posted quote.account quote.week list)) is (settled_all IsKept quote.account quote.week list kept) in
+    let settled : IsPaid last (net quote.account quote.week list) (shares_posted quote.account quote.week list) =
+    subst (λ (o : Option Posting). Settled IsPaid o (net quote.account quote.week list) (shares_posted quote.account quote.week list)) is (settled_all IsPaid quote.account quote.week list kept) in
     let as_due : quote.due ≡ last.quote.due = eqb-true _ _ parts.0 in
     let as_shared : quote.shares ≡ last.quote.shares = same_text _ _ (sym parts.1) in
     record {
@@ -207,22 +207,22 @@ given_as list after given quote there l comes e =
     let same : ◌≡◌ {A = Posting × List Posting} (there, l) (given, after) = cc in
     subst (Comes list quote) (ap (λ (p : Posting × List Posting). p.1) same) comes
 
-by_due : (list after : List Posting) (given : Posting) (quote : QuoteParts) (last : Posting) (same : Bool) → is_as_due quote last.quote ≡ same → AreKept list → last_of quote.account quote.week list ≡ Some last
+by_due : (list after : List Posting) (given : Posting) (quote : QuoteParts) (last : Posting) (same : Bool) → is_as_due quote last.quote ≡ same → ArePaid list → last_of quote.account quote.week list ≡ Some last
     → ◌≡◌ {A = Result (Posting × List Posting) PostFault} (if same then Ok (last, list) else Err fault.QuoteDiffers) (Ok (given, after)) → Comes list quote after
 by_due list after given quote last true s kept is e = given_as list after given quote last list (again list quote last kept is s) e
 by_due list after given quote last false s kept is e = absurd (cc)
 
-by_version : (list after : List Posting) (given : Posting) (quote : QuoteParts) (last : Posting) (stale same : Bool) → AreKept list → IsQuote quote → last_of quote.account quote.week list ≡ Some last
+by_version : (list after : List Posting) (given : Posting) (quote : QuoteParts) (last : Posting) (stale same : Bool) → ArePaid list → IsQuote quote → last_of quote.account quote.week list ≡ Some last
     → ◌≡◌ {A = Result (Posting × List Posting) PostFault} (if stale then Err (fault.StaleQuote last.quote.account last.quote.version last.quote.through) else if same then posted_again list quote last else posted_anew list quote) (Ok (given, after)) → Comes list quote after
 by_version list after given quote last true same kept is found e = absurd (cc)
 by_version list after given quote last false true kept is found e = by_due list after given quote last (is_as_due quote last.quote) refl kept found e
 by_version list after given quote last false false kept is found e = given_as list after given quote (posting_of list quote) (list ++ posting_of list quote ∷ []) (anew list quote kept is) e
 
-by_last : (list after : List Posting) (given : Posting) (quote : QuoteParts) (last : Option Posting) → AreKept list → IsQuote quote → last_of quote.account quote.week list ≡ last → posted_after list quote last ≡ Ok (given, after) → Comes list quote after
+by_last : (list after : List Posting) (given : Posting) (quote : QuoteParts) (last : Option Posting) → ArePaid list → IsQuote quote → last_of quote.account quote.week list ≡ last → posted_after list quote last ≡ Ok (given, after) → Comes list quote after
 by_last list after given quote None kept is found e = given_as list after given quote (posting_of list quote) (list ++ posting_of list quote ∷ []) (anew list quote kept is) e
 by_last list after given quote (Some last) kept is found e = by_version list after given quote last (is_stale quote last.quote) (is_again quote last.quote) kept is found e
 
-pub comes : (list after : List Posting) (given : Posting) (quote : QuoteParts) → AreKept list → IsQuote quote → post list quote ≡ Ok (given, after) → Comes list quote after
+pub comes : (list after : List Posting) (given : Posting) (quote : QuoteParts) → ArePaid list → IsQuote quote → post list quote ≡ Ok (given, after) → Comes list quote after
 comes list after given quote kept is e = by_last list after given quote (last_of quote.account quote.week list) kept is refl e
 
 -- ---- quotes posted one after another
@@ -246,7 +246,7 @@ with_quote account week last list quote after true e is comes before =
     (is, due, shares)
 
 pub record AllCome (account week : ℕ) (last : Option QuoteParts) (after : List Posting) : Type 0 where
-  pub kept : AreKept after
+  pub kept : ArePaid after
   pub as_quoted : AsQuoted account week last after
 
 -- what an answer of quotes leaves
@@ -265,7 +265,7 @@ leave_first : (account week : ℕ) (last : Option QuoteParts) (first : Result (P
 leave_first account week last (Ok first) quotes leave = leave_with account week last first.0 (post_each first.1 quotes) (leave first.1 first.0 refl)
 leave_first account week last (Err fault) quotes leave = tt
 
-each_leaves : (account week : ℕ) (last : Option QuoteParts) (list : List Posting) (quotes : List QuoteParts) → AreKept list → AsQuoted account week last list → AllByRecursion IsQuote quotes
+each_leaves : (account week : ℕ) (last : Option QuoteParts) (list : List Posting) (quotes : List QuoteParts) → ArePaid list → AsQuoted account week last list → AllByRecursion IsQuote quotes
     → Leave account week (fold (later_quote_of account week) last quotes) (post_each list quotes)
 each_leaves account week last list [] kept before are = record { kept = kept; as_quoted = before }
 each_leaves account week last list (quote ∷ quotes) kept before are =
@@ -290,12 +290,12 @@ of_answer account week last after given (Ok answer) (Ok archive) leave e =
     let same : ◌≡◌ {A = List Posting × LedgerParts} (answer.0, record { postings = answer.1; taps = archive.0; fixes = archive.1 }) (given, after) = cc in
     subst (AllCome account week last) (ap (λ (p : List Posting × LedgerParts). p.1.postings) same) leave
 
-pub ledger_leaves : (account week : ℕ) (ledger after : LedgerParts) (quotes : List QuoteParts) (sets : List SetsParts) (given : List Posting) → AreKept ledger.postings → AllByRecursion IsQuote quotes → posted ledger quotes sets ≡ Ok (given, after)
+pub ledger_leaves : (account week : ℕ) (ledger after : LedgerParts) (quotes : List QuoteParts) (sets : List SetsParts) (given : List Posting) → ArePaid ledger.postings → AllByRecursion IsQuote quotes → posted ledger quotes sets ≡ Ok (given, after)
     → AllCome account week (last_quote_of account week quotes) after.postings
 ledger_leaves account week ledger after quotes sets given kept are e =
     of_answer account week (last_quote_of account week quotes) after given (post_each ledger.postings quotes) (archived_sets (ledger.taps, ledger.fixes) sets) (each_leaves account week None ledger.postings quotes kept tt are) e
 
-pub last_comes : (ledger after : LedgerParts) (quotes : List QuoteParts) (sets : List SetsParts) (given : List Posting) → AreKept ledger.postings → AllByRecursion IsQuote quotes → posted ledger quotes sets ≡ Ok (given, after)
+pub last_comes : (ledger after : LedgerParts) (quotes : List QuoteParts) (sets : List SetsParts) (given : List Posting) → ArePaid ledger.postings → AllByRecursion IsQuote quotes → posted ledger quotes sets ≡ Ok (given, after)
     → (quote : QuoteParts) → last_quote_of quote.account quote.week quotes ≡ Some quote → AsQuoted quote.account quote.week (Some quote) after.postings
 last_comes ledger after quotes sets given kept are e quote last =
     subst (λ (o : Option QuoteParts). AsQuoted quote.account quote.week o after.postings) last (ledger_leaves quote.account quote.week ledger after quotes sets given kept are e).as_quoted

@@ -12,7 +12,7 @@ use Rattle.pay_money.specs.declared.limits.TheConstants.{OPERATORS}
 use Rattle.pay_rules.specs.declared.posting.Posting.{Posting}
 use Rattle.pay_rows.specs.declared.row.ShareRow.{ShareRow}
 use Rattle.pay_postings.specs.PostingRows.{is_share_of, amount_or_none, amount_of, amounts_of, share_row, share_rows_from, share_rows}
-use Rattle.pay_postings.specs.AccountRows.{RiseBehind}
+use Rattle.pay_postings.specs.AccountRows.{RiseAfter}
 use Rattle.pay_postings.proofs.RowPlaces.{amounts_are}
 
 -- a posting has an amount for each operator
@@ -191,16 +191,16 @@ amounts_among id amounts before after shares long moved front back =
 abbrev rows_beside : ℤ × Posting → List ShareRow
 rows_beside n = share_rows n.0 n.1
 
--- each number is less than those of all behind it
+-- each number is less than those of all after it
 abbrev pub Rise : List (ℤ × Posting) → Type 0
 Rise [] = Unit {0}
 Rise (n ∷ rest) = AllByRecursion (λ (m : ℤ × Posting). n.0 <ℤ m.0) rest × Rise rest
 
-apart_behind : (id : ℤ) (rest : List (ℤ × Posting)) → AllByRecursion (λ (m : ℤ × Posting). id <ℤ m.0) rest → AreApart (flat_map rows_beside rest) id
-apart_behind id [] above operator = refl
-apart_behind id (m ∷ rest) above operator =
+apart_after : (id : ℤ) (rest : List (ℤ × Posting)) → AllByRecursion (λ (m : ℤ × Posting). id <ℤ m.0) rest → AreApart (flat_map rows_beside rest) id
+apart_after id [] above operator = refl
+apart_after id (m ∷ rest) above operator =
     list_all-append (is_none_of id operator) (rows_beside m) (flat_map rows_beside rest)
-    ∙ and_from _ _ (none_in_rows id operator m.0 1 m.1.share_amounts (λ n h. first_false _ _ (above_apart m.0 id above.0))) (apart_behind id rest above.1 operator)
+    ∙ and_from _ _ (none_in_rows id operator m.0 1 m.1.share_amounts (λ n h. first_false _ _ (above_apart m.0 id above.0))) (apart_after id rest above.1 operator)
 
 apart_with : (before : List ShareRow) (n : ℤ × Posting) (rest : List (ℤ × Posting)) → AllByRecursion (λ (m : ℤ × Posting). AreApart before m.0) rest → AllByRecursion (λ (m : ℤ × Posting). n.0 <ℤ m.0) rest
     → AllByRecursion (λ (m : ℤ × Posting). AreApart (before ++ rows_beside n) m.0) rest
@@ -215,7 +215,7 @@ each_amounts : (shares before : List ShareRow) (rest : List (ℤ × Posting)) �
     → AllByRecursion (λ (m : ℤ × Posting). HasAmounts m.1) rest → AllByRecursion (λ (m : ℤ × Posting). amounts_of shares m.0 ≡ m.1.share_amounts) rest
 each_amounts shares before [] moved apart rise has = tt
 each_amounts shares before (n ∷ rest) moved apart rise has = (
-  amounts_among n.0 n.1.share_amounts before (flat_map rows_beside rest) shares has.0 moved apart.0 (apart_behind n.0 rest rise.0),
+  amounts_among n.0 n.1.share_amounts before (flat_map rows_beside rest) shares has.0 moved apart.0 (apart_after n.0 rest rise.0),
   each_amounts shares (before ++ rows_beside n) rest (subst (λ (l : List ShareRow). IsPermutation l shares) (sym (append_assoc before (rows_beside n) (flat_map rows_beside rest))) moved)
       (apart_with before n rest apart.1 rise.0) rise.1 has.1,
 )
@@ -234,12 +234,12 @@ weaker : (low id : ℤ) (list : List (ℤ × Posting)) → low <ℤ id → AllBy
 weaker low id [] h above = tt
 weaker low id (m ∷ list) h above = (omega (arith, ints, h, above.0), weaker low id list h above.1)
 
-all_above : (low : ℤ) (ids : List ℤ) (list : List Posting) → RiseBehind low ids → AllByRecursion (λ (m : ℤ × Posting). low <ℤ m.0) (zip ids list)
+all_above : (low : ℤ) (ids : List ℤ) (list : List Posting) → RiseAfter low ids → AllByRecursion (λ (m : ℤ × Posting). low <ℤ m.0) (zip ids list)
 all_above low [] list rise = tt
 all_above low (id ∷ ids) [] rise = tt
 all_above low (id ∷ ids) (p ∷ list) rise = (rise.0, weaker low id (zip ids list) rise.0 (all_above id ids list rise.1))
 
-pub numbered_rise : (low : ℤ) (ids : List ℤ) (list : List Posting) → RiseBehind low ids → Rise (zip ids list)
+pub numbered_rise : (low : ℤ) (ids : List ℤ) (list : List Posting) → RiseAfter low ids → Rise (zip ids list)
 numbered_rise low [] list rise = tt
 numbered_rise low (id ∷ ids) [] rise = tt
 numbered_rise low (id ∷ ids) (p ∷ list) rise = (all_above id ids list rise.1, numbered_rise id ids list rise.1)

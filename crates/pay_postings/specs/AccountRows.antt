@@ -27,9 +27,9 @@ abbrev pub shares_of : ℕ → List ℤ → List Posting → List ShareRow
 shares_of account ids list = flat_map (λ n. share_rows n.0 n.1) (numbered_of account ids list)
 
 -- each number is greater than the one before it, the first one than a given number
-abbrev pub RiseBehind : ℤ → List ℤ → Type 0
-RiseBehind number [] = ⊤
-RiseBehind number (id ∷ ids) = (number <ℤ id) × RiseBehind id ids
+abbrev pub RiseAfter : ℤ → List ℤ → Type 0
+RiseAfter number [] = ⊤
+RiseAfter number (id ∷ ids) = (number <ℤ id) × RiseAfter id ids
 
 -- ---- worked rows
 

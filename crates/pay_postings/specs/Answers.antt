@@ -20,7 +20,7 @@ IsJudged (Ok None) list quote = post list quote ≡ posted_anew list quote
 IsJudged (Err Memory) list quote = IsOk (post list quote)
 IsJudged (Err fault) list quote = post list quote ≡ Err fault
 
--- the answer to a quote, with whether its posting is new and so stands behind those before, and all postings then; or why it is refused
+-- the answer to a quote, with whether its posting is new and so stands after those before, and all postings then; or why it is refused
 abbrev pub IsPostedNewOrKept : Result (Posting × Bool) PostFault → List Posting → List Posting → QuoteParts → Type 0
 IsPostedNewOrKept result old new quote =
     MatchResult result (λ answer. (post old quote ≡ Ok (answer.0, new)) × (new ≡ with_new answer.1 answer.0 old)) (λ fault. fault ≢ Memory → post old quote ≡ Err fault)

@@ -17,7 +17,7 @@ use Rattle.pay_postings.specs.NewRows.{with_new}
 use Rattle.pay_postings.specs.AccountRows.{of_account}
 use Rattle.pay_set_rows.specs.SetRows.{tap_row, fix_row}
 use Rattle.pay_postings.specs.Archived.{ArchivedParts, AccountsParts}
-use Rattle.pay_postings.specs.declared.batch.Batch.{Batch}
+use Rattle.pay_postings.specs.declared.batch.PostingBatch.{PostingBatch}
 
 -- the taps of an account, in order
 abbrev pub taps_of : ℕ → List Tap → List Tap
@@ -58,14 +58,14 @@ pub record BatchLists : Type 0 where
   pub taps : List Tap
   pub fixes : List Fix
 
-abbrev pub lists : Batch → BatchLists
+abbrev pub lists : PostingBatch → BatchLists
 lists batch = record { given = batch.given.items; postings = batch.postings.items; taps = batch.taps.items; fixes = batch.fixes.items }
 
--- the lists with a posting given behind, which is to be written too where it is new
+-- the lists with a posting given after, which is to be written too where it is new
 abbrev pub with_given : Bool → Posting → BatchLists → BatchLists
 with_given is_new given batch = record { given = batch.given ++ given ∷ []; postings = with_new is_new given batch.postings; taps = batch.taps; fixes = batch.fixes }
 
--- and with new taps and corrections behind
+-- and with new taps and corrections after
 abbrev pub with_new_of_set : List Tap → List Fix → BatchLists → BatchLists
 with_new_of_set taps fixes batch = record { given = batch.given; postings = batch.postings; taps = batch.taps ++ taps; fixes = batch.fixes ++ fixes }
 
@@ -79,34 +79,34 @@ IsRefusedAs answer fault = (fault ≢ Memory → answer ≡ Err fault) × (fault
 
 -- An answer is the batch of quotes and sets for a ledger: the ledger with it is what posting them makes of it, and the postings given
 -- are those of the quotes. Or it is why one of them is refused, or memory is wanting for what is posted.
-abbrev pub IsBatchFor : Result Batch PostFault → LedgerParts → List QuoteParts → List SetsParts → Type 0
+abbrev pub IsBatchFor : Result PostingBatch PostFault → LedgerParts → List QuoteParts → List SetsParts → Type 0
 IsBatchFor result ledger quotes sets =
     MatchResult result (λ batch. posted ledger quotes sets ≡ Ok (batch.given.items, with_batch ledger (lists batch))) (IsRefusedAs (posted ledger quotes sets))
 
--- quotes and sets posted behind a batch: its postings and theirs, and the ledger then
-abbrev pub posted_behind : LedgerParts → BatchLists → List QuoteParts → List SetsParts → Result (List Posting × LedgerParts) PostFault
-posted_behind ledger batch quotes sets = do
+-- quotes and sets posted after a batch: its postings and theirs, and the ledger then
+abbrev pub posted_after : LedgerParts → BatchLists → List QuoteParts → List SetsParts → Result (List Posting × LedgerParts) PostFault
+posted_after ledger batch quotes sets = do
   given ← post_each (ledger.postings ++ batch.postings) quotes
   archive ← archived_sets (ledger.taps ++ batch.taps, ledger.fixes ++ batch.fixes) sets
   Ok (batch.given ++ given.0, record { postings = given.1; taps = archive.0; fixes = archive.1 })
 
 -- accounts agree with the ledger and its batch as it is now, and the same ones are there
-pub record IsKept (ledger : LedgerParts) (old new : AccountsParts) (batch : BatchLists) : Type 0 where
+pub record StillAgrees (ledger : LedgerParts) (old new : AccountsParts) (batch : BatchLists) : Type 0 where
   pub agrees : Agrees new (with_batch ledger batch)
   pub same : AreThere old new
 
--- quotes were posted: what comes behind them comes behind the batch as it is now; or one of them is refused
+-- quotes were posted: what comes after them comes after the batch as it is now; or one of them is refused
 abbrev pub AreQuotesPosted : {U : Type 0} → Result U PostFault → AccountsParts → AccountsParts → BatchLists → BatchLists → List QuoteParts → Type 0
 AreQuotesPosted result old new before now quotes =
     (ledger : LedgerParts) → Agrees old (with_batch ledger before) → Covers old quotes []
     → MatchResult result
-    (λ _. IsKept ledger old new now × ((later : List QuoteParts) (sets : List SetsParts) → posted_behind ledger now later sets ≡ posted_behind ledger before (quotes ++ later) sets))
-    (λ fault. fault ≢ Memory → (later : List QuoteParts) (sets : List SetsParts) → posted_behind ledger before (quotes ++ later) sets ≡ Err fault)
+    (λ _. StillAgrees ledger old new now × ((later : List QuoteParts) (sets : List SetsParts) → posted_after ledger now later sets ≡ posted_after ledger before (quotes ++ later) sets))
+    (λ fault. fault ≢ Memory → (later : List QuoteParts) (sets : List SetsParts) → posted_after ledger before (quotes ++ later) sets ≡ Err fault)
 
--- and sets likewise, which come behind all quotes
+-- and sets likewise, which come after all quotes
 abbrev pub AreSetsPosted : {U : Type 0} → Result U PostFault → AccountsParts → AccountsParts → BatchLists → BatchLists → List SetsParts → Type 0
 AreSetsPosted result old new before now sets =
     (ledger : LedgerParts) → Agrees old (with_batch ledger before) → Covers old [] sets
     → MatchResult result
-    (λ _. IsKept ledger old new now × ((later : List SetsParts) → posted_behind ledger now [] later ≡ posted_behind ledger before [] (sets ++ later)))
-    (λ fault. fault ≢ Memory → (later : List SetsParts) → posted_behind ledger before [] (sets ++ later) ≡ Err fault)
+    (λ _. StillAgrees ledger old new now × ((later : List SetsParts) → posted_after ledger now [] later ≡ posted_after ledger before [] (sets ++ later)))
+    (λ fault. fault ≢ Memory → (later : List SetsParts) → posted_after ledger before [] (sets ++ later) ≡ Err fault)

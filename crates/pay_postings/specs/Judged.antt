@@ -36,12 +36,12 @@ last_quoted list quotes account week = option_or (last_quote_of account week quo
 -- ---- sets
 
 -- what stands at the number of a tap once sets were archived: the row that was there, or else the first tap of theirs
-abbrev pub tap_behind : List TapRow → List SetsParts → Tap → Option TapRow
-tap_behind rows sets tap = option_or (find (is_tap_at (tap_row tap)) rows) (option_map tap_row (find (is_numbered_as tap) (flat_map (λ (s : SetsParts). s.taps) sets)))
+abbrev pub tap_after : List TapRow → List SetsParts → Tap → Option TapRow
+tap_after rows sets tap = option_or (find (is_tap_at (tap_row tap)) rows) (option_map tap_row (find (is_numbered_as tap) (flat_map (λ (s : SetsParts). s.taps) sets)))
 
 -- and at that of a correction
-abbrev pub fix_behind : List FixRow → List SetsParts → Fix → Option FixRow
-fix_behind rows sets fix = option_or (find (is_fix_at (fix_row fix)) rows) (option_map fix_row (find (is_fix_numbered_as fix) (flat_map (λ (s : SetsParts). s.fixes) sets)))
+abbrev pub fix_after : List FixRow → List SetsParts → Fix → Option FixRow
+fix_after rows sets fix = option_or (find (is_fix_at (fix_row fix)) rows) (option_map fix_row (find (is_fix_numbered_as fix) (flat_map (λ (s : SetsParts). s.fixes) sets)))
 
 -- whether what stands there has other content
 abbrev pub is_other : {R : Type 0} → (R → R → Bool) → R → Option R → Bool
@@ -49,12 +49,12 @@ is_other same row None = false
 is_other same row (Some there) = not (same row there)
 
 abbrev pub is_tap_refused : List TapRow → List SetsParts → Tap → Bool
-is_tap_refused rows sets tap = is_other is_tap_row (tap_row tap) (tap_behind rows sets tap)
+is_tap_refused rows sets tap = is_other is_tap_row (tap_row tap) (tap_after rows sets tap)
 
 abbrev pub is_fix_refused : List FixRow → List SetsParts → Fix → Bool
-is_fix_refused rows sets fix = is_other is_fix_row (fix_row fix) (fix_behind rows sets fix)
+is_fix_refused rows sets fix = is_other is_fix_row (fix_row fix) (fix_after rows sets fix)
 
--- a set is refused behind others, by what is archived of its account
+-- a set is refused after others, by what is archived of its account
 abbrev pub is_set_refused : ArchivedParts → List SetsParts → SetsParts → Bool
 is_set_refused archived sets set = list_any (is_tap_refused archived.taps sets) set.taps || list_any (is_fix_refused archived.fixes sets) set.fixes
 
@@ -87,7 +87,7 @@ IsSetUpTo highest set = (set.account ≤ highest) × AreTapsOf set.account set.t
 abbrev pub AreSetsUpTo : ℕ → List SetsParts → Type 0
 AreSetsUpTo highest = AllByRecursion (IsSetUpTo highest)
 
--- the quote at a place is judged behind those before it
+-- the quote at a place is judged after those before it
 abbrev pub IsQuoteJudged : {U : Type 0} → Result U PostFault → AccountsParts → List QuoteParts → ℕ → ℕ → Type 0
 IsQuoteJudged result accounts quotes place highest =
     (ledger : LedgerParts) → Agrees accounts ledger → Covers accounts quotes [] → AreUpTo highest (take place quotes)

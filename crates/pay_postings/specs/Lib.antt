@@ -1,7 +1,7 @@
 pub mod Faults
 pub mod Amounts
 pub mod Postings
-pub mod Kept
+pub mod Paid
 pub mod Answers
 pub mod Archive
 pub mod Ledger

@@ -58,20 +58,20 @@ is_new_fix rows fix = is_new_beside is_fix_row (fix_row fix) (find (is_fix_at (f
 abbrev pub with_new : {X : Type 0} → Bool → X → List X → List X
 with_new is_new x list = if is_new then list ++ x ∷ [] else list
 
--- those that are new, behind some that are
-abbrev pub new_behind : {X : Type 0} → (X → Result Bool PostFault) → List X → List X → Result (List X) PostFault
-new_behind is_new list [] = Ok list
-new_behind is_new list (x ∷ more) = do
+-- those that are new, after some that are
+abbrev pub new_after : {X : Type 0} → (X → Result Bool PostFault) → List X → List X → Result (List X) PostFault
+new_after is_new list [] = Ok list
+new_after is_new list (x ∷ more) = do
   is ← is_new x
-  new_behind is_new (with_new is x list) more
+  new_after is_new (with_new is x list) more
 
 -- the taps that are to be written
 abbrev pub new_taps : List TapRow → List Tap → Result (List Tap) PostFault
-new_taps rows taps = new_behind (is_new_tap rows) [] taps
+new_taps rows taps = new_after (is_new_tap rows) [] taps
 
 -- the corrections that are to be written
 abbrev pub new_fixes : List FixRow → List Fix → Result (List Fix) PostFault
-new_fixes rows fixes = new_behind (is_new_fix rows) [] fixes
+new_fixes rows fixes = new_after (is_new_fix rows) [] fixes
 
 -- ---- worked rows
 

@@ -54,31 +54,31 @@ quote_from_row account week row shares = do
   due ← ranged 0 MOST_MONEY row.due
   if nat_le 1 account && week == monday through && sum shares == due then Some (record { account = account; week = week; through = through; version = version; due = due; shares = shares }) else None
 
--- the quote of a row, by its week and what of its posting fell to each operator, behind the postings before it
-abbrev pub quote_behind : ℕ → ℕ → List Posting → List ℤ → PostingRow → Option QuoteParts
-quote_behind account week before amounts row = naturals (added (shares_posted account week before) amounts) >>= quote_from_row account week row
+-- the quote of a row, by its week and what of its posting fell to each operator, after the postings before it
+abbrev pub quote_after : ℕ → ℕ → List Posting → List ℤ → PostingRow → Option QuoteParts
+quote_after account week before amounts row = naturals (added (shares_posted account week before) amounts) >>= quote_from_row account week row
 
 -- whether an amount is a sum of money, by itself and with those of its week before it
-abbrev pub is_amount_behind : ℕ → ℕ → List Posting → ℤ → Bool
-is_amount_behind account week before amount = is_money amount && is_money (net account week before +ℤ amount)
+abbrev pub is_amount_after : ℕ → ℕ → List Posting → ℤ → Bool
+is_amount_after account week before amount = is_money amount && is_money (net account week before +ℤ amount)
 
--- the posting of a row, by its week and what of it fell to each operator, behind those before it
-abbrev pub posting_behind : ℕ → ℕ → List Posting → List ℤ → PostingRow → Option Posting
-posting_behind account week before amounts row = do
-  quote ← quote_behind account week before amounts row
-  if is_amount_behind account week before row.amount then Some (record { quote = quote; amount = row.amount; share_amounts = amounts }) else None
+-- the posting of a row, by its week and what of it fell to each operator, after those before it
+abbrev pub posting_after : ℕ → ℕ → List Posting → List ℤ → PostingRow → Option Posting
+posting_after account week before amounts row = do
+  quote ← quote_after account week before amounts row
+  if is_amount_after account week before row.amount then Some (record { quote = quote; amount = row.amount; share_amounts = amounts }) else None
 
 -- the week of a row, if it is named by a service day
 abbrev pub week_from_row : PostingRow → Option ℕ
 week_from_row row = ranged FIRST_DAY LAST_DAY row.week
 
--- the posting of a row, behind those before it
+-- the posting of a row, after those before it
 abbrev pub posting_from_row : ℕ → List ShareRow → List Posting → ℤ → PostingRow → Option Posting
 posting_from_row account shares before id row = do
   week ← week_from_row row
-  posting_behind account week before (amounts_of shares id) row
+  posting_after account week before (amounts_of shares id) row
 
--- the postings of rows, one after another, behind those before them
+-- the postings of rows, one after another, after those before them
 abbrev pub with_rows : ℕ → List ShareRow → List Posting → List (ℤ × PostingRow) → Option (List Posting)
 with_rows account shares before [] = Some before
 with_rows account shares before (numbered ∷ rows) = do

@@ -10,7 +10,7 @@ ghost use Rattle.pay_postings.specs.Batches.{Agrees, Covers, AreThere, lists, Is
 ghost use Rattle.pay_postings.specs.Judged.{IsVerdict, IsQuoteJudged, IsSetJudged};
 
 use crate::archived::{Archived, post};
-use crate::batch::Batch;
+use crate::batch::PostingBatch;
 use crate::judging::{are_own, judge_quote, judge_set, looked_at};
 use crate::new_rows::{new_fixes, new_taps};
 use pay_rules::{PostFault, Quote, Sets};
@@ -20,11 +20,11 @@ use std::marker::Model;
 
 /// What a ledger has of some accounts. In a contract it is the finite map from their numbers.
 #[derive(Drop)]
-pub struct Accounts {
+pub struct LedgerAccounts {
     archived: BTreeMap<u32, Archived>,
 }
 
-impl Model for Accounts {
+impl Model for LedgerAccounts {
     ghost use Rattle.pay_postings.specs.Archived.{AccountsParts, accounts_code, accounts_of};
 
     ghost Value = { AccountsParts };
@@ -34,12 +34,12 @@ impl Model for Accounts {
     ghost view = { λ a. accounts_of a.archived.entries };
 }
 
-impl Accounts {
+impl LedgerAccounts {
     /// No accounts.
-    pub fn new(alloc: Global) -> Accounts
+    pub fn new(alloc: Global) -> LedgerAccounts
         ensures { result ≡ map.empty }
     {
-        Accounts {
+        LedgerAccounts {
             archived: BTreeMap::new(alloc),
         }
     }
@@ -77,7 +77,7 @@ impl Accounts {
         self.archived.remove(&account)
     }
 
-    /// Judges the quote at a place behind those before it, none of which is of an account above the highest. So those of its own
+    /// Judges the quote at a place after those before it, none of which is of an account above the highest. So those of its own
     /// are looked for only where there may be some.
     fn judge_quote(&self, quotes: &[Quote], place: usize, highest: u32) -> Result<bool, PostFault>
         requires { place < length quotes.now }
@@ -105,7 +105,7 @@ impl Accounts {
         Ok(())
     }
 
-    /// Judges the set at a place behind those before it, likewise.
+    /// Judges the set at a place after those before it, likewise.
     fn judge_set(&self, sets: &[Sets], place: usize, highest: u32) -> Result<(), PostFault>
         requires { place < length sets.now }
         ensures judged { IsSetJudged result self.now sets.now place highest }
@@ -145,8 +145,8 @@ impl Accounts {
         self.judge_sets(sets)
     }
 
-    /// Posts a quote behind a batch.
-    fn post_quote(&mut self, batch: &mut Batch, quote: &Quote) -> Result<(), PostFault>
+    /// Posts a quote after a batch.
+    fn post_quote(&mut self, batch: &mut PostingBatch, quote: &Quote) -> Result<(), PostFault>
         ensures posted { AreQuotesPosted result self.old self.new (lists batch.old) (lists batch.new) (quote.now ∷ []) }
         ensures same { OnOk result (AreThere self.old self.new) }
         ensures never_bad { Covers self.old (quote.now ∷ []) [] → result ≡ Err BadArchive → ⊥ }
@@ -160,8 +160,8 @@ impl Accounts {
         Ok(())
     }
 
-    /// Posts quotes behind a batch, one after another.
-    fn post_quotes(&mut self, batch: &mut Batch, quotes: &[Quote]) -> Result<(), PostFault>
+    /// Posts quotes after a batch, one after another.
+    fn post_quotes(&mut self, batch: &mut PostingBatch, quotes: &[Quote]) -> Result<(), PostFault>
         ensures posted { AreQuotesPosted result self.old self.new (lists batch.old) (lists batch.new) quotes.now }
         ensures same { OnOk result (AreThere self.old self.new) }
         ensures never_bad { Covers self.old quotes.now [] → result ≡ Err BadArchive → ⊥ }
@@ -172,8 +172,13 @@ impl Accounts {
         Ok(())
     }
 
-    /// Archives a set behind a batch.
-    fn archive_set(&mut self, alloc: Global, batch: &mut Batch, set: &Sets) -> Result<(), PostFault>
+    /// Archives a set after a batch.
+    fn archive_set(
+        &mut self,
+        alloc: Global,
+        batch: &mut PostingBatch,
+        set: &Sets,
+    ) -> Result<(), PostFault>
         ensures posted { AreSetsPosted result self.old self.new (lists batch.old) (lists batch.new) (set.now ∷ []) }
         ensures same { OnOk result (AreThere self.old self.new) }
         ensures never_bad { Covers self.old [] (set.now ∷ []) → result ≡ Err BadArchive → ⊥ }
@@ -190,11 +195,11 @@ impl Accounts {
         Ok(())
     }
 
-    /// Archives sets behind a batch, one after another.
+    /// Archives sets after a batch, one after another.
     fn archive_sets(
         &mut self,
         alloc: Global,
-        batch: &mut Batch,
+        batch: &mut PostingBatch,
         sets: &[Sets],
     ) -> Result<(), PostFault>
         ensures posted { AreSetsPosted result self.old self.new (lists batch.old) (lists batch.new) sets.now }
@@ -216,12 +221,12 @@ impl Accounts {
         alloc: Global,
         quotes: &[Quote],
         sets: &[Sets],
-    ) -> Result<Batch, PostFault>
+    ) -> Result<PostingBatch, PostFault>
         ensures batch { (ledger : LedgerParts) → Agrees self.old ledger → Covers self.old quotes.now sets.now → IsBatchFor result ledger quotes.now sets.now }
         ensures never_bad { Covers self.old quotes.now sets.now → result ≡ Err BadArchive → ⊥ }
     {
         self.judge(quotes, sets)?;
-        let mut batch = Batch::new(alloc);
+        let mut batch = PostingBatch::new(alloc);
         self.post_quotes(&mut batch, quotes)?;
         self.archive_sets(alloc, &mut batch, sets)?;
         Ok(batch)

@@ -6,7 +6,7 @@ use std::alloc::{AllocError, Global};
 
 /// What is to be written to a ledger, in order, and the posting that answers each quote.
 #[derive(Drop)]
-pub struct Batch {
+pub struct PostingBatch {
     /// The posting of each quote, which may be one that the ledger had.
     pub given: Vec<Posting>,
     /// The new postings.
@@ -17,12 +17,12 @@ pub struct Batch {
     pub fixes: Vec<Fix>,
 }
 
-impl Batch {
+impl PostingBatch {
     /// Nothing is to be written.
-    pub(crate) fn new(alloc: Global) -> Batch
+    pub(crate) fn new(alloc: Global) -> PostingBatch
         ensures { lists result ≡ record { given = []; postings = []; taps = []; fixes = [] } }
     {
-        Batch {
+        PostingBatch {
             given: Vec::new(alloc),
             postings: Vec::new(alloc),
             taps: Vec::new(alloc),

@@ -4,15 +4,15 @@ ghost use Rattle.std.specs.Prelude.{◌≡◌, List, [], Ok};
 ghost use Rattle.pay_rules.specs.declared.posting.Posting.{Posting};
 ghost use Rattle.pay_rules.specs.QuoteParts.{QuoteParts, IsQuote};
 ghost use Rattle.pay_postings.specs.Postings.{post};
-ghost use Rattle.pay_postings.specs.Kept.{AreKept};
+ghost use Rattle.pay_postings.specs.Paid.{ArePaid};
 ghost use Rattle.pay_postings.specs.NetRows.{NetIsOfPostings};
 ghost use Rattle.pay_postings.specs.Laws.{PostedStayKept, NetIsDue, SharesAreDue, SharesComeToDue, PostingsAreReadBack};
 
 /// Postings that were posted one after another stay such when one more quote is posted, and no postings are such.
-pub fn kept()
-    ensures none { AreKept [] }
-    ensures one_more { (list after : List Posting) (quote : QuoteParts) (given : Posting) → AreKept list → IsQuote quote
-        → post list quote ≡ Ok (given, after) → AreKept after }
+pub fn paid()
+    ensures none { ArePaid [] }
+    ensures one_more { (list after : List Posting) (quote : QuoteParts) (given : Posting) → ArePaid list → IsQuote quote
+        → post list quote ≡ Ok (given, after) → ArePaid after }
     ensures all { PostedStayKept }
 {}
 

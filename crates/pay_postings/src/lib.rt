@@ -11,8 +11,8 @@ mod new_rows;
 mod posted;
 mod posting_rows;
 
-pub use accounts::Accounts;
+pub use accounts::LedgerAccounts;
 pub use archived::Archived;
-pub use batch::Batch;
+pub use batch::PostingBatch;
 pub use posted::Posted;
 pub use posting_rows::{net_from_rows, posting_row, postings_from_rows, share_rows};

@@ -3,7 +3,7 @@ ghost use Rattle.std.specs.Option.{option_map};
 ghost use Rattle.pay_money.specs.declared.limits.TheConstants.{MOST_MONEY};
 ghost use Rattle.pay_postings.specs.Amounts.{IsMoney, less};
 ghost use Rattle.pay_postings.specs.Postings.{is_of, is_stale, is_again, is_as_due, net, with_amount, shares_posted, last_of, posting_of};
-ghost use Rattle.pay_postings.specs.Kept.{AreRead};
+ghost use Rattle.pay_postings.specs.Paid.{AreRead};
 ghost use Rattle.pay_postings.specs.Answers.{IsPosted, IsJudged};
 ghost use Rattle.pay_postings.specs.Judged.{is_further};
 
@@ -22,7 +22,7 @@ impl Model for Posted {
     ghost use Rattle.std.specs.Prelude.{List};
     ghost use Rattle.pay_rules.specs.declared.posting.Posting.{Posting};
     ghost use Rattle.pay_rules.specs.PostingsCode.{postings_code};
-    ghost use Rattle.pay_postings.specs.Kept.{AreRead};
+    ghost use Rattle.pay_postings.specs.Paid.{AreRead};
 
     ghost Value = { List Posting };
 

@@ -5,8 +5,8 @@ ghost use Rattle.pay_money.specs.declared.limits.TheConstants.{MOST_MONEY, OPERA
 ghost use Rattle.pay_rules.specs.QuoteParts.{IsQuote};
 ghost use Rattle.pay_set_rows.specs.Readings.{IsReadAs};
 ghost use Rattle.pay_postings.specs.Amounts.{IsMoney, added};
-ghost use Rattle.pay_postings.specs.Kept.{AreRead};
-ghost use Rattle.pay_postings.specs.PostingRows.{is_money, is_share_row, is_natural, is_share_of, amount_of, amounts_of, naturals, quote_from_row, quote_behind, is_amount_behind, posting_behind, week_from_row, posting_from_row, postings_from_rows, posting_row, share_rows, share_rows_from, share_row};
+ghost use Rattle.pay_postings.specs.Paid.{AreRead};
+ghost use Rattle.pay_postings.specs.PostingRows.{is_money, is_share_row, is_natural, is_share_of, amount_of, amounts_of, naturals, quote_from_row, quote_after, is_amount_after, posting_after, week_from_row, posting_from_row, postings_from_rows, posting_row, share_rows, share_rows_from, share_row};
 ghost use Rattle.pay_postings.specs.NetRows.{with_amount_of, net_from_rows};
 
 use crate::posted::Posted;
@@ -152,8 +152,8 @@ fn quote_from_row(
     )
 }
 
-/// The quote of a row, by its week and what of its posting fell to each operator, behind the postings before it.
-fn quote_behind(
+/// The quote of a row, by its week and what of its posting fell to each operator, after the postings before it.
+fn quote_after(
     account: u32,
     week: u32,
     before: &Posted,
@@ -161,7 +161,7 @@ fn quote_behind(
     row: &PostingRow,
 ) -> Option<Quote>
     requires { All IsMoney amounts.now }
-    ensures value { result ≡ quote_behind account week before.now amounts.now row.now }
+    ensures value { result ≡ quote_after account week before.now amounts.now row.now }
     ensures read { IfSome result (λ quote. IsQuote quote) }
 {
     let posted = before.shares(account, week);
@@ -170,14 +170,14 @@ fn quote_behind(
 }
 
 /// Whether an amount is a sum of money, by itself and with those of its week before it.
-fn is_amount_behind(account: u32, week: u32, before: &Posted, amount: i64) -> bool
-    ensures { result ≡ is_amount_behind account week before.now amount }
+fn is_amount_after(account: u32, week: u32, before: &Posted, amount: i64) -> bool
+    ensures { result ≡ is_amount_after account week before.now amount }
 {
     is_money(amount) && is_money(before.net(account, week) + amount)
 }
 
-/// The posting of a row, by its week and what of it fell to each operator, behind those before it.
-fn posting_behind(
+/// The posting of a row, by its week and what of it fell to each operator, after those before it.
+fn posting_after(
     account: u32,
     week: u32,
     before: &Posted,
@@ -185,12 +185,12 @@ fn posting_behind(
     row: &PostingRow,
 ) -> Option<Posting>
     requires { All IsMoney amounts }
-    ensures value { result ≡ posting_behind account week before.now amounts row.now }
+    ensures value { result ≡ posting_after account week before.now amounts row.now }
     ensures read { IfSome result (λ p. AreRead (before.now ++ p ∷ [])) }
 {
     let _read = before.as_slice();
-    let quote = quote_behind(account, week, before, &amounts, row)?;
-    if is_amount_behind(account, week, before, row.amount) {
+    let quote = quote_after(account, week, before, &amounts, row)?;
+    if is_amount_after(account, week, before, row.amount) {
         Some(Posting {
             quote,
             amount: row.amount,
@@ -208,7 +208,7 @@ fn week_from_row(row: &PostingRow) -> Option<u32>
     Some(ranged(row.week, u64::from(FIRST_DAY), u64::from(LAST_DAY))? as u32)
 }
 
-/// The posting of a row, behind those before it.
+/// The posting of a row, after those before it.
 fn posting_from_row(
     account: u32,
     shares: &[ShareRow],
@@ -222,7 +222,7 @@ fn posting_from_row(
 {
     let week = week_from_row(row)?;
     let amounts = amounts_of(shares, id);
-    posting_behind(account, week, before, amounts, row)
+    posting_after(account, week, before, amounts, row)
 }
 
 /// The postings of an account by its rows, each beside its number and in ascending order of these, and the rows of their

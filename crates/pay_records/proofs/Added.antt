@@ -25,8 +25,8 @@ use Rattle.pay_records.specs.Rows.{LedgerRows, HoldsRows, HoldsAt, AreNumbers, R
 use Rattle.pay_records.specs.Steps.{Changes, OthersStay}
 use Rattle.pay_records.proofs.Adds.{AddsRow, adds}
 use Rattle.pay_records.proofs.Inserting.{IsInsert, insert_is, share_read, tap_read, fix_read}
-use Rattle.pay_records.proofs.Kept.{went_on}
-use Rattle.pay_records.proofs.Numbers.{numbers_behind}
+use Rattle.pay_records.proofs.Unchanged.{went_on}
+use Rattle.pay_records.proofs.Numbers.{numbers_after}
 use Rattle.pay_records.proofs.Placed.{each_at, apart, initial, none_of, opened, held_from}
 use Rattle.pay_records.proofs.Texts.{insert_share, insert_tap, insert_fix, share_terms, tap_terms, fix_terms}
 
@@ -63,7 +63,7 @@ module _ (p : Places) (old new : State) (has : HasLedgerTables old.now.schema p)
       let stay = stays schema old.now new.now p.shares shares _ has.has_shares it in
       let postings_stay = stay p.postings postings has.has_postings (λ same. omega (arith, same)) in
       let holds : (l : LedgerRows) → HoldsAt p old.now.trees l → HoldsAt p new.now.trees (with_share row l) = λ l held.
-      let numbers = numbers_behind table shares_columns refl (old.now.trees p.shares.table.tree) (new.now.trees p.shares.table.tree) (map share_numbers l.shares) (share_numbers row) held.shares it.rows in
+      let numbers = numbers_after table shares_columns refl (old.now.trees p.shares.table.tree) (new.now.trees p.shares.table.tree) (map share_numbers l.shares) (share_numbers row) held.shares it.rows in
       record {
         meta = ap (map (drop 1)) (stay p.meta meta has.has_meta (λ same. omega (arith, same))) ∙ held.meta;
         postings = postings_stay ∙ held.postings;
@@ -83,7 +83,7 @@ module _ (p : Places) (old new : State) (has : HasLedgerTables old.now.schema p)
       let stay = stays schema old.now new.now p.taps taps _ has.has_taps it in
       let postings_stay = stay p.postings postings has.has_postings (λ same. omega (arith, same)) in
       let holds : (l : LedgerRows) → HoldsAt p old.now.trees l → HoldsAt p new.now.trees (with_tap account row l) = λ l held.
-      let numbers = numbers_behind table taps_columns refl (old.now.trees p.taps.table.tree) (new.now.trees p.taps.table.tree) (map tap_numbers l.taps) (tap_numbers (account, row)) held.taps it.rows in
+      let numbers = numbers_after table taps_columns refl (old.now.trees p.taps.table.tree) (new.now.trees p.taps.table.tree) (map tap_numbers l.taps) (tap_numbers (account, row)) held.taps it.rows in
       record {
         meta = ap (map (drop 1)) (stay p.meta meta has.has_meta (λ same. omega (arith, same))) ∙ held.meta;
         postings = postings_stay ∙ held.postings;
@@ -103,7 +103,7 @@ module _ (p : Places) (old new : State) (has : HasLedgerTables old.now.schema p)
       let stay = stays schema old.now new.now p.fixes fixes _ has.has_fixes it in
       let postings_stay = stay p.postings postings has.has_postings (λ same. omega (arith, same)) in
       let holds : (l : LedgerRows) → HoldsAt p old.now.trees l → HoldsAt p new.now.trees (with_fix account row l) = λ l held.
-      let numbers = numbers_behind table fixes_columns refl (old.now.trees p.fixes.table.tree) (new.now.trees p.fixes.table.tree) (map fix_numbers l.fixes) (fix_numbers (account, row)) held.fixes it.rows in
+      let numbers = numbers_after table fixes_columns refl (old.now.trees p.fixes.table.tree) (new.now.trees p.fixes.table.tree) (map fix_numbers l.fixes) (fix_numbers (account, row)) held.fixes it.rows in
       record {
         meta = ap (map (drop 1)) (stay p.meta meta has.has_meta (λ same. omega (arith, same))) ∙ held.meta;
         postings = postings_stay ∙ held.postings;

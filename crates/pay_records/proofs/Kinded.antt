@@ -20,14 +20,14 @@ use Rattle.sqlite.specs.State.{State, Shown, IsUnchanged, IsNotRun, IsNoStatemen
 use Rattle.sqlite.specs.Steps.{Outlines}
 use Rattle.sqlite.proofs.Callers.{one_permutation, unchanged_then}
 use Rattle.pay_records.specs.declared.fault.ReadFault.{ReadFault}
-use Rattle.pay_records.specs.declared.kind.Kind.{Kind}
-use Rattle.pay_records.specs.declared.kind.Kind.TheVariants as kind
+use Rattle.pay_records.specs.declared.kind.DatabaseKind.{DatabaseKind}
+use Rattle.pay_records.specs.declared.kind.DatabaseKind.TheVariants as kind
 use Rattle.pay_records.specs.declared.kind.Presence.{Presence}
 use Rattle.pay_records.specs.declared.kind.Presence.TheVariants.{Missing, There, Partly}
 use Rattle.pay_records.specs.Kinds.{presence_of, is_there, together, told_by, tables_in, kind_by, IsKindBy, IsKindOf, IsOfKindBy, IsOfKind}
 use Rattle.pay_records.specs.Rows.{LedgerRows, HoldsRows}
 use Rattle.pay_records.specs.Free.{IsFree}
-use Rattle.pay_records.proofs.Kept.{kept_unchanged, kept_not_run}
+use Rattle.pay_records.proofs.Unchanged.{kept_unchanged, kept_not_run}
 use Rattle.pay_records.proofs.Selects.{simply}
 use Rattle.pay_records.proofs.SelectTexts.{IsQuery, select_meta, meta_query}
 use Rattle.pay_records.proofs.Queries.{select_meta_is}
@@ -121,12 +121,12 @@ unfolding meta_of
 all_of tree [] = refl
 all_of tree (r ∷ rows) = ap (λ l. meta_of r ∷ l) (all_of tree rows)
 
-kind_behind : (rows : List Row) → kind_by (map meta_of rows) ≡ kind_by (map (drop 1) rows)
+kind_after : (rows : List Row) → kind_by (map meta_of rows) ≡ kind_by (map (drop 1) rows)
 unfolding meta_of
-kind_behind [] = refl
-kind_behind ([] ∷ []) = refl
-kind_behind ((v ∷ r) ∷ []) = refl
-kind_behind (r ∷ s ∷ rows) = refl
+kind_after [] = refl
+kind_after ([] ∷ []) = refl
+kind_after ((v ∷ r) ∷ []) = refl
+kind_after (r ∷ s ∷ rows) = refl
 
 meta_told : (schema : Schema) (tree : ℕ) (names : List (List ℕ)) → IsQuery schema select_meta (meta_query tree) names → (old new : State) (rows : List Row) → Shown select_meta [] old new rows → old.now.schema ≡ schema
     → (kind_by rows ≡ kind_by (map (drop 1) (old.now.trees tree))) × IsUnchanged old new
@@ -138,10 +138,10 @@ meta_told schema tree names query old new rows h has =
     let seen : map (λ (o : Output). o.1) (map (output q) (matches db [] (inner tree end) ([] ∷ []))) ≡ map meta_of (old.now.trees tree) =
     ap (λ r. map (λ (o : Output). o.1) (map (output q) (flat_map (λ r. ([] ∷ r ∷ []) ∷ []) r))) (overlay_is old.now.trees tree) ∙ all_of tree (old.now.trees tree) in
     let same = IsPermutation-map (λ (o : Output). o.1) _ _ found.same in
-    (ap kind_by found.shown ∙ kind_in_order _ _ (subst (λ l. IsPermutation l (map (λ (o : Output). o.1) found.ordered)) seen same) ∙ kind_behind (old.now.trees tree), it.1)
+    (ap kind_by found.shown ∙ kind_in_order _ _ (subst (λ l. IsPermutation l (map (λ (o : Output). o.1) found.ordered)) seen same) ∙ kind_after (old.now.trees tree), it.1)
 
 module _ (old between new : State) where
-  pub kind_where_all : IsUnchanged old between → (rows : List Row) → Shown select_meta [] between new rows → There ≡ tables_in old.now.schema → (k : Kind) → k ≡ kind_by rows → IsKindOf old new k
+  pub kind_where_all : IsUnchanged old between → (rows : List Row) → Shown select_meta [] between new rows → There ≡ tables_in old.now.schema → (k : DatabaseKind) → k ≡ kind_by rows → IsKindOf old new k
   kind_where_all first rows h there k told =
       let same : between.now ≡ old.now = first.0.now_is in
       subst (λ p. IsKindBy old new p k) there (λ place has.
@@ -150,21 +150,21 @@ module _ (old between new : State) where
       (told ∙ it.0 ∙ ap (λ d. kind_by (map (drop 1) (d.trees place.table.tree))) same, unchanged_then old between new first it.1))
 
 module _ (old new : State) where
-  pub kind_of_blank : (k : Kind) → IsKindOf old new k → IsFree old.now → (k ≡ kind.Blank) × IsUnchanged old new
+  pub kind_of_blank : (k : DatabaseKind) → IsKindOf old new k → IsFree old.now → (k ≡ kind.Blank) × IsUnchanged old new
   kind_of_blank k h free = subst (λ p. IsKindBy old new p k) (tables_missing old.now free) h
 
-  pub kind_of_ledger : (k : Kind) → IsKindOf old new k → (rows : LedgerRows) → HoldsRows old.now rows → (k ≡ kind.Ledger) × IsUnchanged old new
+  pub kind_of_ledger : (k : DatabaseKind) → IsKindOf old new k → (rows : LedgerRows) → HoldsRows old.now rows → (k ≡ kind.Ledger) × IsUnchanged old new
   kind_of_ledger k h rows held =
       let at = opened old.now rows held in
       let it = (subst (λ p. IsKindBy old new p k) (tables_there old.now.schema at.0 at.1) h) at.0.meta at.1.has_meta in
       (it.0 ∙ ap kind_by at.2.meta, it.1)
 
-  kind_alone : (p : Presence) (k : Kind) → IsKindBy old new p k → IsOfKindBy old.now p k
+  kind_alone : (p : Presence) (k : DatabaseKind) → IsKindBy old new p k → IsOfKindBy old.now p k
   kind_alone Missing k h = h.0
   kind_alone Partly k h = h.0
   kind_alone There k h = λ place has. (h place has).0
 
-  pub is_of_kind : (k : Kind) → IsKindOf old new k → IsOfKind old.now k
+  pub is_of_kind : (k : DatabaseKind) → IsKindOf old new k → IsOfKind old.now k
   is_of_kind k h = kind_alone (tables_in old.now.schema) k h
 
 -- tables beside others, each asked for in its turn
@@ -176,8 +176,8 @@ module _ (asked : Schema → Presence) (old first second third : State) (other a
       let begun : first.now ≡ old.now = one.1.0.now_is in
       let gone : second.now ≡ old.now = next.1.0.now_is ∙ begun in
       let there : b ≡ is_there old.now.schema other = next.0 ∙ ap (λ (d : Database). is_there d.schema other) begun in
-      let behind : c ≡ is_there old.now.schema another = last.0 ∙ ap (λ (d : Database). is_there d.schema another) gone in
-      (all_are ∙ ap₂ together (two_are ∙ ap₂ together one.0 there) behind, unchanged_then old second third (unchanged_then old first second one.1 next.1) last.1)
+      let beyond : c ≡ is_there old.now.schema another = last.0 ∙ ap (λ (d : Database). is_there d.schema another) gone in
+      (all_are ∙ ap₂ together (two_are ∙ ap₂ together one.0 there) beyond, unchanged_then old second third (unchanged_then old first second one.1 next.1) last.1)
 
 module _ (old first second third : State) (text other another : List ℕ) (a b c : Presence) where
   pub three_tables : (a ≡ presence_of (understood old.now.schema text)) × IsUnchanged old first → (b ≡ presence_of (understood first.now.schema other)) × IsUnchanged first second → (c ≡ presence_of (understood second.now.schema another)) × IsUnchanged second third

@@ -31,9 +31,9 @@ module _ {X : Type 0} (test : X → Bool) where
   each_fails [] h = tt
   each_fails (x ∷ xs) h = (not_first test (test x) (find test xs) x h, each_fails xs (not_rest test (test x) (find test xs) x h))
 
-  -- what passes another test that none of the first passes is found behind them
-  found_behind : (other : X → Bool) (xs ys : List X) (x : X) → find test (xs ++ ys) ≡ Some x → other x ≡ true → find other xs ≡ None → find test xs ≡ None
-  found_behind other xs ys x is passes none = go (find test xs) refl
+  -- what passes another test that none of the first passes is found after them
+  found_after : (other : X → Bool) (xs ys : List X) (x : X) → find test (xs ++ ys) ≡ Some x → other x ≡ true → find other xs ≡ None → find test xs ≡ None
+  found_after other xs ys x is passes none = go (find test xs) refl
     where
       go : (o : Option X) → find test xs ≡ o → find test xs ≡ None
       go None e = e
@@ -70,7 +70,7 @@ tables_extend (t ∷ tables) schema =
 
 -- what stays of the larger stays of the smaller
 rows_within : (old new : Schema) (a b : Trees) → Extends old new → KeepsRows new.tables a b → KeepsRows old.tables a b
-rows_within old new a b more kept = rows_fewer old.tables more.0 a b (subst (λ ts. KeepsRows ts a b) more.1 kept)
+rows_within old new a b more unchanged = rows_fewer old.tables more.0 a b (subst (λ ts. KeepsRows ts a b) more.1 unchanged)
 
 extended : (old new : Database) (tables : List Table) → Grows old new tables → Extends old.schema new.schema
 extended old new tables grows = let it = tables_extend tables old.schema in (it.0, ap (λ (s : Schema). s.tables) grows.schema_is ∙ it.1)
@@ -88,15 +88,15 @@ pub grows_on : (a b c : Database) (tables : List Table) (p : Place) (wanted : Ta
 grows_on a b c tables p wanted grows unused itself has same others =
     let more = extended a b tables grows in
     let found = subst (λ ts. find (λ t. t.tree == p.table.tree) ts ≡ Some (alike wanted p.table)) more.1 has.only in
-    let none = found_behind (λ t. t.tree == p.table.tree) (λ t. same_name t.name wanted.name) a.schema.tables more.0 (alike wanted p.table) found itself (nowhere (λ t. same_name t.name wanted.name) a.schema.tables 0 unused) in
-    let stays = each_both (λ t. (t.tree == p.table.tree) ≡ false) (λ t. t.tree ≢ p.table.tree → c.trees t.tree ≡ b.trees t.tree) (λ t. c.trees t.tree ≡ b.trees t.tree) (λ t other kept. kept (eqb-false t.tree p.table.tree other)) a.schema.tables
+    let none = found_after (λ t. t.tree == p.table.tree) (λ t. same_name t.name wanted.name) a.schema.tables more.0 (alike wanted p.table) found itself (nowhere (λ t. same_name t.name wanted.name) a.schema.tables 0 unused) in
+    let stays = each_both (λ t. (t.tree == p.table.tree) ≡ false) (λ t. t.tree ≢ p.table.tree → c.trees t.tree ≡ b.trees t.tree) (λ t. c.trees t.tree ≡ b.trees t.tree) (λ t other unchanged. unchanged (eqb-false t.tree p.table.tree other)) a.schema.tables
     (each_fails (λ t. t.tree == p.table.tree) a.schema.tables none) (all_front _ a.schema.tables more.0 (subst (AllByRecursion (λ t. t.tree ≢ p.table.tree → c.trees t.tree ≡ b.trees t.tree)) more.1 others)) in
     record { schema_is = same ∙ grows.schema_is; rows = rows_trans a.schema.tables a.trees b.trees c.trees grows.rows stays }
 
 -- ---- one of them
 
 pub grown_alone : (old new : Database) (t : Table) → lacks_sequence (created old.schema t) ≡ false → new.schema ≡ created old.schema t → KeepsRows old.schema.tables old.trees new.trees → Grows old new (t ∷ [])
-grown_alone old new t unneeded is kept = record { schema_is = is ∙ sym (ap (λ b. cond b (created (created old.schema t) sequence_table) (created old.schema t)) unneeded); rows = kept }
+grown_alone old new t unneeded is unchanged = record { schema_is = is ∙ sym (ap (λ b. cond b (created (created old.schema t) sequence_table) (created old.schema t)) unneeded); rows = unchanged }
 
 pub grown_counted : (old mid new : Database) (t : Table) → lacks_sequence (created old.schema t) ≡ true → new.schema ≡ created (created old.schema t) sequence_table
     → KeepsRows old.schema.tables old.trees mid.trees → KeepsRows (created old.schema t).tables mid.trees new.trees → Grows old new (t ∷ [])

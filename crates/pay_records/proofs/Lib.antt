@@ -20,13 +20,13 @@ mod LedgerTexts
 mod Presences
 mod Missing
 mod Answered
-mod Tells
+mod Says
 mod Kinded
 mod Numbers
 mod Texts
 mod Added
 mod Posted
-mod Kept
+mod Unchanged
 mod Made
 mod Views
 mod Wholes

@@ -35,7 +35,7 @@ use Rattle.pay_records.proofs.Creating.{IsDefinition, IsCreated, created_is}
 use Rattle.pay_records.specs.Tables.{meta, postings, sequence_table, shares, taps, fixes}
 use Rattle.pay_records.specs.Steps.{GoesOn, Grows, Makes, Begins, MakesLedger, between, with_tables}
 use Rattle.pay_records.specs.Rows.{HoldsRows, HoldsAt, AreNumbers, RiseFrom, meta_columns, no_rows}
-use Rattle.pay_records.proofs.Kept.{went_on}
+use Rattle.pay_records.proofs.Unchanged.{went_on}
 use Rattle.pay_records.proofs.Creates.{creates, creates_counted, created_soundly}
 
 abbrev pub create_meta : List ℕ

@@ -14,7 +14,7 @@ use Rattle.sqlite.specs.Table.{Table}
 use Rattle.sqlite.specs.Tree.{put_row}
 use Rattle.pay_records.specs.Tables.{number}
 use Rattle.pay_records.specs.Rows.{AreNumbers, RiseFrom}
-use Rattle.pay_records.proofs.Rises.{put_behind}
+use Rattle.pay_records.proofs.Rises.{put_after}
 
 either : (b : Bool) (x : Value) → cond b x x ≡ x
 either true x = refl
@@ -39,12 +39,12 @@ numbered_row table names columns rows vs =
     let cast : cast_row table (Null ∷ map Int vs) ≡ Null ∷ map Int vs = ap₂ (λ x xs. x ∷ xs) cast_null (ap (λ cs. cast_all cs (map Int vs)) columns ∙ cast_ints names vs) in
     ap (with_rowid Chosen rows) cast
 
-pub numbers_behind : (table : Table) (names : List (List ℕ)) → table.columns ≡ map number names → (rows next : List Row) (numbers : List (List ℤ)) (vs : List ℤ) → AreNumbers rows numbers
+pub numbers_after : (table : Table) (names : List (List ℕ)) → table.columns ≡ map number names → (rows next : List Row) (numbers : List (List ℤ)) (vs : List ℤ) → AreNumbers rows numbers
     → next ≡ put_row (with_rowid Chosen rows (cast_row table (Null ∷ map Int vs))) rows → AreNumbers next (numbers ++ vs ∷ [])
-numbers_behind table names columns rows next numbers vs h is =
-    let behind = put_behind (pos 0) (next_rowid rows) (map Int vs) rows h.rising (omega (arith, ints)) in
-    let same : next ≡ rows ++ (Int (next_rowid rows) ∷ map Int vs) ∷ [] = is ∙ ap (λ r. put_row r rows) (numbered_row table names columns rows vs) ∙ behind.0 in
+numbers_after table names columns rows next numbers vs h is =
+    let beyond = put_after (pos 0) (next_rowid rows) (map Int vs) rows h.rising (omega (arith, ints)) in
+    let same : next ≡ rows ++ (Int (next_rowid rows) ∷ map Int vs) ∷ [] = is ∙ ap (λ r. put_row r rows) (numbered_row table names columns rows vs) ∙ beyond.0 in
     record {
-      rising = subst (RiseFrom (pos 0)) (sym same) behind.1;
+      rising = subst (RiseFrom (pos 0)) (sym same) beyond.1;
       are = ap (map (drop 1)) same ∙ map-append (drop 1) rows ((Int (next_rowid rows) ∷ map Int vs) ∷ []) ∙ ap (λ l. l ++ map Int vs ∷ []) h.are ∙ sym (map-append (map Int) numbers (vs ∷ []));
     }

@@ -28,14 +28,14 @@ use Rattle.sqlite.specs.Does.{Does, Tally, Shows as ShowsReturned}
 use Rattle.sqlite.specs.Effect.{Database}
 use Rattle.sqlite.specs.declared.run.Mode.{Mode}
 use Rattle.sqlite_schema.specs.declared.schema.Keys.TheVariants.{Enforced}
-use Rattle.pay_records.proofs.Kept.{went_on}
+use Rattle.pay_records.proofs.Unchanged.{went_on}
 use Rattle.pay_records.proofs.Creates.{went, same_value}
 use Rattle.pay_records.proofs.Adds.{task_of}
 use Rattle.sqlite.specs.Listing.{understood}
 use Rattle.sqlite.specs.State.{State, Shows, IsUnchanged, QueriesRow, Shown, ShowsRows}
 use Rattle.sqlite.proofs.Callers.{statement_of}
 use Rattle.pay_records.specs.Steps.{Changes, OthersStay}
-use Rattle.pay_records.proofs.Rises.{put_behind}
+use Rattle.pay_records.proofs.Rises.{put_after}
 use Rattle.pay_records.proofs.Numbers.{cast_null, cast_ints}
 use Rattle.pay_records.proofs.Returns.{AddsCounted, shows_as, concluded_showing, inserted_counted, counter_there}
 use Rattle.pay_records.proofs.Inserting.{insert_posting_is}
@@ -54,20 +54,20 @@ counted_row t top rows vs =
     ap₂ (λ x xs. x ∷ xs) cast_null (ap₂ (λ x xs. x ∷ xs) cast_null (cast_ints postings_columns vs)) in
     ap (with_rowid (Above top) rows) cast
 
--- the posting stands behind all others, under a number of its own
-posting_behind : (schema : Schema) (t counters : Table) (old new : Trees) (account : ℤ) (row : PostingRow) (written : List Row) → AddsCounted schema old new (alike postings t) counters (Null ∷ Null ∷ map Int (posting_numbers account row)) written
+-- the posting stands after all others, under a number of its own
+posting_after : (schema : Schema) (t counters : Table) (old new : Trees) (account : ℤ) (row : PostingRow) (written : List Row) → AddsCounted schema old new (alike postings t) counters (Null ∷ Null ∷ map Int (posting_numbers account row)) written
     → (id : ℤ) × (written ≡ posting_row (id, account, row) ∷ [])
     × ((all : List (ℤ × ℤ × PostingRow)) → old t.tree ≡ map posting_row all → RiseFrom (pos 0) (old t.tree) → (new t.tree ≡ map posting_row (all ++ (id, account, row) ∷ [])) × RiseFrom (pos 0) (new t.tree))
-posting_behind schema t counters old new account row written it =
+posting_after schema t counters old new account row written it =
     let vs = posting_numbers account row in
     let id = number_above it.top (old t.tree) in
     let same = counted_row t it.top (old t.tree) vs in (
       id,
       it.written_is ∙ ap (λ r. r ∷ []) same,
       λ all are up.
-          let behind = put_behind (pos 0) id (Null ∷ map Int vs) (old t.tree) up (not_below it.top (next_rowid (old t.tree))) in
-          let rows : new t.tree ≡ old t.tree ++ posting_row (id, account, row) ∷ [] = it.rows ∙ ap (λ r. put_row r (old t.tree)) same ∙ behind.0 in
-          (rows ∙ ap (λ l. l ++ posting_row (id, account, row) ∷ []) are ∙ sym (map-append posting_row all ((id, account, row) ∷ [])), subst (RiseFrom (pos 0)) (sym rows) behind.1),
+          let beyond = put_after (pos 0) id (Null ∷ map Int vs) (old t.tree) up (not_below it.top (next_rowid (old t.tree))) in
+          let rows : new t.tree ≡ old t.tree ++ posting_row (id, account, row) ∷ [] = it.rows ∙ ap (λ r. put_row r (old t.tree)) same ∙ beyond.0 in
+          (rows ∙ ap (λ l. l ++ posting_row (id, account, row) ∷ []) are ∙ sym (map-append posting_row all ((id, account, row) ∷ [])), subst (RiseFrom (pos 0)) (sym rows) beyond.1),
     )
 
 -- the rows of another table are as they were, but for the one that counts
@@ -113,14 +113,14 @@ posted schema p has limit db said tally new account row does =
     let counts = subst (λ o. IfSome o (IsCounter schema p)) counter.1 has.counter in
     let beside = none_of (trees_of p) c.tree counts.0 in
     let it = inserted_counted schema c (λ olds row. sets_off_nothing schema c.tree counts.1 olds (row ∷ [])) table p.postings.at has.has_postings.placed refl beside.1.0 counter.1 params refl posting_terms 8 (Null ∷ Null ∷ params) refl limit db done.0 done.1 in
-    let behind = posting_behind schema p.postings.table c db done.0.trees account row done.0.rows it in
+    let beyond = posting_after schema p.postings.table c db done.0.trees account row done.0.rows it in
     let task = task_of limit schema table params in
     let end = concluded_showing task the_mode returned done.0 tally new done.2 in
-    let shown = number_shown limit schema p.postings.table done.0.trees behind.0 account row done.0.rows tally.shown behind.1 end.1 in
+    let shown = number_shown limit schema p.postings.table done.0.trees beyond.0 account row done.0.rows tally.shown beyond.1 end.1 in
     let stay = stays schema db done.0.trees p.postings postings c (Null ∷ Null ∷ params) done.0.rows has.has_postings it in
     let others = posting_beside schema p db done.0.trees c (Null ∷ Null ∷ params) done.0.rows counter.1 it in
-    let after : (l : LedgerRows) → HoldsAt p db l → HoldsAt p done.0.trees (with_posting behind.0 account row l) = λ l held.
-    let its = behind.2 l.postings held.postings held.postings_rise in
+    let after : (l : LedgerRows) → HoldsAt p db l → HoldsAt p done.0.trees (with_posting beyond.0 account row l) = λ l held.
+    let its = beyond.2 l.postings held.postings held.postings_rise in
     record {
       meta = ap (map (drop 1)) (stay p.meta meta has.has_meta (λ same. omega (arith, same)) beside.0) ∙ held.meta;
       postings = its.0;
@@ -129,10 +129,10 @@ posted schema p has limit db said tally new account row does =
       taps = subst (λ r. AreNumbers r (map tap_numbers l.taps)) (sym (stay p.taps taps has.has_taps (λ same. omega (arith, same)) beside.1.1.1.0)) held.taps;
       fixes = subst (λ r. AreNumbers r (map fix_numbers l.fixes)) (sym (stay p.fixes fixes has.has_fixes (λ same. omega (arith, same)) beside.1.1.1.1.0)) held.fixes;
     } in (
-      behind.0,
+      beyond.0,
       shown,
       subst (λ (d : Database). OthersStay (record { schema = schema; trees = db }) d p) (sym end.0) others,
-      λ l held. subst (λ (d : Database). HoldsAt p d.trees (with_posting behind.0 account row l)) (sym end.0) (after l held),
+      λ l held. subst (λ (d : Database). HoldsAt p d.trees (with_posting beyond.0 account row l)) (sym end.0) (after l held),
     )
 
 module _ (old new : State) (inside : IsTrue old.in_transaction) where

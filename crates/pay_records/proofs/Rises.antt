@@ -1,4 +1,4 @@
--- A row with the next rowid stands behind all others.
+-- A row with the next rowid stands after all others.
 use Rattle.std.proofs.Common.{◌≡◌, ℤ, pos, ◌+ℤ◌, ◌<ℤ◌, List, [], ◌∷◌, ◌++◌, fold, refl, ap, subst, ◌∙◌, arith, Less}
 use Rattle.std.proofs.lemmas.Int.{ints}
 use Rattle.std.proofs.lemmas.Bool.Decides.{nat_tests}
@@ -24,12 +24,12 @@ above_start low id (r ∷ rs) up next =
     let first = up.2 in
     omega (arith, ints)
 
-pub put_behind : (low id : ℤ) (rest : Row) (rows : List Row) → RiseFrom low rows → next_from (low +ℤ pos 1) rows <ℤ (id +ℤ pos 1)
+pub put_after : (low id : ℤ) (rest : Row) (rows : List Row) → RiseFrom low rows → next_from (low +ℤ pos 1) rows <ℤ (id +ℤ pos 1)
     → (put_row (Int id ∷ rest) rows ≡ rows ++ (Int id ∷ rest) ∷ []) × RiseFrom low (rows ++ (Int id ∷ rest) ∷ [])
-put_behind low id rest [] up next = (refl, (id, refl, omega (arith, ints), tt))
-put_behind low id rest (r ∷ rs) up next =
+put_after low id rest [] up next = (refl, (id, refl, omega (arith, ints), tt))
+put_after low id rest (r ∷ rs) up next =
     let start : id_in (rowid r) ≡ up.0 = ap id_in up.1 in
     let after = subst (λ s. next_from (s +ℤ pos 1) rs <ℤ (id +ℤ pos 1)) start next in
-    let it = put_behind up.0 id rest rs up.3 after in
+    let it = put_after up.0 id rest rs up.3 after in
     let less : value_cmp (rowid r) (Int id) ≡ Less = ap (λ v. value_cmp v (Int id)) up.1 ∙ below up.0 id (above_start up.0 id rs up.3 after) in
     (rw (less, it.0), (up.0, up.1, up.2, it.1))

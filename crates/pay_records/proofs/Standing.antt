@@ -130,11 +130,11 @@ module _ (schema : Schema) (t : Table) where
   all_unused = each_both (IsBeside t) (λ o. IsUnused schema o.name) (λ o. IsUnused grown o.name) unused_still
 
   all_there : (old new : Trees) → KeepsRows schema.tables old new → (places : List Place) (tables : List Table) → AreThere schema old places tables → AreThere grown new places tables
-  all_there old new kept [] [] h = tt
-  all_there old new kept [] (w ∷ ws) h = absurd h
-  all_there old new kept (p ∷ ps) [] h = absurd h
-  all_there old new kept (p ∷ ps) (w ∷ ws) h =
-      (has_still schema t p w h.0, each_at (λ t. new t.tree ≡ old t.tree) schema.tables p.at (alike w p.table) h.0.placed kept ∙ h.1, all_there old new kept ps ws h.2)
+  all_there old new unchanged [] [] h = tt
+  all_there old new unchanged [] (w ∷ ws) h = absurd h
+  all_there old new unchanged (p ∷ ps) [] h = absurd h
+  all_there old new unchanged (p ∷ ps) (w ∷ ws) h =
+      (has_still schema t p w h.0, each_at (λ t. new t.tree ≡ old t.tree) schema.tables p.at (alike w p.table) h.0.placed unchanged ∙ h.1, all_there old new unchanged ps ws h.2)
 
   refers_still : (tree : ℕ) (ref : Reference) → (next_tree schema == tree) ≡ false → not (refers_to schema tree ref) ≡ true → not (refers_to grown tree ref) ≡ true
   refers_still tree ref new h = ap (misses_tree tree) (find-append (λ t. same_name t.name ref.parent) schema.tables (made ∷ [])) ∙ go (find (λ t. same_name t.name ref.parent) schema.tables) h
@@ -217,13 +217,13 @@ module _ (schema : Schema) (t : Table) (made left : List Table) (next : IsNext t
   larger = created schema t
 
   pub there : (new : Trees) → KeepsRows schema.tables old new → new (next_tree schema) ≡ [] → nat_lt (next_tree schema) (2 ^ 31) ≡ true → AreThere larger new (places ++ last ∷ []) (made ++ t ∷ [])
-  there new kept empty low = with_last larger new places made last t (all_there schema t old new kept places made stands.are) (has_new schema t next.uncomputed stands.unused.0.no_table next.itself low) empty
+  there new unchanged empty low = with_last larger new places made last t (all_there schema t old new unchanged places made stands.are) (has_new schema t next.uncomputed stands.unused.0.no_table next.itself low) empty
 
   pub stands_with : (new : Trees) → KeepsRows schema.tables old new → new (next_tree schema) ≡ [] → nat_lt (next_tree schema) (2 ^ 31) ≡ true → CountsBeside larger (trees ++ next_tree schema ∷ []) (sequence larger)
       → Stands (made ++ t ∷ []) left larger new
-  stands_with new kept empty low counter = record {
+  stands_with new unchanged empty low counter = record {
     places = places ++ last ∷ [];
-    are = there new kept empty low;
+    are = there new unchanged empty low;
     unused = all_unused schema t left next.beside stands.unused.1;
     counter = subst (λ trees. CountsBeside larger trees (sequence larger)) (sym (map-append tree_of places (last ∷ []))) counter;
   }
@@ -295,9 +295,9 @@ module _ (schema : Schema) where
 
   pub stands_counted : (made left : List Table) (places : List Place) (old new : Trees) → AreThere schema old places made → AllByRecursion (λ t. IsUnused schema t.name) left → AllByRecursion (IsBeside sequence_table) left
       → table_named schema counter_name ≡ None → list_any names_counter schema.tables ≡ false → KeepsRows schema.tables old new → Stands made left counting new
-  stands_counted made left places old new are unused beside none unnamed kept = record {
+  stands_counted made left places old new are unused beside none unnamed unchanged = record {
     places = places;
-    are = all_there schema sequence_table old new kept places made are;
+    are = all_there schema sequence_table old new unchanged places made are;
     unused = all_unused schema sequence_table left beside unused;
     counter = subst (λ o. CountsBeside counting (map tree_of places) o) (sym (sequence_new none)) (new_apart schema old places made are, unreferred_new unnamed);
   }

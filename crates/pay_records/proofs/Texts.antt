@@ -20,7 +20,7 @@ insert_fix = codes "INSERT INTO fixes (account, staff, seq, what, a, b, c, d, e)
 abbrev pub insert_meta : List ℕ
 insert_meta = codes "INSERT INTO meta (name, version) VALUES ('farebox', 1)"
 
--- the columns in order, behind an empty rowid
+-- the columns in order, after an empty rowid
 abbrev pub share_terms : List Term
 share_terms = lit Null ∷ col 0 0 ∷ col 0 1 ∷ col 0 2 ∷ []
 

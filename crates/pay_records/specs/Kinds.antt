@@ -19,8 +19,8 @@ use Rattle.pay_records.specs.Tables.{no_schema, meta, ledger_schema}
 use Rattle.pay_records.specs.Places.{Place, HasTable, other_schema}
 use Rattle.pay_records.specs.declared.fault.ReadFault.{ReadFault}
 use Rattle.pay_records.specs.declared.fault.ReadFault.TheVariants.{Store}
-use Rattle.pay_records.specs.declared.kind.Kind.{Kind}
-use Rattle.pay_records.specs.declared.kind.Kind.TheVariants.{Blank, Ledger, Version, Other}
+use Rattle.pay_records.specs.declared.kind.DatabaseKind.{DatabaseKind}
+use Rattle.pay_records.specs.declared.kind.DatabaseKind.TheVariants.{Blank, Ledger, Version, Other}
 use Rattle.pay_records.specs.declared.kind.Presence.{Presence}
 use Rattle.pay_records.specs.declared.kind.Presence.TheVariants.{Missing, There, Partly}
 
@@ -67,31 +67,31 @@ has_view schema =
     is_view schema (codes "meta") || (is_view schema (codes "postings") || (is_view schema (codes "shares") || (is_view schema (codes "taps") || is_view schema (codes "fixes"))))
 
 -- by a name and a version
-abbrev pub kind_of_row : Value → Value → Kind
+abbrev pub kind_of_row : Value → Value → DatabaseKind
 kind_of_row (Text name) (Int version) = if bytes_eq name (codes "farebox") then (if int_eq version (pos 1) then Ledger else Version) else Other
 kind_of_row _ _ = Other
 
 -- by the rows of `meta`, of which there has to be one
-abbrev pub kind_by : List Row → Kind
+abbrev pub kind_by : List Row → DatabaseKind
 kind_by (row ∷ []) = kind_of_row (column row 0) (column row 1)
 kind_by _ = Other
 
 -- by the tables that are there, and where they are a ledger's by the rows of `meta`, whatever else the database has
-abbrev pub IsKindBy : State → State → Presence → Kind → Type 0
+abbrev pub IsKindBy : State → State → Presence → DatabaseKind → Type 0
 IsKindBy old new Missing kind = (kind ≡ Blank) × IsUnchanged old new
 IsKindBy old new Partly kind = (kind ≡ Other) × IsUnchanged old new
 IsKindBy old new There kind = (place : Place) → HasTable old.now.schema place meta → (kind ≡ kind_by (map (drop 1) (old.now.trees place.table.tree))) × IsUnchanged old new
 
-abbrev pub IsKindOf : State → State → Kind → Type 0
+abbrev pub IsKindOf : State → State → DatabaseKind → Type 0
 IsKindOf old new kind = IsKindBy old new (tables_in old.now.schema) kind
 
 -- what a database is, whatever was changed in telling it
-abbrev pub IsOfKindBy : Database → Presence → Kind → Type 0
+abbrev pub IsOfKindBy : Database → Presence → DatabaseKind → Type 0
 IsOfKindBy db Missing kind = kind ≡ Blank
 IsOfKindBy db Partly kind = kind ≡ Other
 IsOfKindBy db There kind = (place : Place) → HasTable db.schema place meta → kind ≡ kind_by (map (drop 1) (db.trees place.table.tree))
 
-abbrev pub IsOfKind : Database → Kind → Type 0
+abbrev pub IsOfKind : Database → DatabaseKind → Type 0
 IsOfKind db kind = IsOfKindBy db (tables_in db.schema) kind
 
 -- ---- worked rows

@@ -17,7 +17,7 @@ pub record LedgerRows : Type 0 where
   pub taps : List (ℤ × TapRow)
   pub fixes : List (ℤ × FixRow)
 
--- the columns of a table behind its rowid
+-- the columns of a table after its rowid
 abbrev pub meta_columns : Row
 meta_columns = Text (codes "farebox") ∷ Int (pos 1) ∷ []
 
@@ -63,7 +63,7 @@ HoldsRows db rows = (p : Places) × HasLedgerTables db.schema p × HoldsAt p db.
 abbrev pub no_rows : LedgerRows
 no_rows = record { postings = []; shares = []; taps = []; fixes = [] }
 
--- ---- the rows with one more, behind the others
+-- ---- the rows with one more, after the others
 
 -- a posting of an account, beside the number that it got
 abbrev pub with_posting : ℤ → ℤ → PostingRow → LedgerRows → LedgerRows

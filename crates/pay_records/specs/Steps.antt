@@ -37,7 +37,7 @@ pub record KeepsOthers (old new : Database) : Type 0 where
 abbrev pub with_counter : Schema → Schema
 with_counter schema = if lacks_sequence schema then created schema sequence_table else schema
 
--- these tables are created, one after another, behind those that were there
+-- these tables are created, one after another, after those that were there
 abbrev pub with_tables : List Table → Schema → Schema
 with_tables [] schema = schema
 with_tables (t ∷ tables) schema = with_tables tables (with_counter (created schema t))
@@ -80,18 +80,18 @@ pub record MakesLedger (old new : State) : Type 0 where
 -- the notes that stand beside a ledger, in the tree 2, have the rows that they had
 notes_stay : (old new : Trees) → KeepsOthers (record { schema = other_schema; trees = old }) (record { schema = other_schema; trees = new }) → new 2 ≡ old 2
 unfolding same_name
-notes_stay old new kept = (kept.beside other_places other_has).rows.1.0 (record { not_ledger = refl; not_counter = refl })
+notes_stay old new unchanged = (unchanged.beside other_places other_has).rows.1.0 (record { not_ledger = refl; not_counter = refl })
 
 -- so they may not be emptied
 notes_gone : KeepsOthers (record { schema = other_schema; trees = λ tree. (Int (pos 1) ∷ Int (pos 3) ∷ []) ∷ [] }) (record { schema = other_schema; trees = λ tree. [] }) → ⊥
-notes_gone kept = let e = notes_stay _ _ kept in cc
+notes_gone unchanged = let e = notes_stay _ _ unchanged in cc
 
 -- in a database without tables just the ledger's are created
 over_none : (old new : State) → MakesLedger old new → old.now.schema ≡ no_schema → new.now.schema ≡ ledger_schema
 unfolding same_name
 over_none old new made none = (made.grows (empty_is_free old.now none)).schema_is ∙ ap (with_tables ledger_tables) none
 
--- and beside notes they stand behind them, and the notes have the rows that they had
+-- and beside notes they stand after them, and the notes have the rows that they had
 beside_notes : (rows : Trees) (now : Database) → Grows (record { schema = others_schema; trees = rows }) now ledger_tables
     → (now.schema ≡ created (created (created (created (created (created others_schema meta) postings) sequence_table) shares) taps) fixes) × (now.trees 0 ≡ rows 0)
 unfolding same_name

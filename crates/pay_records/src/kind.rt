@@ -12,8 +12,8 @@ use sqlite_resolve::CompileError;
 use sqlite_schema::schema::Schema;
 
 /// What a database is to a ledger.
-#[derive(Clone, Copy, Debug, PartialEq, Eq)]
-pub enum Kind {
+#[derive(Clone, Copy)]
+pub enum DatabaseKind {
     /// None of the five tables is there.
     Blank,
     /// A ledger.
@@ -25,7 +25,7 @@ pub enum Kind {
 }
 
 /// Whether tables are there, with their columns.
-#[derive(Clone, Copy, Debug, PartialEq, Eq)]
+#[derive(Clone, Copy)]
 pub(crate) enum Presence {
     /// None is.
     Missing,
@@ -66,7 +66,7 @@ fn presence_by<S: Alter>(tx: &mut Transaction<'_, S>, sql: &str) -> Result<Prese
     ensures same_reference { tx.new.conn.ghost_name ≡ tx.old.conn.ghost_name }
     ensures value { SeesInSchema S.Store tx.old.conn.now tx.new.conn.now result (λ schema. is_there schema sql.now) }
     ensures store { IsOkUnless result ReadFault.Store }
-    ensures kept { CommitsNothing S.Store tx.old.conn.now tx.new.conn.now }
+    ensures unchanged { CommitsNothing S.Store tx.old.conn.now tx.new.conn.now }
     ensures survives { LeavesAsBefore S.Store tx.old.conn.now tx.new.conn.now }
 {
     let prepared = tx.prepare(sql);
@@ -78,7 +78,7 @@ fn posting_tables<S: Alter>(tx: &mut Transaction<'_, S>) -> Result<Presence, Rea
     ensures same_reference { tx.new.conn.ghost_name ≡ tx.old.conn.ghost_name }
     ensures value { SeesInSchema S.Store tx.old.conn.now tx.new.conn.now result posting_tables_in }
     ensures store { IsOkUnless result ReadFault.Store }
-    ensures kept { CommitsNothing S.Store tx.old.conn.now tx.new.conn.now }
+    ensures unchanged { CommitsNothing S.Store tx.old.conn.now tx.new.conn.now }
     ensures survives { LeavesAsBefore S.Store tx.old.conn.now tx.new.conn.now }
 {
     let meta = presence_by(tx, "SELECT name, version FROM meta")?;
@@ -95,7 +95,7 @@ fn tables<S: Alter>(tx: &mut Transaction<'_, S>) -> Result<Presence, ReadFault>
     ensures same_reference { tx.new.conn.ghost_name ≡ tx.old.conn.ghost_name }
     ensures value { SeesInSchema S.Store tx.old.conn.now tx.new.conn.now result tables_in }
     ensures store { IsOkUnless result ReadFault.Store }
-    ensures kept { CommitsNothing S.Store tx.old.conn.now tx.new.conn.now }
+    ensures unchanged { CommitsNothing S.Store tx.old.conn.now tx.new.conn.now }
     ensures survives { LeavesAsBefore S.Store tx.old.conn.now tx.new.conn.now }
 {
     let postings = posting_tables(tx)?;
@@ -138,49 +138,49 @@ pub fn has_view<S: Alter>(conn: &Connection<S>) -> bool
 }
 
 /// What the rows of `meta` say, where all tables are there.
-fn kind_by(rows: &[Row]) -> Kind
+fn kind_by(rows: &[Row]) -> DatabaseKind
     ensures { result ≡ kind_by rows.now }
 {
     if rows.len() != 1 {
-        return Kind::Other;
+        return DatabaseKind::Other;
     }
     match (rows[0].get_ref(0), rows[0].get_ref(1)) {
         (Ok(ValueRef::Text(name)), Ok(ValueRef::Int(version))) if name == b"farebox".as_slice() => {
             if version == 1 {
-                Kind::Ledger
+                DatabaseKind::Ledger
             } else {
-                Kind::Version
+                DatabaseKind::Version
             }
         }
-        _ => Kind::Other,
+        _ => DatabaseKind::Other,
     }
 }
 
 /// By its tables, and by the rows of `meta`.
-fn by_tables<S: Alter>(tx: &mut Transaction<'_, S>) -> Result<Kind, ReadFault>
+fn by_tables<S: Alter>(tx: &mut Transaction<'_, S>) -> Result<DatabaseKind, ReadFault>
     ensures same_reference { tx.new.conn.ghost_name ≡ tx.old.conn.ghost_name }
     ensures value { Answers S.Store tx.old.conn.now tx.new.conn.now result IsKindOf }
     ensures inside { StaysInside S.Store tx.old.conn.now tx.new.conn.now result }
     ensures store { IsOkUnless result ReadFault.Store }
-    ensures kept { CommitsNothingInside S.Store tx.old.conn.now tx.new.conn.now }
+    ensures unchanged { CommitsNothingInside S.Store tx.old.conn.now tx.new.conn.now }
     ensures survives { LeavesAsBefore S.Store tx.old.conn.now tx.new.conn.now }
 {
     match tables(tx)? {
-        Presence::Missing => Ok(Kind::Blank),
-        Presence::Partly => Ok(Kind::Other),
+        Presence::Missing => Ok(DatabaseKind::Blank),
+        Presence::Partly => Ok(DatabaseKind::Other),
         Presence::There => Ok(kind_by(&query(tx, "SELECT name, version FROM meta", &[])?)),
     }
 }
 
 /// What a database is to a ledger.
-pub fn kind_of<S: Alter>(tx: &mut Transaction<'_, S>) -> Result<Kind, ReadFault>
+pub fn kind_of<S: Alter>(tx: &mut Transaction<'_, S>) -> Result<DatabaseKind, ReadFault>
     ensures same_reference { tx.new.conn.ghost_name ≡ tx.old.conn.ghost_name }
     ensures value { Answers S.Store tx.old.conn.now tx.new.conn.now result (λ old _ kind. IsOfKind old.now kind) }
-    ensures blank { SeesNoTables S.Store tx.old.conn.now tx.new.conn.now result Kind.Blank }
-    ensures ledger { FindsInRows S.Store tx.old.conn.now tx.new.conn.now result (λ _ kind. kind ≡ Kind.Ledger) }
+    ensures blank { SeesNoTables S.Store tx.old.conn.now tx.new.conn.now result DatabaseKind.Blank }
+    ensures ledger { FindsInRows S.Store tx.old.conn.now tx.new.conn.now result (λ _ kind. kind ≡ DatabaseKind.Ledger) }
     ensures inside { StaysInside S.Store tx.old.conn.now tx.new.conn.now result }
     ensures store { IsOkUnless result ReadFault.Store }
-    ensures kept { CommitsNothingInside S.Store tx.old.conn.now tx.new.conn.now }
+    ensures unchanged { CommitsNothingInside S.Store tx.old.conn.now tx.new.conn.now }
     ensures survives { LeavesAsBefore S.Store tx.old.conn.now tx.new.conn.now }
 {
     by_tables(tx)

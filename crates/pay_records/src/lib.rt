@@ -9,7 +9,7 @@ mod told;
 mod write;
 
 pub use fault::ReadFault;
-pub use kind::{Kind, has_view, kind_of};
+pub use kind::{DatabaseKind, has_view, kind_of};
 pub use read::{all_fixes, all_taps, fixes_of, postings_of, shares_of, taps_of};
 pub use tables::make;
 pub use write::{add_fix, add_posting, add_share, add_tap};

@@ -21,7 +21,7 @@ pub(crate) fn query<S: Alter>(
     ensures shown { Answers S.Store tx.old.conn.now tx.new.conn.now result (λ old new rows. Shown sql.now (bound params.now) old new rows.items) }
     ensures store { IsOkUnless result ReadFault.Store }
     ensures inside { StaysInsideOrOut S.Store tx.old.conn.now tx.new.conn.now result }
-    ensures kept { CommitsNothingInside S.Store tx.old.conn.now tx.new.conn.now }
+    ensures unchanged { CommitsNothingInside S.Store tx.old.conn.now tx.new.conn.now }
     ensures survives { LeavesAsBefore S.Store tx.old.conn.now tx.new.conn.now }
 {
     Ok(tx.query_all(sql, params)?)
@@ -37,7 +37,7 @@ pub fn postings_of<S: Alter>(
     ensures found { FindsInRows S.Store tx.old.conn.now tx.new.conn.now result (λ rows list. list.items ≡ postings_of account rows) }
     ensures never_bad { NeverBadOfRows S.Store tx.old.conn.now tx.new.conn.now result }
     ensures inside { StaysInsideOrOut S.Store tx.old.conn.now tx.new.conn.now result }
-    ensures kept { CommitsNothingInside S.Store tx.old.conn.now tx.new.conn.now }
+    ensures unchanged { CommitsNothingInside S.Store tx.old.conn.now tx.new.conn.now }
     ensures survives { LeavesAsBefore S.Store tx.old.conn.now tx.new.conn.now }
 {
     let rows = query(
@@ -58,7 +58,7 @@ pub fn shares_of<S: Alter>(
     ensures found { FindsInRows S.Store tx.old.conn.now tx.new.conn.now result (λ rows list. IsPermutation (shares_of account rows) list.items) }
     ensures never_bad { NeverBadOfRows S.Store tx.old.conn.now tx.new.conn.now result }
     ensures inside { StaysInsideOrOut S.Store tx.old.conn.now tx.new.conn.now result }
-    ensures kept { CommitsNothingInside S.Store tx.old.conn.now tx.new.conn.now }
+    ensures unchanged { CommitsNothingInside S.Store tx.old.conn.now tx.new.conn.now }
     ensures survives { LeavesAsBefore S.Store tx.old.conn.now tx.new.conn.now }
 {
     let rows = query(
@@ -79,7 +79,7 @@ pub fn taps_of<S: Alter>(
     ensures found { FindsInRows S.Store tx.old.conn.now tx.new.conn.now result (λ rows list. list.items ≡ taps_of account rows) }
     ensures never_bad { NeverBadOfRows S.Store tx.old.conn.now tx.new.conn.now result }
     ensures inside { StaysInsideOrOut S.Store tx.old.conn.now tx.new.conn.now result }
-    ensures kept { CommitsNothingInside S.Store tx.old.conn.now tx.new.conn.now }
+    ensures unchanged { CommitsNothingInside S.Store tx.old.conn.now tx.new.conn.now }
     ensures survives { LeavesAsBefore S.Store tx.old.conn.now tx.new.conn.now }
 {
     let rows = query(
@@ -100,7 +100,7 @@ pub fn fixes_of<S: Alter>(
     ensures found { FindsInRows S.Store tx.old.conn.now tx.new.conn.now result (λ rows list. list.items ≡ fixes_of account rows) }
     ensures never_bad { NeverBadOfRows S.Store tx.old.conn.now tx.new.conn.now result }
     ensures inside { StaysInsideOrOut S.Store tx.old.conn.now tx.new.conn.now result }
-    ensures kept { CommitsNothingInside S.Store tx.old.conn.now tx.new.conn.now }
+    ensures unchanged { CommitsNothingInside S.Store tx.old.conn.now tx.new.conn.now }
     ensures survives { LeavesAsBefore S.Store tx.old.conn.now tx.new.conn.now }
 {
     let rows = query(
@@ -120,7 +120,7 @@ pub fn all_taps<S: Alter>(
     ensures found { FindsInRows S.Store tx.old.conn.now tx.new.conn.now result (λ rows list. list.items ≡ rows.taps) }
     ensures never_bad { NeverBadOfRows S.Store tx.old.conn.now tx.new.conn.now result }
     ensures inside { StaysInsideOrOut S.Store tx.old.conn.now tx.new.conn.now result }
-    ensures kept { CommitsNothingInside S.Store tx.old.conn.now tx.new.conn.now }
+    ensures unchanged { CommitsNothingInside S.Store tx.old.conn.now tx.new.conn.now }
     ensures survives { LeavesAsBefore S.Store tx.old.conn.now tx.new.conn.now }
 {
     let rows = query(
@@ -140,7 +140,7 @@ pub fn all_fixes<S: Alter>(
     ensures found { FindsInRows S.Store tx.old.conn.now tx.new.conn.now result (λ rows list. list.items ≡ rows.fixes) }
     ensures never_bad { NeverBadOfRows S.Store tx.old.conn.now tx.new.conn.now result }
     ensures inside { StaysInsideOrOut S.Store tx.old.conn.now tx.new.conn.now result }
-    ensures kept { CommitsNothingInside S.Store tx.old.conn.now tx.new.conn.now }
+    ensures unchanged { CommitsNothingInside S.Store tx.old.conn.now tx.new.conn.now }
     ensures survives { LeavesAsBefore S.Store tx.old.conn.now tx.new.conn.now }
 {
     let rows = query(

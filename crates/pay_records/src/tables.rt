@@ -7,7 +7,7 @@ use sqlite::{Alter, Error, Transaction};
 fn make_meta<S: Alter>(tx: &mut Transaction<'_, S>) -> Result<usize, Error>
     ensures same_reference { tx.new.conn.ghost_name ≡ tx.old.conn.ghost_name }
     ensures made { Does S.Store tx.old.conn.now tx.new.conn.now result (λ old new. Makes old new 0 1) }
-    ensures kept { CommitsNothing S.Store tx.old.conn.now tx.new.conn.now }
+    ensures unchanged { CommitsNothing S.Store tx.old.conn.now tx.new.conn.now }
     ensures survives { LeavesAsBefore S.Store tx.old.conn.now tx.new.conn.now }
 {
     tx.execute(
@@ -19,7 +19,7 @@ fn make_meta<S: Alter>(tx: &mut Transaction<'_, S>) -> Result<usize, Error>
 fn make_postings<S: Alter>(tx: &mut Transaction<'_, S>) -> Result<usize, Error>
     ensures same_reference { tx.new.conn.ghost_name ≡ tx.old.conn.ghost_name }
     ensures made { Does S.Store tx.old.conn.now tx.new.conn.now result (λ old new. Makes old new 1 2) }
-    ensures kept { CommitsNothing S.Store tx.old.conn.now tx.new.conn.now }
+    ensures unchanged { CommitsNothing S.Store tx.old.conn.now tx.new.conn.now }
     ensures survives { LeavesAsBefore S.Store tx.old.conn.now tx.new.conn.now }
 {
     tx.execute(
@@ -31,7 +31,7 @@ fn make_postings<S: Alter>(tx: &mut Transaction<'_, S>) -> Result<usize, Error>
 fn make_shares<S: Alter>(tx: &mut Transaction<'_, S>) -> Result<usize, Error>
     ensures same_reference { tx.new.conn.ghost_name ≡ tx.old.conn.ghost_name }
     ensures made { Does S.Store tx.old.conn.now tx.new.conn.now result (λ old new. Makes old new 2 3) }
-    ensures kept { CommitsNothing S.Store tx.old.conn.now tx.new.conn.now }
+    ensures unchanged { CommitsNothing S.Store tx.old.conn.now tx.new.conn.now }
     ensures survives { LeavesAsBefore S.Store tx.old.conn.now tx.new.conn.now }
 {
     tx.execute(
@@ -43,7 +43,7 @@ fn make_shares<S: Alter>(tx: &mut Transaction<'_, S>) -> Result<usize, Error>
 fn make_taps<S: Alter>(tx: &mut Transaction<'_, S>) -> Result<usize, Error>
     ensures same_reference { tx.new.conn.ghost_name ≡ tx.old.conn.ghost_name }
     ensures made { Does S.Store tx.old.conn.now tx.new.conn.now result (λ old new. Makes old new 3 4) }
-    ensures kept { CommitsNothing S.Store tx.old.conn.now tx.new.conn.now }
+    ensures unchanged { CommitsNothing S.Store tx.old.conn.now tx.new.conn.now }
     ensures survives { LeavesAsBefore S.Store tx.old.conn.now tx.new.conn.now }
 {
     tx.execute(
@@ -55,7 +55,7 @@ fn make_taps<S: Alter>(tx: &mut Transaction<'_, S>) -> Result<usize, Error>
 fn make_fixes<S: Alter>(tx: &mut Transaction<'_, S>) -> Result<usize, Error>
     ensures same_reference { tx.new.conn.ghost_name ≡ tx.old.conn.ghost_name }
     ensures made { Does S.Store tx.old.conn.now tx.new.conn.now result (λ old new. Makes old new 4 5) }
-    ensures kept { CommitsNothing S.Store tx.old.conn.now tx.new.conn.now }
+    ensures unchanged { CommitsNothing S.Store tx.old.conn.now tx.new.conn.now }
     ensures survives { LeavesAsBefore S.Store tx.old.conn.now tx.new.conn.now }
 {
     tx.execute(
@@ -67,7 +67,7 @@ fn make_fixes<S: Alter>(tx: &mut Transaction<'_, S>) -> Result<usize, Error>
 fn add_meta<S: Alter>(tx: &mut Transaction<'_, S>) -> Result<usize, Error>
     ensures same_reference { tx.new.conn.ghost_name ≡ tx.old.conn.ghost_name }
     ensures made { Does S.Store tx.old.conn.now tx.new.conn.now result Begins }
-    ensures kept { CommitsNothing S.Store tx.old.conn.now tx.new.conn.now }
+    ensures unchanged { CommitsNothing S.Store tx.old.conn.now tx.new.conn.now }
     ensures survives { LeavesAsBefore S.Store tx.old.conn.now tx.new.conn.now }
 {
     tx.execute(
@@ -79,7 +79,7 @@ fn add_meta<S: Alter>(tx: &mut Transaction<'_, S>) -> Result<usize, Error>
 fn make_first<S: Alter>(tx: &mut Transaction<'_, S>) -> Result<(), Error>
     ensures same_reference { tx.new.conn.ghost_name ≡ tx.old.conn.ghost_name }
     ensures made { Does S.Store tx.old.conn.now tx.new.conn.now result (λ old new. Makes old new 0 3) }
-    ensures kept { CommitsNothing S.Store tx.old.conn.now tx.new.conn.now }
+    ensures unchanged { CommitsNothing S.Store tx.old.conn.now tx.new.conn.now }
     ensures survives { LeavesAsBefore S.Store tx.old.conn.now tx.new.conn.now }
 {
     make_meta(tx)?;
@@ -92,7 +92,7 @@ fn make_first<S: Alter>(tx: &mut Transaction<'_, S>) -> Result<(), Error>
 pub fn make<S: Alter>(tx: &mut Transaction<'_, S>) -> Result<(), Error>
     ensures same_reference { tx.new.conn.ghost_name ≡ tx.old.conn.ghost_name }
     ensures made { Does S.Store tx.old.conn.now tx.new.conn.now result MakesLedger }
-    ensures kept { CommitsNothing S.Store tx.old.conn.now tx.new.conn.now }
+    ensures unchanged { CommitsNothing S.Store tx.old.conn.now tx.new.conn.now }
     ensures survives { LeavesAsBefore S.Store tx.old.conn.now tx.new.conn.now }
 {
     make_first(tx)?;

@@ -23,7 +23,7 @@ pub fn add_posting<S: Alter>(
     ensures same_reference { tx.new.conn.ghost_name ≡ tx.old.conn.ghost_name }
     ensures adds { ChangesRowsInside S.Store tx.old.conn.now tx.new.conn.now result (λ id. with_posting id account row.now) }
     ensures inside { StaysInside S.Store tx.old.conn.now tx.new.conn.now result }
-    ensures kept { CommitsNothingInside S.Store tx.old.conn.now tx.new.conn.now }
+    ensures unchanged { CommitsNothingInside S.Store tx.old.conn.now tx.new.conn.now }
     ensures survives { LeavesAsBefore S.Store tx.old.conn.now tx.new.conn.now }
 {
     let shown = tx.query_row(
@@ -45,7 +45,7 @@ pub fn add_share<S: Alter>(tx: &mut Transaction<'_, S>, row: &ShareRow) -> Resul
     ensures same_reference { tx.new.conn.ghost_name ≡ tx.old.conn.ghost_name }
     ensures adds { ChangesRows S.Store tx.old.conn.now tx.new.conn.now result (with_share row.now) }
     ensures inside { StaysInside S.Store tx.old.conn.now tx.new.conn.now result }
-    ensures kept { CommitsNothing S.Store tx.old.conn.now tx.new.conn.now }
+    ensures unchanged { CommitsNothing S.Store tx.old.conn.now tx.new.conn.now }
     ensures survives { LeavesAsBefore S.Store tx.old.conn.now tx.new.conn.now }
 {
     tx.execute(
@@ -63,7 +63,7 @@ pub fn add_tap<S: Alter>(
     ensures same_reference { tx.new.conn.ghost_name ≡ tx.old.conn.ghost_name }
     ensures adds { ChangesRows S.Store tx.old.conn.now tx.new.conn.now result (with_tap account row.now) }
     ensures inside { StaysInside S.Store tx.old.conn.now tx.new.conn.now result }
-    ensures kept { CommitsNothing S.Store tx.old.conn.now tx.new.conn.now }
+    ensures unchanged { CommitsNothing S.Store tx.old.conn.now tx.new.conn.now }
     ensures survives { LeavesAsBefore S.Store tx.old.conn.now tx.new.conn.now }
 {
     tx.execute(
@@ -83,7 +83,7 @@ pub fn add_fix<S: Alter>(
     ensures same_reference { tx.new.conn.ghost_name ≡ tx.old.conn.ghost_name }
     ensures adds { ChangesRows S.Store tx.old.conn.now tx.new.conn.now result (with_fix account row.now) }
     ensures inside { StaysInside S.Store tx.old.conn.now tx.new.conn.now result }
-    ensures kept { CommitsNothing S.Store tx.old.conn.now tx.new.conn.now }
+    ensures unchanged { CommitsNothing S.Store tx.old.conn.now tx.new.conn.now }
     ensures survives { LeavesAsBefore S.Store tx.old.conn.now tx.new.conn.now }
 {
     tx.execute(

@@ -14,7 +14,7 @@ use Rattle.std.specs.declared.cmp.Ordering.{Ordering}
 use Rattle.std.specs.declared.cmp.Ordering.TheVariants.{Less, Equal, Greater}
 use Rattle.pay_rules.specs.Accepted.{Accepted, nothing}
 use Rattle.pay_rules.specs.State.{accepted_of, ArePriced}
-use Rattle.pay_restore.specs.Kept.{held, IsKept, AreKept}
+use Rattle.pay_restore.specs.Filed.{held, IsFiled, AreFiled}
 
 abbrev pub at : {F : Type 0} → ℕ → List (ℕ × F) → Option F
 at q es = lookup (is_at (nat_cmp q)) es
@@ -100,9 +100,9 @@ module _ {F : Type 0} (P : ℕ × F → Type 0) where
       by false off same more = more same
 
 module _ {F : Type 0} (account : F → ℕ) (IsPriced : F → Type 0) where
-  pub kept_and_one : (es : List (ℕ × F)) (k : ℕ) (a : F) → k ≡ account a → 1 ≤ account a → IsPriced a → AreKept account IsPriced es → AreKept account IsPriced (insert_entry nat_cmp es k a)
+  pub kept_and_one : (es : List (ℕ × F)) (k : ℕ) (a : F) → k ≡ account a → 1 ≤ account a → IsPriced a → AreFiled account IsPriced es → AreFiled account IsPriced (insert_entry nat_cmp es k a)
   kept_and_one es k a own from_1 priced kept =
-      all_and_one (IsKept account IsPriced) es k a (λ j same. let number = one_number k j same in (sym own ∙ number, subst (λ n. 1 ≤ n) (sym own ∙ number) from_1, priced)) kept
+      all_and_one (IsFiled account IsPriced) es k a (λ j same. let number = one_number k j same in (sym own ∙ number, subst (λ n. 1 ≤ n) (sym own ∙ number) from_1, priced)) kept
 
 -- ---- all in order
 
@@ -130,19 +130,19 @@ module _ {F : Type 0} (account : F → ℕ) (accepted : F → Accepted) (IsPrice
       get-from_entries nat_cmp_total (pairs es) q ∙ sym (get-from_sorted nat_cmp (pairs es) q sorted)))
       ∙ entries-from_sorted nat_cmp (pairs es) sorted
 
-  by_account : (es : List (ℕ × F)) → AreKept account IsPriced es → pairs es ≡ map (λ (a : F). (account a, accepted a)) (map (λ (e : ℕ × F). e.1) es)
+  by_account : (es : List (ℕ × F)) → AreFiled account IsPriced es → pairs es ≡ map (λ (a : F). (account a, accepted a)) (map (λ (e : ℕ × F). e.1) es)
   by_account [] kept = refl
   by_account (e ∷ es) kept = λ i. (sym kept.0.0 i, accepted e.1) ∷ by_account es kept.1 i
 
-  pub all_in_order : (es : List (ℕ × F)) → AreKept account IsPriced es → IsStrictlySortedBy nat_cmp (map (λ (e : ℕ × F). e.0) es)
+  pub all_in_order : (es : List (ℕ × F)) → AreFiled account IsPriced es → IsStrictlySortedBy nat_cmp (map (λ (e : ℕ × F). e.0) es)
       → finite.entries (held accepted es) ≡ map (λ (a : F). (account a, accepted a)) (map (λ (e : ℕ × F). e.1) es)
   all_in_order es kept sorted = as_they_are es (rises es sorted) ∙ by_account es kept
 
-  pub numbers : (es : List (ℕ × F)) → AreKept account IsPriced es → map (λ (e : ℕ × F). e.0) es ≡ map account (map (λ (e : ℕ × F). e.1) es)
+  pub numbers : (es : List (ℕ × F)) → AreFiled account IsPriced es → map (λ (e : ℕ × F). e.0) es ≡ map account (map (λ (e : ℕ × F). e.1) es)
   numbers [] kept = refl
   numbers (e ∷ es) kept = λ i. sym kept.0.0 i ∷ numbers es kept.1 i
 
-  pub all_priced : (es : List (ℕ × F)) → AreKept account IsPriced es → ArePriced account IsPriced (map (λ (e : ℕ × F). e.1) es)
+  pub all_priced : (es : List (ℕ × F)) → AreFiled account IsPriced es → ArePriced account IsPriced (map (λ (e : ℕ × F). e.1) es)
   all_priced [] kept = tt
   all_priced (e ∷ es) kept = ((subst (λ n. 1 ≤ n) (sym kept.0.0) kept.0.1, kept.0.2), all_priced es kept.1)
 

@@ -58,17 +58,17 @@ module _ (tables : FareTables) (state mid end : State) (before after : Accepted)
 -- ---- the whole archive
 
 module _ (tables : FareTables) (taps : List (ℤ × TapRow)) (fixes : List (ℤ × FixRow)) (start : State) (none : start ≡ empty) where
-  behind_taps : restored tables taps fixes ≡ (with_tap_rows tables start taps >>= λ tapped. with_fix_rows tables tapped fixes >>= λ all. Some (entries all))
-  behind_taps = ap (λ s. with_tap_rows tables s taps >>= λ tapped. with_fix_rows tables tapped fixes >>= λ all. Some (entries all)) (sym none)
+  after_taps : restored tables taps fixes ≡ (with_tap_rows tables start taps >>= λ tapped. with_fix_rows tables tapped fixes >>= λ all. Some (entries all))
+  after_taps = ap (λ s. with_tap_rows tables s taps >>= λ tapped. with_fix_rows tables tapped fixes >>= λ all. Some (entries all)) (sym none)
 
-  behind_fixes : (mid : State) → with_tap_rows tables start taps ≡ Some mid → restored tables taps fixes ≡ (with_fix_rows tables mid fixes >>= λ all. Some (entries all))
-  behind_fixes mid tapped = behind_taps ∙ ap (λ (o : Option State). o >>= λ tapped. with_fix_rows tables tapped fixes >>= λ all. Some (entries all)) tapped
+  after_fixes : (mid : State) → with_tap_rows tables start taps ≡ Some mid → restored tables taps fixes ≡ (with_fix_rows tables mid fixes >>= λ all. Some (entries all))
+  after_fixes mid tapped = after_taps ∙ ap (λ (o : Option State). o >>= λ tapped. with_fix_rows tables tapped fixes >>= λ all. Some (entries all)) tapped
 
   pub tap_refused : with_tap_rows tables start taps ≡ None → restored tables taps fixes ≡ None
-  tap_refused refused = behind_taps ∙ ap (λ (o : Option State). o >>= λ tapped. with_fix_rows tables tapped fixes >>= λ all. Some (entries all)) refused
+  tap_refused refused = after_taps ∙ ap (λ (o : Option State). o >>= λ tapped. with_fix_rows tables tapped fixes >>= λ all. Some (entries all)) refused
 
   pub fix_refused : (mid : State) → with_tap_rows tables start taps ≡ Some mid → with_fix_rows tables mid fixes ≡ None → restored tables taps fixes ≡ None
-  fix_refused mid tapped refused = behind_fixes mid tapped ∙ ap (λ (o : Option State). o >>= λ all. Some (entries all)) refused
+  fix_refused mid tapped refused = after_fixes mid tapped ∙ ap (λ (o : Option State). o >>= λ all. Some (entries all)) refused
 
   pub all_restored : (mid end : State) (list : List (ℕ × Accepted)) → with_tap_rows tables start taps ≡ Some mid → with_fix_rows tables mid fixes ≡ Some end → entries end ≡ list → restored tables taps fixes ≡ Some list
-  all_restored mid end list tapped fixed is = behind_fixes mid tapped ∙ ap (λ (o : Option State). o >>= λ all. Some (entries all)) fixed ∙ ap Some is
+  all_restored mid end list tapped fixed is = after_fixes mid tapped ∙ ap (λ (o : Option State). o >>= λ all. Some (entries all)) fixed ∙ ap Some is

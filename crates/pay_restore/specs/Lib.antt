@@ -1,5 +1,5 @@
 pub mod Restored
-pub mod Kept
+pub mod Filed
 pub mod Archives
 pub mod Laws
 pub mod Words

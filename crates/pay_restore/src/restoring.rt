@@ -4,7 +4,7 @@ ghost use Rattle.std.specs.List.Sorted.{IsStrictlySortedBy};
 ghost use Rattle.std.specs.Ordering.{nat_cmp, eq_by_cmp};
 ghost use Rattle.pay_set_rows.specs.Readings.{IsRefusedAsBad};
 ghost use Rattle.pay_rules.specs.State.{ArePriced};
-ghost use Rattle.pay_restore.specs.Kept.{held, AreKept};
+ghost use Rattle.pay_restore.specs.Filed.{held, AreFiled};
 ghost use Rattle.pay_restore.specs.Restored.{with_tap_row, with_tap_rows, with_fix_row, with_fix_rows, restored, with_accepted, IsRestoredAs, IsWantFor};
 
 use crate::keeping::{in_order, keep, take};
@@ -23,10 +23,10 @@ fn add_tap<F: Fares>(
     accounts: &mut BTreeMap<u32, F>,
     row: &(i64, TapRow),
 ) -> Result<(), PostFault>
-    requires { AreKept F.account (F.IsPricedBy tables.now) accounts.old.entries }
+    requires { AreFiled F.account (F.IsPricedBy tables.now) accounts.old.entries }
     ensures answer { IsRestoredAs result (with_tap_row tables.now (held F.accepted accounts.old.entries) row.now) (held F.accepted accounts.new.entries) }
     ensures memory { IfErr result (IsWantFor (with_tap_row tables.now (held F.accepted accounts.old.entries) row.now)) }
-    ensures kept { OnOk result (AreKept F.account (F.IsPricedBy tables.now) accounts.new.entries) }
+    ensures kept { OnOk result (AreFiled F.account (F.IsPricedBy tables.now) accounts.new.entries) }
 {
     let Some(tap) = tap_of_row(row) else {
         return Err(PostFault::BadArchive);
@@ -44,10 +44,10 @@ fn add_fix<F: Fares>(
     accounts: &mut BTreeMap<u32, F>,
     row: &(i64, FixRow),
 ) -> Result<(), PostFault>
-    requires { AreKept F.account (F.IsPricedBy tables.now) accounts.old.entries }
+    requires { AreFiled F.account (F.IsPricedBy tables.now) accounts.old.entries }
     ensures answer { IsRestoredAs result (with_fix_row tables.now (held F.accepted accounts.old.entries) row.now) (held F.accepted accounts.new.entries) }
     ensures memory { IfErr result (IsWantFor (with_fix_row tables.now (held F.accepted accounts.old.entries) row.now)) }
-    ensures kept { OnOk result (AreKept F.account (F.IsPricedBy tables.now) accounts.new.entries) }
+    ensures kept { OnOk result (AreFiled F.account (F.IsPricedBy tables.now) accounts.new.entries) }
 {
     let Some(fix) = fix_of_row(row) else {
         return Err(PostFault::BadArchive);
@@ -65,9 +65,9 @@ fn add_taps<F: Fares>(
     accounts: &mut BTreeMap<u32, F>,
     rows: &[(i64, TapRow)],
 ) -> Result<(), PostFault>
-    requires { AreKept F.account (F.IsPricedBy tables.now) accounts.old.entries }
+    requires { AreFiled F.account (F.IsPricedBy tables.now) accounts.old.entries }
     ensures answer { IsRestoredAs result (with_tap_rows tables.now (held F.accepted accounts.old.entries) rows.now) (held F.accepted accounts.new.entries) }
-    ensures kept { OnOk result (AreKept F.account (F.IsPricedBy tables.now) accounts.new.entries) }
+    ensures kept { OnOk result (AreFiled F.account (F.IsPricedBy tables.now) accounts.new.entries) }
 {
     for row in rows {
         add_tap(alloc, tables, accounts, row)?;
@@ -82,9 +82,9 @@ fn add_fixes<F: Fares>(
     accounts: &mut BTreeMap<u32, F>,
     rows: &[(i64, FixRow)],
 ) -> Result<(), PostFault>
-    requires { AreKept F.account (F.IsPricedBy tables.now) accounts.old.entries }
+    requires { AreFiled F.account (F.IsPricedBy tables.now) accounts.old.entries }
     ensures answer { IsRestoredAs result (with_fix_rows tables.now (held F.accepted accounts.old.entries) rows.now) (held F.accepted accounts.new.entries) }
-    ensures kept { OnOk result (AreKept F.account (F.IsPricedBy tables.now) accounts.new.entries) }
+    ensures kept { OnOk result (AreFiled F.account (F.IsPricedBy tables.now) accounts.new.entries) }
 {
     for row in rows {
         add_fix(alloc, tables, accounts, row)?;

@@ -25,7 +25,7 @@ pub struct ShareRow {
 }
 
 /// An accepted tap as it is archived, beside its account.
-#[derive(Clone, Copy, Debug, PartialEq, Eq)]
+#[derive(Clone, Copy, PartialEq, Eq)]
 pub struct TapRow {
     pub reader: i64,
     pub seq: i64,
@@ -41,7 +41,7 @@ pub struct TapRow {
 }
 
 /// An accepted correction as it is archived, beside its account.
-#[derive(Clone, Copy, Debug, PartialEq, Eq)]
+#[derive(Clone, Copy, PartialEq, Eq)]
 pub struct FixRow {
     pub staff: i64,
     pub seq: i64,

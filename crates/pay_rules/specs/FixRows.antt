@@ -151,8 +151,8 @@ on_the_day = refl
 before_the_days : given_by (fix 1 (gives 19_729 100) ∷ []) 19_730 19_736 (fix 1 (gives 19_729 100)) ≡ 0
 before_the_days = refl
 
-behind_the_days : given_by (fix 1 (gives 19_737 100) ∷ []) 19_730 19_736 (fix 1 (gives 19_737 100)) ≡ 0
-behind_the_days = refl
+after_the_days : given_by (fix 1 (gives 19_737 100) ∷ []) 19_730 19_736 (fix 1 (gives 19_737 100)) ≡ 0
+after_the_days = refl
 
 credit_dropped : given_by (fix 1 (gives 19_730 100) ∷ fix 2 (Drop 3 1) ∷ []) 19_730 19_736 (fix 1 (gives 19_730 100)) ≡ 0
 credit_dropped = refl

@@ -44,7 +44,7 @@ abbrev pub IsPart : FareTables → RailPart → Type 0
 IsPart tables (part.Leg l) = is_leg tables l.entry l.exit ≡ true
 IsPart tables (part.Lone tap) = Unit {0}
 
--- among the parts is the leg of these two taps, behind the parts of these taps
+-- among the parts is the leg of these two taps, after the parts of these taps
 abbrev pub HasLeg : List RailPart → List Touch → Touch → Touch → Type 0
 HasLeg parts before entry exit = (front back : List RailPart) × (parts ≡ front ++ leg entry exit ∷ back) × (taps_of front ≡ before)
 

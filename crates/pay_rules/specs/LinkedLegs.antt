@@ -14,13 +14,13 @@ abbrev pub all_legs : LinkedLegs → List Leg
 all_legs legs = legs.first ∷ legs.others
 
 -- the last of legs that begin so
-abbrev pub last_behind : Leg → List Leg → Leg
-last_behind leg [] = leg
-last_behind leg (next ∷ later) = last_behind next later
+abbrev pub last_after : Leg → List Leg → Leg
+last_after leg [] = leg
+last_after leg (next ∷ later) = last_after next later
 
 -- the last of them
 abbrev pub last_leg : LinkedLegs → Leg
-last_leg legs = last_behind legs.first legs.others
+last_leg legs = last_after legs.first legs.others
 
 -- legs and the ones that go on from them
 abbrev pub joined : LinkedLegs → LinkedLegs → LinkedLegs

@@ -43,7 +43,7 @@ is_excepted tables (Bus tap pays) = false
 abbrev pub is_peak : FareTables → Journey → Bool
 is_peak tables journey = is_peak_time tables (first_tap journey).stamp && not (is_excepted tables journey)
 
--- ---- worked rows: a Sunday, 2024-01-07, and the days behind it
+-- ---- worked rows: a Sunday, 2024-01-07, and the days after it
 
 sunday : is_weekday 19_729 ≡ false
 sunday = refl

@@ -28,7 +28,7 @@ is_linked tables leg next =
 abbrev pub alone : Leg → LinkedLegs
 alone leg = record { first = leg; others = [] }
 
--- a run before journeys: it joins a run right behind it, if its last leg is linked with that one's first
+-- a run before journeys: it joins a run right after it, if its last leg is linked with that one's first
 abbrev pub run_before : FareTables → LinkedLegs → List Journey → List Journey
 run_before tables run (journey.Run next ∷ later) =
     if is_linked tables (last_leg run) next.first then journey.Run (joined run next) ∷ later else journey.Run run ∷ journey.Run next ∷ later

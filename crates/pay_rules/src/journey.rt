@@ -36,7 +36,7 @@ impl Run {
         }
     }
 
-    /// One leg more, behind the others. An `Err` changes nothing.
+    /// One leg more, after the others. An `Err` changes nothing.
     pub fn push(&mut self, leg: Leg) -> Result<(), AllocError>
         ensures ok { OnOk result (self.new ≡ record { first = self.old.first; others = self.old.others ++ leg ∷ [] }) }
         ensures err { OnErr result (self.new ≡ self.old) }
@@ -52,7 +52,7 @@ impl Run {
         &self.first
     }
 
-    /// The legs behind the first.
+    /// The legs after the first.
     pub fn others(&self) -> &[Leg]
         ensures { result.now ≡ self.now.others }
     {

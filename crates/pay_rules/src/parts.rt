@@ -1,7 +1,7 @@
 use crate::tap::Touch;
 
 /// A way by rail, from a tap on the way in to the one on the way out.
-#[derive(Clone, Copy, Debug, PartialEq, Eq)]
+#[derive(Clone, Copy)]
 pub struct Leg {
     /// The tap on the way in.
     pub entry: Touch,
@@ -10,7 +10,7 @@ pub struct Leg {
 }
 
 /// What a rail tap belongs to.
-#[derive(Clone, Copy, Debug, PartialEq, Eq)]
+#[derive(Clone, Copy)]
 pub enum RailPart {
     /// Two taps that are a leg.
     Leg(Leg),

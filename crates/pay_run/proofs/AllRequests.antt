@@ -13,7 +13,7 @@ use Rattle.pay_shard.specs.declared.item.Item.{Item}
 use Rattle.pay_rules.specs.State.{State}
 use Rattle.pay_shard.specs.Words.{is_new as is_shard_new, item_step, new_items, replay, AreInPlace, commands_of as commands_of_items}
 use Rattle.pay_shard.specs.declared.reply.Answer.{Answer}
-use Rattle.pay_wire.specs.declared.reply.Reply.{Reply}
+use Rattle.pay_wire.specs.declared.reply.SpelledReply.{SpelledReply}
 use Rattle.pay_session.specs.Words.{asks_of, Taken, Event, all_put, commands_of, AreAnswered, AreServed}
 use Rattle.pay_journal.specs.Words.{AskedByItsLine, line_of, lines_of_items}
 use Rattle.pay_session.specs.declared.request.Request.{Request}
@@ -22,13 +22,13 @@ use Rattle.pay_run.specs.Journals.{is_new, new_requests}
 use Rattle.pay_run.specs.KeptLines.{line_of_request, lines_of_requests}
 use Rattle.pay_run.specs.Machine.{Machine, Failure, is_keeping, Step, step, step_asks}
 use Rattle.pay_run.specs.Outcomes.{outcome, reply_then, tells_failure, any_failure}
-use Rattle.pay_run.proofs.Journals.{replay_behind}
+use Rattle.pay_run.proofs.Journals.{replay_after}
 use Rattle.pay_run.proofs.OneRequest.{machine_at, line_kept, lines_new, one_steps, was_sound, transcript}
 use Rattle.pay_run.proofs.RequestLines.{line_is}
 use Rattle.pay_run.proofs.Tills.{IsPlain}
 
 -- what was replied
-abbrev pub replies_of : List Event → List Reply
+abbrev pub replies_of : List Event → List SpelledReply
 replies_of = map (λ (e : Event). e.reply)
 
 -- The requests were answered as the machine does, to the end of the journal. The lines of its newly accepted items are those of the
@@ -81,40 +81,40 @@ if_then : (b : Bool) (item : Item) (items more : List Item) → (if b then item 
 if_then true item items more = refl
 if_then false item items more = refl
 
--- those of more items stand behind those of the first
-new_behind : (tables : FareTables) (state : State) (items more : List Item) → new_items tables state (items ++ more) ≡ new_items tables state items ++ new_items tables (replay tables state items) more
-new_behind tables state [] more = refl
-new_behind tables state (item ∷ items) more =
+-- those of more items stand after those of the first
+new_after : (tables : FareTables) (state : State) (items more : List Item) → new_items tables state (items ++ more) ≡ new_items tables state items ++ new_items tables (replay tables state items) more
+new_after tables state [] more = refl
+new_after tables state (item ∷ items) more =
     let b = is_shard_new (item_step tables state item).reply in
     let next = (item_step tables state item).after in
-    ap (λ l. if b then item ∷ l else l) (new_behind tables next items more) ∙ if_then b item (new_items tables next items) (new_items tables (replay tables next items) more)
+    ap (λ l. if b then item ∷ l else l) (new_after tables next items more) ∙ if_then b item (new_items tables next items) (new_items tables (replay tables next items) more)
 
-lines_behind : (tables : FareTables) (base : State) (front own rest : List Item)
+lines_after : (tables : FareTables) (base : State) (front own rest : List Item)
     → lines_new tables (replay tables base front) (own ++ rest) ≡ lines_new tables (replay tables base front) own ++ lines_new tables (replay tables base (front ++ own)) rest
-lines_behind tables base front own rest =
+lines_after tables base front own rest =
     let state = replay tables base front in
-    ap lines_of_items (new_behind tables state own rest)
+    ap lines_of_items (new_after tables state own rest)
     ∙ flat_map-append (λ (i : Item). line_of i.entry.command) (new_items tables state own) (new_items tables (replay tables state own) rest)
-    ∙ ap (λ (s : State). lines_new tables state own ++ lines_new tables s rest) (sym (replay_behind tables base front own))
+    ∙ ap (λ (s : State). lines_new tables state own ++ lines_new tables s rest) (sym (replay_after tables base front own))
 
 -- one request before the others
 request_before : (b : Bool) (r : Request) (new : List Request) → (if b then line_of_request r else []) ++ lines_of_requests new ≡ lines_of_requests (if b then r ∷ new else new)
 request_before true r new = refl
 request_before false r new = refl
 
-module _ {T : Type 0} (Refuses : DeskFault → Type 0) (Late Fails : Type 0) (Closes : T → ℕ → ℕ → List Taken → Result (List Posting) Refusal → T → Type 0) (Sound : T → Type 0) (Tells : T → Option LedgerParts → Type 0) (plain : IsPlain Refuses Late Fails Closes Sound Tells) (by_line : AskedByItsLine) (zone : TimeZone) where
+module _ {T : Type 0} (Refuses : DeskFault → Type 0) (Late Fails : Type 0) (Closes : T → ℕ → ℕ → List Taken → Result (List Posting) Refusal → T → Type 0) (Sound : T → Type 0) (MayAnswer : T → Option LedgerParts → Type 0) (plain : IsPlain Refuses Late Fails Closes Sound MayAnswer) (by_line : AskedByItsLine) (zone : TimeZone) where
   -- what a till keeps could be told all along where it can be in the end
   pub sound_before : (requests : List Request) (events : List Event) (before after : T) → AreServed 1 Refuses Late Closes zone before requests events after → Sound after → Sound before
   sound_before [] [] before after served sound = subst Sound served sound
   sound_before [] (e ∷ es) before after served sound = absurd served
   sound_before (r ∷ rs) [] before after served sound = absurd served
   sound_before (r ∷ rs) (e ∷ es) before after served sound =
-      was_sound Refuses Late Fails Closes Sound Tells plain zone (asks_of zone r) e before served.0 served.1 (sound_before rs es served.0 after served.2 sound)
+      was_sound Refuses Late Fails Closes Sound MayAnswer plain zone (asks_of zone r) e before served.0 served.1 (sound_before rs es served.0 after served.2 sound)
 
   pub all_run : (number : ℕ) (tables : FareTables) (base : State) (front back journal : List Item) (ledger : Option LedgerParts) (requests : List Request) (events : List Event) (before after : T)
       → AreInPlace 0 journal → journal ≡ front ++ back → AreServed 1 Refuses Late Closes zone before requests events after
-      → commands_of_items back ≡ commands_of (all_put events) → AreAnswered (transcript number tables base journal) (all_put events) → Sound after → Tells before ledger
-      → RunsTo zone tables base front back ledger requests events Fails (Tells after)
+      → commands_of_items back ≡ commands_of (all_put events) → AreAnswered (transcript number tables base journal) (all_put events) → Sound after → MayAnswer before ledger
+      → RunsTo zone tables base front back ledger requests events Fails (MayAnswer after)
   all_run number tables base front back journal ledger [] [] before after placed whole served commands said_so sound tells = record {
     marks = [];
     ledger_after = ledger;
@@ -122,17 +122,17 @@ module _ {T : Type 0} (Refuses : DeskFault → Type 0) (Late Fails : Type 0) (Cl
     ample = λ e. refl;
     kept = λ _. refl;
     lines = ap (lines_new tables (replay tables base front)) (none_left back commands);
-    holds = subst (λ t. Tells t ledger) (sym served) tells;
+    holds = subst (λ t. MayAnswer t ledger) (sym served) tells;
   }
   all_run number tables base front back journal ledger [] (e ∷ es) before after placed whole served commands said_so sound tells = absurd served
   all_run number tables base front back journal ledger (r ∷ rs) [] before after placed whole served commands said_so sound tells = absurd served
   all_run number tables base front back journal ledger (r ∷ rs) (e ∷ es) before after placed whole served commands said_so sound tells =
       let transcript_of = transcript number tables base journal in
       let between = sound_before rs es served.0 after served.2 sound in
-      let one = one_steps Refuses Late Fails Closes Sound Tells plain number zone tables base front back journal ledger (asks_of zone r) e (commands_of (all_put es)) before served.0 placed whole served.1 (commands ∙ commands_append e.put (all_put es))
+      let one = one_steps Refuses Late Fails Closes Sound MayAnswer plain number zone tables base front back journal ledger (asks_of zone r) e (commands_of (all_put es)) before served.0 placed whole served.1 (commands ∙ commands_append e.put (all_put es))
       (said_first transcript_of e.put (all_put es) said_so) between tells in
-      let whole_behind : journal ≡ (front ++ one.own) ++ one.rest = whole ∙ ap (λ l. front ++ l) one.parts ∙ sym (append_assoc front one.own one.rest) in
-      let later = all_run number tables base (front ++ one.own) one.rest journal one.ledger_after rs es served.0 after placed whole_behind served.2 one.commands (said_rest transcript_of e.put (all_put es) said_so) sound one.holds in
+      let whole_after : journal ≡ (front ++ one.own) ++ one.rest = whole ∙ ap (λ l. front ++ l) one.parts ∙ sym (append_assoc front one.own one.rest) in
+      let later = all_run number tables base (front ++ one.own) one.rest journal one.ledger_after rs es served.0 after placed whole_after served.2 one.commands (said_rest transcript_of e.put (all_put es) said_so) sound one.holds in
       let first : step one.mark (machine_at zone tables base front ledger) r ≡ record { reply = e.reply; after = machine_at zone tables base (front ++ one.own) one.ledger_after } = stepped one.mark r (machine_at zone tables base front ledger) _ one.step in
       record {
         marks = one.mark ∷ later.marks;
@@ -141,7 +141,7 @@ module _ {T : Type 0} (Refuses : DeskFault → Type 0) (Late Fails : Type 0) (Cl
             ∙ ap (λ l. record { replies = e.reply ∷ replies_of es; after = machine_at zone tables base l later.ledger_after }) (append_assoc front one.own one.rest ∙ ap (λ l. front ++ l) (sym one.parts));
         ample = λ h. let both = both_false (tells_failure e.reply) (any_failure (replies_of es)) h in or_false (is_some one.mark) (list_any is_some later.marks) (ap is_some (one.ample both.0)) (later.ample both.1);
         kept = λ never. or_false (is_keeping one.mark) (list_any is_keeping later.marks) (one.kept never) (later.kept never);
-        lines = ap (lines_new tables (replay tables base front)) one.parts ∙ lines_behind tables base front one.own one.rest
+        lines = ap (lines_new tables (replay tables base front)) one.parts ∙ lines_after tables base front one.own one.rest
             ∙ ap (λ l. l ++ lines_new tables (replay tables base (front ++ one.own)) one.rest) (one.lines ∙ line_is by_line one.mark (machine_at zone tables base front ledger) r e.reply (ap (λ (s : Step). s.reply) first))
             ∙ ap (λ l. (if is_new e.reply then line_of_request r else []) ++ l) later.lines
             ∙ request_before (is_new e.reply) r (new_requests later.marks (machine_at zone tables base (front ++ one.own) one.ledger_after) rs)

@@ -9,7 +9,7 @@ use Rattle.pay_shard.specs.Words.{run, replay, asked_by, AreUnmarked, accepted_a
 use Rattle.pay_session.specs.declared.request.Request.{Request}
 use Rattle.pay_run.specs.Machine.{Machine, Failure}
 use Rattle.pay_run.specs.Outcomes.{outcome, AreAllPriced, accepted_requests}
-use Rattle.pay_run.proofs.Asked.{commands_for, items_for, same_commands, asked_by_items, items_unmarked, behind, ends_behind, accepted_items, all_asked, all_priced, same_ledger}
+use Rattle.pay_run.proofs.Asked.{commands_for, items_for, same_commands, asked_by_items, items_unmarked, beyond, ends_after, accepted_items, all_asked, all_priced, same_ledger}
 
 -- the laws of a shard's journals, taken as premises, since another crate's proofs are not named here
 abbrev JournalsForget : Type 0
@@ -29,15 +29,15 @@ accounts_same : (m : Machine) (list other : List Request) (marks others : List (
     → replay m.tables m.accounts (items_for others m.zone other) ≡ replay m.tables m.accounts (items_for marks m.zone list)
     → (outcome others m other).after.accounts ≡ (outcome marks m list).after.accounts
 accounts_same m list other marks others e =
-    ap (λ (n : Machine). n.accounts) (ends_behind others m other) ∙ e ∙ sym (ap (λ (n : Machine). n.accounts) (ends_behind marks m list))
+    ap (λ (n : Machine). n.accounts) (ends_after others m other) ∙ e ∙ sym (ap (λ (n : Machine). n.accounts) (ends_after marks m list))
 
 -- and to one machine, where the ledger stays
 ends_alike : (m : Machine) (list other : List Request)
     → replay m.tables m.accounts (items_for [] m.zone other) ≡ replay m.tables m.accounts (items_for [] m.zone list)
     → (outcome [] m other).after.ledger ≡ m.ledger → (outcome [] m list).after.ledger ≡ m.ledger → (outcome [] m other).after ≡ (outcome [] m list).after
 ends_alike m list other e kept stays =
-    ends_behind [] m other ∙ ap (λ l. behind m (items_for [] m.zone other) l) (kept ∙ sym stays)
-    ∙ ap (λ (s : State). record { zone = m.zone; tables = m.tables; accounts = s; ledger = (outcome [] m list).after.ledger }) e ∙ sym (ends_behind [] m list)
+    ends_after [] m other ∙ ap (λ l. beyond m (items_for [] m.zone other) l) (kept ∙ sym stays)
+    ∙ ap (λ (s : State). record { zone = m.zone; tables = m.tables; accounts = s; ledger = (outcome [] m list).after.ledger }) e ∙ sym (ends_after [] m list)
 
 pub forgets : JournalsForget → (m : Machine) (list other : List Request) → ((r : Request) → IsIn list r ↔ IsIn other r) → AreAllPriced (outcome [] m list).replies
     → AreAllPriced (outcome [] m other).replies × ((outcome [] m other).after ≡ (outcome [] m list).after)

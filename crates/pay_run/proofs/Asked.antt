@@ -7,14 +7,14 @@ use Rattle.pay_rules.specs.InTurn.{IsIn}
 use Rattle.pay_postings.specs.Words.{LedgerParts}
 use Rattle.pay_shard.specs.declared.asked.Asked.{Asked}
 use Rattle.pay_shard.specs.declared.item.Item.{Item}
-use Rattle.pay_shard.specs.declared.reply.Reply.{Reply as ShardReply}
+use Rattle.pay_shard.specs.declared.reply.Reply.{Reply}
 use Rattle.pay_shard.specs.declared.reply.Reply.TheVariants as shard_replies
 use Rattle.pay_shard.specs.Words.{run, replay, asked_by, AreUnmarked, accepted_asked, is_priced as is_shard_priced, AreAllPriced as AreShardPriced, step as shard_step}
 use Rattle.pay_session.specs.Words.{asks_of, said, lacks_memory}
 use Rattle.pay_session.specs.declared.asks.Asks.{Asks}
 use Rattle.pay_session.specs.declared.asks.Asks.TheVariants as asks
 use Rattle.pay_session.specs.declared.request.Request.{Request}
-use Rattle.pay_wire.specs.declared.reply.Reply.TheVariants as replies
+use Rattle.pay_wire.specs.declared.reply.SpelledReply.TheVariants as replies
 use Rattle.pay_run.specs.Machine.{Machine, Failure, Memory, Store, Desk, Keeping, is_keeping, refusal_of_command, Step, step_close, step_asks, step}
 use Rattle.pay_run.specs.Outcomes.{outcome, tells_loss, is_priced, AreAllPriced, accepted_requests}
 use Rattle.pay_run.proofs.Closes.{of_close}
@@ -56,7 +56,7 @@ at_front : (zone : TimeZone) (r : Request) (list : List Request) (a : Asked) (of
     → IsIn (command_then of (commands_for zone list)) a → From zone (r ∷ list) a
 at_front zone r list a (asks.Put b) e later h = elim h [
   | inl is ↦ (r, inl refl, e ∙ ap asks.Put is)
-  | inr behind ↦ let from = later behind in (from.0, inr from.1, from.2)
+  | inr beyond ↦ let from = later beyond in (from.0, inr from.1, from.2)
 ]
 at_front zone r list a (asks.Close day) e later h = let from = later h in (from.0, inr from.1, from.2)
 at_front zone r list a asks.Quit e later h = let from = later h in (from.0, inr from.1, from.2)
@@ -111,27 +111,27 @@ items_unmarked zone (r ∷ list) = unmarked_one (asks_of zone r) (items_for [] z
 
 -- ---- where the machine ends
 
--- a machine behind the items of a journal, with a ledger
-abbrev pub behind : Machine → List Item → Option LedgerParts → Machine
-behind m items ledger = record { zone = m.zone; tables = m.tables; accounts = replay m.tables m.accounts items; ledger = ledger }
+-- a machine after the items of a journal, with a ledger
+abbrev pub beyond : Machine → List Item → Option LedgerParts → Machine
+beyond m items ledger = record { zone = m.zone; tables = m.tables; accounts = replay m.tables m.accounts items; ledger = ledger }
 
-behind_one : (mark : Option Failure) (m : Machine) (of : Asks) (later : TimeZone → List Item) (ledger : Option LedgerParts)
-    → behind (step_asks mark m of).after (later (step_asks mark m of).after.zone) ledger ≡ behind m (item_then (is_some mark) of (later m.zone)) ledger
-behind_one None m (asks.Put a) later ledger = refl
-behind_one (Some failure) m (asks.Put a) later ledger = refl
-behind_one mark m (asks.Close day) later ledger =
-    of_close (λ (s : Step). behind s.after (later s.after.zone) ledger ≡ behind m (later m.zone) ledger) m (λ reply other plain. refl) mark day m.ledger
-behind_one mark m asks.Quit later ledger = refl
-behind_one mark m (asks.No why) later ledger = refl
+after_one : (mark : Option Failure) (m : Machine) (of : Asks) (later : TimeZone → List Item) (ledger : Option LedgerParts)
+    → beyond (step_asks mark m of).after (later (step_asks mark m of).after.zone) ledger ≡ beyond m (item_then (is_some mark) of (later m.zone)) ledger
+after_one None m (asks.Put a) later ledger = refl
+after_one (Some failure) m (asks.Put a) later ledger = refl
+after_one mark m (asks.Close day) later ledger =
+    of_close (λ (s : Step). beyond s.after (later s.after.zone) ledger ≡ beyond m (later m.zone) ledger) m (λ reply other plain. refl) mark day m.ledger
+after_one mark m asks.Quit later ledger = refl
+after_one mark m (asks.No why) later ledger = refl
 
-pub ends_behind : (marks : List (Option Failure)) (m : Machine) (list : List Request) → (outcome marks m list).after ≡ behind m (items_for marks m.zone list) (outcome marks m list).after.ledger
+pub ends_after : (marks : List (Option Failure)) (m : Machine) (list : List Request) → (outcome marks m list).after ≡ beyond m (items_for marks m.zone list) (outcome marks m list).after.ledger
 unfolding step
-ends_behind [] m [] = refl
-ends_behind (mark ∷ marks) m [] = refl
-ends_behind [] m (r ∷ list) =
-    ends_behind [] (step None m r).after list ∙ behind_one None m (asks_of m.zone r) (λ zone. items_for [] zone list) (outcome [] (step None m r).after list).after.ledger
-ends_behind (mark ∷ marks) m (r ∷ list) =
-    ends_behind marks (step mark m r).after list ∙ behind_one mark m (asks_of m.zone r) (λ zone. items_for marks zone list) (outcome marks (step mark m r).after list).after.ledger
+ends_after [] m [] = refl
+ends_after (mark ∷ marks) m [] = refl
+ends_after [] m (r ∷ list) =
+    ends_after [] (step None m r).after list ∙ after_one None m (asks_of m.zone r) (λ zone. items_for [] zone list) (outcome [] (step None m r).after list).after.ledger
+ends_after (mark ∷ marks) m (r ∷ list) =
+    ends_after marks (step mark m r).after list ∙ after_one mark m (asks_of m.zone r) (λ zone. items_for marks zone list) (outcome marks (step mark m r).after list).after.ledger
 
 -- ---- where no command was lost
 
@@ -203,7 +203,7 @@ items_kept (mark ∷ marks) m (r ∷ list) kept ample =
 accounts_by : (marks : List (Option Failure)) (m : Machine) (list : List Request) → items_for marks m.zone list ≡ items_for [] m.zone list
     → (outcome marks m list).after.accounts ≡ (outcome [] m list).after.accounts
 accounts_by marks m list same =
-    ap (λ (n : Machine). n.accounts) (ends_behind marks m list) ∙ ap (replay m.tables m.accounts) same ∙ sym (ap (λ (n : Machine). n.accounts) (ends_behind [] m list))
+    ap (λ (n : Machine). n.accounts) (ends_after marks m list) ∙ ap (replay m.tables m.accounts) same ∙ sym (ap (λ (n : Machine). n.accounts) (ends_after [] m list))
 
 -- the accounts are what they are where nothing failed
 pub accounts_alike : (marks : List (Option Failure)) (m : Machine) (list : List Request) → list_any tells_loss (outcome marks m list).replies ≡ false
@@ -218,7 +218,7 @@ accounts_kept marks m list kept ample = accounts_by marks m list (items_kept mar
 -- ---- prices
 
 -- a line's reply is prices where the shard's is
-said_priced : (reply : ShardReply) → is_priced (said reply) ≡ is_shard_priced reply
+said_priced : (reply : Reply) → is_priced (said reply) ≡ is_shard_priced reply
 said_priced (shard_replies.Priced priced) = refl
 said_priced (shard_replies.No why) = refl
 said_priced (shard_replies.Due quote) = refl
@@ -303,7 +303,7 @@ unfolding step
 same_ledger m [] all = refl
 same_ledger m (r ∷ list) all = same_ledger (step None m r).after list all.1 ∙ (priced_one m (asks_of m.zone r) (λ zone. items_for [] zone list) all.0).ledger
 
--- and a command whose item is answered by prices is so answered, with what is behind it
+-- and a command whose item is answered by prices is so answered, with what is after it
 record AsksForPriced (m : Machine) (of : Asks) (later : TimeZone → List Item) : Type 0 where
   reply : is_priced (step_asks None m of).reply ≡ true
   zone : m.zone ≡ (step_asks None m of).after.zone

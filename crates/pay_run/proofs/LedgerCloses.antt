@@ -21,7 +21,7 @@ use Rattle.pay_session.specs.Words.{Taken}
 use Rattle.pay_session.specs.Served.{gives_quotes, brings_quotes}
 use Rattle.pay_wire.specs.declared.refusal.Refusal.{Refusal}
 use Rattle.pay_wire.specs.declared.refusal.Refusal.TheVariants as refusal
-use Rattle.pay_wire.specs.declared.reply.Reply.TheVariants as replies
+use Rattle.pay_wire.specs.declared.reply.SpelledReply.TheVariants as replies
 use Rattle.pay_run.specs.Ledgers.{HasLedger}
 use Rattle.pay_run.specs.Machine.{Machine, Failure, is_keeping, Memory, Store, Desk, refusal_of_failure, stays, step_closed, step_close}
 use Rattle.pay_run.specs.Outcomes.{tells_failure}
@@ -113,7 +113,7 @@ module _ (gathers : OneShardGathersAll) (tables : FareTables) (state : Accounts)
 
 -- ---- a close
 
--- there is a ledger, and a database behind an open connection has it
+-- there is a ledger, and a database after an open connection has it
 record TheLedger (s : State) (o : Option LedgerParts) : Type 0 where
   ledger : LedgerParts
   there : o ≡ Some ledger
@@ -146,7 +146,7 @@ module _ (gathers : OneShardGathersAll) (m : Machine) (day : ℕ) (old new : Sta
       posted_as m day new l.ledger l.there (gathered put) given (gathers_all gathers m.tables m.accounts day put done.0 answers) (became.0, became.1, became.2)
   ledger_closes (Err fault) closes clean has =
       let l = the_ledger old m.ledger has in
-      shut_or_not fault l (λ live. as_before l (closes.kept clean live)) (closes.refused clean) (closes.of_open clean)
+      shut_or_not fault l (λ live. as_before l (closes.unchanged clean live)) (closes.refused clean) (closes.of_open clean)
 
 -- where the disk is clean after a close, so it was before it
 pub was_clean : (old new : State) (put : List Taken) (result : Result (List Posting) Refusal) → Closes old new 1 put result → HasCleanDisk new → HasCleanDisk old

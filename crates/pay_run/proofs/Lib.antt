@@ -10,7 +10,6 @@ pub mod MarkedRequests
 pub mod Asked
 pub mod ArrivalOrder
 pub mod NewRequests
-pub mod KeptBytes
 pub mod PastLines
 pub mod RequestLines
 pub mod WeekRuns

@@ -5,17 +5,17 @@ use Rattle.jiff.specs.declared.tz.timezone.TimeZone.{TimeZone}
 use Rattle.pay_rules.specs.InTurn.{IsIn}
 use Rattle.pay_postings.specs.Words.{LedgerParts}
 use Rattle.pay_tables.specs.Words.{FareTables}
-use Rattle.pay_shard.specs.declared.reply.Reply.{Reply as ShardReply}
+use Rattle.pay_shard.specs.declared.reply.Reply.{Reply}
 use Rattle.pay_shard.specs.declared.reply.Reply.TheVariants as shard_replies
 use Rattle.pay_rules.specs.State.{State}
 use Rattle.pay_shard.specs.Words.{is_new as is_shard_new, OthersChangeNothing, step as shard_step}
-use Rattle.pay_wire.specs.declared.reply.Reply.{Reply}
-use Rattle.pay_wire.specs.declared.reply.Reply.TheVariants as replies
+use Rattle.pay_wire.specs.declared.reply.SpelledReply.{SpelledReply}
+use Rattle.pay_wire.specs.declared.reply.SpelledReply.TheVariants as replies
 use Rattle.pay_session.specs.Words.{asks_of, said}
 use Rattle.pay_session.specs.declared.asks.Asks.{Asks}
 use Rattle.pay_session.specs.declared.asks.Asks.TheVariants as asks
 use Rattle.pay_session.specs.declared.request.Request.{Request}
-use Rattle.pay_run.specs.Journals.{is_new, AreAllNew, new_requests, cut_behind, of_new, GivesBack}
+use Rattle.pay_run.specs.Journals.{is_new, AreAllNew, new_requests, cut_after, of_new, GivesBack}
 use Rattle.pay_run.specs.Laws.{AskedAlikeEndsAlike}
 use Rattle.pay_run.specs.Machine.{Machine, Failure, Step, new_machine, with_ledger, step_asks, step}
 use Rattle.pay_run.specs.Outcomes.{Outcome, outcome, reply_then, is_priced, AreAllPriced}
@@ -27,7 +27,7 @@ true_false e = cc
 -- ---- new replies
 
 -- what is new is prices
-pub new_priced : (reply : Reply) → is_new reply ≡ true → is_priced reply ≡ true
+pub new_priced : (reply : SpelledReply) → is_new reply ≡ true → is_priced reply ≡ true
 new_priced (replies.Priced priced) new = refl
 new_priced (replies.Shown shown) new = absurd (cc)
 new_priced (replies.Due quote) new = absurd (cc)
@@ -35,20 +35,20 @@ new_priced (replies.Closed closed) new = absurd (cc)
 new_priced (replies.No why) new = absurd (cc)
 new_priced replies.Bye new = absurd (cc)
 
-all_new_priced : (told : List Reply) → AreAllNew told → AreAllPriced told
+all_new_priced : (told : List SpelledReply) → AreAllNew told → AreAllPriced told
 all_new_priced [] are = tt
 all_new_priced (reply ∷ told) are = (new_priced reply are.0, all_new_priced told are.1)
 
-first_new : (reply : Reply) (later : List Reply) → AreAllNew later → (b : Bool) → is_new reply ≡ b → AreAllNew (cond b (reply ∷ later) later)
+first_new : (reply : SpelledReply) (later : List SpelledReply) → AreAllNew later → (b : Bool) → is_new reply ≡ b → AreAllNew (cond b (reply ∷ later) later)
 first_new reply later are true e = (e, are)
 first_new reply later are false e = are
 
-all_new : (told : List Reply) → AreAllNew (filter is_new told)
+all_new : (told : List SpelledReply) → AreAllNew (filter is_new told)
 all_new [] = tt
 all_new (reply ∷ told) = first_new reply (filter is_new told) (all_new told) (is_new reply) refl
 
 -- a line's reply is new where the shard's is
-pub said_new : (reply : ShardReply) → is_new (said reply) ≡ is_shard_new reply
+pub said_new : (reply : Reply) → is_new (said reply) ≡ is_shard_new reply
 said_new (shard_replies.Priced priced) = refl
 said_new (shard_replies.No why) = refl
 said_new (shard_replies.Due quote) = refl
@@ -85,23 +85,23 @@ cut_one : (r : Request) (n : ℕ) (b : Bool) (later : ℕ → List Request) (new
 cut_one r n true later new rest = ap (λ l. r ∷ l) (rest n)
 cut_one r n false later new rest = rest (suc n)
 
-cut : (marks : List (Option Failure)) (m : Machine) (list : List Request) (n : ℕ) → new_requests marks m (cut_behind n marks m list) ≡ take n (new_requests marks m list)
+cut : (marks : List (Option Failure)) (m : Machine) (list : List Request) (n : ℕ) → new_requests marks m (cut_after n marks m list) ≡ take n (new_requests marks m list)
 cut marks m list zero = refl
 cut [] m [] (suc n) = refl
 cut (mark ∷ marks) m [] (suc n) = refl
 cut [] m (r ∷ list) (suc n) =
     let next = (step None m r).after in
-    cut_one r n (is_new (step None m r).reply) (λ k. new_requests [] next (cut_behind k [] next list)) (new_requests [] next list) (cut [] next list)
+    cut_one r n (is_new (step None m r).reply) (λ k. new_requests [] next (cut_after k [] next list)) (new_requests [] next list) (cut [] next list)
 cut (mark ∷ marks) m (r ∷ list) (suc n) =
     let next = (step mark m r).after in
-    cut_one r n (is_new (step mark m r).reply) (λ k. new_requests marks next (cut_behind k marks next list)) (new_requests marks next list) (cut marks next list)
+    cut_one r n (is_new (step mark m r).reply) (λ k. new_requests marks next (cut_after k marks next list)) (new_requests marks next list) (cut marks next list)
 
-pub cut_leaves : (m : Machine) (list : List Request) (marks : List (Option Failure)) (n : ℕ) → new_requests marks m (cut_behind n marks m list) ≡ take n (new_requests marks m list)
+pub cut_leaves : (m : Machine) (list : List Request) (marks : List (Option Failure)) (n : ℕ) → new_requests marks m (cut_after n marks m list) ≡ take n (new_requests marks m list)
 cut_leaves m list marks n = cut marks m list n
 
--- ---- one list behind another
+-- ---- one list after another
 
--- a machine behind more requests
+-- a machine after more requests
 pub after_both : (m : Machine) (list more : List Request) → (outcome [] m (list ++ more)).after ≡ (outcome [] (outcome [] m list).after more).after
 after_both m [] more = refl
 after_both m (r ∷ list) more = after_both (step None m r).after list more
@@ -176,11 +176,11 @@ module _ (others_stay : OthersChangeNothing) where
   -- ---- a front
 
   pub front_replays : (m : Machine) (list : List Request) (marks : List (Option Failure)) (ledger : Option LedgerParts) (n : ℕ)
-      → outcome [] (with_ledger m ledger) (take n (new_requests marks m list)) ≡ of_new ledger (outcome marks m (cut_behind n marks m list))
+      → outcome [] (with_ledger m ledger) (take n (new_requests marks m list)) ≡ of_new ledger (outcome marks m (cut_after n marks m list))
   front_replays m list marks ledger n =
-      subst (λ l. outcome [] (with_ledger m ledger) l ≡ of_new ledger (outcome marks m (cut_behind n marks m list))) (cut marks m list n) (replayed marks m ledger (cut_behind n marks m list))
+      subst (λ l. outcome [] (with_ledger m ledger) l ≡ of_new ledger (outcome marks m (cut_after n marks m list))) (cut marks m list n) (replayed marks m ledger (cut_after n marks m list))
 
-  -- ---- behind what was kept before
+  -- ---- after what was kept before
 
   pub kept_gives : (zone : TimeZone) (tables : FareTables) (kept : List Request) (m : Machine) (list : List Request) (marks : List (Option Failure)) → GivesBack zone tables kept m
       → GivesBack zone tables (kept ++ new_requests marks m list) (outcome marks m list).after

@@ -13,13 +13,13 @@ use Rattle.pay_shard.specs.declared.desk.DeskFault.{DeskFault}
 use Rattle.pay_shard.specs.declared.desk.DeskFault.TheVariants as desk_fault
 use Rattle.pay_shard.specs.declared.item.Item.{Item}
 use Rattle.pay_shard.specs.declared.reply.Answer.{Answer}
-use Rattle.pay_shard.specs.declared.reply.Reply.{Reply as DeskReply}
+use Rattle.pay_shard.specs.declared.reply.Reply.{Reply}
 use Rattle.pay_shard.specs.declared.reply.Reply.TheVariants as desk_reply
 use Rattle.pay_rules.specs.State.{State}
 use Rattle.pay_shard.specs.Words.{batch, item_step, is_new as is_shard_new, new_items, replay, answers, AreInPlace, commands_of as commands_of_items}
 use Rattle.pay_wire.specs.declared.refusal.Refusal.TheVariants as refusal
-use Rattle.pay_wire.specs.declared.reply.Reply.{Reply}
-use Rattle.pay_wire.specs.declared.reply.Reply.TheVariants as replies
+use Rattle.pay_wire.specs.declared.reply.SpelledReply.{SpelledReply}
+use Rattle.pay_wire.specs.declared.reply.SpelledReply.TheVariants as replies
 use Rattle.pay_session.specs.Words.{Taken, Event, said, refusal_of_desk, commands_of, IsAnswerTo, AreAnswered, AreQuotes, AreInTime, IsReplied, IsTaken, IsRefused, IsTillClosed, IsServedAs}
 use Rattle.pay_journal.specs.Words.{line_of, lines_of_items}
 use Rattle.pay_session.specs.declared.asks.Asks.{Asks}
@@ -28,7 +28,7 @@ use Rattle.pay_wire.specs.declared.refusal.Refusal.{Refusal}
 use Rattle.pay_run.specs.Machine.{Machine, Failure, Memory, Keeping, is_keeping, refusal_of_command, Step, step_asks, with_ledger}
 use Rattle.pay_run.specs.Journals.{is_new}
 use Rattle.pay_run.specs.Outcomes.{tells_failure}
-use Rattle.pay_run.proofs.Journals.{replay_behind, reply_behind, ticket_behind}
+use Rattle.pay_run.proofs.Journals.{replay_after, reply_after, ticket_after}
 use Rattle.pay_run.proofs.NewRequests.{said_new}
 use Rattle.pay_run.proofs.Tills.{IsOfMachine, IsPlain}
 
@@ -42,10 +42,10 @@ line_of_asks (asks.Put a) = line_of a
 line_of_asks _ = []
 
 -- the line that is kept of a request, by its reply
-abbrev pub line_kept : Asks → Reply → List ℕ
+abbrev pub line_kept : Asks → SpelledReply → List ℕ
 line_kept a reply = if is_new reply then line_of_asks a else []
 
--- the lines of items that are newly accepted behind a front
+-- the lines of items that are newly accepted after a front
 abbrev pub lines_new : FareTables → State → List Item → List ℕ
 lines_new tables state items = lines_of_items (new_items tables state items)
 
@@ -88,7 +88,7 @@ item_steps : (zone : TimeZone) (tables : FareTables) (base : State) (front : Lis
     → step_asks (mark_of item.refused_memory) (machine_at zone tables base front ledger) (asks.Put a) ≡ record { reply = said (item_step tables (replay tables base front) item).reply; after = machine_at zone tables base (front ++ item ∷ []) ledger }
 item_steps zone tables base front ledger item a is =
     subst (λ (b : Asked). step_asks (mark_of item.refused_memory) (machine_at zone tables base front ledger) (asks.Put b) ≡ ended) is
-    (marked item.refused_memory refl ∙ ap (λ (s : State). record { reply = said (item_step tables (replay tables base front) item).reply; after = record { zone = zone; tables = tables; accounts = s; ledger = ledger } }) (sym (replay_behind tables base front (item ∷ []))))
+    (marked item.refused_memory refl ∙ ap (λ (s : State). record { reply = said (item_step tables (replay tables base front) item).reply; after = record { zone = zone; tables = tables; accounts = s; ledger = ledger } }) (sym (replay_after tables base front (item ∷ []))))
   where
     ended : Step
     ended = record { reply = said (item_step tables (replay tables base front) item).reply; after = machine_at zone tables base (front ++ item ∷ []) ledger }
@@ -138,20 +138,20 @@ first_of (item ∷ rest) taken later e =
 abbrev pub transcript : ℕ → FareTables → State → List Item → ℕ → Option Answer
 transcript number tables base journal place = slice_get (answers number tables base journal) place
 
-some_is : (x y : DeskReply) → ◌≡◌ {A = Option DeskReply} (Some x) (Some y) → x ≡ y
+some_is : (x y : Reply) → ◌≡◌ {A = Option Reply} (Some x) (Some y) → x ≡ y
 some_is x y e = cc
 
 -- the reply that was said is the transcript's
-replied : (Refuses : DeskFault → Type 0) (Late : Type 0) → (Late → ⊥) → (transcript_of : ℕ → Option Answer) (t : Taken) (o : Option Answer) (line : Reply) (reply : DeskReply)
+replied : (Refuses : DeskFault → Type 0) (Late : Type 0) → (Late → ⊥) → (transcript_of : ℕ → Option Answer) (t : Taken) (o : Option Answer) (line : SpelledReply) (reply : Reply)
     → IsReplied Refuses Late o line → IfSome o (IsAnswerTo transcript_of t) → option_map (λ (a : Answer). a.reply) (transcript_of t.ticket) ≡ Some reply → line ≡ said reply
 replied Refuses Late never transcript_of t None line reply h i j = absurd (never h.1)
 replied Refuses Late never transcript_of t (Some a) line reply h i j = h ∙ ap said (some_is a.reply reply (sym (ap (option_map (λ (a : Answer). a.reply)) i.0) ∙ j))
 
 -- ---- what a desk took
 
--- With a journal, each of whose entries is at its ticket, as a front and what is behind it.
+-- With a journal, each of whose entries is at its ticket, as a front and what is after it.
 module _ (number : ℕ) (zone : TimeZone) (tables : FareTables) (base : State) (front back journal : List Item) (placed : AreInPlace 0 journal) (whole : journal ≡ front ++ back) where
-  -- The first item behind the front is what was taken, and the transcript has the machine's reply to it.
+  -- The first item after the front is what was taken, and the transcript has the machine's reply to it.
   record IsNext (taken : Taken) (later : List (ℕ × Asked)) : Type 0 where
     next : First back taken later
     there : option_map (λ (a : Answer). a.reply) (transcript number tables base journal taken.ticket) ≡ Some (item_step tables (replay tables base front) next.item).reply
@@ -160,11 +160,11 @@ module _ (number : ℕ) (zone : TimeZone) (tables : FareTables) (base : State) (
   next_of taken later commands =
       let f = first_of back taken later commands in
       let parts : journal ≡ front ++ f.item ∷ f.rest = whole ∙ ap (λ l. front ++ l) f.parts in
-      let place : taken.ticket ≡ length front = sym f.ticket ∙ ticket_behind 0 front f.item f.rest (subst (AreInPlace 0) parts placed) ∙ zero-add _ in
+      let place : taken.ticket ≡ length front = sym f.ticket ∙ ticket_after 0 front f.item f.rest (subst (AreInPlace 0) parts placed) ∙ zero-add _ in
       record {
         next = f;
         there = ap (λ n. option_map (λ (a : Answer). a.reply) (transcript number tables base journal n)) place ∙ ap (λ l. option_map (λ (a : Answer). a.reply) (transcript number tables base l (length front))) parts
-            ∙ reply_behind number 0 tables base front f.item f.rest;
+            ∙ reply_after number 0 tables base front f.item f.rest;
       }
 
   -- the desk took the command
@@ -184,7 +184,7 @@ module _ (number : ℕ) (zone : TimeZone) (tables : FareTables) (base : State) (
         parts = f.parts;
         commands = f.commands;
         ledger_after = ledger;
-        step = item_steps zone tables base front ledger f.item a (f.command ∙ is.same) ∙ ap (λ (r : Reply). record { reply = r; after = machine_at zone tables base (front ++ f.item ∷ []) ledger }) (sym told);
+        step = item_steps zone tables base front ledger f.item a (f.command ∙ is.same) ∙ ap (λ (r : SpelledReply). record { reply = r; after = machine_at zone tables base (front ++ f.item ∷ []) ledger }) (sym told);
         ample = λ e. marked_lacks tables (replay tables base front) f.item (ap tells_failure (sym told) ∙ e);
         kept = λ _. never_keeping f.item.refused_memory;
         lines = one_kept (is_shard_new (item_step tables (replay tables base front) f.item).reply) f.item a (f.command ∙ is.same)
@@ -218,7 +218,7 @@ module _ (number : ℕ) (zone : TimeZone) (tables : FareTables) (base : State) (
       by false = (refl, inl refl, refl)
 
   -- the answer that came is the machine's
-  answered_so : (Late : Type 0) → (Late → ⊥) → (transcript_of : ℕ → Option Answer) (t : Taken) (o : Option Answer) (reply : DeskReply) (P : DeskReply → Type 0) → IfNone o Late → IfSome o (IsAnswerTo transcript_of t)
+  answered_so : (Late : Type 0) → (Late → ⊥) → (transcript_of : ℕ → Option Answer) (t : Taken) (o : Option Answer) (reply : Reply) (P : Reply → Type 0) → IfNone o Late → IfSome o (IsAnswerTo transcript_of t)
       → option_map (λ (a : Answer). a.reply) (transcript_of t.ticket) ≡ Some reply → P reply → IsSomeAnd o (λ answer. P answer.reply)
   answered_so Late never transcript_of t None reply P late is there p = absurd (never late)
   answered_so Late never transcript_of t (Some a) reply P late is there p = subst P (sym (some_is a.reply reply (sym (ap (option_map (λ (a : Answer). a.reply)) is.0) ∙ there))) p
@@ -244,9 +244,9 @@ module _ (number : ℕ) (zone : TimeZone) (tables : FareTables) (base : State) (
         rest = f.rest;
         parts = f.parts;
         commands = f.commands;
-        same = replay_behind tables base front (f.item ∷ []) ∙ does.0;
+        same = replay_after tables base front (f.item ∷ []) ∙ does.0;
         none_new = ap (λ b. lines_of_items (if b then f.item ∷ [] else [])) does.2;
-        answers_are = (answered_so Late never (transcript number tables base journal) t t.answer _ (λ (r : DeskReply). (r ≡ desk_reply.Quotes (batch tables state day 0 1)) ⊎ (r ≡ desk_reply.Memory)) in_time.0 said_so.0 n.there does.1, tt);
+        answers_are = (answered_so Late never (transcript number tables base journal) t t.answer _ (λ (r : Reply). (r ≡ desk_reply.Quotes (batch tables state day 0 1)) ⊎ (r ≡ desk_reply.Memory)) in_time.0 said_so.0 n.there does.1, tt);
       }
   put_for_close day (t ∷ u ∷ ts) later Refuses Late never quotes in_time commands said_so = absurd (omega (arith, quotes.2.0))
 
@@ -278,7 +278,7 @@ module _ (zone : TimeZone) (tables : FareTables) (base : State) (front back : Li
   refused_by fault failure same shows kept told =
       let reply : event.reply ≡ replies.No (refusal_of_desk fault) = ap (λ (e : Event). e.reply) told in
       nothing_taken zone tables base front back ledger (asks.Put a) event later Fails Holds (Some failure) (ap (λ (e : Event). e.put) told) commands
-      (ap (λ (r : Reply). record { reply = r; after = machine_at zone tables base front ledger }) (ap replies.No (sym same) ∙ sym reply))
+      (ap (λ (r : SpelledReply). record { reply = r; after = machine_at zone tables base front ledger }) (ap replies.No (sym same) ∙ sym reply))
       (λ e. absurd (true_false (sym shows ∙ ap tells_failure (sym reply) ∙ e))) kept (ap (line_kept (asks.Put a)) (sym reply)) holds
 
   -- the desk refused the command
@@ -291,11 +291,11 @@ module _ (zone : TimeZone) (tables : FareTables) (base : State) (front back : Li
 
 -- ---- one request
 
-module _ {T : Type 0} (Refuses : DeskFault → Type 0) (Late Fails : Type 0) (Closes : T → ℕ → ℕ → List Taken → Result (List Posting) Refusal → T → Type 0) (Sound : T → Type 0) (Tells : T → Option LedgerParts → Type 0) (plain : IsPlain Refuses Late Fails Closes Sound Tells) where
+module _ {T : Type 0} (Refuses : DeskFault → Type 0) (Late Fails : Type 0) (Closes : T → ℕ → ℕ → List Taken → Result (List Posting) Refusal → T → Type 0) (Sound : T → Type 0) (MayAnswer : T → Option LedgerParts → Type 0) (plain : IsPlain Refuses Late Fails Closes Sound MayAnswer) where
   -- the till closed a day
   closed_steps : (number : ℕ) (zone : TimeZone) (tables : FareTables) (base : State) (front back journal : List Item) (ledger : Option LedgerParts) (day : ℕ) (event : Event) (later : List (ℕ × Asked)) (before after : T)
       → AreInPlace 0 journal → journal ≡ front ++ back → IsTillClosed 1 Refuses Late Closes day event before after → commands_of_items back ≡ commands_of event.put ++ later
-      → AreAnswered (transcript number tables base journal) event.put → Sound after → Tells before ledger → StepsTo zone tables base front back ledger (asks.Close day) event later Fails (Tells after)
+      → AreAnswered (transcript number tables base journal) event.put → Sound after → MayAnswer before ledger → StepsTo zone tables base front back ledger (asks.Close day) event later Fails (MayAnswer after)
   closed_steps number zone tables base front back journal ledger day event later before after placed whole is commands said_so sound tells =
       let p = put_for_close number zone tables base front back journal placed whole day event.put later Refuses Late plain.never is.close.quotes is.close.in_time commands said_so in
       let m = machine_at zone tables base front ledger in
@@ -307,7 +307,7 @@ module _ {T : Type 0} (Refuses : DeskFault → Type 0) (Late Fails : Type 0) (Cl
         parts = p.parts;
         commands = p.commands;
         ledger_after = c.ledger;
-        step = c.step ∙ ap (λ (r : Reply). record { reply = r; after = with_ledger m c.ledger }) (sym is.told)
+        step = c.step ∙ ap (λ (r : SpelledReply). record { reply = r; after = with_ledger m c.ledger }) (sym is.told)
             ∙ ap (λ (s : State). record { reply = event.reply; after = record { zone = zone; tables = tables; accounts = s; ledger = c.ledger } }) (sym p.same);
         ample = λ e. c.ample (ap tells_failure (sym is.told) ∙ e);
         kept = λ _. c.kept;
@@ -318,19 +318,19 @@ module _ {T : Type 0} (Refuses : DeskFault → Type 0) (Late Fails : Type 0) (Cl
   -- one request, by what it comes to
   pub one_steps : (number : ℕ) (zone : TimeZone) (tables : FareTables) (base : State) (front back journal : List Item) (ledger : Option LedgerParts) (a : Asks) (event : Event) (later : List (ℕ × Asked)) (before after : T)
       → AreInPlace 0 journal → journal ≡ front ++ back → IsServedAs 1 Refuses Late Closes a event before after → commands_of_items back ≡ commands_of event.put ++ later
-      → AreAnswered (transcript number tables base journal) event.put → Sound after → Tells before ledger → StepsTo zone tables base front back ledger a event later Fails (Tells after)
+      → AreAnswered (transcript number tables base journal) event.put → Sound after → MayAnswer before ledger → StepsTo zone tables base front back ledger a event later Fails (MayAnswer after)
   one_steps number zone tables base front back journal ledger (asks.Put a) event later before after placed whole (inl is, same) commands said_so sound tells =
-      taken_steps number zone tables base front back journal placed whole ledger a event later Fails (Tells after) Refuses Late plain.never is commands said_so (subst (λ t. Tells t ledger) (sym same) tells)
+      taken_steps number zone tables base front back journal placed whole ledger a event later Fails (MayAnswer after) Refuses Late plain.never is commands said_so (subst (λ t. MayAnswer t ledger) (sym same) tells)
   one_steps number zone tables base front back journal ledger (asks.Put a) event later before after placed whole (inr is, same) commands said_so sound tells =
-      refused_steps zone tables base front back ledger a event later Fails (Tells after) commands (subst (λ t. Tells t ledger) (sym same) tells) Refuses Late plain.memory is
+      refused_steps zone tables base front back ledger a event later Fails (MayAnswer after) commands (subst (λ t. MayAnswer t ledger) (sym same) tells) Refuses Late plain.memory is
   one_steps number zone tables base front back journal ledger (asks.Close day) event later before after placed whole is commands said_so sound tells =
       closed_steps number zone tables base front back journal ledger day event later before after placed whole is commands said_so sound tells
   one_steps number zone tables base front back journal ledger asks.Quit event later before after placed whole is commands said_so sound tells =
-      nothing_taken zone tables base front back ledger asks.Quit event later Fails (Tells after) None (ap (λ (e : Event). e.put) is.0) commands
-      (ap (λ (r : Reply). record { reply = r; after = machine_at zone tables base front ledger }) (ap (λ (e : Event). e.reply) (sym is.0))) (λ e. refl) (λ _. refl) (none_kept (is_new event.reply)) (subst (λ t. Tells t ledger) (sym is.1) tells)
+      nothing_taken zone tables base front back ledger asks.Quit event later Fails (MayAnswer after) None (ap (λ (e : Event). e.put) is.0) commands
+      (ap (λ (r : SpelledReply). record { reply = r; after = machine_at zone tables base front ledger }) (ap (λ (e : Event). e.reply) (sym is.0))) (λ e. refl) (λ _. refl) (none_kept (is_new event.reply)) (subst (λ t. MayAnswer t ledger) (sym is.1) tells)
   one_steps number zone tables base front back journal ledger (asks.No why) event later before after placed whole is commands said_so sound tells =
-      nothing_taken zone tables base front back ledger (asks.No why) event later Fails (Tells after) None (ap (λ (e : Event). e.put) is.0) commands
-      (ap (λ (r : Reply). record { reply = r; after = machine_at zone tables base front ledger }) (ap (λ (e : Event). e.reply) (sym is.0))) (λ e. refl) (λ _. refl) (none_kept (is_new event.reply)) (subst (λ t. Tells t ledger) (sym is.1) tells)
+      nothing_taken zone tables base front back ledger (asks.No why) event later Fails (MayAnswer after) None (ap (λ (e : Event). e.put) is.0) commands
+      (ap (λ (r : SpelledReply). record { reply = r; after = machine_at zone tables base front ledger }) (ap (λ (e : Event). e.reply) (sym is.0))) (λ e. refl) (λ _. refl) (none_kept (is_new event.reply)) (subst (λ t. MayAnswer t ledger) (sym is.1) tells)
 
   -- what a till keeps could be told before a request where it can be after it
   pub was_sound : (zone : TimeZone) (a : Asks) (event : Event) (before after : T) → IsServedAs 1 Refuses Late Closes a event before after → Sound after → Sound before

@@ -23,16 +23,16 @@ use Rattle.pay_shard.specs.declared.asked.Asked.TheVariants as asked
 use Rattle.pay_shard.specs.declared.desk.DeskFault.{DeskFault}
 use Rattle.pay_shard.specs.declared.item.Item.{Item}
 use Rattle.pay_shard.specs.declared.reply.Answer.{Answer}
-use Rattle.pay_shard.specs.declared.reply.Reply.{Reply as DeskReply}
+use Rattle.pay_shard.specs.declared.reply.Reply.{Reply}
 use Rattle.pay_shard.specs.declared.reply.Reply.TheVariants as desk_reply
-use Rattle.pay_shard.specs.declared.refusal.Refusal.{Refusal as ShardRefusal}
+use Rattle.pay_shard.specs.declared.refusal.ShardRefusal.{ShardRefusal}
 use Rattle.pay_shard.specs.Machine.{step_tap_result, step_fix_result}
 use Rattle.pay_rules.specs.State.{State, accepted_of}
-use Rattle.pay_shard.specs.Words.{ShardParts, LocalParts, Standing, desk_parts, state_now, step as shard_step, AreInPlace, AreKept, commands_of as commands_of_items}
+use Rattle.pay_shard.specs.Words.{ShardParts, LocalParts, Standing, desk_parts, state_now, step as shard_step, AreInPlace, NothingIsLost, commands_of as commands_of_items}
 use Rattle.pay_wire.specs.declared.refusal.Refusal.{Refusal}
 use Rattle.pay_wire.specs.declared.refusal.Refusal.TheVariants as refusal
-use Rattle.pay_wire.specs.declared.reply.Reply.{Reply}
-use Rattle.pay_wire.specs.declared.reply.Reply.TheVariants as replies
+use Rattle.pay_wire.specs.declared.reply.SpelledReply.{SpelledReply}
+use Rattle.pay_wire.specs.declared.reply.SpelledReply.TheVariants as replies
 use Rattle.pay_session.specs.Words.{asks_of, line_requests, rest_of, said, Taken, Event, all_put, commands_of, IsAnswerTo, AreAnswered, IsServedAs, AreServed, IsSession, MaySometimeRefuse, MaySometimeBeLate, Sides}
 use Rattle.pay_journal.specs.Words.{AskedByItsLine, is_barred, IsPriced, why_ended, ClosesNothing, AreHanded, NoneIsBarred, AreAccepted, IsReplayed, IsEndedAt, IsEnded}
 use Rattle.pay_session.specs.declared.asks.Asks.{Asks}
@@ -45,12 +45,12 @@ use Rattle.pay_run.specs.Journals.{machine_of, GivesBack}
 use Rattle.pay_run.specs.Machine.{Machine, Failure, Memory, Store, Desk, Keeping, is_keeping, Step, new_machine, machine_on, with_ledger, step_asks, step}
 use Rattle.pay_run.specs.Outcomes.{Outcome, outcome, reply_then, is_priced, AreAllPriced}
 use Rattle.pay_run.specs.Commands.{command_of, commands_in, commands_of as asked_of}
-use Rattle.pay_run.specs.Past.{HasReplayed, IsReplayedBehind, IsNotReplayedBehind, IsReplayOf, IsRefusedSo, Reaches, StopsAt, IsNotReplayed, whole_bytes}
+use Rattle.pay_run.specs.Past.{HasReplayed, IsReplayedAfter, IsNotReplayedAfter, IsReplayOf, IsRefusedSo, Reaches, StopsAt, IsNotReplayed, whole_bytes}
 use Rattle.pay_run.proofs.AllRequests.{RunsTo, replies_of, commands_append}
-use Rattle.pay_run.proofs.Asked.{ends_behind}
+use Rattle.pay_run.proofs.Asked.{ends_after}
 use Rattle.pay_run.proofs.Closes.{of_close}
 use Rattle.pay_run.proofs.NewRequests.{after_both, over_ledger}
-use Rattle.pay_run.proofs.WholeRuns.{IsBehind, sides_from, runs, replay_plain}
+use Rattle.pay_run.proofs.WholeRuns.{IsAfter, sides_from, runs, replay_plain}
 
 true_false : true ≡ false → ⊥
 true_false e = cc
@@ -59,13 +59,13 @@ both_false : (a b : Bool) → (a || b) ≡ false → (a ≡ false) × (b ≡ fal
 both_false false b h = (refl, h)
 both_false true b h = absurd (true_false h)
 
--- ---- one replay behind another
+-- ---- one replay after another
 
-answer_kept : (before after : ℕ → Option Answer) → AreKept before after → (t : Taken) (o : Option Answer) → IfSome o (IsAnswerTo before t) → IfSome o (IsAnswerTo after t)
+answer_kept : (before after : ℕ → Option Answer) → NothingIsLost before after → (t : Taken) (o : Option Answer) → IfSome o (IsAnswerTo before t) → IfSome o (IsAnswerTo after t)
 answer_kept before after kept t None h = tt
 answer_kept before after kept t (Some a) h = (kept t.ticket a h.0, h.1, h.2)
 
-answered_kept : (before after : ℕ → Option Answer) → AreKept before after → (put : List Taken) → AreAnswered before put → AreAnswered after put
+answered_kept : (before after : ℕ → Option Answer) → NothingIsLost before after → (put : List Taken) → AreAnswered before put → AreAnswered after put
 answered_kept before after kept [] h = tt
 answered_kept before after kept (t ∷ put) h = (answer_kept before after kept t t.answer h.0, answered_kept before after kept put h.1)
 
@@ -86,16 +86,16 @@ module _ (Refuses : DeskFault → Type 0) (Late : Type 0) (zone : TimeZone) wher
   served_both (r ∷ rs) (e ∷ es) others more a b c f g = (f.0, f.1, served_both rs es others more f.0 b c f.2 g)
 
 -- what was handed to a desk, and then more
-handed_both : (zone : TimeZone) (first desk last : LocalParts) (rs others : List Request) (es more : List Event) → (desk_parts desk).standing ≡ (desk_parts first).standing → AreKept (desk_parts desk).transcript (desk_parts last).transcript
+handed_both : (zone : TimeZone) (first desk last : LocalParts) (rs others : List Request) (es more : List Event) → (desk_parts desk).standing ≡ (desk_parts first).standing → NothingIsLost (desk_parts desk).transcript (desk_parts last).transcript
     → AreHanded zone desk_parts first desk rs es → AreHanded zone desk_parts desk last others more → AreHanded zone desk_parts first last (rs ++ others) (es ++ more)
 handed_both zone first desk last rs others es more stands kept f g =
     let Refuses = MaySometimeRefuse desk_parts (desk_parts first).standing in
     let Late = MaySometimeBeLate desk_parts (desk_parts first).standing in
-    let behind : IsSession zone 1 Refuses Late ClosesNothing (sides_from desk.shard.journal last.shard tt tt) others more =
+    let beyond : IsSession zone 1 Refuses Late ClosesNothing (sides_from desk.shard.journal last.shard tt tt) others more =
     subst (λ (s : Standing (FareTables × State)). IsSession zone 1 (MaySometimeRefuse desk_parts s) (MaySometimeBeLate desk_parts s) ClosesNothing (sides_from desk.shard.journal last.shard tt tt) others more) stands g in
     let put : all_put (es ++ more) ≡ all_put es ++ all_put more = flat_map-append (λ (e : Event). e.put) es more in
     record {
-      served = served_both Refuses Late zone rs es others more tt tt tt f.served behind.served;
+      served = served_both Refuses Late zone rs es others more tt tt tt f.served beyond.served;
       taken = g.taken ∙ ap (λ l. l ++ commands_of (all_put more)) f.taken ∙ append_assoc (desk_parts first).taken (commands_of (all_put es)) (commands_of (all_put more))
           ∙ ap (λ l. (desk_parts first).taken ++ l) (sym (commands_append (all_put es) (all_put more)) ∙ ap commands_of (sym put));
       said = subst (AreAnswered (desk_parts last).transcript) (sym put)
@@ -116,7 +116,7 @@ has_none zone tables desk same no_base no_journal = record {
 
 -- all whole lines of one more text were
 pub goes_on : (zone : TimeZone) (tables : FareTables) (desk last : LocalParts) (before : List Request) (text : List ℕ) (it : Replayed) → HasReplayed zone tables desk before → (desk_parts last).standing ≡ (desk_parts desk).standing
-    → AreKept (desk_parts desk).transcript (desk_parts last).transcript → IsReplayed zone desk_parts desk last text it → HasReplayed zone tables last (before ++ line_requests text)
+    → NothingIsLost (desk_parts desk).transcript (desk_parts last).transcript → IsReplayed zone desk_parts desk last text it → HasReplayed zone tables last (before ++ line_requests text)
 goes_on zone tables desk last before text it h same kept f = record {
   first = h.first;
   same = h.same;
@@ -143,7 +143,7 @@ handed_run : AskedByItsLine → (zone : TimeZone) (tables : FareTables) (first d
     → (desk_parts desk).standing ≡ (desk_parts first).standing → AreInPlace 0 desk.shard.journal → AreHanded zone desk_parts first desk requests events → IsRun zone tables desk.shard requests events
 handed_run by_line zone tables first desk requests events same no_base no_journal stands placed handed =
     let stood = (desk_parts first).standing in
-    let b : IsBehind [] desk.shard = record { back = desk.shard.journal; whole = refl; in_place = placed } in
+    let b : IsAfter [] desk.shard = record { back = desk.shard.journal; whole = refl; in_place = placed } in
     let s = subst (λ l. IsSession zone 1 (MaySometimeRefuse desk_parts stood) (MaySometimeBeLate desk_parts stood) ClosesNothing (sides_from l desk.shard tt tt) requests events) no_journal handed in
     let r = runs (MaySometimeRefuse desk_parts stood) (MaySometimeBeLate desk_parts stood) ⊥ ClosesNothing (λ till. ⊤) (λ till ledger. ledger ≡ None) (replay_plain stood) by_line zone [] desk.shard tt tt None requests events b tt refl s in
     let begun : machine_on zone (record { number = desk.shard.number; tables = desk.shard.tables; base = desk.shard.base; journal = []; room = desk.shard.room }) None ≡ new_machine zone tables None =
@@ -187,7 +187,7 @@ gives_back by_line zone tables desk requests placed h =
 
 -- a desk that has what requests give back prices by the fare file by which they were answered
 tables_of : (zone : TimeZone) (tables : FareTables) (shard : ShardParts) (list : List Request) → GivesBack zone tables list (machine_on zone shard None) → shard.tables ≡ tables
-tables_of zone tables shard list gives = ap (λ (m : Machine). m.tables) (sym gives.machine ∙ ends_behind [] (new_machine zone tables None) list)
+tables_of zone tables shard list gives = ap (λ (m : Machine). m.tables) (sym gives.machine ∙ ends_after [] (new_machine zone tables None) list)
 
 -- and over another ledger they give back the same
 gives_over : (zone : TimeZone) (tables : FareTables) (shard : ShardParts) (list : List Request) → GivesBack zone tables list (machine_on zone shard None) → (ledger : Option LedgerParts) → GivesBack zone tables list (machine_on zone shard ledger)
@@ -203,7 +203,7 @@ whole_of : (n m k : ℕ) → n + m ≡ k → n ≡ k - m
 whole_of n m k e = omega (arith, e)
 
 pub is_replay : AskedByItsLine → (zone : TimeZone) (tables : FareTables) (desk last : LocalParts) (text : List ℕ) (it : Replayed) → desk.shard.tables ≡ tables → desk.shard.base ≡ finite.empty → desk.shard.journal ≡ [] → AreInPlace 0 last.shard.journal
-    → (desk_parts last).standing ≡ (desk_parts desk).standing → AreKept (desk_parts desk).transcript (desk_parts last).transcript → IsReplayed zone desk_parts desk last text it → IsReplayOf zone tables text last.shard it
+    → (desk_parts last).standing ≡ (desk_parts desk).standing → NothingIsLost (desk_parts desk).transcript (desk_parts last).transcript → IsReplayed zone desk_parts desk last text it → IsReplayOf zone tables text last.shard it
 is_replay by_line zone tables desk last text it same no_base no_journal placed stands kept f = record {
   same = tables_of zone tables last.shard (line_requests text) (gives_back by_line zone tables last (line_requests text) placed (goes_on zone tables desk last [] text it (has_none zone tables desk same no_base no_journal) stands kept f));
   gives_back = gives_over zone tables last.shard (line_requests text) (gives_back by_line zone tables last (line_requests text) placed (goes_on zone tables desk last [] text it (has_none zone tables desk same no_base no_journal) stands kept f));
@@ -244,14 +244,14 @@ first_kept : (marks : List (Option Failure)) → list_any is_keeping marks ≡ f
 first_kept [] h = (refl, refl)
 first_kept (mark ∷ marks) h = both_false (is_keeping mark) (list_any is_keeping marks) h
 
--- behind requests that are all answered by prices one more is answered so
-record EndsBy (m : Machine) (list : List Request) (r : Request) (last : Reply) : Type 0 where
+-- after requests that are all answered by prices one more is answered so
+record EndsBy (m : Machine) (list : List Request) (r : Request) (last : SpelledReply) : Type 0 where
   accepted : AreAllPriced (outcome [] m list).replies
   mark : Option Failure
   kept : is_keeping mark ≡ false
   replied : (step mark (outcome [] m list).after r).reply ≡ last
 
-ends_by : (marks : List (Option Failure)) (m : Machine) (list : List Request) (r : Request) (told : List Reply) (last : Reply) → (outcome marks m (list ++ r ∷ [])).replies ≡ told ++ last ∷ [] → AreAllPriced told → list_any is_keeping marks ≡ false
+ends_by : (marks : List (Option Failure)) (m : Machine) (list : List Request) (r : Request) (told : List SpelledReply) (last : SpelledReply) → (outcome marks m (list ++ r ∷ [])).replies ≡ told ++ last ∷ [] → AreAllPriced told → list_any is_keeping marks ≡ false
     → EndsBy m list r last
 ends_by marks m [] r [] last e all kept = record {
   accepted = tt;
@@ -293,13 +293,13 @@ none_why : (x : Refusal) → ◌≡◌ {A = Option Refusal} None (Some x) → �
 none_why x e = cc
 
 -- prices or a refusal, as the replies to a tap and a correction are
-abbrev is_plain_reply : Reply → Bool
+abbrev is_plain_reply : SpelledReply → Bool
 is_plain_reply (replies.Priced priced) = true
 is_plain_reply (replies.No why) = true
 is_plain_reply _ = false
 
 -- one of these that ends a replay is that refusal
-why_of : (reply : Reply) (why : Refusal) → is_plain_reply reply ≡ true → why_ended reply ≡ Some why → reply ≡ replies.No why
+why_of : (reply : SpelledReply) (why : Refusal) → is_plain_reply reply ≡ true → why_ended reply ≡ Some why → reply ≡ replies.No why
 why_of (replies.Priced priced) why plain e = absurd (none_why why e)
 why_of (replies.No x) why plain e = ap replies.No (some_why x why e)
 why_of (replies.Due quote) why plain e = absurd (true_false (sym plain))
@@ -322,7 +322,7 @@ fix_plain state fix (Err of_fix.FixesFull) = refl
 fix_plain state fix (Err of_fix.Memory) = refl
 
 -- unless memory was wanting, the machine refuses it so where nothing fails
-refused_so : (mark : Option Failure) (m : Machine) (of : Asks) (reply : Reply) (why : Refusal) → is_barred of ≡ false → (step_asks mark m of).reply ≡ reply → why_ended reply ≡ Some why → why ≢ refusal.Memory → is_keeping mark ≡ false
+refused_so : (mark : Option Failure) (m : Machine) (of : Asks) (reply : SpelledReply) (why : Refusal) → is_barred of ≡ false → (step_asks mark m of).reply ≡ reply → why_ended reply ≡ Some why → why ≢ refusal.Memory → is_keeping mark ≡ false
     → (step_asks None m of).reply ≡ replies.No why
 refused_so None m (asks.Put (asked.Tap tap)) reply why free told ends other kept =
     why_of _ why (tap_plain m.accounts tap (tap_result m.tables (accepted_of m.accounts tap.account) tap)) (ap why_ended told ∙ ends)
@@ -339,7 +339,7 @@ refused_so mark m (asks.Close day) reply why free told ends other kept = absurd 
 refused_so mark m asks.Quit reply why free told ends other kept = absurd (true_false free)
 refused_so mark m (asks.No x) reply why free told ends other kept = ap replies.No (some_why x why (ap why_ended told ∙ ends))
 
-refused_step : (mark : Option Failure) (m : Machine) (r : Request) (reply : Reply) (why : Refusal) → is_barred (asks_of m.zone r) ≡ false → (step mark m r).reply ≡ reply → why_ended reply ≡ Some why → why ≢ refusal.Memory → is_keeping mark ≡ false
+refused_step : (mark : Option Failure) (m : Machine) (r : Request) (reply : SpelledReply) (why : Refusal) → is_barred (asks_of m.zone r) ≡ false → (step mark m r).reply ≡ reply → why_ended reply ≡ Some why → why ≢ refusal.Memory → is_keeping mark ≡ false
     → (step None m r).reply ≡ replies.No why
 unfolding step
 refused_step mark m r reply why free told ends other kept = refused_so mark m (asks_of m.zone r) reply why free told ends other kept
@@ -349,11 +349,11 @@ rest_priced m [] more all = all
 rest_priced m (r ∷ list) more all = rest_priced (step None m r).after list more all.1
 
 same_zone : (m : Machine) (list : List Request) → (outcome [] m list).after.zone ≡ m.zone
-same_zone m list = ap (λ (n : Machine). n.zone) (ends_behind [] m list)
+same_zone m list = ap (λ (n : Machine). n.zone) (ends_after [] m list)
 
--- a replay that ended, behind what was replayed before
+-- a replay that ended, after what was replayed before
 module _ (by_line : AskedByItsLine) (zone : TimeZone) (tables : FareTables) (desk last : LocalParts) (before : List Request) (text : List ℕ) (h : HasReplayed zone tables desk before) (placed : AreInPlace 0 last.shard.journal)
-    (stands : (desk_parts last).standing ≡ (desk_parts desk).standing) (kept : AreKept (desk_parts desk).transcript (desk_parts last).transcript) (line : ℕ) (why : Refusal) (e : IsEndedAt zone desk_parts desk last text line why) where
+    (stands : (desk_parts last).standing ≡ (desk_parts desk).standing) (kept : NothingIsLost (desk_parts desk).transcript (desk_parts last).transcript) (line : ℕ) (why : Refusal) (e : IsEndedAt zone desk_parts desk last text line why) where
   abbrev pub new : Machine
   new = new_machine zone tables None
 
@@ -422,7 +422,7 @@ module _ (by_line : AskedByItsLine) (zone : TimeZone) (tables : FareTables) (des
 
 -- what is told of it
 pub not_replayed : AskedByItsLine → (zone : TimeZone) (tables : FareTables) (desk last : LocalParts) (before : List Request) (text : List ℕ) → HasReplayed zone tables desk before → AreInPlace 0 last.shard.journal
-    → (desk_parts last).standing ≡ (desk_parts desk).standing → AreKept (desk_parts desk).transcript (desk_parts last).transcript → (f : ReplayFault) → IsEnded zone desk_parts desk last text f
+    → (desk_parts last).standing ≡ (desk_parts desk).standing → NothingIsLost (desk_parts desk).transcript (desk_parts last).transcript → (f : ReplayFault) → IsEnded zone desk_parts desk last text f
     → IsNotReplayed (outcome [] (new_machine zone tables None) before).after (line_requests text) f
 not_replayed by_line zone tables desk last before text h placed stands kept (fault.Line line why) e = stops_at by_line zone tables desk last before text h placed stands kept line why e.0 e.1
 not_replayed by_line zone tables desk last before text h placed stands kept fault.Memory e = (e.0, reaches by_line zone tables desk last before text h placed stands kept e.0 refusal.Memory e.1)
@@ -433,7 +433,7 @@ first_priced m [] more all = tt
 first_priced m (r ∷ list) more all = (all.0, first_priced (step None m r).after list more all.1)
 
 pub accepted_before : AskedByItsLine → (zone : TimeZone) (tables : FareTables) (desk last : LocalParts) (before : List Request) (text : List ℕ) → HasReplayed zone tables desk before → AreInPlace 0 last.shard.journal
-    → (desk_parts last).standing ≡ (desk_parts desk).standing → AreKept (desk_parts desk).transcript (desk_parts last).transcript → (f : ReplayFault) → IsEnded zone desk_parts desk last text f
+    → (desk_parts last).standing ≡ (desk_parts desk).standing → NothingIsLost (desk_parts desk).transcript (desk_parts last).transcript → (f : ReplayFault) → IsEnded zone desk_parts desk last text f
     → AreAllPriced (outcome [] (new_machine zone tables None) before).replies
 accepted_before by_line zone tables desk last before text h placed stands kept (fault.Line line why) e =
     first_priced (new_machine zone tables None) before e.0.done (all_accepted by_line zone tables desk last before text h placed stands kept line why e.0)
@@ -443,13 +443,13 @@ accepted_before by_line zone tables desk last before text h placed stands kept f
 -- ---- one text more
 
 module _ (zone : TimeZone) (desk last : LocalParts) (text : List ℕ) where
-  pub more_replayed : (ended : Result Replayed ReplayFault) → (desk_parts last).standing ≡ (desk_parts desk).standing → AreKept (desk_parts desk).transcript (desk_parts last).transcript
-      → IfOk ended (IsReplayed zone desk_parts desk last text) → OnOk ended (IsReplayedBehind zone desk last (line_requests text))
+  pub more_replayed : (ended : Result Replayed ReplayFault) → (desk_parts last).standing ≡ (desk_parts desk).standing → NothingIsLost (desk_parts desk).transcript (desk_parts last).transcript
+      → IfOk ended (IsReplayed zone desk_parts desk last text) → OnOk ended (IsReplayedAfter zone desk last (line_requests text))
   more_replayed (Err f) stands kept h = tt
   more_replayed (Ok it) stands kept h = λ tables before has. goes_on zone tables desk last before text it has stands kept h
 
   pub more_stopped : AskedByItsLine → (ended : Result Replayed ReplayFault) → AreInPlace 0 last.shard.journal → (desk_parts last).standing ≡ (desk_parts desk).standing
-      → AreKept (desk_parts desk).transcript (desk_parts last).transcript → IfErr ended (IsEnded zone desk_parts desk last text) → IfErr ended (IsNotReplayedBehind zone desk (line_requests text))
+      → NothingIsLost (desk_parts desk).transcript (desk_parts last).transcript → IfErr ended (IsEnded zone desk_parts desk last text) → IfErr ended (IsNotReplayedAfter zone desk (line_requests text))
   more_stopped by_line (Ok it) placed stands kept h = tt
   more_stopped by_line (Err f) placed stands kept h = λ tables before has. (
     accepted_before by_line zone tables desk last before text has placed stands kept f h,

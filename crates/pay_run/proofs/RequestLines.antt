@@ -4,9 +4,9 @@ use Rattle.jiff.specs.declared.tz.timezone.TimeZone.{TimeZone}
 use Rattle.pay_shard.specs.declared.asked.Asked.{Asked}
 use Rattle.pay_shard.specs.declared.asked.Asked.TheVariants as asked
 use Rattle.pay_wire.specs.Words.{spelling_of_command}
-use Rattle.pay_wire.specs.declared.command.Command.{Command}
+use Rattle.pay_wire.specs.declared.command.SpelledCommand.{SpelledCommand}
 use Rattle.pay_wire.specs.declared.refusal.Refusal.{Refusal}
-use Rattle.pay_wire.specs.declared.reply.Reply.{Reply}
+use Rattle.pay_wire.specs.declared.reply.SpelledReply.{SpelledReply}
 use Rattle.pay_session.specs.Asks.{asks_of}
 use Rattle.pay_journal.specs.Words.{spelled_of, line_of, AskedByItsLine}
 use Rattle.pay_session.specs.declared.asks.Asks.{Asks}
@@ -29,11 +29,11 @@ true_false e = cc
 record HasLine (of : Asks) : Type 0 where
   command : Asked
   asked_for : of ≡ asks.Put command
-  line : (c : Command) → IfSome (spelled_of command) (λ its. its ≡ c) → line_of command ≡ spelling_of_command c ++ codes "\n"
+  line : (c : SpelledCommand) → IfSome (spelled_of command) (λ its. its ≡ c) → line_of command ≡ spelling_of_command c ++ codes "\n"
 
 new_has_line : (mark : Option Failure) (m : Machine) (of : Asks) → is_new (step_asks mark m of).reply ≡ true → HasLine of
-new_has_line None m (asks.Put (asked.Tap tap)) new = record { command = asked.Tap tap; asked_for = refl; line = λ c same. ap (λ (x : Command). spelling_of_command x ++ codes "\n") same }
-new_has_line None m (asks.Put (asked.Fix fix)) new = record { command = asked.Fix fix; asked_for = refl; line = λ c same. ap (λ (x : Command). spelling_of_command x ++ codes "\n") same }
+new_has_line None m (asks.Put (asked.Tap tap)) new = record { command = asked.Tap tap; asked_for = refl; line = λ c same. ap (λ (x : SpelledCommand). spelling_of_command x ++ codes "\n") same }
+new_has_line None m (asks.Put (asked.Fix fix)) new = record { command = asked.Fix fix; asked_for = refl; line = λ c same. ap (λ (x : SpelledCommand). spelling_of_command x ++ codes "\n") same }
 new_has_line None m (asks.Put (asked.Due account day)) new = absurd (cc)
 new_has_line None m (asks.Put (asked.Show account day)) new = absurd (cc)
 new_has_line None m (asks.Put (asked.Quotes day shard of)) new = absurd (cc)
@@ -59,7 +59,7 @@ line_if_new : (b : Bool) (one other : List ℕ) → (b ≡ true → one ≡ othe
 line_if_new true one other same = same refl
 line_if_new false one other same = refl
 
-pub line_is : AskedByItsLine → (mark : Option Failure) (m : Machine) (r : Request) (reply : Reply) → (step mark m r).reply ≡ reply
+pub line_is : AskedByItsLine → (mark : Option Failure) (m : Machine) (r : Request) (reply : SpelledReply) → (step mark m r).reply ≡ reply
     → line_kept (asks_of m.zone r) reply ≡ (if is_new reply then line_of_request r else [])
 unfolding step
 line_is by_line mark m r reply told =

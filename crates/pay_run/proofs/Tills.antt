@@ -29,11 +29,11 @@ pub record ClosesAs (m : Machine) (day : ℕ) (result : Result (List Posting) Re
   pub holds : Holds ledger
 
 -- A desk that refuses for memory, or because something could not be kept, if that can fail; whose replies are never late; and a till
--- whose closes over one shard are the machine's: with `Sound` for whether what the till keeps can be told, and `Tells` for what that is.
-pub record IsPlain {T : Type 0} (Refuses : DeskFault → Type 0) (Late Fails : Type 0) (Closes : T → ℕ → ℕ → List Taken → Result (List Posting) Refusal → T → Type 0) (Sound : T → Type 0) (Tells : T → Option LedgerParts → Type 0) : Type 0 where
+-- whose closes over one shard are the machine's: with `Sound` for whether what the till keeps can be told, and `MayAnswer` for what that is.
+pub record IsPlain {T : Type 0} (Refuses : DeskFault → Type 0) (Late Fails : Type 0) (Closes : T → ℕ → ℕ → List Taken → Result (List Posting) Refusal → T → Type 0) (Sound : T → Type 0) (MayAnswer : T → Option LedgerParts → Type 0) : Type 0 where
   pub memory : (fault : DeskFault) → Refuses fault → (fault ≡ desk_fault.Memory) ⊎ ((fault ≡ desk_fault.NotKept) × Fails)
   pub never : Late → ⊥
   pub was_sound : (before after : T) (day : ℕ) (put : List Taken) (result : Result (List Posting) Refusal) → Closes before day 1 put result after → Sound after → Sound before
   pub closes : (before after : T) (m : Machine) (day : ℕ) (put : List Taken) (result : Result (List Posting) Refusal)
-      → Closes before day 1 put result after → AreQuotes day 1 0 put → AllByRecursion (IsOfMachine m.tables m.accounts day) put → Sound after → Tells before m.ledger
-      → ClosesAs m day result (Tells after)
+      → Closes before day 1 put result after → AreQuotes day 1 0 put → AllByRecursion (IsOfMachine m.tables m.accounts day) put → Sound after → MayAnswer before m.ledger
+      → ClosesAs m day result (MayAnswer after)

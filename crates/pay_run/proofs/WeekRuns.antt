@@ -27,7 +27,7 @@ use Rattle.pay_run.specs.Outcomes.{outcome}
 use Rattle.pay_run.specs.Week.{TellsWeek, WeekTold, WeekNotTold, beside_week, nowhere, machine_past, week_fault}
 use Rattle.pay_run.specs.declared.week.WeekFault.TheVariants.{Memory}
 use Rattle.pay_run.proofs.Tills.{IsPlain}
-use Rattle.pay_run.proofs.WholeRuns.{Refuses, Late, behind_first, same_origin, same_sides, sides_from, machine_from, accounts_after, fails_from, unkept_plain, ClosesNone}
+use Rattle.pay_run.proofs.WholeRuns.{Refuses, Late, after_first, same_origin, same_sides, sides_from, machine_from, accounts_after, fails_from, unkept_plain, ClosesNone}
 
 -- A desk that has what a journal gives back, and kept lines by what cannot fail.
 module _ {K : Type 0} (HasFailed : K → Type 0) (never : (k : K) → HasFailed k → ⊥) (by_line : AskedByItsLine) (zone : TimeZone) (tables : FareTables) (past : List ℕ) (desk : LocalParts) (held : Option (List ℕ)) (begun now : KeptParts) (before after : NoTill)
@@ -63,7 +63,7 @@ module _ {K : Type 0} (HasFailed : K → Type 0) (never : (k : K) → HasFailed 
       let m = machine_from zone (kept_parts (CanFail HasFailed) now).standing.origin None in
       let stands : (outcome [] m (requests_of input)).after.accounts ≡ state_now now.seen.shard =
       accounts_after (Refuses (CanFail HasFailed) begun) (Late (CanFail HasFailed) begun) ⊥ ClosesNone (λ till. ⊤) (λ till ledger. ledger ≡ None) (unkept_plain HasFailed never (kept_parts (CanFail HasFailed) begun).standing) by_line zone
-      now.first now.seen.shard (behind_first (CanFail HasFailed) begun now now placed lines) before after None (λ new. ⊤) (λ new same. tt) tt refl (λ none. none) (requests_of input) e.events e.session (sym e.lacked ∙ ample) in
+      now.first now.seen.shard (after_first (CanFail HasFailed) begun now now placed lines) before after None (λ new. ⊤) (λ new same. tt) tt refl (λ none. none) (requests_of input) e.events e.session (sym e.lacked ∙ ample) in
       let shown = seen_all shard all.0 all.1 (all.2 free) in
       record {
         lines = says ∙ (λ i. week_lines (shown i).tables (accepted_of (state_now (shown i)) account) (its i))
@@ -81,7 +81,7 @@ module _ {K : Type 0} (HasFailed : K → Type 0) (never : (k : K) → HasFailed 
   breaks fault input left h =
       subst (λ (m : Machine). FailsSo fault m input (nowhere left) beside_week) resumed
       (fails_from (Refuses (CanFail HasFailed) begun) (Late (CanFail HasFailed) begun) ⊥ ClosesNone (λ till. ⊤) (λ till ledger. ledger ≡ None) (unkept_plain HasFailed never (kept_parts (CanFail HasFailed) begun).standing) by_line zone
-      now.first now.seen.shard (behind_first (CanFail HasFailed) begun now now placed lines) before after None (λ new. ⊤) (λ new same. tt) tt refl fault input left None None
+      now.first now.seen.shard (after_first (CanFail HasFailed) begun now now placed lines) before after None (λ new. ⊤) (λ new same. tt) tt refl fault input left None None
       (subst (HasFailedSo input left None None fault) (same_sides (CanFail HasFailed) begun now now desk held before after is refl origin) h))
 
   pub week_breaks : (fault : SessionFault) (known left : Option (List ℕ)) → IfSome known (λ input. HasFailedSo input left None None fault sides) → WeekNotTold zone tables past (known, left) (week_fault fault)

@@ -68,8 +68,8 @@ no_marks (None ∷ marks) m (r ∷ rs) h = ap (reply_then (step None m r).reply)
 abbrev pub sides_from : {T : Type 0} → List Item → ShardParts → T → T → Sides T
 sides_from front shard before after = record { taken_before = commands_of_items front; taken_after = commands_of_items shard.journal; transcript = transcript_of shard; till_before = before; till_after = after }
 
--- a journal with a front, and what is behind it; each entry is at its ticket
-pub record IsBehind (front : List Item) (shard : ShardParts) : Type 0 where
+-- a journal with a front, and what is after it; each entry is at its ticket
+pub record IsAfter (front : List Item) (shard : ShardParts) : Type 0 where
   pub back : List Item
   pub whole : shard.journal ≡ front ++ back
   pub in_place : AreInPlace 0 shard.journal
@@ -78,39 +78,39 @@ pub record IsBehind (front : List Item) (shard : ShardParts) : Type 0 where
 abbrev pub streams : Option (List ℕ) → Option (List ℕ) → Option (List ℕ) → Streams
 streams left held written = record { left = left; held = held; written = written }
 
--- what stands behind the same is the same
-same_behind : {X : Type 0} (xs ys zs : List X) → xs ++ ys ≡ xs ++ zs → ys ≡ zs
-same_behind [] ys zs e = e
-same_behind {X = X} (x ∷ xs) ys zs e = same_behind xs ys zs (tails x x (xs ++ ys) (xs ++ zs) e)
+-- what stands after the same is the same
+same_after : {X : Type 0} (xs ys zs : List X) → xs ++ ys ≡ xs ++ zs → ys ≡ zs
+same_after [] ys zs e = e
+same_after {X = X} (x ∷ xs) ys zs e = same_after xs ys zs (tails x x (xs ++ ys) (xs ++ zs) e)
   where
     tails : (x y : X) (xs ys : List X) → x ∷ xs ≡ y ∷ ys → xs ≡ ys
     tails x y xs ys e = cc
 
-module _ {T : Type 0} (Refuses : DeskFault → Type 0) (Late Fails : Type 0) (Closes : T → ℕ → ℕ → List Taken → Result (List Posting) Refusal → T → Type 0) (Sound : T → Type 0) (Tells : T → Option LedgerParts → Type 0) (plain : IsPlain Refuses Late Fails Closes Sound Tells) (by_line : AskedByItsLine) (zone : TimeZone) where
+module _ {T : Type 0} (Refuses : DeskFault → Type 0) (Late Fails : Type 0) (Closes : T → ℕ → ℕ → List Taken → Result (List Posting) Refusal → T → Type 0) (Sound : T → Type 0) (MayAnswer : T → Option LedgerParts → Type 0) (plain : IsPlain Refuses Late Fails Closes Sound MayAnswer) (by_line : AskedByItsLine) (zone : TimeZone) where
   -- the machine where such a session began
   abbrev first : List Item → ShardParts → Option LedgerParts → Machine
   first front shard ledger = machine_at zone shard.tables shard.base front ledger
 
   -- a session's requests are run by the machine
-  pub runs : (front : List Item) (shard : ShardParts) (before after : T) (ledger : Option LedgerParts) (requests : List Request) (events : List Event) (b : IsBehind front shard) → Sound after → Tells before ledger
-      → IsSession zone 1 Refuses Late Closes (sides_from front shard before after) requests events → RunsTo zone shard.tables shard.base front b.back ledger requests events Fails (Tells after)
+  pub runs : (front : List Item) (shard : ShardParts) (before after : T) (ledger : Option LedgerParts) (requests : List Request) (events : List Event) (b : IsAfter front shard) → Sound after → MayAnswer before ledger
+      → IsSession zone 1 Refuses Late Closes (sides_from front shard before after) requests events → RunsTo zone shard.tables shard.base front b.back ledger requests events Fails (MayAnswer after)
   runs front shard before after ledger requests events b sound tells s =
       let own : commands_of_items b.back ≡ commands_of (all_put events) =
-      same_behind (commands_of_items front) (commands_of_items b.back) (commands_of (all_put events))
+      same_after (commands_of_items front) (commands_of_items b.back) (commands_of (all_put events))
       (sym (map-append (λ (i : Item). (i.entry.ticket, i.entry.command)) front b.back) ∙ ap commands_of_items (sym b.whole) ∙ s.taken) in
-      all_run Refuses Late Fails Closes Sound Tells plain by_line zone shard.number shard.tables shard.base front b.back shard.journal ledger requests events before after b.in_place b.whole s.served own s.said sound tells
+      all_run Refuses Late Fails Closes Sound MayAnswer plain by_line zone shard.number shard.tables shard.base front b.back shard.journal ledger requests events before after b.in_place b.whole s.served own s.said sound tells
 
   -- so they came to this
   abbrev came_to : ShardParts → List Event → Option LedgerParts → Outcome
   came_to shard events ledger = record { replies = replies_of events; after = machine_at zone shard.tables shard.base shard.journal ledger }
 
   -- what is so beside the session: what is so of the newly accepted requests where it is so of all whose lines are those of the new items
-  module _ (front : List Item) (shard : ShardParts) (b : IsBehind front shard) (before after : T) (ledger : Option LedgerParts) (Keeps : List Request → Type 0) (keeps : (new : List Request) → lines_new shard.tables (replay shard.tables shard.base front) b.back ≡ lines_of_requests new → Keeps new)
-      (sound : Sound after) (tells : Tells before ledger) where
+  module _ (front : List Item) (shard : ShardParts) (b : IsAfter front shard) (before after : T) (ledger : Option LedgerParts) (Keeps : List Request → Type 0) (keeps : (new : List Request) → lines_new shard.tables (replay shard.tables shard.base front) b.back ≡ lines_of_requests new → Keeps new)
+      (sound : Sound after) (tells : MayAnswer before ledger) where
     abbrev beside : Beside
-    beside = record { Holds = Tells after; Keeps = Keeps; Fails = Fails }
+    beside = record { Holds = MayAnswer after; Keeps = Keeps; Fails = Fails }
 
-    comes : (requests : List Request) (events : List Event) (r : RunsTo zone shard.tables shard.base front b.back ledger requests events Fails (Tells after))
+    comes : (requests : List Request) (events : List Event) (r : RunsTo zone shard.tables shard.base front b.back ledger requests events Fails (MayAnswer after))
         → ComesTo (first front shard ledger) requests beside (came_to shard events r.ledger_after)
     comes requests events r =
         let gives : outcome r.marks (first front shard ledger) requests ≡ came_to shard events r.ledger_after =
@@ -210,7 +210,7 @@ abbrev pub Late : Type 0 → KeptParts → Type 0
 Late Fails begun = MaySometimeBeLate (kept_parts Fails) (kept_parts Fails begun).standing
 
 module _ (Fails : Type 0) (begun now settled : KeptParts) where
-  -- the sides as the session has them are those behind what the desk began with
+  -- the sides as the session has them are those after what the desk began with
   pub same_sides : {T : Type 0} (desk : LocalParts) (held : Option (List ℕ)) (before after : T) → begun ≡ record { seen = desk; first = desk.shard.journal; held_first = held; holds = held; stuck = false }
       → settled.seen ≡ now.seen → (kept_parts Fails settled).standing.origin ≡ record { tables = desk.shard.tables; base = desk.shard.base; items = desk.shard.journal; holds = held }
       → sides_from begun.seen.shard.journal now.seen.shard before after ≡ sides_from settled.first settled.seen.shard before after
@@ -219,8 +219,8 @@ module _ (Fails : Type 0) (begun now settled : KeptParts) where
       ∙ ap (λ (p : LocalParts). sides_from settled.first p.shard before after) (sym seen)
 
   -- its journal, of which it kept the newly accepted lines
-  abbrev pub behind_first : AreInPlace 0 settled.seen.shard.journal → KeepsLines settled → IsBehind settled.first settled.seen.shard
-  behind_first placed lines = record { back = lines.later; whole = lines.begins; in_place = placed }
+  abbrev pub after_first : AreInPlace 0 settled.seen.shard.journal → KeepsLines settled → IsAfter settled.first settled.seen.shard
+  after_first placed lines = record { back = lines.later; whole = lines.begins; in_place = placed }
 
 -- it is settled unless it is stuck
 pub settled_if : {T E : Type 0} (r : Result T E) (stuck : Bool) (P : Type 0) → OnOk r P → OnErr r (stuck ≡ true) → stuck ≡ false → P
@@ -341,14 +341,14 @@ module _ {T : Type 0} (till : Closing T) (by_line : AskedByItsLine) (zone : Time
     run_ends : (done : Done) → IsEnded input left written new done its_sides → Ends (machine_on zone desk.shard ledger) input (streams left written new) (beside_with Fails held settled (till.Has after)) done
     run_ends done h =
         subst (λ (o : Beginning). Ends (machine_from zone o ledger) input (streams left written new) (beside_with Fails o.holds settled (till.Has after)) done) origin
-        (ends_from (Refuses Fails begun) (Late Fails begun) Fails till.Closes till.Sound till.Has plain by_line zone settled.first settled.seen.shard (behind_first Fails begun now settled went.placed went.lines) before after ledger
+        (ends_from (Refuses Fails begun) (Late Fails begun) Fails till.Closes till.Sound till.Has plain by_line zone settled.first settled.seen.shard (after_first Fails begun now settled went.placed went.lines) before after ledger
         (KeepsNew settled.held_first settled.holds settled.stuck) (keeps_new settled went.lines) sound has input left written new done
         (subst (IsEnded input left written new done) (same_sides Fails begun now settled desk held before after went.is went.seen origin) h))
 
     run_fails : (fault : SessionFault) → HasFailedSo input left written new fault its_sides → FailsSo fault (machine_on zone desk.shard ledger) input (streams left written new) (beside_with Fails held settled (till.Has after))
     run_fails fault h =
         subst (λ (o : Beginning). FailsSo fault (machine_from zone o ledger) input (streams left written new) (beside_with Fails o.holds settled (till.Has after))) origin
-        (fails_from (Refuses Fails begun) (Late Fails begun) Fails till.Closes till.Sound till.Has plain by_line zone settled.first settled.seen.shard (behind_first Fails begun now settled went.placed went.lines) before after ledger
+        (fails_from (Refuses Fails begun) (Late Fails begun) Fails till.Closes till.Sound till.Has plain by_line zone settled.first settled.seen.shard (after_first Fails begun now settled went.placed went.lines) before after ledger
         (KeepsNew settled.held_first settled.holds settled.stuck) (keeps_new settled went.lines) sound has fault input left written new
         (subst (HasFailedSo input left written new fault) (same_sides Fails begun now settled desk held before after went.is went.seen origin) h))
 
@@ -366,16 +366,16 @@ module _ {T : Type 0} (till : Closing T) (by_line : AskedByItsLine) (zone : Time
   till_fails (Err fault) None left written new h sound ledger has = tt
   till_fails (Err fault) (Some input) left written new h sound ledger has = run_fails input left written new sound ledger has fault h
 
-  was_sound_behind : (requests : List Request) (events : List Event) → IsSession zone 1 (Refuses Fails begun) (Late Fails begun) till.Closes its_sides requests events → till.Sound after → till.Sound before
-  was_sound_behind requests events s sound = sound_before (Refuses Fails begun) (Late Fails begun) Fails till.Closes till.Sound till.Has plain by_line zone requests events before after s.served sound
+  was_sound_after : (requests : List Request) (events : List Event) → IsSession zone 1 (Refuses Fails begun) (Late Fails begun) till.Closes its_sides requests events → till.Sound after → till.Sound before
+  was_sound_after requests events s sound = sound_before (Refuses Fails begun) (Late Fails begun) Fails till.Closes till.Sound till.Has plain by_line zone requests events before after s.served sound
 
   -- what can be told of the till after it could be before
   pub till_sound : (ended : Result Done SessionFault) (known left written new : Option (List ℕ)) → IfOk ended (λ done. IfSome known (λ input. IsEnded input left written new done its_sides))
       → IfErr ended (λ fault. IfSome known (λ input. HasFailedSo input left written new fault its_sides)) → IfSome known (λ _. till.Sound after → till.Sound before)
   till_sound ended None left written new ends fails = tt
-  till_sound (Ok done) (Some input) left written new ends fails = λ sound. was_sound_behind (requests_of input) ends.events ends.session sound
-  till_sound (Err (Read answered)) (Some input) left written new ends fails = λ sound. was_sound_behind (line_requests fails.front) fails.events fails.session sound
-  till_sound (Err (Write answered)) (Some input) left written new ends fails = λ sound. was_sound_behind fails.done (fails.events ++ fails.next ∷ []) fails.session sound
+  till_sound (Ok done) (Some input) left written new ends fails = λ sound. was_sound_after (requests_of input) ends.events ends.session sound
+  till_sound (Err (Read answered)) (Some input) left written new ends fails = λ sound. was_sound_after (line_requests fails.front) fails.events fails.session sound
+  till_sound (Err (Write answered)) (Some input) left written new ends fails = λ sound. was_sound_after fails.done (fails.events ++ fails.next ∷ []) fails.session sound
 
 -- ---- into a ledger
 

@@ -6,7 +6,7 @@ use Rattle.std.specs.Io.KnownBytes.{Appends}
 use Rattle.pay_journal.specs.Words.{IsRest}
 use Rattle.pay_rules.specs.declared.tap.Kind.TheVariants.{Bus}
 use Rattle.pay_wire.specs.Words.{spelling_of_command}
-use Rattle.pay_wire.specs.declared.command.Command.TheVariants as command
+use Rattle.pay_wire.specs.declared.command.SpelledCommand.TheVariants as command
 use Rattle.pay_session.specs.declared.request.Request.{Request}
 use Rattle.pay_session.specs.declared.request.Request.TheVariants as request
 

@@ -6,11 +6,11 @@ use Rattle.pay_rules.specs.InTurn.{IsIn}
 use Rattle.pay_postings.specs.Words.{LedgerParts}
 use Rattle.pay_tables.specs.Words.{FareTables}
 use Rattle.pay_shard.specs.declared.asked.Asked.{Asked}
-use Rattle.pay_wire.specs.declared.reply.Reply.TheVariants.{No}
+use Rattle.pay_wire.specs.declared.reply.SpelledReply.TheVariants.{No}
 use Rattle.pay_session.specs.Words.{asks_of}
 use Rattle.pay_session.specs.declared.asks.Asks.TheVariants.{Put, Close}
 use Rattle.pay_session.specs.declared.request.Request.{Request}
-use Rattle.pay_run.specs.Journals.{AreAllNew, new_requests, cut_behind, of_new, GivesBack}
+use Rattle.pay_run.specs.Journals.{AreAllNew, new_requests, cut_after, of_new, GivesBack}
 use Rattle.pay_run.specs.Machine.{Machine, Failure, refusal_of_failure, with_ledger, stays, step}
 use Rattle.pay_run.specs.Outcomes.{outcome, tells_loss, AreAllPriced, accepted_requests}
 
@@ -69,16 +69,16 @@ NewReplayInAnyOrder = (m : Machine) (list other : List Request) (marks : List (O
     → ((r : Request) → IsIn (new_requests marks m list) r ↔ IsIn other r)
     → AreAllPriced (outcome [] (with_ledger m ledger) other).replies × ((outcome [] (with_ledger m ledger) other).after ≡ with_ledger (outcome marks m list).after ledger)
 
--- of a run that was cut behind the request by which so many are newly accepted, these are the newly accepted ones
+-- of a run that was cut after the request by which so many are newly accepted, these are the newly accepted ones
 abbrev pub CutLeavesFront : Type 0
-CutLeavesFront = (m : Machine) (list : List Request) (marks : List (Option Failure)) (n : ℕ) → new_requests marks m (cut_behind n marks m list) ≡ take n (new_requests marks m list)
+CutLeavesFront = (m : Machine) (list : List Request) (marks : List (Option Failure)) (n : ℕ) → new_requests marks m (cut_after n marks m list) ≡ take n (new_requests marks m list)
 
 -- so these come by themselves to what that run comes to
 abbrev pub FrontReplaysAsCut : Type 0
 FrontReplaysAsCut = (m : Machine) (list : List Request) (marks : List (Option Failure)) (ledger : Option LedgerParts) (n : ℕ)
-    → outcome [] (with_ledger m ledger) (take n (new_requests marks m list)) ≡ of_new ledger (outcome marks m (cut_behind n marks m list))
+    → outcome [] (with_ledger m ledger) (take n (new_requests marks m list)) ≡ of_new ledger (outcome marks m (cut_after n marks m list))
 
--- what gives a machine back, and behind it what this machine newly accepts, gives back the machine that there is then
+-- what gives a machine back, and after it what this machine newly accepts, gives back the machine that there is then
 abbrev pub KeptGivesBack : Type 0
 KeptGivesBack = (zone : TimeZone) (tables : FareTables) (kept : List Request) (m : Machine) (list : List Request) (marks : List (Option Failure)) → GivesBack zone tables kept m
     → GivesBack zone tables (kept ++ new_requests marks m list) (outcome marks m list).after

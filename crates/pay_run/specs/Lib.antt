@@ -1,6 +1,5 @@
 pub mod Commands
 pub mod Journals
-pub mod KeptBytes
 pub mod KeptLines
 pub mod Laws
 pub mod Ledgers

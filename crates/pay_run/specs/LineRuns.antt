@@ -12,7 +12,7 @@ use Rattle.pay_ledger.specs.Words.{IsLedger}
 use Rattle.pay_postings.specs.Words.{LedgerParts}
 use Rattle.pay_shard.specs.Words.{LocalParts}
 use Rattle.pay_wire.specs.Words.{AppendsFront, spelling_of_reply}
-use Rattle.pay_wire.specs.declared.reply.Reply.{Reply}
+use Rattle.pay_wire.specs.declared.reply.SpelledReply.{SpelledReply}
 use Rattle.pay_session.specs.Words.{line_requests, quits, requests_of, unread, lacks_memory}
 use Rattle.pay_session.specs.declared.request.Request.{Request}
 use Rattle.pay_session.specs.declared.sessions.Done.{Done}
@@ -71,15 +71,15 @@ pub record StopsReading (m : Machine) (input : List ℕ) (streams : Streams) (be
   pub written : Appends streams.held streams.written (text_of came.replies)
   pub counted : answered ≡ length came.replies
 
--- The writer failed: the first replies were written whole, and of the next one no more than a front. Nothing behind it was answered.
+-- The writer failed: the first replies were written whole, and of the next one no more than a front. Nothing after it was answered.
 pub record StopsWriting (m : Machine) (input : List ℕ) (streams : Streams) (beside : Beside) (answered : ℕ) : Type 0 where
   pub done : List Request
   pub others : List Request
   pub requests : requests_of input ≡ done ++ others
   pub came : Outcome
   pub comes : ComesTo m done beside came
-  pub told : List Reply
-  pub next : Reply
+  pub told : List SpelledReply
+  pub next : SpelledReply
   pub replies : came.replies ≡ told ++ next ∷ []
   pub whole : Option (List ℕ)
   pub written : Appends streams.held whole (text_of told)

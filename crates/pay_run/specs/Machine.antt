@@ -13,8 +13,8 @@ use Rattle.pay_shard.specs.Words.{ShardParts, state_now, Step as ShardStep, step
 use Rattle.pay_close.specs.Words.{close, refusal_of_posting}
 use Rattle.pay_wire.specs.declared.refusal.Refusal.{Refusal}
 use Rattle.pay_wire.specs.declared.refusal.Refusal.TheVariants as refusal
-use Rattle.pay_wire.specs.declared.reply.Reply.{Reply}
-use Rattle.pay_wire.specs.declared.reply.Reply.TheVariants as replies
+use Rattle.pay_wire.specs.declared.reply.SpelledReply.{SpelledReply}
+use Rattle.pay_wire.specs.declared.reply.SpelledReply.TheVariants as replies
 use Rattle.pay_session.specs.Words.{asks_of, said}
 use Rattle.pay_session.specs.declared.asks.Asks.{Asks}
 use Rattle.pay_session.specs.declared.asks.Asks.TheVariants as asks
@@ -57,11 +57,11 @@ is_keeping _ = false
 
 -- the reply to a request, and the machine after it
 pub record Step : Type 0 where
-  pub reply : Reply
+  pub reply : SpelledReply
   pub after : Machine
 
 -- a reply that changes nothing
-abbrev pub stays : Machine → Reply → Step
+abbrev pub stays : Machine → SpelledReply → Step
 stays m reply = record { reply = reply; after = m }
 
 -- what a shard's machine over all accounts replies, as a line says it

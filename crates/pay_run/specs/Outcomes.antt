@@ -3,21 +3,21 @@ use Rattle.std.specs.Prelude.{◌≡◌, ℕ, Bool, true, false, if◌then◌els
 use Rattle.std.specs.List.{flat_map, list_any, AllByRecursion}
 use Rattle.pay_rules.specs.declared.priced.Priced.{Priced}
 use Rattle.pay_wire.specs.Words.{spelling_of_reply}
-use Rattle.pay_wire.specs.declared.command.Command.TheVariants as command
+use Rattle.pay_wire.specs.declared.command.SpelledCommand.TheVariants as command
 use Rattle.pay_wire.specs.declared.refusal.Refusal.TheVariants as refusal
-use Rattle.pay_wire.specs.declared.reply.Reply.{Reply}
-use Rattle.pay_wire.specs.declared.reply.Reply.TheVariants as replies
+use Rattle.pay_wire.specs.declared.reply.SpelledReply.{SpelledReply}
+use Rattle.pay_wire.specs.declared.reply.SpelledReply.TheVariants as replies
 use Rattle.pay_session.specs.declared.request.Request.{Request}
 use Rattle.pay_session.specs.declared.request.Request.TheVariants as request
 use Rattle.pay_run.specs.Machine.{Machine, Failure, step}
 
 -- the replies to a list of requests, and the machine after them
 pub record Outcome : Type 0 where
-  pub replies : List Reply
+  pub replies : List SpelledReply
   pub after : Machine
 
 -- a reply before those of an outcome
-abbrev pub reply_then : Reply → Outcome → Outcome
+abbrev pub reply_then : SpelledReply → Outcome → Outcome
 reply_then r o = record { replies = r ∷ o.replies; after = o.after }
 
 -- A mark says of each request what failed for it, if anything did; past the marks nothing failed.
@@ -27,13 +27,13 @@ outcome [] m (r ∷ rs) = reply_then (step None m r).reply (outcome [] (step Non
 outcome (mark ∷ marks) m (r ∷ rs) = reply_then (step mark m r).reply (outcome marks (step mark m r).after rs)
 
 -- what is written for replies
-abbrev pub text_of : List Reply → List ℕ
+abbrev pub text_of : List SpelledReply → List ℕ
 text_of = flat_map spelling_of_reply
 
 -- ---- failures
 
 -- whether a reply tells of a failure: 43, 44, 48 and 90
-abbrev pub tells_failure : Reply → Bool
+abbrev pub tells_failure : SpelledReply → Bool
 tells_failure (replies.No refusal.Store) = true
 tells_failure (replies.No refusal.DeskFault) = true
 tells_failure (replies.No refusal.NotKept) = true
@@ -41,11 +41,11 @@ tells_failure (replies.No refusal.Memory) = true
 tells_failure _ = false
 
 -- or any of these
-abbrev pub any_failure : List Reply → Bool
+abbrev pub any_failure : List SpelledReply → Bool
 any_failure = list_any tells_failure
 
 -- whether it tells that a command was lost by one: 48 and 90
-abbrev pub tells_loss : Reply → Bool
+abbrev pub tells_loss : SpelledReply → Bool
 tells_loss (replies.No refusal.NotKept) = true
 tells_loss (replies.No refusal.Memory) = true
 tells_loss _ = false
@@ -53,16 +53,16 @@ tells_loss _ = false
 -- ---- prices
 
 -- an accepted tap or correction is answered by prices, and so is a repeat of it; nothing else is
-abbrev pub is_priced : Reply → Bool
+abbrev pub is_priced : SpelledReply → Bool
 is_priced (replies.Priced priced) = true
 is_priced _ = false
 
 -- each request is answered by prices
-abbrev pub AreAllPriced : List Reply → Type 0
+abbrev pub AreAllPriced : List SpelledReply → Type 0
 AreAllPriced = AllByRecursion (λ reply. is_priced reply ≡ true)
 
 -- the requests whose replies are prices
-abbrev pub with_prices : List Request → List Reply → List Request
+abbrev pub with_prices : List Request → List SpelledReply → List Request
 with_prices (r ∷ rs) (reply ∷ later) = if is_priced reply then r ∷ with_prices rs later else with_prices rs later
 with_prices _ _ = []
 

@@ -7,7 +7,7 @@ use Rattle.pay_tables.specs.Words.{FareTables}
 use Rattle.pay_shard.specs.Words.{ShardParts, LocalParts, desk_parts}
 use Rattle.pay_wire.specs.declared.refusal.Refusal.{Refusal}
 use Rattle.pay_wire.specs.declared.refusal.Refusal.TheVariants as refusal
-use Rattle.pay_wire.specs.declared.reply.Reply.TheVariants.{No}
+use Rattle.pay_wire.specs.declared.reply.SpelledReply.TheVariants.{No}
 use Rattle.pay_session.specs.Words.{Event, asks_of, line_requests, rest_of}
 use Rattle.pay_journal.specs.Words.{AreAccepted, is_barred}
 use Rattle.pay_journal.specs.declared.replaying.Replayed.{Replayed}
@@ -76,13 +76,13 @@ HasCommands desk = (zone : TimeZone) (tables : FareTables) (requests : List Requ
 
 -- ---- one text more
 
--- Whatever requests a desk was handed before, it was handed these behind them, and each was answered by prices.
-abbrev pub IsReplayedBehind : TimeZone → LocalParts → LocalParts → List Request → Type 0
-IsReplayedBehind zone old new requests = (tables : FareTables) (before : List Request) → HasReplayed zone tables old before → HasReplayed zone tables new (before ++ requests)
+-- Whatever requests a desk was handed before, it was handed these after them, and each was answered by prices.
+abbrev pub IsReplayedAfter : TimeZone → LocalParts → LocalParts → List Request → Type 0
+IsReplayedAfter zone old new requests = (tables : FareTables) (before : List Request) → HasReplayed zone tables old before → HasReplayed zone tables new (before ++ requests)
 
--- Whatever it was handed before is accepted, and behind that these are not.
-abbrev pub IsNotReplayedBehind : TimeZone → LocalParts → List Request → ReplayFault → Type 0
-IsNotReplayedBehind zone old requests why = (tables : FareTables) (before : List Request) → HasReplayed zone tables old before
+-- Whatever it was handed before is accepted, and after that these are not.
+abbrev pub IsNotReplayedAfter : TimeZone → LocalParts → List Request → ReplayFault → Type 0
+IsNotReplayedAfter zone old requests why = (tables : FareTables) (before : List Request) → HasReplayed zone tables old before
     → AreAllPriced (outcome [] (new_machine zone tables None) before).replies × IsNotReplayed (machine_of zone tables before None) requests why
 
 -- ---- worked rows

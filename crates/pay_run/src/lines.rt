@@ -15,10 +15,10 @@ use pay_close::LedgerTill;
 use pay_journal::{Keeper, KeptDesk};
 use pay_ledger::Ledger;
 use pay_rules::Fares;
-use pay_session::{Done, NoTill, SessionFault, ToldReader, session};
+use pay_session::{Done, KnownReader, NoTill, SessionFault, session};
 use pay_shard::LocalDesk;
 use pay_tables::Tables;
-use pay_wire::ToldWriter;
+use pay_wire::KnownWriter;
 use sqlite::Alter;
 use std::alloc::Global;
 use std::sync::Arc;
@@ -53,7 +53,7 @@ pub struct Ran<F: Fares, K: Keeper> {
 /// 43, 44, 48 or 90. Where a write of the ledger's disk fails, its connection may shut: the replies are still the machine's, by
 /// what failed for each line, and nothing is said of the ledger. Where the disk does not return what was written, nothing is said
 /// of the run.
-pub fn run_lines<F: Fares, R: ToldReader, W: ToldWriter, S: Alter, K: Keeper>(
+pub fn run_lines<F: Fares, R: KnownReader, W: KnownWriter, S: Alter, K: Keeper>(
     alloc: Global,
     reader: &mut R,
     writer: &mut W,
@@ -68,8 +68,8 @@ pub fn run_lines<F: Fares, R: ToldReader, W: ToldWriter, S: Alter, K: Keeper>(
         (after result.desk ledger.new reader.new writer.new) result.ended }
     ensures clean { IfSome (R.remaining reader.old) (λ _. HasCleanDisk (state S.Store ledger.new) → HasCleanDisk (state S.Store ledger.old)) }
     ensures settled { result.desk.stuck ≡ false → (settled : K) × K.IsSettled settled × (K.holds settled ≡ result.desk.holds) }
-    ensures ended { IfOk result.ended (λ done. done.quit ≡ false → IsLastFill R.Tells (ShowsNothing R.Tells) reader.old reader.new) }
-    ensures cause { IfErr result.ended (λ fault. IsBroken R.Tells W.Tells fault reader.old reader.new writer.new) }
+    ensures ended { IfOk result.ended (λ done. done.quit ≡ false → IsLastFill R.MayAnswer (ShowsNothing R.MayAnswer) reader.old reader.new) }
+    ensures cause { IfErr result.ended (λ fault. IsBroken R.MayAnswer W.MayAnswer fault reader.old reader.new writer.new) }
 {
     let mut desk = KeptDesk::begin(desk, keeper);
     let mut till = LedgerTill::new(alloc, ledger);
@@ -85,7 +85,7 @@ pub fn run_lines<F: Fares, R: ToldReader, W: ToldWriter, S: Alter, K: Keeper>(
 }
 
 /// The same without a ledger: nothing is closed, and each close is answered by `NO 34 NotHere`.
-pub fn run_lines_without_ledger<F: Fares, R: ToldReader, W: ToldWriter, K: Keeper>(
+pub fn run_lines_without_ledger<F: Fares, R: KnownReader, W: KnownWriter, K: Keeper>(
     reader: &mut R,
     writer: &mut W,
     zone: &TimeZone<'_>,
@@ -97,8 +97,8 @@ pub fn run_lines_without_ledger<F: Fares, R: ToldReader, W: ToldWriter, K: Keepe
     ensures fails { LinesFail (without_ledger K.Keeper R.remaining W.contents) zone.now desk (before keeper tt reader.old writer.old)
         (after result.desk tt reader.new writer.new) result.ended }
     ensures settled { result.desk.stuck ≡ false → (settled : K) × K.IsSettled settled × (K.holds settled ≡ result.desk.holds) }
-    ensures ended { IfOk result.ended (λ done. done.quit ≡ false → IsLastFill R.Tells (ShowsNothing R.Tells) reader.old reader.new) }
-    ensures cause { IfErr result.ended (λ fault. IsBroken R.Tells W.Tells fault reader.old reader.new writer.new) }
+    ensures ended { IfOk result.ended (λ done. done.quit ≡ false → IsLastFill R.MayAnswer (ShowsNothing R.MayAnswer) reader.old reader.new) }
+    ensures cause { IfErr result.ended (λ fault. IsBroken R.MayAnswer W.MayAnswer fault reader.old reader.new writer.new) }
 {
     let mut kept = KeptDesk::begin(desk, keeper);
     let ended = session(reader, writer, zone, &mut kept, &mut NoTill);

@@ -3,7 +3,7 @@ ghost use Rattle.std.specs.Prelude.{◌≡◌, ◌+◌, [], None, length, IfOk, 
 ghost use Rattle.std.specs.Arc.{arc_value};
 ghost use Rattle.pay_session.specs.Words.{line_requests, rest_of};
 ghost use Rattle.pay_run.specs.Machine.{new_machine};
-ghost use Rattle.pay_run.specs.Past.{AreReplayed, HasCommands, IsReplayedBehind, IsNotReplayedBehind, IsReplayOf, IsNotReplayed};
+ghost use Rattle.pay_run.specs.Past.{AreReplayed, HasCommands, IsReplayedAfter, IsNotReplayedAfter, IsReplayOf, IsNotReplayed};
 
 use crate::lines::new_desk;
 use jiff::tz::TimeZone;
@@ -15,7 +15,7 @@ use std::alloc::Global;
 use std::sync::Arc;
 
 /// A desk that has accepted the whole lines of a journal, beginning with no accounts, and how many lines and bytes these are. What
-/// stands behind the last newline is no line. Each line has to be a tap or a correction that is accepted, or was before.
+/// stands after the last newline is no line. Each line has to be a tap or a correction that is accepted, or was before.
 pub fn replayed_desk<F: Fares>(
     alloc: Global,
     tables: Arc<Tables>,
@@ -34,15 +34,15 @@ pub fn replayed_desk<F: Fares>(
     Ok((desk, replayed))
 }
 
-/// Takes the whole lines of one text more, behind what a desk has. What was replayed before a line that is not accepted stays.
+/// Takes the whole lines of one text more, after what a desk has. What was replayed before a line that is not accepted stays.
 pub fn replay_more<F: Fares>(
     desk: &mut LocalDesk<F>,
     zone: &TimeZone<'_>,
     text: &[u8],
 ) -> Result<Replayed, ReplayFault>
     ensures sized { IfOk result (λ it. it.bytes + length (rest_of text.now) ≡ length text.now) }
-    ensures replayed { OnOk result (IsReplayedBehind zone.now desk.old desk.new (line_requests text.now)) }
-    ensures stopped { IfErr result (IsNotReplayedBehind zone.now desk.old (line_requests text.now)) }
+    ensures replayed { OnOk result (IsReplayedAfter zone.now desk.old desk.new (line_requests text.now)) }
+    ensures stopped { IfErr result (IsNotReplayedAfter zone.now desk.old (line_requests text.now)) }
 {
     let ended = replay(text, zone, desk);
     let _ = desk.shard();

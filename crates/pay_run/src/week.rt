@@ -13,7 +13,7 @@ use jiff::tz::TimeZone;
 use pay_day::monday;
 use pay_journal::{KeptDesk, NoKeeper, ReplayFault};
 use pay_rules::{Fares, Lines};
-use pay_session::{NoTill, SessionFault, ToldReader, session};
+use pay_session::{KnownReader, NoTill, SessionFault, session};
 use pay_shard::Shard;
 use pay_tables::Tables;
 use pay_wire::Refusal;
@@ -87,7 +87,7 @@ fn lines_of<F: Fares>(
 /// The journeys of the week that holds a service day, counted from 1970-01-01, of an account that has accepted what a journal has,
 /// and then what the lines of a reader ask for. The replies to the lines are written nowhere; where one of them is
 /// `NO 90 Memory`, no journeys are given, since some may be missing.
-pub fn week_by_lines<F: Fares, R: ToldReader>(
+pub fn week_by_lines<F: Fares, R: KnownReader>(
     alloc: Global,
     reader: &mut R,
     zone: &TimeZone<'_>,
@@ -99,7 +99,7 @@ pub fn week_by_lines<F: Fares, R: ToldReader>(
     requires { IsDay day }
     ensures week { IfOk result (λ lines. WeekTold zone.now (arc_value tables) past.now (R.remaining reader.old, R.remaining reader.new) (account, day) lines) }
     ensures fails { IfErr result (λ fault. WeekNotTold zone.now (arc_value tables) past.now (R.remaining reader.old, R.remaining reader.new) fault) }
-    ensures cause { IfErr result (λ fault. (n : ℕ) → fault ≡ Broken n → HasInputFault R.Tells reader.old reader.new) }
+    ensures cause { IfErr result (λ fault. (n : ℕ) → fault ≡ Broken n → HasInputFault R.MayAnswer reader.old reader.new) }
 {
     let begun = replayed_desk::<F>(alloc, tables, zone, past)?;
     let mut desk = KeptDesk::begin(begun.0, NoKeeper);

@@ -105,7 +105,7 @@ lanes_are tables shards lanes (w ∷ office) some are all = (All-head (IsNewWork
 pub office_count : (shards : ℕ) (office : List WorkerParts) → shard_numbers office ≡ range_with_len 0 shards → shards ≡ length office
 office_count shards office are = sym (length-range_with_len 0 shards) ∙ (sym (ap length are) ∙ length-map office (λ (w : WorkerParts). w.shard.number))
 
--- the first one behind the others
+-- the first one after the others
 pub all_with : (tables : FareTables) (shards lanes : ℕ) (office : List WorkerParts) (ls rest : List LaneParts) (l : LaneParts)
     → 1 ≤ shards → shard_numbers office ≡ range_with_len 0 shards → All (IsNewWorker tables lanes) office → numbers ls ≡ range_with_len 0 lanes → AreTogether office ls → ls ≡ l ∷ rest → AreAllWith office rest l
 all_with tables shards lanes office ls rest l some workers new are together parts =

@@ -1,8 +1,6 @@
 pub mod Begun
 pub mod GatesKept
-pub mod GivenBack
 pub mod Going
-pub mod KeptAgain
 pub mod LinesAsked
 pub mod NoneKept
 pub mod OneClose
@@ -10,5 +8,4 @@ pub mod Runs
 pub mod ServeCauses
 pub mod Served
 pub mod TakenAgain
-pub mod TextsTaken
 pub mod ToldCloses

@@ -4,7 +4,7 @@ use Rattle.std.specs.Prelude.{⊤}
 use Rattle.std.proofs.lemmas.List.{drop_more, drop_all, get_or-map}
 use Rattle.std.proofs.lemmas.List.Folds.{list_any_none}
 use Rattle.jiff.specs.declared.tz.timezone.TimeZone.{TimeZone}
-use Rattle.pay_shard.specs.Words.{DeskParts, AreKept}
+use Rattle.pay_shard.specs.Words.{DeskParts, NothingIsLost}
 use Rattle.pay_journal.specs.Words.{IsReplayed, IsEnded}
 use Rattle.pay_journal.specs.declared.replaying.Replayed.{Replayed}
 use Rattle.pay_journal.specs.declared.replaying.ReplayFault.{ReplayFault}
@@ -22,7 +22,7 @@ module _ {D O V : Type 0} (items : V → List ℕ) (zone : TimeZone) (parts : D 
         let many = length-map vs items in
         drop_more (map items vs) place (items v) (omega (arith, many, less)) ∙ ap (λ t. t ∷ drop (place + 1) (map items vs)) (get_or-map items vs place v (items v) less ∙ ap items (sym is))
 
-    pub next_taken : (old new end : D) (it : Replayed) (result : Result ⊤ ServeFault) → IsReplayed zone parts old new (items v) it → AreKept (parts old).transcript (parts new).transcript
+    pub next_taken : (old new end : D) (it : Replayed) (result : Result ⊤ ServeFault) → IsReplayed zone parts old new (items v) it → NothingIsLost (parts old).transcript (parts new).transcript
         → AreTakenAgain zone parts (place + 1) (drop (place + 1) (map items vs)) (new, end) result → AreTakenAgain zone parts place (drop place (map items vs)) (old, end) result
     next_taken old new end it result replayed kept later = subst (λ ts. AreTakenAgain zone parts place ts (old, end) result) (sym whole) (inl (new, it, replayed, kept, later))
 

@@ -5,7 +5,7 @@ use Rattle.std.specs.Io.KnownBytes.{Appends}
 use Rattle.std.specs.List.{AllZip}
 use Rattle.pay_rules.specs.declared.posting.Posting.{Posting}
 use Rattle.jiff.specs.declared.tz.timezone.TimeZone.{TimeZone}
-use Rattle.pay_shard.specs.Words.{DeskParts, AreKept}
+use Rattle.pay_shard.specs.Words.{DeskParts, NothingIsLost}
 use Rattle.pay_shard.specs.declared.item.Item.{Item}
 use Rattle.pay_tables.specs.Words.{FareTables}
 use Rattle.pay_journal.specs.declared.keeper.Keeper.{Ghosts as Keeping}
@@ -49,7 +49,7 @@ new_desk l = record { began = l; lane = l; waiting = [] }
 pub record IsClosedThrough (Closed : Closing) (day : ℕ) (before after : LaneParts × Option (List ℕ)) (result : Result Bool WriteFault) : Type 0 where
   pub desk : LaneDeskParts
   pub lane : after.0 ≡ desk.lane
-  pub kept : AreKept (desk_parts (new_desk before.0)).transcript (desk_parts desk).transcript
+  pub kept : NothingIsLost (desk_parts (new_desk before.0)).transcript (desk_parts desk).transcript
   pub closed : IsClosedOver desk_parts Closed day (new_desk before.0, before.1) (desk, after.1) result
 
 -- what is told of a close whose lines were written, or not
@@ -100,7 +100,7 @@ terms_of keeper given = terms (arc_value given.tables) given.zone (map vec_items
 
 -- Over a new office, all that its journals had was taken again over one lane, which had asked for nothing; all connections were served over
 -- the others, which asked for nothing but what a line could ask for; and the day was closed over the first one, or not. Of each shard its gate,
--- behind what its keeper held, has kept what it newly accepted, but what the first lane asked. Before and after is what the writer holds.
+-- after what its keeper held, has kept what it newly accepted, but what the first lane asked. Before and after is what the writer holds.
 pub record IsServedBy (Holds : GateParts → List Passed → Bool → Type 0) (terms : Terms) (Closed : Closing) (before after : Option (List ℕ)) (result : Result Bool ServeFault) : Type 0 where
   pub office : List WorkerParts
   pub new : IsNewOffice terms.fares office

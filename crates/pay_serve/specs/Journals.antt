@@ -1,8 +1,8 @@
--- The journals of a service: what is taken again of them before the first connection, and what its shards keep behind them.
+-- The journals of a service: what is taken again of them before the first connection, and what its shards keep after them.
 use Rattle.std.specs.Prelude.{◌≡◌, ◌⊎◌, ℕ, ◌+◌, Bool, true, false, List, [], ◌∷◌, Result, Ok, Err, ⊤}
 use Rattle.std.specs.List.{list_any}
 use Rattle.jiff.specs.declared.tz.timezone.TimeZone.{TimeZone}
-use Rattle.pay_shard.specs.Words.{DeskParts, AreKept}
+use Rattle.pay_shard.specs.Words.{DeskParts, NothingIsLost}
 use Rattle.pay_journal.specs.Words.{IsReplayed, IsEnded}
 use Rattle.pay_journal.specs.declared.replaying.Replayed.{Replayed}
 use Rattle.pay_journal.specs.declared.replaying.ReplayFault.{ReplayFault}
@@ -27,7 +27,7 @@ module _ {D O : Type 0} (zone : TimeZone) (parts : D → DeskParts O) where
   AreTakenAgain journal [] desk (Err fault) = ⊥
   AreTakenAgain journal (text ∷ texts) desk result =
       ((between : D) × (it : Replayed) × IsReplayed zone parts desk.0 between text it
-      × AreKept (parts desk.0).transcript (parts between).transcript × AreTakenAgain (journal + 1) texts (between, desk.1) result)
+      × NothingIsLost (parts desk.0).transcript (parts between).transcript × AreTakenAgain (journal + 1) texts (between, desk.1) result)
       ⊎ ((why : ReplayFault) × IsEnded zone parts desk.0 desk.1 text why × (result ≡ Err (journal_fault journal why)))
 
 -- the same over a desk that begins with a lane, which is the same end still

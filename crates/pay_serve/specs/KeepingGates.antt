@@ -19,14 +19,14 @@ gate_code =
     code_by (Option (List ℕ) × (Option (List ℕ) × Bool)) (coded× (coded_option (coded_list coded_ℕ)) (coded× (coded_option (coded_list coded_ℕ)) coded_bool))
     (λ g. (g.held_first, (g.holds, g.stuck))) (λ p. record { held_first = p.0; holds = p.1.0; stuck = p.1.1 }) (λ _. refl)
 
--- some keeper was settled that held just these lines behind what was held first
+-- some keeper was settled that held just these lines after what was held first
 abbrev pub WereSettled : {K : Type 0} → (K → Option (List ℕ)) → (K → Type 0) → Option (List ℕ) → List ℕ → Type 0
 WereSettled {K = K} holds IsSettled held_first lines = (keeper : K) × IsSettled keeper × Appends held_first (holds keeper) lines
 
 -- With what the keepers of a type hold, how they have failed, and what it is that one was settled.
 module _ {K : Type 0} (holds : K → Option (List ℕ)) (HasFailed IsSettled : K → Type 0) where
   -- A gate has let pass just these: its keeper holds what it held first, and the line of each that is newly accepted, once and in order.
-  -- Behind these lines there is nothing, or where the gate is stuck, a front of one line more. It is stuck exactly if it then refused
+  -- After these lines there is nothing, or where the gate is stuck, a front of one line more. It is stuck exactly if it then refused
   -- one more.
   pub record HoldsPassed (g : GateParts) (passed : List Passed) (refused : Bool) : Type 0 where
     pub rest : List ℕ

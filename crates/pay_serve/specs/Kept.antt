@@ -26,14 +26,14 @@ pub record HasKept (lanes : List LaneParts) (w : WorkerParts) (g : GateParts) : 
   pub is_stuck : g.stuck ≡ w.shut
   pub items : List Item
   pub are : IsAllOrButLast w.shut items w.shard.journal
-  -- behind the lines there is nothing, or where the gate is stuck, a front of one more
+  -- after the lines there is nothing, or where the gate is stuck, a front of one more
   pub rest : List ℕ
   pub bytes : Appends g.held_first g.holds (lines_of_items (of_others (new_items w.shard.tables w.shard.base items)) ++ rest)
   pub is_rest : IsRest g.stuck rest
   -- what each lane took are the first of the answers to these
   pub taken : All (IsFirstOf w.shard.number (answered_of w items)) lanes
 
--- a gate has kept no line; behind what its keeper held there is nothing, or where it is stuck, a front of a line
+-- a gate has kept no line; after what its keeper held there is nothing, or where it is stuck, a front of a line
 abbrev pub HasKeptNone : GateParts → Type 0
 HasKeptNone g = (rest : List ℕ) × Appends g.held_first g.holds rest × IsRest g.stuck rest
 

@@ -1,7 +1,5 @@
 pub mod Causes
 pub mod Closes
-pub mod GivenBack
-pub mod HaveKept
 pub mod Journals
 pub mod Keeping
 pub mod KeepingGates

@@ -3,7 +3,7 @@
 use std::sync::{OnceLock, Wait};
 
 /// Why a lane has no thread.
-#[derive(Clone, Copy, Debug, PartialEq, Eq)]
+#[derive(Clone, Copy)]
 pub enum LaneFault {
     /// The system refused it.
     NoThread,

@@ -1,7 +1,7 @@
 //! The close of a day over one lane, once all others have ended.
 ghost use Rattle.std.specs.Prelude.{◌≡◌, ◌≤◌, ◌<◌, [], ◌∷◌, ◌++◌, length, map as each, vec_capacity, OnOk, OnErr, IfErr};
 ghost use Rattle.pay_day.specs.declared.limits.TheConstants.{FIRST_DAY, LAST_DAY};
-ghost use Rattle.pay_shard.specs.Words.{AreKept};
+ghost use Rattle.pay_shard.specs.Words.{NothingIsLost};
 ghost use Rattle.pay_wire.specs.Words.{IsFlushed, IsCaused, HasFault};
 ghost use Rattle.pay_lanes.specs.Words.{IsSameLane, began_of};
 ghost use Rattle.pay_serve.specs.Closes.{IsClosedOver, IsClosedThrough, IsTold, IsDayClosed, day_of};
@@ -14,14 +14,14 @@ use pay_office::{Gate, Lane, LaneDesk, Office, shut};
 use pay_rules::Fares;
 use pay_session::Till;
 use pay_shard::Desk;
-use pay_wire::{Closed, Reply, ToldWriter, WriteFault, send};
+use pay_wire::{Closed, KnownWriter, SpelledReply, WriteFault, send};
 use std::alloc::Global;
 use std::sync::Wait;
 use std::thread::Threads;
 
 /// Closes a service day, counted from 1970-01-01, over a desk, and writes what came of it. Whether it was closed; if not, its refusal
 /// is written.
-pub fn close_over<D: Desk, T: Till, W: ToldWriter>(
+pub fn close_over<D: Desk, T: Till, W: KnownWriter>(
     desk: &mut D,
     till: &mut T,
     day: u32,
@@ -30,26 +30,26 @@ pub fn close_over<D: Desk, T: Till, W: ToldWriter>(
     requires { (FIRST_DAY ≤ day) × (day ≤ LAST_DAY) }
     ensures closed { IsClosedOver D.parts (λ of put given. T.Closes till.old day of put given till.new) day (desk.old, W.contents writer.old)
         (desk.new, W.contents writer.new) result }
-    ensures flushed { OnOk result (IsFlushed W.Tells writer.new) }
-    ensures cause { IfErr result (λ fault. IsCaused W.Tells fault writer.new) }
-    ensures transcript { AreKept (D.parts desk.old).transcript (D.parts desk.new).transcript }
+    ensures flushed { OnOk result (IsFlushed W.MayAnswer writer.new) }
+    ensures cause { IfErr result (λ fault. IsCaused W.MayAnswer fault writer.new) }
+    ensures transcript { NothingIsLost (D.parts desk.old).transcript (D.parts desk.new).transcript }
     ensures same_desk { (D.parts desk.new).standing ≡ (D.parts desk.old).standing }
     ensures same_till { T.origin till.new ≡ T.origin till.old }
 {
     match till.close(desk, day) {
         Ok(postings) => {
-            send(writer, &Reply::Closed(Closed { day, postings }))?;
+            send(writer, &SpelledReply::Closed(Closed { day, postings }))?;
             Ok(true)
         }
         Err(why) => {
-            send(writer, &Reply::No(why))?;
+            send(writer, &SpelledReply::No(why))?;
             Ok(false)
         }
     }
 }
 
 /// The same over a desk that begins with a lane. The lane is given back.
-fn close_through<R: Wait + Copy, T: Till, W: ToldWriter>(
+fn close_through<R: Wait + Copy, T: Till, W: KnownWriter>(
     rt: R,
     alloc: Global,
     lane: Lane,
@@ -61,8 +61,8 @@ fn close_through<R: Wait + Copy, T: Till, W: ToldWriter>(
     requires shards { HasShards lane }
     ensures closed { IsClosedThrough (λ of put given. T.Closes till.old day of put given till.new) day (lane, W.contents writer.old)
         (result.1, W.contents writer.new) result.0 }
-    ensures flushed { OnOk result.0 (IsFlushed W.Tells writer.new) }
-    ensures cause { IfErr result.0 (λ fault. IsCaused W.Tells fault writer.new) }
+    ensures flushed { OnOk result.0 (IsFlushed W.MayAnswer writer.new) }
+    ensures cause { IfErr result.0 (λ fault. IsCaused W.MayAnswer fault writer.new) }
     ensures same { IsSameLane lane result.1 }
     ensures none_hidden { NoneIsHidden result.1 }
     ensures same_till { T.origin till.new ≡ T.origin till.old }
@@ -102,7 +102,7 @@ fn told(closed: Result<bool, WriteFault>) -> Result<bool, ServeFault>
 /// Closes a service day, counted from 1970-01-01, over the last lane of an office, whose other lanes are back; writes what came of it;
 /// and ends the threads of the office, whose gates are given back. Whether the day was closed; if not, its refusal is written. Over a
 /// new office whose shards all gave their quotes it is the close of one machine that was asked what stands in their journals.
-pub fn close_day<F: Fares, G: Gate, R: Threads + Wait + Copy, T: Till, W: ToldWriter>(
+pub fn close_day<F: Fares, G: Gate, R: Threads + Wait + Copy, T: Till, W: KnownWriter>(
     rt: R,
     alloc: Global,
     office: Office<F, G>,
@@ -119,8 +119,8 @@ pub fn close_day<F: Fares, G: Gate, R: Threads + Wait + Copy, T: Till, W: ToldWr
     ensures closed { IsDayClosed (day_of (λ ls journals. HaveLetPass G.Holds office ls journals result.1.items) office lanes.items day)
         (λ of put given. T.Closes till.old day of put given till.new) (last, W.contents writer.old) (W.contents writer.new, result.0) }
     ensures began { each G.began result.1.items ≡ began_of office }
-    ensures flushed { OnOk result.0 (IsFlushed W.Tells writer.new) }
-    ensures cause { OnErr result.0 (HasFault W.Tells writer.new) }
+    ensures flushed { OnOk result.0 (IsFlushed W.MayAnswer writer.new) }
+    ensures cause { OnErr result.0 (HasFault W.MayAnswer writer.new) }
     ensures same_till { T.origin till.new ≡ T.origin till.old }
 {
     pay_lanes::laws::still_together();

@@ -1,7 +1,7 @@
 //! Serves sessions at sockets: [`listen`] takes a port for each lane, and [`serve`] answers the connections of each lane in a thread of
 //! its own, over an office of several shards, until all have ended. What journals have is taken again before, and what the shards newly
-//! accept is kept after it, by a [`KeepingGate`] for each. [`close_day`] then closes a day, and shuts the office. `laws` says what a
-//! gate keeps of a shard's journal, and what a service leaves in its journals.
+//! accept is kept after it, by a [`KeepingGate`] for each. [`close_day`] then closes a day, and shuts the office. `laws` says what a gate
+//! keeps of a shard's journal.
 #![tactic(auto)]
 
 mod begins;

@@ -1,5 +1,5 @@
 /// What is served.
-#[derive(Clone, Copy, Debug, PartialEq, Eq)]
+#[derive(Clone, Copy)]
 pub struct Plan {
     /// The port of the first lane. Each further lane has the next.
     pub port: u16,

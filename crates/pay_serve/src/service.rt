@@ -27,7 +27,7 @@ use pay_office::{Lane, Office, start};
 use pay_rules::Fares;
 use pay_session::Till;
 use pay_tables::Tables;
-use pay_wire::ToldWriter;
+use pay_wire::KnownWriter;
 use std::alloc::{AllocError, Global};
 use std::net::TcpListener;
 use std::sync::{Arc, Wait};
@@ -83,7 +83,7 @@ fn told_with<K: Keeper>(
 /// keeper before any lane can have the answer. Then it closes the plan's day by a till over the first lane, and writes what came of
 /// it: what one machine says that was asked what all lanes asked. Whether the day was closed; if not, its refusal is written. Where a
 /// line of a journal is not accepted, or a lane gets no thread, no connection is served, no line is kept, and the day is not closed.
-pub fn serve<F, R, K, T: Till, W: ToldWriter>(
+pub fn serve<F, R, K, T: Till, W: KnownWriter>(
     rt: R,
     alloc: Global,
     given: Given<'_, K>,
@@ -101,9 +101,9 @@ where
     ensures served { IsServed (HoldsPassed K.holds K.HasFailed K.IsSettled) (terms_of K.Keeper given.entry) (λ of put answer. T.Closes till.old given.entry.plan.close of put answer till.new)
         (W.contents writer.old, W.contents writer.new) result ((till.new ≡ till.old) × (writer.new ≡ writer.old)) }
     ensures stopped { IfErr result (IsStopped (terms_of K.Keeper given.entry)) }
-    ensures flushed { OnOk result (IsFlushed W.Tells writer.new) }
+    ensures flushed { OnOk result (IsFlushed W.MayAnswer writer.new) }
     ensures within { OnOk result (IsOutOfPlan given.entry.plan → ⊥) }
-    ensures cause { IfErr result (λ fault. IsServeCause W.Tells (CanFail K.HasFailed) given.entry.plan fault writer.new) }
+    ensures cause { IfErr result (λ fault. IsServeCause W.MayAnswer (CanFail K.HasFailed) given.entry.plan fault writer.new) }
     ensures same_till { T.origin till.new ≡ T.origin till.old }
 {
     pay_lanes::laws::still_together();

@@ -6,7 +6,7 @@ use Rattle.pay_shard.specs.declared.asked.Asked.{Asked}
 use Rattle.pay_shard.specs.declared.asked.Asked.TheVariants as asked
 use Rattle.pay_shard.specs.declared.desk.DeskFault.{DeskFault}
 use Rattle.pay_wire.specs.Words.{IsSpelled}
-use Rattle.pay_wire.specs.declared.command.Command.{Command}
+use Rattle.pay_wire.specs.declared.command.SpelledCommand.{SpelledCommand}
 use Rattle.pay_wire.specs.declared.refusal.Refusal.{Refusal}
 use Rattle.pay_session.specs.Asks.{asks_of}
 use Rattle.pay_session.specs.AskedFor.{IsAskedIn, AreAllAskedIn}
@@ -23,7 +23,7 @@ module _ (zone : TimeZone) where
   all_both [] us first rest = rest
   all_both (t ∷ ts) us first rest = (first.0, all_both ts us first.1 rest)
 
-  by_line : (a : Asked) (c : Command) → IsSpelled c → asks_of zone (requests.Command c) ≡ asks.Put a → IsAskedIn zone a
+  by_line : (a : Asked) (c : SpelledCommand) → IsSpelled c → asks_of zone (requests.Command c) ≡ asks.Put a → IsAskedIn zone a
   by_line (asked.Tap tap) c spelled is = (c, spelled, is)
   by_line (asked.Fix fix) c spelled is = (c, spelled, is)
   by_line (asked.Due account day) c spelled is = (c, spelled, is)

@@ -1,9 +1,9 @@
--- What fits of some bytes behind others, and what holds where a call succeeds.
+-- What fits of some bytes after others, and what holds where a call succeeds.
 use Rattle.std.proofs.Common.{◌≡◌, ℕ, ◌+◌, ◌-◌, ◌≤◌, min, List, ◌++◌, Result, Ok, Err, IsOk, OnOk, length, take, sym, ap, ◌∙◌, arith}
 use Rattle.std.proofs.Math.Seq.{take-append-add}
 use Rattle.std.proofs.lemmas.List.{take_min}
 
--- what fits behind xs of ys makes the front of both
+-- what fits after xs of ys makes the front of both
 pub take_fitting : (n : ℕ) (xs ys : List ℕ) → length xs ≤ n → xs ++ take (min (n - length xs) (length ys)) ys ≡ take n (xs ++ ys)
 take_fitting n xs ys h =
     let whole : length xs + (n - length xs) ≡ n = omega arith in

@@ -1,12 +1,12 @@
--- An input by its lines: how it is cut, what QUIT ends, and that a line leaves those behind it alone.
+-- An input by its lines: how it is cut, what QUIT ends, and that a line leaves those after it alone.
 use Rattle.std.proofs.Common.{◌≡◌, ℕ, ◌<◌, ◌≤◌, Bool, true, false, ◌||◌, cond, nat_lt, eqb, List, [], ◌∷◌, ◌++◌, map, length, Option, Some, None, sym, ap, ◌∙◌, subst, refl, arith, le-ltb, lt-ltb, append_assoc, append-nil, eqb-true, codes}
 use Rattle.std.specs.Prelude.{◌≢◌}
 use Rattle.std.specs.List.{list_any, AllByRecursion, flat_map}
 use Rattle.pay_wire.specs.declared.limits.TheConstants.{MOST_LINE_BYTES}
 use Rattle.pay_wire.specs.Words.{command_of, Spells}
 use Rattle.pay_session.specs.Requests.{InputLine, asked, input_lines, rest_of, has_newline, request_of, request_of_rest, is_quit, through_quit, line_requests, requests_of, quits, unread}
-use Rattle.pay_wire.specs.declared.command.Command.{Command}
-use Rattle.pay_wire.specs.declared.command.Command.TheVariants.{Tap, Fix, Due, Show, Close, Quit}
+use Rattle.pay_wire.specs.declared.command.SpelledCommand.{SpelledCommand}
+use Rattle.pay_wire.specs.declared.command.SpelledCommand.TheVariants.{Tap, Fix, Due, Show, Close, Quit}
 use Rattle.pay_session.specs.declared.request.Request.TheVariants as requests
 use Rattle.pay_session.proofs.InputPieces.{false_or, lines_of_line, lines_of_part, rest_of_line, rest_of_part, has_newline_both, line_requests_line, line_requests_part, unread_line, unread_part}
 
@@ -17,8 +17,8 @@ by_lines_from P part line [] front h = subst P (sym (append-nil front)) (part fr
 by_lines_from P part line (b ∷ xs) front h = at (eqb b 10) refl (by_lines_from P part line xs [] refl) (by_lines_from P part line xs (front ++ b ∷ []))
   where
     at : (c : Bool) → eqb b 10 ≡ c → P xs → (has_newline (front ++ b ∷ []) ≡ false → P ((front ++ b ∷ []) ++ xs)) → P (front ++ b ∷ xs)
-    at true e behind longer = subst (λ a. P (front ++ a ∷ xs)) (sym (eqb-true b 10 e)) (line front xs h behind)
-    at false e behind longer = subst P (append_assoc front (b ∷ []) xs) (longer (has_newline_both front (b ∷ []) h (ap (λ c. c || false) e)))
+    at true e beyond longer = subst (λ a. P (front ++ a ∷ xs)) (sym (eqb-true b 10 e)) (line front xs h beyond)
+    at false e beyond longer = subst P (append_assoc front (b ∷ []) xs) (longer (has_newline_both front (b ∷ []) h (ap (λ c. c || false) e)))
 
 by_lines : (P : List ℕ → Type 0) → ((p : List ℕ) → has_newline p ≡ false → P p) → ((z more : List ℕ) → has_newline z ≡ false → P more → P (z ++ 10 ∷ more)) → (input : List ℕ) → P input
 by_lines P part line input = by_lines_from P part line input [] refl
@@ -31,7 +31,7 @@ ended t = t ++ codes "\n"
 abbrev ended_line : InputLine → List ℕ
 ended_line l = l.text ++ codes "\n"
 
--- a line with its newline, before what is behind it
+-- a line with its newline, before what is after it
 pub joined : (z x y : List ℕ) → ((z ++ codes "\n") ++ x) ++ y ≡ z ++ 10 ∷ (x ++ y)
 joined z x y = append_assoc (z ++ codes "\n") x y ∙ append_assoc z (codes "\n") (x ++ y)
 
@@ -60,11 +60,11 @@ only_of : (texts : List (List ℕ)) (rest : List ℕ) → AllByRecursion (λ (t 
     → (map (λ (l : InputLine). l.text) (input_lines (flat_map ended texts ++ rest)) ≡ texts) × (rest_of (flat_map ended texts ++ rest) ≡ rest)
 only_of [] rest all none = (ap (map (λ (l : InputLine). l.text)) (lines_of_part rest none), rest_of_part rest none)
 only_of (t ∷ texts) rest all none =
-    let behind = flat_map ended texts ++ rest in
+    let beyond = flat_map ended texts ++ rest in
     let again = only_of texts rest all.1 none in
     let is = joined t (flat_map ended texts) rest in (
-      ap (λ i. map (λ (l : InputLine). l.text) (input_lines i)) is ∙ ap (map (λ (l : InputLine). l.text)) (lines_of_line t behind all.0) ∙ ap (λ ts. t ∷ ts) again.0,
-      ap rest_of is ∙ rest_of_line t behind ∙ again.1,
+      ap (λ i. map (λ (l : InputLine). l.text) (input_lines i)) is ∙ ap (map (λ (l : InputLine). l.text)) (lines_of_line t beyond all.0) ∙ ap (λ ts. t ∷ ts) again.0,
+      ap rest_of is ∙ rest_of_line t beyond ∙ again.1,
     )
 
 pub only_cutting : (input rest : List ℕ) (texts : List (List ℕ)) → AllByRecursion (λ (t : List ℕ). has_newline t ≡ false) texts → has_newline rest ≡ false → input ≡ flat_map (λ (t : List ℕ). t ++ codes "\n") texts ++ rest
@@ -78,13 +78,13 @@ only_cutting input rest texts all none e =
 -- what is read of a line is what the line spells: the law of pay_wire, taken as a premise, since another crate's
 -- proofs are not named here
 abbrev ReadAsSpelled : Type 0
-ReadAsSpelled = (line : List ℕ) (command : Command) → command_of line ≡ Some command → Spells line command
+ReadAsSpelled = (line : List ℕ) (command : SpelledCommand) → command_of line ≡ Some command → Spells line command
 
 quit_line : ReadAsSpelled → (z : List ℕ) → is_quit (request_of z) ≡ true → z ≡ codes "QUIT"
 unfolding request_of
 quit_line spelled z e = at (nat_lt MOST_LINE_BYTES (length z)) (command_of z) refl e
   where
-    at : (b : Bool) (o : Option Command) → command_of z ≡ o → is_quit (cond b requests.LongLine (asked o)) ≡ true → z ≡ codes "QUIT"
+    at : (b : Bool) (o : Option SpelledCommand) → command_of z ≡ o → is_quit (cond b requests.LongLine (asked o)) ≡ true → z ≡ codes "QUIT"
     at true o is f = cc
     at false None is f = cc
     at false (Some (Tap t)) is f = cc
@@ -109,15 +109,15 @@ too_long : (z : List ℕ) → MOST_LINE_BYTES < length z → request_of z ≡ re
 unfolding request_of
 too_long z long = ap (λ b. cond b requests.LongLine (asked (command_of z))) (lt-ltb MOST_LINE_BYTES (length z) long)
 
-no_command : ReadAsSpelled → (z : List ℕ) → length z ≤ MOST_LINE_BYTES → ((command : Command) → Spells z command → ⊥) → request_of z ≡ requests.BadLine
+no_command : ReadAsSpelled → (z : List ℕ) → length z ≤ MOST_LINE_BYTES → ((command : SpelledCommand) → Spells z command → ⊥) → request_of z ≡ requests.BadLine
 unfolding request_of
 no_command spelled z short none = ap (λ b. cond b requests.LongLine (asked (command_of z))) (le-ltb MOST_LINE_BYTES (length z) short) ∙ at (command_of z) refl
   where
-    at : (o : Option Command) → command_of z ≡ o → asked o ≡ requests.BadLine
+    at : (o : Option SpelledCommand) → command_of z ≡ o → asked o ≡ requests.BadLine
     at None is = refl
     at (Some command) is = absurd (none command (spelled z command is))
 
--- ---- behind QUIT
+-- ---- after QUIT
 
 quits_part : (p : List ℕ) → has_newline p ≡ false → quits p ≡ false
 quits_part p h = ap (list_any is_quit) (line_requests_part p h)
@@ -157,7 +157,7 @@ none_unread = by_lines
     let both = false_or (is_quit (request_of z)) (quits more) (sym (quits_line z more h) ∙ e) in
     unread_line z more h ∙ ap (λ c. cond c more (unread more)) both.0 ∙ none both.1)
 
--- ---- a line and those behind it
+-- ---- a line and those after it
 
 requests_line : (z more : List ℕ) → has_newline z ≡ false → requests_of (z ++ 10 ∷ more) ≡ cond (is_quit (request_of z)) (request_of z ∷ []) (request_of z ∷ requests_of more)
 requests_line z more h =
@@ -168,7 +168,7 @@ pub goes_on : ReadAsSpelled → (line more : List ℕ) → has_newline line ≡ 
 goes_on spelled line more h other =
     ap requests_of (append_assoc line (codes "\n") more) ∙ requests_line line more h ∙ ap (λ c. cond c (request_of line ∷ []) (request_of line ∷ requests_of more)) (other_line spelled line other)
 
-pub bad_goes_on : ReadAsSpelled → (line more : List ℕ) → has_newline line ≡ false → length line ≤ MOST_LINE_BYTES → ((command : Command) → Spells line command → ⊥) → requests_of (line ++ codes "\n" ++ more) ≡ requests.BadLine ∷ requests_of more
+pub bad_goes_on : ReadAsSpelled → (line more : List ℕ) → has_newline line ≡ false → length line ≤ MOST_LINE_BYTES → ((command : SpelledCommand) → Spells line command → ⊥) → requests_of (line ++ codes "\n" ++ more) ≡ requests.BadLine ∷ requests_of more
 bad_goes_on spelled line more h short none =
     goes_on spelled line more h (λ e. none Quit (tt, e)) ∙ ap (λ r. r ∷ requests_of more) (no_command spelled line short none)
 
@@ -190,25 +190,25 @@ stops_here x p h e none = subst (λ l. (requests_of (l ++ (codes "QUIT\n" ++ x))
       unread_line (codes "QUIT") x refl ∙ ap (λ r. cond (is_quit r) x (unread x)) quit_asks,
     )
 
-stops_behind : (x z more : List ℕ) → has_newline z ≡ false → Stops x more → Stops x (z ++ 10 ∷ more)
-stops_behind x z more h stops e none =
+stops_after : (x z more : List ℕ) → has_newline z ≡ false → Stops x more → Stops x (z ++ 10 ∷ more)
+stops_after x z more h stops e none =
     let both = false_or (is_quit (request_of z)) (quits more) (sym (quits_line z more h) ∙ e) in
-    let behind = more ++ (codes "QUIT\n" ++ x) in
-    let is : (z ++ 10 ∷ more) ++ (codes "QUIT\n" ++ x) ≡ z ++ 10 ∷ behind = append_assoc z (10 ∷ more) (codes "QUIT\n" ++ x) in
+    let beyond = more ++ (codes "QUIT\n" ++ x) in
+    let is : (z ++ 10 ∷ more) ++ (codes "QUIT\n" ++ x) ≡ z ++ 10 ∷ beyond = append_assoc z (10 ∷ more) (codes "QUIT\n" ++ x) in
     let s = stops both.1 (sym (rest_of_line z more) ∙ none) in (
-      ap requests_of is ∙ requests_line z behind h ∙ ap (λ c. cond c (request_of z ∷ []) (request_of z ∷ requests_of behind)) both.0
+      ap requests_of is ∙ requests_line z beyond h ∙ ap (λ c. cond c (request_of z ∷ []) (request_of z ∷ requests_of beyond)) both.0
           ∙ ap (λ rs. request_of z ∷ rs) s.0 ∙ ap (λ rs. rs ++ requests.Command Quit ∷ []) (sym (line_requests_line z more h)),
-      ap unread is ∙ unread_line z behind h ∙ ap (λ c. cond c behind (unread behind)) both.0 ∙ s.1,
+      ap unread is ∙ unread_line z beyond h ∙ ap (λ c. cond c beyond (unread beyond)) both.0 ∙ s.1,
     )
 
 stops : (x before : List ℕ) → Stops x before
-stops x = by_lines (Stops x) (stops_here x) (stops_behind x)
+stops x = by_lines (Stops x) (stops_here x) (stops_after x)
 
 pub stops_at_quit : (before x : List ℕ) → quits before ≡ false → rest_of before ≡ [] → requests_of (before ++ codes "QUIT\n" ++ x) ≡ line_requests before ++ requests.Command Quit ∷ []
 stops_at_quit before x e none = ap requests_of (append_assoc before (codes "QUIT\n") x) ∙ (stops x before e none).0
 
-pub leaves_behind_quit : (before x : List ℕ) → quits before ≡ false → rest_of before ≡ [] → unread (before ++ codes "QUIT\n" ++ x) ≡ x
-leaves_behind_quit before x e none = ap unread (append_assoc before (codes "QUIT\n") x) ∙ (stops x before e none).1
+pub leaves_after_quit : (before x : List ℕ) → quits before ≡ false → rest_of before ≡ [] → unread (before ++ codes "QUIT\n" ++ x) ≡ x
+leaves_after_quit before x e none = ap unread (append_assoc before (codes "QUIT\n") x) ∙ (stops x before e none).1
 
 pub same_before_quit : (before x y : List ℕ) → quits before ≡ false → rest_of before ≡ [] → requests_of (before ++ codes "QUIT\n" ++ x) ≡ requests_of (before ++ codes "QUIT\n" ++ y)
 same_before_quit before x y e none = stops_at_quit before x e none ∙ sym (stops_at_quit before y e none)

@@ -75,7 +75,7 @@ kept_or_long p z = elim (cases_lt (MOST_LINE_BYTES + 1) (length p)) [
   | inr short ↦ inl (take_all (MOST_LINE_BYTES + 1) p short)
 ]
 
--- a line of which a front is kept asks for what the whole asks for, whatever comes behind
+-- a line of which a front is kept asks for what the whole asks for, whatever comes after
 pub request_of_kept : (p z : List ℕ) → request_of (kept_of p ++ z) ≡ request_of (p ++ z)
 request_of_kept p z = elim (kept_or_long p z) [
   | inl same ↦ ap (λ l. request_of (l ++ z)) same
@@ -97,7 +97,7 @@ has_newline_both p z h i = list_any-append (λ b. eqb b 10) p z ∙ ap (λ c. c 
 pub has_newline_kept : (p : List ℕ) → has_newline p ≡ false → has_newline (kept_of p) ≡ false
 has_newline_kept p h = (false_or (has_newline (kept_of p)) (has_newline (drop (MOST_LINE_BYTES + 1) p)) (sym (list_any-append (λ b. eqb b 10) (kept_of p) (drop (MOST_LINE_BYTES + 1) p)) ∙ ap has_newline (take-append-drop (MOST_LINE_BYTES + 1) p) ∙ h)).0
 
--- the three things that an input says, of a line that is kept and of the whole, whatever comes behind
+-- the three things that an input says, of a line that is kept and of the whole, whatever comes after
 pub record Alike (p q : List ℕ) : Type 0 where
   pub requests : line_requests p ≡ line_requests q
   pub rest : request_of_rest (rest_of p) ≡ request_of_rest (rest_of q)

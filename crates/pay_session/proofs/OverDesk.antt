@@ -3,7 +3,7 @@ use Rattle.std.proofs.Common.{◌≡◌, ℕ, Bool, List, [], ◌∷◌, ◌++�
 use Rattle.jiff.specs.declared.tz.timezone.TimeZone.{TimeZone}
 use Rattle.pay_rules.specs.declared.posting.Posting.{Posting}
 use Rattle.pay_shard.specs.declared.reply.Answer.{Answer}
-use Rattle.pay_shard.specs.Words.{AreKept, Standing, DeskParts}
+use Rattle.pay_shard.specs.Words.{NothingIsLost, Standing, DeskParts}
 use Rattle.pay_session.specs.Asks.{asks_of}
 use Rattle.pay_session.specs.AskedFor.{AreAllAskedIn, AreAskedIn}
 use Rattle.pay_session.specs.Events.{Taken, Event, all_put, commands_of, IsAnswerTo, AreAnswered}
@@ -29,11 +29,11 @@ pub answered_both : (transcript : ℕ → Option Answer) (ts us : List Taken) �
 answered_both transcript [] us f g = g
 answered_both transcript (t ∷ ts) us f g = (f.0, answered_both transcript ts us f.1 g)
 
-one_kept : (old new : ℕ → Option Answer) (t : Taken) (o : Option Answer) → AreKept old new → IfSome o (IsAnswerTo old t) → IfSome o (IsAnswerTo new t)
+one_kept : (old new : ℕ → Option Answer) (t : Taken) (o : Option Answer) → NothingIsLost old new → IfSome o (IsAnswerTo old t) → IfSome o (IsAnswerTo new t)
 one_kept old new t None kept f = tt
 one_kept old new t (Some answer) kept f = (kept t.ticket answer f.0, f.1, f.2)
 
-pub answered_kept : (old new : ℕ → Option Answer) (ts : List Taken) → AreKept old new → AreAnswered old ts → AreAnswered new ts
+pub answered_kept : (old new : ℕ → Option Answer) (ts : List Taken) → NothingIsLost old new → AreAnswered old ts → AreAnswered new ts
 answered_kept old new [] kept f = tt
 answered_kept old new (t ∷ ts) kept f = (one_kept old new t t.answer kept f.0, answered_kept old new ts kept f.1)
 
@@ -56,7 +56,7 @@ module _ {D O T K : Type 0} (parts : D → DeskParts O) (Closes : T → ℕ → 
     pub added : (parts b.desk.now).taken ≡ (parts a.desk.now).taken ++ commands_of (all_put es)
     pub said : AreAnswered (parts b.desk.now).transcript (all_put es)
     pub asked : AreAllAskedIn a.zone.now (commands_of (all_put es))
-    pub kept : AreKept (parts a.desk.now).transcript (parts b.desk.now).transcript
+    pub kept : NothingIsLost (parts a.desk.now).transcript (parts b.desk.now).transcript
     pub same : (parts b.desk.now).standing ≡ (parts a.desk.now).standing
     pub same_till : till_origin b.till.now ≡ till_origin a.till.now
     pub desk_name : b.desk.ghost_name ≡ a.desk.ghost_name

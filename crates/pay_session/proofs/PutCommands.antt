@@ -5,11 +5,11 @@ use Rattle.pay_shard.specs.declared.asked.Asked.{Asked}
 use Rattle.pay_shard.specs.declared.desk.DeskFault.{DeskFault}
 use Rattle.pay_shard.specs.declared.desk.DeskFault.TheVariants.{Late}
 use Rattle.pay_shard.specs.declared.reply.Answer.{Answer}
-use Rattle.pay_shard.specs.declared.reply.Reply.{Reply as DeskReply}
-use Rattle.pay_shard.specs.Words.{AreKept, Standing, DeskParts, IsAfterAll, IsReplyTo, LastCommandIsUnderTicket}
+use Rattle.pay_shard.specs.declared.reply.Reply.{Reply}
+use Rattle.pay_shard.specs.Words.{NothingIsLost, Standing, DeskParts, IsAfterAll, IsReplyTo, LastCommandIsUnderTicket}
 use Rattle.pay_wire.specs.declared.refusal.Refusal.{Refusal}
-use Rattle.pay_wire.specs.declared.reply.Reply.{Reply}
-use Rattle.pay_wire.specs.declared.reply.Reply.TheVariants as replies
+use Rattle.pay_wire.specs.declared.reply.SpelledReply.{SpelledReply}
+use Rattle.pay_wire.specs.declared.reply.SpelledReply.TheVariants as replies
 use Rattle.pay_session.specs.Events.{Taken, Event, refusal_of_desk, said, said_of_close}
 use Rattle.pay_session.specs.Served.{IsServedAs}
 use Rattle.pay_session.specs.Serving.{IsPut, IsCloseSaidAt, IsStep, IsWithin, MaySometimeRefuse, MaySometimeBeLate}
@@ -29,7 +29,7 @@ module _ (Refuses : DeskFault → Type 0) (MayBeLate : Type 0) (a : Asked) (befo
     said = tt;
   }
 
-  pub put_replied : (between after : List (ℕ × Asked)) (transcript : ℕ → Option Answer) (ticket : ℕ) (reply : DeskReply) (line : Reply) → between ≡ before ++ (ticket, a) ∷ [] → IsAfterAll ticket before → after ≡ between
+  pub put_replied : (between after : List (ℕ × Asked)) (transcript : ℕ → Option Answer) (ticket : ℕ) (reply : Reply) (line : SpelledReply) → between ≡ before ++ (ticket, a) ∷ [] → IsAfterAll ticket before → after ≡ between
       → IsReplyTo ticket after transcript reply → line ≡ said reply → LastCommandIsUnderTicket → IsPut Refuses MayBeLate a before after transcript line
   put_replied between after transcript ticket reply line put later got r is last =
       let taken : Taken = record { ticket = ticket; asked = a; answer = Some r.answer } in
@@ -64,9 +64,9 @@ module _ {D O T : Type 0} (parts : D → DeskParts O) (Closes : T → ℕ → �
   Served desk = IsServedAs (parts desk).standing.shards (MaySometimeRefuse parts (parts desk).standing) (MaySometimeBeLate parts (parts desk).standing) Closes
 
   -- a close
-  pub close_step : (a : Asks) (day : ℕ) (before : D) (till_before : T) (after : D) (till_after : T) (line : Reply) → a ≡ asks.Close day
+  pub close_step : (a : Asks) (day : ℕ) (before : D) (till_before : T) (after : D) (till_after : T) (line : SpelledReply) → a ≡ asks.Close day
       → IsCloseSaidAt parts before after day (λ of put answer. Closes till_before day of put answer till_after) line
-      → AreKept (parts before).transcript (parts after).transcript → (parts after).standing ≡ (parts before).standing
+      → NothingIsLost (parts before).transcript (parts after).transcript → (parts after).standing ≡ (parts before).standing
       → (event : Event) × IsStep parts Closes a event (before, till_before) (after, till_after) × (event.reply ≡ line)
   close_step a day before till_before after till_after line asked f kept same =
       let k = f.closed in
@@ -78,7 +78,7 @@ module _ {D O T : Type 0} (parts : D → DeskParts O) (Closes : T → ℕ → �
       )
 
   -- what is answered at once
-  pub still_step : (a b : Asks) (line : Reply) (desk : D) (till : T) → a ≡ b → Served desk b (record { reply = line; put = [] }) till till
+  pub still_step : (a b : Asks) (line : SpelledReply) (desk : D) (till : T) → a ≡ b → Served desk b (record { reply = line; put = [] }) till till
       → IsStep parts Closes a (record { reply = line; put = [] }) (desk, till) (desk, till)
   still_step a b line desk till asked served = record {
     served = subst (λ a. Served desk a (record { reply = line; put = [] }) till till) (sym asked) served;

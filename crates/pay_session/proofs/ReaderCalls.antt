@@ -17,33 +17,33 @@ written_off writes (Read kind) writer h = absurd h
 written_off writes NoMoreFills writer h = absurd h
 written_off writes (Write failure) writer h = tt
 
-module _ {R : Type 0} (Tells : R → ReaderCall → R → Type 0) where
-  pub no_fills : (now : R) → AreFills Tells 0 now now
+module _ {R : Type 0} (MayAnswer : R → ReaderCall → R → Type 0) where
+  pub no_fills : (now : R) → AreFills MayAnswer 0 now now
   unfolding AreFills
   no_fills now = refl
 
-  pub one_more_fill : (n : ℕ) (a b c : R) → AreFills Tells n a b → IsFill Tells b c → AreFills Tells (n + 1) a c
+  pub one_more_fill : (n : ℕ) (a b c : R) → AreFills MayAnswer n a b → IsFill MayAnswer b c → AreFills MayAnswer (n + 1) a c
   unfolding AreFills
-  one_more_fill n a b c fills fill = subst (λ k. AreFills Tells k a c) (next n) (b, fills, fill)
+  one_more_fill n a b c fills fill = subst (λ k. AreFills MayAnswer k a c) (next n) (b, fills, fill)
 
   -- a fill that was interrupted
-  pub interrupted_fill : {T E : Type 0} (count : T → ℕ) (kind : E → ErrorKind) (r : Result T E) (e : E) (before now : R) → r ≡ Err e → kind e ≡ Interrupted → Tells before (Filled (answer_of count kind r)) now
-      → IsFill Tells before now
+  pub interrupted_fill : {T E : Type 0} (count : T → ℕ) (kind : E → ErrorKind) (r : Result T E) (e : E) (before now : R) → r ≡ Err e → kind e ≡ Interrupted → MayAnswer before (Filled (answer_of count kind r)) now
+      → IsFill MayAnswer before now
   interrupted_fill count kind r e before now is same told =
       (now, answer_of count kind r, subst (λ r. GoesOn (answer_of count kind r)) (sym is) same, told, inl refl)
 
   -- a fill that showed bytes, some of which were taken
-  pub taken_fill : {T E : Type 0} (count : T → ℕ) (kind : E → ErrorKind) (r : Result T E) (s : T) (before shown now : R) → r ≡ Ok s → 0 < count s → Tells before (Filled (answer_of count kind r)) shown → Tells shown Consumed now
-      → IsFill Tells before now
+  pub taken_fill : {T E : Type 0} (count : T → ℕ) (kind : E → ErrorKind) (r : Result T E) (s : T) (before shown now : R) → r ≡ Ok s → 0 < count s → MayAnswer before (Filled (answer_of count kind r)) shown → MayAnswer shown Consumed now
+      → IsFill MayAnswer before now
   taken_fill count kind r s before shown now is some told taken =
       (shown, answer_of count kind r, subst (λ r. GoesOn (answer_of count kind r)) (sym is) some, told, inr taken)
 
   -- a fill that showed nothing
-  pub empty_fill : {T E : Type 0} (count : T → ℕ) (kind : E → ErrorKind) (r : Result T E) (s : T) (before now : R) → r ≡ Ok s → count s ≡ 0 → Tells before (Filled (answer_of count kind r)) now → ShowsNothing Tells before now
+  pub empty_fill : {T E : Type 0} (count : T → ℕ) (kind : E → ErrorKind) (r : Result T E) (s : T) (before now : R) → r ≡ Ok s → count s ≡ 0 → MayAnswer before (Filled (answer_of count kind r)) now → ShowsNothing MayAnswer before now
   empty_fill count kind r s before now is none told =
-      subst (λ n. Tells before (Filled (Ok n)) now) none (subst (λ r. Tells before (Filled (answer_of count kind r)) now) is told)
+      subst (λ n. MayAnswer before (Filled (Ok n)) now) none (subst (λ r. MayAnswer before (Filled (answer_of count kind r)) now) is told)
 
-  pub last_fill : (Last : R → R → Type 0) (n : ℕ) (before between now : R) → AreFills Tells n before between → Last between now → IsLastFill Tells Last before now
+  pub last_fill : (Last : R → R → Type 0) (n : ℕ) (before between now : R) → AreFills MayAnswer n before between → Last between now → IsLastFill MayAnswer Last before now
   last_fill Last n before between now fills last = (n, between, fills, last)
 
 module _ {R W : Type 0} (reads : R → ReaderCall → R → Type 0) (writes : W → WriterCall → W → Type 0) where
@@ -53,7 +53,7 @@ module _ {R W : Type 0} (reads : R → ReaderCall → R → Type 0) (writes : W 
   failed_fill count kind r e stop before reader writer is other same told =
       subst (λ s. IsStopOfFill reads writes s before reader writer) (sym same) (other, subst (λ r. reads before (Filled (answer_of count kind r)) reader) is told)
 
-  -- a writer that failed in the midst of a fill, and behind the last one
+  -- a writer that failed in the midst of a fill, and after the last one
   pub failed_write : (stop : Stop) (before reader : R) (writer : W) → IsWriteStop writes stop writer → IsStopOfFill reads writes stop before reader writer
   failed_write (Read kind) before reader writer h = absurd h
   failed_write NoMoreFills before reader writer h = absurd h

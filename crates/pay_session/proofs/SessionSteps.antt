@@ -9,7 +9,7 @@ use Rattle.pay_wire.specs.Words.{spelling_of_reply}
 use Rattle.pay_session.specs.Requests.{has_newline, is_quit, kept_of, line_requests, request_of, request_of_rest, rest_of, through_quit, unread}
 use Rattle.pay_session.specs.Events.{Event, text_of, lacks_memory, any_lacks_memory}
 use Rattle.pay_session.specs.SessionSteps.{Position, with_ahead, facing, Runs, IsTold, Advances, Quits, Breaks, EndsLine, Replies, Falters, TakesToQuit, IsAnswered, Ran}
-use Rattle.pay_wire.specs.declared.reply.Reply.{Reply}
+use Rattle.pay_wire.specs.declared.reply.SpelledReply.{SpelledReply}
 use Rattle.pay_session.specs.declared.request.Request.{Request}
 use Rattle.pay_session.proofs.InputPieces.{false_or, kept_alike, line_requests_line, unread_line, rest_of_line, has_newline_both, has_newline_kept}
 
@@ -52,17 +52,17 @@ both_counted k m n t u e f = omega (arith, e, f, length-append t u)
 -- ---- a line and its newline
 
 -- a line and its newline
-behind : (line text rest more : List ℕ) → (line ++ (text ++ 10 ∷ rest)) ++ more ≡ (line ++ text) ++ 10 ∷ (rest ++ more)
-behind line text rest more = ap (λ l. l ++ more) (sym (append_assoc line text (10 ∷ rest))) ∙ append_assoc (line ++ text) (10 ∷ rest) more
+beyond : (line text rest more : List ℕ) → (line ++ (text ++ 10 ∷ rest)) ++ more ≡ (line ++ text) ++ 10 ∷ (rest ++ more)
+beyond line text rest more = ap (λ l. l ++ more) (sym (append_assoc line text (10 ∷ rest))) ∙ append_assoc (line ++ text) (10 ∷ rest) more
 
 first_of_lines : (line text rest more : List ℕ) → has_newline (line ++ text) ≡ false → line_requests ((line ++ (text ++ 10 ∷ rest)) ++ more) ≡ request_of (line ++ text) ∷ line_requests (rest ++ more)
-first_of_lines line text rest more h = ap line_requests (behind line text rest more) ∙ line_requests_line (line ++ text) (rest ++ more) h
+first_of_lines line text rest more h = ap line_requests (beyond line text rest more) ∙ line_requests_line (line ++ text) (rest ++ more) h
 
--- what is left unread behind a line
-unread_behind : (line text rest more : List ℕ) (quit : Bool) → has_newline (line ++ text) ≡ false → is_quit (request_of (line ++ text)) ≡ quit
+-- what is left unread after a line
+unread_after : (line text rest more : List ℕ) (quit : Bool) → has_newline (line ++ text) ≡ false → is_quit (request_of (line ++ text)) ≡ quit
     → unread ((line ++ (text ++ 10 ∷ rest)) ++ more) ≡ cond quit (rest ++ more) (unread (rest ++ more))
-unread_behind line text rest more quit h q =
-    ap unread (behind line text rest more) ∙ unread_line (line ++ text) (rest ++ more) h ∙ ap (λ b. cond b (rest ++ more) (unread (rest ++ more))) q
+unread_after line text rest more quit h q =
+    ap unread (beyond line text rest more) ∙ unread_line (line ++ text) (rest ++ more) h ∙ ap (λ b. cond b (rest ++ more) (unread (rest ++ more))) q
 
 module _ {S : Type 0} (Serves : S → Request → Event → S → Type 0) where
   pub told_none : (p : Position S) (xs ys : List ℕ) → IsTold Serves [] (with_ahead p xs) (with_ahead p ys)
@@ -94,7 +94,7 @@ module _ {S : Type 0} (Serves : S → Request → Event → S → Type 0) where
   pub Ran_none : (a b : S) → b ≡ a → Ran Serves a b
   Ran_none a b same = record { requests = []; events = []; runs = same }
 
-  pub Ran_one : (request : Request) (reply : Reply) (a b : S) → IsAnswered Serves request a b reply → Ran Serves a b
+  pub Ran_one : (request : Request) (reply : SpelledReply) (a b : S) → IsAnswered Serves request a b reply → Ran Serves a b
   Ran_one request reply a b f = record { requests = request ∷ []; events = f.event ∷ []; runs = Runs_one request f.event a b f.serves }
 
   pub Ran_then : (a b c : S) → Ran Serves a b → Ran Serves b c → Ran Serves a c
@@ -152,7 +152,7 @@ module _ {S : Type 0} (Serves : S → Request → Event → S → Type 0) where
     counted = both_counted p.answered q.answered r.answered f.events g.events f.told.counted g.counted;
   }
 
-  -- the bytes that come behind stay ahead
+  -- the bytes that come after stay ahead
   pub Advances_more : (p q : Position S) (more : List ℕ) → Advances Serves p q → Advances Serves (facing p more) (facing q more)
   Advances_more p q more f = record {
     done = f.done;
@@ -194,8 +194,8 @@ module _ {S : Type 0} (Serves : S → Request → Event → S → Type 0) where
     done = request_of (p.ahead ++ text) ∷ [];
     events = f.event ∷ [];
     requests = λ more. first_of_lines p.ahead text rest more h;
-    rest = λ more. ap (λ l. request_of_rest (rest_of l)) (behind p.ahead text rest more) ∙ ap request_of_rest (rest_of_line (p.ahead ++ text) (rest ++ more));
-    unread = λ more. unread_behind p.ahead text rest more false h going;
+    rest = λ more. ap (λ l. request_of_rest (rest_of l)) (beyond p.ahead text rest more) ∙ ap request_of_rest (rest_of_line (p.ahead ++ text) (rest ++ more));
+    unread = λ more. unread_after p.ahead text rest more false h going;
     goes_on = ap (λ b. b || false) going;
     runs = Runs_one (request_of (p.ahead ++ text)) f.event p.state q.state f.serves;
     told = told_ahead p q (p.ahead ++ (text ++ 10 ∷ rest)) rest (f.event ∷ []) f.told;
@@ -210,7 +210,7 @@ module _ {S : Type 0} (Serves : S → Request → Event → S → Type 0) where
         events = f.event ∷ [];
         requests = λ more rs. ap (λ l. through_quit (l ++ rs)) (first_of_lines p.ahead text rest more h) ∙ ap (λ b. cond b (first ∷ []) (first ∷ through_quit (line_requests (rest ++ more) ++ rs))) quit;
         quits = λ more. ap (list_any is_quit) (first_of_lines p.ahead text rest more h) ∙ ap (λ b. b || list_any is_quit (line_requests (rest ++ more))) quit;
-        unread = λ more. unread_behind p.ahead text rest more true h quit;
+        unread = λ more. unread_after p.ahead text rest more true h quit;
         runs = Runs_one first f.event p.state q.state f.serves;
         told = told_ahead p q (p.ahead ++ (text ++ 10 ∷ rest)) rest (f.event ∷ []) f.told;
       }

@@ -32,7 +32,7 @@ join (Some input) None U B C known f u b = absurd (none_some (known input u).0 (
     none_some xs e = cc
 join (Some input) (Some left) U B C known f u b = f input left refl u b
 
--- the input, as what was taken, what is shown and what comes behind
+-- the input, as what was taken, what is shown and what comes after
 parts_of : (input front back left bytes more : List ℕ) → input ≡ front ++ back → left ≡ back → left ≡ bytes ++ more → input ≡ (front ++ bytes) ++ more
 parts_of input front back left bytes more p same q = p ∙ ap (λ l. front ++ l) (sym same ∙ q) ∙ sym (append_assoc front bytes more)
 

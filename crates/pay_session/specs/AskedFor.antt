@@ -6,8 +6,8 @@ use Rattle.jiff.specs.declared.tz.timezone.TimeZone.{TimeZone}
 use Rattle.pay_shard.specs.declared.asked.Asked.{Asked}
 use Rattle.pay_shard.specs.declared.asked.Asked.TheVariants as asked
 use Rattle.pay_wire.specs.Words.{IsSpelled}
-use Rattle.pay_wire.specs.declared.command.Command.{Command}
-use Rattle.pay_wire.specs.declared.command.Command.TheVariants as command
+use Rattle.pay_wire.specs.declared.command.SpelledCommand.{SpelledCommand}
+use Rattle.pay_wire.specs.declared.command.SpelledCommand.TheVariants as command
 use Rattle.pay_session.specs.Asks.{asks_of}
 use Rattle.pay_session.specs.declared.asks.Asks.TheVariants as asks
 use Rattle.pay_session.specs.declared.request.Request.TheVariants as requests
@@ -15,13 +15,13 @@ use Rattle.pay_session.specs.declared.request.Request.TheVariants as requests
 -- A command of a desk that a line asks for in a zone, one whose numbers are in their ranges. Quotes have no line: a close asks for them.
 abbrev pub IsAskedIn : TimeZone → Asked → Type 0
 IsAskedIn zone (asked.Quotes day shard of) = ⊤
-IsAskedIn zone a = (c : Command) × IsSpelled c × (asks_of zone (requests.Command c) ≡ asks.Put a)
+IsAskedIn zone a = (c : SpelledCommand) × IsSpelled c × (asks_of zone (requests.Command c) ≡ asks.Put a)
 
 -- each of some commands, which stand beside their tickets, is asked for by a line, or by a close
 abbrev pub AreAllAskedIn : TimeZone → List (ℕ × Asked) → Type 0
 AreAllAskedIn zone = AllByRecursion (λ (t : ℕ × Asked). IsAskedIn zone t.1)
 
--- what a desk took more, behind what it took before, is asked for by lines, or by a close
+-- what a desk took more, after what it took before, is asked for by lines, or by a close
 unfoldable pub AreAskedIn : TimeZone → List (ℕ × Asked) → List (ℕ × Asked) → Type 0
 AreAskedIn zone before after = (more : List (ℕ × Asked)) × (after ≡ before ++ more) × AreAllAskedIn zone more
 

@@ -10,8 +10,8 @@ use Rattle.pay_rules.specs.declared.fix.What.TheVariants as what
 use Rattle.pay_rules.specs.declared.limits.TheConstants.{MOST_CREDIT}
 use Rattle.pay_shard.specs.declared.asked.Asked.{Asked}
 use Rattle.pay_shard.specs.declared.asked.Asked.TheVariants as asked
-use Rattle.pay_wire.specs.declared.command.Command.{Command}
-use Rattle.pay_wire.specs.declared.command.Command.TheVariants as command
+use Rattle.pay_wire.specs.declared.command.SpelledCommand.{SpelledCommand}
+use Rattle.pay_wire.specs.declared.command.SpelledCommand.TheVariants as command
 use Rattle.pay_wire.specs.declared.command.SpelledTap.{SpelledTap}
 use Rattle.pay_wire.specs.declared.command.SpelledFix.{SpelledFix}
 use Rattle.pay_wire.specs.declared.command.SpelledWhat.{SpelledWhat}
@@ -58,7 +58,7 @@ asks_fix_that line (Err why) = asks.No why
 abbrev pub asks_fix : TimeZone → SpelledFix → Asks
 asks_fix zone line = asks_fix_that line (what_of_spelled zone line.what)
 
-abbrev pub asks_command : TimeZone → Command → Asks
+abbrev pub asks_command : TimeZone → SpelledCommand → Asks
 asks_command zone (command.Tap line) = asks_tap zone line
 asks_command zone (command.Fix line) = asks_fix zone line
 asks_command zone (command.Due account day) = asks.Put (asked.Due account day)

@@ -9,16 +9,16 @@ pub data ReaderCall : Type 0 where
   Filled : Result ℕ ErrorKind → ReaderCall
   Consumed : ReaderCall
 
--- a fill behind which a session goes on: it showed some bytes, or was interrupted
+-- a fill after which a session goes on: it showed some bytes, or was interrupted
 abbrev pub GoesOn : Result ℕ ErrorKind → Type 0
 GoesOn (Ok n) = 0 < n
 GoesOn (Err kind) = kind ≡ Interrupted
 
--- With `Tells` for what a reader may answer: the reader before a call, the call with its answer, and the reader after it.
-module _ {R : Type 0} (Tells : R → ReaderCall → R → Type 0) where
+-- With `MayAnswer` for what a reader may answer: the reader before a call, the call with its answer, and the reader after it.
+module _ {R : Type 0} (MayAnswer : R → ReaderCall → R → Type 0) where
   -- its buffer was filled so that a session goes on, and perhaps some of what it showed was taken
   abbrev pub IsFill : R → R → Type 0
-  IsFill before after = (shown : R) × (answer : Result ℕ ErrorKind) × GoesOn answer × Tells before (Filled answer) shown × ((after ≡ shown) ⊎ Tells shown Consumed after)
+  IsFill before after = (shown : R) × (answer : Result ℕ ErrorKind) × GoesOn answer × MayAnswer before (Filled answer) shown × ((after ≡ shown) ⊎ MayAnswer shown Consumed after)
 
   -- so many such fills, one after another
   unfoldable pub AreFills : ℕ → R → R → Type 0
@@ -27,13 +27,13 @@ module _ {R : Type 0} (Tells : R → ReaderCall → R → Type 0) where
 
   -- a fill that showed nothing
   abbrev pub ShowsNothing : R → R → Type 0
-  ShowsNothing before after = Tells before (Filled (Ok 0)) after
+  ShowsNothing before after = MayAnswer before (Filled (Ok 0)) after
 
   -- a fill that failed in a way, and was not interrupted
   abbrev pub FailsBy : ErrorKind → R → R → Type 0
-  FailsBy kind before after = (kind ≢ Interrupted) × Tells before (Filled (Err kind)) after
+  FailsBy kind before after = (kind ≢ Interrupted) × MayAnswer before (Filled (Err kind)) after
 
-  -- fills behind which a session goes on, and then this one
+  -- fills after which a session goes on, and then this one
   abbrev pub IsLastFill : (R → R → Type 0) → R → R → Type 0
   IsLastFill Last before after = (fills : ℕ) × (between : R) × AreFills fills before between × Last between after
 

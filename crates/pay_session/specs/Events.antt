@@ -5,15 +5,15 @@ use Rattle.pay_rules.specs.declared.posting.Posting.{Posting}
 use Rattle.pay_shard.specs.declared.asked.Asked.{Asked}
 use Rattle.pay_shard.specs.declared.desk.DeskFault.{DeskFault}
 use Rattle.pay_shard.specs.declared.desk.DeskFault.TheVariants as desk_fault
-use Rattle.pay_shard.specs.declared.refusal.Refusal.{Refusal as ShardRefusal}
-use Rattle.pay_shard.specs.declared.refusal.Refusal.TheVariants as shard_refusal
+use Rattle.pay_shard.specs.declared.refusal.ShardRefusal.{ShardRefusal}
+use Rattle.pay_shard.specs.declared.refusal.ShardRefusal.TheVariants as shard_refusal
 use Rattle.pay_shard.specs.declared.reply.Answer.{Answer}
-use Rattle.pay_shard.specs.declared.reply.Reply.{Reply as DeskReply}
+use Rattle.pay_shard.specs.declared.reply.Reply.{Reply}
 use Rattle.pay_shard.specs.declared.reply.Reply.TheVariants as desk_reply
 use Rattle.pay_wire.specs.declared.refusal.Refusal.{Refusal}
 use Rattle.pay_wire.specs.declared.refusal.Refusal.TheVariants as refusal
-use Rattle.pay_wire.specs.declared.reply.Reply.{Reply}
-use Rattle.pay_wire.specs.declared.reply.Reply.TheVariants as replies
+use Rattle.pay_wire.specs.declared.reply.SpelledReply.{SpelledReply}
+use Rattle.pay_wire.specs.declared.reply.SpelledReply.TheVariants as replies
 use Rattle.pay_wire.specs.Words.{spelling_of_reply}
 
 -- a command that a desk took, and the answer to it, where it came
@@ -24,7 +24,7 @@ pub record Taken : Type 0 where
 
 -- what was replied to a request, and the commands that a desk took for it
 pub record Event : Type 0 where
-  pub reply : Reply
+  pub reply : SpelledReply
   pub put : List Taken
 
 -- ---- replies as lines say them
@@ -46,7 +46,7 @@ refusal_of_desk desk_fault.Late = refusal.Late
 refusal_of_desk desk_fault.Memory = refusal.Memory
 
 -- A desk's reply. Quotes are the reply to no line: a desk that gives them has failed.
-abbrev pub said : DeskReply → Reply
+abbrev pub said : Reply → SpelledReply
 said (desk_reply.Priced priced) = replies.Priced priced
 said (desk_reply.No why) = replies.No (refusal_of why)
 said (desk_reply.Due quote) = replies.Due quote
@@ -55,7 +55,7 @@ said (desk_reply.Quotes batch) = replies.No refusal.DeskFault
 said desk_reply.Memory = replies.No refusal.Memory
 
 -- what a close of a day came to
-abbrev pub said_of_close : ℕ → Result (List Posting) Refusal → Reply
+abbrev pub said_of_close : ℕ → Result (List Posting) Refusal → SpelledReply
 said_of_close day (Ok postings) = replies.Closed (record { day = day; postings = postings })
 said_of_close day (Err why) = replies.No why
 
@@ -82,7 +82,7 @@ abbrev pub AreAnswered : (ℕ → Option Answer) → List Taken → Type 0
 AreAnswered transcript = AllByRecursion (λ (t : Taken). IfSome t.answer (IsAnswerTo transcript t))
 
 -- whether memory was wanting for a request
-abbrev pub lacks_memory : Reply → Bool
+abbrev pub lacks_memory : SpelledReply → Bool
 lacks_memory (replies.No refusal.Memory) = true
 lacks_memory _ = false
 

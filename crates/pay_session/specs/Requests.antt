@@ -3,8 +3,8 @@ use Rattle.std.specs.Prelude.{◌≡◌, ℕ, ◌+◌, Bool, true, false, nat_lt
 use Rattle.std.specs.List.{AllByRecursion, flat_map, list_any}
 use Rattle.pay_wire.specs.declared.limits.TheConstants.{MOST_LINE_BYTES}
 use Rattle.pay_wire.specs.Words.{command_of, IsSpelled, Spells}
-use Rattle.pay_wire.specs.declared.command.Command.{Command}
-use Rattle.pay_wire.specs.declared.command.Command.TheVariants.{Quit}
+use Rattle.pay_wire.specs.declared.command.SpelledCommand.{SpelledCommand}
+use Rattle.pay_wire.specs.declared.command.SpelledCommand.TheVariants.{Quit}
 use Rattle.pay_session.specs.declared.request.Request.{Request}
 use Rattle.pay_session.specs.declared.request.Request.TheVariants as requests
 
@@ -33,7 +33,7 @@ rest_of [] = []
 rest_of (b ∷ bs) = if has_newline (b ∷ bs) then rest_of bs else b ∷ bs
 
 -- a line that spells a command asks for it
-abbrev pub asked : Option Command → Request
+abbrev pub asked : Option SpelledCommand → Request
 asked (Some c) = requests.Command c
 asked None = requests.BadLine
 
@@ -51,7 +51,7 @@ request_of_rest [] = []
 request_of_rest (b ∷ bs) = (if nat_lt MOST_LINE_BYTES (length (b ∷ bs)) then requests.LongLine else requests.BadLine) ∷ []
 
 -- whether a command ends the session
-abbrev pub asks_to_quit : Command → Bool
+abbrev pub asks_to_quit : SpelledCommand → Bool
 asks_to_quit Quit = true
 asks_to_quit _ = false
 
@@ -109,11 +109,11 @@ pub record IsReadByLine : Type 0 where
 
 -- a line that is the spelling of no command
 abbrev pub SpellsNothing : List ℕ → Type 0
-SpellsNothing line = (command : Command) → Spells line command → ⊥
+SpellsNothing line = (command : SpelledCommand) → Spells line command → ⊥
 
 -- ---- worked rows
 
--- each line stands with what comes behind it, and what no newline ends is the rest
+-- each line stands with what comes after it, and what no newline ends is the rest
 two_lines : input_lines (codes "A\nBC\nD") ≡ record { text = codes "A"; after = codes "BC\nD" } ∷ record { text = codes "BC"; after = codes "D" } ∷ []
 two_lines = refl
 
@@ -130,14 +130,14 @@ quit_with_return : requests_of (codes "QUIT\r\n") ≡ requests.BadLine ∷ []
 unfolding request_of
 quit_with_return = refl
 
--- nothing counts behind the first QUIT, and it stays unread
+-- nothing counts after the first QUIT, and it stays unread
 first_quit : requests_of (codes "A\nQUIT\nQUIT\nA") ≡ requests.BadLine ∷ requests.Command Quit ∷ []
 unfolding request_of
 first_quit = refl
 
-behind_quit : unread (codes "A\nQUIT\nQUIT\nA") ≡ codes "QUIT\nA"
+later_quit : unread (codes "A\nQUIT\nQUIT\nA") ≡ codes "QUIT\nA"
 unfolding request_of
-behind_quit = refl
+later_quit = refl
 
 -- a rest is a bad line whatever it says, and so no QUIT
 cut_quit : requests_of (codes "A\nQUIT") ≡ requests.BadLine ∷ requests.BadLine ∷ []

@@ -7,11 +7,11 @@ use Rattle.pay_shard.specs.declared.asked.Asked.{Asked}
 use Rattle.pay_shard.specs.declared.asked.Asked.TheVariants as asked
 use Rattle.pay_shard.specs.declared.desk.DeskFault.{DeskFault}
 use Rattle.pay_shard.specs.declared.reply.Answer.{Answer}
-use Rattle.pay_shard.specs.declared.reply.Reply.{Reply as DeskReply}
+use Rattle.pay_shard.specs.declared.reply.Reply.{Reply}
 use Rattle.pay_shard.specs.declared.reply.Reply.TheVariants as desk_reply
 use Rattle.pay_wire.specs.declared.refusal.Refusal.TheVariants as refusal
-use Rattle.pay_wire.specs.declared.reply.Reply.{Reply}
-use Rattle.pay_wire.specs.declared.reply.Reply.TheVariants as replies
+use Rattle.pay_wire.specs.declared.reply.SpelledReply.{SpelledReply}
+use Rattle.pay_wire.specs.declared.reply.SpelledReply.TheVariants as replies
 use Rattle.pay_session.specs.declared.asks.Asks.{Asks}
 use Rattle.pay_session.specs.declared.asks.Asks.TheVariants as asks
 use Rattle.pay_session.specs.declared.request.Request.{Request}
@@ -25,7 +25,7 @@ AreQuotes day of from [] = ⊤
 AreQuotes day of from (t ∷ ts) = (from < of) × (t.asked ≡ asked.Quotes day from of) × AreQuotes day of (suc from) ts
 
 -- whether quotes came
-abbrev pub gives_quotes : DeskReply → Bool
+abbrev pub gives_quotes : Reply → Bool
 gives_quotes (desk_reply.Quotes batch) = true
 gives_quotes _ = false
 
@@ -75,7 +75,7 @@ module _ (Refuses : DeskFault → Type 0) (Late : Type 0) where
     pub answered : AreAnswered transcript put
 
   -- the reply that came, or that it did not come in time
-  abbrev pub IsReplied : Option Answer → Reply → Type 0
+  abbrev pub IsReplied : Option Answer → SpelledReply → Type 0
   IsReplied (Some answer) line = line ≡ said answer.reply
   IsReplied None line = (line ≡ replies.No refusal.Late) × Late
 

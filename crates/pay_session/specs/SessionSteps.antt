@@ -1,10 +1,10 @@
 -- What the steps of a session do, each from one position to another: a line, the bytes of one fill, a fill, the rest. Each
--- says it for whatever comes behind.
+-- says it for whatever comes after.
 use Rattle.std.specs.Prelude.{◌≡◌, ℕ, ◌+◌, Bool, true, false, ◌||◌, List, [], ◌∷◌, ◌++◌, length, Option, Some, IfSome}
 use Rattle.std.specs.List.{list_any}
 use Rattle.std.specs.Io.KnownBytes.{Appends}
 use Rattle.pay_wire.specs.Words.{AppendsFront, spelling_of_reply}
-use Rattle.pay_wire.specs.declared.reply.Reply.{Reply}
+use Rattle.pay_wire.specs.declared.reply.SpelledReply.{SpelledReply}
 use Rattle.pay_session.specs.Requests.{is_quit, line_requests, quits, requests_of, request_of_rest, rest_of, through_quit, unread}
 use Rattle.pay_session.specs.Events.{Event, text_of, any_lacks_memory}
 use Rattle.pay_session.specs.Stops.{fault_of}
@@ -41,7 +41,7 @@ facing p bytes = with_ahead p (p.ahead ++ bytes)
 -- With `Serves` for what may come of a request: what answers before it, the event, and what answers after it.
 module _ {S : Type 0} (Serves : S → Request → Event → S → Type 0) where
   -- the request was answered so
-  pub record IsAnswered (request : Request) (before after : S) (reply : Reply) : Type 0 where
+  pub record IsAnswered (request : Request) (before after : S) (reply : SpelledReply) : Type 0 where
     pub event : Event
     pub serves : Serves before request event after
     pub told : event.reply ≡ reply
@@ -75,7 +75,7 @@ module _ {S : Type 0} (Serves : S → Request → Event → S → Type 0) where
     pub runs : Runs before.state done events after.state
     pub told : IsTold events before after
 
-  -- Some requests were answered, and the last was QUIT: the bytes behind it are ahead.
+  -- Some requests were answered, and the last was QUIT: the bytes after it are ahead.
   pub record Quits (before after : Position S) : Type 0 where
     pub done : List Request
     pub events : List Event
@@ -119,7 +119,7 @@ module _ {S : Type 0} (Serves : S → Request → Event → S → Type 0) where
     pub going : (rest : List ℕ) → quit ≡ false → Advances (facing before (text ++ 10 ∷ rest)) (with_ahead after rest)
     pub quits : (rest : List ℕ) → quit ≡ true → Quits (facing before (text ++ 10 ∷ rest)) (with_ahead after rest)
 
-  -- a line asked to quit, and so many bytes behind it were left
+  -- a line asked to quit, and so many bytes after it were left
   pub record TakesToQuit (before : Position S) (bytes : List ℕ) (left : ℕ) (after : Position S) : Type 0 where
     pub front : List ℕ
     pub rest : List ℕ
@@ -143,7 +143,7 @@ module _ {S : Type 0} (Serves : S → Request → Event → S → Type 0) where
     pub unread : remaining ≡ Some []
     pub same : after ≡ before
 
-  -- a line that asked to quit, and the bytes behind it
+  -- a line that asked to quit, and the bytes after it
   pub record BringsQuit (before : Position S) (input : List ℕ) (remaining : Option (List ℕ)) (after : Position S) : Type 0 where
     pub bytes : List ℕ
     pub rest : List ℕ

@@ -11,10 +11,10 @@ use jiff::tz::TimeZone;
 use pay_day::{StampFault, stamp};
 use pay_rules::{Credit, Fix, Tap, What};
 use pay_shard::{Asked, Command};
-use pay_wire::{Refusal, SpelledFix, SpelledTap, SpelledWhat};
+use pay_wire::{Refusal, SpelledCommand, SpelledFix, SpelledTap, SpelledWhat};
 
 /// What a request comes to.
-#[derive(Clone, Copy, Debug, PartialEq, Eq)]
+#[derive(Clone, Copy)]
 pub enum Asks {
     /// A desk's command.
     Put(Command),
@@ -40,18 +40,18 @@ pub fn asks_of(zone: &TimeZone<'_>, request: Request) -> Asks
     }
 }
 
-fn asks_command(zone: &TimeZone<'_>, command: pay_wire::Command) -> Asks
+fn asks_command(zone: &TimeZone<'_>, command: SpelledCommand) -> Asks
     requires { IsSpelled command }
     ensures value { result ≡ asks_command zone.now command }
     ensures askable { IsAskable result }
 {
     match command {
-        pay_wire::Command::Tap(line) => asks_tap(zone, line),
-        pay_wire::Command::Fix(line) => asks_fix(zone, line),
-        pay_wire::Command::Due { account, day } => put(Asked::Due { account, day }),
-        pay_wire::Command::Show { account, day } => put(Asked::Show { account, day }),
-        pay_wire::Command::Close { day } => Asks::Close(day),
-        pay_wire::Command::Quit => Asks::Quit,
+        SpelledCommand::Tap(line) => asks_tap(zone, line),
+        SpelledCommand::Fix(line) => asks_fix(zone, line),
+        SpelledCommand::Due { account, day } => put(Asked::Due { account, day }),
+        SpelledCommand::Show { account, day } => put(Asked::Show { account, day }),
+        SpelledCommand::Close { day } => Asks::Close(day),
+        SpelledCommand::Quit => Asks::Quit,
     }
 }
 

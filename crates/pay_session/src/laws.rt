@@ -2,7 +2,7 @@
 //! caller whose proof needs a law calls its function.
 ghost use Rattle.std.specs.Prelude.{◌≡◌, ◌≢◌, ℕ, ◌<◌, ◌≤◌, true, false, List, [], ◌∷◌, ◌++◌, length, codes};
 ghost use Rattle.std.specs.List.{AllByRecursion, flat_map};
-ghost use Rattle.pay_wire.specs.declared.command.Command.TheVariants.{Quit};
+ghost use Rattle.pay_wire.specs.declared.command.SpelledCommand.TheVariants.{Quit};
 ghost use Rattle.pay_wire.specs.declared.limits.TheConstants.{MOST_LINE_BYTES};
 ghost use Rattle.pay_session.specs.declared.request.Request.TheVariants as requests;
 ghost use Rattle.pay_session.specs.Requests.{InputLine, input_lines, rest_of, has_newline, request_of, line_requests, requests_of, quits, unread, HasOneCutting, IsReadByLine, SpellsNothing};
@@ -17,9 +17,9 @@ pub fn cut_at_newlines()
     ensures only { HasOneCutting }
 {}
 
-/// What is left unread is what stands behind the first line that is `QUIT`, or nothing where no line is.
-pub fn unread_behind_quit()
-    ensures behind { (input : List ℕ) → quits input ≡ true
+/// What is left unread is what stands after the first line that is `QUIT`, or nothing where no line is.
+pub fn unread_after_quit()
+    ensures after { (input : List ℕ) → quits input ≡ true
         → (before : List ℕ) × (input ≡ before ++ codes "QUIT\n" ++ unread input)
         × (quits before ≡ false) × (rest_of before ≡ []) }
     ensures none { (input : List ℕ) → quits input ≡ false → unread input ≡ [] }
@@ -27,7 +27,7 @@ pub fn unread_behind_quit()
     pay_wire::laws::read_as_spelled();
 }
 
-/// What stands behind the first `QUIT` asks for nothing, whatever it is, and stays unread.
+/// What stands after the first `QUIT` asks for nothing, whatever it is, and stays unread.
 pub fn nothing_after_quit()
     ensures asked { (before x : List ℕ) → quits before ≡ false → rest_of before ≡ []
         → requests_of (before ++ codes "QUIT\n" ++ x) ≡ line_requests before ++ requests.Command Quit ∷ [] }
@@ -37,7 +37,7 @@ pub fn nothing_after_quit()
         → unread (before ++ codes "QUIT\n" ++ x) ≡ x }
 {}
 
-/// A line other than `QUIT` changes nothing of what the lines behind it ask for, and neither does a bad or a long one.
+/// A line other than `QUIT` changes nothing of what the lines after it ask for, and neither does a bad or a long one.
 pub fn session_goes_on()
     ensures line { (line more : List ℕ) → has_newline line ≡ false → line ≢ codes "QUIT"
         → requests_of (line ++ codes "\n" ++ more) ≡ request_of line ∷ requests_of more }

@@ -6,6 +6,7 @@
 mod asks;
 mod begun_line;
 mod cutting;
+mod known_reader;
 pub mod laws;
 pub mod limits;
 mod progress;
@@ -14,13 +15,12 @@ mod service;
 mod sessions;
 mod stop;
 mod till;
-mod told_reader;
 
 pub use asks::{Asks, asks_of};
 pub use cutting::cut;
+pub use known_reader::KnownReader;
 pub use request::{Request, request_of};
 pub use service::reply_of;
 pub use sessions::{Done, session};
 pub use stop::SessionFault;
 pub use till::{NoTill, Till};
-pub use told_reader::ToldReader;

@@ -8,13 +8,13 @@ ghost use Rattle.pay_session.specs.Stops.{IsStop, IsStopOfFill, IsWriteStop};
 
 use crate::begun_line::BegunLine;
 use crate::cutting::cut;
+use crate::known_reader::KnownReader;
 use crate::limits::MOST_FILLS;
 use crate::request::{Request, request_of_rest};
 use crate::service::Answers;
 use crate::sessions::Done;
 use crate::stop::{Stop, unless_interrupted};
-use crate::told_reader::ToldReader;
-use pay_wire::{Refusal, Reply, ToldWriter, send};
+use pay_wire::{KnownWriter, Refusal, SpelledReply, send};
 
 /// How far a session is.
 #[derive(Drop)]
@@ -26,7 +26,7 @@ pub(crate) struct Progress {
 }
 
 /// What one fill of a reader's buffer brought.
-#[derive(Clone, Copy, Debug, PartialEq, Eq)]
+#[derive(Clone, Copy)]
 enum Fill {
     /// Bytes, all of which were taken.
     More,
@@ -69,7 +69,7 @@ impl Progress {
     }
 
     /// Answers the lines of a reader up to a `QUIT` or to the end of the input, and says whether it was a `QUIT`.
-    pub fn serve<A: Answers, R: ToldReader, W: ToldWriter>(
+    pub fn serve<A: Answers, R: KnownReader, W: KnownWriter>(
         &mut self,
         answers: &mut A,
         reader: &mut R,
@@ -83,8 +83,8 @@ impl Progress {
         ensures fails { IfErr result (StopsAs A.Serves (at self.old answers.old (W.contents writer.old)) (R.remaining reader.old) (R.remaining reader.new)
             (at self.new answers.new (W.contents writer.new))) }
         ensures ran { Ran A.Serves answers.old answers.new }
-        ensures ended { IfOk result (λ quit. quit ≡ false → IsLastFill R.Tells (ShowsNothing R.Tells) reader.old reader.new) }
-        ensures cause { IfErr result (λ stop. IsStop R.Tells W.Tells stop reader.old reader.new writer.new) }
+        ensures ended { IfOk result (λ quit. quit ≡ false → IsLastFill R.MayAnswer (ShowsNothing R.MayAnswer) reader.old reader.new) }
+        ensures cause { IfErr result (λ stop. IsStop R.MayAnswer W.MayAnswer stop reader.old reader.new writer.new) }
     {
         for _ in 0..MOST_FILLS {
             match self.turn(answers, reader, writer)? {
@@ -100,7 +100,7 @@ impl Progress {
     }
 
     /// Takes what one fill of the reader's buffer shows.
-    fn turn<A: Answers, R: ToldReader, W: ToldWriter>(
+    fn turn<A: Answers, R: KnownReader, W: KnownWriter>(
         &mut self,
         answers: &mut A,
         reader: &mut R,
@@ -115,9 +115,9 @@ impl Progress {
         ensures loses { IfErr result (FailsAs A.Serves (at self.old answers.old (W.contents writer.old)) (R.remaining reader.old) (R.remaining reader.new)
             (at self.new answers.new (W.contents writer.new))) }
         ensures ran { Ran A.Serves answers.old answers.new }
-        ensures filled { IfOk result (λ fill. fill ≢ Fill.End → IsFill R.Tells reader.old reader.new) }
-        ensures ended { IfOk result (λ fill. fill ≡ Fill.End → ShowsNothing R.Tells reader.old reader.new) }
-        ensures cause { IfErr result (λ stop. IsStopOfFill R.Tells W.Tells stop reader.old reader.new writer.new) }
+        ensures filled { IfOk result (λ fill. fill ≢ Fill.End → IsFill R.MayAnswer reader.old reader.new) }
+        ensures ended { IfOk result (λ fill. fill ≡ Fill.End → ShowsNothing R.MayAnswer reader.old reader.new) }
+        ensures cause { IfErr result (λ stop. IsStopOfFill R.MayAnswer W.MayAnswer stop reader.old reader.new writer.new) }
     {
         let shown = match reader.ask_to_fill() {
             Ok(shown) => shown,
@@ -143,8 +143,8 @@ impl Progress {
     }
 
     /// Takes the bytes, and answers each line that ends in them. Where one asks to quit, the answer
-    /// is how many bytes are left behind it.
-    fn take<A: Answers, W: ToldWriter>(
+    /// is how many bytes are left after it.
+    fn take<A: Answers, W: KnownWriter>(
         &mut self,
         answers: &mut A,
         bytes: &[u8],
@@ -162,7 +162,7 @@ impl Progress {
         ensures breaks { OnErr result (Breaks A.Serves (facing (at self.old answers.old (W.contents writer.old)) bytes.now)
             (at self.new answers.new (W.contents writer.new))) }
         ensures ran { Ran A.Serves answers.old answers.new }
-        ensures cause { IfErr result (λ stop. IsWriteStop W.Tells stop writer.new) }
+        ensures cause { IfErr result (λ stop. IsWriteStop W.MayAnswer stop writer.new) }
     {
         let mut ahead = bytes;
         while let Some((text, rest)) = cut(ahead) {
@@ -176,7 +176,7 @@ impl Progress {
     }
 
     /// Answers the line that ends with this text, and says whether it asked to quit.
-    fn end_line<A: Answers, W: ToldWriter>(
+    fn end_line<A: Answers, W: KnownWriter>(
         &mut self,
         answers: &mut A,
         text: &[u8],
@@ -191,7 +191,7 @@ impl Progress {
         ensures breaks { OnErr result ((rest : List ℕ) → Breaks A.Serves (facing (at self.old answers.old (W.contents writer.old)) (text.now ++ 10 ∷ rest))
             (at self.new answers.new (W.contents writer.new))) }
         ensures ran { Ran A.Serves answers.old answers.new }
-        ensures cause { IfErr result (λ stop. IsWriteStop W.Tells stop writer.new) }
+        ensures cause { IfErr result (λ stop. IsWriteStop W.MayAnswer stop writer.new) }
     {
         let request = self.line.finish(text);
         self.answer(answers, request, writer)?;
@@ -199,7 +199,7 @@ impl Progress {
     }
 
     /// Answers what no newline ended.
-    fn end<A: Answers, W: ToldWriter>(
+    fn end<A: Answers, W: KnownWriter>(
         &mut self,
         answers: &mut A,
         writer: &mut W,
@@ -208,7 +208,7 @@ impl Progress {
         ensures ends { OnOk result (EndsRest A.Serves (at self.old answers.old (W.contents writer.old)) (at self.new answers.new (W.contents writer.new))) }
         ensures falters { OnErr result (FaltersAtRest A.Serves (at self.old answers.old (W.contents writer.old)) (at self.new answers.new (W.contents writer.new))) }
         ensures ran { Ran A.Serves answers.old answers.new }
-        ensures cause { IfErr result (λ stop. IsWriteStop W.Tells stop writer.new) }
+        ensures cause { IfErr result (λ stop. IsWriteStop W.MayAnswer stop writer.new) }
     {
         let rest = self.line.as_slice();
         if rest.is_empty() {
@@ -219,7 +219,7 @@ impl Progress {
     }
 
     /// Answers one request.
-    fn answer<A: Answers, W: ToldWriter>(
+    fn answer<A: Answers, W: KnownWriter>(
         &mut self,
         answers: &mut A,
         request: Request,
@@ -231,7 +231,7 @@ impl Progress {
         ensures replies { OnOk result (Replies A.Serves request (at self.old answers.old (W.contents writer.old)) (at self.new answers.new (W.contents writer.new))) }
         ensures falters { OnErr result (Falters A.Serves request (at self.old answers.old (W.contents writer.old)) (at self.new answers.new (W.contents writer.new))) }
         ensures ran { Ran A.Serves answers.old answers.new }
-        ensures cause { IfErr result (λ stop. IsWriteStop W.Tells stop writer.new) }
+        ensures cause { IfErr result (λ stop. IsWriteStop W.MayAnswer stop writer.new) }
     {
         let reply = answers.answer(request);
         match send(writer, &reply) {
@@ -246,8 +246,8 @@ impl Progress {
 }
 
 /// Whether a request was refused because memory ran out.
-fn lacks_memory(reply: &Reply) -> bool
+fn lacks_memory(reply: &SpelledReply) -> bool
     ensures { result ≡ lacks_memory reply.now }
 {
-    matches!(reply, Reply::No(Refusal::Memory))
+    matches!(reply, SpelledReply::No(Refusal::Memory))
 }

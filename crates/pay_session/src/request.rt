@@ -2,13 +2,13 @@ ghost use Rattle.std.specs.Prelude.{◌≡◌, ◌<◌, ◌∷◌, [], length};
 ghost use Rattle.pay_session.specs.Requests.{request_of, request_of_rest, is_quit, IsAsked};
 
 use pay_wire::limits::MOST_LINE_BYTES;
-use pay_wire::{Command, read_command};
+use pay_wire::{SpelledCommand, read_command};
 
 /// What a piece of the input asks for: a command, or nothing that is one.
-#[derive(Clone, Copy, Debug, PartialEq, Eq)]
+#[derive(Clone, Copy)]
 pub enum Request {
     /// A line that spells this command.
-    Command(Command),
+    Command(SpelledCommand),
     /// A line that spells none, or bytes that no newline ends.
     BadLine,
     /// More bytes than a line may have.
@@ -49,6 +49,6 @@ impl Request {
     pub fn is_quit(self) -> bool
         ensures { result ≡ is_quit self }
     {
-        matches!(self, Request::Command(Command::Quit))
+        matches!(self, Request::Command(SpelledCommand::Quit))
     }
 }

@@ -1,7 +1,7 @@
 //! What answers the requests of a session: a zone, a desk and a till.
 ghost use Rattle.std.specs.Prelude.{◌≡◌, ◌≤◌};
 ghost use Rattle.pay_day.specs.declared.limits.TheConstants.{FIRST_DAY, LAST_DAY};
-ghost use Rattle.pay_shard.specs.Words.{AreKept};
+ghost use Rattle.pay_shard.specs.Words.{NothingIsLost};
 ghost use Rattle.pay_session.specs.Asks.{IsOfAccount};
 ghost use Rattle.pay_session.specs.Events.{Event, refusal_of, refusal_of_desk, said};
 ghost use Rattle.pay_session.specs.Requests.{IsAsked};
@@ -14,7 +14,7 @@ use crate::request::Request;
 use crate::till::Till;
 use jiff::tz::TimeZone;
 use pay_shard::{Command, Desk, DeskFault};
-use pay_wire::{Closed, Refusal, Reply};
+use pay_wire::{Closed, Refusal, SpelledReply};
 
 /// Answers requests, one after another.
 pub(crate) trait Answers: Drop {
@@ -22,7 +22,7 @@ pub(crate) trait Answers: Drop {
     ghost Serves: { Self → Request → Event → Self → Type 0 };
 
     /// Answers a request.
-    fn answer(&mut self, request: Request) -> Reply
+    fn answer(&mut self, request: Request) -> SpelledReply
         requires { IsAsked request }
         ensures { IsAnswered Serves request self.old self.new result };
 }
@@ -58,72 +58,72 @@ impl<'a, D: Desk, T: Till> Answers for Service<'a, D, T> {
         × (after.desk.ghost_name ≡ before.desk.ghost_name) × (after.till.ghost_name ≡ before.till.ghost_name) × (after.zone ≡ before.zone) × (T.origin after.till.now ≡ T.origin before.till.now)
         × IsAsked request };
 
-    fn answer(&mut self, request: Request) -> Reply {
+    fn answer(&mut self, request: Request) -> SpelledReply {
         match asks_of(self.zone, request) {
             Asks::Put(command) => reply_of(self.desk, command),
             Asks::Close(day) => close(self.till, self.desk, day),
-            Asks::Quit => Reply::Bye,
-            Asks::No(why) => Reply::No(why),
+            Asks::Quit => SpelledReply::Bye,
+            Asks::No(why) => SpelledReply::No(why),
         }
     }
 }
 
 /// Hands a command to a desk and says its reply, as a line says it.
-pub fn reply_of<D: Desk>(desk: &mut D, command: Command) -> Reply
+pub fn reply_of<D: Desk>(desk: &mut D, command: Command) -> SpelledReply
     requires { IsOfAccount command }
     ensures put { IsPutAt D.parts desk.old desk.new command result }
-    ensures transcript { AreKept (D.parts desk.old).transcript (D.parts desk.new).transcript }
+    ensures transcript { NothingIsLost (D.parts desk.old).transcript (D.parts desk.new).transcript }
     ensures same_desk { (D.parts desk.new).standing ≡ (D.parts desk.old).standing }
 {
     pay_shard::laws::put_then_get::<D>();
     let ticket = match desk.put(command) {
         Ok(ticket) => ticket,
-        Err(fault) => return Reply::No(refusal_of_desk(fault)),
+        Err(fault) => return SpelledReply::No(refusal_of_desk(fault)),
     };
     match desk.get(ticket) {
         Ok(reply) => said(reply),
-        Err(fault) => Reply::No(refusal_of_desk(fault)),
+        Err(fault) => SpelledReply::No(refusal_of_desk(fault)),
     }
 }
 
 /// Has a till close a day over a desk, and says what came of it.
-fn close<D: Desk, T: Till>(till: &mut T, desk: &mut D, day: u32) -> Reply
+fn close<D: Desk, T: Till>(till: &mut T, desk: &mut D, day: u32) -> SpelledReply
     requires { (FIRST_DAY ≤ day) × (day ≤ LAST_DAY) }
     ensures closed { IsCloseSaidAt D.parts desk.old desk.new day (λ of put answer. T.Closes till.old day of put answer till.new) result }
-    ensures transcript { AreKept (D.parts desk.old).transcript (D.parts desk.new).transcript }
+    ensures transcript { NothingIsLost (D.parts desk.old).transcript (D.parts desk.new).transcript }
     ensures same_desk { (D.parts desk.new).standing ≡ (D.parts desk.old).standing }
     ensures same_till { T.origin till.new ≡ T.origin till.old }
 {
     match till.close(desk, day) {
-        Ok(postings) => Reply::Closed(Closed { day, postings }),
-        Err(why) => Reply::No(why),
+        Ok(postings) => SpelledReply::Closed(Closed { day, postings }),
+        Err(why) => SpelledReply::No(why),
     }
 }
 
 /// A desk's reply, as a line says it.
-fn said(reply: pay_shard::Reply) -> Reply
+fn said(reply: pay_shard::Reply) -> SpelledReply
     ensures { result ≡ said reply }
 {
     match reply {
-        pay_shard::Reply::Priced(priced) => Reply::Priced(priced),
-        pay_shard::Reply::No(why) => Reply::No(refusal_of(why)),
-        pay_shard::Reply::Due(quote) => Reply::Due(quote),
-        pay_shard::Reply::Shown(shown) => Reply::Shown(shown),
-        pay_shard::Reply::Quotes(_) => Reply::No(Refusal::DeskFault),
-        pay_shard::Reply::Memory => Reply::No(Refusal::Memory),
+        pay_shard::Reply::Priced(priced) => SpelledReply::Priced(priced),
+        pay_shard::Reply::No(why) => SpelledReply::No(refusal_of(why)),
+        pay_shard::Reply::Due(quote) => SpelledReply::Due(quote),
+        pay_shard::Reply::Shown(shown) => SpelledReply::Shown(shown),
+        pay_shard::Reply::Quotes(_) => SpelledReply::No(Refusal::DeskFault),
+        pay_shard::Reply::Memory => SpelledReply::No(Refusal::Memory),
     }
 }
 
 /// A shard's refusal, as a line says it.
-fn refusal_of(why: pay_shard::Refusal) -> Refusal
+fn refusal_of(why: pay_shard::ShardRefusal) -> Refusal
     ensures { result ≡ refusal_of why }
 {
     match why {
-        pay_shard::Refusal::UnknownPlace => Refusal::UnknownPlace,
-        pay_shard::Refusal::Conflict => Refusal::Conflict,
-        pay_shard::Refusal::AccountFull => Refusal::AccountFull,
-        pay_shard::Refusal::FixConflict => Refusal::FixConflict,
-        pay_shard::Refusal::FixesFull => Refusal::FixesFull,
+        pay_shard::ShardRefusal::UnknownPlace => Refusal::UnknownPlace,
+        pay_shard::ShardRefusal::Conflict => Refusal::Conflict,
+        pay_shard::ShardRefusal::AccountFull => Refusal::AccountFull,
+        pay_shard::ShardRefusal::FixConflict => Refusal::FixConflict,
+        pay_shard::ShardRefusal::FixesFull => Refusal::FixesFull,
     }
 }
 

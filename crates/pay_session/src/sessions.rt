@@ -4,16 +4,16 @@ ghost use Rattle.pay_session.specs.AskedFor.{AreAskedIn};
 ghost use Rattle.pay_session.specs.Calls.{IsLastFill, ShowsNothing};
 ghost use Rattle.pay_session.specs.Session.{Ends, Fails, ServiceEnds, ServiceFails};
 ghost use Rattle.pay_session.specs.Stops.{IsBroken};
-ghost use Rattle.pay_shard.specs.Words.{AreKept};
+ghost use Rattle.pay_shard.specs.Words.{NothingIsLost};
 
+use crate::known_reader::KnownReader;
 use crate::progress::Progress;
 use crate::service::Service;
 use crate::stop::SessionFault;
 use crate::till::Till;
-use crate::told_reader::ToldReader;
 use jiff::tz::TimeZone;
 use pay_shard::Desk;
-use pay_wire::ToldWriter;
+use pay_wire::KnownWriter;
 
 /// How a session ended by itself.
 #[derive(Clone, Copy, Debug, PartialEq, Eq)]
@@ -29,8 +29,8 @@ pub struct Done {
 /// Answers the lines of a reader: hands their commands to a desk, and closes to a till. What is written is, for the lines of
 /// the input in order, the reply of the desk or of the till, or the refusal, to each. The desk takes the command of each line
 /// once, in order, and what a close puts, and no other: also of a reader whose bytes are not known, as a socket, what it takes is
-/// asked for by lines, or by a close. Bytes behind the newline of a `QUIT` stay unread.
-pub fn session<R: ToldReader, W: ToldWriter, D: Desk, T: Till>(
+/// asked for by lines, or by a close. Bytes after the newline of a `QUIT` stay unread.
+pub fn session<R: KnownReader, W: KnownWriter, D: Desk, T: Till>(
     reader: &mut R,
     writer: &mut W,
     zone: &TimeZone<'_>,
@@ -41,10 +41,10 @@ pub fn session<R: ToldReader, W: ToldWriter, D: Desk, T: Till>(
         (desk.new, till.new, R.remaining reader.new, W.contents writer.new)) }
     ensures fails { IfErr result (Fails zone.now D.parts T.Closes (desk.old, till.old, R.remaining reader.old, W.contents writer.old)
         (desk.new, till.new, R.remaining reader.new, W.contents writer.new)) }
-    ensures ended { IfOk result (λ done. done.quit ≡ false → IsLastFill R.Tells (ShowsNothing R.Tells) reader.old reader.new) }
-    ensures cause { IfErr result (λ fault. IsBroken R.Tells W.Tells fault reader.old reader.new writer.new) }
+    ensures ended { IfOk result (λ done. done.quit ≡ false → IsLastFill R.MayAnswer (ShowsNothing R.MayAnswer) reader.old reader.new) }
+    ensures cause { IfErr result (λ fault. IsBroken R.MayAnswer W.MayAnswer fault reader.old reader.new writer.new) }
     ensures asked { AreAskedIn zone.now (D.parts desk.old).taken (D.parts desk.new).taken }
-    ensures transcript { AreKept (D.parts desk.old).transcript (D.parts desk.new).transcript }
+    ensures transcript { NothingIsLost (D.parts desk.old).transcript (D.parts desk.new).transcript }
     ensures same_desk { (D.parts desk.new).standing ≡ (D.parts desk.old).standing }
     ensures same_till { T.origin till.new ≡ T.origin till.old }
 {
@@ -52,7 +52,7 @@ pub fn session<R: ToldReader, W: ToldWriter, D: Desk, T: Till>(
 }
 
 /// Answers the lines of a reader by a desk and a till.
-fn session_by<R: ToldReader, W: ToldWriter, D: Desk, T: Till>(
+fn session_by<R: KnownReader, W: KnownWriter, D: Desk, T: Till>(
     service: &mut Service<'_, D, T>,
     reader: &mut R,
     writer: &mut W,
@@ -63,10 +63,10 @@ fn session_by<R: ToldReader, W: ToldWriter, D: Desk, T: Till>(
         (service.new, R.remaining reader.new, W.contents writer.new)) }
     ensures fails { IfErr result (ServiceFails D.parts T.Closes (service.old, R.remaining reader.old, W.contents writer.old)
         (service.new, R.remaining reader.new, W.contents writer.new)) }
-    ensures ended { IfOk result (λ done. done.quit ≡ false → IsLastFill R.Tells (ShowsNothing R.Tells) reader.old reader.new) }
-    ensures cause { IfErr result (λ fault. IsBroken R.Tells W.Tells fault reader.old reader.new writer.new) }
+    ensures ended { IfOk result (λ done. done.quit ≡ false → IsLastFill R.MayAnswer (ShowsNothing R.MayAnswer) reader.old reader.new) }
+    ensures cause { IfErr result (λ fault. IsBroken R.MayAnswer W.MayAnswer fault reader.old reader.new writer.new) }
     ensures asked { AreAskedIn service.old.zone.now (D.parts service.old.desk.now).taken (D.parts service.new.desk.now).taken }
-    ensures transcript { AreKept (D.parts service.old.desk.now).transcript (D.parts service.new.desk.now).transcript }
+    ensures transcript { NothingIsLost (D.parts service.old.desk.now).transcript (D.parts service.new.desk.now).transcript }
     ensures same_desk { (D.parts service.new.desk.now).standing ≡ (D.parts service.old.desk.now).standing }
     ensures same_till { T.origin service.new.till.now ≡ T.origin service.old.till.now }
 {

@@ -20,7 +20,7 @@ pub enum SessionFault {
 }
 
 /// Why a session stops before its end.
-#[derive(Clone, Copy, Debug, PartialEq, Eq)]
+#[derive(Clone, Copy)]
 pub enum Stop {
     /// The reader failed in this way.
     Read(ErrorKind),

@@ -2,7 +2,7 @@
 ghost use Rattle.std.specs.Prelude.{◌≡◌, ◌≤◌, ℕ, List, [], Result, Err};
 ghost use Rattle.pay_rules.specs.declared.posting.Posting.{Posting};
 ghost use Rattle.pay_day.specs.declared.limits.TheConstants.{FIRST_DAY, LAST_DAY};
-ghost use Rattle.pay_shard.specs.Words.{AreKept};
+ghost use Rattle.pay_shard.specs.Words.{NothingIsLost};
 ghost use Rattle.pay_session.specs.Events.{Taken};
 ghost use Rattle.pay_session.specs.Serving.{IsClosedAt};
 ghost use Rattle.pay_wire.specs.declared.refusal.Refusal.{Refusal};
@@ -30,13 +30,13 @@ pub trait Till: Drop {
     fn close<D: Desk>(&mut self, desk: &mut D, day: u32) -> Result<Postings, Refusal>
         requires { (FIRST_DAY ≤ day) × (day ≤ LAST_DAY) }
         ensures closed { IsClosedAt D.parts desk.old desk.new day (λ of put answer. Closes self.old day of put answer self.new) result }
-        ensures transcript { AreKept (D.parts desk.old).transcript (D.parts desk.new).transcript }
+        ensures transcript { NothingIsLost (D.parts desk.old).transcript (D.parts desk.new).transcript }
         ensures same_desk { (D.parts desk.new).standing ≡ (D.parts desk.old).standing }
         ensures same_till { origin self.new ≡ origin self.old };
 }
 
 /// A till that closes nothing.
-#[derive(Clone, Copy, Debug, PartialEq, Eq)]
+#[derive(Clone, Copy)]
 pub struct NoTill;
 
 impl Till for NoTill {

@@ -89,7 +89,7 @@ module _ {X Y : Type 0} (f : X → Option Y) where
   at_front x list y None e later h = let from = later h in (from.0, inr from.1, from.2)
   at_front x list y (Some z) e later h = elim h [
     | inl is ↦ (x, inl refl, e ∙ ap Some is)
-    | inr behind ↦ let from = later behind in (from.0, inr from.1, from.2)
+    | inr beyond ↦ let from = later beyond in (from.0, inr from.1, from.2)
   ]
 
   from_one : (list : List X) (y : Y) → IsIn (filter_map f list) y → From list y

@@ -208,7 +208,7 @@ pub got_none : (many place : ℕ) (blocks lent : List (List Item)) (item : Optio
 got_none many place blocks lent item items are same there is all =
     let many_are = length_all many blocks are.filled in
     let most = at_most many blocks are.filled in
-    let behind : length blocks ≤ place / 1024 = from blocks (place / 1024) (sym (there ∙ ap (λ l. slice_get l (place / 1024)) same)) in
+    let beyond : length blocks ≤ place / 1024 = from blocks (place / 1024) (sym (there ∙ ap (λ l. slice_get l (place / 1024)) same)) in
     is ∙ sym (slice_get_past (all_in blocks) place (omega arith)) ∙ ap (λ l. slice_get l place) all
   where
     from : (blocks : List (List Item)) (number : ℕ) → slice_get blocks number ≡ None → length blocks ≤ number

@@ -18,7 +18,7 @@ pub replay_goes_on : (tables : FareTables) (base : State) (items more : List Ite
 replay_goes_on tables base [] more = refl
 replay_goes_on tables base (first ∷ items) more = replay_goes_on tables (item_step tables base first).after items more
 
--- the answers to the first items are the same whatever stands behind these
+-- the answers to the first items are the same whatever stands after these
 same_answer : (shard place : ℕ) (tables : FareTables) (state : State) (items more : List Item) (k : ℕ) → k < length items
     → slice_get (answers_from shard place tables state (items ++ more)) k ≡ slice_get (answers_from shard place tables state items) k
 same_answer shard place tables state [] more k low = absurd (omega (arith, low))

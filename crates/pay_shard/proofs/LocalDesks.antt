@@ -7,7 +7,7 @@ use Rattle.std.specs.Prelude.{if◌then◌else◌, IfSome}
 use Rattle.std.proofs.lemmas.List.{map-append}
 use Rattle.pay_rules.specs.InTurn.{IsIn}
 use Rattle.pay_tables.specs.Words.{FareTables}
-use Rattle.pay_shard.specs.Desks.{IsAfterAll, IsNoneOf, without, command_under, IsReplyTo, AreKept}
+use Rattle.pay_shard.specs.Desks.{IsAfterAll, IsNoneOf, without, command_under, IsReplyTo, NothingIsLost}
 use Rattle.pay_shard.specs.LocalParts.{commands_of, transcript_of, AreInPlace, AreBelow, IsTaken, tickets_of, AreDistinct, AreOfRun, answers_without, IsLocal}
 use Rattle.pay_shard.specs.Machine.{item_step}
 use Rattle.pay_shard.specs.Runs.{answer_at, answers_from}
@@ -226,7 +226,7 @@ within (x ∷ list) (suc place) a e = let rest = within list place a e in omega 
 answers_with : (s : ShardParts) (item : Item) (room : ℕ) → answers_given (with_item s item room) ≡ answers_given s ++ next_answer s item ∷ []
 answers_with s item room = answers_more s.number s.tables s.base s.journal item
 
-answers_kept : (s : ShardParts) (item : Item) (room : ℕ) → AreKept (transcript_of s) (transcript_of (with_item s item room))
+answers_kept : (s : ShardParts) (item : Item) (room : ℕ) → NothingIsLost (transcript_of s) (transcript_of (with_item s item room))
 answers_kept s item room ticket a e = ap (λ l. slice_get l ticket) (answers_with s item room) ∙ still_there (answers_given s) (next_answer s item ∷ []) ticket a e
 
 next_stands : (s : ShardParts) (item : Item) (room : ℕ) → transcript_of (with_item s item room) (length s.journal) ≡ Some (next_answer s item)
@@ -326,7 +326,7 @@ module _ (s reserved after : ShardParts) (entry : Entry) (mark : Bool) (room lat
         answered = (λ i. transcript_of (is_more i) (place i)) ∙ next_stands s item later_room;
       }
 
-  pub answers_after_put : AreKept (transcript_of s) (transcript_of after)
+  pub answers_after_put : NothingIsLost (transcript_of s) (transcript_of after)
   answers_after_put ticket a e = ap (λ t. transcript_of t ticket) is_more ∙ answers_kept s (item_of entry mark) later_room ticket a e
 
 -- ---- a desk begins

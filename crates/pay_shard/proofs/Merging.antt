@@ -165,14 +165,14 @@ merged_replies tables of each whole (m ∷ merged) is are shard =
     rest : List Reply
     rest = (run tables (item_step tables whole m.1).after (all_items merged)).replies
 
-    behind : List (ℕ × Reply)
-    behind = filter (λ (r : ℕ × Reply). r.0 == shard) (zip (map (λ (m : ℕ × Item). m.0) merged) rest)
+    beyond : List (ℕ × Reply)
+    beyond = filter (λ (r : ℕ × Reply). r.0 == shard) (zip (map (λ (m : ℕ × Item). m.0) merged) rest)
 
     mine : List (ℕ × Item)
     mine = filter (λ (m : ℕ × Item). m.0 == shard) merged
 
     by : (b : Bool) → (m.0 == shard) ≡ b → replies_of shard merged rest ≡ (run tables (if b then (item_step tables (each shard) m.1).after else each shard) (items_of shard merged)).replies
-        → map (λ (r : ℕ × Reply). r.1) (cond b ((m.0, (item_step tables whole m.1).reply) ∷ behind) behind) ≡ (run tables (each shard) (map (λ (m : ℕ × Item). m.1) (cond b (m ∷ mine) mine))).replies
+        → map (λ (r : ℕ × Reply). r.1) (cond b ((m.0, (item_step tables whole m.1).reply) ∷ beyond) beyond) ≡ (run tables (each shard) (map (λ (m : ℕ × Item). m.1) (cond b (m ∷ mine) mine))).replies
     by true here later =
         let same : m.0 ≡ shard = eqb-true m.0 shard here in
         let reply = (one_alike tables of each whole m is are.0).reply ∙ ap (λ n. (item_step tables (each n) m.1).reply) same in
@@ -193,7 +193,7 @@ pub merged_histories : (tables : FareTables) (of : ℕ) (each : ℕ → State) (
     → ((shard : ℕ) → IsHistory tables (each shard) (items_of shard merged)) → IsHistory tables whole (all_items merged)
 merged_histories tables of each whole [] is are histories = tt
 merged_histories tables of each whole (m ∷ merged) is are histories =
-    (rightly, merged_histories tables of (after_one tables each m) (item_step tables whole m.1).after merged (whole_after tables of each whole m is are.0) are.1 (λ n. behind n (m.0 == n) (histories n)))
+    (rightly, merged_histories tables of (after_one tables each m) (item_step tables whole m.1).after merged (whole_after tables of each whole m is are.0) are.1 (λ n. beyond n (m.0 == n) (histories n)))
   where
     mine : ℕ → List (ℕ × Item)
     mine n = filter (λ (m : ℕ × Item). m.0 == n) merged
@@ -207,6 +207,6 @@ merged_histories tables of each whole (m ∷ merged) is are histories =
         ap is_refusal ((step_alike of m.0 tables whole (each m.0) m.1.entry.command are.0 (its_own of each whole m.0 is)).reply)
         ∙ own (m.0 == m.0) (eq-eqb m.0 m.0 refl) (histories m.0) marked
 
-    behind : (n : ℕ) (b : Bool) → IsHistory tables (each n) (map (λ (m : ℕ × Item). m.1) (cond b (m ∷ mine n) (mine n))) → IsHistory tables (if b then (item_step tables (each n) m.1).after else each n) (items_of n merged)
-    behind n true history = history.1
-    behind n false history = history
+    beyond : (n : ℕ) (b : Bool) → IsHistory tables (each n) (map (λ (m : ℕ × Item). m.1) (cond b (m ∷ mine n) (mine n))) → IsHistory tables (if b then (item_step tables (each n) m.1).after else each n) (items_of n merged)
+    beyond n true history = history.1
+    beyond n false history = history

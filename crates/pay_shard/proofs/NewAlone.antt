@@ -76,14 +76,14 @@ stay_new tables state items = subst (λ (r : Run). AreAllNew r.replies) (sym (ru
 
 -- ---- where a journal goes on
 
-one_behind : (b : Bool) (item : Item) (all first more : List Item) → all ≡ first ++ more → (if b then item ∷ all else all) ≡ (if b then item ∷ first else first) ++ more
-one_behind true item all first more e = ap (λ l. item ∷ l) e
-one_behind false item all first more e = e
+one_after : (b : Bool) (item : Item) (all first more : List Item) → all ≡ first ++ more → (if b then item ∷ all else all) ≡ (if b then item ∷ first else first) ++ more
+one_after true item all first more e = ap (λ l. item ∷ l) e
+one_after false item all first more e = e
 
-pub stand_behind : (tables : FareTables) (state : State) (items more : List Item)
+pub stand_after : (tables : FareTables) (state : State) (items more : List Item)
     → new_items tables state (items ++ more) ≡ new_items tables state items ++ new_items tables (replay tables state items) more
-stand_behind tables state [] more = refl
-stand_behind tables state (item ∷ items) more =
+stand_after tables state [] more = refl
+stand_after tables state (item ∷ items) more =
     let next = (item_step tables state item).after in
-    one_behind (is_new (item_step tables state item).reply) item (new_items tables next (items ++ more)) (new_items tables next items)
-    (new_items tables (replay tables next items) more) (stand_behind tables next items more)
+    one_after (is_new (item_step tables state item).reply) item (new_items tables next (items ++ more)) (new_items tables next items)
+    (new_items tables (replay tables next items) more) (stand_after tables next items more)

@@ -58,8 +58,8 @@ pub record IsReplyTo (ticket : ℕ) (taken : List (ℕ × Asked)) (transcript : 
   pub told : answer.reply ≡ reply
 
 -- no answer of a transcript is lost or changed
-abbrev pub AreKept : (ℕ → Option Answer) → (ℕ → Option Answer) → Type 0
-AreKept before after = (ticket : ℕ) (answer : Answer) → before ticket ≡ Some answer → after ticket ≡ Some answer
+abbrev pub NothingIsLost : (ℕ → Option Answer) → (ℕ → Option Answer) → Type 0
+NothingIsLost before after = (ticket : ℕ) (answer : Answer) → before ticket ≡ Some answer → after ticket ≡ Some answer
 
 -- the middle one of three
 middle_one : without 5 (3 ∷ 5 ∷ 8 ∷ []) ≡ 3 ∷ 8 ∷ []

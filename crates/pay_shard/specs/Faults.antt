@@ -3,7 +3,7 @@ use Rattle.pay_rules.specs.declared.fares.TapFault.{TapFault}
 use Rattle.pay_rules.specs.declared.fares.TapFault.TheVariants as of_tap
 use Rattle.pay_rules.specs.declared.fares.FixFault.{FixFault}
 use Rattle.pay_rules.specs.declared.fares.FixFault.TheVariants as of_fix
-use Rattle.pay_shard.specs.declared.refusal.Refusal.TheVariants as refusal
+use Rattle.pay_shard.specs.declared.refusal.ShardRefusal.TheVariants as refusal
 use Rattle.pay_shard.specs.declared.reply.Reply.{Reply}
 use Rattle.pay_shard.specs.declared.reply.Reply.TheVariants as replies
 

@@ -83,9 +83,9 @@ NewStayNew = (tables : FareTables) (base : State) (items : List Item) → AreAll
 abbrev pub OthersChangeNothing : Type 0
 OthersChangeNothing = (tables : FareTables) (state : State) (item : Item) → is_new (item_step tables state item).reply ≡ false → (item_step tables state item).after ≡ state
 
--- where a journal goes on, those that are newly accepted then stand behind those of before
-abbrev pub NewStandBehind : Type 0
-NewStandBehind = (tables : FareTables) (base : State) (items more : List Item)
+-- where a journal goes on, those that are newly accepted then stand after those of before
+abbrev pub NewStandAfter : Type 0
+NewStandAfter = (tables : FareTables) (base : State) (items more : List Item)
     → new_items tables base (items ++ more) ≡ new_items tables base items ++ new_items tables (replay tables base items) more
 
 -- ---- desks

@@ -7,7 +7,7 @@ use Rattle.pay_shard.specs.Machine.{item_step}
 use Rattle.pay_shard.specs.declared.asked.Asked.TheVariants as asked
 use Rattle.pay_shard.specs.declared.item.Entry.{Entry}
 use Rattle.pay_shard.specs.declared.item.Item.{Item}
-use Rattle.pay_shard.specs.declared.refusal.Refusal.TheVariants as refusal
+use Rattle.pay_shard.specs.declared.refusal.ShardRefusal.TheVariants as refusal
 use Rattle.pay_shard.specs.declared.reply.Reply.{Reply}
 use Rattle.pay_shard.specs.declared.reply.Reply.TheVariants as replies
 

@@ -10,7 +10,7 @@ unfoldable pub use Rattle.pay_shard.specs.Held.{state_of}
 pub use Rattle.pay_shard.specs.ShardParts.{ShardParts, shard_code, state_now, answers_given, next_answer, item_of, with_items, with_item, with_room}
 pub use Rattle.pay_shard.specs.Changes.{is_priced, AreAllPriced, asked_by, AreUnmarked, accepted_asked}
 pub use Rattle.pay_shard.specs.Merges.{items_of, all_items, replies_of, IsAskedOf, AreAskedOf, IsWhole}
-pub use Rattle.pay_shard.specs.Desks.{Standing, with_waiting, DeskParts, IsForShards, IsAfterAll, IsNoneOf, without, command_under, IsReplyTo, AreKept}
-pub use Rattle.pay_shard.specs.Laws.{MergeRepliesAsShards, MergeEndsAsShards, MergeIsHistory, AnswersHaveReplies, AnswersStandAtPlaces, AskedAlikeEndsAlike, AcceptedAlikeEndsAlike, NewRunAlone, NewStayNew, OthersChangeNothing, NewStandBehind, ReplayGoesOn, FrontHasReply, LastCommandIsUnderTicket, LastTicketWaits, StandsAsBefore}
+pub use Rattle.pay_shard.specs.Desks.{Standing, with_waiting, DeskParts, IsForShards, IsAfterAll, IsNoneOf, without, command_under, IsReplyTo, NothingIsLost}
+pub use Rattle.pay_shard.specs.Laws.{MergeRepliesAsShards, MergeEndsAsShards, MergeIsHistory, AnswersHaveReplies, AnswersStandAtPlaces, AskedAlikeEndsAlike, AcceptedAlikeEndsAlike, NewRunAlone, NewStayNew, OthersChangeNothing, NewStandAfter, ReplayGoesOn, FrontHasReply, LastCommandIsUnderTicket, LastTicketWaits, StandsAsBefore}
 pub use Rattle.pay_shard.specs.LocalParts.{LocalParts, local_code, commands_of, transcript_of, desk_parts, AreInPlace, AreBelow, IsTaken}
 pub use Rattle.pay_shard.specs.NewItems.{is_new, AreAllNew, new_items}

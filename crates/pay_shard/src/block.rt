@@ -10,11 +10,11 @@ pub(crate) const BLOCK_ITEMS: usize = 1_024;
 
 /// A block of a journal. In a contract it is its items.
 #[derive(Drop)]
-pub struct Block {
+pub struct JournalBlock {
     items: Vec<Item>,
 }
 
-impl Model for Block {
+impl Model for JournalBlock {
     ghost use Rattle.std.specs.Prelude.{◌≤◌, List};
     ghost use Rattle.std.specs.Vec.{vec_capacity};
     ghost use Rattle.pay_shard.specs.declared.item.Item.{Item};
@@ -27,12 +27,12 @@ impl Model for Block {
     ghost invariant = { λ b. BLOCK_ITEMS ≤ vec_capacity b.items };
 }
 
-impl Block {
+impl JournalBlock {
     /// With no items, and memory for all that it may have.
-    pub(crate) fn new(alloc: Global) -> Result<Block, AllocError>
+    pub(crate) fn new(alloc: Global) -> Result<JournalBlock, AllocError>
         ensures { IfOk result (λ block. block ≡ []) }
     {
-        Ok(Block {
+        Ok(JournalBlock {
             items: Vec::with_capacity(alloc, BLOCK_ITEMS)?,
         })
     }

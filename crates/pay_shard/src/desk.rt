@@ -2,7 +2,7 @@ ghost use Rattle.std.specs.Prelude.{◌≡◌, ◌≤◌, [], ◌∷◌, ◌++�
 ghost use Rattle.pay_rules.specs.InTurn.{IsIn};
 ghost use Rattle.pay_shard.specs.declared.desk.DeskFault.TheVariants.{Late};
 ghost use Rattle.pay_shard.specs.declared.limits.TheConstants.{MOST_SHARDS};
-ghost use Rattle.pay_shard.specs.Desks.{DeskParts, with_waiting, IsForShards, IsAfterAll, IsNoneOf, without, IsReplyTo, AreKept};
+ghost use Rattle.pay_shard.specs.Desks.{DeskParts, with_waiting, IsForShards, IsAfterAll, IsNoneOf, without, IsReplyTo, NothingIsLost};
 
 use crate::command::Command;
 use crate::reply::Reply;
@@ -66,7 +66,7 @@ pub trait Desk: Drop {
         ensures not_added { OnErr result ((parts self.new).taken ≡ (parts self.old).taken) }
         ensures none_waits { OnErr result ((parts self.new).standing ≡ (parts self.old).standing) }
         ensures refused { IfErr result (λ fault. (parts self.old).MayRefuse fault) }
-        ensures transcript { AreKept (parts self.old).transcript (parts self.new).transcript };
+        ensures transcript { NothingIsLost (parts self.old).transcript (parts self.new).transcript };
 
     /// Gives the reply to a command by its ticket, once: that of the ticket's answer, which is to that command. Its one fault is
     /// `Late`, and then the reply is not given any more.
@@ -76,5 +76,5 @@ pub trait Desk: Drop {
         ensures late { IfErr result (λ fault. (fault ≡ Late) × (parts self.old).MayBeLate) }
         ensures got { (parts self.new).standing ≡ with_waiting (without ticket (parts self.old).standing.waiting) (parts self.old).standing }
         ensures none_added { (parts self.new).taken ≡ (parts self.old).taken }
-        ensures transcript { AreKept (parts self.old).transcript (parts self.new).transcript };
+        ensures transcript { NothingIsLost (parts self.old).transcript (parts self.new).transcript };
 }

@@ -3,7 +3,7 @@ ghost use Rattle.std.specs.Option.{option_map};
 ghost use Rattle.pay_shard.specs.declared.block.TheConstants.{BLOCK_ITEMS};
 ghost use Rattle.pay_shard.specs.JournalParts.{all_in};
 
-use crate::block::{BLOCK_ITEMS, Block};
+use crate::block::{BLOCK_ITEMS, JournalBlock};
 use crate::item::Item;
 use std::alloc::{AllocError, Global};
 use std::default::MadeWith;
@@ -18,7 +18,7 @@ const MOST_BLOCKS: usize = usize::MAX / BLOCK_ITEMS;
 pub struct Journal {
     alloc: Global,
     // Full ones, the one that is filled, and empty ones.
-    blocks: Vec<Block>,
+    blocks: Vec<JournalBlock>,
     // How many items they have.
     len: usize,
 }
@@ -44,7 +44,7 @@ impl MadeWith<Global> for Journal {
 }
 
 /// The block of a number.
-fn block_at(blocks: &[Block], number: usize) -> Option<&Block>
+fn block_at(blocks: &[JournalBlock], number: usize) -> Option<&JournalBlock>
     ensures { option_map (λ block. block.now) result ≡ slice_get blocks.now number }
 {
     blocks.get(number)
@@ -92,7 +92,7 @@ impl Journal {
         if self.blocks.len() >= MOST_BLOCKS {
             return Err(AllocError);
         }
-        let block = Block::new(self.alloc)?;
+        let block = JournalBlock::new(self.alloc)?;
         self.blocks.push(block)?;
         Ok(())
     }
@@ -131,7 +131,7 @@ impl Journal {
     }
 
     /// The blocks, whose items, one block after another, are all.
-    pub fn blocks(&self) -> &[Block]
+    pub fn blocks(&self) -> &[JournalBlock]
         ensures { all_in result.now ≡ self.now.items }
     {
         &self.blocks

@@ -1,7 +1,7 @@
 //! What several shards come to, what order has no effect on, what the newly accepted items come to by themselves, and what a desk
 //! comes to that gave a reply at once. Each law is the contract of a function that does nothing: a caller whose proof needs a law
 //! calls its function.
-ghost use Rattle.pay_shard.specs.Laws.{MergeRepliesAsShards, MergeEndsAsShards, MergeIsHistory, AnswersHaveReplies, AnswersStandAtPlaces, AskedAlikeEndsAlike, AcceptedAlikeEndsAlike, NewRunAlone, NewStayNew, OthersChangeNothing, NewStandBehind, ReplayGoesOn, FrontHasReply, LastCommandIsUnderTicket, LastTicketWaits, StandsAsBefore};
+ghost use Rattle.pay_shard.specs.Laws.{MergeRepliesAsShards, MergeEndsAsShards, MergeIsHistory, AnswersHaveReplies, AnswersStandAtPlaces, AskedAlikeEndsAlike, AcceptedAlikeEndsAlike, NewRunAlone, NewStayNew, OthersChangeNothing, NewStandAfter, ReplayGoesOn, FrontHasReply, LastCommandIsUnderTicket, LastTicketWaits, StandsAsBefore};
 
 use crate::desk::Desk;
 
@@ -22,7 +22,7 @@ pub fn answers_of_run()
 {}
 
 /// What comes of a journal's items goes on from what came of the first of them, and a reply to one of these is the same
-/// whatever stands behind them.
+/// whatever stands after them.
 pub fn fronts()
     ensures replayed { ReplayGoesOn }
     ensures reply { FrontHasReply }
@@ -53,8 +53,8 @@ pub fn accepted_alone()
     // The others change nothing.
     ensures others { OthersChangeNothing }
 
-    // Where a journal goes on, those that are newly accepted then stand behind those of before.
-    ensures behind { NewStandBehind }
+    // Where a journal goes on, those that are newly accepted then stand after those of before.
+    ensures after { NewStandAfter }
 {}
 
 /// A command that a desk took last is the one under its ticket, and waits for its reply; once this is got, the desk stands as

@@ -24,13 +24,13 @@ mod ticket;
 
 pub use asked::Asked;
 pub use batch::Batch;
-pub use block::Block;
+pub use block::JournalBlock;
 pub use command::Command;
 pub use desk::{Desk, DeskFault};
 pub use item::{Entry, Item};
 pub use journal::Journal;
 pub use local_desk::LocalDesk;
-pub use refusal::Refusal;
+pub use refusal::ShardRefusal;
 pub use reply::{Answer, Reply};
 pub use shard::Shard;
 pub use ticket::Ticket;

@@ -7,7 +7,7 @@ ghost use Rattle.std.specs.Vec.{vec_capacity, vec_len};
 ghost use Rattle.pay_rules.specs.InTurn.{IsIn};
 ghost use Rattle.pay_rules.specs.State.{ArePriced};
 ghost use Rattle.pay_shard.specs.Held.{state_of};
-ghost use Rattle.pay_shard.specs.Desks.{with_waiting, without, IsForShards, IsAfterAll, IsNoneOf, IsReplyTo, AreKept};
+ghost use Rattle.pay_shard.specs.Desks.{with_waiting, without, IsForShards, IsAfterAll, IsNoneOf, IsReplyTo, NothingIsLost};
 ghost use Rattle.pay_shard.specs.declared.desk.DeskFault.TheVariants.{Late};
 ghost use Rattle.pay_shard.specs.LocalParts.{tickets_of, answers_without, transcript_of, desk_parts, AreInPlace, AreBelow, IsTaken};
 ghost use Rattle.pay_shard.specs.ShardParts.{with_room};
@@ -152,7 +152,7 @@ impl<F: Fares> Desk for LocalDesk<F> {
         ensures not_added { OnErr result ((desk_parts self.new).taken ≡ (desk_parts self.old).taken) }
         ensures none_waits { OnErr result ((desk_parts self.new).standing ≡ (desk_parts self.old).standing) }
         ensures refused { IfErr result (λ fault. (desk_parts self.old).MayRefuse fault) }
-        ensures transcript { AreKept (desk_parts self.old).transcript (desk_parts self.new).transcript }
+        ensures transcript { NothingIsLost (desk_parts self.old).transcript (desk_parts self.new).transcript }
         ensures item { IfOk result (λ ticket. IsTaken ticket command self.old.shard self.new.shard) }
         ensures same { OnErr result (self.new.shard ≡ with_room self.old.shard self.new.shard.room) }
     {
@@ -175,7 +175,7 @@ impl<F: Fares> Desk for LocalDesk<F> {
         ensures late { IfErr result (λ fault. (fault ≡ Late) × (desk_parts self.old).MayBeLate) }
         ensures got { (desk_parts self.new).standing ≡ with_waiting (without ticket (desk_parts self.old).standing.waiting) (desk_parts self.old).standing }
         ensures none_added { (desk_parts self.new).taken ≡ (desk_parts self.old).taken }
-        ensures transcript { AreKept (desk_parts self.old).transcript (desk_parts self.new).transcript }
+        ensures transcript { NothingIsLost (desk_parts self.old).transcript (desk_parts self.new).transcript }
         ensures same { self.new.shard ≡ self.old.shard }
     {
         Ok(take_out(&mut self.kept, ticket.number()))

@@ -2,7 +2,7 @@ use thiserror::Error;
 
 /// Why a tap or a correction is refused. Nothing changed.
 #[derive(Clone, Copy, Debug, PartialEq, Eq, Error)]
-pub enum Refusal {
+pub enum ShardRefusal {
     /// 15: the fare file has no such place, or one of another sort than the kind of tap needs.
     #[error("15 UnknownPlace")]
     UnknownPlace,

@@ -1,6 +1,6 @@
 use crate::batch::Batch;
 use crate::command::Command;
-use crate::refusal::Refusal;
+use crate::refusal::ShardRefusal;
 use pay_rules::{FixFault, Priced, Quote, Shown, TapFault};
 
 /// What is replied to a command.
@@ -9,7 +9,7 @@ pub enum Reply {
     /// To a tap or a correction that is accepted, or a repeat of one.
     Priced(Priced),
     /// To a tap or a correction that is refused.
-    No(Refusal),
+    No(ShardRefusal),
     /// What an account owes.
     Due(Quote),
     /// A service day of an account.
@@ -28,9 +28,9 @@ impl From<TapFault> for Reply {
 
     fn from(fault: TapFault) -> Reply {
         match fault {
-            TapFault::UnknownPlace => Reply::No(Refusal::UnknownPlace),
-            TapFault::Conflict => Reply::No(Refusal::Conflict),
-            TapFault::AccountFull => Reply::No(Refusal::AccountFull),
+            TapFault::UnknownPlace => Reply::No(ShardRefusal::UnknownPlace),
+            TapFault::Conflict => Reply::No(ShardRefusal::Conflict),
+            TapFault::AccountFull => Reply::No(ShardRefusal::AccountFull),
             TapFault::Memory => Reply::Memory,
         }
     }
@@ -44,9 +44,9 @@ impl From<FixFault> for Reply {
 
     fn from(fault: FixFault) -> Reply {
         match fault {
-            FixFault::UnknownPlace => Reply::No(Refusal::UnknownPlace),
-            FixFault::FixConflict => Reply::No(Refusal::FixConflict),
-            FixFault::FixesFull => Reply::No(Refusal::FixesFull),
+            FixFault::UnknownPlace => Reply::No(ShardRefusal::UnknownPlace),
+            FixFault::FixConflict => Reply::No(ShardRefusal::FixConflict),
+            FixFault::FixesFull => Reply::No(ShardRefusal::FixesFull),
             FixFault::Memory => Reply::Memory,
         }
     }

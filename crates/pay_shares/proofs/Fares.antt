@@ -117,13 +117,13 @@ next_fares journeys i fare one before after there is its so_far e =
 pub first_leg : (tables : FareTables) (fare given : ℕ) (run : LinkedLegs) (leg : Leg) (others : List Leg) (before after : List ℕ) → leg ≡ run.first → others ≡ run.others
     → given ≡ part fare (length others + 1) 0 → after ≡ with_portion before (portion tables leg.entry.place given)
     → with_portions after (map (leg_portion tables (length others + 1) fare) (enumerate_from 1 others)) ≡ with_portions before (leg_portions tables (all_legs run) fare)
-first_leg tables fare given run leg others before after first behind its e =
+first_leg tables fare given run leg others before after first beyond its e =
     let all : length others + 1 ≡ length (leg ∷ others) = omega arith in
     ap (λ (list : List ℕ). with_portions list (map (leg_portion tables (length others + 1) fare) (enumerate_from 1 others)))
     (e ∙ ap (λ (pence : ℕ). with_portion before (portion tables leg.entry.place pence)) its)
     ∙ ap (λ (count : ℕ). with_portions before (map (leg_portion tables count fare) (enumerate_from 0 (leg ∷ others)))) all
     ∙ ap (λ (one : Leg). with_portions before (leg_portions tables (one ∷ others) fare)) first
-    ∙ ap (λ (list : List Leg). with_portions before (leg_portions tables (run.first ∷ list) fare)) behind
+    ∙ ap (λ (list : List Leg). with_portions before (leg_portions tables (run.first ∷ list) fare)) beyond
 
 pub first_pence : ArePartsOfAll → (tables : FareTables) (fare given : ℕ) (leg : Leg) (others : List Leg) → given ≡ part fare (length others + 1) 0
     → given + sum_by pence (map (leg_portion tables (length others + 1) fare) (enumerate_from 1 others)) ≡ fare

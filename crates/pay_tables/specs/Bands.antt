@@ -51,8 +51,8 @@ a_zone_of_it = refl
 a_zone_before : covers 2 3 (from_to 1 3) ≡ false
 a_zone_before = refl
 
-a_zone_behind : covers 1 2 (from_to 2 3) ≡ false
-a_zone_behind = refl
+a_zone_after : covers 1 2 (from_to 2 3) ≡ false
+a_zone_after = refl
 
 none_by_bus : covers_span Buses (from_to 1 1) ≡ false
 none_by_bus = refl

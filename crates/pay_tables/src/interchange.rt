@@ -2,7 +2,7 @@ ghost use Rattle.std.specs.Prelude.{◌≡◌};
 ghost use Rattle.pay_tables.specs.FareTables.{is_between};
 
 /// Two stations between which a journey may go on.
-#[derive(Clone, Copy, Debug, PartialEq, Eq)]
+#[derive(Clone, Copy)]
 pub struct Interchange {
     /// The place number of one station.
     pub a: u16,

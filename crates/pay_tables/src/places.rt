@@ -7,7 +7,7 @@ use std::collections::BTreeMap;
 use std::marker::Model;
 
 /// Places by their numbers. In a contract it is that finite map.
-#[derive(Debug, Drop)]
+#[derive(Drop)]
 pub struct Places {
     numbers: BTreeMap<u16, Place>,
 }

@@ -1,7 +1,7 @@
 use pay_money::Pence;
 
 /// The prices and the times that hold for every journey.
-#[derive(Clone, Copy, Debug, PartialEq, Eq)]
+#[derive(Clone, Copy)]
 pub struct Rules {
     /// The fare of a bus tap that pays: 0 to 100,000 pence.
     pub bus: Pence,

@@ -2,7 +2,7 @@ use crate::zones::Span;
 use pay_money::Pence;
 
 /// The single fare of a span.
-#[derive(Clone, Copy, Debug, PartialEq, Eq)]
+#[derive(Clone, Copy)]
 pub struct Single {
     /// The zones that it is for.
     pub span: Span,

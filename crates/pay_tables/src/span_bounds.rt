@@ -6,7 +6,7 @@ use crate::place::Place;
 use crate::zones::Span;
 
 /// What bounds the span of the stations that a journey touches, of those so far.
-#[derive(Clone, Copy, Debug, PartialEq, Eq)]
+#[derive(Clone, Copy)]
 pub struct SpanBounds {
     /// The least of their higher zones.
     pub least_high: u8,

@@ -20,7 +20,7 @@ use pay_money::Pence;
 use std::marker::Model;
 
 /// What a fare file says.
-#[derive(Debug, Drop)]
+#[derive(Drop)]
 pub struct Tables {
     zones: u8,
     minutes: Vec<u32>,

@@ -77,23 +77,23 @@ in_front : (t : Touch) (list : List Touch) → AllByRecursion (λ y. comes_befor
 in_front t [] h = refl
 in_front t (o ∷ os) h = ap (λ b. cond b (o ∷ put_in t os) (t ∷ o ∷ os)) h.0
 
-all_behind : (t o : Touch) (os : List Touch) → comes_before o t ≡ false → AllByRecursion (λ y. comes_before y o ≡ false) os → AllByRecursion (λ y. comes_before y t ≡ false) os
-all_behind t o [] e h = tt
-all_behind t o (y ∷ ys) e h = (touches_ranked.chain y o t h.0 e, all_behind t o ys e h.1)
+all_after : (t o : Touch) (os : List Touch) → comes_before o t ≡ false → AllByRecursion (λ y. comes_before y o ≡ false) os → AllByRecursion (λ y. comes_before y t ≡ false) os
+all_after t o [] e h = tt
+all_after t o (y ∷ ys) e h = (touches_ranked.chain y o t h.0 e, all_after t o ys e h.1)
 
 some_with : (p : Touch → Bool) (t : Touch) (list : List Touch) → Rises comes_before list → filter p (put_in t list) ≡ cond (p t) (put_in t (filter p list)) (filter p list)
 some_with p t [] h = refl
 some_with p t (o ∷ os) h = elim (comes_before o t) as (λ b. comes_before o t ≡ b → filter p (cond b (o ∷ put_in t os) (t ∷ o ∷ os)) ≡ cond (p t) (put_in t (filter p (o ∷ os))) (filter p (o ∷ os))) [
-  | true ↦ λ e. ap (λ (l : List Touch). cond (p o) (o ∷ l) l) (some_with p t os h.1) ∙ behind e (p o) (p t)
-  | false ↦ λ e. ap (λ (l : List Touch). cond (p t) l (filter p (o ∷ os))) (sym (in_front t (filter p (o ∷ os)) (all_filter (λ y. comes_before y t ≡ false) p (o ∷ os) (e, all_behind t o os e h.0))))
+  | true ↦ λ e. ap (λ (l : List Touch). cond (p o) (o ∷ l) l) (some_with p t os h.1) ∙ beyond e (p o) (p t)
+  | false ↦ λ e. ap (λ (l : List Touch). cond (p t) l (filter p (o ∷ os))) (sym (in_front t (filter p (o ∷ os)) (all_filter (λ y. comes_before y t ≡ false) p (o ∷ os) (e, all_after t o os e h.0))))
 ] refl
   where
-    behind : comes_before o t ≡ true → (b c : Bool) → cond b (o ∷ cond c (put_in t (filter p os)) (filter p os)) (cond c (put_in t (filter p os)) (filter p os))
+    beyond : comes_before o t ≡ true → (b c : Bool) → cond b (o ∷ cond c (put_in t (filter p os)) (filter p os)) (cond c (put_in t (filter p os)) (filter p os))
         ≡ cond c (put_in t (cond b (o ∷ filter p os) (filter p os))) (cond b (o ∷ filter p os) (filter p os))
-    behind e true true = sym (ap (λ b. cond b (o ∷ put_in t (filter p os)) (t ∷ o ∷ filter p os)) e)
-    behind e true false = refl
-    behind e false true = refl
-    behind e false false = refl
+    beyond e true true = sym (ap (λ b. cond b (o ∷ put_in t (filter p os)) (t ∷ o ∷ filter p os)) e)
+    beyond e true false = refl
+    beyond e false true = refl
+    beyond e false false = refl
 
 pub some_with_one_more : SomeWithOneMore
 some_with_one_more p t list h = some_with p t list (rises_from_sorted comes_before touches_ranked list h)
@@ -172,11 +172,11 @@ place_found t (o ∷ os) (suc n) few h =
     ap suc (place_found t os n (omega arith) ((λ k d low lt. h.0 (suc k) d (omega arith) (omega arith)), (λ k d low lt. h.1 (suc k) d (omega arith) (omega arith))))
     ∙ sym (ap (λ b. cond b (suc (place_of t os)) 0) e)
 
--- behind the last there is none
-pub none_behind : (list : List Touch) (n : ℕ) → length list ≤ n → slice_get list n ≡ None
-none_behind [] n few = refl
-none_behind (o ∷ os) zero few = absurd (omega arith)
-none_behind (o ∷ os) (suc n) few = none_behind os n (omega arith)
+-- after the last there is none
+pub none_after : (list : List Touch) (n : ℕ) → length list ≤ n → slice_get list n ≡ None
+none_after [] n few = refl
+none_after (o ∷ os) zero few = absurd (omega arith)
+none_after (o ∷ os) (suc n) few = none_after os n (omega arith)
 
 -- what is there stands before the end
 pub is_within : (list : List Touch) (n : ℕ) (t : Touch) → slice_get list n ≡ Some t → n < length list

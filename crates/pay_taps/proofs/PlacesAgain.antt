@@ -27,7 +27,7 @@ same_without t (o ∷ os) h =
 there : {X : Type 0} (list : List X) (n : ℕ) (x d : X) → slice_get list n ≡ Some x → get_or list n d ≡ x
 there list n x d e = sym (unwrap_or-slice_get list n d) ∙ ap (λ o. unwrap_or o d) e
 
--- in order, the one behind does not come before it
+-- in order, the one after does not come before it
 not_before : (t : Touch) (list : List Touch) (n : ℕ) → IsInOrder list → slice_get list n ≡ Some t
     → (next : Touch) → slice_get list (suc n) ≡ Some next → comes_before next t ≡ false
 not_before t list n up here next e =

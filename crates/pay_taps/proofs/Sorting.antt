@@ -212,8 +212,8 @@ module _ {X : Type 0} (lt : X → X → Bool) where
     ties_meet : (z x y : X) → ties lt z x ≡ true → ties lt z y ≡ true → ties lt x y ≡ true
     ties_meet z x y a b =
         let before : lt x y ≡ false = o.chain x z y (both_false _ _ a).1 (both_false _ _ b).0 in
-        let behind : lt y x ≡ false = o.chain y z x (both_false _ _ b).1 (both_false _ _ a).0 in
-        ap (λ t. not t && not (lt y x)) before ∙ ap (λ t. true && not t) behind
+        let beyond : lt y x ≡ false = o.chain y z x (both_false _ _ b).1 (both_false _ _ a).0 in
+        ap (λ t. not t && not (lt y x)) before ∙ ap (λ t. true && not t) beyond
 
     none_meet : (z x : X) (xs : List X) → ties lt z x ≡ true → AllByRecursion (λ y. ties lt x y ≡ false) xs → filter (ties lt z) xs ≡ []
     none_meet z x [] t h = refl

@@ -76,7 +76,7 @@ bus_tap filled utc seq = record { filled = filled; first = 1; second = seq; stam
 two_taps : List Touch
 two_taps = bus_tap false 1_704_697_200 1 ∷ bus_tap false 1_704_700_200 2 ∷ []
 
--- before all, between the two, behind all
+-- before all, between the two, after all
 before_all : place_of (bus_tap false 1_704_696_200 4) two_taps ≡ 0
 unfolding two_taps bus_tap
 before_all = refl
@@ -85,18 +85,18 @@ between_two : place_of (bus_tap false 1_704_698_200 4) two_taps ≡ 1
 unfolding two_taps bus_tap
 between_two = refl
 
-behind_all : place_of (bus_tap false 1_704_700_201 4) two_taps ≡ 2
+after_all : place_of (bus_tap false 1_704_700_201 4) two_taps ≡ 2
 unfolding two_taps bus_tap
-behind_all = refl
+after_all = refl
 
--- at its own place, and in one second behind an accepted tap where it is filled in, though its number is lower
+-- at its own place, and in one second after an accepted tap where it is filled in, though its number is lower
 at_its_place : place_of (bus_tap false 1_704_700_200 2) two_taps ≡ 1
 unfolding two_taps bus_tap
 at_its_place = refl
 
-behind_accepted : place_of (bus_tap true 1_704_700_200 1) two_taps ≡ 2
+after_accepted : place_of (bus_tap true 1_704_700_200 1) two_taps ≡ 2
 unfolding two_taps bus_tap
-behind_accepted = refl
+after_accepted = refl
 
 -- before the first is none
 none_before : touch_before two_taps 0 ≡ None

@@ -6,7 +6,7 @@ use std::marker::Model;
 
 /// How many taps were read of timelines: one more for each tap that `Timeline` answers. At the greatest value
 /// of its type it stays there. In a contract it is that number.
-#[derive(Clone, Copy, Debug, PartialEq, Eq)]
+#[derive(Clone, Copy)]
 pub struct Steps {
     count: u64,
 }

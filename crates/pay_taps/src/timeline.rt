@@ -138,7 +138,7 @@ impl Timeline {
         self.at(place - 1, steps)
     }
 
-    /// The tap right behind a place.
+    /// The tap right after a place.
     pub fn after(&self, place: usize, steps: &mut Steps) -> Option<Touch>
         ensures value { result ≡ slice_get self.now.touches (suc place) }
         ensures steps { steps.new ≡ counted result steps.old }

@@ -1,7 +1,7 @@
 -- A desk that tells want of memory where another desk replies.
 use Rattle.std.proofs.Common.{◌≡◌, ℕ, List, Option, Some, None, refl, ap, ◌∙◌}
 use Rattle.std.specs.Option.{option_map}
-use Rattle.pay_shard.specs.Words.{IsReplyTo, AreKept}
+use Rattle.pay_shard.specs.Words.{IsReplyTo, NothingIsLost}
 use Rattle.pay_shard.specs.declared.asked.Asked.{Asked}
 use Rattle.pay_shard.specs.declared.reply.Answer.{Answer}
 use Rattle.pay_shard.specs.declared.reply.Reply.{Reply}
@@ -11,7 +11,7 @@ use Rattle.pay_shard.specs.declared.reply.Reply.TheVariants.{Memory}
 abbrev lacking : Answer → Answer
 lacking a = record { shard = a.shard; place = a.place; ticket = a.ticket; command = a.command; reply = Memory }
 
-pub kept_lacking : (old new : ℕ → Option Answer) → AreKept old new → AreKept (λ t. option_map lacking (old t)) (λ t. option_map lacking (new t))
+pub kept_lacking : (old new : ℕ → Option Answer) → NothingIsLost old new → NothingIsLost (λ t. option_map lacking (old t)) (λ t. option_map lacking (new t))
 kept_lacking old new kept ticket answer e = by (old ticket) refl e
   where
     by : (o : Option Answer) → old ticket ≡ o → option_map lacking o ≡ Some answer → option_map lacking (new ticket) ≡ Some answer

@@ -20,7 +20,7 @@ pub fn empty_account<R: Abort + AllocGlobal, F: Fares>(rt: &R, tables: &Tables) 
 }
 
 // What follows asks again if memory runs out once: `rt try --test --fail-alloc N` runs the test with each
-// allocation behind those of the fare file failing in turn.
+// allocation after those of the fare file failing in turn.
 
 /// The result of a tap.
 fn sent<F: Fares>(account: &mut F, tables: &Tables, tap: &Tap) -> Result<Priced, TapFault>

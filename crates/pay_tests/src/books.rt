@@ -13,7 +13,7 @@ use pay_book::{Book, Sent, book_of};
 use pay_day::Moment;
 use pay_money::Pence;
 use pay_rules::{Credit, Fix, Kind, Tap, What};
-use pay_shard::{Asked, Refusal, Reply, Shard};
+use pay_shard::{Asked, Reply, Shard, ShardRefusal};
 use pay_tables::Tables;
 use std::alloc::AllocError;
 use std::process::Abort;
@@ -236,7 +236,7 @@ fn expect_boarding<R: Abort, F: Fares>(
     expect_same(rt, result, told(again, 175));
 }
 
-// A first boarding has none to read, one behind it reads the last that paid, and a repeat reads none.
+// A first boarding has none to read, one after it reads the last that paid, and a repeat reads none.
 #[test]
 fn reads_few_taps(rt: HostRuntime) {
     let tables = sample(&rt);
@@ -496,7 +496,7 @@ fn item<R: Abort>(rt: &R, history: u32, place: u32) -> Asked {
 }
 
 /// What is told of prices, or why it is refused.
-fn told_of(reply: &Reply) -> (Option<Priced>, Option<Refusal>) {
+fn told_of(reply: &Reply) -> (Option<Priced>, Option<ShardRefusal>) {
     (priced(reply), refusal(reply))
 }
 
@@ -618,7 +618,7 @@ fn void_of_second() -> Sent
     })
 }
 
-// Two boardings an hour and more apart, of which one is taken out, behind it or before it comes.
+// Two boardings an hour and more apart, of which one is taken out, after it or before it comes.
 #[test]
 fn one_book_in_whatever_order(rt: HostRuntime) {
     let tables = sample(&rt);

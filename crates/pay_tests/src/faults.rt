@@ -87,11 +87,11 @@ fn prints_why_an_account_or_a_shard_refuses(rt: HostRuntime) {
     expect_printed(
         &rt,
         &[
-            (pay_shard::Refusal::UnknownPlace, "15 UnknownPlace"),
-            (pay_shard::Refusal::Conflict, "20 Conflict"),
-            (pay_shard::Refusal::AccountFull, "21 AccountFull"),
-            (pay_shard::Refusal::FixConflict, "22 FixConflict"),
-            (pay_shard::Refusal::FixesFull, "23 FixesFull"),
+            (pay_shard::ShardRefusal::UnknownPlace, "15 UnknownPlace"),
+            (pay_shard::ShardRefusal::Conflict, "20 Conflict"),
+            (pay_shard::ShardRefusal::AccountFull, "21 AccountFull"),
+            (pay_shard::ShardRefusal::FixConflict, "22 FixConflict"),
+            (pay_shard::ShardRefusal::FixesFull, "23 FixesFull"),
         ],
     );
     expect_printed(

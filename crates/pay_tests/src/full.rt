@@ -21,7 +21,7 @@ route = [{ place = 50, operator = 4 }]
 rules = { bus = 100000, maximum = 0, hopper = 1, same_free = 0, same_limit = 0 }
 ";
 
-/// The boarding of a number, two seconds behind the one before.
+/// The boarding of a number, two seconds after the one before.
 fn boarding<R: Abort>(rt: &R, number: u32) -> Tap {
     let second = number.saturating_mul(2).saturating_add(25_200);
     tap_at(rt, number, second, 50, Kind::Bus)

@@ -1,4 +1,4 @@
-//! A journal over several blocks: each item at its place, and none behind the last.
+//! A journal over several blocks: each item at its place, and none after the last.
 
 ghost use Rattle.std.specs.Prelude.{◌≤◌};
 

@@ -107,7 +107,7 @@ static CASES: [Case; 10] = [
     ((19_730, 19_731, 860, 860), (11, 2, 4_000_000_001), BAD),
     // No sum of the shares.
     ((19_730, 19_731, 861, 860), (11, 2, 267), BAD),
-    // The last service day and the day behind it, both of the week of day 49,998.
+    // The last service day and the day after it, both of the week of day 49,998.
     ((49_998, 50_000, 860, 860), (11, 2, 267), Ok(1)),
     ((49_998, 50_001, 860, 860), (11, 2, 267), BAD),
 ];
@@ -197,7 +197,7 @@ fn sent<R: Abort + AllocGlobal>(rt: &R, taps: &[Tap], fixes: &[Fix]) -> Sets {
 }
 
 /// What is to be written for sets of account 7 beside an archived tap and an archived correction.
-fn batch<R: Abort + AllocGlobal>(rt: &R, sets: Sets) -> Result<Batch, PostFault> {
+fn batch<R: Abort + AllocGlobal>(rt: &R, sets: Sets) -> Result<PostingBatch, PostFault> {
     let mut archived = Archived {
         posted: Posted::new(rt.alloc()),
         taps: Vec::new(rt.alloc()),
@@ -206,7 +206,7 @@ fn batch<R: Abort + AllocGlobal>(rt: &R, sets: Sets) -> Result<Batch, PostFault>
     archived.taps.push(TAPPED).expect(rt, "memory");
     let void = row_of(0, (5, 6, 0, 0, 0));
     archived.fixes.push(void).expect(rt, "memory");
-    let mut accounts = Accounts::new(rt.alloc());
+    let mut accounts = LedgerAccounts::new(rt.alloc());
     accounts.add(7, archived).expect(rt, "memory");
     expect_same(rt, (accounts.has(7), accounts.has(8)), (true, false));
     accounts.post(rt.alloc(), &[], &[sets])

@@ -45,7 +45,7 @@ fn expect_posted<R: Abort>(rt: &R, postings: &mut Posted, row: &(Named, Due, Out
     expect_same(rt, (given, postings.as_slice().len(), net), row.2);
 }
 
-/// The Monday behind that of the other tests.
+/// The Monday after that of the other tests.
 const NEXT: u32 = 19_737;
 
 /// Refused, since version 2 was posted through the Monday.

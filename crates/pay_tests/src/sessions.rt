@@ -75,7 +75,7 @@ fn expect_written<H: Abort>(rt: &H, writer: &Scripted<'_>, replies: usize, bytes
     assert!(rt; REPLIES.as_bytes().starts_with(&writer.held));
 }
 
-/// A reader that fails behind so many bytes: the replies to the whole lines before are written.
+/// A reader that fails after so many bytes: the replies to the whole lines before are written.
 fn expect_read_fault<H: Abort + AllocGlobal>(rt: &H, until: usize, replies: u32, bytes: usize) {
     let mut reader = Trickle {
         until,
@@ -159,7 +159,7 @@ fn stops_where_the_writer_fails(rt: HostRuntime) {
     }
 }
 
-/// The flush behind so many replies fails.
+/// The flush after so many replies fails.
 fn expect_flush_fault<H: Abort + AllocGlobal>(rt: &H, replies: u32, bytes: usize) {
     let writer = Scripted {
         most_flushes: replies as usize,
@@ -182,7 +182,7 @@ fn stops_where_the_writer_fails_once(rt: HostRuntime) {
     expect_write_fault(&rt, Scripted::new(rt.alloc(), &steps), 1, 17);
 }
 
-/// A session that writes so many bytes in so many replies, the last of which is flushed behind them all.
+/// A session that writes so many bytes in so many replies, the last of which is flushed after them all.
 fn expect_flushed<H: Abort + AllocGlobal>(rt: &H, mut input: &[u8], replies: usize, bytes: usize) {
     let mut writer = Scripted::new(rt.alloc(), &[]);
     assert!(rt; serve(rt, &mut input, &mut writer).is_ok());

@@ -9,7 +9,7 @@ use pay_account::Account;
 use pay_book::Book;
 use pay_money::Pence;
 use pay_rules::{Fares, Fix, Kind, Priced, Quote, Tap, What};
-use pay_shard::{Asked, Batch, Command, Entry, Refusal, Reply, Shard};
+use pay_shard::{Asked, Batch, Command, Entry, Reply, Shard, ShardRefusal};
 use pay_tables::Tables;
 use std::process::Abort;
 use std::sync::Arc;
@@ -53,7 +53,7 @@ pub fn day_price(reply: &Reply) -> Option<u64> {
 }
 
 /// Why a reply refuses.
-pub fn refusal(reply: &Reply) -> Option<Refusal> {
+pub fn refusal(reply: &Reply) -> Option<ShardRefusal> {
     match reply {
         Reply::No(why) => Some(*why),
         _ => None,
@@ -108,7 +108,7 @@ fn expect_answers<R: Abort, F: Fares>(rt: &R, shard: &mut Shard<F>) {
     expect_price(rt, shard, tap_of(7, second), 175);
     let other = tap_at(rt, 1, 25_200, 10, Kind::In);
     let refused = reply(rt, shard, tap_of(7, other));
-    expect_same(rt, refusal(&refused), Some(Refusal::Conflict));
+    expect_same(rt, refusal(&refused), Some(ShardRefusal::Conflict));
     let void = Asked::Fix(Fix {
         account: 7,
         staff: 3,

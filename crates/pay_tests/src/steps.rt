@@ -1,7 +1,7 @@
 //! How many stored taps an account that is kept reads for a command, where it has many: at most 64, and four for each
 //! tap that the command disturbs, by hand. By the sample fare file.
 
-ghost use Rattle.pay_book.specs.Stored.{IsKept};
+ghost use Rattle.pay_book.specs.Stored.{IsConsistent};
 
 use crate::accounts::empty_account;
 use crate::given::{MONDAY, expect_same, sample};
@@ -39,8 +39,8 @@ fn is_taken<F: Fares>(account: &mut F, tables: &Tables, asked: &Asked) -> bool
 
 /// Sends all, of which none may be refused.
 fn take_all<R: Abort>(rt: &R, book: &mut Book, tables: &Tables, all: &[Asked])
-    requires { IsKept tables.now book.old }
-    ensures { IsKept tables.now book.new }
+    requires { IsConsistent tables.now book.old }
+    ensures { IsConsistent tables.now book.new }
 {
     for asked in all {
         expect_same(rt, is_taken(book, tables, asked), true);
@@ -115,15 +115,15 @@ fn expect_read<R: Abort>(
     least: u64,
     most: u64,
 )
-    requires { IsKept tables.now book.old }
-    ensures { IsKept tables.now book.new }
+    requires { IsConsistent tables.now book.old }
+    ensures { IsConsistent tables.now book.new }
 {
     take_all(rt, book, tables, &[asked]);
     let read = book.steps();
     expect_same(rt, (read, least <= read, read <= most), (read, true, true));
 }
 
-// The tap is 2,000 seconds after one and before another, and behind that is one with none shortly before it.
+// The tap is 2,000 seconds after one and before another, and after that is one with none shortly before it.
 #[test]
 fn one_among_sixteen_thousand_boardings(rt: HostRuntime) {
     let tables = sample(&rt);

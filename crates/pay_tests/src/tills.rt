@@ -117,7 +117,7 @@ impl Till for Prepared<'_> {
     }
 }
 
-/// The faults at the closes behind the first, which posts.
+/// The faults at the closes after the first, which posts.
 static FAULTS: [Refusal; 7] = [
     Refusal::NotHere,
     Refusal::StaleQuote,
@@ -217,7 +217,7 @@ fn expect_ended<R: Abort + AllocGlobal>(
     assert!(rt; REPLIES.as_bytes().starts_with(&writer.held));
 }
 
-/// A reader of the lines that fails behind so many bytes.
+/// A reader of the lines that fails after so many bytes.
 fn lines_until<'a>(until: usize) -> Trickle<'a> {
     Trickle {
         bytes: LINES.as_bytes(),
@@ -258,7 +258,7 @@ fn closes_where_it_was_interrupted(rt: HostRuntime) {
     expect_ended(&rt, reader, writer, ALL, 265);
 }
 
-/// The reader fails behind so many bytes: the lines before are answered, and no other is asked for.
+/// The reader fails after so many bytes: the lines before are answered, and no other is asked for.
 fn expect_read_fault<R: Abort + AllocGlobal>(
     rt: &R,
     until: usize,
@@ -287,7 +287,7 @@ fn closes_until_the_reader_fails(rt: HostRuntime) {
     expect_read_fault(&rt, 175, 13, 261, 8);
 }
 
-/// The writer fails behind so many bytes: the next line was asked for, and the lines behind it were not.
+/// The writer fails after so many bytes: the next line was asked for, and the lines after it were not.
 fn expect_write_fault<R: Abort + AllocGlobal>(rt: &R, room: usize, replies: u8, closes: usize) {
     let wanted = Ended {
         result: Err(SessionFault::Write {
@@ -307,7 +307,7 @@ fn expect_write_fault<R: Abort + AllocGlobal>(rt: &R, room: usize, replies: u8, 
 fn closes_until_the_writer_fails(rt: HostRuntime) {
     expect_write_fault(&rt, 0, 0, 0);
     expect_write_fault(&rt, 30, 2, 0);
-    // Before the first posting and within it, before the second and within it, within the line behind them, and behind that.
+    // Before the first posting and within it, before the second and within it, within the line after them, and after that.
     expect_write_fault(&rt, 61, 5, 1);
     expect_write_fault(&rt, 62, 5, 1);
     expect_write_fault(&rt, 95, 5, 1);

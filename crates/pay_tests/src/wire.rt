@@ -19,21 +19,21 @@ fn reads_commands(rt: HostRuntime) {
     expect_same(
         &rt,
         read_command(b"TAP 1 2 7 1704697200 50 BUS"),
-        Some(Command::Tap(tap)),
+        Some(SpelledCommand::Tap(tap)),
     );
-    let show = Command::Show {
+    let show = SpelledCommand::Show {
         account: 7,
         day: 19_730,
     };
     expect_same(&rt, read_command(b"SHOW 7 19730"), Some(show));
-    let due = Command::Due {
+    let due = SpelledCommand::Due {
         account: 7,
         day: 19_730,
     };
     expect_same(&rt, read_command(b"DUE 7 19730"), Some(due));
-    let close = Command::Close { day: 19_730 };
+    let close = SpelledCommand::Close { day: 19_730 };
     expect_same(&rt, read_command(b"CLOSE 19730"), Some(close));
-    expect_same(&rt, read_command(b"QUIT"), Some(Command::Quit));
+    expect_same(&rt, read_command(b"QUIT"), Some(SpelledCommand::Quit));
 }
 
 fn line(kind: LineKind, from: u16, to: u16, utc: u64, fare: u64) -> Line {
@@ -50,7 +50,7 @@ fn line(kind: LineKind, from: u16, to: u16, utc: u64, fare: u64) -> Line {
 }
 
 /// A boarding and a journey by rail, whose lines are of 19, 28 and 30 bytes.
-fn shown<R: Abort + AllocGlobal>(rt: &R) -> Reply {
+fn shown<R: Abort + AllocGlobal>(rt: &R) -> SpelledReply {
     let mut lines = Vec::new(rt.alloc());
     lines
         .extend_from_slice(&[
@@ -58,7 +58,7 @@ fn shown<R: Abort + AllocGlobal>(rt: &R) -> Reply {
             line(LineKind::Rail, 10, 12, 1_704_704_400, 340),
         ])
         .expect(rt, "memory");
-    Reply::Shown(Shown {
+    SpelledReply::Shown(Shown {
         account: 7,
         day: MONDAY,
         lines: Lines::from(lines),
@@ -69,8 +69,8 @@ fn shown<R: Abort + AllocGlobal>(rt: &R) -> Reply {
 const WRITTEN: &str =
     "SHOW 7 19730 2 515\nJNY BUS 50 0 1704697200 175\nJNY RAIL 10 12 1704704400 340\n";
 
-fn priced(again: bool) -> Reply {
-    Reply::Priced(Priced {
+fn priced(again: bool) -> SpelledReply {
+    SpelledReply::Priced(Priced {
         again,
         day: MONDAY,
         day_price: Pence::new(175),
@@ -79,7 +79,7 @@ fn priced(again: bool) -> Reply {
 }
 
 /// Sends a reply to a vector, and to a writer that counts its flushes.
-fn expect_sent<R: Abort + AllocGlobal>(rt: &R, reply: &Reply, wanted: &str) {
+fn expect_sent<R: Abort + AllocGlobal>(rt: &R, reply: &SpelledReply, wanted: &str) {
     let mut held = Vec::new(rt.alloc());
     expect_same(rt, send(&mut held, reply), Ok(()));
     expect_same(rt, held.as_slice(), wanted.as_bytes());
@@ -96,8 +96,12 @@ fn expect_sent<R: Abort + AllocGlobal>(rt: &R, reply: &Reply, wanted: &str) {
 fn sends_replies(rt: HostRuntime) {
     expect_sent(&rt, &priced(false), "OK 19730 175 350\n");
     expect_sent(&rt, &priced(true), "AGAIN 19730 175 350\n");
-    expect_sent(&rt, &Reply::No(Refusal::LongLine), "NO 51 LongLine\n");
-    expect_sent(&rt, &Reply::Bye, "BYE\n");
+    expect_sent(
+        &rt,
+        &SpelledReply::No(Refusal::LongLine),
+        "NO 51 LongLine\n",
+    );
+    expect_sent(&rt, &SpelledReply::Bye, "BYE\n");
 }
 
 #[test]

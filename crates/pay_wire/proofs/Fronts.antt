@@ -14,12 +14,12 @@ Appends_fronts a b c i n bytes p q =
     let others : take (length bytes - i) (drop i bytes) ≡ drop i bytes = ap (λ k. take k (drop i bytes)) (sym (length-drop i bytes)) ∙ take-length (drop i bytes) in
     subst (Appends a c) (sym (take-add i n bytes)) (Appends-trans a b c _ _ p (subst (λ l. Appends b c (take n l)) others q))
 
--- a piece that was taken whole, and then a front of what is behind it
+-- a piece that was taken whole, and then a front of what is after it
 pub front_then : (old mid new : Option (List ℕ)) (a b : List ℕ) → Appends old mid a → AppendsFront mid new b → AppendsFront old new (a ++ b)
 front_then old mid new a b whole (n, front) =
     (length a + n, subst (Appends old new) (sym (take-append-add a b n)) (Appends-trans old mid new a (take n b) whole front))
 
--- a front of a piece is one of that piece and all behind it
+-- a front of a piece is one of that piece and all after it
 pub front_more : (old new : Option (List ℕ)) (a b : List ℕ) → AppendsFront old new a → AppendsFront old new (a ++ b)
 front_more old new a b (n, front) =
     let few : min n (length a) ≤ length a = omega arith in
@@ -30,7 +30,7 @@ pub on_err : {T E : Type 0} {P : Type 0} (r : Result T E) → P → OnErr r P
 on_err (Ok x) h = tt
 on_err (Err e) h = h
 
--- the rows before one, that one, and those behind it
+-- the rows before one, that one, and those after it
 rows_at : {A : Type 0} (row : A → List ℕ) (all : List A) (i : ℕ) (a : A) → i < length all → a ≡ get_or all i a → flat_map row all ≡ flat_map row (take i all) ++ (row a ++ flat_map row (drop (suc i) all))
 rows_at {A} row all i a low is =
     ap (flat_map row) (sym (take-append-drop i all)) ∙ flat_map-append row (take i all) (drop i all)

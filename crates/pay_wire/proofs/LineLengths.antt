@@ -12,7 +12,7 @@ use Rattle.pay_wire.specs.declared.command.SpelledTap.{SpelledTap}
 use Rattle.pay_wire.specs.declared.command.SpelledFix.{SpelledFix}
 use Rattle.pay_wire.specs.declared.command.SpelledWhat.{SpelledWhat}
 use Rattle.pay_wire.specs.declared.command.SpelledWhat.TheVariants as spelled
-use Rattle.pay_wire.specs.declared.command.Command.{Command}
+use Rattle.pay_wire.specs.declared.command.SpelledCommand.{SpelledCommand}
 use Rattle.pay_wire.specs.Fields.{words}
 use Rattle.pay_wire.specs.Commands.{tap_of, fix_of, account_day_of, day_of}
 use Rattle.pay_wire.specs.Spellings.{IsSpelledTap, spelling_of_kind, spelling_of_tap, IsSpelledWhat, words_of_what, IsSpelledFix, spelling_of_fix, IsAccountDay, spelling_of_account_day, spelling_of_due, spelling_of_show, spelling_of_close, Spells, IsLine}
@@ -28,7 +28,7 @@ some_is x y e = cc
 tails : {A : Type 0} (x y : A) (xs ys : List A) → (x ∷ xs) ≡ (y ∷ ys) → xs ≡ ys
 tails x y xs ys e = cc
 
-pub one_command : (line : List ℕ) (a b : Command) → Spells line a → Spells line b → a ≡ b
+pub one_command : (line : List ℕ) (a b : SpelledCommand) → Spells line a → Spells line b → a ≡ b
 one_command line a b f g = some_is a b (sym (is_read line a f) ∙ is_read line b g)
 
 pub one_tap : (a b : SpelledTap) → IsSpelledTap a → IsSpelledTap b → spelling_of_tap a ≡ spelling_of_tap b → a ≡ b
@@ -62,7 +62,7 @@ one_close day x f g e =
     let fields : day_fields day ≡ day_fields x = tails (codes "CLOSE") (codes "CLOSE") (day_fields day) (day_fields x) (sym (close_words day f) ∙ ap words e ∙ close_words x g) in
     some_is day x (sym (day_again day f) ∙ ap day_of fields ∙ day_again x g)
 
-pub one_line : (command : Command) (a b : List ℕ) → Spells a command → Spells b command → a ≡ b
+pub one_line : (command : SpelledCommand) (a b : List ℕ) → Spells a command → Spells b command → a ≡ b
 one_line command a b f g = f.1 ∙ sym g.1
 
 kind_short : (kind : Kind) → length (spelling_of_kind kind) ≤ 3
@@ -132,7 +132,7 @@ fill_short utc place kind f g =
       number_short place (omega (arith, g)),
     )
 
--- the words of what a correction does have a first one, so they stand behind a space
+-- the words of what a correction does have a first one, so they stand after a space
 more_short : (a : ℕ) (what : SpelledWhat) → IsSpelledWhat what → a ≤ 4_294_967_295 → length (join_with_byte 32 (decimal a ∷ words_of_what what)) ≤ 41
 more_short a (spelled.Void reader seq) fits f =
     omega (arith, number_short a f, joined_length (decimal a) (join_with_byte 32 (words_of_what (spelled.Void reader seq))), named_short (codes "VOID") reader seq (omega arith) (omega (arith, fits.0.1)) fits.1)

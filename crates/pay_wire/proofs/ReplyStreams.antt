@@ -14,8 +14,8 @@ use Rattle.pay_rules.specs.declared.priced.Priced.{Priced}
 use Rattle.pay_rules.specs.declared.posting.Posting.{Posting}
 use Rattle.pay_rules.specs.QuoteParts.{QuoteParts}
 use Rattle.pay_rules.specs.KindWords.{word_of_kind}
-use Rattle.pay_wire.specs.declared.reply.Reply.{Reply}
-use Rattle.pay_wire.specs.declared.reply.Reply.TheVariants as replies
+use Rattle.pay_wire.specs.declared.reply.SpelledReply.{SpelledReply}
+use Rattle.pay_wire.specs.declared.reply.SpelledReply.TheVariants as replies
 use Rattle.pay_wire.specs.Fields.{words}
 use Rattle.pay_wire.specs.Replies.{refusal_number, refusal_name, line_of_words, words_of_journey, words_of_shares, words_of_quote, words_of_due, words_of_posting, words_of_reply, postings_of_reply, text_of_postings, journeys_of_reply, text_of_journeys, ending_of_reply, spelling_of_reply, journey_as_read, posting_as_read, reply_as_read, IsReplyJourney, IsReplyNumbers, IsReplyQuote, IsReplyPosting, IsReply}
 use Rattle.pay_rules.specs.declared.shown.Line.{Line}
@@ -101,7 +101,7 @@ due_visible : (q : QuoteParts) → IsReplyQuote q → AllVisible (words_of_due q
 due_visible q fits =
     (refl, quote_visible q (words_of_shares 1 (map decimal q.shares)) fits.numbers (numeral_words_visible decimals q.shares fits.operators fits.shares))
 
-reply_visible : (r : Reply) → IsReply r → AllVisible (words_of_reply r)
+reply_visible : (r : SpelledReply) → IsReply r → AllVisible (words_of_reply r)
 reply_visible (replies.Priced p) fits =
     (opening_visible p.again, (decimal_visible p.day (omega (arith, fits.0)), (decimal_visible p.day_price (omega (arith, fits.1)), (decimal_visible p.week_price (omega (arith, fits.2)), tt))))
 reply_visible (replies.Shown s) fits =
@@ -112,7 +112,7 @@ reply_visible (replies.No r) fits = (refl, (decimal_visible (refusal_number r) (
 reply_visible replies.Bye fits = (refl, tt)
 
 -- the words of a reply are those of its line
-reply_words : (r : Reply) → IsReply r → words (join_with_byte 32 (words_of_reply r)) ≡ words_of_reply r
+reply_words : (r : SpelledReply) → IsReply r → words (join_with_byte 32 (words_of_reply r)) ≡ words_of_reply r
 reply_words (replies.Priced p) fits = words_joined (if p.again then codes "AGAIN" else codes "OK") (decimal p.day ∷ decimal p.day_price ∷ decimal p.week_price ∷ []) (reply_visible (replies.Priced p) fits)
 reply_words (replies.Shown s) fits = words_joined (codes "SHOW") (decimal s.account ∷ decimal s.day ∷ decimal (length s.lines) ∷ decimal s.day_price ∷ []) (reply_visible (replies.Shown s) fits)
 reply_words (replies.Due q) fits = words_joined (codes "DUE") (words_of_quote q ++ words_of_shares 1 (map decimal q.shares)) (due_visible q fits)
@@ -185,7 +185,7 @@ quote account week through version due shares =
 same_quote : (a b w x t u v y d e : ℕ) (xs ys : List ℕ) → a ≡ b → w ≡ x → t ≡ u → v ≡ y → d ≡ e → xs ≡ ys → quote a w t v d xs ≡ quote b x u y e ys
 same_quote a b w x t u v y d e xs ys f g h k l m = rw (f, g, h, k, l, m) refl
 
--- the words of two quotes, and those behind them
+-- the words of two quotes, and those after them
 one_quote : (p q : QuoteParts) (ws vs : List (List ℕ)) → IsReplyNumbers p → IsReplyNumbers q → words_of_quote p ++ ws ≡ words_of_quote q ++ vs
     → ((xs ys : List ℕ) → xs ≡ ys → quote p.account p.week p.through p.version p.due xs ≡ quote q.account q.week q.through q.version q.due ys) × (ws ≡ vs)
 one_quote p q ws vs f g e =
@@ -209,12 +209,12 @@ one_due p q f g e =
     h.0 p.shares q.shares (one_from_share_words decimals p.shares q.shares f.operators g.operators f.shares g.shares h.1)
 
 -- what the line that each reply has tells of two replies that have the same
-abbrev Alike : Reply → Reply → Type 0
+abbrev Alike : SpelledReply → SpelledReply → Type 0
 Alike (replies.Shown s) (replies.Shown t) = (s.account ≡ t.account) × (s.day ≡ t.day) × (length s.lines ≡ length t.lines) × (s.day_price ≡ t.day_price)
 Alike (replies.Closed c) (replies.Closed d) = c.day ≡ d.day
 Alike a b = a ≡ b
 
-one_from_words : (r s : Reply) → IsReply r → IsReply s → words_of_reply r ≡ words_of_reply s → Alike r s
+one_from_words : (r s : SpelledReply) → IsReply r → IsReply s → words_of_reply r ≡ words_of_reply s → Alike r s
 one_from_words (replies.Priced p) (replies.Priced q) f g e =
     let a = heads _ _ _ _ e in
     let d = heads _ _ _ _ a.1 in
@@ -426,7 +426,7 @@ opening_letter : (again : Bool) (ws : List (List ℕ)) → first_letter ((if aga
 opening_letter true ws e = absurd (omega (arith, e))
 opening_letter false ws e = absurd (omega (arith, e))
 
-reply_letter : (r : Reply) → first_letter (words_of_reply r) ≢ 80
+reply_letter : (r : SpelledReply) → first_letter (words_of_reply r) ≢ 80
 reply_letter (replies.Priced p) e = opening_letter p.again (decimal p.day ∷ decimal p.day_price ∷ decimal p.week_price ∷ []) e
 reply_letter (replies.Shown s) e = absurd (omega (arith, e))
 reply_letter (replies.Due q) e = absurd (omega (arith, e))
@@ -434,10 +434,10 @@ reply_letter (replies.Closed c) e = absurd (omega (arith, e))
 reply_letter (replies.No r) e = absurd (omega (arith, e))
 reply_letter replies.Bye e = absurd (omega (arith, e))
 
-reply_is_other : (r : Reply) → IsReply r → IsOther (words_of_reply r)
+reply_is_other : (r : SpelledReply) → IsReply r → IsOther (words_of_reply r)
 reply_is_other r fits = record { seen = reply_visible r fits; again = reply_words r fits; other = reply_letter r }
 
-postings_fit : (r : Reply) → IsReply r → AllByRecursion IsReplyPosting (postings_of_reply r)
+postings_fit : (r : SpelledReply) → IsReply r → AllByRecursion IsReplyPosting (postings_of_reply r)
 postings_fit (replies.Priced p) fits = tt
 postings_fit (replies.Shown s) fits = tt
 postings_fit (replies.Due q) fits = tt
@@ -445,20 +445,20 @@ postings_fit (replies.Closed c) fits = fits.2
 postings_fit (replies.No r) fits = tt
 postings_fit replies.Bye fits = tt
 
-abbrev closed_as : ℕ → List Posting → Reply
+abbrev closed_as : ℕ → List Posting → SpelledReply
 closed_as day postings = replies.Closed (record { day = day; postings = postings })
 
 same_closed : (d e : ℕ) (ps qs : List Posting) → d ≡ e → ps ≡ qs → closed_as d ps ≡ closed_as e qs
 same_closed d e ps qs f g = rw (f, g) refl
 
-abbrev shown_as : ℕ → ℕ → List Line → ℕ → Reply
+abbrev shown_as : ℕ → ℕ → List Line → ℕ → SpelledReply
 shown_as account day lines price = replies.Shown (record { account = account; day = day; lines = lines; day_price = price })
 
 same_shown : (a b d e p q : ℕ) (js ks : List Line) → a ≡ b → d ≡ e → js ≡ ks → p ≡ q → shown_as a d js p ≡ shown_as b e ks q
 same_shown a b d e p q js ks f g h k = rw (f, g, h, k) refl
 
 -- replies whose lines that each has are alike, with the same postings before these, and what follows these lines
-alike_as_read : (a b : Reply) (x y : List ℕ) → IsReply a → IsReply b → Alike a b → map posting_as_read (postings_of_reply a) ≡ map posting_as_read (postings_of_reply b)
+alike_as_read : (a b : SpelledReply) (x y : List ℕ) → IsReply a → IsReply b → Alike a b → map posting_as_read (postings_of_reply a) ≡ map posting_as_read (postings_of_reply b)
     → text_of_journeys (journeys_of_reply a) ++ x ≡ text_of_journeys (journeys_of_reply b) ++ y → (reply_as_read a ≡ reply_as_read b) × (x ≡ y)
 alike_as_read (replies.Shown s) (replies.Shown t) x y f g same postings e =
     let js = one_journeys s.lines t.lines x y same.2 f.4 g.4 e in
@@ -500,19 +500,19 @@ alike_as_read replies.Bye (replies.No s) x y f g same postings e = absurd cc
 alike_as_read replies.Bye replies.Bye x y f g same postings e = (same, e)
 
 -- the parts of a reply, and what follows it
-parts_of : (r : Reply) (x : List ℕ) → spelling_of_reply r ++ x ≡ text_of_postings (postings_of_reply r) ++ (line_of_words (words_of_reply r) ++ (text_of_journeys (journeys_of_reply r) ++ x))
+parts_of : (r : SpelledReply) (x : List ℕ) → spelling_of_reply r ++ x ≡ text_of_postings (postings_of_reply r) ++ (line_of_words (words_of_reply r) ++ (text_of_journeys (journeys_of_reply r) ++ x))
 parts_of r x =
     append_assoc (text_of_postings (postings_of_reply r)) (ending_of_reply r) x
     ∙ ap (λ (t : List ℕ). text_of_postings (postings_of_reply r) ++ t) (append_assoc (line_of_words (words_of_reply r)) (text_of_journeys (journeys_of_reply r)) x)
 
-pub one_reply : (a b : Reply) (x y : List ℕ) → IsReply a → IsReply b → spelling_of_reply a ++ x ≡ spelling_of_reply b ++ y → (reply_as_read a ≡ reply_as_read b) × (x ≡ y)
+pub one_reply : (a b : SpelledReply) (x y : List ℕ) → IsReply a → IsReply b → spelling_of_reply a ++ x ≡ spelling_of_reply b ++ y → (reply_as_read a ≡ reply_as_read b) × (x ≡ y)
 one_reply a b x y f g e =
     let h = one_postings (postings_of_reply a) (postings_of_reply b) (words_of_reply a) (words_of_reply b) (text_of_journeys (journeys_of_reply a) ++ x) (text_of_journeys (journeys_of_reply b) ++ y)
     (postings_fit a f) (postings_fit b g) (reply_is_other a f) (reply_is_other b g) (sym (parts_of a x) ∙ e ∙ parts_of b y) in
     alike_as_read a b x y f g (one_from_words a b f g h.1) h.0 h.2
 
 -- a stream that has a reply is not empty
-not_the_end : {A : Type 0} (r : Reply) (x : List ℕ) → spelling_of_reply r ++ x ≡ [] → A
+not_the_end : {A : Type 0} (r : SpelledReply) (x : List ℕ) → spelling_of_reply r ++ x ≡ [] → A
 not_the_end r x e =
     let none : length (spelling_of_reply r ++ x) ≡ 0 = ap length e in
     absurd (omega (
@@ -524,7 +524,7 @@ not_the_end r x e =
       length-append (join_with_byte 32 (words_of_reply r)) (codes "\n"),
     ))
 
-pub one_stream : (a b : List Reply) → AllByRecursion IsReply a → AllByRecursion IsReply b → flat_map spelling_of_reply a ≡ flat_map spelling_of_reply b
+pub one_stream : (a b : List SpelledReply) → AllByRecursion IsReply a → AllByRecursion IsReply b → flat_map spelling_of_reply a ≡ flat_map spelling_of_reply b
     → map reply_as_read a ≡ map reply_as_read b
 one_stream [] [] f g e = refl
 one_stream [] (b ∷ bs) f g e = not_the_end b (flat_map spelling_of_reply bs) (sym e)

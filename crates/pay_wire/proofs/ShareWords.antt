@@ -14,7 +14,7 @@ use Rattle.pay_wire.specs.Replies.{text_of_fields, word_of_share, words_of_share
 use Rattle.pay_wire.proofs.Digits.{own}
 use Rattle.pay_wire.proofs.Visible.{is_visible, decimal_visible, AllVisible}
 
--- ---- put behind a line
+-- ---- put after a line
 
 -- one share more
 words_more : (n : ℕ) (xs : List (List ℕ)) (x : List ℕ) → words_of_shares n (xs ++ x ∷ []) ≡ words_of_shares n xs ++ words_of_share (n + length xs) x
@@ -39,7 +39,7 @@ shares_more {A} numeral line shares i d low =
     ∙ ap text_of_fields (ap (λ (k : ℕ). words_of_shares 1 front ++ words_of_share k share) place ∙ sym (words_more 1 front share)
     ∙ ap (words_of_shares 1) (sym (map-append numeral (take i shares) (get_or shares i d ∷ [])) ∙ ap (map numeral) (sym (take_more shares i d low)))))
 
--- a share put behind those of the first operators
+-- a share put after those of the first operators
 pub share_put : {A : Type 0} (numeral : A → List ℕ) (line : List ℕ) (shares : List A) (i : ℕ) (d : A) (before after : List ℕ) → i < length shares
     → before ≡ line ++ text_of_fields (words_of_shares 1 (map numeral (take i shares))) → after ≡ before ++ text_of_fields (words_of_share (i + 1) (numeral (get_or shares i d)))
     → after ≡ line ++ text_of_fields (words_of_shares 1 (map numeral (take (i + 1) shares)))

@@ -20,7 +20,7 @@ split_at_byte : (space : Bool) (c : ℕ) (cs : List ℕ) (n : ℕ) → words cs 
 split_at_byte true c cs n e = refl
 split_at_byte false c cs n e = let m = one_more n c cs in rw (e, m.0, m.1) refl
 
--- a line is its first word, and those behind it
+-- a line is its first word, and those after it
 pub split_at_end : (line : List ℕ) → words line ≡ take (position_or_len is_space line) line ∷ words_after (drop (position_or_len is_space line) line)
 split_at_end [] = refl
 split_at_end (c ∷ cs) = split_at_byte (is_space c) c cs (position_or_len is_space cs) (split_at_end cs)

@@ -17,8 +17,8 @@ use Rattle.pay_wire.specs.declared.command.SpelledWhat.{SpelledWhat}
 use Rattle.pay_wire.specs.declared.command.SpelledWhat.TheVariants as spelled
 use Rattle.pay_wire.specs.declared.command.Form.{Form}
 use Rattle.pay_wire.specs.declared.command.Form.TheVariants as form
-use Rattle.pay_wire.specs.declared.command.Command.{Command}
-use Rattle.pay_wire.specs.declared.command.Command.TheVariants.{Tap, Fix, Due, Show, Close, Quit}
+use Rattle.pay_wire.specs.declared.command.SpelledCommand.{SpelledCommand}
+use Rattle.pay_wire.specs.declared.command.SpelledCommand.TheVariants.{Tap, Fix, Due, Show, Close, Quit}
 use Rattle.pay_wire.specs.declared.command.Keyword.{Keyword}
 use Rattle.pay_wire.specs.declared.command.Keyword.TheVariants as keyword
 use Rattle.pay_wire.specs.Fields.{◌>>=◌, is_space, words, words_after, has_none, field}
@@ -189,7 +189,7 @@ day_again day fits = rw (within_again 4 50_000 day fits.0 fits.1 (omega arith)) 
 close_line_again : (day : ℕ) → IsDay day → command_of (spelling_of_close day) ≡ Some (Close day)
 close_line_again day fits = ap command_of_words (close_words day fits) ∙ rw (day_again day fits) refl
 
-pub is_read : (line : List ℕ) (command : Command) → Spells line command → command_of line ≡ Some command
+pub is_read : (line : List ℕ) (command : SpelledCommand) → Spells line command → command_of line ≡ Some command
 is_read line (Tap tap) h = ap command_of h.1 ∙ tap_line_again tap h.0
 is_read line (Fix fix) h = ap command_of h.1 ∙ fix_line_again fix h.0
 is_read line (Due account day) h = ap command_of h.1 ∙ due_line_again account day h.0
@@ -325,7 +325,7 @@ tap_is ws tap e =
     let spelled : ws ≡ fields_of read = fields_joined ws r.0 s.0 a.0 u.0 p.0 k.0 reader.0 seq.0 account.0 utc.0 place.0 (kind_is_next p.0.1 k.0 k.1) (none_left k.0.1 last.0) in
     read_as ws read tap fits spelled last.1
 
--- two numbers, and no word behind them
+-- two numbers, and no word after them
 two_joined : (ws : List (List ℕ)) (a b : NumberAndRest) → ws ≡ decimal a.0 ∷ a.1 → a.1 ≡ decimal b.0 ∷ b.1 → b.1 ≡ [] → ws ≡ decimal a.0 ∷ decimal b.0 ∷ []
 two_joined ws a b f g h = rw (f, g, h) refl
 
@@ -352,8 +352,8 @@ named_is most ws named e =
 abbrev WhatRead : Form → List (List ℕ) → SpelledWhat → Type 0
 WhatRead f ws what = IsSpelledWhat what × (form_word f ∷ ws ≡ words_of_what what)
 
-behind : (w : List ℕ) {ws vs : List (List ℕ)} → ws ≡ vs → w ∷ ws ≡ w ∷ vs
-behind w e = ap (λ (r : List (List ℕ)). w ∷ r) e
+beyond : (w : List ℕ) {ws vs : List (List ℕ)} → ws ≡ vs → w ∷ ws ≡ w ∷ vs
+beyond w e = ap (λ (r : List (List ℕ)). w ∷ r) e
 
 -- a fill that is read, step by step
 abbrev at_fill_end : NumberAndRest → NumberAndRest → Kind × List (List ℕ) → Option SpelledWhat
@@ -379,7 +379,7 @@ fill_is ws what e =
     let utc = number_is_next 0 4_294_967_295 ws u.0 u.1 in
     let place = number_is_next 1 65_535 u.0.1 p.0 p.1 in
     let joined = fill_joined ws u.0 p.0 k.0 utc.0 place.0 (kind_is_next p.0.1 k.0 k.1) (none_left k.0.1 last.0) in
-    subst (λ (w : SpelledWhat). WhatRead form.Fill ws w) last.1 ((utc.2, (place.1, place.2)), behind (codes "FILL") joined)
+    subst (λ (w : SpelledWhat). WhatRead form.Fill ws w) last.1 ((utc.2, (place.1, place.2)), beyond (codes "FILL") joined)
 
 -- a credit that is read, step by step
 abbrev credit_from : ℕ → ℕ → SpelledCredit
@@ -412,16 +412,16 @@ what_from : (f : Form) (ws : List (List ℕ)) (what : SpelledWhat) → what_for 
 what_from form.Void ws what e =
     let b = bind_some (named_of 65_535 ws) (λ named. Some (spelled.Void named.0 named.1)) what e in
     let n = named_is 65_535 ws b.0 b.1 in
-    subst (λ (w : SpelledWhat). WhatRead form.Void ws w) (some_is (spelled.Void b.0.0 b.0.1) what b.2) ((n.1, n.2), behind (codes "VOID") n.0)
+    subst (λ (w : SpelledWhat). WhatRead form.Void ws w) (some_is (spelled.Void b.0.0 b.0.1) what b.2) ((n.1, n.2), beyond (codes "VOID") n.0)
 what_from form.Fill ws what e = fill_is ws what e
 what_from form.Credit ws what e =
     let b = bind_some (credit_of ws) (λ credit. Some (spelled.Credit credit)) what e in
     let c = credit_is ws b.0 b.1 in
-    subst (λ (w : SpelledWhat). WhatRead form.Credit ws w) (some_is (spelled.Credit b.0) what b.2) (c.0, behind (codes "CREDIT") c.1)
+    subst (λ (w : SpelledWhat). WhatRead form.Credit ws w) (some_is (spelled.Credit b.0) what b.2) (c.0, beyond (codes "CREDIT") c.1)
 what_from form.Drop ws what e =
     let b = bind_some (named_of 65_535 ws) (λ named. Some (spelled.Drop named.0 named.1)) what e in
     let n = named_is 65_535 ws b.0 b.1 in
-    subst (λ (w : SpelledWhat). WhatRead form.Drop ws w) (some_is (spelled.Drop b.0.0 b.0.1) what b.2) ((n.1, n.2), behind (codes "DROP") n.0)
+    subst (λ (w : SpelledWhat). WhatRead form.Drop ws w) (some_is (spelled.Drop b.0.0 b.0.1) what b.2) ((n.1, n.2), beyond (codes "DROP") n.0)
 
 what_is : (ws : List (List ℕ)) (what : SpelledWhat) → what_of ws ≡ Some what → IsSpelledWhat what × (ws ≡ words_of_what what)
 what_is ws what e =
@@ -561,40 +561,40 @@ first_word line = before_first is_space line
 joined_again : (line first name : List ℕ) (rest ws : List (List ℕ)) → words line ≡ first ∷ rest → first ≡ name → rest ≡ ws → line ≡ join_with_byte 32 (name ∷ ws)
 joined_again line first name rest ws split f e = sym (join_with_byte-slice_split 32 line) ∙ ap (join_with_byte 32) (split ∙ λ i. f i ∷ e i)
 
-spelled_after : (line : List ℕ) (rest : List (List ℕ)) (k : Keyword) (command : Command) → words line ≡ first_word line ∷ rest → first_word line ≡ keyword_word k → command_for k rest ≡ Some command → Spells line command
+spelled_after : (line : List ℕ) (rest : List (List ℕ)) (k : Keyword) (command : SpelledCommand) → words line ≡ first_word line ∷ rest → first_word line ≡ keyword_word k → command_for k rest ≡ Some command → Spells line command
 spelled_after line rest keyword.Tap command split name e =
     let b = bind_some (tap_of rest) (λ tap. Some (Tap tap)) command e in
     let t = tap_is rest b.0 b.1 in
-    subst (λ (c : Command). Spells line c) (some_is (Tap b.0) command b.2) (t.0, joined_again line (first_word line) (codes "TAP") rest (fields_of b.0) split name t.1)
+    subst (λ (c : SpelledCommand). Spells line c) (some_is (Tap b.0) command b.2) (t.0, joined_again line (first_word line) (codes "TAP") rest (fields_of b.0) split name t.1)
 spelled_after line rest keyword.Fix command split name e =
     let b = bind_some (fix_of rest) (λ fix. Some (Fix fix)) command e in
     let f = fix_is rest b.0 b.1 in
-    subst (λ (c : Command). Spells line c) (some_is (Fix b.0) command b.2) (f.0, joined_again line (first_word line) (codes "FIX") rest (fix_fields b.0) split name f.1)
+    subst (λ (c : SpelledCommand). Spells line c) (some_is (Fix b.0) command b.2) (f.0, joined_again line (first_word line) (codes "FIX") rest (fix_fields b.0) split name f.1)
 spelled_after line rest keyword.Due command split name e =
     let b = bind_some (account_day_of rest) (λ asked. Some (Due asked.0 asked.1)) command e in
     let a = account_day_is rest b.0 b.1 in
-    subst (λ (c : Command). Spells line c) (some_is (Due b.0.0 b.0.1) command b.2) (a.0, joined_again line (first_word line) (codes "DUE") rest (account_day_fields b.0.0 b.0.1) split name a.1)
+    subst (λ (c : SpelledCommand). Spells line c) (some_is (Due b.0.0 b.0.1) command b.2) (a.0, joined_again line (first_word line) (codes "DUE") rest (account_day_fields b.0.0 b.0.1) split name a.1)
 spelled_after line rest keyword.Show command split name e =
     let b = bind_some (account_day_of rest) (λ asked. Some (Show asked.0 asked.1)) command e in
     let a = account_day_is rest b.0 b.1 in
-    subst (λ (c : Command). Spells line c) (some_is (Show b.0.0 b.0.1) command b.2) (a.0, joined_again line (first_word line) (codes "SHOW") rest (account_day_fields b.0.0 b.0.1) split name a.1)
+    subst (λ (c : SpelledCommand). Spells line c) (some_is (Show b.0.0 b.0.1) command b.2) (a.0, joined_again line (first_word line) (codes "SHOW") rest (account_day_fields b.0.0 b.0.1) split name a.1)
 spelled_after line rest keyword.Close command split name e =
     let b = bind_some (day_of rest) (λ day. Some (Close day)) command e in
     let d = day_is rest b.0 b.1 in
-    subst (λ (c : Command). Spells line c) (some_is (Close b.0) command b.2) (d.0, joined_again line (first_word line) (codes "CLOSE") rest (day_fields b.0) split name d.1)
+    subst (λ (c : SpelledCommand). Spells line c) (some_is (Close b.0) command b.2) (d.0, joined_again line (first_word line) (codes "CLOSE") rest (day_fields b.0) split name d.1)
 spelled_after line rest keyword.Quit command split name e =
     let q = cond_some (has_none rest) Quit command e in
-    subst (λ (c : Command). Spells line c) q.1 (tt, joined_again line (first_word line) (codes "QUIT") rest [] split name (none_left rest q.0))
+    subst (λ (c : SpelledCommand). Spells line c) q.1 (tt, joined_again line (first_word line) (codes "QUIT") rest [] split name (none_left rest q.0))
 
-pub is_spelled : (line : List ℕ) (command : Command) → command_of line ≡ Some command → Spells line command
+pub is_spelled : (line : List ℕ) (command : SpelledCommand) → command_of line ≡ Some command → Spells line command
 is_spelled line command e =
     let split = split_at_end line in
     let rest = words_after (drop (position_or_len is_space line) line) in
     let b = bind_some (keyword_of (first_word line)) (λ k. command_for k rest) command (ap command_of_words (sym split) ∙ e) in
     spelled_after line rest b.0 command split (keyword_is (first_word line) b.0 b.1) b.2
 
--- what is read of a keyword and the words behind it is in its ranges
-pub in_range : (line name : List ℕ) (rest : List (List ℕ)) (k : Keyword) (command : Option Command) → words line ≡ name ∷ rest → keyword_of name ≡ Some k → command ≡ command_for k rest → IfSome command IsSpelled
+-- what is read of a keyword and the words after it is in its ranges
+pub in_range : (line name : List ℕ) (rest : List (List ℕ)) (k : Keyword) (command : Option SpelledCommand) → words line ≡ name ∷ rest → keyword_of name ≡ Some k → command ≡ command_for k rest → IfSome command IsSpelled
 in_range line name rest k (Some command) split keyword e =
     let read : command_of_words (name ∷ rest) ≡ Some command = rw keyword (sym e) in
     (is_spelled line command (ap command_of_words split ∙ read)).0

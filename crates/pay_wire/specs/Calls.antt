@@ -23,11 +23,11 @@ abbrev pub failure_of : {T E : Type 0} → (E → ErrorKind) → Result T E → 
 failure_of kind (Ok x) = None
 failure_of kind (Err e) = Some (kind e)
 
--- With `Tells` for what a writer may answer: the writer before a call, the call with its answer, and the writer after it.
-module _ {W : Type 0} (Tells : W → WriterCall → W → Type 0) where
+-- With `MayAnswer` for what a writer may answer: the writer before a call, the call with its answer, and the writer after it.
+module _ {W : Type 0} (MayAnswer : W → WriterCall → W → Type 0) where
   -- a write was asked of it, and whatever it answered
   abbrev pub IsWrite : W → W → Type 0
-  IsWrite before after = (offered : ℕ) × (answer : Result ℕ ErrorKind) × Tells before (Wrote offered answer) after
+  IsWrite before after = (offered : ℕ) × (answer : Result ℕ ErrorKind) × MayAnswer before (Wrote offered answer) after
 
   -- so many writes were asked of it, one after another
   unfoldable pub AreWrites : ℕ → W → W → Type 0
@@ -36,13 +36,13 @@ module _ {W : Type 0} (Tells : W → WriterCall → W → Type 0) where
 
   -- it was flushed, and has not been asked since
   abbrev pub IsFlushed : W → Type 0
-  IsFlushed now = (before : W) × Tells before (Flushed None) now
+  IsFlushed now = (before : W) × MayAnswer before (Flushed None) now
 
   -- A fault comes from what the writer answered last, and NeverDone from so many writes.
   abbrev pub IsCaused : WriteFault → W → Type 0
-  IsCaused (Failed kind) now = (kind ≢ Interrupted) × (before : W) × (offered : ℕ) × Tells before (Wrote offered (Err kind)) now
-  IsCaused TookNothing now = (before : W) × (offered : ℕ) × (0 < offered) × Tells before (Wrote offered (Ok 0)) now
-  IsCaused (NotFlushed kind) now = (before : W) × Tells before (Flushed (Some kind)) now
+  IsCaused (Failed kind) now = (kind ≢ Interrupted) × (before : W) × (offered : ℕ) × MayAnswer before (Wrote offered (Err kind)) now
+  IsCaused TookNothing now = (before : W) × (offered : ℕ) × (0 < offered) × MayAnswer before (Wrote offered (Ok 0)) now
+  IsCaused (NotFlushed kind) now = (before : W) × MayAnswer before (Flushed (Some kind)) now
   IsCaused NeverDone now = (before : W) × (writes : ℕ) × (2 ^ 64 - 1 ≤ writes) × AreWrites writes before now
 
   -- it has failed, in whatever way

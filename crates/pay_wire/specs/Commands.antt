@@ -11,8 +11,8 @@ use Rattle.pay_wire.specs.declared.command.SpelledWhat.{SpelledWhat}
 use Rattle.pay_wire.specs.declared.command.SpelledWhat.TheVariants as spelled
 use Rattle.pay_wire.specs.declared.command.Form.{Form}
 use Rattle.pay_wire.specs.declared.command.Form.TheVariants as form
-use Rattle.pay_wire.specs.declared.command.Command.{Command}
-use Rattle.pay_wire.specs.declared.command.Command.TheVariants.{Tap, Fix, Due, Show, Close, Quit}
+use Rattle.pay_wire.specs.declared.command.SpelledCommand.{SpelledCommand}
+use Rattle.pay_wire.specs.declared.command.SpelledCommand.TheVariants.{Tap, Fix, Due, Show, Close, Quit}
 use Rattle.pay_wire.specs.declared.command.Keyword.{Keyword}
 use Rattle.pay_wire.specs.declared.command.Keyword.TheVariants as keyword
 use Rattle.pay_day.specs.declared.limits.TheConstants.{FIRST_DAY, LAST_DAY}
@@ -34,7 +34,7 @@ kind_of_word word =
     else if bytes_eq word (codes "BUS") then Some Bus
     else None
 
--- the fields of a tap, each in its range, and no word behind them
+-- the fields of a tap, each in its range, and no word after them
 unfoldable pub tap_of : List (List ℕ) → Option SpelledTap
 tap_of fields = do
   reader ← field (number_within 1 MOST_READER) fields
@@ -47,14 +47,14 @@ tap_of fields = do
       then Some (record { reader = reader.0; seq = seq.0; account = account.0; utc = utc.0; place = place.0; kind = kind.0 })
       else None
 
--- a reader or a staff up to the greatest, and the seq of its tap or correction, and no word behind them
+-- a reader or a staff up to the greatest, and the seq of its tap or correction, and no word after them
 unfoldable pub named_of : ℕ → List (List ℕ) → Option (ℕ × ℕ)
 named_of most fields = do
   first ← field (number_within 1 most) fields
   seq ← field (number_within 0 MOST_SEQ) first.1
   if has_none seq.1 then Some (first.0, seq.0) else None
 
--- the tap that a fill adds, each field in its range, and no word behind them
+-- the tap that a fill adds, each field in its range, and no word after them
 unfoldable pub fill_of : List (List ℕ) → Option SpelledWhat
 fill_of fields = do
   utc ← field (number_within 0 MOST_UTC) fields
@@ -62,7 +62,7 @@ fill_of fields = do
   kind ← field kind_of_word place.1
   if has_none kind.1 then Some (spelled.Fill utc.0 place.0 kind.0) else None
 
--- the service day and the pence of a credit, each in its range, and no word behind them
+-- the service day and the pence of a credit, each in its range, and no word after them
 unfoldable pub credit_of : List (List ℕ) → Option SpelledCredit
 credit_of fields = do
   day ← field (number_within FIRST_DAY LAST_DAY) fields
@@ -106,14 +106,14 @@ fix_of fields = do
   what ← what_of account.1
   Some (record { staff = staff.0; seq = seq.0; account = account.0; what = what })
 
--- an account and a service day, each in its range, and no word behind them
+-- an account and a service day, each in its range, and no word after them
 unfoldable pub account_day_of : List (List ℕ) → Option (ℕ × ℕ)
 account_day_of fields = do
   account ← field (number_within 1 MOST_ACCOUNT) fields
   day ← field (number_within FIRST_DAY LAST_DAY) account.1
   if has_none day.1 then Some (account.0, day.0) else None
 
--- a service day in its range, and no word behind it
+-- a service day in its range, and no word after it
 unfoldable pub day_of : List (List ℕ) → Option ℕ
 day_of fields = do
   day ← field (number_within FIRST_DAY LAST_DAY) fields
@@ -130,8 +130,8 @@ keyword_of name =
     else if bytes_eq name (codes "QUIT") then Some keyword.Quit
     else None
 
--- the command of a keyword and the words behind it
-abbrev pub command_for : Keyword → List (List ℕ) → Option Command
+-- the command of a keyword and the words after it
+abbrev pub command_for : Keyword → List (List ℕ) → Option SpelledCommand
 command_for keyword.Tap fields = do
   tap ← tap_of fields
   Some (Tap tap)
@@ -150,14 +150,14 @@ command_for keyword.Close fields = do
 command_for keyword.Quit fields = if has_none fields then Some Quit else None
 
 -- the first word says the command, and the others are its fields
-abbrev pub command_of_words : List (List ℕ) → Option Command
+abbrev pub command_of_words : List (List ℕ) → Option SpelledCommand
 command_of_words [] = None
 command_of_words (name ∷ fields) = do
   keyword ← keyword_of name
   command_for keyword fields
 
 -- the command that a line spells
-abbrev pub command_of : List ℕ → Option Command
+abbrev pub command_of : List ℕ → Option SpelledCommand
 command_of line = command_of_words (words line)
 
 tap_on_a_bus : command_of (codes "TAP 1 1 7 1704697200 50 BUS") ≡ Some (Tap (record { reader = 1; seq = 1; account = 7; utc = 1_704_697_200; place = 50; kind = Bus }))

@@ -10,7 +10,7 @@ is_space byte = byte == 32
 abbrev pub words : List ℕ → List (List ℕ)
 words line = slice_split is_space line
 
--- the words behind a word: none, or those behind the space that ends it
+-- the words after a word: none, or those after the space that ends it
 abbrev pub words_after : List ℕ → List (List ℕ)
 words_after [] = []
 words_after (space ∷ line) = words line
@@ -29,7 +29,7 @@ infixl 10 ◌>>=◌
 abbrev pub ◌>>=◌ : {A B : Type 0} → Option A → (A → Option B) → Option B
 option >>= f = option_and_then f option
 
--- what the first word says, and the words behind it
+-- what the first word says, and the words after it
 abbrev pub field : {A : Type 0} → (List ℕ → Option A) → List (List ℕ) → Option (A × List (List ℕ))
 field read [] = None
 field read (word ∷ more) = do

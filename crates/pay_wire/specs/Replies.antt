@@ -15,8 +15,8 @@ use Rattle.pay_rules.specs.declared.shown.LineKind.TheVariants as kind
 use Rattle.pay_rules.specs.declared.shown.Shown.{Shown}
 use Rattle.pay_money.specs.declared.limits.TheConstants.{OPERATORS}
 use Rattle.pay_wire.specs.declared.reply.Closed.{Closed}
-use Rattle.pay_wire.specs.declared.reply.Reply.{Reply}
-use Rattle.pay_wire.specs.declared.reply.Reply.TheVariants as replies
+use Rattle.pay_wire.specs.declared.reply.SpelledReply.{SpelledReply}
+use Rattle.pay_wire.specs.declared.reply.SpelledReply.TheVariants as replies
 
 -- the number of a refusal, which stays its own
 abbrev pub refusal_number : Refusal → ℕ
@@ -89,7 +89,7 @@ word_of_share operator share = decimal operator ++ codes "=" ++ share
 abbrev pub words_of_share : ℕ → List ℕ → List (List ℕ)
 words_of_share operator share = if bytes_eq share (codes "0") then [] else word_of_share operator share ∷ []
 
--- the shares of an operator and of those behind it, by their numerals, in ascending order of operator
+-- the shares of an operator and of those after it, by their numerals, in ascending order of operator
 abbrev pub words_of_shares : ℕ → List (List ℕ) → List (List ℕ)
 words_of_shares operator [] = []
 words_of_shares operator (share ∷ more) = words_of_share operator share ++ words_of_shares (operator + 1) more
@@ -112,7 +112,7 @@ abbrev pub words_of_closed : Closed → List (List ℕ)
 words_of_closed c = codes "DONE" ∷ decimal c.day ∷ decimal (length c.postings) ∷ []
 
 -- the words of the line that each reply has, in order
-abbrev pub words_of_reply : Reply → List (List ℕ)
+abbrev pub words_of_reply : SpelledReply → List (List ℕ)
 words_of_reply (replies.Priced p) = words_of_priced p
 words_of_reply (replies.Shown s) = words_of_shown s
 words_of_reply (replies.Due q) = words_of_due q
@@ -129,7 +129,7 @@ abbrev pub text_of_fields : List (List ℕ) → List ℕ
 text_of_fields = flat_map (λ word. 32 ∷ word)
 
 -- the postings that have lines of their own before that line
-abbrev pub postings_of_reply : Reply → List Posting
+abbrev pub postings_of_reply : SpelledReply → List Posting
 postings_of_reply (replies.Closed c) = c.postings
 postings_of_reply _ = []
 
@@ -137,8 +137,8 @@ postings_of_reply _ = []
 abbrev pub text_of_postings : List Posting → List ℕ
 text_of_postings = flat_map (λ p. line_of_words (words_of_posting p))
 
--- the journeys that have lines of their own behind that line
-abbrev pub journeys_of_reply : Reply → List Line
+-- the journeys that have lines of their own after that line
+abbrev pub journeys_of_reply : SpelledReply → List Line
 journeys_of_reply (replies.Shown s) = s.lines
 journeys_of_reply _ = []
 
@@ -146,12 +146,12 @@ journeys_of_reply _ = []
 abbrev pub text_of_journeys : List Line → List ℕ
 text_of_journeys = flat_map (λ l. line_of_words (words_of_journey l))
 
--- the lines of a reply behind its postings: the line that each has, and the journeys
-abbrev pub ending_of_reply : Reply → List ℕ
+-- the lines of a reply after its postings: the line that each has, and the journeys
+abbrev pub ending_of_reply : SpelledReply → List ℕ
 ending_of_reply reply = line_of_words (words_of_reply reply) ++ text_of_journeys (journeys_of_reply reply)
 
 -- the lines of a reply, newlines included
-abbrev pub spelling_of_reply : Reply → List ℕ
+abbrev pub spelling_of_reply : SpelledReply → List ℕ
 spelling_of_reply reply = text_of_postings (postings_of_reply reply) ++ ending_of_reply reply
 
 -- a journey as who reads its line knows it: its day stands in the first line, and its local second and a band nowhere
@@ -167,7 +167,7 @@ posting_as_read p = record {
 }
 
 -- a reply as who reads its lines knows it
-abbrev pub reply_as_read : Reply → Reply
+abbrev pub reply_as_read : SpelledReply → SpelledReply
 reply_as_read (replies.Shown s) = replies.Shown (record { account = s.account; day = s.day; lines = map journey_as_read s.lines; day_price = s.day_price })
 reply_as_read (replies.Closed c) = replies.Closed (record { day = c.day; postings = map posting_as_read c.postings })
 reply_as_read reply = reply
@@ -198,7 +198,7 @@ pub record IsReplyPosting (posting : Posting) : Type 0 where
   pub shares : AllByRecursion (λ amount. mag amount < 2 ^ 63) posting.share_amounts
 
 -- the numbers of a reply are those of its types
-abbrev pub IsReply : Reply → Type 0
+abbrev pub IsReply : SpelledReply → Type 0
 IsReply (replies.Priced p) = (p.day < 2 ^ 32) × (p.day_price < 2 ^ 64) × (p.week_price < 2 ^ 64)
 IsReply (replies.Shown s) = (s.account < 2 ^ 32) × (s.day < 2 ^ 32) × (length s.lines < 2 ^ 64) × (s.day_price < 2 ^ 64) × AllByRecursion IsReplyJourney s.lines
 IsReply (replies.Due q) = IsReplyQuote q
@@ -230,7 +230,7 @@ unfolding digits
 empty_day = refl
 
 -- what account 7 owes for a week through one of its days, at a version
-abbrev quoted : ℕ → ℕ → ℕ → ℕ → List ℕ → Reply
+abbrev quoted : ℕ → ℕ → ℕ → ℕ → List ℕ → SpelledReply
 quoted week through version due shares =
     replies.Due (record { account = 7; week = week; through = through; version = version; due = due; shares = shares })
 
@@ -271,7 +271,7 @@ abbrev to_operator_4 : ℤ → List ℤ
 to_operator_4 amount = pos 0 ∷ pos 0 ∷ pos 0 ∷ amount ∷ replicate 12 (pos 0)
 
 -- a close of day 19730
-abbrev closed_of : List Posting → Reply
+abbrev closed_of : List Posting → SpelledReply
 closed_of postings = replies.Closed (record { day = 19_730; postings = postings })
 
 charge : spelling_of_reply (closed_of (posted 19_730 1 175 (pos 175) (to_operator_4 (pos 175)) ∷ [])) ≡ codes "PAY 7 19730 19730 1 175 175 4=175\nDONE 19730 1\n"

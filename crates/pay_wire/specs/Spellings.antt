@@ -7,8 +7,8 @@ use Rattle.pay_wire.specs.declared.command.SpelledTap.{SpelledTap}
 use Rattle.pay_wire.specs.declared.command.SpelledFix.{SpelledFix}
 use Rattle.pay_wire.specs.declared.command.SpelledWhat.{SpelledWhat}
 use Rattle.pay_wire.specs.declared.command.SpelledWhat.TheVariants as spelled
-use Rattle.pay_wire.specs.declared.command.Command.{Command}
-use Rattle.pay_wire.specs.declared.command.Command.TheVariants.{Tap, Fix, Due, Show, Close, Quit}
+use Rattle.pay_wire.specs.declared.command.SpelledCommand.{SpelledCommand}
+use Rattle.pay_wire.specs.declared.command.SpelledCommand.TheVariants.{Tap, Fix, Due, Show, Close, Quit}
 use Rattle.pay_wire.specs.declared.command.SpelledCredit.{SpelledCredit}
 use Rattle.pay_rules.specs.declared.limits.TheConstants.{MOST_CREDIT}
 use Rattle.pay_day.specs.Words.{IsDay}
@@ -85,7 +85,7 @@ abbrev pub spelling_of_close : ℕ → List ℕ
 spelling_of_close day = join_with_byte 32 (codes "CLOSE" ∷ decimal day ∷ [])
 
 -- each number of a command is in its range
-abbrev pub IsSpelled : Command → Type 0
+abbrev pub IsSpelled : SpelledCommand → Type 0
 IsSpelled (Tap tap) = IsSpelledTap tap
 IsSpelled (Fix fix) = IsSpelledFix fix
 IsSpelled (Due account day) = IsAccountDay account day
@@ -94,7 +94,7 @@ IsSpelled (Close day) = IsDay day
 IsSpelled Quit = Unit {0}
 
 -- the one line that spells a command
-abbrev pub spelling_of_command : Command → List ℕ
+abbrev pub spelling_of_command : SpelledCommand → List ℕ
 spelling_of_command (Tap tap) = spelling_of_tap tap
 spelling_of_command (Fix fix) = spelling_of_fix fix
 spelling_of_command (Due account day) = spelling_of_due account day
@@ -103,7 +103,7 @@ spelling_of_command (Close day) = spelling_of_close day
 spelling_of_command Quit = codes "QUIT"
 
 -- what a line has to be to spell a command
-abbrev pub Spells : List ℕ → Command → Type 0
+abbrev pub Spells : List ℕ → SpelledCommand → Type 0
 Spells line command = IsSpelled command × (line ≡ spelling_of_command command)
 
 -- one line, and no longer than a line may be

@@ -65,7 +65,7 @@ pub enum SpelledWhat {
 
 /// What a line asks for.
 #[derive(Clone, Copy, Debug, PartialEq, Eq)]
-pub enum Command {
+pub enum SpelledCommand {
     /// `TAP reader seq account utc place KIND`: a tap.
     Tap(SpelledTap),
     /// `FIX staff seq account`, and what it does: a correction.
@@ -81,7 +81,7 @@ pub enum Command {
 }
 
 /// The first word of a command.
-#[derive(Clone, Copy, Debug, PartialEq, Eq)]
+#[derive(Clone, Copy)]
 enum Keyword {
     Tap,
     Fix,
@@ -92,7 +92,7 @@ enum Keyword {
 }
 
 /// The word that says what a correction does.
-#[derive(Clone, Copy, Debug, PartialEq, Eq)]
+#[derive(Clone, Copy)]
 enum Form {
     Void,
     Fill,
@@ -104,7 +104,7 @@ enum Form {
 /// space between them and none at either end, numbers are as `read_number` takes them, and each is in
 /// the range that the command names.
 #[tactic(auto, using(crate::proofs::Spelled::in_range))]
-pub fn read_command(line: &[u8]) -> Option<Command>
+pub fn read_command(line: &[u8]) -> Option<SpelledCommand>
     ensures value { result ≡ command_of line.now }
     ensures in_range { IfSome result IsSpelled }
 {
@@ -112,26 +112,26 @@ pub fn read_command(line: &[u8]) -> Option<Command>
     command_after(read_keyword(name)?, fields)
 }
 
-/// The command of a keyword and the fields behind it.
-fn command_after(keyword: Keyword, fields: &[u8]) -> Option<Command>
+/// The command of a keyword and the fields after it.
+fn command_after(keyword: Keyword, fields: &[u8]) -> Option<SpelledCommand>
     ensures { result ≡ command_for keyword (words_after fields.now) }
 {
     match keyword {
-        Keyword::Tap => Some(Command::Tap(read_tap(fields)?)),
-        Keyword::Fix => Some(Command::Fix(read_fix(fields)?)),
+        Keyword::Tap => Some(SpelledCommand::Tap(read_tap(fields)?)),
+        Keyword::Fix => Some(SpelledCommand::Fix(read_fix(fields)?)),
         Keyword::Due => {
             let (account, day) = read_account_day(fields)?;
-            Some(Command::Due { account, day })
+            Some(SpelledCommand::Due { account, day })
         }
         Keyword::Show => {
             let (account, day) = read_account_day(fields)?;
-            Some(Command::Show { account, day })
+            Some(SpelledCommand::Show { account, day })
         }
         Keyword::Close => {
             let day = read_day(fields)?;
-            Some(Command::Close { day })
+            Some(SpelledCommand::Close { day })
         }
-        Keyword::Quit if is_end(fields) => Some(Command::Quit),
+        Keyword::Quit if is_end(fields) => Some(SpelledCommand::Quit),
         Keyword::Quit => None,
     }
 }
@@ -199,7 +199,7 @@ fn read_what(fields: &[u8]) -> Option<SpelledWhat>
     what_after(form, rest)
 }
 
-/// What the fields behind the word of a form say, to the end of the line.
+/// What the fields after the word of a form say, to the end of the line.
 fn what_after(form: Form, fields: &[u8]) -> Option<SpelledWhat>
     ensures { result ≡ what_for form (words_after fields.now) }
 {
@@ -340,14 +340,14 @@ fn read_form(word: &[u8]) -> Option<Form>
     }
 }
 
-/// The word behind the space that stands first, and what follows it.
+/// The word after the space that stands first, and what follows it.
 fn next_word(fields: &[u8]) -> Option<(&[u8], &[u8])>
     ensures { option_map (λ x. (x.0.now, words_after x.1.now)) result ≡ field Some (words_after fields.now) }
 {
     Some(split_word(after_space(fields)?))
 }
 
-/// The words behind the space that stands first.
+/// The words after the space that stands first.
 fn after_space(fields: &[u8]) -> Option<&[u8]>
     ensures some { IfSome result (λ line. words_after fields.now ≡ words line.now) }
     ensures none { IfNone result (words_after fields.now ≡ []) }
@@ -365,7 +365,7 @@ fn is_end(fields: &[u8]) -> bool
     fields.is_empty()
 }
 
-/// The first word of a line, and the rest from the space behind it on.
+/// The first word of a line, and the rest from the space after it on.
 fn split_word(line: &[u8]) -> (&[u8], &[u8])
     ensures { words line.now ≡ result.0.now ∷ words_after result.1.now }
 {

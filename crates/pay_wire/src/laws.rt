@@ -4,8 +4,8 @@ ghost use Rattle.std.specs.Prelude.{◌≡◌, ℕ, ◌≤◌, List, ◌++◌, m
 ghost use Rattle.std.specs.List.{AllByRecursion, flat_map};
 ghost use Rattle.pay_wire.specs.declared.command.SpelledTap.{SpelledTap};
 ghost use Rattle.pay_wire.specs.declared.command.SpelledFix.{SpelledFix};
-ghost use Rattle.pay_wire.specs.declared.command.Command.{Command};
-ghost use Rattle.pay_wire.specs.declared.reply.Reply.{Reply};
+ghost use Rattle.pay_wire.specs.declared.command.SpelledCommand.{SpelledCommand};
+ghost use Rattle.pay_wire.specs.declared.reply.SpelledReply.{SpelledReply};
 ghost use Rattle.pay_wire.specs.declared.limits.TheConstants.{MOST_NUMBER};
 ghost use Rattle.pay_day.specs.Words.{IsDay};
 ghost use Rattle.pay_wire.specs.Numbers.{number_of};
@@ -22,16 +22,16 @@ pub fn one_numeral()
 
 /// What a line spells is what is read of it, and nothing else is read.
 pub fn read_as_spelled()
-    ensures read { (line : List ℕ) (command : Command) → Spells line command
+    ensures read { (line : List ℕ) (command : SpelledCommand) → Spells line command
         → command_of line ≡ Some command }
-    ensures spelled { (line : List ℕ) (command : Command) → command_of line ≡ Some command
+    ensures spelled { (line : List ℕ) (command : SpelledCommand) → command_of line ≡ Some command
         → Spells line command }
 {}
 
 /// No line spells two commands, and each command has one spelling.
 pub fn one_command()
-    ensures command { (line : List ℕ) (a b : Command) → Spells line a → Spells line b → a ≡ b }
-    ensures line { (command : Command) (a b : List ℕ) → Spells a command → Spells b command → a ≡ b }
+    ensures command { (line : List ℕ) (a b : SpelledCommand) → Spells line a → Spells line b → a ≡ b }
+    ensures line { (command : SpelledCommand) (a b : List ℕ) → Spells a command → Spells b command → a ≡ b }
     ensures tap { (a b : SpelledTap) → IsSpelledTap a → IsSpelledTap b
         → spelling_of_tap a ≡ spelling_of_tap b → a ≡ b }
     ensures fix { (a b : SpelledFix) → IsSpelledFix a → IsSpelledFix b
@@ -55,8 +55,8 @@ pub fn each_is_a_line()
 
 /// Replies that follow one another are told apart, so a stream of replies is read in one way.
 pub fn one_reply()
-    ensures first { (a b : Reply) (x y : List ℕ) → IsReply a → IsReply b
+    ensures first { (a b : SpelledReply) (x y : List ℕ) → IsReply a → IsReply b
         → spelling_of_reply a ++ x ≡ spelling_of_reply b ++ y → (reply_as_read a ≡ reply_as_read b) × (x ≡ y) }
-    ensures stream { (a b : List Reply) → AllByRecursion IsReply a → AllByRecursion IsReply b
+    ensures stream { (a b : List SpelledReply) → AllByRecursion IsReply a → AllByRecursion IsReply b
         → flat_map spelling_of_reply a ≡ flat_map spelling_of_reply b → map reply_as_read a ≡ map reply_as_read b }
 {}

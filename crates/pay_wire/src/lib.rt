@@ -4,6 +4,7 @@
 #![tactic(auto)]
 
 mod command;
+mod known_writer;
 pub mod laws;
 pub mod limits;
 mod number;
@@ -12,12 +13,13 @@ mod refusal;
 mod reply;
 mod sending;
 mod spelling;
-mod told_writer;
 
-pub use command::{Command, SpelledCredit, SpelledFix, SpelledTap, SpelledWhat, read_command};
+pub use command::{
+    SpelledCommand, SpelledCredit, SpelledFix, SpelledTap, SpelledWhat, read_command,
+};
+pub use known_writer::KnownWriter;
 pub use output::WriteFault;
 pub use refusal::Refusal;
-pub use reply::{Closed, Reply, SpelledLine};
+pub use reply::{Closed, SpelledLine, SpelledReply};
 pub use sending::{send, send_line};
 pub use spelling::command_line;
-pub use told_writer::ToldWriter;

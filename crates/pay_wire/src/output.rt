@@ -6,7 +6,7 @@ ghost use Rattle.std.specs.IoError.{error_kind};
 ghost use Rattle.pay_wire.specs.Calls.{Wrote, answer_of, IsFlushed, IsCaused, HasCause};
 ghost use Rattle.pay_wire.specs.Output.{has_failed};
 
-use crate::told_writer::ToldWriter;
+use crate::known_writer::KnownWriter;
 use std::io;
 use std::io::ErrorKind;
 use thiserror::Error;
@@ -26,7 +26,7 @@ pub enum WriteFault {
 }
 
 /// How a writer did when it was last asked for something.
-#[derive(Clone, Copy, Debug, PartialEq, Eq)]
+#[derive(Clone, Copy)]
 pub enum State {
     /// It took some bytes, or was not asked yet.
     Open,
@@ -46,7 +46,7 @@ pub struct Output<'a, W> {
     state: State,
 }
 
-impl<'a, W: ToldWriter> Output<'a, W> {
+impl<'a, W: KnownWriter> Output<'a, W> {
     /// A writer that was not asked yet.
     pub fn new(writer: &'a mut W) -> Output<'a, W>
         ensures same_writer { result.writer.ghost_name ≡ writer.entry.ghost_name }
@@ -78,8 +78,8 @@ impl<'a, W: ToldWriter> Output<'a, W> {
         ensures interrupted { IfErr result (λ e. error_kind e ≡ ErrorKind.Interrupted → self.new.state ≡ State.Interrupted) }
         ensures failed { IfErr result (λ e. error_kind e ≢ ErrorKind.Interrupted
             → self.new.state ≡ State.Failed (WriteFault.Failed (error_kind e))) }
-        ensures told { W.Tells self.old.writer.now (Wrote (length bytes.now) (answer_of (λ n. n) error_kind result)) self.new.writer.now }
-        ensures cause { HasCause W.Tells self.new.state self.new.writer.now }
+        ensures told { W.MayAnswer self.old.writer.now (Wrote (length bytes.now) (answer_of (λ n. n) error_kind result)) self.new.writer.now }
+        ensures cause { HasCause W.MayAnswer self.new.state self.new.writer.now }
     {
         let written = self.writer.ask_to_write(bytes);
         self.state = state_after(&written);
@@ -94,8 +94,8 @@ impl<'a, W: ToldWriter> Output<'a, W> {
         ensures ok { OnOk result (self.new.state ≡ State.Flushed) }
         ensures err { IfErr result (λ fault. self.new.state ≡ State.Failed fault) }
         ensures not_interrupted { IfErr result (λ fault. fault ≢ WriteFault.Failed ErrorKind.Interrupted) }
-        ensures flushed { OnOk result (IsFlushed W.Tells self.new.writer.now) }
-        ensures cause { IfErr result (λ fault. IsCaused W.Tells fault self.new.writer.now) }
+        ensures flushed { OnOk result (IsFlushed W.MayAnswer self.new.writer.now) }
+        ensures cause { IfErr result (λ fault. IsCaused W.MayAnswer fault self.new.writer.now) }
     {
         match self.writer.ask_to_flush() {
             Ok(()) => {

@@ -32,7 +32,7 @@ pub struct Closed {
 
 /// The reply to a line.
 #[derive(Drop)]
-pub enum Reply {
+pub enum SpelledReply {
     /// A tap was accepted.
     Priced(Priced),
     /// The journeys of a service day.
@@ -47,39 +47,47 @@ pub enum Reply {
     Bye,
 }
 
-impl Reply {
+impl SpelledReply {
     /// The postings that have lines of their own before the line that each reply has.
     pub(crate) fn postings(&self) -> &[Posting]
         ensures { result.now ≡ postings_of_reply self.now }
     {
         match self {
-            Reply::Closed(closed) => closed.postings.as_slice(),
-            Reply::Priced(_) | Reply::Shown(_) | Reply::Due(_) | Reply::No(_) | Reply::Bye => &[],
+            SpelledReply::Closed(closed) => closed.postings.as_slice(),
+            SpelledReply::Priced(_)
+            | SpelledReply::Shown(_)
+            | SpelledReply::Due(_)
+            | SpelledReply::No(_)
+            | SpelledReply::Bye => &[],
         }
     }
 
-    /// The journeys that have lines of their own behind the line that each reply has.
+    /// The journeys that have lines of their own after the line that each reply has.
     pub(crate) fn journeys(&self) -> &[Line]
         ensures { result.now ≡ journeys_of_reply self.now }
     {
         match self {
-            Reply::Shown(shown) => shown.lines.as_slice(),
-            Reply::Priced(_) | Reply::Due(_) | Reply::Closed(_) | Reply::No(_) | Reply::Bye => &[],
+            SpelledReply::Shown(shown) => shown.lines.as_slice(),
+            SpelledReply::Priced(_)
+            | SpelledReply::Due(_)
+            | SpelledReply::Closed(_)
+            | SpelledReply::No(_)
+            | SpelledReply::Bye => &[],
         }
     }
 }
 
 /// The line that each reply has, newline included.
-pub fn main_line(reply: &Reply) -> SpelledLine
+pub fn main_line(reply: &SpelledReply) -> SpelledLine
     ensures { result.items ≡ line_of_words (words_of_reply reply.now) }
 {
     match reply {
-        Reply::Priced(priced) => render_priced(priced),
-        Reply::Shown(shown) => render_shown(shown),
-        Reply::Due(quote) => render_due(quote),
-        Reply::Closed(closed) => done_line(closed),
-        Reply::No(refusal) => render_refusal(*refusal),
-        Reply::Bye => started(b"BYE\n"),
+        SpelledReply::Priced(priced) => render_priced(priced),
+        SpelledReply::Shown(shown) => render_shown(shown),
+        SpelledReply::Due(quote) => render_due(quote),
+        SpelledReply::Closed(closed) => done_line(closed),
+        SpelledReply::No(refusal) => render_refusal(*refusal),
+        SpelledReply::Bye => started(b"BYE\n"),
     }
 }
 

@@ -4,12 +4,12 @@ ghost use Rattle.arrayvec.specs.ArrayVec.{array_vec_len};
 ghost use Rattle.pay_wire.specs.Replies.{text_of_fields};
 ghost use Rattle.pay_wire.specs.Spellings.{spelling_of_kind, spelling_of_tap, words_of_what, spelling_of_fix, spelling_of_account_day, spelling_of_close, spelling_of_command};
 
-use crate::command::{Command, SpelledFix, SpelledTap, SpelledWhat};
+use crate::command::{SpelledCommand, SpelledFix, SpelledTap, SpelledWhat};
 use crate::reply::{REPLY_BYTES, SpelledLine, put, put_field, started};
 use pay_rules::Kind;
 
 /// The line of a command, newline included: its one spelling, if its numbers are in their ranges.
-pub fn command_line(command: &Command) -> SpelledLine
+pub fn command_line(command: &SpelledCommand) -> SpelledLine
     ensures { result.items ≡ spelling_of_command command.now ++ codes "\n" }
 {
     let mut line = spelled(command);
@@ -18,17 +18,17 @@ pub fn command_line(command: &Command) -> SpelledLine
 }
 
 /// The words of a command, without a newline.
-fn spelled(command: &Command) -> SpelledLine
+fn spelled(command: &SpelledCommand) -> SpelledLine
     ensures items { result.items ≡ spelling_of_command command.now }
     ensures len { array_vec_len result + 1 ≤ REPLY_BYTES }
 {
     match command {
-        Command::Tap(tap) => spelled_tap(tap),
-        Command::Fix(fix) => spelled_fix(fix),
-        Command::Due { account, day } => spelled_account_day(b"DUE", *account, *day),
-        Command::Show { account, day } => spelled_account_day(b"SHOW", *account, *day),
-        Command::Close { day } => spelled_close(*day),
-        Command::Quit => started(b"QUIT"),
+        SpelledCommand::Tap(tap) => spelled_tap(tap),
+        SpelledCommand::Fix(fix) => spelled_fix(fix),
+        SpelledCommand::Due { account, day } => spelled_account_day(b"DUE", *account, *day),
+        SpelledCommand::Show { account, day } => spelled_account_day(b"SHOW", *account, *day),
+        SpelledCommand::Close { day } => spelled_close(*day),
+        SpelledCommand::Quit => started(b"QUIT"),
     }
 }
 

@@ -14,7 +14,7 @@ use Rattle.clap.specs.declared.builder.range.ValueRange.{ValueRange}
 use Rattle.clap.specs.declared.builder.value_parser.ValueParser.{ValueParser}
 use Rattle.clap.specs.declared.builder.value_parser.ValueParser.TheVariants as vp
 use Rattle.clap.specs.declared.builder.value_parser.Reading.TheVariants as reading
-use Rattle.pay_words.specs.Options.{Grammar, Place, Setting, flag_value, is_flag, name_of, place_behind, place_reader, reader_of, setting_named}
+use Rattle.pay_words.specs.Options.{Grammar, Place, Setting, flag_value, is_flag, name_of, place_after, place_reader, reader_of, setting_named}
 use Rattle.pay_words.specs.Options.{port_option, lanes_option, shards_option, sessions_option, close_option, journal_option, sync_option, ledger_option}
 use Rattle.pay_words.specs.Options.{fares_place, zone_place, account_place, day_place}
 use Rattle.pay_words.proofs.OptionRows.{a_row, found, no_row, row_added, row_with}
@@ -194,7 +194,7 @@ rule_by_long (k ∷ options) name = go (bytes_eq (name_of k) name) refl (rule_by
     go true t next = rw t refl
     go false t next = rw t next
 
--- where the next value stands, behind these
+-- where the next value stands, after these
 abbrev pub position_of : List Text → ℕ
 position_of [] = 1
 position_of (a ∷ []) = 2
@@ -208,8 +208,8 @@ pub record IsBuilt (g : Grammar) (c : List Rule) : Type 0 where
   pub by_short : ShortOptions c false
   pub by_name : OfEach (λ k. arg_by_id c (name_of k) ≡ Some (setting_rule k)) g.options
   pub by_place : OfEach (λ p. arg_by_id c (place_name p) ≡ Some (rule_at p)) g.places
-  pub by_index : (vs : List Text) → arg_by_index c (position_of vs) ≡ option_map rule_at (place_behind g.places vs)
-  pub next : (vs : List Text) (p : Place) (word : Text) → place_behind g.places vs ≡ Some p → min (position_of vs + 1) usize_max ≡ position_of (vs ++ word ∷ [])
+  pub by_index : (vs : List Text) → arg_by_index c (position_of vs) ≡ option_map rule_at (place_after g.places vs)
+  pub next : (vs : List Text) (p : Place) (word : Text) → place_after g.places vs ≡ Some p → min (position_of vs + 1) usize_max ≡ position_of (vs ++ word ∷ [])
   pub defaults : (rows : List Row) → defaults_fault rows c ≡ []
 
 module _ (g : Grammar) (c : List Rule) (built : IsBuilt g c) where

@@ -5,7 +5,7 @@ use Rattle.std.proofs.lemmas.Bool.Decides.{eqb_tells}
 use Rattle.clap.specs.ValueTests.{is_unsigned_in}
 use Rattle.clap.specs.Walk.{Text}
 use Rattle.pay_words.specs.Asked.{HaveNoHyphens}
-use Rattle.pay_words.specs.Options.{AreParts, Grammar, IsOption, MayStandApart, Part, Place, Said, ProgramWord, Setting, StandApart, all_of, all_said, flag_value, is_flag, name_of, next_alone, next_joined, next_part, next_value, one_more_plain, one_more_value, place_behind, place_reader, placed, plain_words, program_word, reader_of, said, value_for, values_of, words_of_parts}
+use Rattle.pay_words.specs.Options.{AreParts, Grammar, IsOption, MayStandApart, Part, Place, Said, ProgramWord, Setting, StandApart, all_of, all_said, flag_value, is_flag, name_of, next_alone, next_joined, next_part, next_value, one_more_plain, one_more_value, place_after, place_reader, placed, plain_words, program_word, reader_of, said, value_for, values_of, words_of_parts}
 use Rattle.pay_words.specs.Options.{port_option, lanes_option, shards_option, sessions_option, close_option, journal_option, sync_option, ledger_option}
 use Rattle.pay_words.specs.OneWord as words
 use Rattle.pay_words.specs.Options as say
@@ -24,7 +24,7 @@ Fits ps [] = ⊤
 Fits [] (v ∷ vs) = ⊥
 Fits (p ∷ ps) (v ∷ vs) = (place_reader p v ≡ true) × Fits ps vs
 
-fits_middle : (ps : List Place) (a : List Text) (w : Text) (b : List Text) (x : Said) → Fits ps (a ++ w ∷ b) → placed (place_behind ps a) w x ≡ x
+fits_middle : (ps : List Place) (a : List Text) (w : Text) (b : List Text) (x : Said) → Fits ps (a ++ w ∷ b) → placed (place_after ps a) w x ≡ x
 fits_middle [] [] w b x h = absurd h
 fits_middle [] (y ∷ a) w b x h = absurd h
 fits_middle (p ∷ ps) [] w b x h = rw h.0 refl

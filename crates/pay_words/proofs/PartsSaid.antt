@@ -6,7 +6,7 @@ use Rattle.std.specs.Str.{bytes_eq}
 use Rattle.clap.specs.Lexer.{has_byte, long_of, long_of_rest, name_and_value, strip_byte}
 use Rattle.clap.specs.Walk.{Rule, Text}
 use Rattle.pay_words.specs.Asked.{without_dashes}
-use Rattle.pay_words.specs.Options.{AreParts, Grammar, IsOption, Part, Place, Said, ProgramWord, Setting, all_of, help_wanted, not_taken, all_plain, all_said, flag_value, is_flag, name_of, next_alone, next_joined, next_part, next_value, one_more_value, place_behind, place_reader, placed, plain_words, program_word, reader_of, said, setting_named, values_of, words_of_part, words_of_parts}
+use Rattle.pay_words.specs.Options.{AreParts, Grammar, IsOption, Part, Place, Said, ProgramWord, Setting, all_of, help_wanted, not_taken, all_plain, all_said, flag_value, is_flag, name_of, next_alone, next_joined, next_part, next_value, one_more_value, place_after, place_reader, placed, plain_words, program_word, reader_of, said, setting_named, values_of, words_of_part, words_of_parts}
 use Rattle.pay_words.specs.OneWord as words
 use Rattle.pay_words.specs.Options as say
 use Rattle.pay_words.proofs.OptionParts.{parts_more, words_more}
@@ -59,7 +59,7 @@ after_hyphen (b ∷ rest) long is = go (b == 45) refl
     go false t =
         let none : None ≡ Some long = rw t at is in cc
 
--- a long option is two hyphens, its name, and perhaps its value behind an equals sign
+-- a long option is two hyphens, its name, and perhaps its value after an equals sign
 long_word_is : (word : Text) (long : Text × Option Text) → long_of word ≡ Some long → word ≡ 45 ∷ 45 ∷ long_text long
 long_word_is [] long is = cc
 long_word_is (b ∷ rest) long is = go (b == 45) refl
@@ -131,7 +131,7 @@ module _ (g : Grammar) (program : Text) (c : List Rule) (built : IsBuilt g c) (a
 
   all_plain_says : (rest : List Text) (parts : List Part) → AreParts g parts → Says (all_plain g parts rest) (words_of_parts parts ++ rest)
   all_plain_says [] parts are = all_says parts are
-  all_plain_says (word ∷ rest) parts are = says_plain (place_behind g.places (plain_words parts)) word (all_plain g (parts ++ say.plain word ∷ []) rest) (words_of_parts parts ++ word ∷ rest)
+  all_plain_says (word ∷ rest) parts are = says_plain (place_after g.places (plain_words parts)) word (all_plain g (parts ++ say.plain word ∷ []) rest) (words_of_parts parts ++ word ∷ rest)
       (says_more (all_plain g (parts ++ say.plain word ∷ []) rest) parts (say.plain word) rest (word ∷ rest) refl
       (all_plain_says rest (parts ++ say.plain word ∷ []) (parts_more g parts (say.plain word) are tt)))
 
@@ -179,7 +179,7 @@ module _ (g : Grammar) (program : Text) (c : List Rule) (built : IsBuilt g c) (a
     part_says : (x : ProgramWord) → ReadsHere x word → Says (next_part g x parts word rest (λ more now_waits. said g more now_waits rest)) here
     part_says (say.setting k None) r = alone_says k r (is_flag k) refl
     part_says (say.setting k (Some v)) r = joined_says k v r (is_flag k) refl
-    part_says (say.other words.value) r = says_plain (place_behind g.places (plain_words parts)) word (said g (parts ++ say.plain word ∷ []) None rest) here
+    part_says (say.other words.value) r = says_plain (place_after g.places (plain_words parts)) word (said g (parts ++ say.plain word ∷ []) None rest) here
         (says_more (said g (parts ++ say.plain word ∷ []) None rest) parts (say.plain word) (without_dashes rest) (without_dashes (word ∷ rest)) (kept_word word rest r.0)
         (after (parts ++ say.plain word ∷ []) None (parts_more g parts (say.plain word) are tt) tt))
     part_says (say.other words.dashes) r =
@@ -210,6 +210,6 @@ module _ (g : Grammar) (program : Text) (c : List Rule) (built : IsBuilt g c) (a
   says_all (word ∷ rest) parts (Some k) are may =
       value_says parts are word rest (λ more waits h w. says_all rest more waits h w) k may (program_word g word) (reads_as g program c built apart [] [] None refl word)
 
-  -- but for the first `--`, the words behind the name of the program are those of the parts
+  -- but for the first `--`, the words after the name of the program are those of the parts
   pub says : (rest : List Text) → Says (all_said g rest) (without_dashes rest)
   says rest = says_all rest [] None tt tt

@@ -12,7 +12,7 @@ use Rattle.clap.specs.Kinds.{Kinds, or_else}
 use Rattle.clap.specs.Faults.{check_fault, defaults_fault, flag_word_fault, long_fault, positional_fault, react_fault, settle_fault, step_fault, stray_fault, turn_fault, use_fault, walk_fault}
 use Rattle.clap.specs.declared.error.kind.ErrorKind.TheVariants.{DisplayHelp, InvalidValue, TooManyValues}
 use Rattle.pay_words.specs.OneWord.{word_kind}
-use Rattle.pay_words.specs.Options.{Grammar, Part, Place, Said, ProgramWord, Setting, all_of, help_wanted, not_taken, all_plain, all_said, flag_value, is_flag, name_of, next_alone, next_joined, next_part, next_value, one_more_plain, one_more_value, place_behind, place_reader, placed, plain_words, program_word, reader_of, said, setting_in, setting_named, setting_or, value_for, values_of}
+use Rattle.pay_words.specs.Options.{Grammar, Part, Place, Said, ProgramWord, Setting, all_of, help_wanted, not_taken, all_plain, all_said, flag_value, is_flag, name_of, next_alone, next_joined, next_part, next_value, one_more_plain, one_more_value, place_after, place_reader, placed, plain_words, program_word, reader_of, said, setting_in, setting_named, setting_or, value_for, values_of}
 use Rattle.pay_words.specs.OneWord as words
 use Rattle.pay_words.specs.Options as say
 use Rattle.pay_words.proofs.OptionParts.{Gives, alone_gives, apart_gives, joined_gives, own_value, plain_more, plain_valued, values_plain, values_valued}
@@ -68,7 +68,7 @@ AreApart [] = ⊤
 AreApart (p ∷ ps) = OfEach (λ q. (bytes_eq (place_name p) (place_name q) ≡ false) × (bytes_eq (place_name q) (place_name p) ≡ false)) ps × AreApart ps
 
 -- what is so of each place is so of the next one
-of_place : (ps : List Place) (P : Place → Type 0) → OfEach P ps → (vs : List Text) (p : Place) → place_behind ps vs ≡ Some p → P p
+of_place : (ps : List Place) (P : Place → Type 0) → OfEach P ps → (vs : List Text) (p : Place) → place_after ps vs ≡ Some p → P p
 of_place [] P h vs p is = cc
 of_place (q ∷ ps) P h [] p is =
     let same : q ≡ p = cc in
@@ -76,14 +76,14 @@ of_place (q ∷ ps) P h [] p is =
 of_place (q ∷ ps) P h (v ∷ vs) p is = of_place ps P h.1 vs p is
 
 -- the next place has no row yet
-no_value_yet : (ps : List Place) (vs : List Text) (rows : List Row) (p : Place) → place_behind ps vs ≡ Some p → Places ps vs rows → found (place_name p) rows ≡ None
+no_value_yet : (ps : List Place) (vs : List Text) (rows : List Row) (p : Place) → place_after ps vs ≡ Some p → Places ps vs rows → found (place_name p) rows ≡ None
 no_value_yet [] vs rows p is h = cc
 no_value_yet (q ∷ ps) [] rows p is h =
     let same : q ≡ p = cc in
     subst (λ (x : Place). found (place_name x) rows ≡ None) same h.0
 no_value_yet (q ∷ ps) (v ∷ vs) rows p is h = no_value_yet ps vs rows p is h.2
 
-places_more : (ps : List Place) → AreApart ps → (vs : List Text) (rows : List Row) (p : Place) (word : Text) → place_behind ps vs ≡ Some p
+places_more : (ps : List Place) → AreApart ps → (vs : List Text) (rows : List Row) (p : Place) (word : Text) → place_after ps vs ≡ Some p
     → place_reader p word ≡ true → Places ps vs rows → Places ps (vs ++ word ∷ []) (rows ++ row_with (place_name p) word ∷ [])
 places_more [] apart vs rows p word is fits h = cc
 places_more (q ∷ ps) apart [] rows p word is fits h =
@@ -131,7 +131,7 @@ holds_valued g parts vs rows part k word gives none fits h = (
     ]
 
 -- a value in its place leaves the options as they were
-holds_plain : (g : Grammar) → AreApart g.places → (parts : List Part) (vs : List Text) (rows : List Row) (p : Place) (word : Text) → place_behind g.places vs ≡ Some p
+holds_plain : (g : Grammar) → AreApart g.places → (parts : List Part) (vs : List Text) (rows : List Row) (p : Place) (word : Text) → place_after g.places vs ≡ Some p
     → place_reader p word ≡ true → Holds g parts vs rows → Holds g (parts ++ say.plain word ∷ []) (vs ++ word ∷ []) (rows ++ row_with (place_name p) word ∷ [])
 holds_plain g apart parts vs rows p word is fits h = (
   plain_more parts word ∙ ap (λ (l : List Text). l ++ word ∷ []) h.0,
@@ -249,7 +249,7 @@ module _ (g : Grammar) (program : Text) (c : List Rule) (built : IsBuilt g c) (a
         ∙ (ap (λ (o : Option Rule). met_by waiting (long_met c o long.1 (held_at rows pending))) (setting_by_long g c built long.0 k named)
         ∙ ap (λ (u : Option Text). met_by waiting (long_met c (Some (setting_rule k)) u (held_at rows pending))) v_is)
 
-  -- an option that is done with its word: a flag, or a value behind an equals sign
+  -- an option that is done with its word: a flag, or a value after an equals sign
   abbrev Done : Setting → Option Text → List Text → Type 0
   Done k None vs = (is_flag k ≡ true) × (vs ≡ [])
   Done k (Some v) vs = (is_flag k ≡ false) × (vs ≡ v ∷ [])
@@ -268,7 +268,7 @@ module _ (g : Grammar) (program : Text) (c : List Rule) (built : IsBuilt g c) (a
   waits_fault : (k : Setting) → is_flag k ≡ false → (h : Held) → long_fault c false (Some (setting_rule k)) None h ≡ settle_fault c false h
   waits_fault k valued h = rw valued refl
 
-  -- ---- words that nothing behind them helps
+  -- ---- words that nothing after them helps
 
   module _ (rows : List Row) (pending : Option (Text × List Text)) (waiting : Waiting) (position : ℕ)
       (bad : Refuses (settle_fault c false (held_at rows pending)))
@@ -362,7 +362,7 @@ module _ (g : Grammar) (program : Text) (c : List Rule) (built : IsBuilt g c) (a
       → EndsFrom (said g parts (Some k) rest) (stand rows (Some (name_of k, [])) (walk.option (name_of k)) (position_of vs) false) rest
 
   -- one more value goes to the next place, where what is pending is judged
-  step_is : (vs : List Text) (rows : List Row) (pending : Option (Text × List Text)) (o : Option Place) → place_behind g.places vs ≡ o
+  step_is : (vs : List Text) (rows : List Row) (pending : Option (Text × List Text)) (o : Option Place) → place_after g.places vs ≡ o
       → step_fault shape (position_of vs) (held_at rows pending) value
       ≡ option_map_or (λ p. settle_fault c false (held_at rows pending)) o (stray_fault shape)
   step_is vs rows pending o is =
@@ -377,14 +377,14 @@ module _ (g : Grammar) (program : Text) (c : List Rule) (built : IsBuilt g c) (a
   -- it is refused where what is pending is
   value_stuck : (vs : List Text) (rows : List Row) (pending : Option (Text × List Text)) → Refuses (settle_fault c false (held_at rows pending))
       → Refuses (step_fault shape (position_of vs) (held_at rows pending) value)
-  value_stuck vs rows pending bad = go (place_behind g.places vs) refl
+  value_stuck vs rows pending bad = go (place_after g.places vs) refl
     where
-      go : (o : Option Place) → place_behind g.places vs ≡ o → Refuses (step_fault shape (position_of vs) (held_at rows pending) value)
+      go : (o : Option Place) → place_after g.places vs ≡ o → Refuses (step_fault shape (position_of vs) (held_at rows pending) value)
       go None is = subst Refuses (sym (step_is vs rows pending None is)) refl
       go (Some p) is = subst Refuses (sym (step_is vs rows pending (Some p) is)) bad
 
   -- a value goes to its place where what is pending is all right
-  to_place : (vs : List Text) (p : Place) → place_behind g.places vs ≡ Some p → (rows rows_then : List Row) (pending : Option (Text × List Text)) (t : Bool) (word : Text)
+  to_place : (vs : List Text) (p : Place) → place_after g.places vs ≡ Some p → (rows rows_then : List Row) (pending : Option (Text × List Text)) (t : Bool) (word : Text)
       → settled_rows c pending rows ≡ rows_then
       → after_step c word (stand rows pending idle (position_of vs) t) (held_at rows pending) value
       ≡ stand rows_then (Some (place_name p, word ∷ [])) idle (position_of (vs ++ word ∷ [])) t
@@ -397,7 +397,7 @@ module _ (g : Grammar) (program : Text) (c : List Rule) (built : IsBuilt g c) (a
       (settles : settle_fault c false (held_at rows pending) ≡ []) (are : settled_rows c pending rows ≡ rows_then)
       (word : Text) (rest : List Text) (x : Said) (after : Stands t x rest (parts ++ say.plain word ∷ [])) where
     -- the value stands in its place
-    in_place : (vs : List Text) (p : Place) → place_behind g.places vs ≡ Some p → Holds g parts vs rows_then → (fits : Bool) → place_reader p word ≡ fits
+    in_place : (vs : List Text) (p : Place) → place_after g.places vs ≡ Some p → Holds g parts vs rows_then → (fits : Bool) → place_reader p word ≡ fits
         → EndsFrom (if fits then x else not_taken) (stand rows_then (Some (place_name p, word ∷ [])) idle (position_of (vs ++ word ∷ [])) t) rest
     in_place vs p is h true fits =
         let none = no_value_yet g.places vs rows_then p is h.1 in
@@ -418,9 +418,9 @@ module _ (g : Grammar) (program : Text) (c : List Rule) (built : IsBuilt g c) (a
         → walked c [] (stand rows pending idle (position_of vs) t) word
         ≡ after_step c word (stand rows pending idle (position_of vs) t) (held_at rows pending) value
         → EndsFrom (one_more_plain g vs word x) (stand rows pending idle (position_of vs) t) (word ∷ rest)
-    value_step vs h turn goes = go (place_behind g.places vs) refl
+    value_step vs h turn goes = go (place_after g.places vs) refl
       where
-        go : (o : Option Place) → place_behind g.places vs ≡ o → EndsFrom (placed o word x) (stand rows pending idle (position_of vs) t) (word ∷ rest)
+        go : (o : Option Place) → place_after g.places vs ≡ o → EndsFrom (placed o word x) (stand rows pending idle (position_of vs) t) (word ∷ rest)
         go None is = level_refuses shape [] (stand rows pending idle (position_of vs) t) word rest false [] (subst Refuses (sym (turn ∙ step_is vs rows pending None is)) refl)
         go (Some p) is = moved (if place_reader p word then x else not_taken) (stand rows pending idle (position_of vs) t)
             (stand rows_then (Some (place_name p, word ∷ [])) idle (position_of (vs ++ word ∷ [])) t) word rest
@@ -436,7 +436,7 @@ module _ (g : Grammar) (program : Text) (c : List Rule) (built : IsBuilt g c) (a
       (value_step true parts rows pending rows_then settles are word rest (all_plain g (parts ++ say.plain word ∷ []) rest)
       (trailing rest (parts ++ say.plain word ∷ [])) vs h refl refl)
 
-  -- an option with its value behind it, and the words after it
+  -- an option with its value after it, and the words after it
   module _ (parts : List Part) (vs : List Text) (rows : List Row) (k : Setting) (valued : is_flag k ≡ false) (named : IsNamed k) (word : Text) (rest : List Text)
       (h : Holds g parts vs rows) (after : Stands false (said g (parts ++ say.apart k word ∷ []) None rest) rest (parts ++ say.apart k word ∷ [])) where
     apart_stuck : Refuses (use_fault false (setting_rule k) (word ∷ []) rows)
@@ -546,7 +546,7 @@ module _ (g : Grammar) (program : Text) (c : List Rule) (built : IsBuilt g c) (a
     idle_step (say.other words.call_for_version) vs rows pending rows_then settles are h r = refuses_by program c rows pending idle (position_of vs) word r.0 r.1 rest
     idle_step (say.other words.option) vs rows pending rows_then settles are h r = refuses_by program c rows pending idle (position_of vs) word r.0 r.1 rest
 
-    -- a word behind an option that waits for its value, by what it is
+    -- a word after an option that waits for its value, by what it is
     module _ (k : Setting) (valued : is_flag k ≡ false) (named : IsNamed k) (vs : List Text) (rows : List Row) (h : Holds g parts vs rows) where
       abbrev waiting_pending : Option (Text × List Text)
       waiting_pending = Some (name_of k, [])

@@ -72,7 +72,7 @@ with_listed : (fs rest : List Text) → with_values fs (values rest) ≡ values 
 with_listed [] rest = refl
 with_listed (f ∷ fs) rest = ap (with_value f) (with_listed fs rest)
 
--- what all the words ask for, behind these files
+-- what all the words ask for, after these files
 abbrev asks : Text → Text → List Text → Given → Asked
 asks a b fs g = replay_asked (with_value a (with_value b (with_values fs g)))
 
@@ -125,7 +125,7 @@ unfolding walked walk_fault defaults_fault
 trailing_none [] = refl
 trailing_none (a ∷ rest) = trailing_one a rest
 
--- a word behind files, by its kind
+-- a word after files, by its kind
 module _ (a b : Text) (fs : List Text) (f word : Text) (rest : List Text) (after : EndsFrom (asks a b ((fs ++ f ∷ []) ++ word ∷ []) (many_given rest)) (after_file a b (fs ++ f ∷ []) word false) rest) where
   abbrev rows : List Row
   rows = rows_of_files a b fs

@@ -8,7 +8,7 @@ use Rattle.clap.specs.Kinds.{Kinds}
 use Rattle.clap.specs.Faults.{check_fault}
 use Rattle.pay_words.specs.Asked.{run_asked, run_of}
 use Rattle.pay_words.specs.CommandLine.{flag_text}
-use Rattle.pay_words.specs.Options.{Place, Said, Setting, all_of, all_said, flag_value, help_wanted, name_of, not_taken, place_behind, plain_words, values_of}
+use Rattle.pay_words.specs.Options.{Place, Said, Setting, all_of, all_said, flag_value, help_wanted, name_of, not_taken, place_after, plain_words, values_of}
 use Rattle.pay_words.specs.Options.{fares_place, zone_place, journal_option, sync_option, ledger_option}
 use Rattle.pay_words.specs.Run.{first_given, is_given, run_grammar}
 use Rattle.pay_words.proofs.OptionRows.{a_row, default_added, default_row, found, found_new, found_other, no_default_faults, no_defaults, no_row, row_with}
@@ -29,14 +29,14 @@ run_shape = program_shape (codes "run") run_rules
 pub run_apart : AreApart run_grammar.places
 run_apart = (((refl, refl), tt), (tt, tt))
 
-run_index : (vs : List Text) → arg_by_index run_rules (position_of vs) ≡ option_map rule_at (place_behind run_grammar.places vs)
+run_index : (vs : List Text) → arg_by_index run_rules (position_of vs) ≡ option_map rule_at (place_after run_grammar.places vs)
 run_index [] = refl
 run_index (a ∷ []) = refl
 run_index (a ∷ b ∷ []) = refl
 run_index (a ∷ b ∷ c ∷ []) = refl
 run_index (a ∷ b ∷ c ∷ d ∷ more) = refl
 
-run_next : (vs : List Text) (p : Place) (word : Text) → place_behind run_grammar.places vs ≡ Some p → min (position_of vs + 1) usize_max ≡ position_of (vs ++ word ∷ [])
+run_next : (vs : List Text) (p : Place) (word : Text) → place_after run_grammar.places vs ≡ Some p → min (position_of vs + 1) usize_max ≡ position_of (vs ++ word ∷ [])
 run_next [] p word is = refl
 run_next (a ∷ []) p word is = refl
 run_next (a ∷ b ∷ more) p word is = cc

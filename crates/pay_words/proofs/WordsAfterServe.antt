@@ -7,7 +7,7 @@ use Rattle.clap.specs.Simple.{Shape}
 use Rattle.clap.specs.Kinds.{Kinds}
 use Rattle.clap.specs.Faults.{check_fault}
 use Rattle.pay_words.specs.Asked.{serve_asked, serve_of}
-use Rattle.pay_words.specs.Options.{Place, Said, all_of, all_said, help_wanted, not_taken, place_behind, plain_words, values_of}
+use Rattle.pay_words.specs.Options.{Place, Said, all_of, all_said, help_wanted, not_taken, place_after, plain_words, values_of}
 use Rattle.pay_words.specs.Options.{fares_place, zone_place, port_option, lanes_option, shards_option, sessions_option, close_option, journal_option, ledger_option}
 use Rattle.pay_words.specs.Run.{first_given}
 use Rattle.pay_words.specs.Serve.{serve_grammar}
@@ -29,14 +29,14 @@ serve_shape = program_shape (codes "serve") serve_rules
 pub serve_apart : AreApart serve_grammar.places
 serve_apart = (((refl, refl), tt), (tt, tt))
 
-serve_index : (vs : List Text) → arg_by_index serve_rules (position_of vs) ≡ option_map rule_at (place_behind serve_grammar.places vs)
+serve_index : (vs : List Text) → arg_by_index serve_rules (position_of vs) ≡ option_map rule_at (place_after serve_grammar.places vs)
 serve_index [] = refl
 serve_index (a ∷ []) = refl
 serve_index (a ∷ b ∷ []) = refl
 serve_index (a ∷ b ∷ c ∷ []) = refl
 serve_index (a ∷ b ∷ c ∷ d ∷ more) = refl
 
-serve_next : (vs : List Text) (p : Place) (word : Text) → place_behind serve_grammar.places vs ≡ Some p → min (position_of vs + 1) usize_max ≡ position_of (vs ++ word ∷ [])
+serve_next : (vs : List Text) (p : Place) (word : Text) → place_after serve_grammar.places vs ≡ Some p → min (position_of vs + 1) usize_max ≡ position_of (vs ++ word ∷ [])
 serve_next [] p word is = refl
 serve_next (a ∷ []) p word is = refl
 serve_next (a ∷ b ∷ more) p word is = cc

@@ -7,7 +7,7 @@ use Rattle.clap.specs.Simple.{Shape}
 use Rattle.clap.specs.Kinds.{Kinds}
 use Rattle.clap.specs.Faults.{check_fault}
 use Rattle.pay_words.specs.Asked.{statement_asked, statement_of}
-use Rattle.pay_words.specs.Options.{Place, Said, all_of, all_said, help_wanted, not_taken, place_behind, plain_words, values_of}
+use Rattle.pay_words.specs.Options.{Place, Said, all_of, all_said, help_wanted, not_taken, place_after, plain_words, values_of}
 use Rattle.pay_words.specs.Options.{fares_place, zone_place, account_place, day_place, journal_option}
 use Rattle.pay_words.specs.Run.{first_given}
 use Rattle.pay_words.specs.Statement.{statement_grammar}
@@ -29,14 +29,14 @@ statement_shape = program_shape (codes "statement") statement_rules
 pub statement_apart : AreApart statement_grammar.places
 statement_apart = (((refl, refl), ((refl, refl), ((refl, refl), tt))), (((refl, refl), ((refl, refl), tt)), (((refl, refl), tt), (tt, tt))))
 
-statement_index : (vs : List Text) → arg_by_index statement_rules (position_of vs) ≡ option_map rule_at (place_behind statement_grammar.places vs)
+statement_index : (vs : List Text) → arg_by_index statement_rules (position_of vs) ≡ option_map rule_at (place_after statement_grammar.places vs)
 statement_index [] = refl
 statement_index (a ∷ []) = refl
 statement_index (a ∷ b ∷ []) = refl
 statement_index (a ∷ b ∷ c ∷ []) = refl
 statement_index (a ∷ b ∷ c ∷ d ∷ more) = refl
 
-statement_next : (vs : List Text) (p : Place) (word : Text) → place_behind statement_grammar.places vs ≡ Some p → min (position_of vs + 1) usize_max ≡ position_of (vs ++ word ∷ [])
+statement_next : (vs : List Text) (p : Place) (word : Text) → place_after statement_grammar.places vs ≡ Some p → min (position_of vs + 1) usize_max ≡ position_of (vs ++ word ∷ [])
 statement_next [] p word is = refl
 statement_next (a ∷ []) p word is = refl
 statement_next (a ∷ b ∷ []) p word is = refl

@@ -11,7 +11,7 @@ use Rattle.pay_words.specs.declared.words.StatementWords.{StatementWords}
 use Rattle.pay_words.specs.declared.words.ServeWords.{ServeWords}
 use Rattle.pay_words.specs.declared.words.WordsFault.{WordsFault}
 use Rattle.pay_words.specs.declared.words.WordsFault.TheVariants.{Help, Version, Usage, Memory}
-use Rattle.pay_words.specs.declared.limits.TheConstants.{MOST_ACCOUNT, FIRST_DAY, LAST_DAY, MOST_PORT, MOST_LANES, MOST_SHARDS, MOST_SESSIONS}
+use Rattle.pay_words.specs.declared.limits.TheConstants.{MOST_ACCOUNT, FIRST_DAY, LAST_DAY, MOST_PORT, MOST_SERVED_LANES, MOST_SHARDS, MOST_SESSIONS}
 pub use Rattle.pay_words.specs.OneWord.{Text, Word, value, dashes, call_for_help, call_for_version, option, word_kind}
 pub use Rattle.pay_words.specs.OneWord.{Reader, any_text, is_account, is_day, number_of}
 pub use Rattle.pay_words.specs.Options.{HasNoHyphen}
@@ -267,7 +267,7 @@ IsJobInRange (RunJob w) = has_journal (run_job w) ≡ true
 IsJobInRange (Check fares) = ⊤
 IsJobInRange (StatementJob w) = (1 ≤ w.account) × (w.account ≤ MOST_ACCOUNT) × (FIRST_DAY ≤ w.day) × (w.day ≤ LAST_DAY)
 IsJobInRange (Replay w) = texts w.files.items ≢ []
-IsJobInRange (ServeJob w) = (1 ≤ w.port) × (1 ≤ w.lanes) × (w.lanes ≤ MOST_LANES) × (last_port w.port w.lanes ≤ MOST_PORT)
+IsJobInRange (ServeJob w) = (1 ≤ w.port) × (1 ≤ w.lanes) × (w.lanes ≤ MOST_SERVED_LANES) × (last_port w.port w.lanes ≤ MOST_PORT)
     × (1 ≤ w.shards) × (w.shards ≤ MOST_SHARDS) × (1 ≤ w.sessions) × (w.sessions ≤ MOST_SESSIONS)
     × (FIRST_DAY ≤ w.close) × (w.close ≤ LAST_DAY)
 
@@ -359,7 +359,7 @@ journal_row : row (codes "run" ∷ codes "a" ∷ codes "b" ∷ codes "--journal"
 unfolding chars
 journal_row = refl
 
--- options before, between and behind the values
+-- options before, between and after the values
 all_options_row : row (codes "run" ∷ codes "--ledger=l" ∷ codes "a" ∷ codes "--sync" ∷ codes "b" ∷ codes "--journal" ∷ codes "j" ∷ [])
     ≡ run (record with_journal { syncs = true; ledger = Some (codes "l") })
 unfolding chars
@@ -387,7 +387,7 @@ journal_twice_row : row (codes "run" ∷ codes "a" ∷ codes "b" ∷ codes "--jo
 unfolding chars
 journal_twice_row = refl
 
--- a file whose name begins with a hyphen stands behind an equals sign
+-- a file whose name begins with a hyphen stands after an equals sign
 hyphen_row : row (codes "run" ∷ codes "a" ∷ codes "b" ∷ codes "--journal" ∷ codes "-j" ∷ []) ≡ usage
 unfolding chars
 hyphen_row = refl
@@ -508,7 +508,7 @@ one_more_row : row (codes "statement" ∷ codes "a" ∷ codes "b" ∷ codes "7" 
 unfolding chars
 one_more_row = refl
 
--- a number that is refused comes before a call for help behind it
+-- a number that is refused comes before a call for help after it
 refused_before_help_row : row (codes "statement" ∷ codes "a" ∷ codes "b" ∷ codes "0" ∷ codes "-h" ∷ []) ≡ usage
 unfolding chars
 refused_before_help_row = refl
@@ -552,7 +552,7 @@ usual_order_row : (t : ServeTexts) → words_of_parts (plain t.fares ∷ plain t
     ≡ t.fares ∷ t.zone ∷ codes "--port" ∷ t.port ∷ (codes "--lanes=" ++ t.lanes) ∷ []
 usual_order_row t = refl
 
--- options before, between and behind the values
+-- options before, between and after the values
 mixed_row : row (codes "serve" ∷ codes "--port=9000" ∷ codes "a" ∷ options_row (codes "b" ∷ [])) ≡ serve example
 unfolding chars
 mixed_row = refl

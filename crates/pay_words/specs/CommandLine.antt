@@ -14,7 +14,7 @@ use Rattle.clap.specs.declared.parser.matches.ArgMatches.{ArgMatches}
 use Rattle.clap.specs.declared.parser.matches.Found.{Found}
 use Rattle.pay_words.specs.declared.words.WordsFault.{WordsFault}
 use Rattle.pay_words.specs.declared.words.WordsFault.TheVariants.{Help, Version, Usage, Memory}
-use Rattle.pay_words.specs.declared.limits.TheConstants.{MOST_ACCOUNT, FIRST_DAY, LAST_DAY, MOST_PORT, MOST_LANES, MOST_SHARDS, MOST_SESSIONS}
+use Rattle.pay_words.specs.declared.limits.TheConstants.{MOST_ACCOUNT, FIRST_DAY, LAST_DAY, MOST_PORT, MOST_SERVED_LANES, MOST_SHARDS, MOST_SESSIONS}
 use Rattle.pay_words.specs.Asked.{version_line}
 use Rattle.pay_words.specs.Run.{Run}
 use Rattle.pay_words.specs.Serve.{AreInRange, Serve, ServeTexts, numbers_of}
@@ -69,7 +69,7 @@ replay_app = with_rule (with_fares_and_zone (new_app (codes "replay"))) (require
 -- the options that `serve` needs
 abbrev pub with_numbers : App → App
 with_numbers app = with_rule (with_rule (with_rule (with_rule (with_rule app
-    (required_option (codes "port") 1 MOST_PORT)) (required_option (codes "lanes") 1 MOST_LANES))
+    (required_option (codes "port") 1 MOST_PORT)) (required_option (codes "lanes") 1 MOST_SERVED_LANES))
     (required_option (codes "shards") 1 MOST_SHARDS)) (required_option (codes "sessions") 1 MOST_SESSIONS))
     (required_option (codes "close") FIRST_DAY LAST_DAY)
 

@@ -2,7 +2,7 @@
 use Rattle.std.specs.Prelude.{◌==◌, ℕ, List, [], ◌∷◌, codes, Bool, true, Option, Some, None, slice_get, if◌then◌else◌}
 use Rattle.std.specs.Str.{bytes_eq, chars}
 use Rattle.std.specs.Str.Parse.{digits_value, without_leading_plus}
-use Rattle.pay_words.specs.declared.limits.TheConstants.{MOST_ACCOUNT, FIRST_DAY, LAST_DAY, MOST_PORT, MOST_LANES, MOST_SHARDS, MOST_SESSIONS}
+use Rattle.pay_words.specs.declared.limits.TheConstants.{MOST_ACCOUNT, FIRST_DAY, LAST_DAY, MOST_PORT, MOST_SERVED_LANES, MOST_SHARDS, MOST_SESSIONS}
 use Rattle.clap.specs.ValueTests.{is_unsigned_in}
 
 abbrev pub Text : Type 0
@@ -22,7 +22,7 @@ pub data Word : Type 0 where
   -- any other option
   option : Word
 
--- by the first letter after the hyphen, where there is one, whatever stands behind it: `-h` (104)
+-- by the first letter after the hyphen, where there is one, whatever stands after it: `-h` (104)
 -- calls for help, and `-V` (86) for the version
 abbrev pub kind_by_letter : Option ℕ → Word
 kind_by_letter None = value
@@ -61,7 +61,7 @@ abbrev pub is_port : Reader
 is_port word = is_unsigned_in 1 MOST_PORT word
 
 abbrev pub is_lanes : Reader
-is_lanes word = is_unsigned_in 1 MOST_LANES word
+is_lanes word = is_unsigned_in 1 MOST_SERVED_LANES word
 
 abbrev pub is_shards : Reader
 is_shards word = is_unsigned_in 1 MOST_SHARDS word

@@ -83,7 +83,7 @@ setting_named (k ∷ options) name = if bytes_eq (name_of k) name then Some k el
 -- ---- what words say
 
 -- one thing that the words say: a value that is no option's; an option with its value, which is the
--- next word (`--port 9000`) or stands behind an equals sign in the same (`--port=9000`); or a flag
+-- next word (`--port 9000`) or stands after an equals sign in the same (`--port=9000`); or a flag
 pub data Part : Type 0 where
   plain : Text → Part
   apart : Setting → Text → Part
@@ -122,7 +122,7 @@ values_of k (alone given ∷ rest) = value_for k given flag_value ++ values_of k
 
 -- ---- the words, one after another
 
--- what the words behind the name of a program come to
+-- what the words after the name of a program come to
 pub data Said : Type 0 where
   -- these parts
   all_of : List Part → Said
@@ -131,11 +131,11 @@ pub data Said : Type 0 where
   -- nothing that is taken
   not_taken : Said
 
--- the place of the next value, behind these
-abbrev pub place_behind : List Place → List Text → Option Place
-place_behind [] before = None
-place_behind (p ∷ places) [] = Some p
-place_behind (p ∷ places) (b ∷ before) = place_behind places before
+-- the place of the next value, after these
+abbrev pub place_after : List Place → List Text → Option Place
+place_after [] before = None
+place_after (p ∷ places) [] = Some p
+place_after (p ∷ places) (b ∷ before) = place_after places before
 
 abbrev pub placed : Option Place → Text → Said → Said
 placed None word after = not_taken
@@ -143,16 +143,16 @@ placed (Some p) word after = if place_reader p word then after else not_taken
 
 -- one value more than these: there is a place for it, and it passes the reader of that place
 abbrev pub one_more_plain : Grammar → List Text → Text → Said → Said
-one_more_plain g before word after = placed (place_behind g.places before) word after
+one_more_plain g before word after = placed (place_after g.places before) word after
 
 -- a value of an option that was given these before: it is given once, and its value passes its reader
 abbrev pub one_more_value : Setting → Text → List Text → Said → Said
 one_more_value k word [] after = if reader_of k word then after else not_taken
 one_more_value k word (before ∷ more) after = not_taken
 
--- what a word behind the name of a program is
+-- what a word after the name of a program is
 pub data ProgramWord : Type 0 where
-  -- an option of the program, perhaps with a value behind an equals sign
+  -- an option of the program, perhaps with a value after an equals sign
   setting : Setting → Option Text → ProgramWord
   other : Word → ProgramWord
 
@@ -166,21 +166,21 @@ setting_or kind (Some s) = setting s.0 s.1
 abbrev pub program_word : Grammar → Text → ProgramWord
 program_word g word = setting_or (word_kind word) (option_and_then (setting_in g.options) (long_of word))
 
--- words that are all values, behind what these parts say
+-- words that are all values, after what these parts say
 abbrev pub all_plain : Grammar → List Part → List Text → Said
 all_plain g parts [] = all_of parts
 all_plain g parts (word ∷ rest) = one_more_plain g (plain_words parts) word (all_plain g (parts ++ plain word ∷ []) rest)
 
--- what the words come to behind some parts, where an option may wait for its value
+-- what the words come to after some parts, where an option may wait for its value
 abbrev pub After : Type 0
 After = List Part → Option Setting → Said
 
--- an option with nothing behind it in its word: a flag is given, and any other waits for its value
+-- an option with nothing after it in its word: a flag is given, and any other waits for its value
 abbrev pub next_alone : Bool → Setting → List Part → After → Said
 next_alone true k parts after = one_more_value k flag_value (values_of k parts) (after (parts ++ alone k ∷ []) None)
 next_alone false k parts after = after parts (Some k)
 
--- an option with a value behind an equals sign, which a flag has not
+-- an option with a value after an equals sign, which a flag has not
 abbrev pub next_joined : Bool → Setting → Text → List Part → After → Said
 next_joined true k given parts after = not_taken
 next_joined false k given parts after = one_more_value k given (values_of k parts) (after (parts ++ joined k given ∷ []) None)
@@ -195,7 +195,7 @@ next_part g (other call_for_help) parts word rest after = help_wanted
 next_part g (other call_for_version) parts word rest after = not_taken
 next_part g (other option) parts word rest after = not_taken
 
--- a word behind an option that waits for its value
+-- a word after an option that waits for its value
 abbrev pub next_value : ProgramWord → Setting → List Part → Text → After → Said
 next_value (other value) k parts word after =
     one_more_value k word (values_of k parts) (after (parts ++ apart k word ∷ []) None)
@@ -209,8 +209,8 @@ abbrev pub no_more_words : Option Setting → List Part → Said
 no_more_words None parts = all_of parts
 no_more_words (Some k) parts = not_taken
 
--- what the words behind the name of a program come to, behind what these parts say and where this option
--- waits for its value: options stand before, between and behind the values
+-- what the words after the name of a program come to, after what these parts say and where this option
+-- waits for its value: options stand before, between and after the values
 abbrev pub said : Grammar → List Part → Option Setting → List Text → Said
 said g parts waits [] = no_more_words waits parts
 said g parts waits (word ∷ rest) = next_word g waits parts word rest (λ more now_waits. said g more now_waits rest)
@@ -246,7 +246,7 @@ MayStandApart journal_option word = HasNoHyphen word
 MayStandApart ledger_option word = HasNoHyphen word
 MayStandApart _ word = ⊤
 
--- each value that is the next word behind its option may be
+-- each value that is the next word after its option may be
 abbrev pub StandApart : List Part → Type 0
 StandApart [] = ⊤
 StandApart (apart k word ∷ rest) = MayStandApart k word × StandApart rest

@@ -12,8 +12,8 @@ pub const LAST_DAY: u64 = 50_000;
 /// The greatest port that a lane may listen on. The least is 1.
 pub const MOST_PORT: u64 = 65_535;
 
-/// The greatest number of lanes. The least is 1.
-pub const MOST_LANES: u64 = 15;
+/// The greatest number of lanes that a service has ports for. The least is 1.
+pub const MOST_SERVED_LANES: u64 = 15;
 
 /// The greatest number of shards. The least is 1.
 pub const MOST_SHARDS: u64 = 16;

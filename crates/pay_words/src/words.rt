@@ -26,7 +26,7 @@ ghost use Rattle.pay_words.specs.declared.words.WordsFault.TheVariants.{Memory};
 
 use crate::help;
 use crate::limits::{
-    FIRST_DAY, LAST_DAY, MOST_ACCOUNT, MOST_LANES, MOST_PORT, MOST_SESSIONS, MOST_SHARDS,
+    FIRST_DAY, LAST_DAY, MOST_ACCOUNT, MOST_PORT, MOST_SERVED_LANES, MOST_SESSIONS, MOST_SHARDS,
 };
 use clap::builder::ValueParser;
 use clap::error::ErrorKind;
@@ -38,7 +38,7 @@ use thiserror::Error;
 const VERSION: &str = "0.1.0";
 
 /// The job that the words ask for, with its values.
-#[derive(Debug, PartialEq, Eq, Drop)]
+#[derive(Drop)]
 pub enum Job<'a> {
     /// `run FARES ZONE` and its options: one session, from standard input to standard output.
     Run(RunWords<'a>),
@@ -55,7 +55,7 @@ pub enum Job<'a> {
 }
 
 /// The values of `run FARES ZONE [--journal FILE [--sync]] [--ledger FILE]`.
-#[derive(Clone, Copy, Debug, PartialEq, Eq)]
+#[derive(Clone, Copy)]
 pub struct RunWords<'a> {
     /// The path of the fare file.
     pub fares: &'a str,
@@ -71,7 +71,7 @@ pub struct RunWords<'a> {
 }
 
 /// The values of `statement FARES ZONE ACCOUNT DAY [--journal FILE]`.
-#[derive(Clone, Copy, Debug, PartialEq, Eq)]
+#[derive(Clone, Copy)]
 pub struct StatementWords<'a> {
     /// The path of the fare file.
     pub fares: &'a str,
@@ -86,7 +86,7 @@ pub struct StatementWords<'a> {
 }
 
 /// The values of `replay FARES ZONE FILE..`.
-#[derive(Debug, PartialEq, Eq, Drop)]
+#[derive(Drop)]
 pub struct ReplayWords<'a> {
     /// The path of the fare file.
     pub fares: &'a str,
@@ -98,7 +98,7 @@ pub struct ReplayWords<'a> {
 
 /// The values of `serve FARES ZONE --port P --lanes L --shards N --sessions K --close DAY
 /// [--journal FOLDER] [--ledger FILE]`.
-#[derive(Clone, Copy, Debug, PartialEq, Eq)]
+#[derive(Clone, Copy)]
 pub struct ServeWords<'a> {
     /// The path of the fare file.
     pub fares: &'a str,
@@ -149,8 +149,8 @@ impl From<AllocError> for WordsFault {
 ///
 /// A word that begins with a hyphen and goes on is an option: help, in the place of a program the
 /// version, one of the options of its program, and no other. The value of an option is the next word, or
-/// stands behind an equals sign in the same; `--sync` has none, and is taken with `--journal` alone. Each
-/// is given once, before, between or behind the other values.
+/// stands after an equals sign in the same; `--sync` has none, and is taken with `--journal` alone. Each
+/// is given once, before, between or after the other values.
 /// `--` says that each word after it is a value. Numbers are decimal digits, which may have a plus and zeros
 /// before them; one outside its range is refused as `Usage`, and so are lanes with a port above 65,535.
 pub fn read_words<'a>(alloc: Global, words: &'a [&'a str]) -> Result<Job<'a>, WordsFault>
@@ -305,7 +305,7 @@ fn with_numbers<'a>(alloc: Global, command: Command<'a>) -> Result<Command<'a>, 
 {
     command
         .arg(number_option(alloc, "port", "P", help::PORT, 1, MOST_PORT))?
-        .arg(number_option(alloc, "lanes", "L", help::LANES, 1, MOST_LANES))?
+        .arg(number_option(alloc, "lanes", "L", help::LANES, 1, MOST_SERVED_LANES))?
         .arg(number_option(alloc, "shards", "N", help::SHARDS, 1, MOST_SHARDS))?
         .arg(number_option(alloc, "sessions", "K", help::SESSIONS, 1, MOST_SESSIONS))?
         .arg(number_option(alloc, "close", "DAY", help::CLOSE, FIRST_DAY, LAST_DAY))

@@ -12,4 +12,4 @@ returns c =
     c.add_journeys.ensures.value
     ∙ ap (λ none. week_with_journeys tables c.monday.result (replicate DAYS_PER_WEEK none) list) c.new-week.ensures
     ∙ ap (λ first. week_with_journeys tables first (replicate DAYS_PER_WEEK no_fares) list) c.monday.ensures.value
-    ∙ of_days tables (c.sums.ensures.one_behind tables) (c.sums.ensures.none tables) c.args.day c.requires.is_day list
+    ∙ of_days tables (c.sums.ensures.one_after tables) (c.sums.ensures.none tables) c.args.day c.requires.is_day list

@@ -16,4 +16,4 @@ returns c =
     ∙ ap (λ week. week_with_journeys tables begun week buses) c.add_journeys.ensures.value
     ∙ ap (λ none. week_with_journeys tables begun (week_with_journeys tables begun (replicate DAYS_PER_WEEK none) rail) buses) c.new-week.ensures
     ∙ ap (λ first. week_with_journeys tables first (week_with_journeys tables first (replicate DAYS_PER_WEEK no_fares) rail) buses) c.monday-monday.ensures.value
-    ∙ of_week tables (c.sums.ensures.one_behind tables) (c.sums.ensures.none tables) c.args.day c.requires.is_day rail buses
+    ∙ of_week tables (c.sums.ensures.one_after tables) (c.sums.ensures.none tables) c.args.day c.requires.is_day rail buses

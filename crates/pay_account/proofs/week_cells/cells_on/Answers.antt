@@ -12,5 +12,5 @@ loop-journey-preserved c = record {
 
 pub returns : goal.returns
 returns c =
-    of_day_so_far c.args.tables.now c.args.day (c.sums.ensures.one_behind c.args.tables.now) (c.sums.ensures.none c.args.tables.now) c.args.journeys.now c.loop-journey.cells c.loop-journey.journey-index
+    of_day_so_far c.args.tables.now c.args.day (c.sums.ensures.one_after c.args.tables.now) (c.sums.ensures.none c.args.tables.now) c.args.journeys.now c.loop-journey.cells c.loop-journey.journey-index
     (omega (arith, c.loop-journey-test.false)) c.loop-journey.invariant.value

@@ -22,11 +22,11 @@ returns-clause-there c = λ here.
 pub returns-clause-disturbed : goal.returns-clause-disturbed
 returns-clause-disturbed c =
     let hopper = c.args.tables.now.rules.hopper in
-    let later = drop c.first_behind-first.result c.args.buses.now.touches in
+    let later = drop c.first_after-first.result c.args.buses.now.touches in
     let its = boarding (c.args.touch.now, pays_by_last hopper c.new-more.result.last_paid c.args.touch.now.stamp.utc) in
-    disturbed_by c.places.ensures.put_in c.places.ensures.place_kept c.places.ensures.again hopper c.args.buses.now.touches c.args.touch.now c.args.is_there c.place-place.result c.first_behind-first.result
-    (c.new-fewer.result, c.board.new.self) (c.board_disturbed.new.fewer, c.board_disturbed.new.more) c.first_behind-first.ensures.timed c.requires.there c.place-place.ensures.place
-    c.place-place.ensures.within c.first_behind-first.ensures.value c.in_ok-board_disturbed.ensures.meet
+    disturbed_by c.places.ensures.put_in c.places.ensures.place_kept c.places.ensures.again hopper c.args.buses.now.touches c.args.touch.now c.args.is_there c.place-place.result c.first_after-first.result
+    (c.new-fewer.result, c.board.new.self) (c.board_disturbed.new.fewer, c.board_disturbed.new.more) c.first_after-first.ensures.timed c.requires.there c.place-place.ensures.place
+    c.place-place.ensures.within c.first_after-first.ensures.value c.in_ok-board_disturbed.ensures.meet
     (none_yet hopper c.new-fewer.result _ later c.new-fewer.ensures.none (c.new-fewer.ensures.last_paid ∙ c.last_paid_before-last_paid.ensures.value))
     (sym (c.in_ok-board.ensures.later later) ∙ none_yet hopper c.new-more.result _ (c.args.touch.now ∷ later) c.new-more.ensures.none (c.new-more.ensures.last_paid ∙ c.last_paid_before-last_paid.ensures.value))
     (no_others_than (c.new-fewer.result, c.board.new.self) (c.board_disturbed.new.fewer, c.board_disturbed.new.more) its c.in_ok-board_disturbed.ensures.gone_on c.new-fewer.ensures.none

@@ -13,7 +13,7 @@ bounds-pays-before c =
 pub returns-then-pays-before-clause-value : goal.returns-then-pays-before-clause-value
 returns-then-pays-before-clause-value c =
     let each = ap length c.requires.marks ∙ marks_each c.args.tables.now.rules.hopper _ c.args.buses.now.touches in
-    let last = found c.last_paid_by_marks.ensures.from_behind c.args.pays.now c.args.buses.now.touches c.loop-before.before false each (omega arith) (omega arith) c.if-pays-before.true in
+    let last = found c.last_paid_by_marks.ensures.from_after c.args.pays.now c.args.buses.now.touches c.loop-before.before false each (omega arith) (omega arith) c.if-pays-before.true in
     c.moment_at.ensures.value ∙ last ∙ sym c.loop-before.invariant.last
 
 pub loop-before-preserved : goal.loop-before-preserved
@@ -21,6 +21,6 @@ loop-before-preserved c =
     let each = ap length c.requires.marks ∙ marks_each c.args.tables.now.rules.hopper _ c.args.buses.now.touches in
     record {
       last = c.loop-before.invariant.last
-          ∙ passed c.last_paid_by_marks.ensures.from_behind c.args.pays.now c.args.buses.now.touches c.loop-before.before false each (omega arith) (omega arith) c.if-pays-before.false;
+          ∙ passed c.last_paid_by_marks.ensures.from_after c.args.pays.now c.args.buses.now.touches c.loop-before.before false each (omega arith) (omega arith) c.if-pays-before.false;
       steps = c.loop-before.invariant.steps;
     }

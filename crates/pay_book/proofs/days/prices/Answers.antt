@@ -7,5 +7,5 @@ use Rattle.pay_book.proofs.days.prices.Goals as goal
 pub returns : goal.returns
 returns c = λ list are.
     priced_as c.empty_days.ensures.free c.args.tables.now c.args.days.now list c.args.again c.args.day c.day_of.result c.week_of.result c.of_days-week.result.now (range_with_len c.monday.result DAYS_PER_WEEK) are
-    (c.day_of.ensures list are) c.of_days-week.ensures.kept
+    (c.day_of.ensures list are) c.of_days-week.ensures.held
     (c.week_days.ensures c.args.day c.requires ∙ ap (λ (first : ℕ). range_with_len first DAYS_PER_WEEK) (sym c.monday.ensures.value)) c.week_of.ensures

@@ -1,14 +1,14 @@
-use Rattle.pay_book.proofs.Replacing.{middle_kept, kept_still, kept_then, all_there, left_then, room_then, sums_then}
+use Rattle.pay_book.proofs.Replacing.{middle_stored, stored_still, stored_then, all_there, left_then, room_then, sums_then}
 use Rattle.pay_book.proofs.days.replace.Goals as goal
 
-pub take_all-requires-clause-kept : goal.take_all-requires-clause-kept
-take_all-requires-clause-kept c = middle_kept c.args.tables.now c.args.days.now c.requires.left c.args.old.now c.requires.right c.requires.sums
+pub take_all-requires-clause-held : goal.take_all-requires-clause-held
+take_all-requires-clause-held c = middle_stored c.args.tables.now c.args.days.now c.requires.left c.args.old.now c.requires.right c.requires.sums
 
 pub take_all-requires-clause-there : goal.take_all-requires-clause-there
 take_all-requires-clause-there c = all_there c.args.tables.now c.stretches.ensures.there c.args.days.now c.requires.left c.args.old.now c.requires.right c.requires.sums
 
-pub add_all-requires-clause-kept : goal.add_all-requires-clause-kept
-add_all-requires-clause-kept c = kept_still c.args.days.now c.take_all.new.days c.args.new.now c.take_all.ensures.kept c.requires.kept
+pub add_all-requires-clause-held : goal.add_all-requires-clause-held
+add_all-requires-clause-held c = stored_still c.args.days.now c.take_all.new.days c.args.new.now c.take_all.ensures.held c.requires.held
 
 pub add_all-requires-clause-fits : goal.add_all-requires-clause-fits
 add_all-requires-clause-fits c =
@@ -17,9 +17,9 @@ add_all-requires-clause-fits c =
 
 pub returns : goal.returns
 returns c = λ left right are. record {
-  kept =
-      kept_then c.args.tables.now c.args.days.now c.add_all.new.days left c.args.old.now c.args.new.now right are c.requires.kept
-      (λ day h. c.add_all.ensures.kept day (c.take_all.ensures.kept day h));
+  held =
+      stored_then c.args.tables.now c.args.days.now c.add_all.new.days left c.args.old.now c.args.new.now right are c.requires.held
+      (λ day h. c.add_all.ensures.held day (c.take_all.ensures.held day h));
   sums =
       sums_then c.args.tables.now c.stretches.ensures.all_again c.take_all.new.days c.add_all.new.days left c.args.new.now right
       (left_then c.args.tables.now c.stretches.ensures.others_left c.args.days.now c.take_all.new.days left c.args.old.now right are c.take_all.ensures.sums) c.add_all.ensures.sums;

@@ -9,7 +9,7 @@ take-requires-clause-there c =
 pub loop-journey-preserved : goal.loop-journey-preserved
 loop-journey-preserved c = record {
   left = λ day. one_more_done _ _ _ c.args.journeys.now c.loop-journey.journey-index c.journey-item.result day c.loop-journey-test.true c.journey-item.is (c.take.ensures.sums day) ∙ c.loop-journey.invariant.left day;
-  kept = λ day h. c.take.ensures.kept day (c.loop-journey.invariant.kept day h);
+  held = λ day h. c.take.ensures.held day (c.loop-journey.invariant.held day h);
   there =
       rest_there c.args.tables.now c.loop-journey.days c.take.new.days c.args.journeys.now c.loop-journey.journey-index c.journey-item.result c.loop-journey-test.true c.journey-item.is c.take.ensures.sums
       c.loop-journey.invariant.there;

@@ -2,12 +2,12 @@ use Rattle.std.proofs.Common.{◌≡◌, map, drop}
 use Rattle.pay_rules.specs.Accepted.{nothing}
 use Rattle.pay_rules.specs.Changes.{after_all}
 use Rattle.pay_book.specs.History.{change_of}
-use Rattle.pay_book.specs.Stored.{IsKept}
+use Rattle.pay_book.specs.Stored.{IsConsistent}
 use Rattle.pay_book.proofs.history.book_of.Given as goal
 
 abbrev pub invariant-loop-one : goal.invariant-loop-one
 invariant-loop-one l = record {
   account : l.book.account ≡ l.account;
-  kept : IsKept l.tables l.book;
+  held : IsConsistent l.tables l.book;
   accepted : after_all l.tables l.book.accepted (map change_of (drop l.one-index l.sent)) ≡ after_all l.tables nothing (map change_of l.sent);
 }

@@ -1,11 +1,11 @@
 use Rattle.std.proofs.Common.{rules, arith, refl, ◌+◌}
-use Rattle.pay_book.proofs.Stretches.{last_behind_it, last_further, last_by_mark, in_then, in_else}
+use Rattle.pay_book.proofs.Stretches.{last_after_it, last_further, last_by_mark, in_then, in_else}
 use Rattle.pay_book.proofs.stretch.last_place.Goals as goal
 use Rattle.pay_book.proofs.stretch.last_place.Goals.{then-is_there, else-is_there}
 
-pub returns-then-starts_behind_it : goal.returns-then-starts_behind_it
-returns-then-starts_behind_it c = λ fewer around placed.
-    last_behind_it c.args.tables.now fewer c.args.touch.now c.args.place c.args.near.now placed.inside around (search rules)
+pub returns-then-starts_after_it : goal.returns-then-starts_after_it
+returns-then-starts_after_it c = λ fewer around placed.
+    last_after_it c.args.tables.now fewer c.args.touch.now c.args.place c.args.near.now placed.inside around (search rules)
 
 pub returns-then-starts_further : goal.returns-then-starts_further
 returns-then-starts_further c = λ fewer around placed.

@@ -2,7 +2,7 @@ use Rattle.std.proofs.Common.{arith, not}
 use Rattle.pay_tables.specs.declared.zones.Span.{Span}
 use Rattle.pay_tables.specs.Words.{covers_span}
 use Rattle.pay_caps.specs.Cells.{all_spans}
-use Rattle.pay_caps.proofs.Steps.{weighs_behind}
+use Rattle.pay_caps.proofs.Steps.{weighs_after}
 use Rattle.pay_caps.proofs.SpanSums.{outside_from, outside_is_part}
 use Rattle.pay_caps.proofs.cells.sum_outside.Goals as goal
 
@@ -29,4 +29,4 @@ returns-clause-in_range c = omega (arith, c.loop-place.invariant, outside_is_par
 
 pub returns-clause-value : goal.returns-clause-value
 returns-clause-value c =
-    omega (arith, c.loop-place.invariant, weighs_behind (λ (span : Span). not (covers_span c.args.cover span)) all_spans c.args.spans.now c.loop-place.place c.loop-place-test.false)
+    omega (arith, c.loop-place.invariant, weighs_after (λ (span : Span). not (covers_span c.args.cover span)) all_spans c.args.spans.now c.loop-place.place c.loop-place-test.false)

@@ -1,6 +1,6 @@
 use Rattle.std.proofs.Common.{arith}
 use Rattle.pay_caps.specs.Cells.{all_spans}
-use Rattle.pay_caps.proofs.Steps.{weighs_behind}
+use Rattle.pay_caps.proofs.Steps.{weighs_after}
 use Rattle.pay_caps.proofs.SpanSums.{outside_both, outside_both_from, outside_both_is_part}
 use Rattle.pay_caps.proofs.cells.sum_outside_both.Goals as goal
 
@@ -24,7 +24,7 @@ loop-place-preserved c =
 
 pub returns-clause-value : goal.returns-clause-value
 returns-clause-value c =
-    omega (arith, c.loop-place.invariant, weighs_behind (outside_both c.args.first c.args.second) all_spans c.args.spans.now c.loop-place.place c.loop-place-test.false)
+    omega (arith, c.loop-place.invariant, weighs_after (outside_both c.args.first c.args.second) all_spans c.args.spans.now c.loop-place.place c.loop-place-test.false)
 
 pub returns-clause-in_range : goal.returns-clause-in_range
 returns-clause-in_range c = omega (arith, c.loop-place.invariant, outside_both_is_part c.args.first c.args.second c.args.spans.now, c.requires.fits)

@@ -3,6 +3,6 @@ use Rattle.toml.specs.View.{items_view}
 use Rattle.pay_fare_file.specs.FareFile.{with_each, with_band}
 use Rattle.pay_fare_file.proofs.bands.each_band.Given as goal
 
--- what is left, put behind the bands so far, gives what all gives
+-- what is left, put after the bands so far, gives what all gives
 abbrev pub invariant-loop-item : goal.invariant-loop-item
 invariant-loop-item l = with_each (with_band l.zones) l.bands.items (items_view (drop l.item-index l.items)) ≡ with_each (with_band l.zones) [] (items_view l.items)

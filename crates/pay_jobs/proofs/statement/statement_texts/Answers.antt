@@ -24,7 +24,7 @@ returns-clause-fails g c =
 pub returns-in_err-page-clause-cause : goal.returns-in_err-page-clause-cause
 returns-in_err-page-clause-cause g c =
     let p = err_from_is_err_and c.from_residual.result c.from_residual.ensures.1 in
-    rw (p.1, p.2) (page_cause g.R.ToldReader.Tells g.W.ToldWriter.Tells _ _ _ _ _ _ c.in_err-page.ensures.fails c.in_err-page.ensures.cause)
+    rw (p.1, p.2) (page_cause g.R.KnownReader.MayAnswer g.W.KnownWriter.MayAnswer _ _ _ _ _ _ c.in_err-page.ensures.fails c.in_err-page.ensures.cause)
 
 pub returns-clause-cause : goal.returns-clause-cause
-returns-clause-cause g c = text_cause g.R.ToldReader.Tells g.W.ToldWriter.Tells _ _ _ c.write_text.result c.write_text.ensures.fault c.write_text.ensures.cause
+returns-clause-cause g c = text_cause g.R.KnownReader.MayAnswer g.W.KnownWriter.MayAnswer _ _ _ c.write_text.result c.write_text.ensures.fault c.write_text.ensures.cause

@@ -3,7 +3,7 @@ use Rattle.pay_mailbox.specs.Words.{MailboxParts}
 use Rattle.pay_lanes.specs.Parts.{WorkerParts}
 use Rattle.pay_lanes.specs.Working.{IsWorking}
 use Rattle.pay_lanes.specs.Gates.{IsGated}
-use Rattle.pay_lanes.proofs.Endings.{began_behind}
+use Rattle.pay_lanes.proofs.Endings.{began_after}
 use Rattle.pay_lanes.proofs.Exchanges.{begun, some_left, some_way, own_way, own_first, one_more, all_back, all_given, all_left, all_known, all_answered, all_passed}
 use Rattle.pay_lanes.proofs.ending.end_worker.Goals as goal
 
@@ -70,4 +70,4 @@ returns-clause-passed g c = record {
 
 pub returns-clause-began : goal.returns-clause-began
 returns-clause-began g c =
-    began_behind g.G.Gate.began c.args.gates.now.items c.keep_gate.new.gates.items c.worker.inside.gate c.args.worker.began c.keep_gate.ensures.items (ap (λ (w : WorkerParts). w.began) c.worker.view_is)
+    began_after g.G.Gate.began c.args.gates.now.items c.keep_gate.new.gates.items c.worker.inside.gate c.args.worker.began c.keep_gate.ensures.items (ap (λ (w : WorkerParts). w.began) c.worker.view_is)

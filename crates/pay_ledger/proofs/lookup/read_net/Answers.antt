@@ -22,9 +22,9 @@ returns-clause-bad g c clean =
 pub returns-in_err-rows-clause-step : goal.returns-in_err-rows-clause-step
 returns-in_err-rows-clause-step g c =
     stopped g.S.Store c.from_residual.result _ c.from_residual.ensures.1
-    (stops g.S.Store c.args.tx.now.conn c.postings_of.new.tx.conn c.postings_of.ensures.same_reference c.postings_of.ensures.kept c.postings_of.ensures.survives)
+    (stops g.S.Store c.args.tx.now.conn c.postings_of.new.tx.conn c.postings_of.ensures.same_reference c.postings_of.ensures.unchanged c.postings_of.ensures.survives)
 
 pub returns-clause-step : goal.returns-clause-step
 returns-clause-step g c =
     gone g.S.Store c.net_of_rows.result
-    (goes_by_read g.S.Store c.args.tx.now.conn c.postings_of.new.tx.conn c.postings_of.ensures.same_reference c.postings_of.ensures.kept c.in_ok-rows.ensures.inside c.postings_of.ensures.survives)
+    (goes_by_read g.S.Store c.args.tx.now.conn c.postings_of.new.tx.conn c.postings_of.ensures.same_reference c.postings_of.ensures.unchanged c.in_ok-rows.ensures.inside c.postings_of.ensures.survives)

@@ -10,20 +10,20 @@ use Rattle.pay_ledger.proofs.opening.ready.Goals as goal
 pub returns-in_err-kind-clause-step : goal.returns-in_err-kind-clause-step
 returns-in_err-kind-clause-step g c =
     stopped g.S.Store c.from_residual.result _ c.from_residual.ensures.1
-    (stops g.S.Store c.args.tx.now.conn c.kind_of.new.tx.conn c.kind_of.ensures.same_reference c.kind_of.ensures.kept c.kind_of.ensures.survives)
+    (stops g.S.Store c.args.tx.now.conn c.kind_of.new.tx.conn c.kind_of.ensures.same_reference c.kind_of.ensures.unchanged c.kind_of.ensures.survives)
 
 pub returns-in_err-make-clause-step : goal.returns-in_err-make-clause-step
 returns-in_err-make-clause-step g c =
     and_stopped g.S.Store c.from_residual-in_err-make.result
-    (goes g.S.Store c.args.tx.now.conn c.kind_of.new.tx.conn c.kind_of.ensures.same_reference c.kind_of.ensures.kept c.in_ok-kind.ensures.inside c.kind_of.ensures.survives)
+    (goes g.S.Store c.args.tx.now.conn c.kind_of.new.tx.conn c.kind_of.ensures.same_reference c.kind_of.ensures.unchanged c.in_ok-kind.ensures.inside c.kind_of.ensures.survives)
     _ c.from_residual-in_err-make.ensures.1
-    (stops g.S.Store c.kind_of.new.tx.conn c.make.new.tx.conn c.make.ensures.same_reference (λ clean inside. c.make.ensures.kept clean) c.make.ensures.survives)
+    (stops g.S.Store c.kind_of.new.tx.conn c.make.new.tx.conn c.make.ensures.same_reference (λ clean inside. c.make.ensures.unchanged clean) c.make.ensures.survives)
 
 pub returns-clause-step : goal.returns-clause-step
 returns-clause-step g c =
     and_gone g.S.Store _
-    (goes g.S.Store c.args.tx.now.conn c.kind_of.new.tx.conn c.kind_of.ensures.same_reference c.kind_of.ensures.kept c.in_ok-kind.ensures.inside c.kind_of.ensures.survives)
-    (goes g.S.Store c.kind_of.new.tx.conn c.make.new.tx.conn c.make.ensures.same_reference (λ clean inside. c.make.ensures.kept clean) (λ clean inside. (c.in_ok-make.ensures.made clean).on.after) c.make.ensures.survives)
+    (goes g.S.Store c.args.tx.now.conn c.kind_of.new.tx.conn c.kind_of.ensures.same_reference c.kind_of.ensures.unchanged c.in_ok-kind.ensures.inside c.kind_of.ensures.survives)
+    (goes g.S.Store c.kind_of.new.tx.conn c.make.new.tx.conn c.make.ensures.same_reference (λ clean inside. c.make.ensures.unchanged clean) (λ clean inside. (c.in_ok-make.ensures.made clean).on.after) c.make.ensures.survives)
 
 pub returns-in_err-kind-clause-refused : goal.returns-in_err-kind-clause-refused
 returns-in_err-kind-clause-refused g c clean =
@@ -46,5 +46,5 @@ returns-clause-readied g c clean =
     let first = state g.S.Store c.args.tx.now.conn.now in
     let between = state g.S.Store c.kind_of.new.tx.conn.now in
     let last = state g.S.Store c.make.new.tx.conn.now in
-    let before = was g.S.Store (goes g.S.Store c.kind_of.new.tx.conn c.make.new.tx.conn c.make.ensures.same_reference (λ clean inside. c.make.ensures.kept clean) (λ clean inside. (c.in_ok-make.ensures.made clean).on.after) c.make.ensures.survives) clean in
+    let before = was g.S.Store (goes g.S.Store c.kind_of.new.tx.conn c.make.new.tx.conn c.make.ensures.same_reference (λ clean inside. c.make.ensures.unchanged clean) (λ clean inside. (c.in_ok-make.ensures.made clean).on.after) c.make.ensures.survives) clean in
     is_made first between c.in_ok-kind.kind (c.in_ok-kind.ensures.value before) (c.in_ok-kind.ensures.blank before) (c.in_ok-kind.ensures.ledger before) last (blank_of c.in_ok-kind.kind (search rules)) (c.in_ok-make.ensures.made clean)

@@ -38,5 +38,5 @@ returns-clause-posts g c clean inside =
     let b = state g.S.Store c.batch_for.new.tx.conn.now in
     let d = state g.S.Store c.write_batch.new.tx.conn.now in
     let between = was g.S.Store c.in_ok-write_batch.ensures.step clean in
-    posted_ledger c.kept.ensures.all a b d c.args.quotes.now c.args.sets.now _ (λ ledger. with_batch ledger (lists c.in_ok-batch.batch)) c.are_quotes.ensures (c.in_ok-batch.ensures.posts between)
+    posted_ledger c.paid.ensures.all a b d c.args.quotes.now c.args.sets.now _ (λ ledger. with_batch ledger (lists c.in_ok-batch.batch)) c.are_quotes.ensures (c.in_ok-batch.ensures.posts between)
     (c.in_ok-write_batch.ensures.writes clean (c.in_ok-batch.ensures.step.goes_on.inside between inside))

@@ -20,17 +20,17 @@ returns-clause-writes g c clean inside =
 pub returns-in_err-id-clause-step : goal.returns-in_err-id-clause-step
 returns-in_err-id-clause-step g c =
     stopped g.S.Store c.from_residual.result _ c.from_residual.ensures.1
-    (stops g.S.Store c.args.tx.now.conn c.add_posting.new.tx.conn c.add_posting.ensures.same_reference c.add_posting.ensures.kept c.add_posting.ensures.survives)
+    (stops g.S.Store c.args.tx.now.conn c.add_posting.new.tx.conn c.add_posting.ensures.same_reference c.add_posting.ensures.unchanged c.add_posting.ensures.survives)
 
 pub returns-in_err-shares-clause-step : goal.returns-in_err-shares-clause-step
 returns-in_err-shares-clause-step g c =
     gone g.S.Store c.from_residual-in_err-shares.result
-    (goes g.S.Store c.args.tx.now.conn c.add_posting.new.tx.conn c.add_posting.ensures.same_reference c.add_posting.ensures.kept c.in_ok-id.ensures.inside c.add_posting.ensures.survives)
+    (goes g.S.Store c.args.tx.now.conn c.add_posting.new.tx.conn c.add_posting.ensures.same_reference c.add_posting.ensures.unchanged c.in_ok-id.ensures.inside c.add_posting.ensures.survives)
 
 pub returns-clause-step : goal.returns-clause-step
 returns-clause-step g c =
     and_so g.S.Store c.write_shares.result
-    (goes g.S.Store c.args.tx.now.conn c.add_posting.new.tx.conn c.add_posting.ensures.same_reference c.add_posting.ensures.kept c.in_ok-id.ensures.inside c.add_posting.ensures.survives)
+    (goes g.S.Store c.args.tx.now.conn c.add_posting.new.tx.conn c.add_posting.ensures.same_reference c.add_posting.ensures.unchanged c.in_ok-id.ensures.inside c.add_posting.ensures.survives)
     c.write_shares.ensures.step
 
 pub returns-clause-of_store : goal.returns-clause-of_store

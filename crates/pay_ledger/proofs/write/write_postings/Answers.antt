@@ -1,6 +1,6 @@
 use Rattle.std.proofs.Common.{Ok, ◌++◌, ◌∷◌, [], take, rules, sym, ap, subst, append-nil, ◌∙◌}
 use Rattle.sqlite.specs.Held.{state}
-use Rattle.pay_ledger.specs.Keeps.{Keeps}
+use Rattle.pay_ledger.specs.Stores.{Stores}
 use Rattle.pay_ledger.proofs.Along.{not_begun, was, gone, and_on, and_stopped, one_more, others_same, others_then}
 use Rattle.pay_ledger.proofs.write.write_postings.Goals as goal
 
@@ -21,10 +21,10 @@ loop-posting-preserved g c =
           let was_clean = was g.S.Store {r = Ok tt} step clean in
           let grown = c.loop-posting.invariant.1 was_clean inside in
           let more = c.in_ok-write_posting.ensures.writes clean (c.loop-posting.invariant.0.goes_on.inside was_clean inside) in
-          (λ ledger kept. subst (λ s. Keeps after.now (record ledger { postings = s })) (ap (λ x. (ledger.postings ++ take c.loop-posting.posting-index c.args.postings.now) ++ x ∷ []) (search rules) ∙ one_more ledger.postings c.args.postings.now c.loop-posting.posting-index c.posting-item.result c.loop-posting-test.true) (more.0 _ (grown.0 ledger kept)), others_then first.now before.now after.now grown.1 more.1),
+          (λ ledger unchanged. subst (λ s. Stores after.now (record ledger { postings = s })) (ap (λ x. (ledger.postings ++ take c.loop-posting.posting-index c.args.postings.now) ++ x ∷ []) (search rules) ∙ one_more ledger.postings c.args.postings.now c.loop-posting.posting-index c.posting-item.result c.loop-posting-test.true) (more.0 _ (grown.0 ledger unchanged)), others_then first.now before.now after.now grown.1 more.1),
     )
 
 pub loop-posting-init : goal.loop-posting-init
 loop-posting-init g c =
     let first = state g.S.Store c.args.tx.now.conn.now in
-    (not_begun g.S.Store c.args.tx.now.conn, λ clean inside. (λ ledger kept. subst (λ s. Keeps first.now (record ledger { postings = s })) (sym (append-nil ledger.postings)) kept, others_same first.now))
+    (not_begun g.S.Store c.args.tx.now.conn, λ clean inside. (λ ledger unchanged. subst (λ s. Stores first.now (record ledger { postings = s })) (sym (append-nil ledger.postings)) unchanged, others_same first.now))

@@ -7,7 +7,7 @@ use Rattle.pay_ledger.proofs.write.write_shares.Goals as goal
 pub returns-in_err-add_share-clause-step : goal.returns-in_err-add_share-clause-step
 returns-in_err-add_share-clause-step g c =
     and_stopped g.S.Store c.from_residual.result c.loop-share.invariant.0 _ c.from_residual.ensures.1
-    (stops g.S.Store c.loop-share.tx.conn c.add_share.new.tx.conn c.add_share.ensures.same_reference (λ clean inside. c.add_share.ensures.kept clean) c.add_share.ensures.survives)
+    (stops g.S.Store c.loop-share.tx.conn c.add_share.new.tx.conn c.add_share.ensures.same_reference (λ clean inside. c.add_share.ensures.unchanged clean) c.add_share.ensures.survives)
 
 pub returns-clause-step : goal.returns-clause-step
 returns-clause-step g c = gone g.S.Store _ c.loop-share.invariant.0
@@ -17,7 +17,7 @@ loop-share-preserved g c =
     let first = state g.S.Store c.args.tx.now.conn.now in
     let before = state g.S.Store c.loop-share.tx.conn.now in
     let after = state g.S.Store c.add_share.new.tx.conn.now in
-    let step = goes g.S.Store c.loop-share.tx.conn c.add_share.new.tx.conn c.add_share.ensures.same_reference (λ clean inside. c.add_share.ensures.kept clean) c.in_ok-add_share.ensures.inside c.add_share.ensures.survives in (
+    let step = goes g.S.Store c.loop-share.tx.conn c.add_share.new.tx.conn c.add_share.ensures.same_reference (λ clean inside. c.add_share.ensures.unchanged clean) c.in_ok-add_share.ensures.inside c.add_share.ensures.survives in (
       and_on g.S.Store c.loop-share.invariant.0 step,
       λ clean.
           let grown = c.loop-share.invariant.1 (was g.S.Store step clean) in

@@ -1,5 +1,5 @@
 use Rattle.std.proofs.Common.{◌≡◌, ◌≢◌, ◌∙◌, sym, slice_get, Some, None, rules}
-use Rattle.pay_numbered.proofs.SoughtNumber.{one_number, two_numbers, parted, behind_all, before_another, at_its_place}
+use Rattle.pay_numbered.proofs.SoughtNumber.{one_number, two_numbers, parted, after_all, before_another, at_its_place}
 use Rattle.pay_numbered.proofs.numbered_blocks.sought.Goals as goal
 
 pub place-place-requires : goal.place-place-requires
@@ -8,7 +8,7 @@ place-place-requires g c = (search rules, (parted g.T.Numbered.number c.args.ite
 pub returns-in_default : goal.returns-in_default
 returns-in_default g c =
     let none : slice_get c.args.items.now c.place-place.result ≡ None = search rules in
-    (behind_all g.T.Numbered.number c.args.items.now c.args.number c.place-place.result c.requires.rising c.place-place.ensures.place none, c.place-place.ensures.within)
+    (after_all g.T.Numbered.number c.args.items.now c.args.number c.place-place.result c.requires.rising c.place-place.ensures.place none, c.place-place.ensures.within)
 
 pub returns-then-eq : goal.returns-then-eq
 returns-then-eq g c =

@@ -1,5 +1,5 @@
-use Rattle.pay_pairs.proofs.Parting.{no_leg_behind}
+use Rattle.pay_pairs.proofs.Parting.{no_leg_after}
 use Rattle.pay_pairs.proofs.laws.one_leg_each.Goals as goal
 
 pub returns : goal.returns
-returns c = no_leg_behind
+returns c = no_leg_after

@@ -7,6 +7,6 @@ returns-clause-value g c clean =
     presence_told (state g.S.Store c.args.tx.now.conn.now) (state g.S.Store c.prepare-prepared.new.self.conn.now) c.args.sql.now _
     (c.prepare-prepared.ensures.ok clean) (c.prepare-prepared.ensures.shape clean) (c.prepare-prepared.ensures.err clean) c.told_by.result c.told_by.ensures.value
 
-pub returns-clause-kept : goal.returns-clause-kept
-returns-clause-kept g c clean =
+pub returns-clause-unchanged : goal.returns-clause-unchanged
+returns-clause-unchanged g c clean =
     kept_prepared (state g.S.Store c.args.tx.now.conn.now) (state g.S.Store c.prepare-prepared.new.self.conn.now) c.args.sql.now _ (c.prepare-prepared.ensures.ok clean) (c.prepare-prepared.ensures.err clean)

@@ -1,7 +1,7 @@
 use Rattle.std.proofs.Common.{rules}
 use Rattle.std.proofs.lemmas.Result.{IfOk-weaker}
 use Rattle.sqlite.specs.Held.{state}
-use Rattle.pay_records.proofs.Tells.{never_told_bad, taps_told, taps_whole}
+use Rattle.pay_records.proofs.Says.{never_told_bad, taps_told, taps_whole}
 use Rattle.pay_records.proofs.read.taps_of.Goals as goal
 
 pub returns-clause-found : goal.returns-clause-found

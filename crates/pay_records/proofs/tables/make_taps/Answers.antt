@@ -2,7 +2,7 @@ use Rattle.std.proofs.Common.{inl, inr, subst, sym}
 use Rattle.std.proofs.lemmas.Bool.{cases_Bool}
 use Rattle.sqlite.specs.Held.{state}
 use Rattle.sqlite.specs.State.{KeepsCommit}
-use Rattle.pay_records.proofs.Kept.{kept_inside, kept_same}
+use Rattle.pay_records.proofs.Unchanged.{kept_inside, kept_same}
 use Rattle.pay_records.proofs.Made.{taps_made}
 use Rattle.pay_records.proofs.tables.make_taps.Goals as goal
 
@@ -14,8 +14,8 @@ returns-clause-made g c clean =
       | inr ended ↦ let refused = (c.execute.ensures.ended ended).0 in rw refused tt
     ]
 
-pub returns-clause-kept : goal.returns-clause-kept
-returns-clause-kept g c clean =
+pub returns-clause-unchanged : goal.returns-clause-unchanged
+returns-clause-unchanged g c clean =
     let old = state g.S.Store c.args.tx.now.conn.now in
     elim (cases_Bool old.in_transaction) [
       | inl inside ↦ kept_inside 0 _ _ old (state g.S.Store c.execute.new.self.conn.now) c.execute.result (c.execute.ensures.runs clean inside)

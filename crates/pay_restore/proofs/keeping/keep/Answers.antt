@@ -1,6 +1,6 @@
 use Rattle.std.proofs.Common.{ap, sym, ◌∙◌, subst}
 use Rattle.std.specs.FinMap.{insert}
-use Rattle.pay_restore.specs.Kept.{held, AreKept}
+use Rattle.pay_restore.specs.Filed.{held, AreFiled}
 use Rattle.pay_restore.proofs.AtNumbers.{inserted, kept_and_one}
 use Rattle.pay_restore.proofs.keeping.keep.Goals as goal
 
@@ -11,5 +11,5 @@ returns-clause-state g c =
 
 pub returns-clause-kept : goal.returns-clause-kept
 returns-clause-kept g c tables priced kept =
-    subst (AreKept g.F.Fares.account (g.F.Fares.IsPricedBy tables)) (sym c.in_ok-insert.ensures.entries)
+    subst (AreFiled g.F.Fares.account (g.F.Fares.IsPricedBy tables)) (sym c.in_ok-insert.ensures.entries)
     (kept_and_one g.F.Fares.account (g.F.Fares.IsPricedBy tables) c.args.accounts.now.entries c.number-number.result c.args.account c.number-number.ensures c.requires priced kept)

@@ -1,11 +1,11 @@
 use Rattle.std.proofs.Common.{◌≡◌, drop}
-use Rattle.pay_restore.specs.Kept.{held, AreKept}
+use Rattle.pay_restore.specs.Filed.{held, AreFiled}
 use Rattle.pay_restore.specs.Restored.{with_fix_rows}
 use Rattle.pay_restore.proofs.restoring.add_fixes.Given as goal
 
--- what is left, behind the corrections so far, comes to all
+-- what is left, after the corrections so far, comes to all
 abbrev pub invariant-loop-row : goal.invariant-loop-row
 invariant-loop-row g l = record {
   told : with_fix_rows l.tables (held g.F.Fares.accepted l.accounts.entries) (drop l.row-index l.rows) ≡ with_fix_rows l.tables (held g.F.Fares.accepted l.fn.accounts.entries) l.rows;
-  kept : AreKept g.F.Fares.account (g.F.Fares.IsPricedBy l.tables) l.accounts.entries;
+  kept : AreFiled g.F.Fares.account (g.F.Fares.IsPricedBy l.tables) l.accounts.entries;
 }

@@ -1,6 +1,6 @@
 use Rattle.std.proofs.Common.{sym, ◌∙◌}
 use Rattle.std.proofs.lemmas.Result.{err_from_is_err_and}
-use Rattle.pay_restore.specs.Kept.{held}
+use Rattle.pay_restore.specs.Filed.{held}
 use Rattle.pay_restore.proofs.Steps.{still_from_1, tap_taken, taken_some, tap_restored}
 use Rattle.pay_restore.proofs.restoring.add_tap.Goals as goal
 

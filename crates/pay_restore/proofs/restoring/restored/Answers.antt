@@ -4,7 +4,7 @@ use Rattle.std.specs.Ordering.{nat_cmp}
 use Rattle.std.proofs.lemmas.Map.Keys.{IsDistinct-from_sorted}
 use Rattle.std.proofs.lemmas.Result.{err_from_is_err_and}
 use Rattle.pay_rules.specs.State.{ArePriced}
-use Rattle.pay_restore.specs.Kept.{held}
+use Rattle.pay_restore.specs.Filed.{held}
 use Rattle.pay_restore.proofs.AtNumbers.{none_held, all_in_order, numbers, all_priced}
 use Rattle.pay_restore.proofs.Steps.{tap_refused, fix_refused, all_restored}
 use Rattle.pay_restore.proofs.restoring.restored.Goals as goal

@@ -37,7 +37,7 @@ returns-in_err-done-clause-fails g c =
 pub returns-in_err-done-clause-cause : goal.returns-in_err-done-clause-cause
 returns-in_err-done-clause-cause g c =
     let p = err_from_is_err_and c.from_residual-in_err-done.result c.from_residual-in_err-done.ensures.1 in
-    rw p.1 (λ n read. week_cause g.R.ToldReader.Tells (λ _ _ _. ⊤) _ _ _ _ _ n p.2 c.in_err-done.ensures.cause read)
+    rw p.1 (λ n read. week_cause g.R.KnownReader.MayAnswer (λ _ _ _. ⊤) _ _ _ _ _ n p.2 c.in_err-done.ensures.cause read)
 
 pub returns-in_err-lines-clause-fails : goal.returns-in_err-lines-clause-fails
 returns-in_err-lines-clause-fails g c =

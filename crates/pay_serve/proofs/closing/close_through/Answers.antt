@@ -1,6 +1,6 @@
 use Rattle.std.proofs.Common.{subst}
 use Rattle.pay_office.specs.Words.{LaneDeskParts, desk_parts}
-use Rattle.pay_shard.specs.Words.{AreKept}
+use Rattle.pay_shard.specs.Words.{NothingIsLost}
 use Rattle.pay_serve.specs.Closes.{IsClosedOver}
 use Rattle.pay_serve.proofs.closing.close_through.Goals as goal
 
@@ -13,7 +13,7 @@ returns-clause-closed g c =
     record {
       desk = last;
       lane = c.into_lane.ensures.lane;
-      kept = subst (λ (d : LaneDeskParts). AreKept (desk_parts d).transcript (desk_parts last).transcript) c.new-desk.ensures c.close_over-closed.ensures.transcript;
+      kept = subst (λ (d : LaneDeskParts). NothingIsLost (desk_parts d).transcript (desk_parts last).transcript) c.new-desk.ensures c.close_over-closed.ensures.transcript;
       closed = subst (λ (d : LaneDeskParts). IsClosedOver desk_parts (λ of put given. g.T.Till.Closes c.args.till.now c.args.day of put given c.close_over-closed.new.till) c.args.day (d, held) (last, written) c.close_over-closed.result)
           c.new-desk.ensures c.close_over-closed.ensures.closed;
     }

@@ -91,33 +91,33 @@ returns-clause-served g c =
 pub returns-in_err-service-clause-cause : goal.returns-in_err-service-clause-cause
 returns-in_err-service-clause-cause g c =
     let p = err_from_is_err_and c.from_residual.result c.from_residual.ensures.1 in
-    rw p.1 (unserved_cause g.W.ToldWriter.Tells (CanFail g.K.Keeper.HasFailed) c.args.given.plan _ _ (unopened c.args.given.plan _ (no_memory c.args.given.plan _ p.2)))
+    rw p.1 (unserved_cause g.W.KnownWriter.MayAnswer (CanFail g.K.Keeper.HasFailed) c.args.given.plan _ _ (unopened c.args.given.plan _ (no_memory c.args.given.plan _ p.2)))
 
 pub returns-in_err-tried-clause-cause : goal.returns-in_err-tried-clause-cause
 returns-in_err-tried-clause-cause g c =
     let p = err_from_is_err_and c.from_residual-in_err-tried.result c.from_residual-in_err-tried.ensures.1 in
-    rw p.1 (unserved_cause g.W.ToldWriter.Tells (CanFail g.K.Keeper.HasFailed) c.args.given.plan _ _ (unopened c.args.given.plan _ (no_memory c.args.given.plan _ p.2)))
+    rw p.1 (unserved_cause g.W.KnownWriter.MayAnswer (CanFail g.K.Keeper.HasFailed) c.args.given.plan _ _ (unopened c.args.given.plan _ (no_memory c.args.given.plan _ p.2)))
 
 pub returns-in_err-back-clause-cause : goal.returns-in_err-back-clause-cause
 returns-in_err-back-clause-cause g c =
     let p = err_from_is_err_and c.from_residual-in_err-back.result c.from_residual-in_err-back.ensures.1 in
-    rw p.1 (unserved_cause g.W.ToldWriter.Tells (CanFail g.K.Keeper.HasFailed) c.args.given.plan _ _ (unopened c.args.given.plan _ (no_memory c.args.given.plan _ p.2)))
+    rw p.1 (unserved_cause g.W.KnownWriter.MayAnswer (CanFail g.K.Keeper.HasFailed) c.args.given.plan _ _ (unopened c.args.given.plan _ (no_memory c.args.given.plan _ p.2)))
 
 pub returns-in_err-office-clause-cause : goal.returns-in_err-office-clause-cause
 returns-in_err-office-clause-cause g c =
     let p = err_from_is_err_and c.from_residual-in_err-office.result c.from_residual-in_err-office.ensures.1 in
-    rw (p.1, p.2) (unserved_cause g.W.ToldWriter.Tells (CanFail g.K.Keeper.HasFailed) c.args.given.plan _ _ (unopened c.args.given.plan _ c.in_err-office.ensures.cause))
+    rw (p.1, p.2) (unserved_cause g.W.KnownWriter.MayAnswer (CanFail g.K.Keeper.HasFailed) c.args.given.plan _ _ (unopened c.args.given.plan _ c.in_err-office.ensures.cause))
 
 pub returns-in-Err-clause-cause : goal.returns-in-Err-clause-cause
 returns-in-Err-clause-cause g c =
-    unserved_cause g.W.ToldWriter.Tells (CanFail g.K.Keeper.HasFailed) c.args.given.plan c.in-Err.fault _ (taken_cause _ _ c.args.given.plan 0 _ _ c.take_through-taken.result.0 c.in-Err.fault c.take_through-taken.ensures.taken.taken c.in-Err.is)
+    unserved_cause g.W.KnownWriter.MayAnswer (CanFail g.K.Keeper.HasFailed) c.args.given.plan c.in-Err.fault _ (taken_cause _ _ c.args.given.plan 0 _ _ c.take_through-taken.result.0 c.in-Err.fault c.take_through-taken.ensures.taken.taken c.in-Err.is)
 
 pub returns-in-Some-clause-cause : goal.returns-in-Some-clause-cause
-returns-in-Some-clause-cause g c = lane_cause g.W.ToldWriter.Tells (CanFail g.K.Keeper.HasFailed) c.args.given.plan _ _ _ c.from.ensures
+returns-in-Some-clause-cause g c = lane_cause g.W.KnownWriter.MayAnswer (CanFail g.K.Keeper.HasFailed) c.args.given.plan _ _ _ c.from.ensures
 
 pub returns-clause-cause : goal.returns-clause-cause
 returns-clause-cause g c =
-    told_cause g.W.ToldWriter.Tells (CanFail g.K.Keeper.HasFailed) _ _ c.close_day-closed.result.0 _ c.args.given.plan _ c.told_with.ensures.told c.told_with.ensures.cause c.close_day-closed.ensures.closed.told c.close_day-closed.ensures.cause
+    told_cause g.W.KnownWriter.MayAnswer (CanFail g.K.Keeper.HasFailed) _ _ c.close_day-closed.result.0 _ c.args.given.plan _ c.told_with.ensures.told c.told_with.ensures.cause c.close_day-closed.ensures.closed.told c.close_day-closed.ensures.cause
 
 pub returns-clause-flushed : goal.returns-clause-flushed
 returns-clause-flushed g c = told_on_ok _ c.close_day-closed.result.0 _ _ c.told_with.ensures.told c.close_day-closed.ensures.flushed

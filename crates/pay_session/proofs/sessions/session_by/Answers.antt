@@ -45,4 +45,4 @@ pub returns-in-Err-clause-fails : goal.returns-in-Err-clause-fails
 returns-in-Err-clause-fails g c = rw (c.after.ensures, c.answered.ensures) (fails g.D.Desk.parts g.T.Till.Closes g.T.Till.origin _ _ _ _ _ _ _ c.in-Err.ensures.fails)
 
 pub returns-in-Err-clause-cause : goal.returns-in-Err-clause-cause
-returns-in-Err-clause-cause g c = rw c.after.ensures (broken g.R.ToldReader.Tells g.W.ToldWriter.Tells _ _ _ _ _ c.in-Err.ensures.cause)
+returns-in-Err-clause-cause g c = rw c.after.ensures (broken g.R.KnownReader.MayAnswer g.W.KnownWriter.MayAnswer _ _ _ _ _ c.in-Err.ensures.cause)

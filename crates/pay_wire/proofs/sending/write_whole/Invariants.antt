@@ -11,5 +11,5 @@ invariant-loop g l = record {
   front : Appends (g.W.Write.contents l.fn.output.writer.now) (g.W.Write.contents l.output.writer.now) (take l.taken l.bytes);
   same_writer : l.output.writer.ghost_name ≡ l.fn.output.writer.ghost_name;
   not_failed : has_failed l.output.state ≡ false;
-  writes : AreWrites g.W.ToldWriter.Tells l.counter l.fn.output.writer.now l.output.writer.now;
+  writes : AreWrites g.W.KnownWriter.MayAnswer l.counter l.fn.output.writer.now l.output.writer.now;
 }

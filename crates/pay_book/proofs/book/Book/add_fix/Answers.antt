@@ -10,8 +10,8 @@ prepare-requires-clause-possible c =
     let is = change_of_fix c.fix_is_change.ensures old c.args.fix c.taps.result.now c.taps-2.result.now c.fixes.result.now c.fixes-2.result.now c.change_by_fix-change.result
     (c.taps.ensures ∙ ap (λ (b : BookParts). b.accepted.taps) c.self.view_is) (c.taps-2.ensures ∙ ap (λ (b : BookParts). b.accepted.taps) c.self.view_is)
     (c.fixes.ensures ∙ ap (λ (b : BookParts). b.accepted.fixes) c.self.view_is) (c.fixes-2.ensures ∙ ap (λ (b : BookParts). b.accepted.fixes) c.self.view_is) c.len.ensures.numbered c.len-2.ensures.numbered c.requires.judged c.change_by_fix-change.ensures in
-    c.changes.ensures.can_be c.change_by_fix-change.result (touches old) (touches (with_fix old c.args.fix)) c.self.inside.kept is
-    (record { rail = ap (λ (b : BookParts). b.rail) c.self.view_is ∙ c.requires.kept.rail; buses = ap (λ (b : BookParts). b.buses) c.self.view_is ∙ c.requires.kept.buses })
+    c.changes.ensures.can_be c.change_by_fix-change.result (touches old) (touches (with_fix old c.args.fix)) c.self.inside.held is
+    (record { rail = ap (λ (b : BookParts). b.rail) c.self.view_is ∙ c.requires.held.rail; buses = ap (λ (b : BookParts). b.buses) c.self.view_is ∙ c.requires.held.buses })
 
 pub apply-requires-clause-possible : goal.apply-requires-clause-possible
 apply-requires-clause-possible c =
@@ -21,7 +21,7 @@ apply-requires-clause-possible c =
     (c.taps.ensures ∙ ap (λ (b : BookParts). b.accepted.taps) c.self.view_is) (c.taps-2.ensures ∙ ap (λ (b : BookParts). b.accepted.taps) c.self.view_is)
     (c.fixes.ensures ∙ ap (λ (b : BookParts). b.accepted.fixes) c.self.view_is) (c.fixes-2.ensures ∙ ap (λ (b : BookParts). b.accepted.fixes) c.self.view_is) c.len.ensures.numbered c.len-2.ensures.numbered c.requires.judged c.change_by_fix-change.ensures in
     c.changes.ensures.can_be c.change_by_fix-change.result (touches old) (touches (with_fix old c.args.fix)) c.prepare.new.self is
-    (record { rail = same.rail ∙ ap (λ (b : BookParts). b.rail) c.self.view_is ∙ c.requires.kept.rail; buses = same.buses ∙ ap (λ (b : BookParts). b.buses) c.self.view_is ∙ c.requires.kept.buses })
+    (record { rail = same.rail ∙ ap (λ (b : BookParts). b.rail) c.self.view_is ∙ c.requires.held.rail; buses = same.buses ∙ ap (λ (b : BookParts). b.buses) c.self.view_is ∙ c.requires.held.buses })
 
 pub returns-clause-steps : goal.returns-clause-steps
 returns-clause-steps c =
@@ -29,6 +29,6 @@ returns-clause-steps c =
     let is = change_of_fix c.fix_is_change.ensures old c.args.fix c.taps.result.now c.taps-2.result.now c.fixes.result.now c.fixes-2.result.now c.change_by_fix-change.result
     (c.taps.ensures ∙ ap (λ (b : BookParts). b.accepted.taps) c.self.view_is) (c.taps-2.ensures ∙ ap (λ (b : BookParts). b.accepted.taps) c.self.view_is)
     (c.fixes.ensures ∙ ap (λ (b : BookParts). b.accepted.fixes) c.self.view_is) (c.fixes-2.ensures ∙ ap (λ (b : BookParts). b.accepted.fixes) c.self.view_is) c.len.ensures.numbered c.len-2.ensures.numbered c.requires.judged c.change_by_fix-change.ensures in
-    read_for c.changes.ensures.disturbs c.args.tables.now c.change_by_fix-change.result c.self.inside.kept old c.accept_fix.new.self.1 (with_fix old c.args.fix) c.args.self.now.steps c.self.inside.steps c.prepare.new.steps c.apply.new.steps is
-    (record { rail = ap (λ (b : BookParts). b.rail) c.self.view_is ∙ c.requires.kept.rail; buses = ap (λ (b : BookParts). b.buses) c.self.view_is ∙ c.requires.kept.buses })
+    read_for c.changes.ensures.disturbs c.args.tables.now c.change_by_fix-change.result c.self.inside.held old c.accept_fix.new.self.1 (with_fix old c.args.fix) c.args.self.now.steps c.self.inside.steps c.prepare.new.steps c.apply.new.steps is
+    (record { rail = ap (λ (b : BookParts). b.rail) c.self.view_is ∙ c.requires.held.rail; buses = ap (λ (b : BookParts). b.buses) c.self.view_is ∙ c.requires.held.buses })
     (c.in_ok-accept_fix.ensures.accepted ∙ ap (λ (b : BookParts). with_fix b.accepted c.args.fix) c.self.view_is) (ap (λ (b : BookParts). b.steps) c.self.view_is) c.in_ok-repair.ensures.steps c.apply.ensures.steps

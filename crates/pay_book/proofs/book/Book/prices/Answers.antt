@@ -3,11 +3,11 @@ use Rattle.pay_rules.specs.Journeys.{journeys_of}
 use Rattle.pay_rules.specs.Accepted.{touches}
 use Rattle.pay_book.specs.Books.{BookParts}
 use Rattle.pay_book.specs.Days.{AreSums}
-use Rattle.pay_book.proofs.Stored.{sums_of_kept}
+use Rattle.pay_book.proofs.Stored.{sums_of_stored}
 use Rattle.pay_book.proofs.book.Book.prices.Goals as goal
 
 pub returns : goal.returns
 returns c =
     let tables = c.args.tables.now in
     let list = journeys_of tables (touches c.args.self.now.accepted) in
-    c.prices.ensures list (subst (λ (b : BookParts). AreSums tables b.days list) (sym c.self.view_is) (sums_of_kept c.boarded_by_all.ensures tables c.args.self.now c.requires.kept))
+    c.prices.ensures list (subst (λ (b : BookParts). AreSums tables b.days list) (sym c.self.view_is) (sums_of_stored c.boarded_by_all.ensures tables c.args.self.now c.requires.held))

@@ -23,8 +23,8 @@ returns-clause-same c =
     (c.put_in.ensures ∙ ap (λ (list : List ℕ). insert list c.place_in-place.result c.args.day) c.in_ok-reserve.ensures.items)
     (c.put_in-2.ensures ∙ ap (λ (list : List CellSums). insert list c.place_in-place.result c.new.result) c.in_ok-reserve-2.ensures.items ∙ ap (insert c.self.inside.sums.items c.place_in-place.result) c.new.ensures)
 
-pub returns-clause-kept : goal.returns-clause-kept
-returns-clause-kept c =
+pub returns-clause-held : goal.returns-clause-held
+returns-clause-held c =
     let at = is_not_there c.args.day c.self.inside.days.items c.deref.result.now c.deref-2.result.now c.place_in-place.result c.stands_at.result c.deref.ensures c.deref-2.ensures c.place_in-place.ensures.place c.stands_at.ensures c.if-stands_at.false in
     opened_keeps c.args.day c.self.inside.days.items c.put_in.new.list.items c.self.inside.sums.items c.put_in-2.new.list.items c.place_in-place.result c.args.self.now c.self.invariant at c.self.view_is
     (c.put_in.ensures ∙ ap (λ (list : List ℕ). insert list c.place_in-place.result c.args.day) c.in_ok-reserve.ensures.items)

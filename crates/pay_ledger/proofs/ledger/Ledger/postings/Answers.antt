@@ -4,7 +4,7 @@ use Rattle.pay_postings.specs.Postings.{postings_of}
 use Rattle.pay_postings.specs.Words.{LedgerParts}
 use Rattle.pay_records.specs.Words.{HoldsRows}
 use Rattle.pay_ledger.specs.Faults.{is_of_store}
-use Rattle.pay_ledger.specs.Keeps.{IsLedger}
+use Rattle.pay_ledger.specs.Stores.{IsLedger}
 use Rattle.pay_ledger.proofs.Looking.{week_of_own}
 use Rattle.pay_ledger.proofs.Reading.{posted_of_ledger, store_of_ledger}
 use Rattle.pay_ledger.proofs.Readable.{by_fault}
@@ -15,7 +15,7 @@ returns-clause-told g c clean ledger k =
     let same : c.args.self.now ≡ c.self.inside.conn = search rules in
     let its : IsLedger (state g.S.Store c.self.inside.conn).now ledger = subst (λ h. IsLedger (state g.S.Store h).now ledger) same k in
     (search rules)
-    ∙ ap (postings_of c.args.account c.args.week) (posted_of_ledger c.postings_back.ensures (state g.S.Store c.self.inside.conn).now ledger its c.args.account _ (c.in_ok-posted.ensures.found clean its.keeps.rows its.keeps.held))
+    ∙ ap (postings_of c.args.account c.args.week) (posted_of_ledger c.postings_back.ensures (state g.S.Store c.self.inside.conn).now ledger its c.args.account _ (c.in_ok-posted.ensures.found clean its.stores.rows its.stores.held))
     ∙ week_of_own c.args.account c.args.week ledger.postings
 
 pub returns-in_err-posted-clause-never_bad : goal.returns-in_err-posted-clause-never_bad
@@ -25,7 +25,7 @@ returns-in_err-posted-clause-never_bad g c clean =
     by_fault c.from_residual.result (λ f. (ledger : LedgerParts) → IsLedger (state g.S.Store c.args.self.now).now ledger → IsTrue (is_of_store f)) fault c.from_residual.ensures.1
     (λ ledger k.
     let its : IsLedger (state g.S.Store c.self.inside.conn).now ledger = subst (λ h. IsLedger (state g.S.Store h).now ledger) same k in
-    store_of_ledger c.postings_back.ensures (state g.S.Store c.self.inside.conn).now ledger its c.args.account fault (c.in_err-posted.ensures.bad clean its.keeps.rows its.keeps.held))
+    store_of_ledger c.postings_back.ensures (state g.S.Store c.self.inside.conn).now ledger its c.args.account fault (c.in_err-posted.ensures.bad clean its.stores.rows its.stores.held))
 
 pub returns-clause-read : goal.returns-clause-read
 returns-clause-read g c clean rows k =

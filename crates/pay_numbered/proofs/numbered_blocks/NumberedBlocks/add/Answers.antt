@@ -1,6 +1,6 @@
 use Rattle.std.proofs.Common.{subst, rules, arith}
 use Rattle.std.specs.FinMap.{get, len}
-use Rattle.pay_numbered.specs.Kept.{IsPlace}
+use Rattle.pay_numbered.specs.Sound.{IsPlace}
 use Rattle.pay_rules.specs.Numbers.{IsNumbered}
 use Rattle.pay_rules.specs.Judgement.{added_iff}
 use Rattle.pay_numbered.proofs.KeptList.{set_numbered, count_of, put_in_place}

@@ -1,6 +1,6 @@
 use Rattle.std.proofs.Common.{◌≡◌, ◌≢◌, ◌≤◌, ◌<◌, ◌∙◌, ap, subst, sym, refl, false, true, Some, length, rules, arith, Ok, Err}
 use Rattle.std.specs.FinMap.{get, len}
-use Rattle.pay_numbered.specs.Kept.{IsSought}
+use Rattle.pay_numbered.specs.Sound.{IsSought}
 use Rattle.pay_rules.specs.Judgement.{repeat_iff, conflict_iff, full_iff, added_iff}
 use Rattle.pay_numbered.proofs.KeptList.{count_of, place_of}
 use Rattle.pay_numbered.proofs.SoughtNumber.{has, has_none}

@@ -1,6 +1,6 @@
 use Rattle.std.proofs.Common.{◌≡◌, ℕ, ◌≤◌, List, length, sym, ap, ◌∙◌, subst, rules}
 use Rattle.pay_rules.specs.InTurn.{IsIn}
-use Rattle.pay_shard.specs.Words.{Standing, AreKept, without}
+use Rattle.pay_shard.specs.Words.{Standing, NothingIsLost, without}
 use Rattle.pay_shard.specs.declared.limits.TheConstants.{MOST_SHARDS}
 use Rattle.pay_lanes.specs.Parts.{LaneParts}
 use Rattle.pay_lanes.proofs.Same.{lane_then, lane_shards}
@@ -39,12 +39,12 @@ returns-clause-none_added g c =
 
 pub returns-in_default-clause-transcript : goal.returns-in_default-clause-transcript
 returns-in_default-clause-transcript g c =
-    subst (λ (d : LaneDeskParts). AreKept (λ t. answer_to t d.lane.answers.got) (λ t. answer_to t c.take_until.new.lane.answers.got)) c.self.view_is
+    subst (λ (d : LaneDeskParts). NothingIsLost (λ t. answer_to t d.lane.answers.got) (λ t. answer_to t c.take_until.new.lane.answers.got)) c.self.view_is
     (answers_stay c.self.inside.lane c.take_until.new.lane (stays c.self.inside.lane c.take_until.new.lane c.take_until.ensures.lane))
 
 pub returns-clause-transcript : goal.returns-clause-transcript
 returns-clause-transcript g c =
-    subst (λ (d : LaneDeskParts). AreKept (λ t. answer_to t d.lane.answers.got) (λ t. answer_to t c.take_until.new.lane.answers.got)) c.self.view_is
+    subst (λ (d : LaneDeskParts). NothingIsLost (λ t. answer_to t d.lane.answers.got) (λ t. answer_to t c.take_until.new.lane.answers.got)) c.self.view_is
     (answers_stay c.self.inside.lane c.take_until.new.lane (stays c.self.inside.lane c.take_until.new.lane c.take_until.ensures.lane))
 
 stands : (before now : LaneDeskParts) (l : LaneParts) (kept left : List ℕ) (ticket : ℕ) → before ≡ now → length l.shards ≡ length before.lane.shards → kept ≡ before.waiting → left ≡ without ticket kept

@@ -1,5 +1,5 @@
 use Rattle.std.proofs.Common.{◌≤◌, ◌++◌, [], ◌∷◌, refl, sym, ap, ◌∙◌, subst, None, Err, rules}
-use Rattle.pay_shard.specs.Words.{AreKept, IsAfterAll, IsNoneOf}
+use Rattle.pay_shard.specs.Words.{NothingIsLost, IsAfterAll, IsNoneOf}
 use Rattle.pay_shard.specs.declared.limits.TheConstants.{MOST_SHARDS}
 use Rattle.pay_lanes.specs.Parts.{LaneParts}
 use Rattle.pay_lanes.proofs.Same.{lane_then, lane_shards}
@@ -18,7 +18,7 @@ returns-then-is_full-clause-not_added g c =
 
 pub returns-then-is_full-clause-transcript : goal.returns-then-is_full-clause-transcript
 returns-then-is_full-clause-transcript g c =
-    subst (λ (d : LaneDeskParts). AreKept (λ t. answer_to t d.lane.answers.got) (λ t. answer_to t c.take_all.new.lane.answers.got)) c.self.view_is
+    subst (λ (d : LaneDeskParts). NothingIsLost (λ t. answer_to t d.lane.answers.got) (λ t. answer_to t c.take_all.new.lane.answers.got)) c.self.view_is
     (answers_stay c.self.inside.lane c.take_all.new.lane (stays c.self.inside.lane c.take_all.new.lane c.take_all.ensures.lane))
 
 pub returns-in-Err-clause-not_added : goal.returns-in-Err-clause-not_added
@@ -41,8 +41,8 @@ returns-in-Err-clause-busy g c = λ e.
 
 pub returns-in-Err-clause-transcript : goal.returns-in-Err-clause-transcript
 returns-in-Err-clause-transcript g c =
-    subst (λ (d : LaneDeskParts). AreKept (λ t. answer_to t d.lane.answers.got) (λ t. answer_to t c.send.new.self.answers.got)) c.self.view_is
-    (subst (λ (l : LaneParts). AreKept (λ t. answer_to t c.self.inside.lane.answers.got) (λ t. answer_to t l.answers.got)) (sym c.in-Err.ensures.refused)
+    subst (λ (d : LaneDeskParts). NothingIsLost (λ t. answer_to t d.lane.answers.got) (λ t. answer_to t c.send.new.self.answers.got)) c.self.view_is
+    (subst (λ (l : LaneParts). NothingIsLost (λ t. answer_to t c.self.inside.lane.answers.got) (λ t. answer_to t l.answers.got)) (sym c.in-Err.ensures.refused)
     (answers_stay c.self.inside.lane c.take_all.new.lane (stays c.self.inside.lane c.take_all.new.lane c.take_all.ensures.lane)))
 
 pub invariant_of-self-2 : goal.invariant_of-self-2
@@ -80,6 +80,6 @@ returns-clause-fresh g c =
 
 pub returns-clause-transcript : goal.returns-clause-transcript
 returns-clause-transcript g c =
-    subst (λ (d : LaneDeskParts). AreKept (λ t. answer_to t d.lane.answers.got) (λ t. answer_to t c.send.new.self.answers.got)) c.self.view_is
-    (subst (λ (l : LaneParts). AreKept (λ t. answer_to t c.self.inside.lane.answers.got) (λ t. answer_to t l.answers.got)) (sym c.in-Ok.ensures.sent)
+    subst (λ (d : LaneDeskParts). NothingIsLost (λ t. answer_to t d.lane.answers.got) (λ t. answer_to t c.send.new.self.answers.got)) c.self.view_is
+    (subst (λ (l : LaneParts). NothingIsLost (λ t. answer_to t c.self.inside.lane.answers.got) (λ t. answer_to t l.answers.got)) (sym c.in-Ok.ensures.sent)
     (answers_stay c.self.inside.lane c.take_all.new.lane (stays c.self.inside.lane c.take_all.new.lane c.take_all.ensures.lane)))

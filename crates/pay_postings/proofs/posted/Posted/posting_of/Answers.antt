@@ -1,7 +1,7 @@
 use Rattle.std.proofs.Common.{◌++◌, ◌∷◌, [], rules, sym, ap, subst, ◌∙◌, arith, length}
 use Rattle.std.specs.Prelude.{sum}
 use Rattle.pay_rules.specs.QuoteParts.{IsQuote}
-use Rattle.pay_postings.specs.Kept.{AreRead}
+use Rattle.pay_postings.specs.Paid.{AreRead}
 use Rattle.pay_postings.proofs.Settling.{read_more}
 use Rattle.pay_postings.proofs.posted.Posted.posting_of.Goals as goal
 

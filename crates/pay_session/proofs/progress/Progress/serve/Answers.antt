@@ -46,12 +46,12 @@ returns-in_err-end-in-End-clause-fails g c =
     let p = err_from_is_err_and c.from_residual-in_err-end-in-End.result c.from_residual-in_err-end-in-End.ensures.1 in
     let brings = brings_at _ _ _ _ _ _ _ c.in-End.is c.in_ok-turn.ensures.brings in
     let e = c.in_err-end-in-End.ensures in
-    rw (p.1, p.2) (RunsSo_end _ _ _ _ _ _ _ _ (written_off g.W.ToldWriter.Tells _ _ e.cause) (AtEnd_brought _ _ _ _ _ _ _ _ c.loop.invariant.unended c.loop.invariant.underway brings) e.falters)
+    rw (p.1, p.2) (RunsSo_end _ _ _ _ _ _ _ _ (written_off g.W.KnownWriter.MayAnswer _ _ e.cause) (AtEnd_brought _ _ _ _ _ _ _ _ c.loop.invariant.unended c.loop.invariant.underway brings) e.falters)
 
 pub returns-in_err-end-in-End-clause-cause : goal.returns-in_err-end-in-End-clause-cause
 returns-in_err-end-in-End-clause-cause g c =
     let p = err_from_is_err_and c.from_residual-in_err-end-in-End.result c.from_residual-in_err-end-in-End.ensures.1 in
-    rw (p.1, p.2) (failed_last_write g.R.ToldReader.Tells g.W.ToldWriter.Tells _ _ _ _ c.in_err-end-in-End.ensures.cause)
+    rw (p.1, p.2) (failed_last_write g.R.KnownReader.MayAnswer g.W.KnownWriter.MayAnswer _ _ _ _ c.in_err-end-in-End.ensures.cause)
 
 pub returns-in_err-turn-clause-ran : goal.returns-in_err-turn-clause-ran
 returns-in_err-turn-clause-ran g c = Ran_then _ _ _ _ c.loop.invariant.ran c.turn.ensures.ran
@@ -72,7 +72,7 @@ returns-clause-cause g c = (c.loop.counter, omega (arith, c.loop-test.false, c.l
 pub returns-in_err-turn-clause-cause : goal.returns-in_err-turn-clause-cause
 returns-in_err-turn-clause-cause g c =
     let p = err_from_is_err_and c.from_residual.result c.from_residual.ensures.1 in
-    rw (p.1, p.2) (stopped g.R.ToldReader.Tells g.W.ToldWriter.Tells _ _ _ _ _ _ c.loop.invariant.fills c.in_err-turn.ensures.cause)
+    rw (p.1, p.2) (stopped g.R.KnownReader.MayAnswer g.W.KnownWriter.MayAnswer _ _ _ _ _ _ c.loop.invariant.fills c.in_err-turn.ensures.cause)
 
 pub returns-in-End-clause-ended : goal.returns-in-End-clause-ended
-returns-in-End-clause-ended g c = λ _. last_fill g.R.ToldReader.Tells (ShowsNothing g.R.ToldReader.Tells) _ _ _ _ c.loop.invariant.fills (c.in_ok-turn.ensures.ended c.in-End.is)
+returns-in-End-clause-ended g c = λ _. last_fill g.R.KnownReader.MayAnswer (ShowsNothing g.R.KnownReader.MayAnswer) _ _ _ _ c.loop.invariant.fills (c.in_ok-turn.ensures.ended c.in-End.is)

@@ -11,6 +11,6 @@ invariant-loop g l = record {
   unended : has_newline l.self.line ≡ false;
   few : l.self.answered ≤ l.counter * 2 ^ 64;
   ran : Ran g.A.Answers.Serves l.fn.answers l.answers;
-  fills : AreFills g.R.ToldReader.Tells l.counter l.fn.reader l.reader;
+  fills : AreFills g.R.KnownReader.MayAnswer l.counter l.fn.reader l.reader;
   underway : IfSome (g.R.Read.remaining l.fn.reader) (λ input. Underway g.A.Answers.Serves l.fn.answers (g.W.Write.contents l.fn.writer) input (g.R.Read.remaining l.reader) (at l.self l.answers (g.W.Write.contents l.writer)));
 }

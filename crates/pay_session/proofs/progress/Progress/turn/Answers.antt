@@ -20,7 +20,7 @@ returns-then-is_empty-clause-brings g c =
 pub returns-in_err-take-clause-loses : goal.returns-in_err-take-clause-loses
 returns-in_err-take-clause-loses g c =
     let p = err_from_is_err_and c.from_residual-in_err-take.result c.from_residual-in_err-take.ensures.1 in
-    rw (p.1, p.2) (loses_writer _ _ _ _ c.in-Ok.shown.now _ _ (written_off g.W.ToldWriter.Tells _ _ c.in_err-take.ensures.cause) c.in-Ok.ensures.front c.in_err-take.ensures.breaks)
+    rw (p.1, p.2) (loses_writer _ _ _ _ c.in-Ok.shown.now _ _ (written_off g.W.KnownWriter.MayAnswer _ _ c.in_err-take.ensures.cause) c.in-Ok.ensures.front c.in_err-take.ensures.breaks)
 
 pub returns-in-Some-clause-brings : goal.returns-in-Some-clause-brings
 returns-in-Some-clause-brings g c =
@@ -35,7 +35,7 @@ returns-in-Some-clause-brings g c =
 pub returns-in_err-take-clause-cause : goal.returns-in_err-take-clause-cause
 returns-in_err-take-clause-cause g c =
     let p = err_from_is_err_and c.from_residual-in_err-take.result c.from_residual-in_err-take.ensures.1 in
-    rw (p.1, p.2) (failed_write g.R.ToldReader.Tells g.W.ToldWriter.Tells _ _ _ _ c.in_err-take.ensures.cause)
+    rw (p.1, p.2) (failed_write g.R.KnownReader.MayAnswer g.W.KnownWriter.MayAnswer _ _ _ _ c.in_err-take.ensures.cause)
 
 pub returns-in_err-unless_interrupted-in-Err-clause-ran : goal.returns-in_err-unless_interrupted-in-Err-clause-ran
 returns-in_err-unless_interrupted-in-Err-clause-ran g c = Ran_none _ _ _ refl
@@ -50,24 +50,24 @@ pub returns-in_err-unless_interrupted-in-Err-clause-cause : goal.returns-in_err-
 returns-in_err-unless_interrupted-in-Err-clause-cause g c =
     let p = err_from_is_err_and c.from_residual.result c.from_residual.ensures.1 in
     let e = c.in_err-unless_interrupted-in-Err.ensures in
-    rw (p.1, p.2) (failed_fill g.R.ToldReader.Tells g.W.ToldWriter.Tells _ error_kind _ c.in-Err.error _ _ _ _ c.in-Err.is e.other e.failed c.ask_to_fill.follows.holds-at-none.1)
+    rw (p.1, p.2) (failed_fill g.R.KnownReader.MayAnswer g.W.KnownWriter.MayAnswer _ error_kind _ c.in-Err.error _ _ _ _ c.in-Err.is e.other e.failed c.ask_to_fill.follows.holds-at-none.1)
 
 pub returns-in-Err-clause-filled : goal.returns-in-Err-clause-filled
 returns-in-Err-clause-filled g c =
     let same : error_kind c.in-Err.error ≡ Interrupted = search rules in
-    λ _. interrupted_fill g.R.ToldReader.Tells _ error_kind _ c.in-Err.error _ _ c.in-Err.is same c.ask_to_fill.follows.holds-at-none.1
+    λ _. interrupted_fill g.R.KnownReader.MayAnswer _ error_kind _ c.in-Err.error _ _ c.in-Err.is same c.ask_to_fill.follows.holds-at-none.1
 
 pub returns-then-is_empty-clause-ended : goal.returns-then-is_empty-clause-ended
 returns-then-is_empty-clause-ended g c =
     let none : length c.in-Ok.shown.now ≡ 0 = eqb-true (length c.in-Ok.shown.now) 0 (sym c.if-is_empty.ensures) in
-    λ _. empty_fill g.R.ToldReader.Tells (λ s. length s.now) error_kind _ c.in-Ok.shown _ _ c.in-Ok.is none c.ask_to_fill.follows.holds-at-none.1
+    λ _. empty_fill g.R.KnownReader.MayAnswer (λ s. length s.now) error_kind _ c.in-Ok.shown _ _ c.in-Ok.is none c.ask_to_fill.follows.holds-at-none.1
 
 pub returns-in-None-clause-filled : goal.returns-in-None-clause-filled
 returns-in-None-clause-filled g c =
     let some : 0 < length c.in-Ok.shown.now = search (rules, arith) in
-    λ _. taken_fill g.R.ToldReader.Tells (λ s. length s.now) error_kind _ c.in-Ok.shown _ _ _ c.in-Ok.is some c.ask_to_fill.follows.holds-at-none.1 c.ask_to_consume.ensures.told
+    λ _. taken_fill g.R.KnownReader.MayAnswer (λ s. length s.now) error_kind _ c.in-Ok.shown _ _ _ c.in-Ok.is some c.ask_to_fill.follows.holds-at-none.1 c.ask_to_consume.ensures.told
 
 pub returns-in-Some-clause-filled : goal.returns-in-Some-clause-filled
 returns-in-Some-clause-filled g c =
     let some : 0 < length c.in-Ok.shown.now = search (rules, arith) in
-    λ _. taken_fill g.R.ToldReader.Tells (λ s. length s.now) error_kind _ c.in-Ok.shown _ _ _ c.in-Ok.is some c.ask_to_fill.follows.holds-at-none.1 c.ask_to_consume-in-Some.ensures.told
+    λ _. taken_fill g.R.KnownReader.MayAnswer (λ s. length s.now) error_kind _ c.in-Ok.shown _ _ _ c.in-Ok.is some c.ask_to_fill.follows.holds-at-none.1 c.ask_to_consume-in-Some.ensures.told

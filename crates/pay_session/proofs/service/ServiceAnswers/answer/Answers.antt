@@ -1,5 +1,5 @@
 use Rattle.std.proofs.Common.{[], sym, ◌∙◌, refl}
-use Rattle.pay_wire.specs.declared.reply.Reply.TheVariants as replies
+use Rattle.pay_wire.specs.declared.reply.SpelledReply.TheVariants as replies
 use Rattle.pay_session.proofs.PutCommands.{close_step, still_step}
 use Rattle.pay_session.proofs.service.ServiceAnswers.answer.Goals as goal
 

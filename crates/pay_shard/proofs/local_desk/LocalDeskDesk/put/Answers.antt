@@ -1,5 +1,5 @@
 use Rattle.std.proofs.Common.{refl, ap, ◌∙◌, length, subst}
-use Rattle.pay_shard.specs.Desks.{IsAfterAll, IsNoneOf, AreKept}
+use Rattle.pay_shard.specs.Desks.{IsAfterAll, IsNoneOf, NothingIsLost}
 use Rattle.pay_shard.specs.LocalParts.{LocalParts, commands_of, transcript_of, IsTaken}
 use Rattle.pay_shard.specs.Machine.{is_memory}
 use Rattle.pay_shard.specs.declared.item.Entry.{Entry}
@@ -20,7 +20,7 @@ returns-clause-later g c =
 
 pub returns-clause-transcript : goal.returns-clause-transcript
 returns-clause-transcript g c =
-    subst (λ (d : LocalParts). AreKept (transcript_of d.shard) (transcript_of c.apply.new.self)) c.self.view_is
+    subst (λ (d : LocalParts). NothingIsLost (transcript_of d.shard) (transcript_of c.apply.new.self)) c.self.view_is
     (answers_after_put c.self.inside.shard c.reserve-2.new.self c.apply.new.self (record { lane = 0; ticket = c.len-ticket.result; command = c.args.command }) (is_memory c.apply.result.reply)
     c.reserve-2.new.self.room c.apply.new.self.room c.in_ok-reserve-2.ensures.same c.apply.ensures.journal)
 

@@ -1,0 +1,286 @@
+//! The files of journals.
+ghost use Rattle.std.specs.Prelude.{◌≡◌, ◌<◌, ◌≤◌, ◌↔◌, ◌+◌, true, length, IfOk, OnOk};
+ghost use Rattle.pay_session.specs.Words.{rest_of};
+ghost use Rattle.pay_wire.specs.declared.limits.TheConstants.{MOST_LINE_BYTES};
+ghost use Rattle.pay_words.specs.declared.limits.TheConstants.{MOST_SHARDS};
+
+use crate::errors::memory_or;
+use crate::reporting_keeper::ReportingKeeper;
+use pay_jobs::{Fault, LineKeeper, whole_bytes};
+use pay_ledger::OpenFault;
+use pay_wire::limits::MOST_LINE_BYTES;
+use pay_words::limits::MOST_SHARDS;
+use std::alloc::{AllocError, Global};
+use std::fs::{File, Files, OpenOptions};
+use std::io::{Eprint, ErrorKind, Read};
+use std::{fs, io};
+
+/// How many journals a folder has: one for each shard that a service may have.
+const JOURNALS: u8 = MOST_SHARDS as u8;
+
+/// The journals in a folder, by their numbers.
+#[derive(Drop)]
+pub struct JournalFiles<R> {
+    /// What each of them has.
+    pub texts: Vec<Vec<u8>>,
+    /// What keeps lines in those of a service's shards, and reports where it cannot.
+    pub keepers: Vec<ReportingKeeper<LineKeeper<File>, R>>,
+    /// The others, which no other session has while they are open.
+    pub others: Vec<File>,
+}
+
+/// A journal that is open.
+#[derive(Drop)]
+pub struct JournalFile {
+    /// What it has.
+    pub past: Vec<u8>,
+    /// Its file, at whose end lines are added.
+    pub file: File,
+}
+
+/// Opens the journal at a path, which is made where there is none. No other session has it then.
+pub fn open_journal<R: Files<File = File> + AllocGlobal>(
+    rt: &R,
+    path: &str,
+) -> Result<JournalFile, Fault> {
+    match opened_alone(rt, path) {
+        Ok((past, file)) => Ok(JournalFile { past, file }),
+        Err(error) => Err(memory_or(&error, Fault::CannotUseJournal)),
+    }
+}
+
+/// Opens the journals in a folder, each of which is made where there is none: that of each shard, and those of the shards that a
+/// service does not have, to which nothing is added. No other session has any of them then.
+pub fn open_journals<R: Files<File = File> + Eprint + AllocGlobal + Copy>(
+    rt: &R,
+    folder: &str,
+    shards: u8,
+) -> Result<JournalFiles<R>, Fault>
+    requires few { shards ≤ MOST_SHARDS }
+    ensures keepers { IfOk result (λ journals. length journals.keepers.items ≡ shards) }
+    ensures held { IfOk result (λ journals. length journals.keepers.items + length journals.others.items ≡ MOST_SHARDS) }
+    ensures texts { IfOk result (λ journals. length journals.texts.items ≡ MOST_SHARDS) }
+{
+    match all_opened(rt, folder, shards) {
+        Ok(journals) => Ok(journals),
+        Err(error) => Err(memory_or(&error, Fault::CannotUseJournal)),
+    }
+}
+
+fn all_opened<R: Files<File = File> + Eprint + AllocGlobal + Copy>(
+    rt: &R,
+    folder: &str,
+    shards: u8,
+) -> io::Result<JournalFiles<R>>
+    requires few { shards ≤ MOST_SHARDS }
+    ensures keepers { IfOk result (λ journals. length journals.keepers.items ≡ shards) }
+    ensures held { IfOk result (λ journals. length journals.keepers.items + length journals.others.items ≡ MOST_SHARDS) }
+    ensures texts { IfOk result (λ journals. length journals.texts.items ≡ MOST_SHARDS) }
+{
+    if !fs::metadata(rt, folder)?.is_dir() {
+        return Err(io::Error::from(ErrorKind::NotADirectory));
+    }
+    let mut journals = JournalFiles {
+        texts: Vec::new(rt.alloc()),
+        keepers: Vec::new(rt.alloc()),
+        others: Vec::new(rt.alloc()),
+    };
+    for number in 0..shards {
+        let path = path_in(rt.alloc(), folder, u64::from(number))?;
+        let (past, file) = opened(rt, path.as_str())?;
+        journals.keep(*rt, path, past, file)?;
+    }
+    for number in shards..JOURNALS {
+        let path = path_in(rt.alloc(), folder, u64::from(number))?;
+        let (past, file) = opened(rt, path.as_str())?;
+        journals.hold(past, file)?;
+    }
+    settle_names(rt, folder)?;
+    Ok(journals)
+}
+
+/// The path of the journal of that number in a folder.
+pub fn path_in(alloc: Global, folder: &str, number: u64) -> Result<String, AllocError> {
+    let mut path = String::new(alloc);
+    write!(path, "{folder}/{number}.lines")?;
+    Ok(path)
+}
+
+impl<R: Eprint + Copy> JournalFiles<R> {
+    /// Takes the journal of the next shard.
+    fn keep(&mut self, rt: R, path: String, past: Vec<u8>, file: File) -> Result<(), AllocError>
+        ensures texts { OnOk result (length self.new.texts.items ≡ 1 + length self.old.texts.items) }
+        ensures keepers { OnOk result (length self.new.keepers.items ≡ 1 + length self.old.keepers.items) }
+        ensures others { OnOk result (self.new.others ≡ self.old.others) }
+    {
+        let keeper = LineKeeper::begin(file, whole_bytes(past.as_slice()), false);
+        let keeper = ReportingKeeper { keeper, rt, path };
+        self.texts.push(past).map_err(AllocError::from)?;
+        self.keepers.push(keeper).map_err(AllocError::from)?;
+        Ok(())
+    }
+
+    /// Takes the next journal, of no shard.
+    fn hold(&mut self, past: Vec<u8>, file: File) -> Result<(), AllocError>
+        ensures texts { OnOk result (length self.new.texts.items ≡ 1 + length self.old.texts.items) }
+        ensures keepers { OnOk result (self.new.keepers ≡ self.old.keepers) }
+        ensures others { OnOk result (length self.new.others.items ≡ 1 + length self.old.others.items) }
+    {
+        self.texts.push(past).map_err(AllocError::from)?;
+        self.others.push(file).map_err(AllocError::from)?;
+        Ok(())
+    }
+}
+
+/// Has what the journals of a service's shards in a folder have on the disk.
+pub fn settle_journals<R: Files<File = File> + AllocGlobal>(
+    rt: &R,
+    folder: &str,
+    shards: u8,
+) -> Result<(), Fault> {
+    match all_settled(rt, folder, shards) {
+        Ok(()) => Ok(()),
+        Err(error) => Err(memory_or(&error, Fault::Journal)),
+    }
+}
+
+fn all_settled<R: Files<File = File> + AllocGlobal>(
+    rt: &R,
+    folder: &str,
+    shards: u8,
+) -> io::Result<()> {
+    for number in 0..shards {
+        let path = path_in(rt.alloc(), folder, u64::from(number))?;
+        fs::open(rt, path.as_str())?.sync_data()?;
+    }
+    Ok(())
+}
+
+/// Refuses a ledger whose file, or the log beside it, is a journal that is open: here, or in another session. Each would write over the
+/// other.
+pub fn refuse_journal<R: Files<File = File> + AllocGlobal>(
+    rt: &R,
+    ledger: &str,
+) -> Result<(), Fault> {
+    let log = log_of(rt, ledger)?;
+    if is_open(rt, ledger) || is_open(rt, log.as_str()) {
+        return Err(Fault::from(OpenFault::Store));
+    }
+    Ok(())
+}
+
+/// The path of the log of a ledger. That lies beside the ledger's file, also where the ledger's path is a link to it.
+fn log_of<R: Files + AllocGlobal>(rt: &R, path: &str) -> Result<String, AllocError> {
+    let mut log = String::new(rt.alloc());
+    match fs::canonicalize(rt, path) {
+        Ok(file) => write!(log, "{}-wal", file.as_str())?,
+        Err(error) if error.kind() == ErrorKind::OutOfMemory => return Err(AllocError),
+        Err(_) => write!(log, "{path}-wal")?,
+    }
+    Ok(log)
+}
+
+/// Whether a journal is open at a path.
+fn is_open<R: Files<File = File>>(rt: &R, path: &str) -> bool {
+    match lock_once(rt, path) {
+        Ok(()) => false,
+        Err(error) => error.kind() == ErrorKind::WouldBlock,
+    }
+}
+
+/// Locks the file at a path, where there is one, and lets it go.
+fn lock_once<R: Files<File = File>>(rt: &R, path: &str) -> io::Result<()> {
+    if fs::metadata(rt, path)?.is_file() {
+        fs::open(rt, path)?.try_lock().map_err(io::Error::from)?;
+    }
+    Ok(())
+}
+
+/// The bytes of the journal at a path, which is only read.
+pub fn read_journal<R: Files + AllocGlobal>(rt: &R, path: &str) -> Result<Vec<u8>, Fault> {
+    match bytes_of(rt, path) {
+        Ok(past) => Ok(past),
+        Err(error) => Err(memory_or(&error, Fault::CannotUseJournal)),
+    }
+}
+
+/// The bytes of the file at a path. What is no file is not opened, since that could wait for another program.
+fn bytes_of<R: Files + AllocGlobal>(rt: &R, path: &str) -> io::Result<Vec<u8>> {
+    if !fs::metadata(rt, path)?.is_file() {
+        return Err(io::Error::from(ErrorKind::InvalidInput));
+    }
+    fs::read(rt, path)
+}
+
+/// The journal at a path by itself.
+fn opened_alone<R: Files<File = File> + AllocGlobal>(
+    rt: &R,
+    path: &str,
+) -> io::Result<(Vec<u8>, File)> {
+    let journal = opened(rt, path)?;
+    settle_names(rt, folder_of(path))?;
+    Ok(journal)
+}
+
+/// The bytes of the file at a path, and the file, at whose end lines are added. It is made where there is none, also where a link leads.
+fn opened<R: Files<File = File> + AllocGlobal>(rt: &R, path: &str) -> io::Result<(Vec<u8>, File)> {
+    let mut file = open_or_make(rt, path)?;
+    if !file.metadata()?.is_file() {
+        return Err(io::Error::from(ErrorKind::InvalidInput));
+    }
+    file.try_lock().map_err(io::Error::from)?;
+    settle_target(rt, path)?;
+    let mut past = Vec::new(rt.alloc());
+    file.read_to_end(&mut past)?;
+    if is_of_another(past.as_slice()) {
+        return Err(io::Error::from(ErrorKind::InvalidData));
+    }
+    Ok((past, file))
+}
+
+/// Whether a text is no journal: it has no newline, and more bytes than a line that was cut. A file of another must not be cut to nothing.
+fn is_of_another(past: &[u8]) -> bool
+    ensures { (result ≡ true) ↔ ((length (rest_of past.now) ≡ length past.now) × (MOST_LINE_BYTES < length past.now)) }
+{
+    whole_bytes(past) == 0 && past.len() > MOST_LINE_BYTES
+}
+
+/// Opens the file at a path, or makes it. What is there is opened as it is: a system may refuse to make what another's file is.
+fn open_or_make<R: Files<File = File>>(rt: &R, path: &str) -> io::Result<File> {
+    match open(rt, path, false) {
+        Err(error) if error.kind() == ErrorKind::NotFound => open(rt, path, true),
+        found => found,
+    }
+}
+
+fn open<R: Files<File = File>>(rt: &R, path: &str, makes: bool) -> io::Result<File> {
+    OpenOptions::new()
+        .read(true)
+        .append(true)
+        .create(makes)
+        .open(rt, path)
+}
+
+/// Has the name of a file on the disk to which a path leads that is a link.
+fn settle_target<R: Files<File = File> + AllocGlobal>(rt: &R, path: &str) -> io::Result<()> {
+    if fs::symlink_metadata(rt, path)?.is_symlink() {
+        let file = fs::canonicalize(rt, path)?;
+        settle_names(rt, folder_of(file.as_str()))?;
+    }
+    Ok(())
+}
+
+/// Has the names in a folder on the disk: what is kept in a file is lost without its name. A start that made it may have been cut off
+/// before it did this, so each does it.
+fn settle_names<R: Files<File = File>>(rt: &R, folder: &str) -> io::Result<()> {
+    fs::open(rt, folder)?.sync_all()
+}
+
+/// The folder of the file at a path.
+fn folder_of(path: &str) -> &str {
+    match path.rsplit_once('/') {
+        None => ".",
+        Some(("", _)) => "/",
+        Some((folder, _)) => folder,
+    }
+}

@@ -1,0 +1,17 @@
+//! The jobs `run`, `check`, `statement` and `replay` of the program, by their words: their fare files, journals and ledgers are files, and
+//! lines come from standard input and go to standard output. And the files of journals, which the job `serve` uses too.
+#![tactic(auto)]
+
+mod errors;
+mod input;
+mod journal;
+mod reporting_keeper;
+mod run;
+mod texts;
+
+pub use errors::memory_or;
+pub use input::{fares_text, report_line};
+pub use journal::{JournalFiles, open_journals, path_in, refuse_journal, settle_journals};
+pub use reporting_keeper::ReportingKeeper;
+pub use run::run_session;
+pub use texts::{check_fares, replay_journals, write_statement};

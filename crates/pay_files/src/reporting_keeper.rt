@@ -1,0 +1,52 @@
+//! A keeper that reports where it fails.
+
+use pay_jobs::{Command, Keeper, NotKept};
+use std::io::Eprint;
+
+/// Keeps what a keeper does. Where that fails, standard error has the path of its file at once: what its shard is asked is not accepted
+/// any more, while the service goes on.
+#[derive(Drop)]
+pub struct ReportingKeeper<K, R> {
+    /// What keeps lines.
+    pub keeper: K,
+    /// Where standard error is.
+    pub rt: R,
+    /// The path of the file.
+    pub path: String,
+}
+
+impl<K: Keeper, R: Eprint + Copy> ReportingKeeper<K, R> {
+    /// Reports that a line is not kept, or not for sure.
+    fn report(&self) {
+        let (rt, path) = (&self.rt, self.path.as_str());
+        let _ = eprintln!(rt; "farebox: cannot keep lines in {path}");
+    }
+}
+
+impl<K: Keeper, R: Eprint + Copy> Keeper for ReportingKeeper<K, R> {
+    ghost holds = { λ k. K.holds k.keeper };
+
+    ghost HasFailed = { λ k. K.HasFailed k.keeper };
+
+    ghost IsSettled = { λ k. K.IsSettled k.keeper };
+
+    fn keep(&mut self, command: Command) -> Result<(), NotKept> {
+        match self.keeper.keep(command) {
+            Ok(()) => Ok(()),
+            Err(fault) => {
+                self.report();
+                Err(fault)
+            }
+        }
+    }
+
+    fn settle(&mut self) -> Result<(), NotKept> {
+        match self.keeper.settle() {
+            Ok(()) => Ok(()),
+            Err(fault) => {
+                self.report();
+                Err(fault)
+            }
+        }
+    }
+}

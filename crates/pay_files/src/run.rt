@@ -1,0 +1,112 @@
+//! One session, from standard input to standard output.
+
+use crate::input::{fares_text, is_input_a_file};
+use crate::journal::{JournalFile, open_journal, refuse_journal};
+use pay_jobs::{
+    Begun, Book, Disk, Fault, FileStore, Keeper, Ledger, Ledgers, LineKeeper, NoKeeper, Ran, Wary,
+    begin, new_ledger, told, whole_bytes,
+};
+use pay_words::RunWords;
+use std::alloc::AllocError;
+use std::fs::File;
+use std::io;
+use std::io::{BufRead, BufReader};
+use std::process::ExitCode;
+use std::rt::Files;
+
+/// One session, from standard input to standard output.
+pub fn run_session<R: Files<File = File> + Ledgers + Input + Print + AllocGlobal>(
+    rt: &R,
+    words: &RunWords<'_>,
+) -> Result<ExitCode, Fault> {
+    let fares = fares_text(rt, words.fares)?;
+    let mut input = rt.reader();
+    if is_input_a_file(rt) {
+        return run_from(rt, words, fares.as_str(), &mut input);
+    }
+    let mut reader = BufReader::new(rt.alloc(), input).map_err(|_| AllocError)?;
+    run_from(rt, words, fares.as_str(), &mut reader)
+}
+
+/// One session from a reader, with its journal, or without one.
+fn run_from<R: Files<File = File> + Ledgers + Print + AllocGlobal, I: BufRead>(
+    rt: &R,
+    words: &RunWords<'_>,
+    fares: &str,
+    reader: &mut I,
+) -> Result<ExitCode, Fault> {
+    match words.journal {
+        None => run_unkept(rt, words, fares, reader),
+        Some(path) => {
+            let journal = open_journal(rt, path)?;
+            run_kept(rt, words, fares, journal, reader)
+        }
+    }
+}
+
+/// One session without a journal, over a ledger in a file, or in memory.
+fn run_unkept<R: Files<File = File> + Ledgers + Print + AllocGlobal, I: BufRead>(
+    rt: &R,
+    words: &RunWords<'_>,
+    fares: &str,
+    reader: &mut I,
+) -> Result<ExitCode, Fault> {
+    let begun = begin(rt.alloc(), fares, words.zone, &[])?;
+    match words.ledger {
+        None => {
+            let ledger = new_ledger(rt.alloc())?;
+            run_over(rt, begun, NoKeeper, ledger, reader)
+        }
+        Some(path) => run_in_file(rt, path, begun, NoKeeper, reader),
+    }
+}
+
+/// One session with a journal, over a ledger in a file. Without one nothing is closed: what is posted would not be there for the next
+/// session, which has the accounts that the journal gives back, and each close would charge the whole week again.
+fn run_kept<R: Files<File = File> + Ledgers + Print + AllocGlobal, I: BufRead>(
+    rt: &R,
+    words: &RunWords<'_>,
+    fares: &str,
+    journal: JournalFile,
+    reader: &mut I,
+) -> Result<ExitCode, Fault> {
+    let JournalFile { past, file } = journal;
+    let begun = begin(rt.alloc(), fares, words.zone, past.as_slice())?;
+    let keeper = LineKeeper::begin(file, whole_bytes(past.as_slice()), words.syncs);
+    match words.ledger {
+        None => end(Ok(begun.run_without_ledger(keeper, reader, &mut io::writer(rt)))),
+        Some(path) => run_in_file(rt, path, begun, keeper, reader),
+    }
+}
+
+/// A session that has begun, over the ledger in the file at a path.
+fn run_in_file<R: Files<File = File> + Ledgers + Print + AllocGlobal, K: Keeper, I: BufRead>(
+    rt: &R,
+    path: &str,
+    begun: Begun,
+    keeper: K,
+    reader: &mut I,
+) -> Result<ExitCode, Fault> {
+    refuse_journal(rt, path)?;
+    let ledger = rt.ledger(path, Wary)?;
+    run_over(rt, begun, keeper, ledger, reader)
+}
+
+/// A session that has begun, over a ledger. In the end, what the log of a ledger in a file has is copied into its file.
+fn run_over<R: Print + AllocGlobal, K: Keeper, D: Disk + Drop, I: BufRead>(
+    rt: &R,
+    begun: Begun,
+    keeper: K,
+    mut ledger: Ledger<FileStore<D>>,
+    reader: &mut I,
+) -> Result<ExitCode, Fault> {
+    let ran = begun.run(rt.alloc(), keeper, &mut ledger, reader, &mut io::writer(rt));
+    let _ = ledger.into_connection().close();
+    end(ran)
+}
+
+/// How the program ends after a session.
+fn end<K: Keeper>(ran: Result<Ran<Book, K>, Fault>) -> Result<ExitCode, Fault> {
+    told(ran?)?;
+    Ok(ExitCode::SUCCESS)
+}

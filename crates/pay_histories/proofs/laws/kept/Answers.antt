@@ -1,6 +1,0 @@
-use Rattle.pay_close.specs.Close.{new_books}
-use Rattle.pay_histories.proofs.Histories.{kept_after}
-use Rattle.pay_histories.proofs.laws.kept.Goals as goal
-
-pub returns : goal.returns
-returns c tables events are = kept_after c.kept.ensures.all tables new_books events are c.kept.ensures.none

@@ -1,0 +1,6 @@
+use Rattle.pay_close.specs.Close.{new_books}
+use Rattle.pay_histories.proofs.Histories.{kept_after}
+use Rattle.pay_histories.proofs.laws.paid.Goals as goal
+
+pub returns : goal.returns
+returns c tables events are = kept_after c.paid.ensures.all tables new_books events are c.paid.ensures.none

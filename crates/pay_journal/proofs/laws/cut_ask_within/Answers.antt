@@ -1,5 +1,0 @@
-use Rattle.pay_journal.proofs.PartsAgain.{cut_ask_within}
-use Rattle.pay_journal.proofs.laws.cut_ask_within.Goals as goal
-
-pub returns : goal.returns
-returns c = cut_ask_within c.line_by_line.ensures

@@ -1,5 +1,0 @@
-use Rattle.pay_journal.proofs.PartsAgain.{parts_are_taken}
-use Rattle.pay_journal.proofs.laws.parts_are_taken.Goals as goal
-
-pub returns : goal.returns
-returns c = parts_are_taken

@@ -1,5 +1,0 @@
-use Rattle.pay_journal.proofs.TextsAgain.{torn_ask_alike}
-use Rattle.pay_journal.proofs.laws.torn_ask_alike.Goals as goal
-
-pub returns : goal.returns
-returns c = torn_ask_alike c.line_by_line.ensures

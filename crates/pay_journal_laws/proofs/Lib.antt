@@ -1,0 +1,9 @@
+pub mod CommandLines
+pub mod MergedNew
+pub mod PartsAgain
+pub mod Repeats
+pub mod TextsAgain
+pub mod KeptBytes
+pub mod KeptAgain
+pub mod TextsTaken
+pub mod GivenBack

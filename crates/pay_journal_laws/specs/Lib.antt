@@ -1,0 +1,6 @@
+pub mod CommandLines
+pub mod GivenBack
+pub mod HaveKept
+pub mod KeptBytes
+pub mod Services
+pub mod Texts

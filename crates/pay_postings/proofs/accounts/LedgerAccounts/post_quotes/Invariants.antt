@@ -1,0 +1,15 @@
+use Rattle.std.proofs.Common.{◌≡◌, List, [], ◌++◌, drop}
+use Rattle.pay_rules.specs.QuoteParts.{QuoteParts}
+use Rattle.pay_rules.specs.SetsParts.{SetsParts}
+use Rattle.pay_postings.specs.Ledger.{LedgerParts}
+use Rattle.pay_postings.specs.Batches.{Agrees, AreThere, Covers, with_batch, lists, posted_after, StillAgrees}
+use Rattle.pay_postings.proofs.accounts.LedgerAccounts.post_quotes.Given as goal
+
+-- the same accounts are there, and what is left comes after the batch so far
+abbrev pub invariant-loop-quote : goal.invariant-loop-quote
+invariant-loop-quote l = record {
+  same : AreThere l.initial.self l.self;
+  posted : (ledger : LedgerParts) → Agrees l.initial.self (with_batch ledger (lists l.initial.batch)) → Covers l.initial.self l.quotes []
+      → StillAgrees ledger l.initial.self l.self (lists l.batch)
+      × ((later : List QuoteParts) (sets : List SetsParts) → posted_after ledger (lists l.batch) (drop l.quote-index l.quotes ++ later) sets ≡ posted_after ledger (lists l.initial.batch) (l.quotes ++ later) sets);
+}

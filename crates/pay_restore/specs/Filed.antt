@@ -1,0 +1,18 @@
+-- How accounts are kept while they are restored: each at its number.
+use Rattle.std.specs.Prelude.{◌≡◌, ℕ, ◌≤◌, List, map}
+use Rattle.std.specs.FinMap as finite
+use Rattle.std.specs.List.{AllByRecursion}
+use Rattle.pay_rules.specs.Accepted.{Accepted}
+use Rattle.pay_rules.specs.State.{State}
+
+-- what accounts have accepted, by the numbers that they are kept at
+unfoldable pub held : {F : Type 0} → (F → Accepted) → List (ℕ × F) → State
+held accepted entries = finite.from_entries (map (λ e. (e.0, accepted e.1)) entries)
+
+-- an account is kept at its own number, counted from 1, and may be priced by the fare file
+abbrev pub IsFiled : {F : Type 0} → (F → ℕ) → (F → Type 0) → ℕ × F → Type 0
+IsFiled account IsPriced entry = (account entry.1 ≡ entry.0) × (1 ≤ entry.0) × IsPriced entry.1
+
+-- and so is each
+abbrev pub AreFiled : {F : Type 0} → (F → ℕ) → (F → Type 0) → List (ℕ × F) → Type 0
+AreFiled account IsPriced = AllByRecursion (IsFiled account IsPriced)

@@ -1,0 +1,3 @@
+pub mod Served
+mod HaveLines
+mod ServiceCauses

@@ -1,0 +1,2 @@
+pub mod Service
+pub mod Words

@@ -1,0 +1,9 @@
+//! The job `serve` of the program, by its fare file, its zone and its journals, over the ledger that was opened for it: the second step of a
+//! service, after [`begin_service`](pay_jobs::begin_service).
+#![tactic(auto)]
+
+mod fault;
+mod service;
+
+pub use pay_serve::{Given, Plan};
+pub use service::{serve, serve_without_ledger};
