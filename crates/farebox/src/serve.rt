@@ -52,7 +52,10 @@ where
 
 /// The plan that words ask for.
 fn plan_of(words: &ServeWords<'_>) -> Plan
+    ensures port { result.port ≡ words.now.port }
+    ensures lanes { result.lanes ≡ words.now.lanes }
     ensures shards { result.shards ≡ words.now.shards }
+    ensures sessions { result.sessions ≡ words.now.sessions }
     ensures close { result.close ≡ words.now.close }
 {
     Plan {

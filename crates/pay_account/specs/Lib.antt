@@ -2,4 +2,3 @@ pub mod NextBoardings
 pub mod WeekCells
 pub mod WeekBands
 pub mod Laws
-pub mod Words

@@ -73,12 +73,6 @@ module _ {X : Type 0} where
       → place ≤ length all → place ≤ b.start + length b.items
   within_own first later all place n b f some at few = within_held _ _ _ _ _ _ (in_later first later all place n b f some at) few
 
-  pub items_first : (first : List X) (later : List (BlockParts X)) (all : List X) (place n : ℕ) → IsFound first later all place n → n ≡ 0 → place ≤ length all
-      → drop place first ≡ take (length (drop place first)) (drop place all)
-  items_first first later all place n f none few =
-      let e : place - 0 ≡ place = omega arith in
-      subst (λ m. drop m first ≡ take (length (drop m first)) (drop place all)) e (from_held all [] first (joined later) place 0 (in_first first later all place n f none) few)
-
   pub some_first : (first : List X) (later : List (BlockParts X)) (all : List X) (place n : ℕ) → IsFound first later all place n → n ≡ 0 → place < length all → 1 ≤ length (drop place first)
   some_first first later all place n f none lt =
       let e : place - 0 ≡ place = omega arith in

@@ -147,11 +147,6 @@ pub fix_again : (tables : FareTables) (accepted : Accepted) (fix : Fix) (additio
     → priced ≡ prices_named tables accepted true fix.what → Ok priced ≡ fix_result tables accepted fix
 fix_again tables accepted fix addition priced result is its = ap Ok its ∙ sym (result ∙ ap (λ (it : Addition). fix_added tables accepted fix (Ok it)) is)
 
-pub fix_more : (tables : FareTables) (accepted more : Accepted) (fix : Fix) (addition : Addition) (priced : Priced) → fix_result tables accepted fix ≡ fix_added tables accepted fix (Ok addition) → addition ≡ Added
-    → more ≡ with_fix accepted fix → priced ≡ prices_named tables more false fix.what → Ok priced ≡ fix_result tables accepted fix
-fix_more tables accepted more fix addition priced result is grown its =
-    ap Ok (its ∙ ap (λ (those : Accepted). prices_named tables those false fix.what) grown) ∙ sym (result ∙ ap (λ (it : Addition). fix_added tables accepted fix (Ok it)) is)
-
 -- ---- what was read
 
 pub read_for : ChangeDisturbs → (tables : FareTables) (change : Change) (held : MarkedTaps) (old after more : Accepted) (steps first before last : ℕ) → IsChange change (touches old) (touches more) → AreStoredTaps held (touches old)

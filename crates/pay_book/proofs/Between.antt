@@ -3,8 +3,6 @@ use Rattle.std.proofs.Common.{◌≡◌, ℕ, zero, suc, ◌+◌, ◌-◌, ◌�
 use Rattle.std.specs.List.{insert, remove}
 use Rattle.std.proofs.lemmas.List.{get_or-append-add}
 use Rattle.std.proofs.lemmas.List.Edits.{between_none, length-insert, length-between, split_between, insert-append_left, insert-append_right}
-use Rattle.pay_rules.specs.Order.{put_in}
-use Rattle.pay_taps.specs.Words.{place_of, PutInAtPlace}
 use Rattle.pay_tables.specs.Words.{FareTables}
 use Rattle.pay_rules.specs.declared.tap.Touch.{Touch}
 use Rattle.pay_rules.specs.Legs.{legs}
@@ -148,10 +146,6 @@ finished cut marks tables stored touch is_there place at from to taps more less 
     })
 
 -- what is disturbed where a tap enters, and where one leaves, in terms of the timeline
-pub disturbed_in : PutInAtPlace → (tables : FareTables) (taps : List Touch) (touch : Touch) (less with_it : List Journey) →
-    IsDisturbed tables taps (insert taps (place_of touch taps) touch) less with_it → IsDisturbed tables taps (put_in touch taps) less with_it
-disturbed_in put tables taps touch less with_it d = subst (λ (more : List Touch). IsDisturbed tables taps more less with_it) (sym (put touch taps)) d
-
 pub disturbed_out : (tables : FareTables) (taps : List Touch) (touch : Touch) (place : ℕ) (less with_it : List Journey) → slice_get taps place ≡ Some touch →
     IsDisturbed tables (remove taps place) (insert (remove taps place) place touch) less with_it → IsDisturbed tables (remove taps place) taps less with_it
 disturbed_out tables taps touch place less with_it there d =

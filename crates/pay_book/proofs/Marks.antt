@@ -1,5 +1,5 @@
 -- The mark at each place, and the marks of taps of which one was put in or taken out.
-use Rattle.std.proofs.Common.{◌≡◌, ◌≢◌, ◌⊎◌, ℕ, zero, suc, ◌+◌, ◌-◌, ◌^◌, ◌<◌, ◌≤◌, min, Bool, true, List, [], length, ◌∷◌, set, slice_get, get_or, Option, Some, None, inl, inr, refl, sym, ap, ◌∙◌, subst, arith, below_more, length-set, get_or-set_same, get_or-set_other}
+use Rattle.std.proofs.Common.{◌≡◌, ◌⊎◌, ℕ, zero, suc, ◌+◌, ◌-◌, ◌^◌, ◌<◌, ◌≤◌, min, Bool, true, List, [], length, ◌∷◌, slice_get, get_or, Option, Some, None, inl, inr, refl, sym, ap, ◌∙◌, subst, arith}
 use Rattle.std.specs.List.{insert, remove}
 use mathlib.Core.Logic.{⊎_elim}
 use Rattle.std.proofs.lemmas.Option.{slice_get_within}
@@ -56,16 +56,6 @@ pub record AreMarkedBut (tables : FareTables) (taps : List Touch) (from to : ℕ
   pub as_many : length marks ≡ length taps
   pub before : (other : ℕ) → other < from → mark_in marks other ≡ mark_in (starts tables taps) other
   pub beyond : (other : ℕ) → to ≤ other → mark_in marks other ≡ mark_in (starts tables taps) other
-
-pub one_marked : (tables : FareTables) (taps : List Touch) (from to : ℕ) (marks : List Bool) (mark : Bool) → AreMarkedBut tables taps from to marks → from < length marks → from < to →
-    mark ≡ mark_in (starts tables taps) from → AreMarkedBut tables taps (from + 1) to (set marks from mark)
-one_marked tables taps from to marks mark are within below right = record {
-  as_many = length-set marks from mark ∙ are.as_many;
-  before = below_more (λ other. mark_in (set marks from mark) other ≡ mark_in (starts tables taps) other) from
-      (λ other lt. let ne : other ≢ from = omega arith in get_or-set_other marks from other mark true ne ∙ are.before other lt)
-      (get_or-set_same marks from mark true within ∙ right);
-  beyond = λ other le. let ne : other ≢ from = omega arith in get_or-set_other marks from other mark true ne ∙ are.beyond other le;
-}
 
 pub all_marked : (tables : FareTables) (taps : List Touch) (from to : ℕ) (marks : List Bool) → to ≤ from → AreMarkedBut tables taps from to marks → marks ≡ starts tables taps
 all_marked tables taps from to marks over are =

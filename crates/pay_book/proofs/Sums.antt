@@ -1,8 +1,8 @@
 -- The sums of days, as journeys are added or taken one after another.
-use Rattle.std.proofs.Common.{◌≡◌, ℕ, zero, suc, ◌+◌, ◌≤◌, ◌<◌, List, [], ◌∷◌, length, take, drop, get_or, IsSome, sym, ap, ◌∙◌, subst, add-one, arith}
+use Rattle.std.proofs.Common.{◌≡◌, ℕ, suc, ◌+◌, ◌≤◌, ◌<◌, List, [], ◌∷◌, length, drop, get_or, sym, ap, ◌∙◌, subst, add-one}
 use Rattle.std.specs.List.{fold}
 use Rattle.std.proofs.Math.Seq.{drop-cons}
-use Rattle.std.proofs.lemmas.List.Elements.{filter-append, All-from_recursion}
+use Rattle.std.proofs.lemmas.List.Elements.{filter-append}
 use Rattle.std.proofs.lemmas.List.Sums.{fold-append}
 use Rattle.pay_tables.specs.Words.{FareTables}
 use Rattle.pay_rules.specs.declared.journey.Journey.{Journey}
@@ -10,7 +10,7 @@ use Rattle.pay_caps.specs.Words.{CellSums, cell_of, sum_at, all_taken}
 use Rattle.pay_rules.specs.JourneyFares.{fare}
 use Rattle.pay_rules.specs.Journeys.{is_on}
 use Rattle.pay_rules.specs.Prices.{journeys_on}
-use Rattle.pay_book.specs.Days.{Days, stored_on, sums_on, day_of, AreSummed, AreThere, StaySummed}
+use Rattle.pay_book.specs.Days.{Days, sums_on, day_of, AreThere}
 
 -- the journey at an index, and those after it
 pub next_of : (list : List Journey) (i : ℕ) (journey : Journey) → i < length list → journey ≡ get_or list i journey → drop i list ≡ journey ∷ drop (i + 1) list
@@ -45,20 +45,3 @@ rest_there tables before now list i journey below same is there done one rest e 
 pub next_there : (tables : FareTables) (days : Days) (list : List Journey) (i : ℕ) (journey : Journey) → i < length list → journey ≡ get_or list i journey
     → AreThere tables days (drop i list) → fare tables journey ≤ sum_at (cell_of tables journey) (sums_on days (day_of journey))
 next_there tables days list i journey below same there = there [] journey (drop (i + 1) list) (next_of list i journey below same)
-
--- sums are kept of the day of the next one
-pub next_stored : (before now : Days) (list : List Journey) (i : ℕ) (journey : Journey) → i < length list → journey ≡ get_or list i journey
-    → AreSummed before list → StaySummed before now → IsSome (stored_on now (day_of journey))
-next_stored before now list i journey below same held stay =
-    stay (day_of journey) (subst (λ (j : Journey). IsSome (stored_on before (day_of j))) (sym same) (All-from_recursion (λ j. IsSome (stored_on before (day_of j))) list held i journey below))
-
--- and of one more than before
-pub one_more_stored : (before now : Days) (list : List Journey) (i : ℕ) (journey : Journey) → i < length list → journey ≡ get_or list i journey
-    → StaySummed before now → IsSome (stored_on now (day_of journey)) → AreSummed before (take i list) → AreSummed now (take (i + 1) list)
-one_more_stored before now list i journey below same stay here held =
-    subst (λ (k : ℕ). AreSummed now (take k list)) (sym (add-one i)) (pushed list i below same held)
-  where
-    pushed : (list : List Journey) (i : ℕ) → i < length list → journey ≡ get_or list i journey → AreSummed before (take i list) → AreSummed now (take (suc i) list)
-    pushed [] i below same held = absurd (omega arith)
-    pushed (one ∷ list) zero below same held = (subst (λ (j : Journey). IsSome (stored_on now (day_of j))) same here, tt)
-    pushed (one ∷ list) (suc i) below same held = (stay (day_of one) held.0, pushed list i (omega arith) same held.1)

@@ -72,7 +72,7 @@ fn moment_at(buses: &Timeline, place: usize, steps: &mut Steps) -> Option<Moment
     buses.at(place, steps).map(|tap| tap.stamp)
 }
 
-/// The moment of the last tap before a place that pays, found from after by the marks.
+/// The moment of the last tap before a place that pays, found from the end by the marks.
 fn last_paid_before(
     tables: &Tables,
     buses: &Timeline,

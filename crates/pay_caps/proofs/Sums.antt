@@ -30,10 +30,6 @@ pub sum_none : {X : Type 0} (f : X → ℕ) → ((x : X) → f x ≡ 0) → (xs 
 sum_none f h [] = refl
 sum_none f h (x ∷ xs) = omega (arith, sum_by-cons f x xs, h x, sum_none f h xs)
 
-pub sum_at_most : {X : Type 0} (f g : X → ℕ) → ((x : X) → f x ≤ g x) → (xs : List X) → sum_by f xs ≤ sum_by g xs
-sum_at_most f g h [] = omega arith
-sum_at_most f g h (x ∷ xs) = omega (arith, sum_by-cons f x xs, sum_by-cons g x xs, h x, sum_at_most f g h xs)
-
 -- one item more is not less
 pub sum_grows : {X : Type 0} (f : X → ℕ) (before : List X) (x : X) (after : List X) → sum_by f (before ++ after) ≤ sum_by f (before ++ x ∷ after)
 sum_grows f before x after = omega (arith, sum_by-append f before after, sum_by-append f before (x ∷ after), sum_by-cons f x after)

@@ -12,8 +12,7 @@ use Rattle.pay_shard.specs.declared.desk.DeskFault.TheVariants as desk
 use Rattle.pay_shard.specs.declared.reply.Answer.{Answer}
 use Rattle.pay_shard.specs.declared.reply.Reply.{Reply}
 use Rattle.pay_shard.specs.declared.reply.Reply.TheVariants as replies
-use Rattle.pay_session.specs.Words.{Taken, commands_of, IsAnswerTo, AreAnswered, AreQuotes, MaySometimeRefuse, MaySometimeBeLate}
-use Rattle.pay_session.specs.Served.{gives_quotes, brings_quotes}
+use Rattle.pay_till.specs.Words.{Taken, commands_of, IsAnswerTo, AreAnswered, AreQuotes, MaySometimeRefuse, MaySometimeBeLate, gives_quotes, brings_quotes}
 use Rattle.pay_close.specs.Batches.{no_batch, both, batch_in, batch_of_answer, brought, AreBrought}
 use Rattle.pay_close.specs.Gathers.{fault_of_answer, quotes_put, AreNew, ArePut, first_fault, Keeps, told_by, told_of, IsFirst, IsTold, IsAsked}
 use Rattle.pay_close.specs.declared.asking.Answered.{Answered}
@@ -38,13 +37,6 @@ new_more day of from taken waiting (u ∷ ts) t new above none = (
 )
 
 module _ {O : Type 0} (day of : ℕ) (before : List (ℕ × Asked)) (stood : Standing O) where
-  pub put_none : (ts : List ℕ) → ts ≡ [] → ArePut day of ts before before stood stood
-  put_none ts none = subst (λ (l : List ℕ). ArePut day of l before before stood stood) (sym none) (record {
-    taken = sym (append-nil before);
-    waits = ap (λ (w : List ℕ). with_waiting w stood) (sym (append-nil stood.waiting));
-    new = tt;
-  })
-
   pub put_more : (k t : ℕ) (command : Asked) (ts now : List ℕ) (mid after : List (ℕ × Asked)) (s u : Standing O) → ArePut day of ts before mid stood s → length ts ≡ k → command ≡ asked.Quotes day k of
       → after ≡ mid ++ (t, command) ∷ [] → IsAfterAll t mid → IsNoneOf t s.waiting → u ≡ with_waiting (s.waiting ++ t ∷ []) s → now ≡ ts ++ t ∷ [] → ArePut day of now before after stood u
   put_more k t command ts now mid after s u were many is added above none waits more =
@@ -301,9 +293,6 @@ module _ {O : Type 0} (Late : Type 0) (day of : ℕ) (tickets : List ℕ) (befor
   module _ (Refuses : DeskFault → Type 0) (taken : List (ℕ × Asked)) (transcript : ℕ → Option Answer) (stands : Standing O) (a : Answered) (count : ℕ) (is : count ≡ length tickets) (g : AreGot count taken transcript stands a) where
     nothing_left : drop count tickets ≡ []
     nothing_left = ap (λ (n : ℕ). drop n tickets) is ∙ none_left tickets
-
-    pub stands_so : stands ≡ stood
-    stands_so = g.waits ∙ ap (λ (l : List ℕ). with_waiting l stood) (ap (λ (l : List ℕ). stood.waiting ++ l) nothing_left ∙ append-nil stood.waiting)
 
     all_put : commands_of g.done ≡ quotes_put day of 0 tickets
     all_put = sym (append-nil (commands_of g.done)) ∙ (ap (λ (l : List ℕ). commands_of g.done ++ quotes_put day of count l) (sym nothing_left) ∙ g.put)

@@ -12,8 +12,7 @@ use Rattle.pay_postings.specs.Words.{posted}
 use Rattle.pay_rules.specs.State.{State}
 use Rattle.pay_shard.specs.Words.{is_of, is_quoted, BatchParts, batch, IsWhole as IsStateOfAll}
 use Rattle.pay_shard.specs.declared.reply.Answer.{Answer}
-use Rattle.pay_session.specs.Served.{gives_quotes, brings_quotes}
-use Rattle.pay_session.specs.Words.{Taken}
+use Rattle.pay_till.specs.Words.{gives_quotes, brings_quotes, Taken}
 use Rattle.pay_close.specs.Batches.{in_order_by, in_order, both, batch_in, batch_of_answer, brought, gathered, AreBrought, IsWhole}
 use Rattle.pay_close.specs.Close.{Books, batch_of_all, close}
 use Rattle.pay_close.specs.Closes.{posted_of}

@@ -15,8 +15,7 @@ use Rattle.pay_shard.specs.Words.{BatchParts}
 use Rattle.pay_shard.specs.declared.asked.Asked.{Asked}
 use Rattle.pay_shard.specs.declared.desk.DeskFault.{DeskFault}
 use Rattle.pay_shard.specs.declared.reply.Answer.{Answer}
-use Rattle.pay_session.specs.Words.{Taken, AreQuotes, IsShort, is_of_close, IsClosed}
-use Rattle.pay_session.specs.Served.{brings_quotes}
+use Rattle.pay_till.specs.Words.{Taken, AreQuotes, IsShort, is_of_close, IsClosed, brings_quotes}
 use Rattle.pay_wire.specs.declared.refusal.Refusal.{Refusal}
 use Rattle.pay_wire.specs.declared.refusal.Refusal.TheVariants as refusal
 use Rattle.pay_close.specs.Batches.{gathered, IsWhole}
@@ -143,9 +142,6 @@ module _ (Refuses : DeskFault → Type 0) (Late : Type 0) (of : ℕ) where
     }
 
   -- ---- as a till says it
-
-  not_brought : (t : Taken) → Bool
-  not_brought t = not (brings_quotes t.answer)
 
   one_lacks : (front : List Taken) (first : Taken) (later : List Taken) → brings_quotes first.answer ≡ false → list_any (λ (t : Taken). not (brings_quotes t.answer)) (front ++ first ∷ later) ≡ true
   one_lacks [] first later e = ap (λ b. not b || list_any (λ (t : Taken). not (brings_quotes t.answer)) later) e

@@ -5,12 +5,11 @@ use Rattle.pay_shard.specs.Words.{NothingIsLost, BatchParts, Standing, DeskParts
 use Rattle.pay_shard.specs.declared.asked.Asked.{Asked}
 use Rattle.pay_shard.specs.declared.desk.DeskFault.{DeskFault}
 use Rattle.pay_shard.specs.declared.reply.Answer.{Answer}
-use Rattle.pay_session.specs.Words.{Taken, commands_of, IsAnswerTo, AreAnswered, AreQuotes, MaySometimeRefuse, MaySometimeBeLate}
-use Rattle.pay_close.specs.Batches.{no_batch, both, batch_of_answer, brought, gathered, in_order}
+use Rattle.pay_till.specs.Words.{Taken, commands_of, IsAnswerTo, AreAnswered, AreQuotes, MaySometimeRefuse, MaySometimeBeLate}
+use Rattle.pay_close.specs.Batches.{no_batch, both, batch_of_answer, brought, gathered}
 use Rattle.pay_close.specs.Faults.{no_memory}
 use Rattle.pay_close.specs.Gathers.{IsTold, IsAsked}
 use Rattle.pay_close.specs.declared.fault.NotClosed.{NotClosed}
-use Rattle.pay_close.specs.declared.fault.NotClosed.TheVariants.{Desk, Ledger}
 
 -- ---- lists of what was put
 
@@ -53,19 +52,12 @@ module _ (Refuses : DeskFault → Type 0) (Late : Type 0) where
   abbrev Gathered : ℕ → List Taken → Result BatchParts NotClosed → Type 0
   Gathered count put result = IsTold Refuses Late count gathered put result
 
-  pub in_order_then : (of : ℕ) (all next : BatchParts) → next ≡ in_order all → (put : List Taken) → Told of put (Ok all) → Gathered of put (Ok next)
-  in_order_then of all next e put f = (f.0, e ∙ ap in_order f.1)
-
   pub wanting_then : (of : ℕ) (all : BatchParts) (fault : NotClosed) → 1 ≤ of → fault ≡ no_memory → (put : List Taken) → Told of put (Ok all) → Gathered of put (Err fault)
   wanting_then of all fault some e put f = subst (λ (w : NotClosed). Gathered of put (Err w)) (sym e) (
     refl,
     f.0.1,
     (let many : length put ≡ of = f.0.0 in omega arith),
   )
-
-  pub stopped_then : (of : ℕ) (fault : NotClosed) (put : List Taken) → Told of put (Err fault) → Gathered of put (Err fault)
-  stopped_then of (Desk fault) put f = f
-  stopped_then of (Ledger fault) put f = f
 
   -- ---- what is asked
 

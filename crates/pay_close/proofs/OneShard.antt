@@ -4,7 +4,7 @@ use Rattle.pay_tables.specs.Words.{FareTables}
 use Rattle.pay_rules.specs.State.{State}
 use Rattle.pay_shard.specs.declared.reply.Answer.{Answer}
 use Rattle.pay_shard.specs.declared.reply.Reply.TheVariants.{Quotes}
-use Rattle.pay_session.specs.Words.{Taken}
+use Rattle.pay_till.specs.Words.{Taken}
 use Rattle.pay_close.specs.Close.{batch_of_all}
 use Rattle.pay_close.specs.Laws.{Brings, AreOfShards, ShardsGatherAll, ShardsCloseAsMachine, OneShardGathersAll, OneShardClosesAsMachine}
 

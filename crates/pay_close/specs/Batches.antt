@@ -8,8 +8,7 @@ use Rattle.pay_shard.specs.Words.{BatchParts}
 use Rattle.pay_shard.specs.declared.reply.Answer.{Answer}
 use Rattle.pay_shard.specs.declared.reply.Reply.{Reply}
 use Rattle.pay_shard.specs.declared.reply.Reply.TheVariants.{Quotes}
-use Rattle.pay_session.specs.Words.{Taken}
-use Rattle.pay_session.specs.Served.{brings_quotes}
+use Rattle.pay_till.specs.Words.{Taken, brings_quotes}
 
 -- ---- ascending order of account
 

@@ -8,7 +8,7 @@ use Rattle.pay_ledger.specs.Words.{is_of_store, IsLedger, Posts, IsAsBefore, May
 use Rattle.pay_ledger.specs.declared.fault.LedgerFault.TheVariants as ledger_fault
 use Rattle.pay_shard.specs.Words.{DeskParts}
 use Rattle.pay_shard.specs.declared.desk.DeskFault.{DeskFault}
-use Rattle.pay_session.specs.Words.{Taken, MaySometimeRefuse, MaySometimeBeLate}
+use Rattle.pay_till.specs.Words.{Taken, MaySometimeRefuse, MaySometimeBeLate}
 use Rattle.pay_wire.specs.declared.refusal.Refusal.{Refusal}
 use Rattle.pay_close.specs.Batches.{gathered, IsWhole}
 use Rattle.pay_close.specs.Faults.{refusal_of_posting, refusal_of_close, is_outside, is_from_outside}

@@ -9,8 +9,7 @@ use Rattle.pay_shard.specs.declared.desk.DeskFault.TheVariants as desk
 use Rattle.pay_shard.specs.declared.reply.Answer.{Answer}
 use Rattle.pay_shard.specs.declared.reply.Reply.{Reply}
 use Rattle.pay_shard.specs.declared.reply.Reply.TheVariants.{Quotes}
-use Rattle.pay_session.specs.Words.{Taken, commands_of, AreAnswered, AreInTime, MaySometimeRefuse, MaySometimeBeLate}
-use Rattle.pay_session.specs.Served.{brings_quotes}
+use Rattle.pay_till.specs.Words.{Taken, commands_of, AreAnswered, AreInTime, MaySometimeRefuse, MaySometimeBeLate, brings_quotes}
 use Rattle.pay_close.specs.Batches.{both, AreBrought, IsWhole}
 use Rattle.pay_close.specs.declared.asking.Answered.{Answered}
 use Rattle.pay_close.specs.declared.fault.NotClosed.{NotClosed}

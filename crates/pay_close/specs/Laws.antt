@@ -8,7 +8,7 @@ use Rattle.pay_shard.specs.declared.asked.Asked.TheVariants.{Quotes as Asks}
 use Rattle.pay_shard.specs.declared.item.Item.{Item}
 use Rattle.pay_shard.specs.declared.reply.Answer.{Answer}
 use Rattle.pay_shard.specs.declared.reply.Reply.TheVariants.{Quotes}
-use Rattle.pay_session.specs.Words.{Taken}
+use Rattle.pay_till.specs.Words.{Taken}
 use Rattle.pay_close.specs.Batches.{gathered, IsWhole}
 use Rattle.pay_close.specs.Closes.{posted_of}
 use Rattle.pay_close.specs.Close.{Books, batch_of_all, close}

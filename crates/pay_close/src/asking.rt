@@ -4,7 +4,7 @@ ghost use Rattle.pay_day.specs.declared.limits.TheConstants.{FIRST_DAY, LAST_DAY
 ghost use Rattle.pay_shard.specs.declared.asked.Asked.TheVariants.{Quotes};
 ghost use Rattle.pay_shard.specs.declared.limits.TheConstants.{MOST_SHARDS};
 ghost use Rattle.pay_shard.specs.Words.{NothingIsLost};
-ghost use Rattle.pay_session.specs.Words.{AreQuotes, MaySometimeRefuse};
+ghost use Rattle.pay_till.specs.Words.{AreQuotes, MaySometimeRefuse};
 ghost use Rattle.pay_close.specs.Batches.{brought, no_batch};
 ghost use Rattle.pay_close.specs.Gathers.{ArePut, Keeps, first_fault, told_of, IsAskedAt, IsToldAt};
 
@@ -24,10 +24,7 @@ fn quotes_command(day: u32, shard: u8, of: u8) -> Command
     requires shard { (shard < of) × (of ≤ MOST_SHARDS) }
     ensures { result ≡ Quotes day shard of }
 {
-    match Command::of(Asked::Quotes { day, shard, of }) {
-        Some(command) => command,
-        None => unreachable!(),
-    }
+    Command::new(Asked::Quotes { day, shard, of })
 }
 
 /// What is known of the answers so far.

@@ -2,7 +2,7 @@
 ghost use Rattle.std.specs.Prelude.{◌≡◌, ◌≤◌, [], OnOk};
 ghost use Rattle.pay_day.specs.declared.limits.TheConstants.{FIRST_DAY, LAST_DAY};
 ghost use Rattle.pay_shard.specs.Words.{NothingIsLost};
-ghost use Rattle.pay_session.specs.Words.{AreQuotes};
+ghost use Rattle.pay_till.specs.Words.{AreQuotes};
 ghost use Rattle.pay_close.specs.Batches.{in_order_by, in_order, both, gathered};
 ghost use Rattle.pay_close.specs.Gathers.{IsAskedAt, IsToldAt};
 

@@ -5,7 +5,7 @@ ghost use Rattle.sqlite.specs.State.{HasCleanDisk};
 ghost use Rattle.pay_day.specs.declared.limits.TheConstants.{FIRST_DAY, LAST_DAY};
 ghost use Rattle.pay_shard.specs.Words.{NothingIsLost};
 ghost use Rattle.pay_ledger.specs.Words.{IsOnDisk};
-ghost use Rattle.pay_session.specs.Words.{AreQuotes};
+ghost use Rattle.pay_till.specs.Words.{AreQuotes};
 ghost use Rattle.pay_close.specs.Closes.{IsClosedSoAt};
 ghost use Rattle.pay_close.specs.Gathers.{IsAskedAt};
 
@@ -13,8 +13,8 @@ use crate::fault::NotClosed;
 use crate::gathered::gather;
 use pay_ledger::Ledger;
 use pay_rules::Postings;
-use pay_session::Till;
 use pay_shard::Desk;
+use pay_till::Till;
 use pay_wire::Refusal;
 use sqlite::Alter;
 use std::alloc::Global;

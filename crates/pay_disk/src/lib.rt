@@ -3,6 +3,7 @@
 
 mod database;
 mod file;
+pub mod laws;
 pub mod limits;
 mod scratch_file;
 

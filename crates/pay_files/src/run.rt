@@ -3,8 +3,8 @@
 use crate::input::{fares_text, is_input_a_file};
 use crate::journal::{JournalFile, open_journal, refuse_journal};
 use pay_jobs::{
-    Begun, Book, Disk, Fault, FileStore, Keeper, Ledger, Ledgers, LineKeeper, NoKeeper, Ran, Wary,
-    begin, new_ledger, told, whole_bytes,
+    Begun, Book, Disk, Fault, FileStore, Keeper, Ledger, Ledgers, NoKeeper, Ran, Wary, begin,
+    new_ledger, told,
 };
 use pay_words::RunWords;
 use std::alloc::AllocError;
@@ -72,7 +72,7 @@ fn run_kept<R: Files<File = File> + Ledgers + Print + AllocGlobal, I: BufRead>(
 ) -> Result<ExitCode, Fault> {
     let JournalFile { past, file } = journal;
     let begun = begin(rt.alloc(), fares, words.zone, past.as_slice())?;
-    let keeper = LineKeeper::begin(file, whole_bytes(past.as_slice()), words.syncs);
+    let keeper = begun.keeper(file, words.syncs);
     match words.ledger {
         None => end(Ok(begun.run_without_ledger(keeper, reader, &mut io::writer(rt)))),
         Some(path) => run_in_file(rt, path, begun, keeper, reader),

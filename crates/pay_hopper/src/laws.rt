@@ -31,7 +31,7 @@ pub fn paying_taps_restart()
     ensures { PayingTapsRestart }
 {}
 
-/// The last bus tap that paid is the last that is marked, and that one is found from after.
+/// The last bus tap that paid is the last that is marked, and that one is found from the end.
 pub fn last_paid_by_marks()
     ensures same { LastPaidIsMarked }
     ensures from_after { LastMarkedFromAfter }

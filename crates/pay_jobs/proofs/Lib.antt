@@ -1,5 +1,4 @@
 mod Counting
-pub mod Openings
 pub mod Runs
 pub mod Summaries
 pub mod ToldReplays

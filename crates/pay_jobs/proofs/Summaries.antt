@@ -6,22 +6,10 @@ use Rattle.std.proofs.lemmas.List.{length-take-le}
 use Rattle.std.proofs.lemmas.Option.{slice_get_within}
 use Rattle.jiff.specs.declared.tz.timezone.TimeZone.{TimeZone}
 use Rattle.pay_tables.specs.Words.{FareTables}
-use Rattle.pay_rules.specs.declared.fix.What.{What}
-use Rattle.pay_rules.specs.declared.fix.What.TheVariants as what
-use Rattle.pay_shard.specs.declared.asked.Asked.{Asked}
-use Rattle.pay_shard.specs.declared.asked.Asked.TheVariants as asked
-use Rattle.pay_wire.specs.declared.command.SpelledCommand.{SpelledCommand}
-use Rattle.pay_journal.specs.Lines.{spelled_what}
 use Rattle.pay_session.specs.Words.{line_requests, rest_of}
-use Rattle.pay_journal.specs.Words.{spelled_of}
 use Rattle.pay_session.specs.declared.request.Request.{Request}
-use Rattle.pay_jobs.specs.Replays.{IsStoppedAt, IsStoppedAmong, all_requests, instant_in, instant_in_what, instant_of, instant_of_what, rests}
+use Rattle.pay_jobs.specs.Replays.{IsStoppedAt, IsStoppedAmong, all_requests, rests}
 use Rattle.pay_jobs.specs.declared.fault.Fault.{Fault}
-
--- those of the command that a line spells, if there is one
-abbrev pub instants_in : Option SpelledCommand → List ℕ
-instants_in None = []
-instants_in (Some c) = instant_in c
 
 -- ---- one more
 
@@ -81,22 +69,3 @@ stopped_among zone tables texts n text fault e stops = record {
 
     within : (xs : List (List ℕ)) (n : ℕ) (x : List ℕ) → slice_get xs n ≡ Some x → n ≤ length xs
     within xs n x e = let less = slice_get_within xs n x e in omega (arith, less)
-
--- ---- instants
-
--- the instant that the line of a command spells is its own
-pub by_spelling : (a : Asked) (o : Option SpelledCommand) → o ≡ spelled_of a → instant_of a ≡ instants_in o
-by_spelling a o e = spelled_instant a ∙ ap instants_in (sym e)
-  where
-    spelled_what_instant : (what : What) → instant_of_what what ≡ instant_in_what (spelled_what what)
-    spelled_what_instant (what.Void reader seq) = refl
-    spelled_what_instant (what.Fill stamp place kind) = refl
-    spelled_what_instant (what.Credit credit) = refl
-    spelled_what_instant (what.Drop staff seq) = refl
-
-    spelled_instant : (a : Asked) → instant_of a ≡ instants_in (spelled_of a)
-    spelled_instant (asked.Tap tap) = refl
-    spelled_instant (asked.Fix fix) = spelled_what_instant fix.what
-    spelled_instant (asked.Due account day) = refl
-    spelled_instant (asked.Show account day) = refl
-    spelled_instant (asked.Quotes day shard of) = refl

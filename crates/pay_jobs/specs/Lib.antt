@@ -1,7 +1,6 @@
 pub mod Alone
 pub mod Check
 pub mod Faults
-pub mod Memory
 pub mod Replays
 pub mod Run
 pub mod Statement

@@ -12,10 +12,6 @@ use Rattle.pay_shard.specs.declared.asked.Asked.{Asked}
 use Rattle.pay_shard.specs.declared.asked.Asked.TheVariants as asked
 use Rattle.pay_tables.specs.Words.{FareTables}
 use Rattle.pay_wire.specs.Words.{AppendsFront}
-use Rattle.pay_wire.specs.declared.command.SpelledCommand.{SpelledCommand}
-use Rattle.pay_wire.specs.declared.command.SpelledCommand.TheVariants as command
-use Rattle.pay_wire.specs.declared.command.SpelledWhat.{SpelledWhat}
-use Rattle.pay_wire.specs.declared.command.SpelledWhat.TheVariants as spelled
 use Rattle.pay_session.specs.Words.{line_requests, rest_of}
 use Rattle.pay_journal.specs.declared.replaying.ReplayFault.{ReplayFault}
 use Rattle.pay_journal.specs.declared.replaying.ReplayFault.TheVariants as replaying
@@ -47,16 +43,6 @@ abbrev pub instant_of : Asked → List ℕ
 instant_of (asked.Tap tap) = tap.stamp.utc ∷ []
 instant_of (asked.Fix fix) = instant_of_what fix.what
 instant_of _ = []
-
--- the same, as a line spells it
-abbrev pub instant_in_what : SpelledWhat → List ℕ
-instant_in_what (spelled.Fill utc place kind) = utc ∷ []
-instant_in_what _ = []
-
-abbrev pub instant_in : SpelledCommand → List ℕ
-instant_in (command.Tap tap) = tap.utc ∷ []
-instant_in (command.Fix fix) = instant_in_what fix.what
-instant_in _ = []
 
 -- numbers, each once, in ascending order
 abbrev pub each_once : List ℕ → List ℕ

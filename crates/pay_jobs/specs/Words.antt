@@ -1,6 +1,5 @@
 -- Words for the program above: how its jobs end, what its faults are, and what a service day is.
 pub use Rattle.pay_jobs.specs.Faults.{status_of, stream_fault, told_of, IsRefusal, IsWantOfMemory, IsUnread}
-pub use Rattle.pay_jobs.specs.Memory.{ReturnsAll}
 pub use Rattle.pay_jobs.specs.Texts.{Texts, texts}
 pub use Rattle.pay_jobs.specs.Run.{IsRefused, Begins, Resumes, AreRead, HasBegun, AreNotRead, IsNotBegun, RanOver, IsTaken, JobRan, HasRun, IsLeftAlone, HasNotRun}
 pub use Rattle.pay_jobs.specs.Alone.{IsBare, IsFoundBare, IsTakenWith, IsNotTakenAlone, IsNotTakenWith}

@@ -1,5 +1,5 @@
 //! The jobs of the program, by the texts of their files, below the reading of words and of files. A session has two steps, [`begin`] and
-//! [`Begun::run`]; between them the caller opens the ledger, [`new_ledger`] in memory or one in a file. [`statement_texts`],
+//! [`Begun::run`]; between them the caller opens the ledger, in memory or in a file. [`statement_texts`],
 //! [`replay_texts`] and [`check_text`] are the other jobs. Of the job `serve` the first step, [`begin_service`], is here; the second one is
 //! in `pay_serve_job`.
 #![tactic(auto)]
@@ -7,7 +7,6 @@
 mod begun;
 mod check;
 mod fault;
-pub mod laws;
 mod ledger;
 mod output;
 mod replays;
@@ -17,11 +16,11 @@ mod statement;
 pub use begun::{Begun, FaresAndZone};
 pub use check::check_text;
 pub use fault::Fault;
-pub use ledger::{new_ledger, take_with};
+pub use ledger::take_with;
 pub use pay_book::Book;
 pub use pay_journal::{Keeper, LineKeeper, NoKeeper, NotKept, whole_bytes};
 pub use pay_ledger::Ledger;
-pub use pay_ledger_files::Ledgers;
+pub use pay_ledger_files::{Ledgers, new_ledger};
 pub use pay_run::Ran;
 pub use pay_shard::Command;
 pub use replays::replay_texts;

@@ -9,17 +9,18 @@ ghost use Rattle.pay_session.specs.declared.request.Request.{Request};
 ghost use Rattle.pay_tables.specs.Words.{FareTables};
 ghost use Rattle.pay_wire.specs.Words.{IsFlushed, HasFault};
 ghost use Rattle.pay_run.specs.Words.{commands_in, HasReplayed, IsReplayedAfter};
-ghost use Rattle.pay_jobs.specs.Replays.{ReplayWritten, ReplayRefused, IsFaultOf, IsStoppedAt, IsStoppedAmong, IsSummed, IsNotSummed, account_of, all_requests, each_once, instant_in, instant_in_what, instant_of, last_of, list_of, rests, sooner, summary_line, summary_of};
+ghost use Rattle.pay_jobs.specs.Replays.{ReplayWritten, ReplayRefused, IsFaultOf, IsStoppedAt, IsStoppedAmong, IsSummed, IsNotSummed, account_of, all_requests, each_once, instant_of, instant_of_what, last_of, list_of, rests, sooner, summary_line, summary_of};
 
 use crate::fault::Fault;
 use crate::output::write_text;
 use crate::run::{read_fares, read_zone};
 use jiff::tz::TimeZone;
 use pay_book::Book;
-use pay_journal::{ReplayFault, spelled_of};
+use pay_journal::ReplayFault;
+use pay_rules::What;
 use pay_run::{new_desk, replay_more, replayed_lines};
 use pay_shard::{Asked, Command, Journal, LocalDesk};
-use pay_wire::{KnownWriter, SpelledCommand, SpelledWhat};
+use pay_wire::KnownWriter;
 use std::alloc::{AllocError, Global};
 use std::collections::BTreeSet;
 
@@ -194,7 +195,7 @@ impl Tally {
         ensures last { OnOk result (self.new.last ≡ fold max self.old.last (instant_of command)) }
     {
         put_account(&mut self.accounts, command.asked())?;
-        let instant = instant_of(command);
+        let instant = instant_of(command.asked());
         self.first = soonest(self.first, instant);
         self.last = latest(self.last, instant);
         Ok(())
@@ -222,31 +223,22 @@ fn put_number(numbers: &mut BTreeSet<u32>, number: u32) -> Result<(), AllocError
 }
 
 /// The instant of a tap or of a Fill.
-#[tactic(auto, using(crate::proofs::Summaries::by_spelling))]
-fn instant_of(command: Command) -> Option<u64>
-    ensures { list_of result ≡ instant_of command }
+fn instant_of(asked: Asked) -> Option<u64>
+    ensures { list_of result ≡ instant_of asked }
 {
-    let spelled = spelled_of(command)?;
-    instant_in(spelled)
-}
-
-/// The instant that a line spells of a tap or of a Fill.
-fn instant_in(spelled: SpelledCommand) -> Option<u64>
-    ensures { list_of result ≡ instant_in spelled }
-{
-    match spelled {
-        SpelledCommand::Tap(tap) => Some(tap.utc),
-        SpelledCommand::Fix(fix) => instant_in_what(fix.what),
+    match asked {
+        Asked::Tap(tap) => Some(tap.stamp.utc()),
+        Asked::Fix(fix) => instant_of_what(fix.what),
         _ => None,
     }
 }
 
 /// The instant of a Fill.
-fn instant_in_what(what: SpelledWhat) -> Option<u64>
-    ensures { list_of result ≡ instant_in_what what }
+fn instant_of_what(what: What) -> Option<u64>
+    ensures { list_of result ≡ instant_of_what what }
 {
     match what {
-        SpelledWhat::Fill { utc, .. } => Some(utc),
+        What::Fill(stamp, ..) => Some(stamp.utc()),
         _ => None,
     }
 }

@@ -1,16 +1,16 @@
 //! The job `run`, by the texts of its fare file and its zone, and its journal: all that the program does below the reading of files. It has
 //! two steps, [`begin`] and [`Begun::run`], between which the caller opens the ledger.
-ghost use Rattle.std.specs.Prelude.{◌≡◌, false, nat_lt, None, Ok, IfOk, IfErr, OnErr};
+ghost use Rattle.std.specs.Prelude.{◌≡◌, false, nat_lt, None, Some, Ok, IfOk, IfErr, OnErr};
 ghost use Rattle.std.specs.Arc.{arc_value};
 ghost use Rattle.jiff.specs.Placed.{IsPosixZone};
 ghost use Rattle.jiff.specs.Words.{read_whole};
 ghost use Rattle.jiff.specs.ZoneView.{plain_zone};
 ghost use Rattle.pay_fare_file.specs.Words.{fare_text};
 ghost use Rattle.pay_session.specs.Words.{IsBroken, IsLastFill, ShowsNothing};
-ghost use Rattle.pay_run.specs.Words.{after, before, with_ledger_in, without_ledger};
+ghost use Rattle.pay_run.specs.Words.{after, before, whole_bytes, with_ledger_in, without_ledger};
 ghost use Rattle.pay_jobs.specs.Faults.{told_of};
 ghost use Rattle.pay_jobs.specs.Run.{AreNotRead, AreRead, HasBegun, HasNotRun, HasRun, IsNotBegun, IsRefused};
-ghost use Rattle.pay_jobs.specs.Texts.{texts};
+ghost use Rattle.pay_jobs.specs.Texts.{Texts, texts};
 
 use crate::begun::{Begun, FaresAndZone};
 use crate::fault::Fault;
@@ -18,7 +18,7 @@ use crate::ledger::take_with;
 use jiff::tz::TimeZone;
 use pay_book::Book;
 use pay_fare_file::read_tables;
-use pay_journal::Keeper;
+use pay_journal::{Keeper, Lasting, LineKeeper};
 use pay_ledger::Ledger;
 use pay_run::{Ran, replayed_desk, run_lines, run_lines_without_ledger};
 use pay_session::{Done, KnownReader};
@@ -46,9 +46,19 @@ pub fn begin(alloc: Global, fares: &str, zone: &str, past: &[u8]) -> Result<Begu
 }
 
 impl Begun {
+    /// What keeps the session's lines, over the writer that has its journal: they come after the whole lines of the journal, and what
+    /// stands after these is cut off before the first of them. It settles each line at once, or does not.
+    pub fn keeper<W: Lasting>(&self, writer: W, syncs: bool) -> LineKeeper<W>
+        ensures writer { result.writer ≡ writer }
+        ensures whole { (texts : Texts) → HasBegun texts self.now → result.whole ≡ Some (whole_bytes texts.past) }
+        ensures syncs { result.syncs ≡ syncs }
+    {
+        LineKeeper::begin(writer, self.replayed.bytes, syncs)
+    }
+
     /// The second step: answers the lines of a reader, beginning with what the journal gives back, and closes days into the ledger that was
     /// opened. The keeper keeps lines after the whole ones of the journal. A ledger that archives something needs its journal: beside one
-    /// without a line it gives `LedgerAlone`, and nothing is read, written or kept. What came of the session is [told](told).
+    /// without a line it gives `LedgerAlone`, and nothing is read or written. What came of the session is [told](told).
     pub fn run<K: Keeper, S: Alter, R: KnownReader, W: KnownWriter>(
         self,
         alloc: Global,

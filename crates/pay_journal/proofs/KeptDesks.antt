@@ -5,11 +5,11 @@ use Rattle.std.specs.Prelude.{Result, Ok, Err, IfOk}
 use Rattle.std.specs.List.{AllByRecursion}
 use Rattle.std.proofs.KnownBytes.{Appends-nil, Appends-trans, Appends-kept}
 use Rattle.std.proofs.lemmas.Grind.{flat_map-append}
-use Rattle.std.proofs.lemmas.List.{append-nil, map-append}
+use Rattle.std.proofs.lemmas.List.{append-nil}
 use Rattle.pay_rules.specs.InTurn.{IsIn}
 use Rattle.pay_tables.specs.Words.{FareTables}
 use Rattle.pay_rules.specs.State.{State}
-use Rattle.pay_shard.specs.Words.{LocalParts, commands_of, transcript_of, AreInPlace, AreBelow, ShardParts, with_item, with_items, with_room, state_now, replay, new_items, IsHistory, with_waiting, without, IsAfterAll, IsNoneOf, IsReplyTo, NothingIsLost, ReplayGoesOn, NewStandAfter, FrontHasReply}
+use Rattle.pay_shard.specs.Words.{LocalParts, commands_of, transcript_of, AreInPlace, AreBelow, ShardParts, with_item, with_items, with_room, state_now, replay, new_items, IsHistory, without, IsReplyTo, ReplayGoesOn, NewStandAfter, FrontHasReply}
 use Rattle.pay_shard.specs.declared.asked.Asked.{Asked}
 use Rattle.pay_shard.specs.declared.asked.Asked.TheVariants as asked
 use Rattle.pay_shard.specs.declared.desk.DeskFault.{DeskFault}
@@ -17,7 +17,7 @@ use Rattle.pay_shard.specs.declared.desk.DeskFault.TheVariants.{Memory, NotKept}
 use Rattle.pay_shard.specs.declared.item.Item.{Item}
 use Rattle.pay_shard.specs.declared.reply.Reply.{Reply}
 use Rattle.pay_journal.specs.Lines.{line_of, lines_of_items}
-use Rattle.pay_journal.specs.KeptParts.{KeptParts, CanFail, kept_parts, new_since, IsRest, KeepsLines, IsSeen, IsKeptDesk}
+use Rattle.pay_journal.specs.KeptParts.{KeptParts, new_since, IsRest, KeepsLines, IsSeen, IsKeptDesk}
 use Rattle.pay_journal.specs.Puts.{is_not_kept, IsPutKept, IsNotPut}
 use Rattle.pay_journal.proofs.Puts.{with_none}
 
@@ -83,28 +83,6 @@ module _ (ticket : ℕ) (command : Asked) (k : KeptParts) (before after : LocalP
   abbrev pub later_kept : KeptParts
   later_kept = record { seen = after; first = k.first; held_first = k.held_first; holds = holds; stuck = k.stuck }
 
-  pub taken_added : commands_of after.shard.journal ≡ commands_of k.seen.shard.journal ++ (ticket, command) ∷ []
-  taken_added =
-      ap (λ (s : ShardParts). commands_of s.journal) is_now ∙ map-append (λ (i : Item). (i.entry.ticket, i.entry.command)) k.seen.shard.journal (put.taken.item ∷ [])
-      ∙ (λ i. commands_of k.seen.shard.journal ++ ((put.taken.is_entry i).ticket, (put.taken.is_entry i).command) ∷ [])
-
-  pub taken_later : IsAfterAll ticket (commands_of k.seen.shard.journal)
-  taken_later = subst (λ (s : ShardParts). IsAfterAll ticket (commands_of s.journal)) was put.later
-
-  pub taken_fresh : IsNoneOf ticket k.seen.waiting
-  taken_fresh = subst (IsNoneOf ticket) (sym same_waiting) put.fresh
-
-  pub taken_transcript : NothingIsLost (transcript_of k.seen.shard) (transcript_of after.shard)
-  taken_transcript = subst (λ (s : ShardParts). NothingIsLost (transcript_of s) (transcript_of after.shard)) was put.transcript
-
-  pub taken_stands : (Fails : Type 0) → (kept_parts Fails later_kept).standing ≡ with_waiting (k.seen.waiting ++ ticket ∷ []) (kept_parts Fails k).standing
-  taken_stands Fails =
-      λ i. record {
-        origin = record { tables = (is_now i).tables; base = (is_now i).base; items = k.first; holds = k.held_first };
-        shards = 1;
-        waiting = (put.waits ∙ ap (λ (l : List ℕ). l ++ ticket ∷ []) (sym same_waiting)) i;
-      }
-
   pub taken_keeps : ReplayGoesOn → NewStandAfter → KeepsLines k → KeepsLines later_kept
   taken_keeps goes new lines =
       let s = k.seen.shard in
@@ -142,13 +120,6 @@ module _ (Failed : Type 0) (fault : DeskFault) (command : Asked) (k : KeptParts)
       by : (((fault ≡ Memory) × (put.more ≡ []) × (put.front ≡ 0)) ⊎ ((fault ≡ NotKept) × Failed)) → Failed
       by (inl memory) = let is = ap is_not_kept memory.0 in absurd (cc)
       by (inr lost) = lost.1
-
-  pub left_refused : {K : Type 0} (HasFailed : K → Type 0) (keeper : K) → (Failed → HasFailed keeper) → (fault ≡ Memory) ⊎ ((fault ≡ NotKept) × CanFail HasFailed)
-  left_refused {K} HasFailed keeper as_it = by put.cause
-    where
-      by : (((fault ≡ Memory) × (put.more ≡ []) × (put.front ≡ 0)) ⊎ ((fault ≡ NotKept) × Failed)) → (fault ≡ Memory) ⊎ ((fault ≡ NotKept) × CanFail HasFailed)
-      by (inl memory) = inl memory.0
-      by (inr lost) = inr (lost.0, (keeper, as_it lost.1))
 
   left_rest : IsRest (is_not_kept fault) (take put.front (line_of command))
   left_rest = by put.cause

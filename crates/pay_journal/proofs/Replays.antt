@@ -1,12 +1,11 @@
 -- How the lines of a replay join.
-use Rattle.std.proofs.Common.{◌≡◌, ℕ, ◌+◌, ◌-◌, ◌≤◌, suc, true, false, List, [], ◌∷◌, ◌++◌, length, Option, Some, None, Result, sym, ap, ◌∙◌, subst, refl, arith, append_assoc, append-nil, length-append, inl, inr}
+use Rattle.std.proofs.Common.{◌≡◌, ℕ, ◌+◌, ◌-◌, ◌≤◌, suc, false, List, [], ◌∷◌, ◌++◌, length, Option, Some, None, Result, sym, ap, ◌∙◌, subst, refl, arith, append_assoc, append-nil, length-append, inl, inr}
 use Rattle.std.specs.Prelude.{IfSome}
 use Rattle.std.specs.List.{AllByRecursion}
 use Rattle.std.proofs.lemmas.Grind.{flat_map-append}
 use Rattle.std.proofs.lemmas.List.{map-append}
 use Rattle.jiff.specs.declared.tz.timezone.TimeZone.{TimeZone}
 use Rattle.pay_rules.specs.declared.posting.Posting.{Posting}
-use Rattle.pay_shard.specs.declared.asked.Asked.{Asked}
 use Rattle.pay_shard.specs.declared.desk.DeskFault.{DeskFault}
 use Rattle.pay_shard.specs.declared.reply.Answer.{Answer}
 use Rattle.pay_shard.specs.Words.{NothingIsLost, Standing, DeskParts}
@@ -15,11 +14,12 @@ use Rattle.pay_wire.specs.declared.refusal.Refusal.TheVariants as refusal
 use Rattle.pay_wire.specs.declared.reply.SpelledReply.{SpelledReply}
 use Rattle.pay_wire.specs.declared.reply.SpelledReply.TheVariants as replies
 use Rattle.pay_session.specs.Asks.{asks_of}
-use Rattle.pay_session.specs.Events.{Taken, Event, all_put, commands_of, IsAnswerTo, AreAnswered}
+use Rattle.pay_session.specs.Events.{Event, all_put}
+use Rattle.pay_till.specs.Words.{Taken, commands_of, IsAnswerTo, AreAnswered, MaySometimeRefuse, MaySometimeBeLate}
 use Rattle.pay_journal.specs.Replays.{is_barred, IsPriced, why_ended, ClosesNothing, IsReplayStep, IsFaultOf, AreHanded, AreAccepted, IsReplayed, IsEndedAt, IsEnded}
 use Rattle.pay_session.specs.Requests.{has_newline, line_requests, request_of, rest_of, IsReadByLine}
 use Rattle.pay_session.specs.Served.{IsServedAs, AreServed}
-use Rattle.pay_session.specs.Serving.{IsPutAt, IsStep, MaySometimeRefuse, MaySometimeBeLate}
+use Rattle.pay_session.specs.Serving.{IsStep}
 use Rattle.pay_session.specs.declared.asks.Asks.{Asks}
 use Rattle.pay_session.specs.declared.asks.Asks.TheVariants as asks
 use Rattle.pay_journal.specs.declared.replaying.ReplayFault.{ReplayFault}
@@ -74,12 +74,6 @@ priced replies.Bye e = absurd (no_none refusal.DeskFault e)
 -- ---- what a line comes to
 
 module _ {D O : Type 0} (parts : D → DeskParts O) where
-  -- a tap or a correction that was put
-  pub put_step : (before after : D) (a : Asked) (line : SpelledReply) (ended : Option Refusal) → is_barred (asks.Put a) ≡ false → IsPutAt parts before after a line → NothingIsLost (parts before).transcript (parts after).transcript
-      → (parts after).standing ≡ (parts before).standing → ended ≡ why_ended line → IsReplayStep parts before after (asks.Put a) ended
-  put_step before after a line ended allowed f kept same is =
-      inl (f.event, allowed, record { served = (f.answered, refl); added = f.added; said = f.said; kept = kept; same = same }, is ∙ ap why_ended (sym f.told))
-
   -- what is refused as itself
   pub refused_step : (desk : D) (a : Asks) (why : Refusal) → a ≡ asks.No why → IsReplayStep parts desk desk a (Some why)
   refused_step desk a why is =
@@ -94,10 +88,6 @@ module _ {D O : Type 0} (parts : D → DeskParts O) where
     where
       Served : D → Asks → Event → Type 0
       Served now x event = IsServedAs (parts now).standing.shards (MaySometimeRefuse parts (parts now).standing) (MaySometimeBeLate parts (parts now).standing) ClosesNothing x event tt tt
-
-  -- what is barred
-  pub barred_step : (desk : D) (a b : Asks) → a ≡ b → is_barred b ≡ true → IsReplayStep parts desk desk a (Some refusal.BadLine)
-  barred_step desk a b is barred = inr (ap is_barred is ∙ barred, refl, refl)
 
   -- a line that came to what was put
   pub step_of : (before after : D) (a b : Asks) (ended : Option Refusal) → a ≡ b → IsReplayStep parts before after b ended → IsReplayStep parts before after a ended

@@ -12,9 +12,10 @@ use Rattle.pay_wire.specs.declared.refusal.Refusal.TheVariants as refusal
 use Rattle.pay_wire.specs.declared.reply.SpelledReply.{SpelledReply}
 use Rattle.pay_wire.specs.declared.reply.SpelledReply.TheVariants as replies
 use Rattle.pay_session.specs.Asks.{asks_of}
-use Rattle.pay_session.specs.Events.{Taken, Event}
+use Rattle.pay_session.specs.Events.{Event}
+use Rattle.pay_till.specs.Words.{Taken, MaySometimeRefuse, MaySometimeBeLate}
 use Rattle.pay_session.specs.Requests.{line_requests, rest_of}
-use Rattle.pay_session.specs.Serving.{IsStep, MaySometimeRefuse, MaySometimeBeLate}
+use Rattle.pay_session.specs.Serving.{IsStep}
 use Rattle.pay_session.specs.Session.{IsSession, sides}
 use Rattle.pay_session.specs.declared.asks.Asks.{Asks}
 use Rattle.pay_session.specs.declared.asks.Asks.TheVariants as asks

@@ -130,7 +130,8 @@ impl<F: Fares, K: Keeper> KeptDesk<F, K> {
         }
     }
 
-    /// Takes a command, as [`Desk`] says, once its line is kept if it is newly accepted. It is refused by `NotKept` where something
+    /// Takes a command, as [`Desk`] says, once its line is kept if it is newly accepted, and what was kept is settled if it asks for
+    /// quotes. It is refused by `NotKept` where something
     /// could not be kept, now or before: a desk that is stuck takes no command, asks its keeper for nothing, and stays as it is.
     pub fn put(&mut self, command: Command) -> Result<Ticket, DeskFault>
         requires { IsForShards 1 command }
@@ -144,6 +145,7 @@ impl<F: Fares, K: Keeper> KeptDesk<F, K> {
         ensures none_waits { OnErr result (standing_of self.new ≡ standing_of self.old) }
         ensures refused { IfErr result (λ fault. (fault ≡ desk_fault.Memory) ⊎ ((fault ≡ desk_fault.NotKept) × CanFail K.HasFailed)) }
         ensures transcript { NothingIsLost (transcript_of self.old.seen.shard) (transcript_of self.new.seen.shard) }
+        ensures settled { OnOk result (is_quotes command ≡ true → (keeper : K) × K.IsSettled keeper × (K.holds keeper ≡ self.new.holds)) }
     {
         if self.stuck {
             return Err(DeskFault::NotKept);

@@ -29,8 +29,8 @@ use Rattle.pay_journal_laws.specs.Texts.{requests_in, Puts, AreWholeOf, PartAsks
 use Rattle.pay_journal_laws.specs.GivenBack.{new_of, IsPricedIn, PartsAreTaken}
 use Rattle.pay_lanes.specs.Ends.{IsLaneOf}
 use Rattle.pay_lanes.specs.Words.{LaneParts, WorkerParts, Passed, by_lane, by_shard, entries_of, passed_to, IsFirstOf, IsSameWorker, IsOfShards, IsNewLane, lanes_of, numbers, shard_numbers, arrived, sent_by}
-use Rattle.pay_session.specs.Served.{AreQuotes}
-use Rattle.pay_session.specs.Words.{Taken, commands_of, IsAskedIn}
+use Rattle.pay_till.specs.Words.{AreQuotes, Taken, commands_of}
+use Rattle.pay_session.specs.Words.{IsAskedIn}
 use Rattle.pay_session.specs.declared.request.Request.{Request}
 use Rattle.pay_session.specs.declared.request.Request.TheVariants as requests
 use Rattle.pay_serve.specs.Keeping.{is_other, of_others}

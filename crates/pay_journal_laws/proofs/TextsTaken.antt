@@ -13,7 +13,8 @@ use Rattle.pay_wire.specs.declared.refusal.Refusal.{Refusal}
 use Rattle.pay_wire.specs.declared.refusal.Refusal.TheVariants as refusal
 use Rattle.pay_wire.specs.declared.reply.SpelledReply.{SpelledReply}
 use Rattle.pay_wire.specs.declared.reply.SpelledReply.TheVariants as replies
-use Rattle.pay_session.specs.Words.{line_requests, asks_of, Taken, Event, said, all_put, commands_of, IsAnswerTo, AreAnswered, IsReplied, IsTaken, IsServedAs, AreServed, MaySometimeRefuse, MaySometimeBeLate}
+use Rattle.pay_session.specs.Words.{line_requests, asks_of, Event, said, all_put, IsReplied, IsTaken, IsServedAs, AreServed}
+use Rattle.pay_till.specs.Words.{Taken, commands_of, IsAnswerTo, AreAnswered, MaySometimeRefuse, MaySometimeBeLate}
 use Rattle.pay_rules.specs.InTurn.{IsIn}
 use Rattle.pay_journal.specs.Words.{is_barred, IsPriced, ClosesNothing}
 use Rattle.pay_journal_laws.specs.Texts.{requests_in, Puts}

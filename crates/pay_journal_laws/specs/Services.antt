@@ -4,7 +4,7 @@ use Rattle.std.specs.List.{AllByRecursion, AllZip}
 use Rattle.pay_shard.specs.Words.{items_of, AreAskedOf, NothingIsLost}
 use Rattle.pay_shard.specs.declared.item.Item.{Item}
 use Rattle.pay_lanes.specs.Words.{LaneParts, WorkerParts, IsNewLane, IsSameLane, Passed}
-use Rattle.pay_session.specs.Words.{Taken, AreQuotes, commands_of}
+use Rattle.pay_till.specs.Words.{Taken, AreQuotes, commands_of}
 use Rattle.pay_serve.specs.KeepingGates.{GateParts}
 use Rattle.pay_serve.specs.Kept.{HasKept}
 use Rattle.pay_journal_laws.specs.Texts.{AskAlike, AskWithin, AreWholeOf}

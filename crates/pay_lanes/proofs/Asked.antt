@@ -11,7 +11,7 @@ use Rattle.pay_shard.specs.declared.asked.Asked.TheVariants as asked
 use Rattle.pay_shard.specs.declared.item.Entry.{Entry}
 use Rattle.pay_shard.specs.declared.item.Item.{Item}
 use Rattle.pay_shard.specs.declared.reply.Answer.{Answer}
-use Rattle.pay_lanes.specs.Parts.{LaneParts, WorkerParts, sent_at, shard_of, next_entry, next_above, having_taken}
+use Rattle.pay_lanes.specs.Parts.{LaneParts, WorkerParts, sent_at, shard_of, next_entry}
 use Rattle.pay_lanes.specs.Working.{entries_of, AreGiven, AreAskedFrom, IsOfShards, IsSameLane, mailboxes}
 use Rattle.pay_lanes.specs.Turns.{by_lane}
 use Rattle.pay_lanes.specs.Openings.{IsNewLane}
@@ -79,28 +79,10 @@ same_asked l a place now for is sent = record {
     from_zero : (n : ℕ) → 0 + n ≡ n
     from_zero n = omega arith
 
--- a lane that has taken one more
-pub same_taken : (l : LaneParts) (a : Answer) → a.shard < l.answers.made → IsSameLane l (having_taken l a)
-same_taken l a of_one = record {
-  number = refl;
-  shards = refl;
-  answers = refl;
-  of_shards = λ h. record {
-    asked = h.asked;
-    made = h.made;
-    taken = All-push (λ (x : Answer). x.shard < length l.shards) l.answers.got a h.taken (subst (λ n. a.shard < n) h.made of_one);
-  };
-}
-
 -- ---- tickets
 
 pub given_more : (next : ℕ) (answers : List Answer) → AreGiven next answers → AreGiven (next + 1) answers
 given_more next answers given = λ less. All-weaker (λ (a : Answer). a.ticket < next) (λ (a : Answer). a.ticket < next + 1) (λ (a : Answer) before. omega (arith, before)) answers (given (omega (arith, less)))
-
-pub given_taken : (next : ℕ) (answers : List Answer) (a : Answer) → AreGiven next answers → AreGiven (next_above next a) (answers ++ a ∷ [])
-given_taken next answers a given = λ less.
-    All-push (λ (x : Answer). x.ticket < next_above next a) answers a
-    (All-weaker (λ (x : Answer). x.ticket < next) (λ (x : Answer). x.ticket < next_above next a) (λ (x : Answer) before. omega (arith, before)) answers (given (omega (arith, less)))) (omega (arith, less))
 
 -- ---- the journals
 

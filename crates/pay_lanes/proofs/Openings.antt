@@ -56,11 +56,6 @@ module _ {T : Type 0} where
   after_some (suc place) [] = []
   after_some (suc place) (r ∷ rs) = having_made r ∷ after_some place rs
 
-  pub some_length : (place : ℕ) (rs : List (ReceiverParts T)) → length (after_some place rs) ≡ length rs
-  some_length zero rs = refl
-  some_length (suc place) [] = refl
-  some_length (suc place) (r ∷ rs) = ap suc (some_length place rs)
-
   -- the next is as it was
   pub some_next : (place : ℕ) (rs : List (ReceiverParts T)) (d : ReceiverParts T) → get_or (after_some place rs) place d ≡ get_or rs place d
   some_next zero rs d = refl
@@ -170,12 +165,6 @@ module _ (all made : List LaneParts) (number : ℕ) where
       → LanesLeft all now (number + 1) later after
   lanes_then lists later rs after s r l now ls is its more h =
       subst (λ m. LanesLeft all m (number + 1) later after) (sym (more ∙ ap (λ x. made ++ x ∷ []) its)) (lanes_step lists later rs after s r ls is h)
-
-  pub lanes_done : (lists : List (List (SenderParts Entry))) (rs : List (ReceiverParts Answer)) → (lists ≡ []) ⊎ (rs ≡ []) → LanesLeft all made number lists rs → made ≡ all
-  lanes_done [] rs none h = sym (append-nil made) ∙ h.lanes
-  lanes_done (s ∷ lists) [] none h = sym (append-nil made) ∙ h.lanes
-  lanes_done (s ∷ lists) (r ∷ rs) (inl none) h = cc
-  lanes_done (s ∷ lists) (r ∷ rs) (inr none) h = cc
 
 -- ---- workers, one after another
 

@@ -1,16 +1,14 @@
 -- What a lane sends stays its own, and no two entries of it under one ticket.
-use Rattle.std.proofs.Common.{◌≡◌, ℕ, zero, suc, ◌+◌, ◌<◌, ◌==◌, Bool, true, false, List, [], ◌∷◌, ◌++◌, All, length, drop, refl, sym, subst, arith, eqb-true}
+use Rattle.std.proofs.Common.{◌≡◌, ℕ, zero, suc, ◌+◌, ◌<◌, ◌==◌, false, List, [], ◌∷◌, ◌++◌, All, length, drop, sym, subst, arith}
 use Rattle.std.specs.List.{AllByRecursion, IsDistinct}
+use Rattle.std.proofs.lemmas.Bool.{ne_eqb}
 use Rattle.std.proofs.lemmas.List.Elements.{All-nil, All-append, All-cons, All-head, All-tail, All-weaker}
 use Rattle.pay_mailbox.specs.Words.{SenderParts, having_sent}
 use Rattle.pay_shard.specs.declared.item.Entry.{Entry}
 use Rattle.pay_lanes.specs.Parts.{sent_at}
 use Rattle.pay_lanes.specs.Working.{IsOwn, all_sent, AreSingle}
 use Rattle.pay_lanes.specs.Openings.{IsNewSender}
-use Rattle.pay_lanes.proofs.Sent.{split}
-
-abbrev Before : ℕ → Entry → Type 0
-Before next entry = entry.ticket < next
+use Rattle.pay_lanes.specs.Sendings.{Before, split, all_before}
 
 later : (next : ℕ) (entries : List Entry) → All (Before next) entries → All (Before (next + 1)) entries
 later next entries all = All-weaker (Before next) (Before (next + 1)) (λ entry before. omega arith) entries all
@@ -32,33 +30,9 @@ own_sent number next (suc place) entry (s ∷ xs) is all =
 
 -- ---- no two under one ticket
 
--- each is under a ticket below the next
-before_both : (next : ℕ) (front back : List Entry) → All (Before next) front → AllByRecursion (Before next) back → AllByRecursion (Before next) (front ++ back)
-before_both next [] back all rest = rest
-before_both next (e ∷ front) back all rest = (All-head (Before next) e front all, before_both next front back (All-tail (Before next) e front all) rest)
-
-pub all_before : (number next : ℕ) (xs : List (SenderParts Entry)) → All (IsOwn number next) xs → AllByRecursion (Before next) (all_sent xs)
-all_before number next [] own = tt
-all_before number next (s ∷ xs) own = before_both next s.sent (all_sent xs) (All-head (IsOwn number next) s xs own).1 (all_before number next xs (All-tail (IsOwn number next) s xs own))
-
--- no test of another ticket is passed
-pub other : (a b : ℕ) → a < b → (a == b) ≡ false
-other a b less = by (a == b) refl
-  where
-    by : (c : Bool) → (a == b) ≡ c → c ≡ false
-    by true same = let is = eqb-true a b same in absurd (omega (arith, is, less))
-    by false off = refl
-
-pub other_too : (a b : ℕ) → b < a → (a == b) ≡ false
-other_too a b less = by (a == b) refl
-  where
-    by : (c : Bool) → (a == b) ≡ c → c ≡ false
-    by true same = let is = eqb-true a b same in absurd (omega (arith, is, less))
-    by false off = refl
-
 none_under : (next : ℕ) (e : Entry) (entries : List Entry) → e.ticket ≡ next → AllByRecursion (Before next) entries → AllByRecursion (λ (y : Entry). (y.ticket == e.ticket) ≡ false) entries
 none_under next e [] is before = tt
-none_under next e (x ∷ entries) is before = (let less = before.0 in other x.ticket e.ticket (omega (arith, is, less)), none_under next e entries is before.1)
+none_under next e (x ∷ entries) is before = (let less = before.0 in ne_eqb x.ticket e.ticket (λ same. absurd (omega (arith, is, less, same))), none_under next e entries is before.1)
 
 all_with : (P : Entry → Type 0) (front back : List Entry) (e : Entry) → AllByRecursion P (front ++ back) → P e → AllByRecursion P (front ++ e ∷ back)
 all_with P [] back e all here = (here, all)
@@ -68,7 +42,7 @@ one_more : (next : ℕ) (front back : List Entry) (e : Entry) → e.ticket ≡ n
 unfolding IsDistinct
 one_more next [] back e is before single = (none_under next e back is before, single)
 one_more next (x ∷ front) back e is before single = (
-  all_with (λ (y : Entry). (y.ticket == x.ticket) ≡ false) front back e single.0 (let less = before.0 in other_too e.ticket x.ticket (omega (arith, is, less))),
+  all_with (λ (y : Entry). (y.ticket == x.ticket) ≡ false) front back e single.0 (let less = before.0 in ne_eqb e.ticket x.ticket (λ same. absurd (omega (arith, is, less, same)))),
   one_more next front back e is before.1 single.1,
 )
 

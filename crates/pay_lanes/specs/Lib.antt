@@ -1,6 +1,7 @@
 pub mod Passing
 pub mod Parts
 pub mod Working
+pub mod Sendings
 pub mod Turns
 pub mod Gates
 pub mod Ends

@@ -10,7 +10,7 @@ pub trait Gate: Drop {
     /// Since it began it has let pass just these entries with their answers, in order; then it refused one more, or did not.
     ghost Holds: { Self → List Passed → Bool → Type 0 };
 
-    /// The bytes that stood after it when it began, if they are known. These stay the same.
+    /// The bytes that what it keeps lines in had when it began, if they are known. These stay the same.
     ghost began: { Self → Option (List ℕ) };
 
     /// Is called by the worker of this shard.

@@ -2,7 +2,7 @@
 ghost use Rattle.std.specs.Prelude.{◌≡◌, List, length};
 ghost use Rattle.std.specs.List.{AllZip};
 ghost use Rattle.pay_lanes.specs.Parts.{LaneParts, WorkerParts};
-ghost use Rattle.pay_lanes.specs.Ends.{AreTogether, GoOn};
+ghost use Rattle.pay_lanes.specs.Ends.{lanes_of, AreTogether, GoOn};
 ghost use Rattle.pay_lanes.specs.Working.{IsSameLane, IsSameWorker};
 
 /// Workers and lanes that were opened together still are when they have gone on: all workers in order, and any of the lanes in
@@ -19,8 +19,10 @@ pub fn same_lanes()
     ensures shards { (l m : LaneParts) → IsSameLane l m → length m.shards ≡ length l.shards }
 {}
 
-/// A worker is the same end as itself, and what is the same end as a same one is the same.
+/// A worker is the same end as itself, and what is the same end as a same one is the same. Those that are the same ends answer as many
+/// lanes.
 pub fn same_workers()
     ensures itself { (w : WorkerParts) → IsSameWorker w w }
     ensures then { (w v u : WorkerParts) → IsSameWorker w v → IsSameWorker v u → IsSameWorker w u }
+    ensures lanes { (ws vs : List WorkerParts) → AllZip IsSameWorker ws vs → lanes_of vs ≡ lanes_of ws }
 {}

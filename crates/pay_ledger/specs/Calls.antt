@@ -1,4 +1,4 @@
--- What a call says of the ledger after a connection, from what the connection holds before it to what it holds after it.
+-- What a call says of the ledger in a connection's database, from what the connection holds before it to what it holds after it.
 use Rattle.std.specs.Prelude.{◌≡◌, ◌⊎◌, ℕ, ℤ, List, Option, Some, None, Result, MatchResult, OnOk, OnErr, IsTrue}
 use Rattle.sqlite.specs.Store.{Ghosts}
 use Rattle.sqlite.specs.Held.{Held, state}

@@ -1,6 +1,8 @@
-//! A ledger in the file at a path: [`open_file`] opens one, and makes it where there is none.
+//! A ledger in the file at a path: [`open_file`] opens one, and makes it where there is none. And one in memory, [`new_ledger`].
 #![tactic(auto)]
 
 mod file;
+mod memory;
 
 pub use file::{Ledgers, open_file};
+pub use memory::new_ledger;

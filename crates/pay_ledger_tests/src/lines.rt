@@ -6,8 +6,9 @@ use crate::given::{expect_same, sample_in_london};
 use pay_book::Book;
 use pay_close::LedgerTill;
 use pay_ledger::Ledger;
-use pay_session::{Done, Till, session};
+use pay_session::{Done, session};
 use pay_shard::{Desk, LocalDesk};
+use pay_till::Till;
 use sqlite::Alter;
 use std::process::Abort;
 

@@ -72,14 +72,6 @@ marks_of_taps tables each farther nearer (tap ∷ next ∷ later) apart =
 
 -- ---- of parts and their journeys
 
--- a leg that ends where it began is linked with none
-same_is_not_linked : (tables : FareTables) (leg next : Leg) → is_same next ≡ true → is_linked tables leg next ≡ false
-same_is_not_linked tables leg next s = by_first (is_same leg) refl
-  where
-    by_first : (first : Bool) → is_same leg ≡ first → is_linked tables leg next ≡ false
-    by_first true f = rw f refl
-    by_first false f = rw (f, s) refl
-
 -- after such a leg the marks are as after none
 after_same : (tables : FareTables) (leg : Leg) (parts : List RailPart) → is_same leg ≡ true → marks_of_parts tables (Some leg) parts ≡ marks_of_parts tables None parts
 after_same tables leg [] s = refl

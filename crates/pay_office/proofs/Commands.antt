@@ -1,14 +1,13 @@
 -- The commands that a lane sent, by ticket.
 use Rattle.std.proofs.Common.{◌≡◌, inl, inr, ℕ, zero, suc, ◌+◌, ◌-◌, ◌<◌, ◌≤◌, ◌==◌, cond, Bool, true, false, if◌then◌else◌, List, [], ◌∷◌, ◌++◌, All, length, Option, Some, None, refl, sym, ap, ◌∙◌, subst, append-nil, arith, eq-eqb, eqb-true, add-one}
 use Rattle.std.specs.List.{AllByRecursion, IsDistinct, find}
-use Rattle.std.proofs.lemmas.Bool.{cases_lt}
+use Rattle.std.proofs.lemmas.Bool.{cases_lt, ne_eqb}
 use Rattle.pay_shard.specs.Words.{IsAfterAll, command_under}
 use Rattle.pay_shard.specs.declared.asked.Asked.{Asked}
 use Rattle.pay_shard.specs.declared.item.Entry.{Entry}
 use Rattle.pay_lanes.specs.Parts.{LaneParts, shard_of, next_entry, having_asked}
 use Rattle.pay_lanes.specs.Working.{IsOwn, all_sent, AreSingle}
-use Rattle.pay_lanes.proofs.Owned.{other, other_too, all_before}
-use Rattle.pay_lanes.proofs.Sent.{split}
+use Rattle.pay_lanes.specs.Sendings.{split, all_before}
 use Rattle.pay_office.specs.Waits.{entry_under, command_beside, commands_below, commands_sent, NoneIsHidden, AreBelow}
 
 -- ---- the first that passes a test
@@ -46,6 +45,13 @@ module _ {X : Type 0} (test : X → Bool) where
       by false off rest e = rest e
 
 -- ---- tickets
+
+-- no test of another ticket is passed
+pub other : (a b : ℕ) → a < b → (a == b) ≡ false
+other a b less = ne_eqb a b (λ same. absurd (omega (arith, less, same)))
+
+pub other_too : (a b : ℕ) → b < a → (a == b) ≡ false
+other_too a b less = ne_eqb a b (λ same. absurd (omega (arith, less, same)))
 
 none_at : (next ticket : ℕ) (entries : List Entry) → AreBelow next entries → next ≤ ticket → AllByRecursion (λ (e : Entry). (e.ticket == ticket) ≡ false) entries
 none_at next ticket [] below far = tt

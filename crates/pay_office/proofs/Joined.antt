@@ -10,8 +10,6 @@ use Rattle.pay_lanes.specs.Parts.{LaneParts, WorkerParts}
 use Rattle.pay_lanes.specs.Working.{IsSameLane, IsSameWorker}
 use Rattle.pay_lanes.specs.Ends.{lanes_of, numbers, AreAll, AreTogether, IsLaneOf, arrived, sent_by, AreKnown, IsAnswered, AreJournalsFrom, IsRight}
 use Rattle.pay_lanes.specs.Openings.{IsOutOfCount, IsNewWorker, shard_numbers, began_of}
-use Rattle.pay_lanes.proofs.Going.{same_count, all_together_still}
-use Rattle.pay_lanes.proofs.Same.{lane_itself}
 use Rattle.pay_lanes.specs.Passing.{Passed}
 use Rattle.pay_lanes.specs.Gates.{IsFirstOf, HavePassed}
 use Rattle.pay_office.specs.Offices.{HasEnded, HaveLetPass}
@@ -52,7 +50,7 @@ same_began (w ∷ ws) (v ∷ vs) same = λ i. same.0.began i ∷ same_began ws v
 
 itself : (ls : List LaneParts) → AllZip IsSameLane ls ls
 itself [] = tt
-itself (l ∷ ls) = (lane_itself l, itself ls)
+itself (l ∷ ls) = (record { number = refl; shards = refl; answers = refl; of_shards = λ h. h }, itself ls)
 
 module _ (office ws vs : List WorkerParts) (ls sorted : List LaneParts) (begun : ws ≡ office) (together : AreTogether office ls) (same : AllZip IsSameWorker ws vs) (moved : IsPermutation ls sorted) where
   same_office : AllZip IsSameWorker office vs
@@ -61,12 +59,12 @@ module _ (office ws vs : List WorkerParts) (ls sorted : List LaneParts) (begun :
   in_order : AreTogether office sorted
   in_order = record { few = together.few; workers_of = together.workers_of; lanes_of_them = All-permutation (IsLaneOf office) ls sorted moved together.lanes_of_them }
 
-  pub together_at_end : AreTogether vs sorted
-  together_at_end = all_together_still office vs sorted sorted in_order same_office (itself sorted)
+  pub together_at_end : ((ws vs : List WorkerParts) (ls ks : List LaneParts) → AreTogether ws ls → AllZip IsSameWorker ws vs → AllZip IsSameLane ls ks → AreTogether vs ks) → AreTogether vs sorted
+  together_at_end still = still office vs sorted sorted in_order same_office (itself sorted)
 
-  pub all_at_end : (count : ℕ) → count ≡ lanes_of ws → numbers sorted ≡ range_with_len 0 count → AreAll vs sorted
-  all_at_end count is order =
-      subst (λ n. IsPermutation (range_with_len 0 n) (numbers sorted)) (is ∙ (ap lanes_of begun ∙ sym (same_count office vs same_office)))
+  pub all_at_end : ((ws vs : List WorkerParts) → AllZip IsSameWorker ws vs → lanes_of vs ≡ lanes_of ws) → (count : ℕ) → count ≡ lanes_of ws → numbers sorted ≡ range_with_len 0 count → AreAll vs sorted
+  all_at_end same_lanes count is order =
+      subst (λ n. IsPermutation (range_with_len 0 n) (numbers sorted)) (is ∙ (ap lanes_of begun ∙ sym (same_lanes office vs same_office)))
       (subst (λ ns. IsPermutation ns (numbers sorted)) order (IsPermutation-refl (numbers sorted)))
 
   pub has_ended : (journals : List (List Item)) (left : List (List Entry)) → journals ≡ map (λ (w : WorkerParts). w.shard.journal) vs → length left ≡ length vs

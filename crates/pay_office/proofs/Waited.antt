@@ -11,10 +11,9 @@ use Rattle.pay_shard.specs.declared.reply.Answer.{Answer}
 use Rattle.pay_shard.specs.declared.reply.Reply.{Reply}
 use Rattle.pay_lanes.specs.Parts.{LaneParts, shard_of, next_above, having_asked, having_taken}
 use Rattle.pay_lanes.specs.Words.{IsOwn, all_sent}
-use Rattle.pay_lanes.proofs.Owned.{other, other_too}
 use Rattle.pay_office.specs.Waits.{commands_below, commands_sent, AreBelow, answer_to, having_taken_all, HasTaken, tickets_of, IsWaiting, AreDistinct, AreWaiting, first_of, having_answer, waiting_without, IsToldOf, IsUntoldOf}
 use Rattle.pay_office.specs.declared.waiting.Waiting.{Waiting}
-use Rattle.pay_office.proofs.Commands.{find_none, find_kept, find_passes, not_its, own_below, sent_below, below_later, commands_put, commands_later, after_all, under_kept, under_last}
+use Rattle.pay_office.proofs.Commands.{other, other_too, find_none, find_kept, find_passes, not_its, own_below, sent_below, below_later, commands_put, commands_later, after_all, under_kept, under_last}
 
 -- ---- an answer came
 
@@ -105,9 +104,6 @@ taken_both l (a ∷ first) more = taken_both (having_taken l a) first more
 
 pub taken_more : (l m n : LaneParts) → HasTaken l m → HasTaken m n → HasTaken l n
 taken_more l m n first more = (first.0 ++ more.0, more.1 ∙ (ap (λ k. having_taken_all k more.0) first.1 ∙ sym (taken_both l first.0 more.0)))
-
-pub taken_none : (l now : LaneParts) → now ≡ l → HasTaken l now
-taken_none l now is = ([], is)
 
 -- ---- what stays of a lane that took some more
 
@@ -202,9 +198,6 @@ module _ (l : LaneParts) (a : Asked) (there : shard_of (length l.shards) a < len
       all_more : (xs : List Waiting) (x : Waiting) → AllByRecursion (IsWaiting (having_asked l a)) xs → IsWaiting (having_asked l a) x → AllByRecursion (IsWaiting (having_asked l a)) (xs ++ x ∷ [])
       all_more [] x all here = (here, tt)
       all_more (y ∷ xs) x all here = (all.0, all_more xs x all.1 here)
-
-pub tickets_put : (ws now : List Waiting) (w : Waiting) (ticket : ℕ) → now ≡ ws ++ w ∷ [] → w.ticket ≡ ticket → tickets_of now ≡ tickets_of ws ++ ticket ∷ []
-tickets_put ws now w ticket added is = ap tickets_of added ∙ (map_and ws w ∙ ap (λ t. tickets_of ws ++ t ∷ []) is)
 
 -- ---- a reply was got
 

@@ -102,6 +102,7 @@ impl<R: Wait + Copy> Desk for LaneDesk<R> {
         ensures busy { result ≡ Err Busy → WasBusy self.old self.new }
         ensures transcript { NothingIsLost (desk_parts self.old).transcript (desk_parts self.new).transcript }
     {
+        pay_lanes::laws::same_lanes();
         take_all(&self.rt, &mut self.lane, &mut self.waiting);
         if self.waiting.is_full() {
             return Err(DeskFault::Window);
@@ -128,6 +129,7 @@ impl<R: Wait + Copy> Desk for LaneDesk<R> {
         ensures none_added { commands_sent self.new.lane ≡ commands_sent self.old.lane }
         ensures transcript { NothingIsLost (desk_parts self.old).transcript (desk_parts self.new).transcript }
     {
+        pay_lanes::laws::same_lanes();
         take_until(&self.rt, &mut self.lane, &mut self.waiting, ticket.number());
         let Some(Answer { reply, .. }) = take_out(&mut self.waiting, ticket.number()) else {
             return Err(DeskFault::Late);

@@ -8,7 +8,7 @@ ghost use Rattle.pay_office.specs.declared.office.StartFault.TheVariants.{Count}
 ghost use Rattle.pay_office.specs.declared.office.ShutFault.TheVariants.{LaneMissing};
 
 use crate::work::{BeginFault, Stop, Working, begin};
-use pay_lanes::{Ended, Gate, Lane, OpenLanesFault, Opened, Worker, end, open, put_in_order};
+use pay_lanes::{Ended, Gate, Lane, OpenLanesFault, Opened, Worker, end, laws, open, put_in_order};
 use pay_rules::Fares;
 use pay_tables::Tables;
 use std::alloc::{AllocError, Global};
@@ -214,6 +214,8 @@ pub fn shut<F: Fares, G: Gate, R: Threads + Wait>(
     office.stop.tell();
     let mut workers = office.room;
     join_all(rt, office.workers, &mut workers);
+    laws::still_together();
+    laws::same_workers();
     match end(rt, workers, lanes) {
         Ok(ended) => Ok(ended),
         Err(_) => unreachable!(),

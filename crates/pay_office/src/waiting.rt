@@ -31,15 +31,13 @@ pub struct Waiting {
 // What lies in the places of an `ArrayVec` where nothing waits.
 impl MadeWith<Global> for Waiting {
     fn made_with(_: Global) -> Waiting {
-        let Some(command) = Command::of(Asked::Due {
+        let first = Asked::Due {
             account: 1,
             day: FIRST_DAY,
-        }) else {
-            unreachable!()
         };
         Waiting {
             ticket: 0,
-            command,
+            command: Command::new(first),
             answer: None,
         }
     }

@@ -1,31 +1,14 @@
 -- Neither a quote nor a set is refused by saying that the archive is bad.
-use Rattle.std.proofs.Common.{◌≡◌, Bool, true, false, cond, List, [], ◌∷◌, find, Option, Some, None, Result, Ok, Err, IsErrAnd, sym, ap, ◌∙◌}
+use Rattle.std.proofs.Common.{◌≡◌, Bool, true, false, List, [], ◌∷◌, find, Option, Some, None, Result, Ok, Err, IsErrAnd, sym, ap, ◌∙◌}
 use Rattle.pay_rules.specs.declared.tap.Tap.{Tap}
 use Rattle.pay_rules.specs.declared.fix.Fix.{Fix}
 use Rattle.pay_rows.specs.declared.row.TapRow.{TapRow}
 use Rattle.pay_rows.specs.declared.row.FixRow.{FixRow}
-use Rattle.pay_rules.specs.declared.posting.Posting.{Posting}
-use Rattle.pay_rules.specs.QuoteParts.{QuoteParts}
 use Rattle.pay_rules.specs.declared.post_fault.PostFault.{PostFault}
-use Rattle.pay_rules.specs.declared.post_fault.PostFault.TheVariants.{BadArchive, StaleQuote, QuoteDiffers}
+use Rattle.pay_rules.specs.declared.post_fault.PostFault.TheVariants.{BadArchive}
 use Rattle.pay_postings.specs.Faults.{◌>>=◌}
-use Rattle.pay_postings.specs.Postings.{is_stale, is_again, is_as_due, last_of, post, posted_anew, posted_after}
 use Rattle.pay_set_rows.specs.SetRows.{tap_row, fix_row}
 use Rattle.pay_postings.specs.NewRows.{is_tap_at, is_tap_row, is_fix_at, is_fix_row, unless_other, is_new_beside, is_new_tap, is_new_fix, with_new, new_after, new_taps, new_fixes}
-
-pub post_never_bad : (list : List Posting) (quote : QuoteParts) → post list quote ≡ Err BadArchive → ⊥
-post_never_bad list quote e = go (last_of quote.account quote.week list) e
-  where
-    judged : (last : Posting) (stale again as_due : Bool)
-        → cond stale (Err (StaleQuote last.quote.account last.quote.version last.quote.through)) (cond again (cond as_due (Ok (last, list)) (Err QuoteDiffers)) (posted_anew list quote)) ≡ Err BadArchive → ⊥
-    judged last true again as_due e = cc
-    judged last false true true e = cc
-    judged last false true false e = cc
-    judged last false false as_due e = cc
-
-    go : (last : Option Posting) → posted_after list quote last ≡ Err BadArchive → ⊥
-    go None e = cc
-    go (Some last) e = judged last (is_stale quote last.quote) (is_again quote last.quote) (is_as_due quote last.quote) e
 
 -- ---- what is to be written of a set
 

@@ -1,8 +1,7 @@
 -- Lists of amounts, place by place.
-use Rattle.std.proofs.Common.{◌≡◌, ℕ, ◌+◌, ◌<◌, List, [], ◌∷◌, length, get_or, set, map, zero, suc, refl, sym, ap, ◌∙◌, arith}
+use Rattle.std.proofs.Common.{◌≡◌, ℕ, ◌<◌, List, [], ◌∷◌, length, get_or, map, zero, suc, refl, sym, ◌∙◌, arith}
 use Rattle.std.specs.Prelude.{ℤ, pos, ◌-ℤ◌}
 use Rattle.std.proofs.lemmas.List.FromFn.{fill_by_all}
-use Rattle.std.proofs.lemmas.List.Edits.{fill_by_more}
 use Rattle.pay_postings.specs.Amounts.{less}
 
 -- what is left of the share at a place
@@ -26,9 +25,3 @@ pub left_is : (shares posted : List ℕ) (left : List ℤ) (n : ℕ) → length 
 left_is shares posted left n a b c each =
     fill_by_all (left_at shares posted) left n (pos 0) c each
     ∙ sym (fill_by_all (left_at shares posted) (less shares (map pos posted)) n (pos 0) (less_long shares posted (a ∙ sym b) ∙ a) (λ k h. less_at shares posted k (omega (arith, a, h)) (omega (arith, b, h))))
-
--- with one place more
-pub left_more : (shares posted : List ℕ) (left : List ℤ) (place : ℕ) (value : ℤ) → place < length left → value ≡ left_at shares posted place → ((k : ℕ) → k < place → get_or left k (pos 0) ≡ left_at shares posted k)
-    → (k : ℕ) → k < place + 1 → get_or (set left place value) k (pos 0) ≡ left_at shares posted k
-left_more shares posted left place value h e each k below =
-    ap (λ (v : ℤ). get_or (set left place v) k (pos 0)) e ∙ fill_by_more (left_at shares posted) left place (pos 0) h each k below

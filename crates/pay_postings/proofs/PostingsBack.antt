@@ -17,11 +17,10 @@ use Rattle.pay_postings.specs.Postings.{is_of, with_amount, net, with_shares, sh
 use Rattle.pay_postings.specs.Paid.{EachStands, IsPaid, ArePaid}
 use Rattle.pay_rows.specs.declared.row.PostingRow.{PostingRow}
 use Rattle.pay_rows.specs.declared.row.ShareRow.{ShareRow}
-use Rattle.pay_set_rows.specs.Ranged.{◌>>=◌}
+use Rattle.pay_set_rows.specs.Ranged.{◌>>=◌, number_back}
 use Rattle.pay_postings.specs.PostingRows.{is_money, is_share_row, is_natural, amounts_of, naturals, quote_from_row, quote_after, is_amount_after, posting_after, week_from_row, posting_from_row, with_rows, postings_from_rows, posting_row, share_row, share_rows_from, share_rows}
 use Rattle.pay_postings.specs.AccountRows.{is_of_account, of_account, rows_of, shares_of, RiseAfter}
 use Rattle.pay_postings.proofs.Reading.{of_its_own, net_more, shares_more, others_net, others_shares, quote_of}
-use Rattle.pay_set_rows.proofs.SetsBack.{number_back}
 use Rattle.pay_postings.proofs.SharesBack.{HasAmounts, all_moved, amounts_back, numbered_rise, all_kept, rise_kept}
 
 -- ---- one posting

@@ -246,33 +246,11 @@ last_above list quotes account week highest up below = ap (λ (o : Option QuoteP
 
 -- ---- never a bad archive
 
-never_by : (quote last : QuoteParts) (stale again as_due : Bool)
-    → ◌≡◌ {A = Result Bool PostFault} (if stale then Err (fault.StaleQuote last.account last.version last.through) else if again then if as_due then Ok false else Err fault.QuoteDiffers else Ok true) (Err fault.BadArchive) → ⊥
-never_by quote last true again as_due e = cc
-never_by quote last false true true e = cc
-never_by quote last false true false e = cc
-never_by quote last false false as_due e = cc
-
-pub further_never_bad : (quote : QuoteParts) (last : Option QuoteParts) → is_further quote last ≡ Err fault.BadArchive → ⊥
-further_never_bad quote None e = cc
-further_never_bad quote (Some last) e = never_by quote last (is_stale quote last) (is_again quote last) (is_as_due quote last) e
-
 -- ---- one quote beside the last posting
 
 module _ (list : List Posting) (quote : QuoteParts) (last : Posting) (found : last_of quote.account quote.week list ≡ Some last) where
   there : post list quote ≡ posted_after list quote (Some last)
   there = ap (posted_after list quote) found
-
-  new_by : (stale again as_due : Bool)
-      → ◌≡◌ {A = Result Bool PostFault} (if stale then Err (fault.StaleQuote last.quote.account last.quote.version last.quote.through) else if again then if as_due then Ok false else Err fault.QuoteDiffers else Ok true) (Ok true)
-      → (if stale then Err (fault.StaleQuote last.quote.account last.quote.version last.quote.through) else if again then if as_due then Ok (last, list) else Err fault.QuoteDiffers else posted_anew list quote) ≡ posted_anew list quote
-  new_by true again as_due e = absurd (cc)
-  new_by false true true e = absurd (let same : ◌≡◌ {A = Bool} false true = cc in cc)
-  new_by false true false e = absurd (cc)
-  new_by false false as_due e = refl
-
-  pub new_beside : is_further quote (Some last.quote) ≡ Ok true → post list quote ≡ posted_anew list quote
-  new_beside e = there ∙ new_by (is_stale quote last.quote) (is_again quote last.quote) (is_as_due quote last.quote) e
 
   kept_by : (stale again as_due : Bool)
       → ◌≡◌ {A = Result Bool PostFault} (if stale then Err (fault.StaleQuote last.quote.account last.quote.version last.quote.through) else if again then if as_due then Ok false else Err fault.QuoteDiffers else Ok true) (Ok false)
@@ -291,12 +269,6 @@ module _ (list : List Posting) (quote : QuoteParts) (last : Posting) (found : la
   refused_so fault.QuoteDiffers is = is.0
   refused_so fault.ArchiveConflict is = is.0
   refused_so fault.Memory is = absurd (is.1 refl)
-
-  pub refused_beside : (why : PostFault) → is_further quote (Some last.quote) ≡ Err why → IsJudged (Err why) list quote
-  refused_beside why e =
-      let judged : JudgedAs (is_further quote (Some last.quote)) (posted_after list quote (Some last)) = judged_after list quote (Some last) in
-      let as_is : JudgedAs (Err why) (posted_after list quote (Some last)) = subst (λ (r : Result Bool PostFault). JudgedAs r (posted_after list quote (Some last))) e judged in
-      refused_so why (there ∙ as_is.0, as_is.1, as_is.2)
 
 -- ---- the quote at a place
 

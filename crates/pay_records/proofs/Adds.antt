@@ -13,7 +13,7 @@ use Rattle.sqlite.specs.Edit.{Edit, edit_of, with_rowid, are_fresh, Applies}
 use Rattle.sqlite.specs.Schema.{Schema}
 use Rattle.sqlite.specs.Table.{Table}
 use Rattle.sqlite.specs.Tree.{Trees, put_row}
-use Rattle.sqlite.specs.Rows.{Written, Task, stamped, Inserts, Counter, Counts, count_of, rowids_for}
+use Rattle.sqlite.specs.Rows.{Written, Task, stamped, Inserts, Counts, count_of, rowids_for}
 use Rattle.sqlite.specs.Does.{Tally, Does, Concludes}
 use Rattle.sqlite.specs.declared.run.Mode.{Mode}
 use Rattle.sqlite.specs.Listing.{understood}
@@ -40,9 +40,6 @@ concluded task mode w tally new h = ap (λ (p : Tally × Database). p.1) (same_v
 -- one row, at the next rowid
 abbrev one_row : Trees → Table → Row → Edit
 one_row db table source = edit_of db table [] Chosen 0 (source ∷ [])
-
-uncounted_counter : (task : Task) (db : Trees) (counter : Option Row) → task.table.is_counted ≡ false → Counter task db (Ok counter) → counter ≡ None
-uncounted_counter task db counter uncounted h = same_value (rw uncounted at h)
 
 uncounted_counts : (task : Task) (db next : Trees) (counter : Option Row) (top : ℤ) → task.table.is_counted ≡ false → Counts task db counter top (Ok next) → next ≡ db
 uncounted_counts task db next counter top uncounted h = same_value (rw uncounted at h)

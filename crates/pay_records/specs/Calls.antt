@@ -1,4 +1,4 @@
--- What a call says of the database after a connection, from what the connection holds before it to what it holds after it.
+-- What a call says of a connection's database, from what the connection holds before it to what it holds after it.
 use Rattle.std.specs.Prelude.{◌≡◌, IfOk, IfErr, OnOk, IsTrue, Result, Err}
 use Rattle.sqlite_trees.specs.declared.store.Store.{Ghosts}
 use Rattle.sqlite_trees.specs.Tree.{Trees}

@@ -4,7 +4,7 @@ use Rattle.std.specs.Coded.{Coded, code_by, coded×, coded_list}
 use Rattle.pay_rules.specs.declared.parts.Leg.{Leg}
 use Rattle.pay_rules.specs.contracts.parts.Leg as leg
 
--- legs of which each is linked with the next
+-- legs one after another; those of a run are linked, by `IsRun`
 pub record LinkedLegs : Type 0 where
   pub first : Leg
   pub others : List Leg

@@ -7,7 +7,7 @@ use crate::tap::Touch;
 use std::alloc::{AllocError, Global};
 use std::marker::Model;
 
-/// Legs of which each is linked with the next, one at least. In a contract it is the first of them and
+/// Legs one after another, one at least. In a contract it is the first of them and
 /// the others.
 #[derive(Drop)]
 pub struct Run {

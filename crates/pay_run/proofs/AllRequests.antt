@@ -14,7 +14,8 @@ use Rattle.pay_rules.specs.State.{State}
 use Rattle.pay_shard.specs.Words.{is_new as is_shard_new, item_step, new_items, replay, AreInPlace, commands_of as commands_of_items}
 use Rattle.pay_shard.specs.declared.reply.Answer.{Answer}
 use Rattle.pay_wire.specs.declared.reply.SpelledReply.{SpelledReply}
-use Rattle.pay_session.specs.Words.{asks_of, Taken, Event, all_put, commands_of, AreAnswered, AreServed}
+use Rattle.pay_session.specs.Words.{asks_of, Event, all_put, AreServed}
+use Rattle.pay_till.specs.Words.{Taken, commands_of, AreAnswered}
 use Rattle.pay_journal.specs.Words.{AskedByItsLine, line_of, lines_of_items}
 use Rattle.pay_session.specs.declared.request.Request.{Request}
 use Rattle.pay_wire.specs.declared.refusal.Refusal.{Refusal}

@@ -17,8 +17,7 @@ use Rattle.pay_close.specs.Words.{batch_of_all, OneShardGathersAll}
 use Rattle.pay_close.specs.Batches.{gathered, IsWhole}
 use Rattle.pay_close.specs.Closes.{Closes, IsWhySaid}
 use Rattle.pay_close.specs.Faults.{refusal_of_posting, is_outside}
-use Rattle.pay_session.specs.Words.{Taken}
-use Rattle.pay_session.specs.Served.{gives_quotes, brings_quotes}
+use Rattle.pay_till.specs.Words.{Taken, gives_quotes, brings_quotes}
 use Rattle.pay_wire.specs.declared.refusal.Refusal.{Refusal}
 use Rattle.pay_wire.specs.declared.refusal.Refusal.TheVariants as refusal
 use Rattle.pay_wire.specs.declared.reply.SpelledReply.TheVariants as replies

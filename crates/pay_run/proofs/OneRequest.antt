@@ -20,7 +20,8 @@ use Rattle.pay_shard.specs.Words.{batch, item_step, is_new as is_shard_new, new_
 use Rattle.pay_wire.specs.declared.refusal.Refusal.TheVariants as refusal
 use Rattle.pay_wire.specs.declared.reply.SpelledReply.{SpelledReply}
 use Rattle.pay_wire.specs.declared.reply.SpelledReply.TheVariants as replies
-use Rattle.pay_session.specs.Words.{Taken, Event, said, refusal_of_desk, commands_of, IsAnswerTo, AreAnswered, AreQuotes, AreInTime, IsReplied, IsTaken, IsRefused, IsTillClosed, IsServedAs}
+use Rattle.pay_session.specs.Words.{Event, said, refusal_of_desk, IsReplied, IsTaken, IsRefused, IsTillClosed, IsServedAs}
+use Rattle.pay_till.specs.Words.{Taken, commands_of, IsAnswerTo, AreAnswered, AreQuotes, AreInTime}
 use Rattle.pay_journal.specs.Words.{line_of, lines_of_items}
 use Rattle.pay_session.specs.declared.asks.Asks.{Asks}
 use Rattle.pay_session.specs.declared.asks.Asks.TheVariants as asks

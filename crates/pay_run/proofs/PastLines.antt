@@ -33,7 +33,8 @@ use Rattle.pay_wire.specs.declared.refusal.Refusal.{Refusal}
 use Rattle.pay_wire.specs.declared.refusal.Refusal.TheVariants as refusal
 use Rattle.pay_wire.specs.declared.reply.SpelledReply.{SpelledReply}
 use Rattle.pay_wire.specs.declared.reply.SpelledReply.TheVariants as replies
-use Rattle.pay_session.specs.Words.{asks_of, line_requests, rest_of, said, Taken, Event, all_put, commands_of, IsAnswerTo, AreAnswered, IsServedAs, AreServed, IsSession, MaySometimeRefuse, MaySometimeBeLate, Sides}
+use Rattle.pay_session.specs.Words.{asks_of, line_requests, rest_of, said, Event, all_put, IsServedAs, AreServed, IsSession, Sides}
+use Rattle.pay_till.specs.Words.{Taken, commands_of, IsAnswerTo, AreAnswered, MaySometimeRefuse, MaySometimeBeLate}
 use Rattle.pay_journal.specs.Words.{AskedByItsLine, is_barred, IsPriced, why_ended, ClosesNothing, AreHanded, NoneIsBarred, AreAccepted, IsReplayed, IsEndedAt, IsEnded}
 use Rattle.pay_session.specs.declared.asks.Asks.{Asks}
 use Rattle.pay_session.specs.declared.asks.Asks.TheVariants as asks

@@ -10,7 +10,8 @@ use Rattle.pay_shard.specs.declared.desk.DeskFault.TheVariants as desk_fault
 use Rattle.pay_shard.specs.declared.reply.Reply.TheVariants as desk_reply
 use Rattle.pay_rules.specs.State.{State}
 use Rattle.pay_shard.specs.Words.{batch}
-use Rattle.pay_session.specs.Words.{Taken, said_of_close, AreQuotes}
+use Rattle.pay_session.specs.Words.{said_of_close}
+use Rattle.pay_till.specs.Words.{Taken, AreQuotes}
 use Rattle.pay_wire.specs.declared.refusal.Refusal.{Refusal}
 use Rattle.pay_run.specs.Machine.{Machine, Failure, is_keeping, with_ledger, step_close}
 use Rattle.pay_run.specs.Outcomes.{tells_failure}

@@ -18,14 +18,15 @@ use Rattle.pay_shard.specs.declared.item.Item.{Item}
 use Rattle.pay_rules.specs.State.{State}
 use Rattle.pay_shard.specs.Words.{ShardParts, LocalParts, Standing, state_now, replay, transcript_of, desk_parts, AreInPlace, commands_of as commands_of_items}
 use Rattle.pay_wire.specs.Words.{spelling_of_reply}
-use Rattle.pay_session.specs.Words.{requests_of, line_requests, Taken, Event, all_put, commands_of, said_of_close, lacks_memory, any_lacks_memory, Sides, IsSession, MaySometimeRefuse, MaySometimeBeLate, text_of as text_of_events, EndsSo as SessionEnds, StopsReading as SessionStopsReading, StopsWriting as SessionStopsWriting, FailsSo as SessionFailsSo}
+use Rattle.pay_session.specs.Words.{requests_of, line_requests, Event, all_put, said_of_close, lacks_memory, any_lacks_memory, Sides, IsSession, text_of as text_of_events, EndsSo as SessionEnds, StopsReading as SessionStopsReading, StopsWriting as SessionStopsWriting, FailsSo as SessionFailsSo}
+use Rattle.pay_till.specs.Words.{Taken, commands_of, MaySometimeRefuse, MaySometimeBeLate}
 use Rattle.pay_session.specs.declared.request.Request.{Request}
 use Rattle.pay_session.specs.declared.sessions.Done.{Done}
 use Rattle.pay_session.specs.declared.stop.SessionFault.{SessionFault}
 use Rattle.pay_session.specs.declared.stop.SessionFault.TheVariants.{Read, Write}
 use Rattle.pay_wire.specs.declared.refusal.Refusal.{Refusal}
 use Rattle.pay_wire.specs.declared.refusal.Refusal.TheVariants.{NotHere}
-use Rattle.pay_session.specs.declared.till.NoTill.{NoTill}
+use Rattle.pay_till.specs.declared.till.NoTill.{NoTill}
 use Rattle.pay_close.specs.Words.{OneShardGathersAll}
 use Rattle.pay_close.specs.Closes.{Closes as LedgerCloses}
 use Rattle.pay_run.specs.Journals.{new_requests}

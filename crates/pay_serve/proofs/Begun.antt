@@ -1,5 +1,5 @@
 -- An office that has begun, its lanes, and the one lane more.
-use Rattle.std.proofs.Common.{◌≡◌, inl, inr, ℕ, zero, suc, ◌+◌, ◌<◌, ◌≤◌, List, [], ◌∷◌, ◌++◌, All, length, min, refl, sym, ap, ◌∙◌, subst, append_assoc, append-nil, arith, length-append}
+use Rattle.std.proofs.Common.{◌≡◌, inl, inr, ℕ, zero, suc, ◌+◌, ◌<◌, ◌≤◌, List, [], ◌∷◌, ◌++◌, All, length, min, refl, sym, ap, ◌∙◌, subst, append_assoc, arith, length-append}
 use Rattle.std.specs.Prelude.{IsPermutation, remove, slice_index_or}
 use Rattle.std.specs.FinMap.{empty}
 use Rattle.std.specs.List.{AllZip, range_with_len}
@@ -168,6 +168,3 @@ module _ {A B C : Type 0} (P : B → Type 0) (R : B → C → Type 0) where
       let whole : length (was.done ++ bs) ≡ length all = ap length was.parts in
       let more : length bs ≡ suc (length rest) = ap length is in
       omega (arith, many, whole, more, length-append was.done bs)
-
-  pub all_tried : (now : List C) (all : List B) (fs : List A) (bs : List B) → bs ≡ [] → AreTriedSoFar P R all now fs bs → AllZip R all now
-  all_tried now all fs bs none was = subst (λ xs. AllZip R xs now) (sym (append-nil was.done) ∙ (ap (λ xs. was.done ++ xs) (sym none) ∙ was.parts)) was.tried

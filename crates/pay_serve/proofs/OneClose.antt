@@ -22,9 +22,7 @@ use Rattle.pay_lanes.specs.Words.{LaneParts, WorkerParts, by_shard, at_lane, ans
 use Rattle.pay_lanes.specs.Ends.{IsLaneOf}
 use Rattle.std.proofs.lemmas.List.{length-map}
 use Rattle.pay_office.specs.Words.{answer_to}
-use Rattle.pay_session.specs.Served.{AreQuotes, gives_quotes, brings_quotes}
-use Rattle.pay_session.specs.Events.{IsAnswerTo, AreAnswered}
-use Rattle.pay_session.specs.Words.{Taken}
+use Rattle.pay_till.specs.Words.{AreQuotes, gives_quotes, brings_quotes, IsAnswerTo, AreAnswered, Taken}
 use Rattle.pay_close.specs.Words.{AreBrought, IsWhole, Brings, AreOfShards, ShardsCloseAsMerge}
 use Rattle.pay_serve.specs.Machines.{AreFronts, IsOneClose, IsNewOffice, IsOver, IsOverAsOne}
 use Rattle.pay_serve.specs.Lanes.{AreAllWith}

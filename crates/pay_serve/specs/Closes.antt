@@ -17,7 +17,8 @@ use Rattle.pay_office.specs.Words.{LaneDeskParts, desk_parts, NoneIsHidden, Have
 use Rattle.pay_wire.specs.Words.{AppendsFront, spelling_of_reply}
 use Rattle.pay_wire.specs.declared.output.WriteFault.{WriteFault}
 use Rattle.pay_wire.specs.declared.refusal.Refusal.{Refusal}
-use Rattle.pay_session.specs.Words.{Taken, said_of_close, IsClosedAt}
+use Rattle.pay_session.specs.Words.{said_of_close}
+use Rattle.pay_till.specs.Words.{Taken, IsClosedAt}
 use Rattle.pay_serve.specs.Journals.{AreTakenThrough, is_one_stuck, told_with}
 use Rattle.pay_serve.specs.Lanes.{AreAllWith, HasAskedIn}
 use Rattle.pay_serve.specs.Machines.{IsOverAsOne, IsNewOffice}

@@ -10,7 +10,7 @@ use Rattle.pay_shard.specs.declared.item.Entry.{Entry}
 use Rattle.pay_shard.specs.declared.item.Item.{Item}
 use Rattle.pay_lanes.specs.Words.{LaneParts, WorkerParts, shard_numbers, Passed}
 use Rattle.pay_office.specs.Words.{HasEnded, HaveLetPass}
-use Rattle.pay_session.specs.Words.{Taken}
+use Rattle.pay_till.specs.Words.{Taken}
 use Rattle.pay_close.specs.Words.{IsWhole, posted_of, close}
 
 -- of the shards from one on, each has a front of its worker's journal

@@ -1,3 +1,2 @@
 pub mod Served
 mod HaveLines
-mod ServiceCauses

@@ -5,7 +5,7 @@ use Rattle.sqlite.specs.State.{State, Survives}
 use Rattle.sqlite.specs.Store.{Ghosts}
 use Rattle.pay_journal.specs.declared.keeper.Keeper.{Ghosts as Keeping}
 use Rattle.pay_close.specs.Closes.{Closes}
-use Rattle.pay_session.specs.declared.till.NoTill.{NoTill}
+use Rattle.pay_till.specs.declared.till.NoTill.{NoTill}
 use Rattle.pay_lanes.specs.Words.{Passed}
 use Rattle.pay_serve.specs.Words.{GateParts, HoldsPassed}
 use Rattle.pay_serve.specs.Words.{Closing, Terms, IsServed}
@@ -51,10 +51,6 @@ module _ {K S : Type 0} (keeper : Keeping K) (store : Ghosts S) (terms : Terms) 
 
   pub why_not : (old new : Held S) (fault : Fault) (has_line : Bool) → has_line ≡ have_line terms.texts → IsNotTakenWith store old new has_line fault → FailsToServe store terms old fault
   why_not old new fault has_line is why = inl (new, subst (λ b. IsNotTakenWith store old new b fault) is why)
-
-  -- it was, and nothing was begun
-  pub not_begun : (old begun : Held S) (held : Option (List ℕ)) (fault : Fault) (has_line : Bool) → IsTakenWith store old begun has_line → IsServedOrNot keeper store terms (old, held) (begun, held) (Err fault)
-  not_begun old begun held fault has_line taken = inr (refl, refl, taken_stays store old begun has_line taken)
 
   pub served_well : (old begun new : Held S) (held written : Option (List ℕ)) (closed : Bool) (Untouched : Type 0) (has_line : Bool)
       → has_line ≡ have_line terms.texts → IsTakenWith store old begun has_line

@@ -10,7 +10,7 @@ use Rattle.pay_serve.specs.Words.{HoldsPassed}
 use Rattle.pay_wire.specs.Words.{WriterCall, HasFault}
 use Rattle.pay_close.specs.Closes.{Closes}
 use Rattle.pay_wire.specs.declared.refusal.Refusal.TheVariants.{NotHere}
-use Rattle.pay_session.specs.declared.till.NoTill.{NoTill}
+use Rattle.pay_till.specs.declared.till.NoTill.{NoTill}
 use Rattle.pay_serve.specs.Words.{Closing, IsOutOfPlan, Terms, IsServedBy, IsStopped}
 use Rattle.pay_serve.specs.declared.fault.ServeFault.{ServeFault}
 use Rattle.pay_serve.specs.declared.fault.ServeFault.TheVariants as serving
@@ -88,7 +88,6 @@ abbrev pub HasServiceCause : {W : Type 0} → (W → WriterCall → W → Type 0
 HasServiceCause writes Fails plan Output writer = HasFault writes writer
 HasServiceCause writes Fails plan Journal writer = Fails
 HasServiceCause writes Fails plan (Refused number name) writer = number ≡ 32 → IsOutOfPlan plan
-HasServiceCause writes Fails plan BadZone writer = ⊤
 HasServiceCause writes Fails plan CannotListen writer = ⊤
 HasServiceCause writes Fails plan (JournalLineOf journal line why) writer = ⊤
 HasServiceCause writes Fails plan LedgerAlone writer = ⊤

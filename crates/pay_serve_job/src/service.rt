@@ -17,7 +17,7 @@ use pay_jobs::{Fault, take_with};
 use pay_journal::{Keeper, whole_bytes};
 use pay_ledger::Ledger;
 use pay_serve::{Given, Plan, ServeFault, listen};
-use pay_session::NoTill;
+use pay_till::NoTill;
 use pay_wire::KnownWriter;
 use sqlite::Alter;
 use std::alloc::Global;

@@ -10,9 +10,10 @@ use Rattle.pay_wire.specs.declared.command.SpelledCommand.{SpelledCommand}
 use Rattle.pay_wire.specs.declared.refusal.Refusal.{Refusal}
 use Rattle.pay_session.specs.Asks.{asks_of}
 use Rattle.pay_session.specs.AskedFor.{IsAskedIn, AreAllAskedIn}
-use Rattle.pay_session.specs.Events.{Taken, Event, commands_of}
+use Rattle.pay_session.specs.Events.{Event}
+use Rattle.pay_till.specs.Words.{Taken, commands_of, AreQuotes}
 use Rattle.pay_session.specs.Requests.{IsAsked}
-use Rattle.pay_session.specs.Served.{AreQuotes, IsTaken, IsRefused, IsServedAs}
+use Rattle.pay_session.specs.Served.{IsTaken, IsRefused, IsServedAs}
 use Rattle.pay_session.specs.declared.asks.Asks.{Asks}
 use Rattle.pay_session.specs.declared.asks.Asks.TheVariants as asks
 use Rattle.pay_session.specs.declared.request.Request.{Request}

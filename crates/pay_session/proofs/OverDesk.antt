@@ -6,10 +6,11 @@ use Rattle.pay_shard.specs.declared.reply.Answer.{Answer}
 use Rattle.pay_shard.specs.Words.{NothingIsLost, Standing, DeskParts}
 use Rattle.pay_session.specs.Asks.{asks_of}
 use Rattle.pay_session.specs.AskedFor.{AreAllAskedIn, AreAskedIn}
-use Rattle.pay_session.specs.Events.{Taken, Event, all_put, commands_of, IsAnswerTo, AreAnswered}
+use Rattle.pay_session.specs.Events.{Event, all_put}
+use Rattle.pay_till.specs.Words.{Taken, commands_of, IsAnswerTo, AreAnswered, MaySometimeRefuse, MaySometimeBeLate}
 use Rattle.pay_session.specs.Requests.{IsAsked}
 use Rattle.pay_session.specs.Served.{AreServed}
-use Rattle.pay_session.specs.Serving.{IsStep, MaySometimeRefuse, MaySometimeBeLate}
+use Rattle.pay_session.specs.Serving.{IsStep}
 use Rattle.pay_session.specs.Session.{Sides, IsSession, EndsSo, FailsSo, sides}
 use Rattle.pay_session.specs.SessionSteps.{Runs, Ran, RunsToEnd, RunsSo}
 use Rattle.pay_session.proofs.AskedFor.{all_both, taken_for}

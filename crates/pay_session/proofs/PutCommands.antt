@@ -10,9 +10,10 @@ use Rattle.pay_shard.specs.Words.{NothingIsLost, Standing, DeskParts, IsAfterAll
 use Rattle.pay_wire.specs.declared.refusal.Refusal.{Refusal}
 use Rattle.pay_wire.specs.declared.reply.SpelledReply.{SpelledReply}
 use Rattle.pay_wire.specs.declared.reply.SpelledReply.TheVariants as replies
-use Rattle.pay_session.specs.Events.{Taken, Event, refusal_of_desk, said, said_of_close}
+use Rattle.pay_session.specs.Events.{Event, refusal_of_desk, said, said_of_close}
+use Rattle.pay_till.specs.Words.{Taken, IsWithin, MaySometimeRefuse, MaySometimeBeLate}
 use Rattle.pay_session.specs.Served.{IsServedAs}
-use Rattle.pay_session.specs.Serving.{IsPut, IsCloseSaidAt, IsStep, IsWithin, MaySometimeRefuse, MaySometimeBeLate}
+use Rattle.pay_session.specs.Serving.{IsPut, IsCloseSaidAt, IsStep}
 use Rattle.pay_session.specs.declared.asks.Asks.{Asks}
 use Rattle.pay_session.specs.declared.asks.Asks.TheVariants as asks
 

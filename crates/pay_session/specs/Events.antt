@@ -1,13 +1,11 @@
 -- What came of a request: what was replied, and which commands a desk took for it.
-use Rattle.std.specs.Prelude.{◌≡◌, ℕ, Bool, true, false, List, map, Option, Some, IfSome, Result, Ok, Err}
-use Rattle.std.specs.List.{AllByRecursion, flat_map, list_any}
+use Rattle.std.specs.Prelude.{ℕ, Bool, true, false, List, Result, Ok, Err}
+use Rattle.std.specs.List.{flat_map, list_any}
 use Rattle.pay_rules.specs.declared.posting.Posting.{Posting}
-use Rattle.pay_shard.specs.declared.asked.Asked.{Asked}
 use Rattle.pay_shard.specs.declared.desk.DeskFault.{DeskFault}
 use Rattle.pay_shard.specs.declared.desk.DeskFault.TheVariants as desk_fault
 use Rattle.pay_shard.specs.declared.refusal.ShardRefusal.{ShardRefusal}
 use Rattle.pay_shard.specs.declared.refusal.ShardRefusal.TheVariants as shard_refusal
-use Rattle.pay_shard.specs.declared.reply.Answer.{Answer}
 use Rattle.pay_shard.specs.declared.reply.Reply.{Reply}
 use Rattle.pay_shard.specs.declared.reply.Reply.TheVariants as desk_reply
 use Rattle.pay_wire.specs.declared.refusal.Refusal.{Refusal}
@@ -15,12 +13,7 @@ use Rattle.pay_wire.specs.declared.refusal.Refusal.TheVariants as refusal
 use Rattle.pay_wire.specs.declared.reply.SpelledReply.{SpelledReply}
 use Rattle.pay_wire.specs.declared.reply.SpelledReply.TheVariants as replies
 use Rattle.pay_wire.specs.Words.{spelling_of_reply}
-
--- a command that a desk took, and the answer to it, where it came
-pub record Taken : Type 0 where
-  pub ticket : ℕ
-  pub asked : Asked
-  pub answer : Option Answer
+use Rattle.pay_till.specs.Words.{Taken}
 
 -- what was replied to a request, and the commands that a desk took for it
 pub record Event : Type 0 where
@@ -68,18 +61,6 @@ text_of = flat_map (λ (e : Event). spelling_of_reply e.reply)
 -- what was taken for events, in order
 abbrev pub all_put : List Event → List Taken
 all_put = flat_map (λ (e : Event). e.put)
-
--- the commands, each with its ticket
-abbrev pub commands_of : List Taken → List (ℕ × Asked)
-commands_of = map (λ (t : Taken). (t.ticket, t.asked))
-
--- an answer is the transcript's at a command's ticket, has that ticket, and is to that command
-abbrev pub IsAnswerTo : (ℕ → Option Answer) → Taken → Answer → Type 0
-IsAnswerTo transcript t answer = (transcript t.ticket ≡ Some answer) × (answer.ticket ≡ t.ticket) × (answer.command ≡ t.asked)
-
--- each answer that came is the transcript's to its command
-abbrev pub AreAnswered : (ℕ → Option Answer) → List Taken → Type 0
-AreAnswered transcript = AllByRecursion (λ (t : Taken). IfSome t.answer (IsAnswerTo transcript t))
 
 -- whether memory was wanting for a request
 abbrev pub lacks_memory : SpelledReply → Bool

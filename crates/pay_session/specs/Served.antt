@@ -1,14 +1,11 @@
 -- How requests are answered over a desk and a till.
-use Rattle.std.specs.Prelude.{◌≡◌, ◌⊎◌, ℕ, ◌<◌, suc, Bool, true, false, not, List, [], ◌∷◌, ◌++◌, Option, Some, None, IfNone, Result, Err, IsTrue, IfErr, ⊤, refl}
-use Rattle.std.specs.List.{AllByRecursion, list_any}
+use Rattle.std.specs.Prelude.{◌≡◌, ◌⊎◌, ℕ, List, [], ◌∷◌, Option, Some, None, Result}
 use Rattle.jiff.specs.declared.tz.timezone.TimeZone.{TimeZone}
 use Rattle.pay_rules.specs.declared.posting.Posting.{Posting}
 use Rattle.pay_shard.specs.declared.asked.Asked.{Asked}
-use Rattle.pay_shard.specs.declared.asked.Asked.TheVariants as asked
 use Rattle.pay_shard.specs.declared.desk.DeskFault.{DeskFault}
 use Rattle.pay_shard.specs.declared.reply.Answer.{Answer}
-use Rattle.pay_shard.specs.declared.reply.Reply.{Reply}
-use Rattle.pay_shard.specs.declared.reply.Reply.TheVariants as desk_reply
+use Rattle.pay_till.specs.Words.{Taken, IsClose}
 use Rattle.pay_wire.specs.declared.refusal.Refusal.TheVariants as refusal
 use Rattle.pay_wire.specs.declared.reply.SpelledReply.{SpelledReply}
 use Rattle.pay_wire.specs.declared.reply.SpelledReply.TheVariants as replies
@@ -17,63 +14,10 @@ use Rattle.pay_session.specs.declared.asks.Asks.TheVariants as asks
 use Rattle.pay_session.specs.declared.request.Request.{Request}
 use Rattle.pay_wire.specs.declared.refusal.Refusal.{Refusal}
 use Rattle.pay_session.specs.Asks.{asks_of}
-use Rattle.pay_session.specs.Events.{Taken, Event, said, refusal_of_desk, said_of_close, commands_of, AreAnswered}
-
--- a close asks the shards for the quotes of its day, each once, from one on in ascending order, as far as it comes
-abbrev pub AreQuotes : ℕ → ℕ → ℕ → List Taken → Type 0
-AreQuotes day of from [] = ⊤
-AreQuotes day of from (t ∷ ts) = (from < of) × (t.asked ≡ asked.Quotes day from of) × AreQuotes day of (suc from) ts
-
--- whether quotes came
-abbrev pub gives_quotes : Reply → Bool
-gives_quotes (desk_reply.Quotes batch) = true
-gives_quotes _ = false
-
-abbrev pub brings_quotes : Option Answer → Bool
-brings_quotes (Some answer) = gives_quotes answer.reply
-brings_quotes None = false
-
--- whether a close may be refused so: nothing is closed here, the quotes did not come, the ledger refuses, or memory ran out
-abbrev pub is_of_close : Refusal → Bool
-is_of_close refusal.NotHere = true
-is_of_close refusal.StaleQuote = true
-is_of_close refusal.Store = true
-is_of_close refusal.DeskFault = true
-is_of_close refusal.BadArchive = true
-is_of_close refusal.ArchiveConflict = true
-is_of_close refusal.QuoteDiffers = true
-is_of_close refusal.Memory = true
-is_of_close _ = false
-
--- that a reply did not come in time is no refusal of a close
-not_late : is_of_close refusal.Late ≡ false
-not_late = refl
+use Rattle.pay_session.specs.Events.{Event, said, refusal_of_desk, said_of_close}
 
 -- With `Refuses` for how a desk may refuse a command, and `Late` for whether a reply of it may be late.
 module _ (Refuses : DeskFault → Type 0) (Late : Type 0) where
-  -- an answer is missing where it may be late alone
-  abbrev pub AreInTime : List Taken → Type 0
-  AreInTime = AllByRecursion (λ (t : Taken). IfNone t.answer Late)
-
-  -- Why the quotes are not all there: the desk refused to take a command for them, or some that were put brought none.
-  abbrev pub IsShort : List Taken → Type 0
-  IsShort put = ((fault : DeskFault) × Refuses fault) ⊎ (list_any (λ (t : Taken). not (brings_quotes t.answer)) put ≡ true)
-
-  -- A close, with `Closes` for what the till says of it: what was put, and the answer.
-  pub record IsClose (Closes : List Taken → Result (List Posting) Refusal → Type 0) (day of : ℕ) (put : List Taken) (result : Result (List Posting) Refusal) : Type 0 where
-    pub quotes : AreQuotes day of 0 put
-    pub in_time : AreInTime put
-    pub short : result ≡ Err refusal.DeskFault → IsShort put
-    pub of_close : IfErr result (λ why. IsTrue (is_of_close why))
-    pub closes : Closes put result
-
-  -- What a close did over a desk: what was put for it was taken, and the answers are the transcript's.
-  pub record IsClosed (Closes : List Taken → Result (List Posting) Refusal → Type 0) (day of : ℕ) (before after : List (ℕ × Asked)) (transcript : ℕ → Option Answer) (result : Result (List Posting) Refusal) : Type 0 where
-    pub put : List Taken
-    pub close : IsClose Closes day of put result
-    pub added : after ≡ before ++ commands_of put
-    pub answered : AreAnswered transcript put
-
   -- the reply that came, or that it did not come in time
   abbrev pub IsReplied : Option Answer → SpelledReply → Type 0
   IsReplied (Some answer) line = line ≡ said answer.reply

@@ -1,32 +1,16 @@
 -- One request over a desk and a till.
-use Rattle.std.specs.Prelude.{◌≡◌, ◌⊎◌, ℕ, ◌<◌, List, [], ◌++◌, length, Option, Result}
+use Rattle.std.specs.Prelude.{◌≡◌, ◌⊎◌, ℕ, List, ◌++◌, Option, Result}
 use Rattle.pay_rules.specs.declared.posting.Posting.{Posting}
 use Rattle.pay_shard.specs.declared.asked.Asked.{Asked}
 use Rattle.pay_shard.specs.declared.desk.DeskFault.{DeskFault}
 use Rattle.pay_shard.specs.declared.reply.Answer.{Answer}
-use Rattle.pay_shard.specs.Words.{NothingIsLost, Standing, DeskParts}
+use Rattle.pay_shard.specs.Words.{NothingIsLost, DeskParts}
 use Rattle.pay_wire.specs.declared.reply.SpelledReply.{SpelledReply}
-use Rattle.pay_session.specs.Events.{Taken, Event, said_of_close, commands_of, AreAnswered}
-use Rattle.pay_session.specs.Served.{IsTaken, IsRefused, IsServedAs, IsClosed}
+use Rattle.pay_session.specs.Events.{Event, said_of_close}
+use Rattle.pay_till.specs.Words.{Taken, commands_of, AreAnswered, IsClosed, MaySometimeRefuse, MaySometimeBeLate}
+use Rattle.pay_session.specs.Served.{IsTaken, IsRefused, IsServedAs}
 use Rattle.pay_session.specs.declared.asks.Asks.{Asks}
 use Rattle.pay_wire.specs.declared.refusal.Refusal.{Refusal}
-
--- A desk stood so before a line and does so within it: beside what waits of before, no more than a close has put, which is one
--- for each shard.
-pub record IsWithin {O : Type 0} (before now : Standing O) : Type 0 where
-  pub same_origin : now.origin ≡ before.origin
-  pub same_shards : now.shards ≡ before.shards
-  pub more : List ℕ
-  pub waits : now.waiting ≡ before.waiting ++ more
-  pub few : (more ≡ []) ⊎ (length more < before.shards)
-
--- the desk, as it stands at some time within a line, may refuse a command so
-unfoldable pub MaySometimeRefuse : {D O : Type 0} → (D → DeskParts O) → Standing O → DeskFault → Type 0
-MaySometimeRefuse {D = D} parts before fault = (desk : D) × IsWithin before (parts desk).standing × (parts desk).MayRefuse fault
-
--- and a reply of it may be late
-unfoldable pub MaySometimeBeLate : {D O : Type 0} → (D → DeskParts O) → Standing O → Type 0
-MaySometimeBeLate {D = D} parts before = (desk : D) × ((parts desk).standing.origin ≡ before.origin) × ((parts desk).standing.shards ≡ before.shards) × (parts desk).MayBeLate
 
 -- a command was handed to a desk, and this is what was said
 pub record IsPut (Refuses : DeskFault → Type 0) (Late : Type 0) (a : Asked) (before after : List (ℕ × Asked)) (transcript : ℕ → Option Answer) (line : SpelledReply) : Type 0 where
@@ -48,13 +32,6 @@ module _ {D O : Type 0} (parts : D → DeskParts O) where
   abbrev pub IsPutAt : D → D → Asked → SpelledReply → Type 0
   IsPutAt before after a line =
       IsPut (MaySometimeRefuse parts (parts before).standing) (MaySometimeBeLate parts (parts before).standing) a (parts before).taken (parts after).taken (parts after).transcript line
-
-  -- A till closed a day over it. `Closes` says of the till what a close comes to, by how many shards answer, what was put, and
-  -- the answer.
-  abbrev pub IsClosedAt : D → D → ℕ → (ℕ → List Taken → Result (List Posting) Refusal → Type 0) → Result (List Posting) Refusal → Type 0
-  IsClosedAt before after day Closes result =
-      IsClosed (MaySometimeRefuse parts (parts before).standing) (MaySometimeBeLate parts (parts before).standing) (Closes (parts before).standing.shards) day (parts before).standing.shards
-      (parts before).taken (parts after).taken (parts after).transcript result
 
   -- and this is what was said
   abbrev pub IsCloseSaidAt : D → D → ℕ → (ℕ → List Taken → Result (List Posting) Refusal → Type 0) → SpelledReply → Type 0

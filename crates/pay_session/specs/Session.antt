@@ -8,10 +8,10 @@ use Rattle.pay_shard.specs.declared.desk.DeskFault.{DeskFault}
 use Rattle.pay_shard.specs.declared.reply.Answer.{Answer}
 use Rattle.pay_shard.specs.Words.{DeskParts}
 use Rattle.pay_wire.specs.Words.{AppendsFront, spelling_of_reply}
-use Rattle.pay_session.specs.Events.{Taken, Event, text_of, all_put, commands_of, AreAnswered, any_lacks_memory}
+use Rattle.pay_session.specs.Events.{Event, text_of, all_put, any_lacks_memory}
+use Rattle.pay_till.specs.Words.{Taken, commands_of, AreAnswered, MaySometimeRefuse, MaySometimeBeLate}
 use Rattle.pay_session.specs.Requests.{line_requests, quits, requests_of, unread}
 use Rattle.pay_session.specs.Served.{AreServed}
-use Rattle.pay_session.specs.Serving.{MaySometimeRefuse, MaySometimeBeLate}
 use Rattle.pay_session.specs.declared.service.Service.{Service}
 use Rattle.pay_session.specs.declared.sessions.Done.{Done}
 use Rattle.pay_session.specs.declared.stop.SessionFault.{SessionFault}

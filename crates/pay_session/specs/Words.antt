@@ -5,9 +5,7 @@ pub use Rattle.pay_session.specs.Asks.{asks_of}
 pub use Rattle.pay_session.specs.AskedFor.{IsAskedIn, AreAllAskedIn}
 unfoldable pub use Rattle.pay_session.specs.AskedFor.{AreAskedIn}
 pub use Rattle.pay_session.specs.Calls.{ReaderCall, ShowsNothing, FailsBy, IsLastFill, HasNoEnd}
-pub use Rattle.pay_session.specs.Events.{Taken, Event, refusal_of, refusal_of_desk, said, said_of_close, text_of, all_put, commands_of, IsAnswerTo, AreAnswered, lacks_memory, any_lacks_memory}
-pub use Rattle.pay_session.specs.Served.{AreQuotes, AreInTime, IsShort, is_of_close, IsClose, IsClosed, IsReplied, IsTaken, IsRefused, IsTillClosed, IsServedAs, AreServed}
-pub use Rattle.pay_session.specs.Serving.{IsWithin, IsClosedAt}
-unfoldable pub use Rattle.pay_session.specs.Serving.{MaySometimeRefuse, MaySometimeBeLate}
+pub use Rattle.pay_session.specs.Events.{Event, refusal_of, refusal_of_desk, said, said_of_close, text_of, all_put, lacks_memory, any_lacks_memory}
+pub use Rattle.pay_session.specs.Served.{IsReplied, IsTaken, IsRefused, IsTillClosed, IsServedAs, AreServed}
 pub use Rattle.pay_session.specs.Session.{Sides, IsSession, EndsSo, StopsReading, StopsWriting, FailsSo, sides, Ends, Fails}
 pub use Rattle.pay_session.specs.Stops.{IsBroken}

@@ -62,10 +62,7 @@ fn put(asked: Asked) -> Asks
     ensures value { result ≡ Asks.Put asked }
     ensures askable { IsAskable result }
 {
-    match Command::of(asked) {
-        Some(command) => Asks::Put(command),
-        None => unreachable!(),
-    }
+    Asks::Put(Command::new(asked))
 }
 
 fn asks_tap(zone: &TimeZone<'_>, line: SpelledTap) -> Asks

@@ -14,7 +14,6 @@ mod request;
 mod service;
 mod sessions;
 mod stop;
-mod till;
 
 pub use asks::{Asks, asks_of};
 pub use cutting::cut;
@@ -23,4 +22,3 @@ pub use request::{Request, request_of};
 pub use service::reply_of;
 pub use sessions::{Done, session};
 pub use stop::SessionFault;
-pub use till::{NoTill, Till};

@@ -11,9 +11,9 @@ ghost use Rattle.pay_session.specs.declared.request.Request.{Request};
 
 use crate::asks::{Asks, asks_of};
 use crate::request::Request;
-use crate::till::Till;
 use jiff::tz::TimeZone;
 use pay_shard::{Command, Desk, DeskFault};
+use pay_till::Till;
 use pay_wire::{Closed, Refusal, SpelledReply};
 
 /// Answers requests, one after another.

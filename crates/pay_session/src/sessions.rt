@@ -10,9 +10,9 @@ use crate::known_reader::KnownReader;
 use crate::progress::Progress;
 use crate::service::Service;
 use crate::stop::SessionFault;
-use crate::till::Till;
 use jiff::tz::TimeZone;
 use pay_shard::Desk;
+use pay_till::Till;
 use pay_wire::KnownWriter;
 
 /// How a session ended by itself.

@@ -1,7 +1,6 @@
 -- Taps and corrections as they are read back of their rows.
-use Rattle.std.proofs.Common.{◌≡◌, ℕ, ◌≤◌, Bool, if◌then◌else◌, Some, None, refl, sym, ap, ◌∙◌, arith}
+use Rattle.std.proofs.Common.{◌≡◌, ℕ, if◌then◌else◌, Some, refl, sym, ap, ◌∙◌, arith}
 use Rattle.std.specs.Prelude.{ℤ, pos, ◌==◌, ◌-◌, unsigned_abs}
-use Rattle.std.proofs.lemmas.Bool.{and_from, le-leb}
 use Rattle.pay_day.specs.Words.{Stamp}
 use Rattle.pay_day.specs.Day.{IsStamp}
 use Rattle.pay_day.specs.declared.limits.TheConstants.{FIRST_INSTANT, LAST_INSTANT, FIRST_DAY, LAST_DAY, SECONDS_PER_DAY}
@@ -14,14 +13,11 @@ use Rattle.pay_rules.specs.declared.fix.What.{What}
 use Rattle.pay_rules.specs.declared.fix.What.TheVariants.{Void, Fill, Credit, Drop}
 use Rattle.pay_rows.specs.declared.row.TapRow.{TapRow}
 use Rattle.pay_rows.specs.declared.row.FixRow.{FixRow}
-use Rattle.pay_set_rows.specs.Ranged.{◌>>=◌, ranged}
+use Rattle.pay_set_rows.specs.Ranged.{◌>>=◌, number_back}
 use Rattle.pay_set_rows.specs.SetRows.{kind_number, tap_row, what_row, fix_row, in_sixteen_bits, as_seq, kind_of, stamp_from, tap_from_row, what_from, fix_from_row}
 use Rattle.pay_set_rows.specs.InRange.{IsCounted, IsSeq, IsTapInRange, IsWhatInRange, IsFixInRange}
 
 -- ---- numbers in their ranges
-
-pub number_back : (least most n : ℕ) → least ≤ n → n ≤ most → ranged least most (pos n) ≡ Some n
-number_back least most n low high = ap (λ (b : Bool). if b then Some n else None) (and_from _ _ (le-leb least n low) (le-leb n most high))
 
 counted_back : (n : ℕ) → IsCounted n → in_sixteen_bits (pos n) ≡ Some n
 counted_back n is = number_back 1 65_535 n is.0 is.1

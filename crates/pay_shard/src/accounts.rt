@@ -165,7 +165,7 @@ impl<F: Fares> Accounts<F> {
         }
     }
 
-    /// Hands a tap to its account, which is opened by the first that it accepts: a refused tap leaves no account after.
+    /// Hands a tap to its account, which is opened by the first that it accepts: a refused tap leaves none.
     pub fn tap(&mut self, tap: Tap) -> Result<Priced, TapFault>
         requires { 1 ≤ tap.account }
         ensures answer { IsTapResult result self.old.tables (accepted_of self.old.state tap.account) tap }

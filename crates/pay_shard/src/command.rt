@@ -58,6 +58,14 @@ fn is_in_range(asked: &Asked) -> bool
 }
 
 impl Command {
+    /// A command that asks this, where each number is known to be in its range.
+    pub fn new(asked: Asked) -> Command
+        requires { IsInRange asked }
+        ensures { result ≡ asked }
+    {
+        Command { asked }
+    }
+
     /// A command that asks this, if each number is in its range: accounts, readers and staff from 1, days from 4 to 50,000,
     /// and a shard among at most 16.
     pub fn of(asked: Asked) -> Option<Command>
@@ -65,7 +73,7 @@ impl Command {
         ensures same { IfSome result (λ command. command ≡ asked) }
     {
         if is_in_range(&asked) {
-            Some(Command { asked })
+            Some(Command::new(asked))
         } else {
             None
         }

@@ -5,7 +5,8 @@ use crate::desks::empty_desk;
 use crate::given::{expect_same, sample};
 use crate::streams::{Letters, Scripted, Trickle};
 use jiff::tz::TimeZone;
-use pay_session::{Done, NoTill, SessionFault, session};
+use pay_session::{Done, SessionFault, session};
+use pay_till::NoTill;
 use std::io::{BufRead, ErrorKind, Write};
 use std::process::Abort;
 

@@ -1,7 +1,7 @@
 //! Sessions over a desk that refuses, is late and runs out of memory, and over a till that posts and refuses.
 
 ghost use Rattle.std.specs.Prelude.{◌≤◌, ◌≢◌, IsTrue};
-ghost use Rattle.pay_session.specs.Words.{is_of_close};
+ghost use Rattle.pay_till.specs.Words.{is_of_close};
 ghost use Rattle.pay_wire.specs.declared.refusal.Refusal.TheVariants as refusal;
 
 use crate::accounts::expect_price;
@@ -13,9 +13,10 @@ use pay_account::Account;
 use pay_book::Book;
 use pay_money::limits::OPERATORS;
 use pay_rules::{Fares, Kind, Posting, Postings};
-use pay_session::{Done, SessionFault, Till, session};
+use pay_session::{Done, SessionFault, session};
 use pay_shard::{Command, Desk, DeskFault, LocalDesk, Reply, Ticket};
 use pay_tables::Tables;
+use pay_till::Till;
 use pay_wire::Refusal;
 use std::process::Abort;
 

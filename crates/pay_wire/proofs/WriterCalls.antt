@@ -2,7 +2,7 @@
 use Rattle.std.proofs.Common.{◌≡◌, ◌≢◌, ℕ, zero, suc, ◌+◌, ◌<◌, Result, Ok, Err, IfOk, IfErr, sym, subst, refl, arith}
 use Rattle.std.specs.declared.io.ErrorKind.{ErrorKind}
 use Rattle.std.specs.declared.io.ErrorKind.TheVariants.{Interrupted}
-use Rattle.pay_wire.specs.Calls.{WriterCall, Wrote, answer_of, IsWrite, AreWrites, IsCaused, HasCause}
+use Rattle.pay_wire.specs.Calls.{WriterCall, Wrote, answer_of, IsWrite, AreWrites, HasCause}
 use Rattle.pay_wire.specs.declared.output.State.{State}
 use Rattle.pay_wire.specs.declared.output.State.TheVariants as states
 use Rattle.pay_wire.specs.declared.output.WriteFault.{WriteFault}
@@ -41,7 +41,3 @@ module _ {W : Type 0} (MayAnswer : W → WriterCall → W → Type 0) where
   cause_of_write kind (Err e) (states.Failed fault) offered before now some told positive none interrupted failed =
       let other : kind e ≢ Interrupted = λ same. failed_not_interrupted fault (interrupted same) in
       subst (λ s. HasCause MayAnswer s now) (sym (failed other)) (other, before, offered, told)
-
-  -- what is known of a state, said of the fault in it
-  pub cause_of_state : (state : State) (fault : WriteFault) (now : W) → state ≡ states.Failed fault → HasCause MayAnswer state now → IsCaused MayAnswer fault now
-  cause_of_state state fault now is cause = subst (λ s. HasCause MayAnswer s now) is cause

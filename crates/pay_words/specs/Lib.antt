@@ -5,4 +5,3 @@ pub mod Options
 pub mod Run
 pub mod Serve
 pub mod Statement
-pub mod Words

@@ -1,5 +1,5 @@
 use Rattle.pay_shard.specs.Words.{NothingIsLost}
-use Rattle.pay_session.specs.Words.{MaySometimeBeLate}
+use Rattle.pay_till.specs.Words.{MaySometimeBeLate}
 use Rattle.pay_close.proofs.AllAsked.{AreGot}
 use Rattle.pay_close.proofs.asking.ask_all.Given as goal
 

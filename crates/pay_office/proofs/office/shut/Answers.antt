@@ -4,13 +4,13 @@ use Rattle.pay_office.proofs.Joined.{as_many, same_began, together_at_end, all_a
 use Rattle.pay_office.proofs.office.shut.Goals as goal
 
 pub end-requires : goal.end-requires
-end-requires g c = together_at_end c.args.office _ c.join_all.new.workers.items c.args.lanes.items c.put_in_order.new.lanes.items c.office.view_is c.requires c.join_all.ensures c.put_in_order.ensures.moved
+end-requires g c = together_at_end c.args.office _ c.join_all.new.workers.items c.args.lanes.items c.put_in_order.new.lanes.items c.office.view_is c.requires c.join_all.ensures c.put_in_order.ensures.moved c.still_together.ensures.in_order
 
 pub unreachable-requires : goal.unreachable-requires
 unreachable-requires g c =
     c.in-Err.ensures.missing
     (all_at_end c.args.office _ c.join_all.new.workers.items c.args.lanes.items c.put_in_order.new.lanes.items c.office.view_is c.requires c.join_all.ensures c.put_in_order.ensures.moved
-    c.office.inside.lanes c.office.invariant.0 (c.put_in_order.ensures.in_order (search rules)))
+    c.same_workers.ensures.lanes c.office.inside.lanes c.office.invariant.0 (c.put_in_order.ensures.in_order (search rules)))
 
 pub returns-clause-ended : goal.returns-clause-ended
 returns-clause-ended g c =

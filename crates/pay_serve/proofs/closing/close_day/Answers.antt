@@ -1,6 +1,6 @@
 use Rattle.std.proofs.Common.{length, sym, subst}
 use Rattle.pay_office.specs.Words.{answer_to}
-use Rattle.pay_session.specs.Events.{AreAnswered}
+use Rattle.pay_till.specs.Words.{AreAnswered}
 use Rattle.pay_lanes.specs.Words.{LaneParts}
 use Rattle.pay_serve.specs.Lanes.{AreAllWith}
 use Rattle.pay_serve.proofs.Going.{all_back, lanes_same}

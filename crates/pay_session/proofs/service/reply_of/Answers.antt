@@ -1,6 +1,6 @@
 use Rattle.std.proofs.Common.{ap}
 use Rattle.pay_session.proofs.PutCommands.{put_refused, put_replied, put_late, at_once}
-use Rattle.pay_session.specs.Serving.{MaySometimeRefuse, MaySometimeBeLate}
+use Rattle.pay_till.specs.Words.{MaySometimeRefuse, MaySometimeBeLate}
 use Rattle.pay_session.proofs.service.reply_of.Goals as goal
 
 pub returns-in-Err-clause-put : goal.returns-in-Err-clause-put

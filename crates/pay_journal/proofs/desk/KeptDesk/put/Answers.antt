@@ -1,4 +1,4 @@
-use Rattle.std.proofs.Common.{length, sym, ap, ◌∙◌, subst}
+use Rattle.std.proofs.Common.{length, refl, sym, ap, ◌∙◌, subst}
 use Rattle.pay_shard.specs.Words.{ShardParts, AreInPlace, AreBelow, IsHistory}
 use Rattle.pay_journal.proofs.KeptDesks.{all_put, all_left}
 use Rattle.pay_journal.proofs.desk.KeptDesk.put.Goals as goal
@@ -19,3 +19,6 @@ invariant_of-self-in-Err g c =
     let d = c.self.inside in
     all_left g.K.Keeper.HasFailed g.K.Keeper.holds d.began.value d.keeper c.put_and_keep.new.keeper d.first.value d.seen.value d.desk c.put_and_keep.new.desk d.stuck c.self.invariant c.if-self.false
     c.in-Err.fault c.args.command c.is_not_kept-self-inside.result c.in-Err.ensures.not_put c.is_not_kept-self-inside.ensures
+
+pub returns-in-Ok-clause-settled : goal.returns-in-Ok-clause-settled
+returns-in-Ok-clause-settled g c = λ quotes. (c.put_and_keep.new.keeper, c.in-Ok.ensures.settled quotes, refl)

@@ -3,7 +3,6 @@ use Rattle.pay_rules.specs.InTurn.{IsIn}
 use Rattle.pay_shard.specs.Words.{Standing, NothingIsLost, without}
 use Rattle.pay_shard.specs.declared.limits.TheConstants.{MOST_SHARDS}
 use Rattle.pay_lanes.specs.Parts.{LaneParts}
-use Rattle.pay_lanes.proofs.Same.{lane_then, lane_shards}
 use Rattle.pay_office.specs.Waits.{commands_sent, answer_to, tickets_of, IsUntoldOf}
 use Rattle.pay_office.specs.LaneDesks.{LaneDeskParts}
 use Rattle.pay_office.proofs.Waited.{stays, commands_stay, answers_stay, waiting_left, tickets_left, reply_told, none_told}
@@ -11,8 +10,8 @@ use Rattle.pay_office.proofs.desk.LaneDeskDesk.get.Goals as goal
 
 pub invariant_of-self : goal.invariant_of-self
 invariant_of-self g c =
-    let many = lane_shards c.self.inside.lane c.take_until.new.lane c.take_until.ensures.same in record {
-      same = lane_then c.self.inside.began.value c.self.inside.lane c.take_until.new.lane c.self.invariant.same c.take_until.ensures.same;
+    let many = c.same_lanes.ensures.shards c.self.inside.lane c.take_until.new.lane c.take_until.ensures.same in record {
+      same = c.same_lanes.ensures.then c.self.inside.began.value c.self.inside.lane c.take_until.new.lane c.self.invariant.same c.take_until.ensures.same;
       some = subst (λ n. 1 ≤ n) (sym many) c.self.invariant.some;
       few = subst (λ n. n ≤ MOST_SHARDS) (sym many) c.self.invariant.few;
       waits = waiting_left _ c.take_until.new.lane c.take_until.new.waiting.items c.take_out.new.waiting.items c.take_until.ensures.waiting c.take_out.ensures.rest;
@@ -20,8 +19,8 @@ invariant_of-self g c =
 
 pub invariant_of-self-2 : goal.invariant_of-self-2
 invariant_of-self-2 g c =
-    let many = lane_shards c.self.inside.lane c.take_until.new.lane c.take_until.ensures.same in record {
-      same = lane_then c.self.inside.began.value c.self.inside.lane c.take_until.new.lane c.self.invariant.same c.take_until.ensures.same;
+    let many = c.same_lanes.ensures.shards c.self.inside.lane c.take_until.new.lane c.take_until.ensures.same in record {
+      same = c.same_lanes.ensures.then c.self.inside.began.value c.self.inside.lane c.take_until.new.lane c.self.invariant.same c.take_until.ensures.same;
       some = subst (λ n. 1 ≤ n) (sym many) c.self.invariant.some;
       few = subst (λ n. n ≤ MOST_SHARDS) (sym many) c.self.invariant.few;
       waits = waiting_left _ c.take_until.new.lane c.take_until.new.waiting.items c.take_out.new.waiting.items c.take_until.ensures.waiting c.take_out.ensures.rest;
@@ -57,14 +56,14 @@ stands before now l kept left ticket is many same rest =
 pub returns-in_default-clause-got : goal.returns-in_default-clause-got
 returns-in_default-clause-got g c =
     stands (record { began = c.self.inside.began.value; lane = c.self.inside.lane; waiting = tickets_of c.self.inside.waiting.items }) c.args.self.now c.take_until.new.lane (tickets_of c.take_until.new.waiting.items) (tickets_of c.take_out.new.waiting.items) c.args.ticket
-    c.self.view_is (lane_shards c.self.inside.lane c.take_until.new.lane c.take_until.ensures.same) c.take_until.ensures.tickets
+    c.self.view_is (c.same_lanes.ensures.shards c.self.inside.lane c.take_until.new.lane c.take_until.ensures.same) c.take_until.ensures.tickets
     (ap tickets_of c.take_out.ensures.rest
     ∙ (tickets_left c.number-2.result c.take_until.new.waiting.items c.take_until.ensures.waiting.distinct ∙ ap (λ t. without t (tickets_of c.take_until.new.waiting.items)) c.number-2.ensures))
 
 pub returns-clause-got : goal.returns-clause-got
 returns-clause-got g c =
     stands (record { began = c.self.inside.began.value; lane = c.self.inside.lane; waiting = tickets_of c.self.inside.waiting.items }) c.args.self.now c.take_until.new.lane (tickets_of c.take_until.new.waiting.items) (tickets_of c.take_out.new.waiting.items) c.args.ticket
-    c.self.view_is (lane_shards c.self.inside.lane c.take_until.new.lane c.take_until.ensures.same) c.take_until.ensures.tickets
+    c.self.view_is (c.same_lanes.ensures.shards c.self.inside.lane c.take_until.new.lane c.take_until.ensures.same) c.take_until.ensures.tickets
     (ap tickets_of c.take_out.ensures.rest
     ∙ (tickets_left c.number-2.result c.take_until.new.waiting.items c.take_until.ensures.waiting.distinct ∙ ap (λ t. without t (tickets_of c.take_until.new.waiting.items)) c.number-2.ensures))
 

@@ -2,7 +2,6 @@ use Rattle.std.proofs.Common.{◌≤◌, ◌++◌, [], ◌∷◌, refl, sym, ap,
 use Rattle.pay_shard.specs.Words.{NothingIsLost, IsAfterAll, IsNoneOf}
 use Rattle.pay_shard.specs.declared.limits.TheConstants.{MOST_SHARDS}
 use Rattle.pay_lanes.specs.Parts.{LaneParts}
-use Rattle.pay_lanes.proofs.Same.{lane_then, lane_shards}
 use Rattle.pay_lanes.specs.Words.{all_sent}
 use Rattle.pay_office.specs.Waits.{commands_sent, answer_to, tickets_of}
 use Rattle.pay_office.specs.LaneDesks.{LaneDeskParts, MayRefuse, WasBusy}
@@ -47,9 +46,9 @@ returns-in-Err-clause-transcript g c =
 
 pub invariant_of-self-2 : goal.invariant_of-self-2
 invariant_of-self-2 g c =
-    let same = lane_then c.self.inside.lane c.take_all.new.lane c.send.new.self c.take_all.ensures.same c.in-Ok.ensures.same in
-    let many = lane_shards c.self.inside.lane c.send.new.self same in record {
-      same = lane_then c.self.inside.began.value c.self.inside.lane c.send.new.self c.self.invariant.same same;
+    let same = c.same_lanes.ensures.then c.self.inside.lane c.take_all.new.lane c.send.new.self c.take_all.ensures.same c.in-Ok.ensures.same in
+    let many = c.same_lanes.ensures.shards c.self.inside.lane c.send.new.self same in record {
+      same = c.same_lanes.ensures.then c.self.inside.began.value c.self.inside.lane c.send.new.self c.self.invariant.same same;
       some = subst (λ n. 1 ≤ n) (sym many) c.self.invariant.some;
       few = subst (λ n. n ≤ MOST_SHARDS) (sym many) c.self.invariant.few;
       waits =

@@ -3,8 +3,7 @@ ghost use Rattle.std.specs.Prelude.{◌≡◌, ◌≤◌, ℕ, List, [], Result,
 ghost use Rattle.pay_rules.specs.declared.posting.Posting.{Posting};
 ghost use Rattle.pay_day.specs.declared.limits.TheConstants.{FIRST_DAY, LAST_DAY};
 ghost use Rattle.pay_shard.specs.Words.{NothingIsLost};
-ghost use Rattle.pay_session.specs.Events.{Taken};
-ghost use Rattle.pay_session.specs.Serving.{IsClosedAt};
+ghost use Rattle.pay_till.specs.Words.{Taken, IsClosedAt};
 ghost use Rattle.pay_wire.specs.declared.refusal.Refusal.{Refusal};
 ghost use Rattle.pay_wire.specs.declared.refusal.Refusal.TheVariants.{NotHere};
 

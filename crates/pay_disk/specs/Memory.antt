@@ -7,4 +7,4 @@ use Rattle.sqlite_store.specs.declared.store.FileStore.{FileStore}
 
 -- what is written to such a file is returned, whatever came
 abbrev pub ReturnsAll : {D : Type 0} → disk.Ghosts D → Type 0
-ReturnsAll {D = D} g = (ledger : Held (FileStore D g)) → HasCleanDisk (file_state ledger)
+ReturnsAll {D = D} g = (database : Held (FileStore D g)) → HasCleanDisk (file_state database)

@@ -1,0 +1,3 @@
+pub mod Taken
+pub mod Closes
+pub mod Words
