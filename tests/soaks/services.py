@@ -70,11 +70,11 @@ def status_bytes(process, name):
 class Service:
     """A service that runs, and what keeps memory from it."""
 
-    def __init__(self, process, port, plan, planned, odds, journals):
+    def __init__(self, process, port, plan, planned, odds, journals, closes):
         # How many lines are planned, and the first bytes of a mapped file: one in how many allocations is refused.
         self.process, self.port, self.plan, self.planned, self.odds = process, port, plan, planned, odds
-        # The folder of its journals, or None.
-        self.journals = journals
+        # The folder of its journals, or None; and whether it has a ledger to close its day into.
+        self.journals, self.closes = journals, closes
         # What was held after each quarter of the lines that are planned.
         self.held = []
         # Whether a line may be refused for memory now, and whether a reply may be late.

@@ -140,8 +140,8 @@ def long_fare_files(folder):
     yield "a fare file in two pieces", *play(["run", through_a_pipe(folder, [text[:half], text[half:]]), LONDON], pairs)
     sample = read("sample.toml")
     ahead, bands_after = sample.split(b"band = [")
-    after = ahead + (b"# " + b"-" * 1021 + b"\n") * 3072 + b"band = [" + bands_after
-    yield "bands after 3 MiB, checked", run(["check", written(folder, "long", after)]), answers(COUNTED)
+    long = ahead + (b"# " + b"-" * 1021 + b"\n") * 3072 + b"band = [" + bands_after
+    yield "bands after 3 MiB, checked", run(["check", written(folder, "long", long)]), answers(COUNTED)
 
 
 def counted(places, bands, interchanges, holidays):

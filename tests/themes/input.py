@@ -59,7 +59,7 @@ def ends_of_input(folder):
     first, reply = boardings(1)
     path = written(folder, "two", b"QUIT\n" + first)
     yield "no input", run(RUN), answers(b"")
-    yield "a file from after its first line on", run_file(RUN, path, start=5), answers(reply)
+    yield "a file from its second line on", run_file(RUN, path, start=5), answers(reply)
     for rest, refusal in CUT_LINES:
         name, wanted = f"a last line of {len(rest):,} bytes without its end", answers(reply + refusal)
         yield name, run(RUN, first + rest), wanted
@@ -100,7 +100,7 @@ NOT_QUIT = (b"QUIT ", b" QUIT", b"quit", b"QUIT\r", b"QUIT\0", b"QUIT 1", b"QUIT
 
 
 @test
-def later_quit(folder):
+def after_quit(folder):
     """No line after QUIT is answered."""
     lines, replies = boardings(3_000)
     for name, rest in AFTER_QUIT.items():

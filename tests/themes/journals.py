@@ -34,8 +34,8 @@ def replayed(*paths, fares=FARES):
 
 def counted(lines, accounts, first, last, rest=0):
     """What a replay comes to of so many lines and accounts, from an instant to another."""
-    after = f" rest {rest}" if rest else ""
-    return answers(f"OK lines {lines} accounts {accounts} from {first} to {last}{after}\n".encode())
+    not_taken = f" rest {rest}" if rest else ""
+    return answers(f"OK lines {lines} accounts {accounts} from {first} to {last}{not_taken}\n".encode())
 
 
 def bytes_of(path):

@@ -90,7 +90,7 @@ def line_by_line(port, lines):
 
 @test
 def replies_with_room(folder):
-    """A session over a lane whose connection takes so many bytes and no more: these are heard, and no line after is taken."""
+    """A session over a lane whose connection takes so many bytes and no more: these are heard, and no line is taken after them."""
     library = preloaded(folder)
     taps, lines, replies = four_boardings(0)
     for room in range(len(replies) + 1):

@@ -406,34 +406,46 @@ def names_on_the_disk(folder):
 LATE = "NO 52 Late\n"
 
 
+def made_ledger(folder):
+    """A ledger that a service without taps has made: where files may not grow, one that is there can be opened."""
+    ledger = os.path.join(folder, "made")
+    with serving(1, 2, 1, more=with_both(new_folder(folder, "without"), ledger)) as (ran, port, said):
+        talk(port, b"QUIT\n")
+        ended(ran, said)
+    return ledger
+
+
 @test
 def full_journals(folder):
     """A journal that has no room for a line: its shard answers nothing any more, and the others go on; no day is closed, and all that was
     answered is there in the next service."""
-    journals, room = new_folder(folder), 2 * len(boarding(10)) + 4
-    # Account 14 is in shard 0, whose journal is full. Its lane waits some ten seconds for the reply, and the close as long.
+    room = 2 * len(boarding(10)) + 4
+    # Account 14 is in shard 0, whose journal is full. Its lane waits some ten seconds for the reply, and the close of a ledger as long.
     before, after = boarding(10) + boarding(12) + boarding(11) + boarding(14), "DUE 11 19730\n" + boarding(13) + "QUIT\n"
-    lines, full = before + after, f"farebox: cannot keep lines in {path_of(journals, 0)}\n".encode()
-    with serving(1, 2, 1, more=with_journals(journals), **limited_to(room)) as (ran, port, said), connected(port) as peer:
-        peer.sendall(before.encode())
-        wanted = 3 * "OK 19730 175 175\n" + LATE
-        yield "lines of a full journal", answers(heard(peer, len(wanted))), answers(wanted.encode())
-        said += heard(ran.stderr, len(full))
-        yield "what is said while the service goes on", answers(said), answers(listening(port, 1) + full)
-        peer.sendall(after.encode())
-        wanted = "DUE 11 19730 19730 1 175 4=175\n" + "OK 19730 175 175\nBYE\n"
-        yield "lines of the other journal", answers(heard(peer, len(wanted))), answers(wanted.encode())
-        left = texts(boarding(10) + boarding(12) + boarding(14)[:4], boarding(11) + boarding(13))
-        wanted = fault("journal fault", b"NO 34 NotHere\n")
-        wanted = wanted._replace(errors=listening(port, 1) + full + wanted.errors, left=left)
-        yield "how it ends", leaving(journals, ended(ran, said)), wanted
-    with serving(1, 2, 1, more=with_new_ledger(journals)) as (ran, port, said):
-        replies = talk(port, lines.encode())
-        wanted = 3 * "AGAIN 19730 175 175\n" + "OK 19730 175 175\nDUE 11 19730 19730 1 175 4=175\nAGAIN 19730 175 175\nBYE\n"
-        yield "the same lines in the next service", answers(replies), answers(wanted.encode())
-        left = texts(boarding(10) + boarding(12) + boarding(14), boarding(11) + boarding(13))
-        wanted = closed(port, 1, ("".join(map(paid, range(10, 15))) + done(5)).encode())._replace(left=left)
-        yield "how the next service ends", leaving(journals, ended(ran, said)), wanted
+    for name, has_ledger, refused in (("", False, b"NO 34 NotHere\n"), (", over a ledger", True, b"NO 44 DeskFault\n")):
+        journals = new_folder(folder, "closed" if has_ledger else "journals")
+        more = with_both(journals, made_ledger(folder)) if has_ledger else with_journals(journals)
+        full = f"farebox: cannot keep lines in {path_of(journals, 0)}\n".encode()
+        with serving(1, 2, 1, more=more, **limited_to(room)) as (ran, port, said), connected(port) as peer:
+            peer.sendall(before.encode())
+            wanted = 3 * "OK 19730 175 175\n" + LATE
+            yield f"lines of a full journal{name}", answers(heard(peer, len(wanted))), answers(wanted.encode())
+            said += heard(ran.stderr, len(full))
+            yield f"what is said while the service goes on{name}", answers(said), answers(listening(port, 1) + full)
+            peer.sendall(after.encode())
+            wanted = "DUE 11 19730 19730 1 175 4=175\n" + "OK 19730 175 175\nBYE\n"
+            yield f"lines of the other journal{name}", answers(heard(peer, len(wanted))), answers(wanted.encode())
+            left = texts(boarding(10) + boarding(12) + boarding(14)[:4], boarding(11) + boarding(13))
+            wanted = fault("journal fault", refused)
+            wanted = wanted._replace(errors=listening(port, 1) + full + wanted.errors, left=left)
+            yield f"how it ends{name}", leaving(journals, ended(ran, said)), wanted
+        with serving(1, 2, 1, more=with_new_ledger(journals)) as (ran, port, said):
+            replies = talk(port, (before + after).encode())
+            wanted = 3 * "AGAIN 19730 175 175\n" + "OK 19730 175 175\nDUE 11 19730 19730 1 175 4=175\nAGAIN 19730 175 175\nBYE\n"
+            yield f"the same lines in the next service{name}", answers(replies), answers(wanted.encode())
+            left = texts(boarding(10) + boarding(12) + boarding(14), boarding(11) + boarding(13))
+            wanted = closed(port, 1, ("".join(map(paid, range(10, 15))) + done(5)).encode())._replace(left=left)
+            yield f"how the next service ends{name}", leaving(journals, ended(ran, said)), wanted
 
 
 def served(journals, ledger, lines, close=MONDAY, shards=2):
