@@ -84,9 +84,9 @@ where
     requires day { IsDay words.now.close }
 {
     let keepers = no_keepers(rt.alloc(), words.shards)?;
-    let FaresAndZone { tables, zone } = begin_service(rt.alloc(), fares, words.zone)?;
+    let FaresAndZone { editions, zone } = begin_service(rt.alloc(), fares, words.zone)?;
     let given = Given {
-        tables,
+        editions,
         zone,
         plan: plan_of(words),
         texts: &[],
@@ -129,9 +129,9 @@ where
         keepers,
         others: _held,
     } = journals;
-    let FaresAndZone { tables, zone } = begin_service(rt.alloc(), fares, words.zone)?;
+    let FaresAndZone { editions, zone } = begin_service(rt.alloc(), fares, words.zone)?;
     let given = Given {
-        tables,
+        editions,
         zone,
         plan: plan_of(words),
         texts: texts.as_slice(),

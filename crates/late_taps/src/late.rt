@@ -5,9 +5,9 @@ ghost use Rattle.pay_book.specs.History.{account_of};
 use crate::commands::{Asked, Failed, Shape, early_command, late_command};
 use pay_account::Account;
 use pay_book::{Book, Sent};
-use pay_fare_file::read_tables;
+use pay_fare_file::read_editions;
 use pay_rules::Fares;
-use pay_tables::Tables;
+use pay_tables::Editions;
 use std::rt::{Clock, Env, Files};
 use std::time::{Duration, Instant};
 use std::{env, fs};
@@ -40,15 +40,15 @@ struct Measured {
 }
 
 /// The week's price after a command, in pence.
-fn week_price<F: Fares>(account: &mut F, tables: &Tables, sent: &Sent) -> Result<u64, Failed>
+fn week_price<F: Fares>(account: &mut F, editions: &Editions, sent: &Sent) -> Result<u64, Failed>
     requires own { account_of sent.now ≡ F.account account.old }
-    requires priced_by { F.IsPricedBy tables.now account.old }
+    requires priced_by { F.IsPricedBy editions.now account.old }
     ensures own { F.account account.new ≡ F.account account.old }
-    ensures priced_by { F.IsPricedBy tables.now account.new }
+    ensures priced_by { F.IsPricedBy editions.now account.new }
 {
     let priced = match sent {
-        Sent::Tap(tap) => account.tap(tables, *tap).map_err(|_| Failed),
-        Sent::Fix(fix) => account.fix(tables, *fix).map_err(|_| Failed),
+        Sent::Tap(tap) => account.tap(editions, *tap).map_err(|_| Failed),
+        Sent::Fix(fix) => account.fix(editions, *fix).map_err(|_| Failed),
     };
     Ok(priced?.week_price.pence())
 }
@@ -56,19 +56,19 @@ fn week_price<F: Fares>(account: &mut F, tables: &Tables, sent: &Sent) -> Result
 /// Sends all commands to a new account.
 fn price_all<F: Fares + Counted, R: Clock + AllocGlobal>(
     rt: &R,
-    tables: &Tables,
+    editions: &Editions,
     asked: &Asked,
 ) -> Result<Measured, Failed> {
     let mut account: F = Fares::new(rt.alloc(), 7);
     let (mut sum, mut most_steps, mut all_steps) = (0_u64, 0_u64, 0_u64);
     for number in 0..asked.early() {
         let command = early_command(asked, number)?;
-        sum = sum.wrapping_add(week_price(&mut account, tables, &command)?);
+        sum = sum.wrapping_add(week_price(&mut account, editions, &command)?);
     }
     let began = Instant::now(rt).map_err(|_| Failed)?;
     for number in 0..asked.late {
         let command = late_command(asked, number)?;
-        sum = sum.wrapping_add(week_price(&mut account, tables, &command)?);
+        sum = sum.wrapping_add(week_price(&mut account, editions, &command)?);
         let steps = account.taps_read();
         most_steps = most_steps.max(steps);
         all_steps = all_steps.saturating_add(steps);
@@ -85,13 +85,13 @@ fn price_all<F: Fares + Counted, R: Clock + AllocGlobal>(
 /// The fastest of some rounds, at least one.
 fn fastest<F: Fares + Counted, R: Clock + AllocGlobal>(
     rt: &R,
-    tables: &Tables,
+    editions: &Editions,
     asked: &Asked,
     rounds: u32,
 ) -> Result<Measured, Failed> {
-    let mut best = price_all::<F, R>(rt, tables, asked)?;
+    let mut best = price_all::<F, R>(rt, editions, asked)?;
     for _ in 1..rounds {
-        let next = price_all::<F, R>(rt, tables, asked)?;
+        let next = price_all::<F, R>(rt, editions, asked)?;
         if next.late < best.late {
             best = next;
         }
@@ -136,11 +136,11 @@ pub fn execute<R: Env + Files + Clock + Print + Eprint + AllocGlobal>(
     };
     let rounds = number(&words, 5)?;
     let text = fs::read_to_string(rt, word(&words, 6)?).map_err(|_| Failed)?;
-    let tables = read_tables(rt.alloc(), text.as_str()).map_err(|_| Failed)?;
+    let editions = read_editions(rt.alloc(), text.as_str()).map_err(|_| Failed)?;
     let best = if word(&words, 1)? == "book" {
-        fastest::<Book, R>(rt, &tables, &asked, rounds)?
+        fastest::<Book, R>(rt, &editions, &asked, rounds)?
     } else {
-        fastest::<Account, R>(rt, &tables, &asked, rounds)?
+        fastest::<Account, R>(rt, &editions, &asked, rounds)?
     };
     let (sum, took) = (best.sum, best.late.as_nanos());
     println!(rt; "{sum}").map_err(|_| Failed)?;

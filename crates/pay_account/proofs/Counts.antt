@@ -5,7 +5,7 @@ use Rattle.std.proofs.lemmas.List.Filters.{length-filter_both}
 use Rattle.std.proofs.lemmas.Slice.Zip.{length-zip}
 use Rattle.std.proofs.lemmas.List.{length-map}
 use Rattle.pay_rules.specs.declared.tap.Touch.{Touch}
-use Rattle.pay_tables.specs.Words.{FareTables}
+use Rattle.pay_tables.specs.Words.{FareEditions, FareTables}
 use Rattle.pay_rules.specs.declared.parts.Leg.{Leg}
 use Rattle.pay_rules.specs.declared.parts.RailPart.{RailPart}
 use Rattle.pay_rules.specs.Legs.{taps_of}
@@ -56,8 +56,8 @@ pub both_kinds : (touches : List Touch) → length (filter is_rail touches) + le
 both_kinds touches = omega (arith, length-filter_both is_bus (λ t. not (is_bus t)) (λ _. refl) touches)
 
 -- and so all journeys are no more than the touches
-pub few_in_all : (tables : FareTables) (touches : List Touch) (list rail : List Journey) → list ≡ rail ++ boardings tables touches → length rail ≤ length (filter is_rail touches)
+pub few_in_all : (editions : FareEditions) (touches : List Touch) (list rail : List Journey) → list ≡ rail ++ boardings editions touches → length rail ≤ length (filter is_rail touches)
     → length list ≤ length touches
-few_in_all tables touches list rail all few =
+few_in_all editions touches list rail all few =
     let buses = filter is_bus touches in
-    omega (arith, ap length all, length-append rail (boardings tables touches), few_boardings buses (paying_marks tables.rules.hopper (instants_of buses)), few, both_kinds touches)
+    omega (arith, ap length all, length-append rail (boardings editions touches), few_boardings buses (paying_marks editions.own.rules.hopper (instants_of buses)), few, both_kinds touches)

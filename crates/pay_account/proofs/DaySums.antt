@@ -4,10 +4,10 @@ use Rattle.std.specs.List.{range_with_len}
 use Rattle.std.proofs.lemmas.Bool.Decides.{nat_tests}
 use Rattle.std.proofs.lemmas.List.Sums.{sum_by-cons}
 use Rattle.pay_day.specs.Words.{monday}
-use Rattle.pay_tables.specs.Words.{FareTables}
+use Rattle.pay_tables.specs.Words.{FareEditions, on}
 use Rattle.pay_rules.specs.declared.journey.Journey.{Journey}
 use Rattle.pay_rules.specs.RailJourneys.{first_tap}
-use Rattle.pay_rules.specs.JourneyFares.{fare}
+use Rattle.pay_rules.specs.JourneyFares.{fare, fare_by}
 use Rattle.pay_week.specs.Words.{cells_of, total}
 use Rattle.pay_rules.specs.DayPrices.{fares}
 use Rattle.pay_rules.specs.Journeys.{is_on}
@@ -105,19 +105,40 @@ week_by_days f list through some =
     ∙ ap (sum_by f) (same_filter (λ journey. among (monday through) (through + 1 - monday through) (day_of journey)) (is_within (monday through) through)
     (λ journey. let day = day_of journey in same_test (monday through) through day (nat_le (monday through) day) (nat_lt day (monday through + (through + 1 - monday through))) (nat_le day through) some refl refl refl) list)
 
-totals : (tables : FareTables) → ((list : List Journey) → total (cells_of tables list) ≡ fares tables list) → (list : List Journey) (days : List ℕ)
-    → sum_by total (map (cells_of tables) (map (journeys_on list) days)) ≡ sum_by (λ (day : ℕ). fares tables (journeys_on list day)) days
-totals tables all list [] = refl
-totals tables all list (day ∷ days) =
+-- the journeys of a day cost what they cost by its edition
+pub fares_on : (editions : FareEditions) (list : List Journey) (day : ℕ) → sum_by (fare_by editions) (journeys_on list day) ≡ fares (on editions day) (journeys_on list day)
+fares_on editions [] day = refl
+fares_on editions (journey ∷ list) day = with_or_without (is_on day journey) refl (fares_on editions list day)
+  where
+    its : (a b : ℕ) → (a == b) ≡ true → a ≡ b
+    its a b e = grind (arith, nat_tests)
+
+    with_or_without : (b : Bool) → is_on day journey ≡ b → sum_by (fare_by editions) (journeys_on list day) ≡ fares (on editions day) (journeys_on list day)
+        → sum_by (fare_by editions) (if b then journey ∷ journeys_on list day else journeys_on list day) ≡ fares (on editions day) (if b then journey ∷ journeys_on list day else journeys_on list day)
+    with_or_without true e rest =
+        omega (
+          arith,
+          sum_by-cons (fare_by editions) journey (journeys_on list day),
+          sum_by-cons (fare (on editions day)) journey (journeys_on list day),
+          ap (λ (other : ℕ). fare (on editions other) journey) (its (day_of journey) day e),
+          rest,
+        )
+    with_or_without false e rest = rest
+
+totals : (editions : FareEditions) → ((day : ℕ) (list : List Journey) → total (cells_of (on editions day) list) ≡ fares (on editions day) list) → (list : List Journey) (days : List ℕ)
+    → sum_by total (map (λ (each : ℕ). cells_of (on editions each) (journeys_on list each)) days) ≡ sum_by (λ (day : ℕ). sum_by (fare_by editions) (journeys_on list day)) days
+totals editions all list [] = refl
+totals editions all list (day ∷ days) =
     omega (
       arith,
-      sum_by-cons total (cells_of tables (journeys_on list day)) (map (cells_of tables) (map (journeys_on list) days)),
-      sum_by-cons (λ (each : ℕ). fares tables (journeys_on list each)) day days,
-      all (journeys_on list day),
-      totals tables all list days,
+      sum_by-cons total (cells_of (on editions day) (journeys_on list day)) (map (λ (each : ℕ). cells_of (on editions each) (journeys_on list each)) days),
+      sum_by-cons (λ (each : ℕ). sum_by (fare_by editions) (journeys_on list each)) day days,
+      all day (journeys_on list day),
+      fares_on editions list day,
+      totals editions all list days,
     )
 
 -- and so are the totals of the sums of these days
-pub total_through : (tables : FareTables) → ((list : List Journey) → total (cells_of tables list) ≡ fares tables list) → (list : List Journey) (through : ℕ) → monday through ≤ through
-    → sum_by total (map (cells_of tables) (map (journeys_on list) (days_through through))) ≡ sum_by (fare tables) (journeys_through list through)
-total_through tables all list through some = totals tables all list (days_through through) ∙ week_by_days (fare tables) list through some
+pub total_through : (editions : FareEditions) → ((day : ℕ) (list : List Journey) → total (cells_of (on editions day) list) ≡ fares (on editions day) list) → (list : List Journey) (through : ℕ) → monday through ≤ through
+    → sum_by total (map (λ (each : ℕ). cells_of (on editions each) (journeys_on list each)) (days_through through)) ≡ sum_by (fare_by editions) (journeys_through list through)
+total_through editions all list through some = totals editions all list (days_through through) ∙ week_by_days (fare_by editions) list through some

@@ -1,45 +1,58 @@
 -- The lines of a week's journeys, by the bands of its days.
-use Rattle.std.proofs.Common.{◌≡◌, ℕ, ◌+◌, ◌-◌, ◌<◌, ◌&&◌, nat_le, nat_lt, Bool, true, false, if◌then◌else◌, Option, None, List, [], ◌∷◌, length, get_or, slice_set, map, filter, refl, ap, sym, ◌∙◌, subst, arith}
-use Rattle.std.specs.List.{range_with_len, AllByRecursion}
+use Rattle.std.proofs.Common.{◌≡◌, ℕ, ◌+◌, ◌-◌, ◌<◌, ◌&&◌, nat_le, nat_lt, suc, Bool, true, false, if◌then◌else◌, Option, None, List, [], ◌∷◌, length, get_or, slice_set, map, filter, refl, ap, sym, ◌∙◌, subst, arith}
+use Rattle.std.specs.List.{range_with_len, zip, AllByRecursion}
 use Rattle.std.proofs.lemmas.Bool.Decides.{nat_tests}
-use Rattle.std.proofs.lemmas.List.{get_or-map, get_or_default, ext_get_or, length-map}
+use Rattle.std.proofs.lemmas.List.{get_or_default}
 use Rattle.std.proofs.lemmas.List.Edits.{fill_by_more}
 use Rattle.std.proofs.lemmas.List.FromFn.{get_or-map-range_with_len}
 use Rattle.pay_day.specs.Words.{IsDay, monday, sunday}
 use Rattle.pay_day.specs.declared.limits.TheConstants.{DAYS_PER_WEEK}
-use Rattle.pay_tables.specs.Words.{FareTables}
+use Rattle.pay_tables.specs.Words.{FareEditions, on}
 use Rattle.pay_rules.specs.declared.tap.Touch.{Touch}
 use Rattle.pay_rules.specs.Order.{comes_before, put_in_by, in_order_by}
 use Rattle.pay_rules.specs.declared.journey.Journey.{Journey}
 use Rattle.pay_rules.specs.RailJourneys.{first_tap}
-use Rattle.pay_week.specs.Words.{CellSums, cells_of, capped_price_of}
+use Rattle.pay_week.specs.Words.{CellSums, DaySums, cells_of, capped_price_of, sums_of_days}
 use Rattle.pay_rules.specs.DayPrices.{capped_price}
-use Rattle.pay_rules.specs.Prices.{days_through, is_within, journeys_on}
+use Rattle.pay_rules.specs.Prices.{days_through, is_within, journeys_on, with_journeys}
 use Rattle.pay_rules.specs.Lines.{line_of_journey, line_among, lines_of_week}
 use Rattle.pay_account.specs.WeekBands.{line_by_bands}
 use Rattle.pay_account.proofs.WeekCells.{days_of_week}
 
--- the bands of days, one by one, are those of the sums of their fares
-pub of_each : (f : CellSums → Option ℕ) (week : List CellSums) (bands : List (Option ℕ)) (none : CellSums) → length bands ≡ length week
-    → ((k : ℕ) → k < length week → get_or bands k None ≡ f (get_or week k none)) → bands ≡ map f week
-of_each f week bands none long each =
-    ext_get_or None bands (map f week) (long ∙ sym (length-map week f)) (λ k below. each k (omega (arith, below, long)) ∙ sym (get_or-map f week k none None (omega (arith, below, long))))
+-- the bands of days, one by one, are those of the days and the sums of their fares
+pub of_each : (f : DaySums → Option ℕ) (first : ℕ) (week : List CellSums) (bands : List (Option ℕ)) (none : CellSums) → length bands ≡ length week
+    → ((k : ℕ) → k < length week → get_or bands k None ≡ f (first + k, get_or week k none)) → bands ≡ map f (zip (range_with_len first (length week)) week)
+of_each f first [] [] none long each = refl
+of_each f first [] (band ∷ bands) none long each = absurd (omega (arith, long))
+of_each f first (sums ∷ week) [] none long each = absurd (omega (arith, long))
+of_each f first (sums ∷ week) (band ∷ bands) none long each =
+    let here : first + 0 ≡ first = omega arith in
+    ap (λ (one : Option ℕ). one ∷ bands) (each 0 (omega arith) ∙ ap (λ (day : ℕ). f (day, sums)) here)
+    ∙ ap (λ (rest : List (Option ℕ)). f (first, sums) ∷ rest)
+    (of_each f (first + 1) week bands none (omega (arith, long)) (λ k below.
+    let further : first + suc k ≡ first + 1 + k = omega arith in
+    each (suc k) (omega (arith, below)) ∙ ap (λ (day : ℕ). f (day, get_or week k none)) further))
 
 -- one more of them
-pub one_band_more : (f : CellSums → Option ℕ) (week : List CellSums) (bands : List (Option ℕ)) (place : ℕ) (band : Option ℕ) (none it : CellSums) → length bands ≡ length week → place < length week
-    → band ≡ f (get_or week place it) → ((k : ℕ) → k < place → get_or bands k None ≡ f (get_or week k none)) → (k : ℕ) → k < place + 1 → get_or (slice_set bands place band) k None ≡ f (get_or week k none)
-one_band_more f week bands place band none it long below is before =
-    let its : band ≡ f (get_or week place none) = is ∙ ap f (get_or_default week place it none below) in
-    subst (λ (one : Option ℕ). (k : ℕ) → k < place + 1 → get_or (slice_set bands place one) k None ≡ f (get_or week k none)) (sym its)
-    (fill_by_more (λ k. f (get_or week k none)) bands place None (omega (arith, long, below)) before)
+pub one_band_more : (f : DaySums → Option ℕ) (first : ℕ) (week : List CellSums) (bands : List (Option ℕ)) (place : ℕ) (band : Option ℕ) (none it : CellSums) → length bands ≡ length week → place < length week
+    → band ≡ f (first + place, get_or week place it) → ((k : ℕ) → k < place → get_or bands k None ≡ f (first + k, get_or week k none)) → (k : ℕ) → k < place + 1
+    → get_or (slice_set bands place band) k None ≡ f (first + k, get_or week k none)
+one_band_more f first week bands place band none it long below is before =
+    let its : band ≡ f (first + place, get_or week place none) = is ∙ ap (λ (sums : CellSums). f (first + place, sums)) (get_or_default week place it none below) in
+    subst (λ (one : Option ℕ). (k : ℕ) → k < place + 1 → get_or (slice_set bands place one) k None ≡ f (first + k, get_or week k none)) (sym its)
+    (fill_by_more (λ k. f (first + k, get_or week k none)) bands place None (omega (arith, long, below)) before)
+
+-- the band of a day by the sums of its fares
+abbrev pub band_of_sums : FareEditions → DaySums → Option ℕ
+band_of_sums editions one = (capped_price_of (on editions one.0) one.1).1
 
 -- and those of their journeys
-pub of_journeys : (tables : FareTables) → ((list : List Journey) → capped_price_of tables (cells_of tables list) ≡ capped_price tables list) → (list : List Journey) (days : List ℕ)
-    → map (λ sums. (capped_price_of tables sums).1) (map (λ each. cells_of tables (journeys_on list each)) days) ≡ map (λ each. (capped_price tables (journeys_on list each)).1) days
-of_journeys tables same list [] = refl
-of_journeys tables same list (day ∷ days) =
-    ap (λ (band : Option ℕ). band ∷ map (λ sums. (capped_price_of tables sums).1) (map (λ each. cells_of tables (journeys_on list each)) days)) (ap (λ offer. offer.1) (same (journeys_on list day)))
-    ∙ ap (λ (rest : List (Option ℕ)). (capped_price tables (journeys_on list day)).1 ∷ rest) (of_journeys tables same list days)
+pub of_journeys : (editions : FareEditions) → ((day : ℕ) (list : List Journey) → capped_price_of (on editions day) (cells_of (on editions day) list) ≡ capped_price (on editions day) list) → (list : List Journey) (days : List ℕ)
+    → map (band_of_sums editions) (sums_of_days editions (map (with_journeys list) days)) ≡ map (λ each. (capped_price (on editions each) (journeys_on list each)).1) days
+of_journeys editions same list [] = refl
+of_journeys editions same list (day ∷ days) =
+    ap (λ (band : Option ℕ). band ∷ map (band_of_sums editions) (sums_of_days editions (map (with_journeys list) days))) (ap (λ offer. offer.1) (same day (journeys_on list day)))
+    ∙ ap (λ (rest : List (Option ℕ)). (capped_price (on editions day) (journeys_on list day)).1 ∷ rest) (of_journeys editions same list days)
 
 -- ---- what is true of each of some is true of each of them in order
 
@@ -77,17 +90,17 @@ of_its_day f from day true false c p q r is = absurd (cc)
 of_its_day f from day false b c p q r is = absurd (cc)
 
 -- the lines by the bands of the days, from Monday through Sunday, are those of the week
-pub by_own_bands : (tables : FareTables) (list : List Journey) (week : ℕ) (bands : List (Option ℕ)) → IsDay week → monday week ≡ week
-    → bands ≡ map (λ each. (capped_price tables (journeys_on list each)).1) (days_through (sunday week))
-    → map (line_by_bands tables bands week) (in_order_by first_tap (filter (is_within week (week + (DAYS_PER_WEEK - 1))) list)) ≡ lines_of_week tables list week
-by_own_bands tables list week bands is_day is_monday are =
-    let f : ℕ → Option ℕ = λ each. (capped_price tables (journeys_on list each)).1 in
+pub by_own_bands : (editions : FareEditions) (list : List Journey) (week : ℕ) (bands : List (Option ℕ)) → IsDay week → monday week ≡ week
+    → bands ≡ map (λ each. (capped_price (on editions each) (journeys_on list each)).1) (days_through (sunday week))
+    → map (line_by_bands editions bands week) (in_order_by first_tap (filter (is_within week (week + (DAYS_PER_WEEK - 1))) list)) ≡ lines_of_week editions list week
+by_own_bands editions list week bands is_day is_monday are =
+    let f : ℕ → Option ℕ = λ each. (capped_price (on editions each) (journeys_on list each)).1 in
     let its : List Journey = in_order_by first_tap (filter (is_within week (week + (DAYS_PER_WEEK - 1))) list) in
     let seven : bands ≡ map f (range_with_len week DAYS_PER_WEEK) = are ∙ ap (map f) (days_of_week week is_day) ∙ ap (λ (from : ℕ). map f (range_with_len from DAYS_PER_WEEK)) is_monday in
-    ap (λ those. map (line_by_bands tables those week) its) seven
-    ∙ map_alike (λ journey. is_within week (week + (DAYS_PER_WEEK - 1)) journey ≡ true) (line_by_bands tables (map f (range_with_len week DAYS_PER_WEEK)) week) (line_among tables list)
+    ap (λ those. map (line_by_bands editions those week) its) seven
+    ∙ map_alike (λ journey. is_within week (week + (DAYS_PER_WEEK - 1)) journey ≡ true) (line_by_bands editions (map f (range_with_len week DAYS_PER_WEEK)) week) (line_among editions list)
     (λ journey is. let day = (first_tap journey).stamp.day in
-    ap (λ band. line_of_journey tables band journey)
+    ap (λ band. line_of_journey (on editions day) band journey)
     (of_its_day f week day (nat_le week day) (nat_le day (week + (DAYS_PER_WEEK - 1))) (nat_lt (day - week) DAYS_PER_WEEK) refl refl refl is)) its
     (in_order_all (λ journey. is_within week (week + (DAYS_PER_WEEK - 1)) journey ≡ true) first_tap (filter (is_within week (week + (DAYS_PER_WEEK - 1))) list) (kept (is_within week (week + (DAYS_PER_WEEK - 1))) list))
-    ∙ ap (λ (from : ℕ). map (line_among tables list) (in_order_by first_tap (filter (is_within week (from + (DAYS_PER_WEEK - 1))) list))) (sym is_monday)
+    ∙ ap (λ (from : ℕ). map (line_among editions list) (in_order_by first_tap (filter (is_within week (from + (DAYS_PER_WEEK - 1))) list))) (sym is_monday)

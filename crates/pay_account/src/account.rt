@@ -24,7 +24,7 @@ use pay_rules::{
     What,
 };
 use pay_shares::shares;
-use pay_tables::Tables;
+use pay_tables::Editions;
 use pay_taps::TapSet;
 use pay_week::due;
 use std::alloc::{AllocError, Global};
@@ -79,12 +79,12 @@ impl Account {
     }
 
     /// What comes of a tap where memory suffices: it is to be accepted, it is a repeat, or it is refused.
-    pub fn judge_tap(&self, tables: &Tables, tap: &Tap) -> Result<Addition, TapFault>
+    pub fn judge_tap(&self, editions: &Editions, tap: &Tap) -> Result<Addition, TapFault>
         ensures judged { IfOk result (λ it. judged self.now.1.taps tap.now ≡ Ok it) }
-        ensures priced { IfOk result (λ it. tap_result tables.now self.now.1 tap.now ≡ tap_added tables.now self.now.1 tap.now (Ok it)) }
-        ensures refused { IfErr result (λ fault. tap_result tables.now self.now.1 tap.now ≡ Err fault) }
+        ensures priced { IfOk result (λ it. tap_result editions.now self.now.1 tap.now ≡ tap_added editions.now self.now.1 tap.now (Ok it)) }
+        ensures refused { IfErr result (λ fault. tap_result editions.now self.now.1 tap.now ≡ Err fault) }
     {
-        if !is_known(tables, tap.place, tap.kind) {
+        if !is_known(editions, tap.place, tap.kind) {
             return Err(TapFault::UnknownPlace);
         }
         Ok(self.taps.judge(tap)?)
@@ -107,12 +107,12 @@ impl Account {
     }
 
     /// What comes of a correction where memory suffices.
-    pub fn judge_fix(&self, tables: &Tables, fix: &Fix) -> Result<Addition, FixFault>
+    pub fn judge_fix(&self, editions: &Editions, fix: &Fix) -> Result<Addition, FixFault>
         ensures judged { IfOk result (λ it. judged_fix self.now.1.fixes fix.now ≡ Ok it) }
-        ensures priced { IfOk result (λ it. fix_result tables.now self.now.1 fix.now ≡ fix_added tables.now self.now.1 fix.now (Ok it)) }
-        ensures refused { IfErr result (λ fault. fix_result tables.now self.now.1 fix.now ≡ Err fault) }
+        ensures priced { IfOk result (λ it. fix_result editions.now self.now.1 fix.now ≡ fix_added editions.now self.now.1 fix.now (Ok it)) }
+        ensures refused { IfErr result (λ fault. fix_result editions.now self.now.1 fix.now ≡ Err fault) }
     {
-        if !is_known_fix(tables, &fix.what) {
+        if !is_known_fix(editions, &fix.what) {
             return Err(FixFault::UnknownPlace);
         }
         Ok(self.fixes.judge(fix)?)
@@ -135,20 +135,25 @@ impl Account {
     }
 
     /// The prices of a day and its week.
-    fn price(&self, tables: &Tables, again: bool, day: u32) -> Result<Priced, AllocError>
+    fn price(&self, editions: &Editions, again: bool, day: u32) -> Result<Priced, AllocError>
         requires { IsDay day }
-        ensures { IfOk result (λ p. p ≡ prices tables.now self.now.1 again day) }
+        ensures { IfOk result (λ p. p ≡ prices editions.now self.now.1 again day) }
     {
         let touches = effective(self.alloc, &self.taps, &self.fixes)?;
-        price(self.alloc, tables, &touches, again, day)
+        price(self.alloc, editions, &touches, again, day)
     }
 
     /// The prices of the day that a correction names.
-    fn price_named(&self, tables: &Tables, again: bool, what: &What) -> Result<Priced, AllocError>
-        ensures { IfOk result (λ p. p ≡ prices_named tables.now self.now.1 again what.now) }
+    fn price_named(
+        &self,
+        editions: &Editions,
+        again: bool,
+        what: &What,
+    ) -> Result<Priced, AllocError>
+        ensures { IfOk result (λ p. p ≡ prices_named editions.now self.now.1 again what.now) }
     {
         match day_named(&self.taps, &self.fixes, what) {
-            Some(day) => self.price(tables, again, day),
+            Some(day) => self.price(editions, again, day),
             None => Ok(Priced {
                 again,
                 day: 0,
@@ -166,7 +171,7 @@ impl Fares for Account {
 
     ghost accepted = { λ a. a.1 };
 
-    ghost IsPricedBy = { λ tables a. ⊤ };
+    ghost IsPricedBy = { λ editions a. ⊤ };
 
     fn new(alloc: Global, number: u32) -> Account {
         Account {
@@ -181,15 +186,15 @@ impl Fares for Account {
         self.number
     }
 
-    fn tap(&mut self, tables: &Tables, tap: Tap) -> Result<Priced, TapFault> {
-        if !is_known(tables, tap.place, tap.kind) {
+    fn tap(&mut self, editions: &Editions, tap: Tap) -> Result<Priced, TapFault> {
+        if !is_known(editions, tap.place, tap.kind) {
             return Err(TapFault::UnknownPlace);
         }
         pay_rule_laws::sets::judgements::<Tap>();
         pay_rule_laws::sets::one_more::<Tap>();
         match self.taps.add(tap)? {
-            Addition::Repeat => Ok(self.price(tables, true, tap.stamp.day())?),
-            Addition::Added => match self.price(tables, false, tap.stamp.day()) {
+            Addition::Repeat => Ok(self.price(editions, true, tap.stamp.day())?),
+            Addition::Added => match self.price(editions, false, tap.stamp.day()) {
                 Ok(priced) => Ok(priced),
                 Err(_) => {
                     self.taps.remove(tap.number());
@@ -199,15 +204,15 @@ impl Fares for Account {
         }
     }
 
-    fn fix(&mut self, tables: &Tables, fix: Fix) -> Result<Priced, FixFault> {
-        if !is_known_fix(tables, &fix.what) {
+    fn fix(&mut self, editions: &Editions, fix: Fix) -> Result<Priced, FixFault> {
+        if !is_known_fix(editions, &fix.what) {
             return Err(FixFault::UnknownPlace);
         }
         pay_rule_laws::sets::judgements::<Fix>();
         pay_rule_laws::sets::one_more::<Fix>();
         match self.fixes.add(fix)? {
-            Addition::Repeat => Ok(self.price_named(tables, true, &fix.what)?),
-            Addition::Added => match self.price_named(tables, false, &fix.what) {
+            Addition::Repeat => Ok(self.price_named(editions, true, &fix.what)?),
+            Addition::Added => match self.price_named(editions, false, &fix.what) {
                 Ok(priced) => Ok(priced),
                 Err(_) => {
                     self.fixes.remove(fix.number());
@@ -217,11 +222,11 @@ impl Fares for Account {
         }
     }
 
-    fn show(&self, tables: &Tables, day: u32) -> Result<Shown, AllocError> {
+    fn show(&self, editions: &Editions, day: u32) -> Result<Shown, AllocError> {
         let touches = effective(self.alloc, &self.taps, &self.fixes)?;
-        let journeys = journeys_of(self.alloc, tables, &touches)?;
-        let (day_price, band) = price_on(tables, &journeys, day);
-        let lines = lines_on(self.alloc, tables, journeys, day, band)?;
+        let journeys = journeys_of(self.alloc, editions, &touches)?;
+        let (day_price, band) = price_on(editions, &journeys, day);
+        let lines = lines_on(self.alloc, editions, journeys, day, band)?;
         Ok(Shown {
             account: self.number,
             day,
@@ -230,15 +235,15 @@ impl Fares for Account {
         })
     }
 
-    fn quote(&self, tables: &Tables, through: u32) -> Result<Quote, AllocError> {
+    fn quote(&self, editions: &Editions, through: u32) -> Result<Quote, AllocError> {
         let touches = effective(self.alloc, &self.taps, &self.fixes)?;
-        let journeys = journeys_of(self.alloc, tables, &touches)?;
+        let journeys = journeys_of(self.alloc, editions, &touches)?;
         let week = monday(through);
         let due = due(
-            price_through(tables, &journeys, through),
+            price_through(editions, &journeys, through),
             credits(&self.fixes, week, through),
         );
-        let weights = weights_through(self.alloc, tables, journeys, through)?;
+        let weights = weights_through(self.alloc, editions, journeys, through)?;
         Ok(quote_of(
             self.number,
             week,
@@ -249,10 +254,10 @@ impl Fares for Account {
         ))
     }
 
-    fn lines(&self, tables: &Tables, week: u32) -> Result<Lines, AllocError> {
+    fn lines(&self, editions: &Editions, week: u32) -> Result<Lines, AllocError> {
         let touches = effective(self.alloc, &self.taps, &self.fixes)?;
-        let journeys = journeys_of(self.alloc, tables, &touches)?;
-        lines_of_week(self.alloc, tables, journeys, week)
+        let journeys = journeys_of(self.alloc, editions, &touches)?;
+        lines_of_week(self.alloc, editions, journeys, week)
     }
 
     fn sets(&self) -> Result<Sets, AllocError> {

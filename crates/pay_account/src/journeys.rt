@@ -8,7 +8,7 @@ use pay_day::Moment;
 use pay_hopper::pays;
 use pay_links::{journeys, legs};
 use pay_rules::{Journey, Kind, Touch};
-use pay_tables::Tables;
+use pay_tables::{Editions, Tables};
 use std::alloc::{AllocError, Global};
 
 /// Whether a touch was made on a bus or a tram.
@@ -32,15 +32,15 @@ fn rail_touches(alloc: Global, touches: &[Touch]) -> Result<Vec<Touch>, AllocErr
 /// The journeys by rail that touches in order make.
 pub fn rail_journeys(
     alloc: Global,
-    tables: &Tables,
+    editions: &Editions,
     touches: &[Touch],
 ) -> Result<Vec<Journey>, AllocError>
-    ensures value { IfOk result (λ list. list.items ≡ rail_journeys tables.now touches.now) }
+    ensures value { IfOk result (λ list. list.items ≡ rail_journeys editions.now touches.now) }
     ensures no_more { IfOk result (λ list. length list.items ≤ length (filter is_rail touches.now)) }
 {
     let rail = rail_touches(alloc, touches)?;
-    let parts = legs(alloc, tables, &rail)?;
-    journeys(alloc, tables, &parts)
+    let parts = legs(alloc, editions, &rail)?;
+    journeys(alloc, editions.own(), &parts)
 }
 
 /// A touch on a bus or a tram as a boarding, with whether it pays, and `None` for one at a station.
@@ -67,16 +67,16 @@ pub fn next_boarding(
 /// Adds each touch on a bus or a tram as a boarding, with whether it pays.
 fn add_boardings(
     list: &mut Vec<Journey>,
-    tables: &Tables,
+    editions: &Editions,
     touches: &[Touch],
 ) -> Result<(), AllocError>
-    ensures { OnOk result (list.new.items ≡ list.old.items ++ boardings tables.now touches.now) }
+    ensures { OnOk result (list.new.items ≡ list.old.items ++ boardings editions.now touches.now) }
 {
     pay_hopper::laws::by_the_last();
     list.reserve(touches.len())?;
     let mut last_paid = None;
     for touch in touches {
-        if let Some(journey) = next_boarding(tables, &mut last_paid, touch) {
+        if let Some(journey) = next_boarding(editions.own(), &mut last_paid, touch) {
             list.push(journey)?;
         }
     }
@@ -88,14 +88,14 @@ fn add_boardings(
 #[tactic(auto, using(crate::proofs::Counts::few_in_all))]
 pub fn journeys_of(
     alloc: Global,
-    tables: &Tables,
+    editions: &Editions,
     touches: &[Touch],
 ) -> Result<Vec<Journey>, AllocError>
-    ensures value { IfOk result (λ list. list.items ≡ journeys_of tables.now touches.now) }
+    ensures value { IfOk result (λ list. list.items ≡ journeys_of editions.now touches.now) }
     ensures no_more { IfOk result (λ list. length list.items ≤ length touches.now) }
 {
-    let mut list = rail_journeys(alloc, tables, touches)?;
-    add_boardings(&mut list, tables, touches)?;
+    let mut list = rail_journeys(alloc, editions, touches)?;
+    add_boardings(&mut list, editions, touches)?;
     Ok(list)
 }
 

@@ -1,4 +1,5 @@
 ghost use Rattle.std.specs.Prelude.{◌≡◌, map, filter, IfOk, OnOk};
+ghost use Rattle.pay_tables.specs.Words.{on};
 ghost use Rattle.pay_rules.specs.Order.{in_order_by};
 ghost use Rattle.pay_rules.specs.RailJourneys.{first_tap};
 ghost use Rattle.pay_rules.specs.DayPrices.{capped_price};
@@ -8,7 +9,7 @@ ghost use Rattle.pay_rules.specs.Lines.{line_kind, from_of, to_of, line_band, li
 
 use crate::journeys::is_on;
 use pay_rules::{Journey, Kind, Line, LineKind, Lines};
-use pay_tables::Tables;
+use pay_tables::{Editions, Tables};
 use pay_week::{covers, fare};
 use std::alloc::{AllocError, Global};
 
@@ -113,16 +114,16 @@ fn lines_of_journeys(
 /// `giving` is the band that gives the day's price.
 pub fn lines_on(
     alloc: Global,
-    tables: &Tables,
+    editions: &Editions,
     mut list: Vec<Journey>,
     day: u32,
     giving: Option<u8>,
 ) -> Result<Lines, AllocError>
-    requires { giving ≡ (capped_price tables.now (journeys_on list.items day)).1 }
-    ensures { IfOk result (λ lines. lines ≡ lines_on tables.now list.items day) }
+    requires { giving ≡ (capped_price (on editions.now day) (journeys_on list.items day)).1 }
+    ensures { IfOk result (λ lines. lines ≡ lines_on editions.now list.items day) }
 {
     keep_day(&mut list, day);
     sort_by_first_tap(&mut list)?;
-    let lines = lines_of_journeys(alloc, tables, giving, &list)?;
+    let lines = lines_of_journeys(alloc, editions.on(day), giving, &list)?;
     Ok(Lines::from(lines))
 }

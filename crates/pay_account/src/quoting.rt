@@ -1,7 +1,7 @@
 ghost use Rattle.std.specs.Prelude.{◌≡◌, ◌≤◌, length, map, filter, sum, sum_by, IfOk};
 ghost use Rattle.pay_day.specs.Words.{IsDay};
 ghost use Rattle.pay_rules.specs.declared.limits.TheConstants.{MOST_TOUCHES};
-ghost use Rattle.pay_rules.specs.JourneyFares.{fare};
+ghost use Rattle.pay_rules.specs.JourneyFares.{fare_by};
 ghost use Rattle.pay_money.specs.declared.limits.TheConstants.{MOST_MONEY};
 ghost use Rattle.pay_rules.specs.QuoteParts.{IsQuote};
 ghost use Rattle.pay_rules.specs.Prices.{is_within, journeys_through, price_of_week};
@@ -14,8 +14,8 @@ use pay_money::Pence;
 use pay_money::limits::OPERATORS;
 use pay_rules::{Journey, Quote};
 use pay_shares::weights;
-use pay_tables::Tables;
-use pay_week::{fare, week_price};
+use pay_tables::Editions;
+use pay_week::{fare_by, week_price};
 use std::alloc::{AllocError, Global};
 
 /// Whether a journey belongs to one of the days from one through another.
@@ -34,57 +34,61 @@ pub fn keep_days(list: &mut Vec<Journey>, from: u32, through: u32)
 }
 
 /// A journey beside its fare.
-fn with_fare(tables: &Tables, journey: Journey) -> (Journey, Pence)
-    ensures { result ≡ with_fare tables.now journey }
+fn with_fare(editions: &Editions, journey: Journey) -> (Journey, Pence)
+    ensures { result ≡ with_fare editions.now journey }
 {
-    let fare = fare(tables, &journey);
+    let fare = fare_by(editions, &journey);
     (journey, fare)
 }
 
 /// Each of some journeys beside its fare.
 fn with_fares(
     alloc: Global,
-    tables: &Tables,
+    editions: &Editions,
     journeys: Vec<Journey>,
 ) -> Result<Vec<(Journey, Pence)>, AllocError>
-    ensures { IfOk result (λ list. list.items ≡ map (with_fare tables.now) journeys.items) }
+    ensures { IfOk result (λ list. list.items ≡ map (with_fare editions.now) journeys.items) }
 {
     journeys
         .into_iter()
-        .map(|journey| with_fare(tables, journey))
+        .map(|journey| with_fare(editions, journey))
         .collect(alloc)
 }
 
 /// The price of a day's week through that day, of all journeys.
-pub fn price_through(tables: &Tables, journeys: &[Journey], through: u32) -> Pence
+pub fn price_through(editions: &Editions, journeys: &[Journey], through: u32) -> Pence
     requires few { length journeys.now ≤ MOST_TOUCHES }
     requires is_day { IsDay through }
-    ensures value { result ≡ price_of_week tables.now journeys.now through }
-    ensures no_more { result ≤ sum_by (fare tables.now) (journeys_through journeys.now through) }
+    ensures value { result ≡ price_of_week editions.now journeys.now through }
+    ensures no_more { result ≤ sum_by (fare_by editions.now) (journeys_through journeys.now through) }
 {
-    pay_week::day_laws::day_prices(tables);
-    pay_week::laws::week_prices(tables);
-    let week = cells_of_days(tables, journeys, through);
-    week_price(tables, &week[..day_of_week(through) as usize + 1])
+    pay_week::day_laws::day_prices(editions);
+    pay_week::laws::week_prices(editions);
+    let week = cells_of_days(editions, journeys, through);
+    week_price(
+        editions,
+        monday(through),
+        &week[..day_of_week(through) as usize + 1],
+    )
 }
 
 /// What each operator carried of all journeys in a day's week from Monday through that day.
 pub fn weights_through(
     alloc: Global,
-    tables: &Tables,
+    editions: &Editions,
     mut journeys: Vec<Journey>,
     through: u32,
 ) -> Result<[u64; OPERATORS], AllocError>
     requires few { length journeys.items ≤ MOST_TOUCHES }
     requires is_day { IsDay through }
-    ensures value { IfOk result (λ list. list ≡ weights_through tables.now journeys.items through) }
-    ensures together { IfOk result (λ list. sum list ≡ sum_by (fare tables.now) (journeys_through journeys.items through)) }
+    ensures value { IfOk result (λ list. list ≡ weights_through editions.now journeys.items through) }
+    ensures together { IfOk result (λ list. sum list ≡ sum_by (fare_by editions.now) (journeys_through journeys.items through)) }
     ensures in_range { IfOk result (λ list. sum list ≤ MOST_MONEY) }
 {
-    pay_week::fare_laws::fares_within(tables);
+    pay_week::fare_laws::fares_within(editions);
     keep_days(&mut journeys, monday(through), through);
-    let list = with_fares(alloc, tables, journeys)?;
-    Ok(weights(tables, &list))
+    let list = with_fares(alloc, editions, journeys)?;
+    Ok(weights(editions.own(), &list))
 }
 
 /// A quote of numbers that a quote may have.

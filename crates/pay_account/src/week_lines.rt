@@ -1,5 +1,8 @@
 ghost use Rattle.std.specs.Prelude.{◌≡◌, ◌≤◌, length, map, IfOk};
+ghost use Rattle.std.specs.List.{range_with_len, zip};
 ghost use Rattle.pay_day.specs.Words.{IsDay, monday, sunday};
+ghost use Rattle.pay_day.specs.declared.limits.TheConstants.{DAYS_PER_WEEK};
+ghost use Rattle.pay_tables.specs.Words.{on};
 ghost use Rattle.pay_rules.specs.declared.limits.TheConstants.{MOST_TOUCHES};
 ghost use Rattle.pay_rules.specs.Order.{in_order_by};
 ghost use Rattle.pay_rules.specs.RailJourneys.{first_tap};
@@ -14,8 +17,9 @@ use crate::lines::{line_of_journey, sort_by_first_tap};
 use crate::quoting::keep_days;
 use crate::week_cells::{Week, cells_of_days};
 use pay_day::limits::DAYS_PER_WEEK;
+use pay_day::monday;
 use pay_rules::{Journey, Line, Lines};
-use pay_tables::Tables;
+use pay_tables::{Editions, Tables};
 use pay_week::{Cells, day_price};
 use std::alloc::{AllocError, Global};
 
@@ -30,24 +34,30 @@ fn band_of(tables: &Tables, cells: &Cells) -> Option<u8>
 }
 
 /// The bands that give the prices of the days of a week, by the sums of their fares.
-fn bands_of(tables: &Tables, week: &Week) -> Bands
-    ensures { result ≡ map (λ cells. (capped_price_of tables.now cells).1) week.now }
+fn bands_of(editions: &Editions, week: &Week, monday: u32) -> Bands
+    requires { IsDay monday }
+    ensures { result ≡ map (λ one. (capped_price_of (on editions.now one.0) one.1).1) (zip (range_with_len monday DAYS_PER_WEEK) week.now) }
 {
     let mut bands = [None; DAYS_PER_WEEK as usize];
     for place in 0..DAYS_PER_WEEK as usize {
+        let tables = editions.on(monday + place as u32);
         bands[place] = band_of(tables, &week[place]);
     }
     bands
 }
 
 /// The bands that give the prices of the days of a day's week, by all journeys.
-fn bands_of_week(tables: &Tables, journeys: &[Journey], day: u32) -> Bands
+fn bands_of_week(editions: &Editions, journeys: &[Journey], day: u32) -> Bands
     requires few { length journeys.now ≤ MOST_TOUCHES }
     requires is_day { IsDay day }
-    ensures { result ≡ map (λ each. (capped_price tables.now (journeys_on journeys.now each)).1) (days_through (sunday day)) }
+    ensures { result ≡ map (λ each. (capped_price (on editions.now each) (journeys_on journeys.now each)).1) (days_through (sunday day)) }
 {
-    pay_week::day_laws::day_prices(tables);
-    bands_of(tables, &cells_of_days(tables, journeys, day))
+    pay_week::day_laws::day_prices(editions);
+    bands_of(
+        editions,
+        &cells_of_days(editions, journeys, day),
+        monday(day),
+    )
 }
 
 /// The band of a day, of those of the days of its week.
@@ -61,41 +71,42 @@ fn band_on(bands: &Bands, monday: u32, day: u32) -> Option<u8>
     }
 }
 
-/// A journey as a line, by the band of its own day.
-fn line_by_bands(tables: &Tables, bands: &Bands, monday: u32, journey: &Journey) -> Line
-    ensures { result ≡ line_by_bands tables.now bands.now monday journey.now }
+/// A journey as a line, by the edition and the band of its own day.
+fn line_by_bands(editions: &Editions, bands: &Bands, monday: u32, journey: &Journey) -> Line
+    ensures { result ≡ line_by_bands editions.now bands.now monday journey.now }
 {
-    let band = band_on(bands, monday, day_of(journey));
-    line_of_journey(tables, band, journey)
+    let day = day_of(journey);
+    let band = band_on(bands, monday, day);
+    line_of_journey(editions.on(day), band, journey)
 }
 
 /// Each journey as a line, by the band of its own day.
 fn lines_by_bands(
     alloc: Global,
-    tables: &Tables,
+    editions: &Editions,
     bands: &Bands,
     monday: u32,
     list: &[Journey],
 ) -> Result<Vec<Line>, AllocError>
-    ensures { IfOk result (λ lines. lines.items ≡ map (line_by_bands tables.now bands.now monday) list.now) }
+    ensures { IfOk result (λ lines. lines.items ≡ map (line_by_bands editions.now bands.now monday) list.now) }
 {
     list.iter()
-        .map(|journey| line_by_bands(tables, bands, monday, journey))
+        .map(|journey| line_by_bands(editions, bands, monday, journey))
         .collect(alloc)
 }
 
 /// The same, in the order of their first taps.
 fn lines_in_order(
     alloc: Global,
-    tables: &Tables,
+    editions: &Editions,
     bands: &Bands,
     monday: u32,
     mut list: Vec<Journey>,
 ) -> Result<Lines, AllocError>
-    ensures { IfOk result (λ lines. lines ≡ map (line_by_bands tables.now bands.now monday) (in_order_by first_tap list.items)) }
+    ensures { IfOk result (λ lines. lines ≡ map (line_by_bands editions.now bands.now monday) (in_order_by first_tap list.items)) }
 {
     sort_by_first_tap(&mut list)?;
-    let lines = lines_by_bands(alloc, tables, bands, monday, &list)?;
+    let lines = lines_by_bands(alloc, editions, bands, monday, &list)?;
     Ok(Lines::from(lines))
 }
 
@@ -103,16 +114,16 @@ fn lines_in_order(
 /// band that gives the price of its own day. The days of the week are told by its Monday.
 pub fn lines_of_week(
     alloc: Global,
-    tables: &Tables,
+    editions: &Editions,
     mut list: Vec<Journey>,
     week: u32,
 ) -> Result<Lines, AllocError>
     requires few { length list.items ≤ MOST_TOUCHES }
     requires is_day { IsDay week }
     requires is_monday { monday week ≡ week }
-    ensures { IfOk result (λ lines. lines ≡ lines_of_week tables.now list.items week) }
+    ensures { IfOk result (λ lines. lines ≡ lines_of_week editions.now list.items week) }
 {
-    let bands = bands_of_week(tables, &list, week);
+    let bands = bands_of_week(editions, &list, week);
     keep_days(&mut list, week, week + (DAYS_PER_WEEK - 1));
-    lines_in_order(alloc, tables, &bands, week, list)
+    lines_in_order(alloc, editions, &bands, week, list)
 }

@@ -15,7 +15,7 @@ use Rattle.pay_rules.specs.declared.fix.Fix.{Fix}
 use Rattle.pay_rules.specs.Effective.{effective_of}
 use Rattle.pay_rules.specs.Fixes.{Fixes, number as fix_number, judged as judged_fix}
 use Rattle.pay_fix.specs.Words.{EffectiveHaveOwnNumbers, EffectiveAreInOrder, EffectiveAreFew, TapChanges, FixChanges, change_by_tap, change_by_fix}
-use Rattle.pay_tables.specs.Words.{FareTables}
+use Rattle.pay_tables.specs.Words.{FareEditions}
 use Rattle.pay_account.specs.declared.Priced.{Priced}
 use Rattle.pay_rules.specs.Journeys.{is_bus, is_rail}
 use Rattle.pay_rules.specs.Accepted.{Accepted, nothing, touches, with_tap, with_fix}
@@ -94,8 +94,8 @@ no_touches accepted is =
     ∙ ap (effective_of []) (no_values accepted.fixes (ap (λ (those : Accepted). those.fixes) is))
 
 -- a book of nothing
-pub nothing_stored : (tables : FareTables) (account : ℕ × Accepted) (held : MarkedTaps) (steps : ℕ) → account.1 ≡ nothing → IsMarkedBy tables [] held
-    → IsConsistent tables (record {
+pub nothing_stored : (editions : FareEditions) (account : ℕ × Accepted) (held : MarkedTaps) (steps : ℕ) → account.1 ≡ nothing → IsMarkedBy editions [] held
+    → IsConsistent editions (record {
       account = account.0;
       accepted = account.1;
       rail = held.rail.touches;
@@ -105,7 +105,7 @@ pub nothing_stored : (tables : FareTables) (account : ℕ × Accepted) (held : M
       days = held.days;
       steps = steps;
     })
-nothing_stored tables account held steps is of = record {
+nothing_stored editions account held steps is of = record {
   rail = of.rail ∙ ap (filter is_rail) (sym (no_touches account.1 is));
   starts = of.right.starts;
   buses = of.buses ∙ ap (filter is_bus) (sym (no_touches account.1 is));
@@ -132,27 +132,27 @@ change_of_fix law accepted fix taps other_taps fixes others change t u f o of_ta
 
 -- ---- results
 
-pub tap_again : (tables : FareTables) (accepted : Accepted) (tap : Tap) (addition : Addition) (priced : Priced) (day : ℕ) → tap_result tables accepted tap ≡ tap_added tables accepted tap (Ok addition) → addition ≡ Repeat
-    → priced ≡ prices tables accepted true day → day ≡ tap.stamp.day → Ok priced ≡ tap_result tables accepted tap
-tap_again tables accepted tap addition priced day result is its on =
-    ap Ok (its ∙ ap (prices tables accepted true) on) ∙ sym (result ∙ ap (λ (it : Addition). tap_added tables accepted tap (Ok it)) is)
+pub tap_again : (editions : FareEditions) (accepted : Accepted) (tap : Tap) (addition : Addition) (priced : Priced) (day : ℕ) → tap_result editions accepted tap ≡ tap_added editions accepted tap (Ok addition) → addition ≡ Repeat
+    → priced ≡ prices editions accepted true day → day ≡ tap.stamp.day → Ok priced ≡ tap_result editions accepted tap
+tap_again editions accepted tap addition priced day result is its on =
+    ap Ok (its ∙ ap (prices editions accepted true) on) ∙ sym (result ∙ ap (λ (it : Addition). tap_added editions accepted tap (Ok it)) is)
 
-pub tap_more : (tables : FareTables) (accepted more : Accepted) (tap : Tap) (addition : Addition) (priced : Priced) (day : ℕ) → tap_result tables accepted tap ≡ tap_added tables accepted tap (Ok addition) → addition ≡ Added
-    → more ≡ with_tap accepted tap → priced ≡ prices tables more false day → day ≡ tap.stamp.day → Ok priced ≡ tap_result tables accepted tap
-tap_more tables accepted more tap addition priced day result is grown its on =
-    ap Ok (its ∙ ap (λ (those : Accepted). prices tables those false day) grown ∙ ap (prices tables (with_tap accepted tap) false) on)
-    ∙ sym (result ∙ ap (λ (it : Addition). tap_added tables accepted tap (Ok it)) is)
+pub tap_more : (editions : FareEditions) (accepted more : Accepted) (tap : Tap) (addition : Addition) (priced : Priced) (day : ℕ) → tap_result editions accepted tap ≡ tap_added editions accepted tap (Ok addition) → addition ≡ Added
+    → more ≡ with_tap accepted tap → priced ≡ prices editions more false day → day ≡ tap.stamp.day → Ok priced ≡ tap_result editions accepted tap
+tap_more editions accepted more tap addition priced day result is grown its on =
+    ap Ok (its ∙ ap (λ (those : Accepted). prices editions those false day) grown ∙ ap (prices editions (with_tap accepted tap) false) on)
+    ∙ sym (result ∙ ap (λ (it : Addition). tap_added editions accepted tap (Ok it)) is)
 
-pub fix_again : (tables : FareTables) (accepted : Accepted) (fix : Fix) (addition : Addition) (priced : Priced) → fix_result tables accepted fix ≡ fix_added tables accepted fix (Ok addition) → addition ≡ Repeat
-    → priced ≡ prices_named tables accepted true fix.what → Ok priced ≡ fix_result tables accepted fix
-fix_again tables accepted fix addition priced result is its = ap Ok its ∙ sym (result ∙ ap (λ (it : Addition). fix_added tables accepted fix (Ok it)) is)
+pub fix_again : (editions : FareEditions) (accepted : Accepted) (fix : Fix) (addition : Addition) (priced : Priced) → fix_result editions accepted fix ≡ fix_added editions accepted fix (Ok addition) → addition ≡ Repeat
+    → priced ≡ prices_named editions accepted true fix.what → Ok priced ≡ fix_result editions accepted fix
+fix_again editions accepted fix addition priced result is its = ap Ok its ∙ sym (result ∙ ap (λ (it : Addition). fix_added editions accepted fix (Ok it)) is)
 
 -- ---- what was read
 
-pub read_for : ChangeDisturbs → (tables : FareTables) (change : Change) (held : MarkedTaps) (old after more : Accepted) (steps first before last : ℕ) → IsChange change (touches old) (touches more) → AreStoredTaps held (touches old)
-    → after ≡ more → first ≡ steps → before ≤ first + 8 + 2 * disturbed_by_change tables held change → last ≤ before + 16
-    → last ≤ steps + 24 + 2 * disturbed tables (touches old) (touches after)
-read_for law tables change held old after more steps first before last is are grown begun found made =
-    let its = law tables change (touches old) (touches more) held is are in
-    let same : disturbed tables (touches old) (touches after) ≡ disturbed tables (touches old) (touches more) = ap (λ (those : Accepted). disturbed tables (touches old) (touches those)) grown in
+pub read_for : ChangeDisturbs → (editions : FareEditions) (change : Change) (held : MarkedTaps) (old after more : Accepted) (steps first before last : ℕ) → IsChange change (touches old) (touches more) → AreStoredTaps held (touches old)
+    → after ≡ more → first ≡ steps → before ≤ first + 8 + 2 * disturbed_by_change editions held change → last ≤ before + 16
+    → last ≤ steps + 24 + 2 * disturbed editions (touches old) (touches after)
+read_for law editions change held old after more steps first before last is are grown begun found made =
+    let its = law editions change (touches old) (touches more) held is are in
+    let same : disturbed editions (touches old) (touches after) ≡ disturbed editions (touches old) (touches more) = ap (λ (those : Accepted). disturbed editions (touches old) (touches those)) grown in
     omega (arith, its, same, begun, found, made)

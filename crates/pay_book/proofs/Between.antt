@@ -3,7 +3,7 @@ use Rattle.std.proofs.Common.{◌≡◌, ℕ, zero, suc, ◌+◌, ◌-◌, ◌�
 use Rattle.std.specs.List.{insert, remove}
 use Rattle.std.proofs.lemmas.List.{get_or-append-add}
 use Rattle.std.proofs.lemmas.List.Edits.{between_none, length-insert, length-between, split_between, insert-append_left, insert-append_right}
-use Rattle.pay_tables.specs.Words.{FareTables}
+use Rattle.pay_tables.specs.Words.{FareEditions}
 use Rattle.pay_rules.specs.declared.tap.Touch.{Touch}
 use Rattle.pay_rules.specs.Legs.{legs}
 use Rattle.pay_rules.specs.RailJourneys.{journeys}
@@ -51,54 +51,54 @@ up_to taps from at to list e same = same ∙ ap (λ (n : ℕ). taps_in from n ta
 -- ---- taps in three parts
 
 -- taps in three parts, of which journeys start with the second and with the third
-pub record AreInThree (tables : FareTables) (taps a b c : List Touch) : Type 0 where
+pub record AreInThree (editions : FareEditions) (taps a b c : List Touch) : Type 0 where
   pub parts : taps ≡ a ++ (b ++ c)
-  pub first : mark_in (starts tables taps) (length a) ≡ true
-  pub second : mark_in (starts tables taps) (length a + length b) ≡ true
+  pub first : mark_in (starts editions taps) (length a) ≡ true
+  pub second : mark_in (starts editions taps) (length a + length b) ≡ true
 
 -- the second and third part stand apart from the first, and from each other
-pub first_apart : (tables : FareTables) (taps a b c : List Touch) → AreInThree tables taps a b c → mark_in (starts tables (a ++ (b ++ c))) (length a) ≡ true
-first_apart tables taps a b c three = ap (λ (list : List Touch). mark_in (starts tables list) (length a)) (sym three.parts) ∙ three.first
+pub first_apart : (editions : FareEditions) (taps a b c : List Touch) → AreInThree editions taps a b c → mark_in (starts editions (a ++ (b ++ c))) (length a) ≡ true
+first_apart editions taps a b c three = ap (λ (list : List Touch). mark_in (starts editions list) (length a)) (sym three.parts) ∙ three.first
 
-pub second_apart : MarksAreCut → (tables : FareTables) (taps a b c : List Touch) → AreInThree tables taps a b c → mark_in (starts tables (b ++ c)) (length b) ≡ true
-second_apart marks tables taps a b c three =
-    let long : length (starts tables a) + length b ≡ length a + length b = ap (λ (n : ℕ). n + length b) (as_many tables None None a) in
-    let cut : starts tables taps ≡ starts tables a ++ starts tables (b ++ c) = ap (starts tables) three.parts ∙ marks tables a (b ++ c) (first_apart tables taps a b c three) in
-    sym (get_or-append-add (starts tables a) (starts tables (b ++ c)) (length b) true)
-    ∙ ap (λ (list : List Bool). mark_in list (length (starts tables a) + length b)) (sym cut)
-    ∙ ap (mark_in (starts tables taps)) long ∙ three.second
+pub second_apart : MarksAreCut → (editions : FareEditions) (taps a b c : List Touch) → AreInThree editions taps a b c → mark_in (starts editions (b ++ c)) (length b) ≡ true
+second_apart marks editions taps a b c three =
+    let long : length (starts editions a) + length b ≡ length a + length b = ap (λ (n : ℕ). n + length b) (as_many editions None None a) in
+    let cut : starts editions taps ≡ starts editions a ++ starts editions (b ++ c) = ap (starts editions) three.parts ∙ marks editions a (b ++ c) (first_apart editions taps a b c three) in
+    sym (get_or-append-add (starts editions a) (starts editions (b ++ c)) (length b) true)
+    ∙ ap (λ (list : List Bool). mark_in list (length (starts editions a) + length b)) (sym cut)
+    ∙ ap (mark_in (starts editions taps)) long ∙ three.second
 
-journeys_in_three : JourneysAreCut → MarksAreCut → (tables : FareTables) (taps a b c : List Touch) → AreInThree tables taps a b c →
-    journeys tables (legs tables taps) ≡ (journeys tables (legs tables a) ++ journeys tables (legs tables b)) ++ journeys tables (legs tables c)
-journeys_in_three cut marks tables taps a b c three =
-    ap (λ (list : List Touch). journeys tables (legs tables list)) three.parts ∙ cut tables a (b ++ c) (first_apart tables taps a b c three)
-    ∙ ap (λ (list : List Journey). journeys tables (legs tables a) ++ list) (cut tables b c (second_apart marks tables taps a b c three))
-    ∙ sym (append_assoc (journeys tables (legs tables a)) (journeys tables (legs tables b)) (journeys tables (legs tables c)))
+journeys_in_three : JourneysAreCut → MarksAreCut → (editions : FareEditions) (taps a b c : List Touch) → AreInThree editions taps a b c →
+    journeys editions.own (legs editions taps) ≡ (journeys editions.own (legs editions a) ++ journeys editions.own (legs editions b)) ++ journeys editions.own (legs editions c)
+journeys_in_three cut marks editions taps a b c three =
+    ap (λ (list : List Touch). journeys editions.own (legs editions list)) three.parts ∙ cut editions a (b ++ c) (first_apart editions taps a b c three)
+    ∙ ap (λ (list : List Journey). journeys editions.own (legs editions a) ++ list) (cut editions b c (second_apart marks editions taps a b c three))
+    ∙ sym (append_assoc (journeys editions.own (legs editions a)) (journeys editions.own (legs editions b)) (journeys editions.own (legs editions c)))
 
 -- where taps are cut, a journey starts
-cut_marked : (tables : FareTables) (taps : List Touch) (place : ℕ) → place ≤ length taps → IsCut tables taps place → mark_in (starts tables taps) place ≡ true
-cut_marked tables taps place le cut =
+cut_marked : (editions : FareEditions) (taps : List Touch) (place : ℕ) → place ≤ length taps → IsCut editions taps place → mark_in (starts editions taps) place ≡ true
+cut_marked editions taps place le cut =
     let long : length (take place taps) ≡ place = let n = length-take place taps in omega arith in
-    sym (ap (λ (list : List Touch). mark_in (starts tables list) (length (take place taps))) (take-append-drop place taps) ∙ ap (mark_in (starts tables taps)) long) ∙ cut
+    sym (ap (λ (list : List Touch). mark_in (starts editions list) (length (take place taps))) (take-append-drop place taps) ∙ ap (mark_in (starts editions taps)) long) ∙ cut
 
 -- a stretch, and what stands before and after it
-pub fewer_in_three : (tables : FareTables) (fewer : List Touch) (touch : Touch) (place from to : ℕ) → IsStretch tables fewer touch place from to →
-    AreInThree tables fewer (take from fewer) (taps_in from to fewer) (drop to fewer)
-fewer_in_three tables fewer touch place from to s =
+pub fewer_in_three : (editions : FareEditions) (fewer : List Touch) (touch : Touch) (place from to : ℕ) → IsStretch editions fewer touch place from to →
+    AreInThree editions fewer (take from fewer) (taps_in from to fewer) (drop to fewer)
+fewer_in_three editions fewer touch place from to s =
     let over = s.from_before in let under = s.to_after in let within = s.within in
     let long_a : length (take from fewer) ≡ from = let n = length-take from fewer in omega arith in
     let long_b : length (taps_in from to fewer) ≡ to - from = length-between fewer from to within in
     let both : length (take from fewer) + length (taps_in from to fewer) ≡ to = omega arith in
     record {
       parts = split_between fewer from to (omega arith);
-      first = ap (mark_in (starts tables fewer)) long_a ∙ cut_marked tables fewer from (omega arith) s.fewer_from;
-      second = ap (mark_in (starts tables fewer)) both ∙ cut_marked tables fewer to within s.fewer_to;
+      first = ap (mark_in (starts editions fewer)) long_a ∙ cut_marked editions fewer from (omega arith) s.fewer_from;
+      second = ap (mark_in (starts editions fewer)) both ∙ cut_marked editions fewer to within s.fewer_to;
     }
 
 -- the same with the tap in it
-pub more_in_three : (tables : FareTables) (fewer : List Touch) (touch : Touch) (place from to : ℕ) → IsStretch tables fewer touch place from to →
-    AreInThree tables (insert fewer place touch) (take from fewer) (insert (taps_in from to fewer) (place - from) touch) (drop to fewer)
-more_in_three tables fewer touch place from to s =
+pub more_in_three : (editions : FareEditions) (fewer : List Touch) (touch : Touch) (place from to : ℕ) → IsStretch editions fewer touch place from to →
+    AreInThree editions (insert fewer place touch) (take from fewer) (insert (taps_in from to fewer) (place - from) touch) (drop to fewer)
+more_in_three editions fewer touch place from to s =
     let over = s.from_before in let under = s.to_after in let within = s.within in
     let a = take from fewer in
     let b = taps_in from to fewer in
@@ -112,32 +112,32 @@ more_in_three tables fewer touch place from to s =
     record {
       parts = ap (λ (list : List Touch). insert list place touch) (split_between fewer from to (omega arith)) ∙ insert-append_right a (b ++ c) from place touch long_a over
           ∙ ap (λ (list : List Touch). a ++ list) (insert-append_left b c (place - from) touch (omega arith));
-      first = ap (mark_in (starts tables more)) long_a ∙ cut_marked tables more from (omega arith) s.more_from;
-      second = ap (mark_in (starts tables more)) both ∙ cut_marked tables more (suc to) (omega arith) s.more_to;
+      first = ap (mark_in (starts editions more)) long_a ∙ cut_marked editions more from (omega arith) s.more_from;
+      second = ap (mark_in (starts editions more)) both ∙ cut_marked editions more (suc to) (omega arith) s.more_to;
     }
 
-pub disturbed : JourneysAreCut → MarksAreCut → (tables : FareTables) (fewer : List Touch) (touch : Touch) (place from to : ℕ) → IsStretch tables fewer touch place from to →
-    IsDisturbed tables fewer (insert fewer place touch) (journeys tables (legs tables (taps_in from to fewer)))
-    (journeys tables (legs tables (insert (taps_in from to fewer) (place - from) touch)))
-disturbed cut marks tables fewer touch place from to s = record {
-  before = journeys tables (legs tables (take from fewer));
-  beyond = journeys tables (legs tables (drop to fewer));
-  all_fewer = journeys_in_three cut marks tables fewer _ _ _ (fewer_in_three tables fewer touch place from to s);
-  all_more = journeys_in_three cut marks tables (insert fewer place touch) _ _ _ (more_in_three tables fewer touch place from to s);
+pub disturbed : JourneysAreCut → MarksAreCut → (editions : FareEditions) (fewer : List Touch) (touch : Touch) (place from to : ℕ) → IsStretch editions fewer touch place from to →
+    IsDisturbed editions fewer (insert fewer place touch) (journeys editions.own (legs editions (taps_in from to fewer)))
+    (journeys editions.own (legs editions (insert (taps_in from to fewer) (place - from) touch)))
+disturbed cut marks editions fewer touch place from to s = record {
+  before = journeys editions.own (legs editions (take from fewer));
+  beyond = journeys editions.own (legs editions (drop to fewer));
+  all_fewer = journeys_in_three cut marks editions fewer _ _ _ (fewer_in_three editions fewer touch place from to s);
+  all_more = journeys_in_three cut marks editions (insert fewer place touch) _ _ _ (more_in_three editions fewer touch place from to s);
 }
 
 -- the same of taps and journeys that were computed
-pub finished : JourneysAreCut → MarksAreCut → (tables : FareTables) (stored : List Touch) (touch : Touch) (is_there : Bool) (place at from to : ℕ) (taps more : List Touch) (less with_it : List Journey) →
-    at ≡ place → IsStretch tables (fewer_of is_there at stored) touch at from to → taps ≡ taps_in from to (fewer_of is_there at stored) → less ≡ journeys tables (legs tables taps) →
-    more ≡ insert taps (at - from) touch → with_it ≡ journeys tables (legs tables more) →
-    IsDisturbed tables (fewer_of is_there place stored) (insert (fewer_of is_there place stored) place touch) less with_it
-finished cut marks tables stored touch is_there place at from to taps more less with_it e s same less_is more_is with_is =
+pub finished : JourneysAreCut → MarksAreCut → (editions : FareEditions) (stored : List Touch) (touch : Touch) (is_there : Bool) (place at from to : ℕ) (taps more : List Touch) (less with_it : List Journey) →
+    at ≡ place → IsStretch editions (fewer_of is_there at stored) touch at from to → taps ≡ taps_in from to (fewer_of is_there at stored) → less ≡ journeys editions.own (legs editions taps) →
+    more ≡ insert taps (at - from) touch → with_it ≡ journeys editions.own (legs editions more) →
+    IsDisturbed editions (fewer_of is_there place stored) (insert (fewer_of is_there place stored) place touch) less with_it
+finished cut marks editions stored touch is_there place at from to taps more less with_it e s same less_is more_is with_is =
     let fewer = fewer_of is_there at stored in
-    let base = disturbed cut marks tables fewer touch at from to s in
-    let a : less ≡ journeys tables (legs tables (taps_in from to fewer)) = less_is ∙ ap (λ (list : List Touch). journeys tables (legs tables list)) same in
-    let b : with_it ≡ journeys tables (legs tables (insert (taps_in from to fewer) (at - from) touch)) =
-    with_is ∙ ap (λ (list : List Touch). journeys tables (legs tables list)) (more_is ∙ ap (λ (list : List Touch). insert list (at - from) touch) same) in
-    let P : ℕ → Type 0 = λ n. IsDisturbed tables (fewer_of is_there n stored) (insert (fewer_of is_there n stored) n touch) less with_it in
+    let base = disturbed cut marks editions fewer touch at from to s in
+    let a : less ≡ journeys editions.own (legs editions (taps_in from to fewer)) = less_is ∙ ap (λ (list : List Touch). journeys editions.own (legs editions list)) same in
+    let b : with_it ≡ journeys editions.own (legs editions (insert (taps_in from to fewer) (at - from) touch)) =
+    with_is ∙ ap (λ (list : List Touch). journeys editions.own (legs editions list)) (more_is ∙ ap (λ (list : List Touch). insert list (at - from) touch) same) in
+    let P : ℕ → Type 0 = λ n. IsDisturbed editions (fewer_of is_there n stored) (insert (fewer_of is_there n stored) n touch) less with_it in
     subst P e (record {
       before = base.before;
       beyond = base.beyond;
@@ -146,7 +146,7 @@ finished cut marks tables stored touch is_there place at from to taps more less 
     })
 
 -- what is disturbed where a tap enters, and where one leaves, in terms of the timeline
-pub disturbed_out : (tables : FareTables) (taps : List Touch) (touch : Touch) (place : ℕ) (less with_it : List Journey) → slice_get taps place ≡ Some touch →
-    IsDisturbed tables (remove taps place) (insert (remove taps place) place touch) less with_it → IsDisturbed tables (remove taps place) taps less with_it
-disturbed_out tables taps touch place less with_it there d =
-    subst (λ (more : List Touch). IsDisturbed tables (remove taps place) more less with_it) (put_back taps place touch there) d
+pub disturbed_out : (editions : FareEditions) (taps : List Touch) (touch : Touch) (place : ℕ) (less with_it : List Journey) → slice_get taps place ≡ Some touch →
+    IsDisturbed editions (remove taps place) (insert (remove taps place) place touch) less with_it → IsDisturbed editions (remove taps place) taps less with_it
+disturbed_out editions taps touch place less with_it there d =
+    subst (λ (more : List Touch). IsDisturbed editions (remove taps place) more less with_it) (put_back taps place touch there) d

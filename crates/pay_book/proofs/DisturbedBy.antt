@@ -3,7 +3,7 @@ use Rattle.std.proofs.Common.{◌≡◌, ℕ, suc, ◌||◌, not, nat_lt, Bool, 
 use Rattle.std.specs.List.{AllByRecursion, IsDistinct, list_any}
 use Rattle.std.proofs.lemmas.Bool.Decides.{nat_tests}
 use Rattle.std.proofs.lemmas.List.Folds.{list_any-append}
-use Rattle.pay_tables.specs.Words.{FareTables}
+use Rattle.pay_tables.specs.Words.{FareEditions}
 use Rattle.pay_rules.specs.declared.tap.Touch.{Touch}
 use Rattle.pay_rules.specs.Order.{comes_before, same_number, put_in, HaveOwnNumbers}
 use Rattle.pay_taps.specs.Words.{place_of, AreTimed, StandsAtPlace, SomeWithOneMore, OwnNumberAmongSome}
@@ -100,40 +100,40 @@ module _ (stands : StandsAtPlace) (some : SomeWithOneMore) (own : OwnNumberAmong
       ap (λ (list : List Touch). by list (place_of touch list)) (are ∙ more) ∙ ap (by (put_in touch (filter p after))) (stands touch (filter p after)).0
       ∙ sym (leaves_between by touch (filter p before) (filter p after) more (own p touch after numbers))
 
-  no_other : (tables : FareTables) (touch : Touch) (fewer more : List Touch) → AreTimed fewer → more ≡ put_in touch fewer → (by : List Touch → ℕ → ℕ) (p : Touch → Bool) → p touch ≡ false
+  no_other : (editions : FareEditions) (touch : Touch) (fewer more : List Touch) → AreTimed fewer → more ≡ put_in touch fewer → (by : List Touch → ℕ → ℕ) (p : Touch → Bool) → p touch ≡ false
       → (disturbed_between by (filter p fewer) (filter p more) ≡ 0) × (disturbed_between by (filter p more) (filter p fewer) ≡ 0)
-  no_other tables touch fewer more timed e by p is =
+  no_other editions touch fewer more timed e by p is =
       let same = without_it p touch fewer more is timed e in
       (none_between by (filter p fewer) (filter p more) same, none_between by (filter p more) (filter p fewer) (sym same))
 
   pub as_by_command : ChangeDisturbs
-  as_by_command tables Nothing before after held is are =
-      let rail = none_between (disturbed_by_rail tables) (filter is_rail before) (filter is_rail after) (ap (filter is_rail) is.changed) in
-      let buses = none_between (disturbed_by_bus tables.rules.hopper) (filter is_bus before) (filter is_bus after) (ap (filter is_bus) is.changed) in
+  as_by_command editions Nothing before after held is are =
+      let rail = none_between (disturbed_by_rail editions) (filter is_rail before) (filter is_rail after) (ap (filter is_rail) is.changed) in
+      let buses = none_between (disturbed_by_bus editions.own.rules.hopper) (filter is_bus before) (filter is_bus after) (ap (filter is_bus) is.changed) in
       omega (arith, rail, buses)
-  as_by_command tables (Enters touch) before after held is are =
+  as_by_command editions (Enters touch) before after held is are =
       let e = is.changed in
-      let by_rail = disturbed_by_rail tables in
-      let by_bus = disturbed_by_bus tables.rules.hopper in
+      let by_rail = disturbed_by_rail editions in
+      let by_bus = disturbed_by_bus editions.own.rules.hopper in
       elim (is_bus touch) as (λ (b : Bool). is_bus touch ≡ b →
-      (if b then by_bus (put_in touch held.buses.touches) (place_of touch held.buses.touches) else by_rail (put_in touch held.rail.touches) (place_of touch held.rail.touches)) ≡ disturbed tables before after) [
+      (if b then by_bus (put_in touch held.buses.touches) (place_of touch held.buses.touches) else by_rail (put_in touch held.rail.touches) (place_of touch held.rail.touches)) ≡ disturbed editions before after) [
         | true ↦ λ kind.
             let its = entered by_bus is_bus touch held.buses.touches before after are.buses kind is.timed e.in_place e.own_numbers in
-            let none = (no_other tables touch before after is.timed e.in_place by_rail is_rail (ap not kind)).0 in omega (arith, its, none)
+            let none = (no_other editions touch before after is.timed e.in_place by_rail is_rail (ap not kind)).0 in omega (arith, its, none)
         | false ↦ λ kind.
             let its = entered by_rail is_rail touch held.rail.touches before after are.rail (ap not kind) is.timed e.in_place e.own_numbers in
-            let none = (no_other tables touch before after is.timed e.in_place by_bus is_bus kind).0 in omega (arith, its, none)
+            let none = (no_other editions touch before after is.timed e.in_place by_bus is_bus kind).0 in omega (arith, its, none)
       ] refl
-  as_by_command tables (Leaves touch) before after held is are =
+  as_by_command editions (Leaves touch) before after held is are =
       let e = is.changed in
-      let by_rail = disturbed_by_rail tables in
-      let by_bus = disturbed_by_bus tables.rules.hopper in
+      let by_rail = disturbed_by_rail editions in
+      let by_bus = disturbed_by_bus editions.own.rules.hopper in
       elim (is_bus touch) as (λ (b : Bool). is_bus touch ≡ b →
-      (if b then by_bus held.buses.touches (place_of touch held.buses.touches) else by_rail held.rail.touches (place_of touch held.rail.touches)) ≡ disturbed tables before after) [
+      (if b then by_bus held.buses.touches (place_of touch held.buses.touches) else by_rail held.rail.touches (place_of touch held.rail.touches)) ≡ disturbed editions before after) [
         | true ↦ λ kind.
             let its = left by_bus is_bus touch held.buses.touches before after are.buses kind is.timed_then e.in_place e.own_numbers in
-            let none = (no_other tables touch after before is.timed_then e.in_place by_rail is_rail (ap not kind)).1 in omega (arith, its, none)
+            let none = (no_other editions touch after before is.timed_then e.in_place by_rail is_rail (ap not kind)).1 in omega (arith, its, none)
         | false ↦ λ kind.
             let its = left by_rail is_rail touch held.rail.touches before after are.rail (ap not kind) is.timed_then e.in_place e.own_numbers in
-            let none = (no_other tables touch after before is.timed_then e.in_place by_bus is_bus kind).1 in omega (arith, its, none)
+            let none = (no_other editions touch after before is.timed_then e.in_place by_bus is_bus kind).1 in omega (arith, its, none)
       ] refl

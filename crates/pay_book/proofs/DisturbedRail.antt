@@ -6,7 +6,7 @@ use Rattle.std.proofs.lemmas.Bool.{cases_lt}
 use Rattle.std.proofs.lemmas.Bool.Decides.{nat_tests}
 use Rattle.std.proofs.lemmas.List.{length-append, length-map, get_or-append-add}
 use Rattle.std.proofs.lemmas.List.Edits.{length-insert}
-use Rattle.pay_tables.specs.Words.{FareTables}
+use Rattle.pay_tables.specs.Words.{FareEditions}
 use Rattle.pay_rules.specs.declared.tap.Touch.{Touch}
 use Rattle.pay_rules.specs.Order.{put_in}
 use Rattle.pay_taps.specs.Words.{place_of, PutInAtPlace}
@@ -73,18 +73,18 @@ held (one ∷ later) from to at first last x begin up within none low high over 
 
 -- ---- the same of rail taps
 
-module _ (local : StartsAreLocal) (each : JourneysHaveEachTap) (tables : FareTables) where
+module _ (local : StartsAreLocal) (each : JourneysHaveEachTap) (editions : FareEditions) where
   held_among : (taps : List Touch) (from to first last x : ℕ) → first ≤ last → last < length taps
-      → ((place : ℕ) → first < place → place ≤ last → mark_in (starts tables taps) place ≡ false)
-      → first ≤ x → x ≤ last → from ≤ x → x < to → suc last ≤ first + taps_of_any from to 0 (journeys tables (legs tables taps))
+      → ((place : ℕ) → first < place → place ≤ last → mark_in (starts editions taps) place ≡ false)
+      → first ≤ x → x ≤ last → from ≤ x → x < to → suc last ≤ first + taps_of_any from to 0 (journeys editions.own (legs editions taps))
   held_among taps from to first last x up within none low high over under =
-      held (journeys tables (legs tables taps)) from to 0 first last x (omega arith) up (omega (arith, within, ap length (each tables taps)))
+      held (journeys editions.own (legs editions taps)) from to 0 first last x (omega arith) up (omega (arith, within, ap length (each editions taps)))
       (λ place lt le. let on : place - 0 ≡ place = omega arith in
-      ap (mark_in (start_marks (journeys tables (legs tables taps)))) on ∙ ap (λ (marks : List Bool). mark_in marks place) (sym (local tables taps)) ∙ none place lt le) low high over under
+      ap (mark_in (start_marks (journeys editions.own (legs editions taps)))) on ∙ ap (λ (marks : List Bool). mark_in marks place) (sym (local editions taps)) ∙ none place lt le) low high over under
 
   -- from the first place up to that of the tap
-  before_it : (fewer : List Touch) (touch : Touch) (place from to : ℕ) → IsStretch tables fewer touch place from to
-      → place ≤ from + 1 + (taps_of_any (place - 1) (place + 1) 0 (journeys tables (legs tables fewer)) + taps_of_any (place - 1) (place + 2) 0 (journeys tables (legs tables (insert fewer place touch))))
+  before_it : (fewer : List Touch) (touch : Touch) (place from to : ℕ) → IsStretch editions fewer touch place from to
+      → place ≤ from + 1 + (taps_of_any (place - 1) (place + 1) 0 (journeys editions.own (legs editions fewer)) + taps_of_any (place - 1) (place + 2) 0 (journeys editions.own (legs editions (insert fewer place touch))))
   before_it fewer touch place from to s =
       let inside : place ≤ length fewer = omega (arith, s.to_after, s.within) in
       let long = length-insert fewer place touch inside in
@@ -94,7 +94,7 @@ module _ (local : StartsAreLocal) (each : JourneysHaveEachTap) (tables : FareTab
       let it = held_among fewer (place - 1) (place + 1) from (place - 1) (place - 1) (omega (arith, far)) (omega (arith, far, inside))
       (λ other lt le. ⊎_elim
       (λ below. s.none_before other lt (omega (arith, below)))
-      (λ there. let same : other ≡ place - 1 = omega (arith, there, le) in ap (mark_in (starts tables fewer)) same ∙ goes)
+      (λ there. let same : other ≡ place - 1 = omega (arith, there, le) in ap (mark_in (starts editions fewer)) same ∙ goes)
       (cases_lt other (place - 1)))
       (omega (arith, far)) (omega arith) (omega arith) (omega (arith, far)) in
       omega (arith, it, far))
@@ -102,8 +102,8 @@ module _ (local : StartsAreLocal) (each : JourneysHaveEachTap) (tables : FareTab
       let more = insert fewer place touch in
       let it = held_among more (place - 1) (place + 2) from (place - 1) (place - 1) (omega (arith, far)) (omega (arith, far, inside, long))
       (λ other lt le. ⊎_elim
-      (λ below. marks_before tables fewer place other touch (omega (arith, below)) inside ∙ s.none_before other lt (omega (arith, below)))
-      (λ there. let same : other ≡ place - 1 = omega (arith, there, le) in ap (mark_in (starts tables more)) same ∙ goes)
+      (λ below. marks_before editions fewer place other touch (omega (arith, below)) inside ∙ s.none_before other lt (omega (arith, below)))
+      (λ there. let same : other ≡ place - 1 = omega (arith, there, le) in ap (mark_in (starts editions more)) same ∙ goes)
       (cases_lt other (place - 1)))
       (omega (arith, far)) (omega arith) (omega arith) (omega (arith, far)) in
       omega (arith, it, far))
@@ -112,8 +112,8 @@ module _ (local : StartsAreLocal) (each : JourneysHaveEachTap) (tables : FareTab
       (cases_lt (suc from) place)
 
   -- and from it up to the last place
-  after_it : (fewer : List Touch) (touch : Touch) (place from to : ℕ) → IsStretch tables fewer touch place from to
-      → to ≤ place + 1 + (taps_of_any (place - 1) (place + 1) 0 (journeys tables (legs tables fewer)) + taps_of_any (place - 1) (place + 2) 0 (journeys tables (legs tables (insert fewer place touch))))
+  after_it : (fewer : List Touch) (touch : Touch) (place from to : ℕ) → IsStretch editions fewer touch place from to
+      → to ≤ place + 1 + (taps_of_any (place - 1) (place + 1) 0 (journeys editions.own (legs editions fewer)) + taps_of_any (place - 1) (place + 2) 0 (journeys editions.own (legs editions (insert fewer place touch))))
   after_it fewer touch place from to s =
       let inside : place ≤ length fewer = omega (arith, s.to_after, s.within) in
       let long = length-insert fewer place touch inside in
@@ -124,7 +124,7 @@ module _ (local : StartsAreLocal) (each : JourneysHaveEachTap) (tables : FareTab
       let it = held_among fewer (place - 1) (place + 1) place (to - 1) place (omega (arith, far)) (omega (arith, far, within))
       (λ other lt le. ⊎_elim
       (λ above. s.none_after other above (omega (arith, le, far)))
-      (λ there. let same : other ≡ suc place = omega (arith, there, lt) in ap (mark_in (starts tables fewer)) same ∙ goes)
+      (λ there. let same : other ≡ suc place = omega (arith, there, lt) in ap (mark_in (starts editions fewer)) same ∙ goes)
       (cases_lt (suc place) other))
       (omega arith) (omega (arith, far)) (omega arith) (omega arith) in
       omega (arith, it, far))
@@ -133,8 +133,8 @@ module _ (local : StartsAreLocal) (each : JourneysHaveEachTap) (tables : FareTab
       let it = held_among more (place - 1) (place + 2) (suc place) to (suc place) (omega (arith, far)) (omega (arith, within, long))
       (λ other lt le. ⊎_elim
       (λ above. let on : other ≡ suc (other - 1) = omega (arith, lt) in
-      ap (mark_in (starts tables more)) on ∙ marks_after_it tables fewer place (other - 1) touch (omega (arith, above)) inside ∙ s.none_after (other - 1) (omega (arith, above)) (omega (arith, le, lt)))
-      (λ there. let same : other ≡ suc (suc place) = omega (arith, there, lt) in ap (mark_in (starts tables more)) same ∙ goes)
+      ap (mark_in (starts editions more)) on ∙ marks_after_it editions fewer place (other - 1) touch (omega (arith, above)) inside ∙ s.none_after (other - 1) (omega (arith, above)) (omega (arith, le, lt)))
+      (λ there. let same : other ≡ suc (suc place) = omega (arith, there, lt) in ap (mark_in (starts editions more)) same ∙ goes)
       (cases_lt (suc (suc place)) other))
       (omega arith) (omega (arith, far)) (omega arith) (omega arith) in
       omega (arith, it, far))
@@ -143,13 +143,13 @@ module _ (local : StartsAreLocal) (each : JourneysHaveEachTap) (tables : FareTab
       (cases_lt (suc place) to)
 
   -- so a stretch has at most two taps and twice as many as are disturbed
-  pub few_in_stretch : (fewer : List Touch) (touch : Touch) (place from to : ℕ) → IsStretch tables fewer touch place from to → remove (insert fewer place touch) place ≡ fewer
-      → to - from ≤ 2 + 2 * disturbed_by_rail tables (insert fewer place touch) place
+  pub few_in_stretch : (fewer : List Touch) (touch : Touch) (place from to : ℕ) → IsStretch editions fewer touch place from to → remove (insert fewer place touch) place ≡ fewer
+      → to - from ≤ 2 + 2 * disturbed_by_rail editions (insert fewer place touch) place
   few_in_stretch fewer touch place from to s out =
       let more = insert fewer place touch in
-      let a = taps_of_any (place - 1) (place + 1) 0 (journeys tables (legs tables fewer)) in
-      let b = taps_of_any (place - 1) (place + 2) 0 (journeys tables (legs tables more)) in
-      let same : disturbed_by_rail tables more place ≡ a + b = ap (λ (taps : List Touch). taps_of_any (place - 1) (place + 1) 0 (journeys tables (legs tables taps)) + b) out in
+      let a = taps_of_any (place - 1) (place + 1) 0 (journeys editions.own (legs editions fewer)) in
+      let b = taps_of_any (place - 1) (place + 2) 0 (journeys editions.own (legs editions more)) in
+      let same : disturbed_by_rail editions more place ≡ a + b = ap (λ (taps : List Touch). taps_of_any (place - 1) (place + 1) 0 (journeys editions.own (legs editions taps)) + b) out in
       omega (arith, before_it fewer touch place from to s, after_it fewer touch place from to s, same)
 
   remove_inserted : (taps : List Touch) (place : ℕ) (touch : Touch) → place ≤ length taps → remove (insert taps place touch) place ≡ taps
@@ -160,16 +160,16 @@ module _ (local : StartsAreLocal) (each : JourneysHaveEachTap) (tables : FareTab
 
   -- of a tap that enters, or leaves where it is there
   pub few_around : PutInAtPlace → (taps : List Touch) (touch : Touch) (is_there : Bool) (place from to : ℕ) → (is_there ≡ true → slice_get taps (place_of touch taps) ≡ Some touch)
-      → place ≡ place_of touch taps → place ≤ length taps → IsStretch tables (fewer_of is_there place taps) touch place from to
-      → to - from ≤ 2 + 2 * disturbed_by_rail tables (more_of is_there touch taps) (place_of touch taps)
+      → place ≡ place_of touch taps → place ≤ length taps → IsStretch editions (fewer_of is_there place taps) touch place from to
+      → to - from ≤ 2 + 2 * disturbed_by_rail editions (more_of is_there touch taps) (place_of touch taps)
   few_around put taps touch true place from to there is within s =
       let again : insert (remove taps place) place touch ≡ taps = put_back taps place touch (ap (slice_get taps) is ∙ there refl) in
       let few = few_in_stretch (remove taps place) touch place from to s (ap (λ (list : List Touch). remove list place) again) in
-      let same : disturbed_by_rail tables (insert (remove taps place) place touch) place ≡ disturbed_by_rail tables taps (place_of touch taps) =
-      ap (λ (list : List Touch). disturbed_by_rail tables list place) again ∙ ap (disturbed_by_rail tables taps) is in
+      let same : disturbed_by_rail editions (insert (remove taps place) place touch) place ≡ disturbed_by_rail editions taps (place_of touch taps) =
+      ap (λ (list : List Touch). disturbed_by_rail editions list place) again ∙ ap (disturbed_by_rail editions taps) is in
       omega (arith, few, same)
   few_around put taps touch false place from to there is within s =
       let few = few_in_stretch taps touch place from to s (remove_inserted taps place touch within) in
-      let same : disturbed_by_rail tables (insert taps place touch) place ≡ disturbed_by_rail tables (put_in touch taps) (place_of touch taps) =
-      ap (λ (n : ℕ). disturbed_by_rail tables (insert taps n touch) n) is ∙ ap (λ (list : List Touch). disturbed_by_rail tables list (place_of touch taps)) (sym (put touch taps)) in
+      let same : disturbed_by_rail editions (insert taps place touch) place ≡ disturbed_by_rail editions (put_in touch taps) (place_of touch taps) =
+      ap (λ (n : ℕ). disturbed_by_rail editions (insert taps n touch) n) is ∙ ap (λ (list : List Touch). disturbed_by_rail editions list (place_of touch taps)) (sym (put touch taps)) in
       omega (arith, few, same)

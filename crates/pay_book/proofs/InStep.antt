@@ -28,7 +28,7 @@ not_before day other lt = ap is_eq (sym (nat_cmp_is day other Greater lt))
 pub not_after : (day other : ℕ) → day < other → is_at (nat_cmp day) other ≡ false
 not_after day other lt = ap is_eq (sym (nat_cmp_is day other Less lt))
 
-either : (day other : ℕ) → (day ≡ other) ⊎ (is_at (nat_cmp day) other ≡ false)
+pub either : (day other : ℕ) → (day ≡ other) ⊎ (is_at (nat_cmp day) other ≡ false)
 either day other =
     ⊎_elim (λ lt. inr (not_after day other lt)) (λ ge. ⊎_elim (λ lt. inr (not_before day other lt)) (λ le. inl (omega arith)) (cases_lt other day)) (cases_lt day other)
 

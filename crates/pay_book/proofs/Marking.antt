@@ -7,7 +7,7 @@ use Rattle.std.proofs.lemmas.List.Edits.{length-insert, length-remove}
 use Rattle.std.proofs.lemmas.Option.{slice_get_within}
 use Rattle.std.proofs.lemmas.Slice.Zip.{length-zip}
 use Rattle.pay_rules.specs.declared.limits.TheConstants.{MOST_TOUCHES}
-use Rattle.pay_tables.specs.Words.{FareTables}
+use Rattle.pay_tables.specs.Words.{FareEditions}
 use Rattle.pay_rules.specs.declared.tap.Touch.{Touch}
 use Rattle.pay_taps.specs.Words.{place_of, PutInAtPlace}
 use Rattle.pay_rules.specs.Order.{put_in}
@@ -40,14 +40,14 @@ no_more_than_taps (one ∷ list) = omega (arith, each_has_one one, no_more_than_
 few_boarded : (taps : List Touch) (marks : List Bool) → length (map boarding (zip taps marks)) ≤ length taps
 few_boarded taps marks = omega (arith, length-map (zip taps marks) boarding, length-zip taps marks)
 
-few_journeys : JourneysHaveEachTap → (tables : FareTables) (rail buses : List Touch) → length (all_journeys tables rail buses) ≤ length rail + length buses
-few_journeys law tables rail buses =
+few_journeys : JourneysHaveEachTap → (editions : FareEditions) (rail buses : List Touch) → length (all_journeys editions rail buses) ≤ length rail + length buses
+few_journeys law editions rail buses =
     omega (
       arith,
-      length-append (journeys tables (legs tables rail)) (boarded tables.rules.hopper buses),
-      no_more_than_taps (journeys tables (legs tables rail)),
-      ap length (law tables rail),
-      few_boarded buses (marks_by_last tables.rules.hopper None buses),
+      length-append (journeys editions.own (legs editions rail)) (boarded editions.own.rules.hopper buses),
+      no_more_than_taps (journeys editions.own (legs editions rail)),
+      ap length (law editions rail),
+      few_boarded buses (marks_by_last editions.own.rules.hopper None buses),
     )
 
 -- ---- some of the journeys by rail
@@ -56,65 +56,65 @@ pub rail_parts : (before some beyond buses all : List Journey) → all ≡ befor
 rail_parts before some beyond buses all e = ap (λ (l : List Journey). l ++ buses) e ∙ append_assoc (before ++ some) beyond buses
 
 -- the journeys by rail that a tap disturbs can be replaced
-pub rail_can_be_replaced : JourneysHaveEachTap → (tables : FareTables) (fewer more buses : List Touch) (old new left right : List Journey) (days : Days)
-    → journeys tables (legs tables more) ≡ left ++ new ++ right → journeys tables (legs tables fewer) ≡ left ++ old ++ right
-    → AreSums tables days (all_journeys tables fewer buses) → AreSummed days new → length more + length buses ≤ MOST_TOUCHES → CanReplace tables days old new
-rail_can_be_replaced law tables fewer more buses old new left right days with_it without are held few =
-    let boardings : List Journey = boarded tables.rules.hopper buses in
+pub rail_can_be_replaced : JourneysHaveEachTap → (editions : FareEditions) (fewer more buses : List Touch) (old new left right : List Journey) (days : Days)
+    → journeys editions.own (legs editions more) ≡ left ++ new ++ right → journeys editions.own (legs editions fewer) ≡ left ++ old ++ right
+    → AreSums editions days (all_journeys editions fewer buses) → AreSummed days new → length more + length buses ≤ MOST_TOUCHES → CanReplace editions days old new
+rail_can_be_replaced law editions fewer more buses old new left right days with_it without are held few =
+    let boardings : List Journey = boarded editions.own.rules.hopper buses in
     record {
       left = left;
       right = right ++ boardings;
-      sums = subst (AreSums tables days) (rail_parts left old right boardings (journeys tables (legs tables fewer)) without) are;
+      sums = subst (AreSums editions days) (rail_parts left old right boardings (journeys editions.own (legs editions fewer)) without) are;
       held = held;
-      few = omega (arith, ap length (rail_parts left new right boardings (journeys tables (legs tables more)) with_it), few_journeys law tables more buses, few);
+      few = omega (arith, ap length (rail_parts left new right boardings (journeys editions.own (legs editions more)) with_it), few_journeys law editions more buses, few);
     }
 
 -- ---- a touch more
 
-pub place_in_marks : (tables : FareTables) (touches : List Touch) (place : ℕ) (marks : List Bool) → place ≤ length touches → marks ≡ starts tables touches → place ≤ length marks
-place_in_marks tables touches place marks within are = omega (arith, within, ap length are, as_many tables None None touches)
+pub place_in_marks : (editions : FareEditions) (touches : List Touch) (place : ℕ) (marks : List Bool) → place ≤ length touches → marks ≡ starts editions touches → place ≤ length marks
+place_in_marks editions touches place marks within are = omega (arith, within, ap length are, as_many editions None None touches)
 
 -- the length of touches with one more
 pub one_longer : PutInAtPlace → (touch : Touch) (touches : List Touch) (place : ℕ) → place ≡ place_of touch touches → place ≤ length touches → length (put_in touch touches) ≡ length touches + 1
 one_longer law touch touches place is within = ap length (law touch touches) ∙ length-insert touches (place_of touch touches) touch (omega (arith, is, within))
 
-pub entered_marks : PutInAtPlace → (tables : FareTables) (rail now : List Touch) (touch : Touch) (place : ℕ) (old marks : List Bool) → now ≡ put_in touch rail → place ≡ place_of touch rail → place ≤ length rail
-    → old ≡ starts tables rail → marks ≡ insert old place true → AreMarkedElsewhere tables now place marks
-entered_marks law tables rail now touch place old marks after is within were are =
-    marked_once_in law tables rail now touch place true marks after is within (are ∙ ap (λ (l : List Bool). insert l place true) were)
+pub entered_marks : PutInAtPlace → (editions : FareEditions) (rail now : List Touch) (touch : Touch) (place : ℕ) (old marks : List Bool) → now ≡ put_in touch rail → place ≡ place_of touch rail → place ≤ length rail
+    → old ≡ starts editions rail → marks ≡ insert old place true → AreMarkedElsewhere editions now place marks
+entered_marks law editions rail now touch place old marks after is within were are =
+    marked_once_in law editions rail now touch place true marks after is within (are ∙ ap (λ (l : List Bool). insert l place true) were)
 
 -- ---- sums, before and after
 
-pub rail_sums_before : (tables : FareTables) (fewer buses : List Touch) (old given left right : List Journey) (days : Days) → given ≡ old → journeys tables (legs tables fewer) ≡ left ++ old ++ right
-    → AreSums tables days (all_journeys tables fewer buses) → AreSums tables days (left ++ given ++ (right ++ boarded tables.rules.hopper buses))
-rail_sums_before tables fewer buses old given left right days is parts are =
-    let boardings : List Journey = boarded tables.rules.hopper buses in
-    subst (λ (l : List Journey). AreSums tables days (left ++ l ++ (right ++ boardings))) (sym is) (subst (AreSums tables days) (rail_parts left old right boardings (journeys tables (legs tables fewer)) parts) are)
+pub rail_sums_before : (editions : FareEditions) (fewer buses : List Touch) (old given left right : List Journey) (days : Days) → given ≡ old → journeys editions.own (legs editions fewer) ≡ left ++ old ++ right
+    → AreSums editions days (all_journeys editions fewer buses) → AreSums editions days (left ++ given ++ (right ++ boarded editions.own.rules.hopper buses))
+rail_sums_before editions fewer buses old given left right days is parts are =
+    let boardings : List Journey = boarded editions.own.rules.hopper buses in
+    subst (λ (l : List Journey). AreSums editions days (left ++ l ++ (right ++ boardings))) (sym is) (subst (AreSums editions days) (rail_parts left old right boardings (journeys editions.own (legs editions fewer)) parts) are)
 
-pub rail_sums_after : (tables : FareTables) (more now buses : List Touch) (new given left right : List Journey) (days : Days) → now ≡ more → given ≡ new → journeys tables (legs tables more) ≡ left ++ new ++ right
-    → AreSums tables days (left ++ given ++ (right ++ boarded tables.rules.hopper buses)) → AreSums tables days (all_journeys tables now buses)
-rail_sums_after tables more now buses new given left right days after is parts are =
-    let boardings : List Journey = boarded tables.rules.hopper buses in
-    subst (λ (l : List Touch). AreSums tables days (all_journeys tables l buses)) (sym after)
-    (subst (AreSums tables days) (sym (rail_parts left new right boardings (journeys tables (legs tables more)) parts)) (subst (λ (l : List Journey). AreSums tables days (left ++ l ++ (right ++ boardings))) is are))
+pub rail_sums_after : (editions : FareEditions) (more now buses : List Touch) (new given left right : List Journey) (days : Days) → now ≡ more → given ≡ new → journeys editions.own (legs editions more) ≡ left ++ new ++ right
+    → AreSums editions days (left ++ given ++ (right ++ boarded editions.own.rules.hopper buses)) → AreSums editions days (all_journeys editions now buses)
+rail_sums_after editions more now buses new given left right days after is parts are =
+    let boardings : List Journey = boarded editions.own.rules.hopper buses in
+    subst (λ (l : List Touch). AreSums editions days (all_journeys editions l buses)) (sym after)
+    (subst (AreSums editions days) (sym (rail_parts left new right boardings (journeys editions.own (legs editions more)) parts)) (subst (λ (l : List Journey). AreSums editions days (left ++ l ++ (right ++ boardings))) is are))
 
 -- marks that are as many as before are all that is written of them
-pub all_written : (tables : FareTables) (touches : List Touch) (n : ℕ) (marks given rest : List Bool) → marks ≡ starts tables touches → length given ≡ length touches → length given ≡ n
-    → take n (marks ++ rest) ≡ starts tables touches
-all_written tables touches n marks given rest are as_long many =
-    let size : length marks ≡ n = omega (arith, ap length are, as_many tables None None touches, as_long, many) in
+pub all_written : (editions : FareEditions) (touches : List Touch) (n : ℕ) (marks given rest : List Bool) → marks ≡ starts editions touches → length given ≡ length touches → length given ≡ n
+    → take n (marks ++ rest) ≡ starts editions touches
+all_written editions touches n marks given rest are as_long many =
+    let size : length marks ≡ n = omega (arith, ap length are, as_many editions None None touches, as_long, many) in
     subst (λ (k : ℕ). take k (marks ++ rest) ≡ marks) size (take-append_seam marks rest) ∙ are
 
 -- ---- a touch less
 
-pub left_marks : (tables : FareTables) (rail now : List Touch) (touch : Touch) (place : ℕ) (old marks : List Bool) → now ≡ remove rail place → slice_get rail (place_of touch rail) ≡ Some touch → place ≡ place_of touch rail
-    → old ≡ starts tables rail → marks ≡ remove old place → AreMarkedElsewhere tables now place marks
-left_marks tables rail now touch place old marks after there is were are =
-    marked_once_out tables rail now touch place marks after (ap (slice_get rail) is ∙ there) (are ∙ ap (λ (l : List Bool). remove l place) were)
+pub left_marks : (editions : FareEditions) (rail now : List Touch) (touch : Touch) (place : ℕ) (old marks : List Bool) → now ≡ remove rail place → slice_get rail (place_of touch rail) ≡ Some touch → place ≡ place_of touch rail
+    → old ≡ starts editions rail → marks ≡ remove old place → AreMarkedElsewhere editions now place marks
+left_marks editions rail now touch place old marks after there is were are =
+    marked_once_out editions rail now touch place marks after (ap (slice_get rail) is ∙ there) (are ∙ ap (λ (l : List Bool). remove l place) were)
 
-pub place_below_marks : (tables : FareTables) (rail : List Touch) (touch : Touch) (place : ℕ) (marks : List Bool) → slice_get rail (place_of touch rail) ≡ Some touch → place ≡ place_of touch rail → marks ≡ starts tables rail → place < length marks
-place_below_marks tables rail touch place marks there is are =
-    omega (arith, slice_get_within rail (place_of touch rail) touch there, is, ap length are, as_many tables None None rail)
+pub place_below_marks : (editions : FareEditions) (rail : List Touch) (touch : Touch) (place : ℕ) (marks : List Bool) → slice_get rail (place_of touch rail) ≡ Some touch → place ≡ place_of touch rail → marks ≡ starts editions rail → place < length marks
+place_below_marks editions rail touch place marks there is are =
+    omega (arith, slice_get_within rail (place_of touch rail) touch there, is, ap length are, as_many editions None None rail)
 
 pub one_shorter : (touch : Touch) (touches : List Touch) (place : ℕ) → slice_get touches place ≡ Some touch → length (remove touches place) ≤ length touches
 one_shorter touch touches place there = omega (arith, length-remove touches place (slice_get_within touches place touch there))
@@ -126,31 +126,31 @@ bus_parts rail left some right all e =
     ap (λ (l : List Journey). rail ++ l) e ∙ sym (append_assoc rail (left ++ some) right) ∙ ap (λ (l : List Journey). l ++ right) (sym (append_assoc rail left some))
 
 -- the boardings that a tap disturbs can be replaced
-pub boardings_can_be_replaced : JourneysHaveEachTap → (tables : FareTables) (rail fewer more : List Touch) (old new left right : List Journey) (days : Days)
-    → boarded tables.rules.hopper more ≡ left ++ new ++ right → boarded tables.rules.hopper fewer ≡ left ++ old ++ right
-    → AreSums tables days (all_journeys tables rail fewer) → AreSummed days new → length rail + length more ≤ MOST_TOUCHES → CanReplace tables days old new
-boardings_can_be_replaced law tables rail fewer more old new left right days with_it without are held few =
-    let list : List Journey = journeys tables (legs tables rail) in
+pub boardings_can_be_replaced : JourneysHaveEachTap → (editions : FareEditions) (rail fewer more : List Touch) (old new left right : List Journey) (days : Days)
+    → boarded editions.own.rules.hopper more ≡ left ++ new ++ right → boarded editions.own.rules.hopper fewer ≡ left ++ old ++ right
+    → AreSums editions days (all_journeys editions rail fewer) → AreSummed days new → length rail + length more ≤ MOST_TOUCHES → CanReplace editions days old new
+boardings_can_be_replaced law editions rail fewer more old new left right days with_it without are held few =
+    let list : List Journey = journeys editions.own (legs editions rail) in
     record {
       left = list ++ left;
       right = right;
-      sums = subst (AreSums tables days) (bus_parts list left old right (boarded tables.rules.hopper fewer) without) are;
+      sums = subst (AreSums editions days) (bus_parts list left old right (boarded editions.own.rules.hopper fewer) without) are;
       held = held;
-      few = omega (arith, ap length (bus_parts list left new right (boarded tables.rules.hopper more) with_it), few_journeys law tables rail more, few);
+      few = omega (arith, ap length (bus_parts list left new right (boarded editions.own.rules.hopper more) with_it), few_journeys law editions rail more, few);
     }
 
-pub bus_sums_before : (tables : FareTables) (rail fewer : List Touch) (old given left right : List Journey) (days : Days) → given ≡ old → boarded tables.rules.hopper fewer ≡ left ++ old ++ right
-    → AreSums tables days (all_journeys tables rail fewer) → AreSums tables days ((journeys tables (legs tables rail) ++ left) ++ given ++ right)
-bus_sums_before tables rail fewer old given left right days is parts are =
-    let list : List Journey = journeys tables (legs tables rail) in
-    subst (λ (l : List Journey). AreSums tables days ((list ++ left) ++ l ++ right)) (sym is) (subst (AreSums tables days) (bus_parts list left old right (boarded tables.rules.hopper fewer) parts) are)
+pub bus_sums_before : (editions : FareEditions) (rail fewer : List Touch) (old given left right : List Journey) (days : Days) → given ≡ old → boarded editions.own.rules.hopper fewer ≡ left ++ old ++ right
+    → AreSums editions days (all_journeys editions rail fewer) → AreSums editions days ((journeys editions.own (legs editions rail) ++ left) ++ given ++ right)
+bus_sums_before editions rail fewer old given left right days is parts are =
+    let list : List Journey = journeys editions.own (legs editions rail) in
+    subst (λ (l : List Journey). AreSums editions days ((list ++ left) ++ l ++ right)) (sym is) (subst (AreSums editions days) (bus_parts list left old right (boarded editions.own.rules.hopper fewer) parts) are)
 
-pub bus_sums_after : (tables : FareTables) (rail more now : List Touch) (new given left right : List Journey) (days : Days) → now ≡ more → given ≡ new → boarded tables.rules.hopper more ≡ left ++ new ++ right
-    → AreSums tables days ((journeys tables (legs tables rail) ++ left) ++ given ++ right) → AreSums tables days (all_journeys tables rail now)
-bus_sums_after tables rail more now new given left right days after is parts are =
-    let list : List Journey = journeys tables (legs tables rail) in
-    subst (λ (l : List Touch). AreSums tables days (all_journeys tables rail l)) (sym after)
-    (subst (AreSums tables days) (sym (bus_parts list left new right (boarded tables.rules.hopper more) parts)) (subst (λ (l : List Journey). AreSums tables days ((list ++ left) ++ l ++ right)) is are))
+pub bus_sums_after : (editions : FareEditions) (rail more now : List Touch) (new given left right : List Journey) (days : Days) → now ≡ more → given ≡ new → boarded editions.own.rules.hopper more ≡ left ++ new ++ right
+    → AreSums editions days ((journeys editions.own (legs editions rail) ++ left) ++ given ++ right) → AreSums editions days (all_journeys editions rail now)
+bus_sums_after editions rail more now new given left right days after is parts are =
+    let list : List Journey = journeys editions.own (legs editions rail) in
+    subst (λ (l : List Touch). AreSums editions days (all_journeys editions rail l)) (sym after)
+    (subst (AreSums editions days) (sym (bus_parts list left new right (boarded editions.own.rules.hopper more) parts)) (subst (λ (l : List Journey). AreSums editions days ((list ++ left) ++ l ++ right)) is are))
 
 -- ---- marks of boardings
 
@@ -186,12 +186,12 @@ fits_there given base place its list listed same at listed_same fits = omega (ar
 
 -- ---- what is kept, where taps and marks are as before
 
-pub right_stays : (tables : FareTables) (before now : MarkedTaps) → AreAsBefore before now → ((list : List Journey) → AreSums tables before.days list → AreSums tables now.days list)
-    → IsRight tables before → IsRight tables now
-right_stays tables before now same sums right = record {
-  starts = same.starts ∙ right.starts ∙ ap (starts tables) (sym same.rail);
-  pays = same.pays ∙ right.pays ∙ ap (marks_by_last tables.rules.hopper None) (sym same.buses);
+pub right_stays : (editions : FareEditions) (before now : MarkedTaps) → AreAsBefore before now → ((list : List Journey) → AreSums editions before.days list → AreSums editions now.days list)
+    → IsRight editions before → IsRight editions now
+right_stays editions before now same sums right = record {
+  starts = same.starts ∙ right.starts ∙ ap (starts editions) (sym same.rail);
+  pays = same.pays ∙ right.pays ∙ ap (marks_by_last editions.own.rules.hopper None) (sym same.buses);
   sums =
-      subst (λ (l : List Touch). AreSums tables now.days (all_journeys tables l now.buses.touches)) (sym same.rail)
-      (subst (λ (l : List Touch). AreSums tables now.days (all_journeys tables before.rail.touches l)) (sym same.buses) (sums _ right.sums));
+      subst (λ (l : List Touch). AreSums editions now.days (all_journeys editions l now.buses.touches)) (sym same.rail)
+      (subst (λ (l : List Touch). AreSums editions now.days (all_journeys editions before.rail.touches l)) (sym same.buses) (sums _ right.sums));
 }

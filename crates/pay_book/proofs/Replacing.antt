@@ -6,10 +6,10 @@ use Rattle.std.proofs.lemmas.List.Filters.{length-filter_both}
 use Rattle.std.proofs.lemmas.List.Sums.{sum_by-cons}
 use Rattle.pay_rules.specs.declared.limits.TheConstants.{MOST_TOUCHES}
 use Rattle.pay_tables.specs.declared.limits.TheConstants.{MOST_FARE}
-use Rattle.pay_tables.specs.Words.{FareTables}
+use Rattle.pay_tables.specs.Words.{FareEditions, FareTables, on}
 use Rattle.pay_rules.specs.declared.journey.Journey.{Journey}
 use Rattle.pay_caps.specs.Words.{CellSums, cell_of, cells_of, sum_at, total, all_added, all_taken, StretchIsTaken, EachFareIsThere, StretchIsAdded}
-use Rattle.pay_rules.specs.JourneyFares.{fare}
+use Rattle.pay_rules.specs.JourneyFares.{fare, fare_by}
 use Rattle.pay_rules.specs.DayPrices.{fares}
 use Rattle.pay_rules.specs.Journeys.{is_on}
 use Rattle.pay_rules.specs.Prices.{journeys_on}
@@ -44,26 +44,26 @@ pub stored_still : (before now : Days) (list : List Journey) → StaySummed befo
 stored_still before now [] stay h = tt
 stored_still before now (one ∷ list) stay h = (stay (day_of one) h.0, stored_still before now list stay h.1)
 
-pub middle_stored : (tables : FareTables) (days : Days) (left some right : List Journey) → AreSums tables days (left ++ some ++ right) → AreSummed days some
-middle_stored tables days left some right are = stored_back days left some (stored_front days (left ++ some) right are.held)
+pub middle_stored : (editions : FareEditions) (days : Days) (left some right : List Journey) → AreSums editions days (left ++ some ++ right) → AreSummed days some
+middle_stored editions days left some right are = stored_back days left some (stored_front days (left ++ some) right are.held)
 
 -- ---- taken
 
-pub all_there : (tables : FareTables) → EachFareIsThere tables → (days : Days) (left some right : List Journey) → AreSums tables days (left ++ some ++ right) → AreThere tables days some
-all_there tables law days left some right are done one rest e =
+pub all_there : (editions : FareEditions) → ((day : ℕ) → EachFareIsThere (on editions day)) → (days : Days) (left some right : List Journey) → AreSums editions days (left ++ some ++ right) → AreThere editions days some
+all_there editions law days left some right are done one rest e =
     let day : ℕ = day_of one in
-    let on : List Journey → List Journey = λ (l : List Journey). journeys_on l day in
-    let before : sums_on days day ≡ cells_of tables (on left ++ on some ++ on right) = are.sums day ∙ ap (cells_of tables) (parts_on left some right day) in
-    subst (λ (sums : CellSums). fare tables one ≤ sum_at (cell_of tables one) (all_taken tables (on done) sums)) (sym before)
-    (law (on left) (on some) (on right) (on done) one (on rest) (ap on e ∙ around done one rest))
+    let its : List Journey → List Journey = λ (l : List Journey). journeys_on l day in
+    let before : sums_on days day ≡ cells_of (on editions day) (its left ++ its some ++ its right) = are.sums day ∙ ap (cells_of (on editions day)) (parts_on left some right day) in
+    subst (λ (sums : CellSums). fare_by editions one ≤ sum_at (cell_of (on editions day) one) (all_taken (on editions day) (its done) sums)) (sym before)
+    (law day (its left) (its some) (its right) (its done) one (its rest) (ap its e ∙ around done one rest))
 
-pub left_then : (tables : FareTables) → StretchIsTaken tables → (days now : Days) (left some right : List Journey) → AreSums tables days (left ++ some ++ right)
-    → ((day : ℕ) → sums_on now day ≡ all_taken tables (journeys_on some day) (sums_on days day))
-    → (day : ℕ) → sums_on now day ≡ cells_of tables (journeys_on left day ++ journeys_on right day)
-left_then tables law days now left some right are taken day =
+pub left_then : (editions : FareEditions) → ((day : ℕ) → StretchIsTaken (on editions day)) → (days now : Days) (left some right : List Journey) → AreSums editions days (left ++ some ++ right)
+    → ((day : ℕ) → sums_on now day ≡ all_taken (on editions day) (journeys_on some day) (sums_on days day))
+    → (day : ℕ) → sums_on now day ≡ cells_of (on editions day) (journeys_on left day ++ journeys_on right day)
+left_then editions law days now left some right are taken day =
     taken day
-    ∙ ap (all_taken tables (journeys_on some day)) (are.sums day ∙ ap (cells_of tables) (parts_on left some right day))
-    ∙ law (journeys_on left day) (journeys_on some day) (journeys_on right day)
+    ∙ ap (all_taken (on editions day) (journeys_on some day)) (are.sums day ∙ ap (cells_of (on editions day)) (parts_on left some right day))
+    ∙ law day (journeys_on left day) (journeys_on some day) (journeys_on right day)
 
 -- ---- added
 
@@ -74,28 +74,28 @@ few_fares tables each (journey ∷ list) = omega (arith, sum_by-cons (fare table
 few_on : (list : List Journey) (day : ℕ) → length (journeys_on list day) ≤ length list
 few_on list day = omega (arith, length-filter_both (is_on day) (λ journey. not (is_on day journey)) (λ _. refl) list)
 
-pub room_then : (tables : FareTables) → ((journey : Journey) → fare tables journey ≤ MOST_FARE) → ((list : List Journey) → total (cells_of tables list) ≡ fares tables list) → (now : Days) (left new right : List Journey)
-    → ((day : ℕ) → sums_on now day ≡ cells_of tables (journeys_on left day ++ journeys_on right day)) → length (left ++ new ++ right) ≤ MOST_TOUCHES → HaveRoomFor now (length new * MOST_FARE)
-room_then tables each all now left new right are few day =
-    let on : List Journey → List Journey = λ (l : List Journey). journeys_on l day in
-    let sum : total (sums_on now day) ≡ sum_by (fare tables) (on left ++ on right) = ap total (are day) ∙ all (on left ++ on right) in
-    let count : length (on left ++ on right) + length new ≤ MOST_TOUCHES =
-    omega (arith, few, length-append (on left) (on right), few_on left day, few_on right day, length-append (left ++ new) right, length-append left new) in
-    omega (arith, sum, few_fares tables each (on left ++ on right), count)
+pub room_then : (editions : FareEditions) → ((day : ℕ) (journey : Journey) → fare (on editions day) journey ≤ MOST_FARE) → ((day : ℕ) (list : List Journey) → total (cells_of (on editions day) list) ≡ fares (on editions day) list) → (now : Days) (left new right : List Journey)
+    → ((day : ℕ) → sums_on now day ≡ cells_of (on editions day) (journeys_on left day ++ journeys_on right day)) → length (left ++ new ++ right) ≤ MOST_TOUCHES → HaveRoomFor now (length new * MOST_FARE)
+room_then editions each all now left new right are few day =
+    let its : List Journey → List Journey = λ (l : List Journey). journeys_on l day in
+    let sum : total (sums_on now day) ≡ sum_by (fare (on editions day)) (its left ++ its right) = ap total (are day) ∙ all day (its left ++ its right) in
+    let count : length (its left ++ its right) + length new ≤ MOST_TOUCHES =
+    omega (arith, few, length-append (its left) (its right), few_on left day, few_on right day, length-append (left ++ new) right, length-append left new) in
+    omega (arith, sum, few_fares (on editions day) (each day) (its left ++ its right), count)
 
-pub sums_then : (tables : FareTables) → StretchIsAdded tables → (now last : Days) (left new right : List Journey)
-    → ((day : ℕ) → sums_on now day ≡ cells_of tables (journeys_on left day ++ journeys_on right day))
-    → ((day : ℕ) → sums_on last day ≡ all_added tables (journeys_on new day) (sums_on now day))
-    → (day : ℕ) → sums_on last day ≡ cells_of tables (journeys_on (left ++ new ++ right) day)
-sums_then tables law now last left new right are added day =
-    added day ∙ ap (all_added tables (journeys_on new day)) (are day) ∙ law (journeys_on left day) (journeys_on new day) (journeys_on right day)
-    ∙ ap (cells_of tables) (sym (parts_on left new right day))
+pub sums_then : (editions : FareEditions) → ((day : ℕ) → StretchIsAdded (on editions day)) → (now last : Days) (left new right : List Journey)
+    → ((day : ℕ) → sums_on now day ≡ cells_of (on editions day) (journeys_on left day ++ journeys_on right day))
+    → ((day : ℕ) → sums_on last day ≡ all_added (on editions day) (journeys_on new day) (sums_on now day))
+    → (day : ℕ) → sums_on last day ≡ cells_of (on editions day) (journeys_on (left ++ new ++ right) day)
+sums_then editions law now last left new right are added day =
+    added day ∙ ap (all_added (on editions day) (journeys_on new day)) (are day) ∙ law day (journeys_on left day) (journeys_on new day) (journeys_on right day)
+    ∙ ap (cells_of (on editions day)) (sym (parts_on left new right day))
 
-pub stored_then : (tables : FareTables) (days last : Days) (left old new right : List Journey) → AreSums tables days (left ++ old ++ right) → AreSummed days new → StaySummed days last → AreSummed last (left ++ new ++ right)
-stored_then tables days last left old new right are held stay =
+pub stored_then : (editions : FareEditions) (days last : Days) (left old new right : List Journey) → AreSums editions days (left ++ old ++ right) → AreSummed days new → StaySummed days last → AreSummed last (left ++ new ++ right)
+stored_then editions days last left old new right are held stay =
     stored_still days last (left ++ new ++ right) stay
     (stored_both days (left ++ new) right (stored_both days left new (stored_front days left old (stored_front days (left ++ old) right are.held)) held) (stored_back days (left ++ old) right are.held))
 
 -- days of which more sums are kept, and the same, are right for the same journeys
-pub sums_stay : (before now : Days) → ((day : ℕ) → sums_on now day ≡ sums_on before day) → StaySummed before now → (tables : FareTables) (list : List Journey) → AreSums tables before list → AreSums tables now list
-sums_stay before now same stay tables list are = record { held = stored_still before now list stay are.held; sums = λ day. same day ∙ are.sums day }
+pub sums_stay : (before now : Days) → ((day : ℕ) → sums_on now day ≡ sums_on before day) → StaySummed before now → (editions : FareEditions) (list : List Journey) → AreSums editions before list → AreSums editions now list
+sums_stay before now same stay editions list are = record { held = stored_still before now list stay are.held; sums = λ day. same day ∙ are.sums day }

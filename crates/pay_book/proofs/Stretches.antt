@@ -6,7 +6,7 @@ use Rattle.std.proofs.lemmas.Bool.{cases_lt, and_parts}
 use Rattle.std.proofs.lemmas.Option.{slice_get_past, slice_get_within}
 use Rattle.std.proofs.lemmas.List.Edits.{length-insert, length-remove}
 use Rattle.pay_taps.specs.Words.{touch_before}
-use Rattle.pay_tables.specs.Words.{FareTables}
+use Rattle.pay_tables.specs.Words.{FareEditions}
 use Rattle.pay_rules.specs.declared.tap.Touch.{Touch}
 use Rattle.pay_links.specs.Words.{starts}
 use Rattle.pay_book.specs.declared.stretch.Around.{Around}
@@ -15,11 +15,11 @@ use Rattle.pay_book.specs.Fewer.{fewer_of}
 use Rattle.pay_book.proofs.Marks.{as_many, put_back, before_same, after_same, it_stands, mark_by_place, marks_before, marks_after_it}
 
 -- where a journey starts the taps are cut
-pub cut_at : (tables : FareTables) (taps : List Touch) (place : ℕ) → place ≤ length taps → mark_in (starts tables taps) place ≡ true → IsCut tables taps place
-cut_at tables taps place le marked =
+pub cut_at : (editions : FareEditions) (taps : List Touch) (place : ℕ) → place ≤ length taps → mark_in (starts editions taps) place ≡ true → IsCut editions taps place
+cut_at editions taps place le marked =
     let long : length (take place taps) ≡ place = let n = length-take place taps in omega arith in
     let all = take-append-drop place taps in
-    ap (λ (list : List Touch). get_or (starts tables list) (length (take place taps)) true) all ∙ ap (mark_in (starts tables taps)) long ∙ marked
+    ap (λ (list : List Touch). get_or (starts editions list) (length (take place taps)) true) all ∙ ap (mark_in (starts editions taps)) long ∙ marked
 
 -- ---- the four taps around each place next to one that is put in
 
@@ -32,36 +32,36 @@ second_same taps place zero touch lt le = refl
 second_same taps place (suc other) touch lt le = first_same taps place other touch (omega arith) le
 
 -- at the tap itself
-at_it : (tables : FareTables) (taps : List Touch) (place : ℕ) (touch : Touch) → place ≤ length taps →
-    starts_in tables (insert taps place touch) place ≡ starts_if_there tables (second_before taps place) (touch_before taps place) (Some touch) (slice_get taps place)
-at_it tables taps place touch le =
+at_it : (editions : FareEditions) (taps : List Touch) (place : ℕ) (touch : Touch) → place ≤ length taps →
+    starts_in editions (insert taps place touch) place ≡ starts_if_there editions (second_before taps place) (touch_before taps place) (Some touch) (slice_get taps place)
+at_it editions taps place touch le =
     let farther = second_same taps place place touch (omega arith) le in
     let nearer = first_same taps place place touch (omega arith) le in
     let here = it_stands taps place touch le in
     let next = after_same taps place place touch (omega arith) le in cc
 
 -- at the tap before it
-before_it : (tables : FareTables) (taps : List Touch) (place : ℕ) (touch : Touch) → suc place ≤ length taps →
-    starts_in tables (insert taps (suc place) touch) place ≡ starts_if_there tables (second_before taps place) (touch_before taps place) (slice_get taps place) (Some touch)
-before_it tables taps place touch le =
+before_it : (editions : FareEditions) (taps : List Touch) (place : ℕ) (touch : Touch) → suc place ≤ length taps →
+    starts_in editions (insert taps (suc place) touch) place ≡ starts_if_there editions (second_before taps place) (touch_before taps place) (slice_get taps place) (Some touch)
+before_it editions taps place touch le =
     let farther = second_same taps (suc place) place touch (omega arith) le in
     let nearer = first_same taps (suc place) place touch (omega arith) le in
     let here = before_same taps (suc place) place touch (omega arith) le in
     let next = it_stands taps (suc place) touch le in cc
 
 -- at the tap after it
-after_it : (tables : FareTables) (taps : List Touch) (place : ℕ) (touch : Touch) → place ≤ length taps →
-    starts_in tables (insert taps place touch) (suc place) ≡ starts_if_there tables (touch_before taps place) (Some touch) (slice_get taps place) (slice_get taps (suc place))
-after_it tables taps place touch le =
+after_it : (editions : FareEditions) (taps : List Touch) (place : ℕ) (touch : Touch) → place ≤ length taps →
+    starts_in editions (insert taps place touch) (suc place) ≡ starts_if_there editions (touch_before taps place) (Some touch) (slice_get taps place) (slice_get taps (suc place))
+after_it editions taps place touch le =
     let farther = first_same taps place place touch (omega arith) le in
     let nearer = it_stands taps place touch le in
     let here = after_same taps place place touch (omega arith) le in
     let next = after_same taps place (suc place) touch (omega arith) le in cc
 
 -- at the second tap after it
-further : (tables : FareTables) (taps : List Touch) (place : ℕ) (touch : Touch) → place ≤ length taps →
-    starts_in tables (insert taps place touch) (suc (suc place)) ≡ starts_if_there tables (Some touch) (slice_get taps place) (slice_get taps (suc place)) (slice_get taps (suc (suc place)))
-further tables taps place touch le =
+further : (editions : FareEditions) (taps : List Touch) (place : ℕ) (touch : Touch) → place ≤ length taps →
+    starts_in editions (insert taps place touch) (suc (suc place)) ≡ starts_if_there editions (Some touch) (slice_get taps place) (slice_get taps (suc place)) (slice_get taps (suc (suc place)))
+further editions taps place touch le =
     let farther = it_stands taps place touch le in
     let nearer = after_same taps place place touch (omega arith) le in
     let here = after_same taps place (suc place) touch (omega arith) le in
@@ -74,31 +74,31 @@ one_is_false true b e = inl e
 one_is_false false b e = inr refl
 
 -- at the tap before it
-goes_before : (tables : FareTables) (fewer : List Touch) (touch : Touch) (place : ℕ) (near : Around) → suc place ≤ length fewer → IsAround fewer (suc place) near →
-    starts_before_it tables near touch ≡ false → GoesOnInOne tables fewer place (insert fewer (suc place) touch) place
-goes_before tables fewer touch place near le around not_there =
-    let window = before_it tables fewer place touch le in
+goes_before : (editions : FareEditions) (fewer : List Touch) (touch : Touch) (place : ℕ) (near : Around) → suc place ≤ length fewer → IsAround fewer (suc place) near →
+    starts_before_it editions near touch ≡ false → GoesOnInOne editions fewer place (insert fewer (suc place) touch) place
+goes_before editions fewer touch place near le around not_there =
+    let window = before_it editions fewer place touch le in
     ⊎_elim
-    (λ without. let a : starts_in tables fewer place ≡ false = cc in inl (mark_by_place tables fewer place ∙ a))
-    (λ with_it. let b : starts_in tables (insert fewer (suc place) touch) place ≡ false = cc in inr (mark_by_place tables (insert fewer (suc place) touch) place ∙ b))
-    (one_is_false (starts_if_there tables near.third near.second near.first (Some touch)) (starts_if_there tables near.third near.second near.first near.here) not_there)
+    (λ without. let a : starts_in editions fewer place ≡ false = cc in inl (mark_by_place editions fewer place ∙ a))
+    (λ with_it. let b : starts_in editions (insert fewer (suc place) touch) place ≡ false = cc in inr (mark_by_place editions (insert fewer (suc place) touch) place ∙ b))
+    (one_is_false (starts_if_there editions near.third near.second near.first (Some touch)) (starts_if_there editions near.third near.second near.first near.here) not_there)
 
-goes_on_ahead : (tables : FareTables) (fewer : List Touch) (touch : Touch) (place : ℕ) (near : Around) → place ≤ length fewer → IsAround fewer place near →
-    starts_before_it tables near touch ≡ false → 0 < place → GoesOnInOne tables fewer (place - 1) (insert fewer place touch) (place - 1)
-goes_on_ahead tables fewer touch zero near le around not_there some = absurd (omega (arith, some))
-goes_on_ahead tables fewer touch (suc place) near le around not_there some =
+goes_on_ahead : (editions : FareEditions) (fewer : List Touch) (touch : Touch) (place : ℕ) (near : Around) → place ≤ length fewer → IsAround fewer place near →
+    starts_before_it editions near touch ≡ false → 0 < place → GoesOnInOne editions fewer (place - 1) (insert fewer place touch) (place - 1)
+goes_on_ahead editions fewer touch zero near le around not_there some = absurd (omega (arith, some))
+goes_on_ahead editions fewer touch (suc place) near le around not_there some =
     let back : place ≡ suc place - 1 = omega arith in
-    subst (λ (n : ℕ). GoesOnInOne tables fewer n (insert fewer (suc place) touch) n) back (goes_before tables fewer touch place near le around not_there)
+    subst (λ (n : ℕ). GoesOnInOne editions fewer n (insert fewer (suc place) touch) n) back (goes_before editions fewer touch place near le around not_there)
 
 -- at the second tap after it
-goes_on_further : (tables : FareTables) (fewer : List Touch) (touch : Touch) (place : ℕ) (near : Around) → place ≤ length fewer → IsAround fewer place near →
-    starts_further tables near touch ≡ false → GoesOnInOne tables fewer (suc place) (insert fewer place touch) (suc (suc place))
-goes_on_further tables fewer touch place near le around not_there =
-    let window = further tables fewer place touch le in
+goes_on_further : (editions : FareEditions) (fewer : List Touch) (touch : Touch) (place : ℕ) (near : Around) → place ≤ length fewer → IsAround fewer place near →
+    starts_further editions near touch ≡ false → GoesOnInOne editions fewer (suc place) (insert fewer place touch) (suc (suc place))
+goes_on_further editions fewer touch place near le around not_there =
+    let window = further editions fewer place touch le in
     ⊎_elim
-    (λ without. let a : starts_in tables fewer (suc place) ≡ false = cc in inl (mark_by_place tables fewer (suc place) ∙ a))
-    (λ with_it. let b : starts_in tables (insert fewer place touch) (suc (suc place)) ≡ false = cc in inr (mark_by_place tables (insert fewer place touch) (suc (suc place)) ∙ b))
-    (one_is_false (starts_if_there tables (Some touch) near.here near.next near.later) (starts_if_there tables near.first near.here near.next near.later) not_there)
+    (λ without. let a : starts_in editions fewer (suc place) ≡ false = cc in inl (mark_by_place editions fewer (suc place) ∙ a))
+    (λ with_it. let b : starts_in editions (insert fewer place touch) (suc (suc place)) ≡ false = cc in inr (mark_by_place editions (insert fewer place touch) (suc (suc place)) ∙ b))
+    (one_is_false (starts_if_there editions (Some touch) near.here near.next near.later) (starts_if_there editions near.first near.here near.next near.later) not_there)
 
 -- ---- the first place
 
@@ -106,144 +106,144 @@ long_more : (taps : List Touch) (place : ℕ) (touch : Touch) → place ≤ leng
 long_more taps place touch le = let n = length-insert taps place touch le in omega arith
 
 -- a journey starts at the first tap of all
-pub first_starts : (tables : FareTables) (taps : List Touch) → mark_in (starts tables taps) 0 ≡ true
-first_starts tables [] = refl
-first_starts tables (tap ∷ later) = refl
+pub first_starts : (editions : FareEditions) (taps : List Touch) → mark_in (starts editions taps) 0 ≡ true
+first_starts editions [] = refl
+first_starts editions (tap ∷ later) = refl
 
-pub first_place_from_marks : (tables : FareTables) (fewer : List Touch) (touch : Touch) (place from : ℕ) → place ≤ length fewer → from ≤ place →
-    ((other : ℕ) → from < other → suc other < place → mark_in (starts tables fewer) other ≡ false) →
-    (suc from < place → GoesOnInOne tables fewer (place - 1) (insert fewer place touch) (place - 1)) →
-    mark_in (starts tables fewer) from ≡ true → mark_in (starts tables (insert fewer place touch)) from ≡ true → IsFirstPlace tables fewer touch place from
-first_place_from_marks tables fewer touch place from le below none goes a b =
+pub first_place_from_marks : (editions : FareEditions) (fewer : List Touch) (touch : Touch) (place from : ℕ) → place ≤ length fewer → from ≤ place →
+    ((other : ℕ) → from < other → suc other < place → mark_in (starts editions fewer) other ≡ false) →
+    (suc from < place → GoesOnInOne editions fewer (place - 1) (insert fewer place touch) (place - 1)) →
+    mark_in (starts editions fewer) from ≡ true → mark_in (starts editions (insert fewer place touch)) from ≡ true → IsFirstPlace editions fewer touch place from
+first_place_from_marks editions fewer touch place from le below none goes a b =
     let long = long_more fewer place touch le in
     record {
       from_before = below;
       none_before = none;
       goes_on_before = goes;
-      fewer_from = cut_at tables fewer from (omega arith) a;
-      more_from = cut_at tables (insert fewer place touch) from (omega arith) b;
+      fewer_from = cut_at editions fewer from (omega arith) a;
+      more_from = cut_at editions (insert fewer place touch) from (omega arith) b;
     }
 
-pub first_at_it : (tables : FareTables) (fewer : List Touch) (touch : Touch) (place : ℕ) (near : Around) → place ≤ length fewer → IsAround fewer place near →
-    starts_at_it tables near touch ≡ true → IsFirstPlace tables fewer touch place place
-first_at_it tables fewer touch place near le around there =
+pub first_at_it : (editions : FareEditions) (fewer : List Touch) (touch : Touch) (place : ℕ) (near : Around) → place ≤ length fewer → IsAround fewer place near →
+    starts_at_it editions near touch ≡ true → IsFirstPlace editions fewer touch place place
+first_at_it editions fewer touch place near le around there =
     let both = and_parts _ _ there in
-    let with_it : starts_if_there tables near.second near.first (Some touch) near.here ≡ true = both.0 in
-    let without : starts_if_there tables near.second near.first near.here near.next ≡ true = both.1 in
-    let a : starts_in tables fewer place ≡ true = cc in
-    let window = at_it tables fewer place touch le in
-    let b : starts_in tables (insert fewer place touch) place ≡ true = cc in
-    first_place_from_marks tables fewer touch place place le (omega arith) (λ other lt far. absurd (omega arith)) (λ far. absurd (omega (arith, far))) (mark_by_place tables fewer place ∙ a) (mark_by_place tables (insert fewer place touch) place ∙ b)
+    let with_it : starts_if_there editions near.second near.first (Some touch) near.here ≡ true = both.0 in
+    let without : starts_if_there editions near.second near.first near.here near.next ≡ true = both.1 in
+    let a : starts_in editions fewer place ≡ true = cc in
+    let window = at_it editions fewer place touch le in
+    let b : starts_in editions (insert fewer place touch) place ≡ true = cc in
+    first_place_from_marks editions fewer touch place place le (omega arith) (λ other lt far. absurd (omega arith)) (λ far. absurd (omega (arith, far))) (mark_by_place editions fewer place ∙ a) (mark_by_place editions (insert fewer place touch) place ∙ b)
 
-first_of_all : (tables : FareTables) (fewer : List Touch) (touch : Touch) (place : ℕ) → place ≤ length fewer →
-    ((other : ℕ) → 0 < other → suc other < place → mark_in (starts tables fewer) other ≡ false) →
-    (1 < place → GoesOnInOne tables fewer (place - 1) (insert fewer place touch) (place - 1)) → IsFirstPlace tables fewer touch place 0
-first_of_all tables fewer touch place le none goes =
-    first_place_from_marks tables fewer touch place 0 le (omega arith) none goes (first_starts tables fewer) (first_starts tables (insert fewer place touch))
+first_of_all : (editions : FareEditions) (fewer : List Touch) (touch : Touch) (place : ℕ) → place ≤ length fewer →
+    ((other : ℕ) → 0 < other → suc other < place → mark_in (starts editions fewer) other ≡ false) →
+    (1 < place → GoesOnInOne editions fewer (place - 1) (insert fewer place touch) (place - 1)) → IsFirstPlace editions fewer touch place 0
+first_of_all editions fewer touch place le none goes =
+    first_place_from_marks editions fewer touch place 0 le (omega arith) none goes (first_starts editions fewer) (first_starts editions (insert fewer place touch))
 
-pub first_before_it : (tables : FareTables) (fewer : List Touch) (touch : Touch) (place : ℕ) (near : Around) → suc place ≤ length fewer → IsAround fewer (suc place) near →
-    starts_before_it tables near touch ≡ true → IsFirstPlace tables fewer touch (suc place) place
-first_before_it tables fewer touch place near le around there =
+pub first_before_it : (editions : FareEditions) (fewer : List Touch) (touch : Touch) (place : ℕ) (near : Around) → suc place ≤ length fewer → IsAround fewer (suc place) near →
+    starts_before_it editions near touch ≡ true → IsFirstPlace editions fewer touch (suc place) place
+first_before_it editions fewer touch place near le around there =
     let both = and_parts _ _ there in
-    let with_it : starts_if_there tables near.third near.second near.first (Some touch) ≡ true = both.0 in
-    let without : starts_if_there tables near.third near.second near.first near.here ≡ true = both.1 in
-    let a : starts_in tables fewer place ≡ true = cc in
-    let window = before_it tables fewer place touch le in
-    let b : starts_in tables (insert fewer (suc place) touch) place ≡ true = cc in
-    first_place_from_marks tables fewer touch (suc place) place le (omega arith) (λ other lt far. absurd (omega arith)) (λ far. absurd (omega (arith, far))) (mark_by_place tables fewer place ∙ a)
-    (mark_by_place tables (insert fewer (suc place) touch) place ∙ b)
+    let with_it : starts_if_there editions near.third near.second near.first (Some touch) ≡ true = both.0 in
+    let without : starts_if_there editions near.third near.second near.first near.here ≡ true = both.1 in
+    let a : starts_in editions fewer place ≡ true = cc in
+    let window = before_it editions fewer place touch le in
+    let b : starts_in editions (insert fewer (suc place) touch) place ≡ true = cc in
+    first_place_from_marks editions fewer touch (suc place) place le (omega arith) (λ other lt far. absurd (omega arith)) (λ far. absurd (omega (arith, far))) (mark_by_place editions fewer place ∙ a)
+    (mark_by_place editions (insert fewer (suc place) touch) place ∙ b)
 
-pub first_at_zero : (tables : FareTables) (fewer : List Touch) (touch : Touch) (place : ℕ) → place ≡ 0 → place ≤ length fewer → IsFirstPlace tables fewer touch place place
-first_at_zero tables fewer touch place e le =
-    subst (IsFirstPlace tables fewer touch place) (sym e) (first_of_all tables fewer touch place le (λ other lt far. absurd (omega arith)) (λ far. absurd (omega (arith, far, e))))
+pub first_at_zero : (editions : FareEditions) (fewer : List Touch) (touch : Touch) (place : ℕ) → place ≡ 0 → place ≤ length fewer → IsFirstPlace editions fewer touch place place
+first_at_zero editions fewer touch place e le =
+    subst (IsFirstPlace editions fewer touch place) (sym e) (first_of_all editions fewer touch place le (λ other lt far. absurd (omega arith)) (λ far. absurd (omega (arith, far, e))))
 
-pub first_ahead : (tables : FareTables) (fewer : List Touch) (touch : Touch) (place from : ℕ) (near : Around) → place ≤ length fewer → IsAround fewer place near →
-    starts_before_it tables near touch ≡ true → suc from ≡ place → IsFirstPlace tables fewer touch place from
-first_ahead tables fewer touch place from near le around there e =
-    let P : ℕ → Type 0 = λ at. at ≤ length fewer → IsAround fewer at near → IsFirstPlace tables fewer touch at from in
-    subst P e (λ fits is. first_before_it tables fewer touch from near fits is there) le around
+pub first_ahead : (editions : FareEditions) (fewer : List Touch) (touch : Touch) (place from : ℕ) (near : Around) → place ≤ length fewer → IsAround fewer place near →
+    starts_before_it editions near touch ≡ true → suc from ≡ place → IsFirstPlace editions fewer touch place from
+first_ahead editions fewer touch place from near le around there e =
+    let P : ℕ → Type 0 = λ at. at ≤ length fewer → IsAround fewer at near → IsFirstPlace editions fewer touch at from in
+    subst P e (λ fits is. first_before_it editions fewer touch from near fits is there) le around
 
 -- before the tap before it the marks are those without it
-earlier_mark : (tables : FareTables) (fewer : List Touch) (touch : Touch) (is_there : Bool) (place : ℕ) (marks : List Bool) → IsPlaced tables fewer touch is_there place marks →
-    (other : ℕ) → suc other < place → mark_in (starts tables fewer) other ≡ mark_in marks other
-earlier_mark tables fewer touch true place marks placed other lt =
-    sym (marks_before tables fewer place other touch lt placed.inside) ∙ ap (λ (list : List Bool). mark_in list other) (sym placed.marked)
-earlier_mark tables fewer touch false place marks placed other lt = ap (λ (list : List Bool). mark_in list other) (sym placed.marked)
+earlier_mark : (editions : FareEditions) (fewer : List Touch) (touch : Touch) (is_there : Bool) (place : ℕ) (marks : List Bool) → IsPlaced editions fewer touch is_there place marks →
+    (other : ℕ) → suc other < place → mark_in (starts editions fewer) other ≡ mark_in marks other
+earlier_mark editions fewer touch true place marks placed other lt =
+    sym (marks_before editions fewer place other touch lt placed.inside) ∙ ap (λ (list : List Bool). mark_in list other) (sym placed.marked)
+earlier_mark editions fewer touch false place marks placed other lt = ap (λ (list : List Bool). mark_in list other) (sym placed.marked)
 
 -- by the mark of an earlier tap
-pub first_by_mark : (tables : FareTables) (fewer : List Touch) (touch : Touch) (is_there : Bool) (place from : ℕ) (marks : List Bool) (near : Around) →
-    IsAround fewer place near → IsPlaced tables fewer touch is_there place marks → starts_before_it tables near touch ≡ false →
+pub first_by_mark : (editions : FareEditions) (fewer : List Touch) (touch : Touch) (is_there : Bool) (place from : ℕ) (marks : List Bool) (near : Around) →
+    IsAround fewer place near → IsPlaced editions fewer touch is_there place marks → starts_before_it editions near touch ≡ false →
     from ≤ place - 1 - 1 → (mark_in marks 0 ≡ true → mark_in marks from ≡ true) → ((other : ℕ) → from < other → other < place - 1 → mark_in marks other ≡ false) →
-    IsFirstPlace tables fewer touch place from
-first_by_mark tables fewer touch is_there place zero marks near around placed not_there close marked none = first_of_all tables fewer touch place placed.inside
-    (λ other lt far. earlier_mark tables fewer touch is_there place marks placed other far ∙ none other lt (omega arith))
-    (λ far. goes_on_ahead tables fewer touch place near placed.inside around not_there (omega (arith, far)))
-first_by_mark tables fewer touch is_there place (suc from) marks near around placed not_there close marked none =
+    IsFirstPlace editions fewer touch place from
+first_by_mark editions fewer touch is_there place zero marks near around placed not_there close marked none = first_of_all editions fewer touch place placed.inside
+    (λ other lt far. earlier_mark editions fewer touch is_there place marks placed other far ∙ none other lt (omega arith))
+    (λ far. goes_on_ahead editions fewer touch place near placed.inside around not_there (omega (arith, far)))
+first_by_mark editions fewer touch is_there place (suc from) marks near around placed not_there close marked none =
     let stored : List Touch = if is_there then insert fewer place touch else fewer in
-    let first : mark_in marks 0 ≡ true = ap (λ (list : List Bool). mark_in list 0) placed.marked ∙ first_starts tables stored in
-    let a : mark_in (starts tables fewer) (suc from) ≡ true = earlier_mark tables fewer touch is_there place marks placed (suc from) (omega arith) ∙ marked first in
-    first_place_from_marks tables fewer touch place (suc from) placed.inside (omega arith)
-    (λ other lt far. earlier_mark tables fewer touch is_there place marks placed other far ∙ none other lt (omega arith))
-    (λ far. goes_on_ahead tables fewer touch place near placed.inside around not_there (omega (arith, far)))
-    a (marks_before tables fewer place (suc from) touch (omega arith) placed.inside ∙ a)
+    let first : mark_in marks 0 ≡ true = ap (λ (list : List Bool). mark_in list 0) placed.marked ∙ first_starts editions stored in
+    let a : mark_in (starts editions fewer) (suc from) ≡ true = earlier_mark editions fewer touch is_there place marks placed (suc from) (omega arith) ∙ marked first in
+    first_place_from_marks editions fewer touch place (suc from) placed.inside (omega arith)
+    (λ other lt far. earlier_mark editions fewer touch is_there place marks placed other far ∙ none other lt (omega arith))
+    (λ far. goes_on_ahead editions fewer touch place near placed.inside around not_there (omega (arith, far)))
+    a (marks_before editions fewer place (suc from) touch (omega arith) placed.inside ∙ a)
 
 -- ---- the last place
 
-pub last_place_from_marks : (tables : FareTables) (fewer : List Touch) (touch : Touch) (place to : ℕ) → place ≤ to → to ≤ length fewer →
-    ((other : ℕ) → suc place < other → other < to → mark_in (starts tables fewer) other ≡ false) →
-    (suc place < to → GoesOnInOne tables fewer (suc place) (insert fewer place touch) (suc (suc place))) →
-    mark_in (starts tables fewer) to ≡ true → mark_in (starts tables (insert fewer place touch)) (suc to) ≡ true → IsLastPlace tables fewer touch place to
-last_place_from_marks tables fewer touch place to over within none goes a b =
+pub last_place_from_marks : (editions : FareEditions) (fewer : List Touch) (touch : Touch) (place to : ℕ) → place ≤ to → to ≤ length fewer →
+    ((other : ℕ) → suc place < other → other < to → mark_in (starts editions fewer) other ≡ false) →
+    (suc place < to → GoesOnInOne editions fewer (suc place) (insert fewer place touch) (suc (suc place))) →
+    mark_in (starts editions fewer) to ≡ true → mark_in (starts editions (insert fewer place touch)) (suc to) ≡ true → IsLastPlace editions fewer touch place to
+last_place_from_marks editions fewer touch place to over within none goes a b =
     let long = long_more fewer place touch (omega arith) in
     record {
       to_after = over;
       none_after = none;
       goes_on_after = goes;
       within = within;
-      fewer_to = cut_at tables fewer to within a;
-      more_to = cut_at tables (insert fewer place touch) (suc to) (omega arith) b;
+      fewer_to = cut_at editions fewer to within a;
+      more_to = cut_at editions (insert fewer place touch) (suc to) (omega arith) b;
     }
 
-pub last_after_it : (tables : FareTables) (fewer : List Touch) (touch : Touch) (place : ℕ) (near : Around) → place ≤ length fewer → IsAround fewer place near →
-    starts_after_it tables near touch ≡ true → IsLastPlace tables fewer touch place place
-last_after_it tables fewer touch place near le around there =
+pub last_after_it : (editions : FareEditions) (fewer : List Touch) (touch : Touch) (place : ℕ) (near : Around) → place ≤ length fewer → IsAround fewer place near →
+    starts_after_it editions near touch ≡ true → IsLastPlace editions fewer touch place place
+last_after_it editions fewer touch place near le around there =
     let both = and_parts _ _ there in
-    let with_it : starts_if_there tables near.first (Some touch) near.here near.next ≡ true = both.0 in
-    let without : starts_if_there tables near.second near.first near.here near.next ≡ true = both.1 in
-    let a : starts_in tables fewer place ≡ true = cc in
-    let window = after_it tables fewer place touch le in
-    let b : starts_in tables (insert fewer place touch) (suc place) ≡ true = cc in
-    last_place_from_marks tables fewer touch place place (omega arith) le (λ other lt far. absurd (omega arith)) (λ far. absurd (omega (arith, far))) (mark_by_place tables fewer place ∙ a)
-    (mark_by_place tables (insert fewer place touch) (suc place) ∙ b)
+    let with_it : starts_if_there editions near.first (Some touch) near.here near.next ≡ true = both.0 in
+    let without : starts_if_there editions near.second near.first near.here near.next ≡ true = both.1 in
+    let a : starts_in editions fewer place ≡ true = cc in
+    let window = after_it editions fewer place touch le in
+    let b : starts_in editions (insert fewer place touch) (suc place) ≡ true = cc in
+    last_place_from_marks editions fewer touch place place (omega arith) le (λ other lt far. absurd (omega arith)) (λ far. absurd (omega (arith, far))) (mark_by_place editions fewer place ∙ a)
+    (mark_by_place editions (insert fewer place touch) (suc place) ∙ b)
 
 -- what is no start is there
-none_starts_after : (tables : FareTables) (fewer : List Touch) (touch : Touch) (place : ℕ) (near : Around) → IsAround fewer place near →
-    starts_after_it tables near touch ≡ false → place < length fewer
-none_starts_after tables fewer touch place near around not_there = ⊎_elim (λ h. h)
+none_starts_after : (editions : FareEditions) (fewer : List Touch) (touch : Touch) (place : ℕ) (near : Around) → IsAround fewer place near →
+    starts_after_it editions near touch ≡ false → place < length fewer
+none_starts_after editions fewer touch place near around not_there = ⊎_elim (λ h. h)
     (λ over. let none : near.here ≡ None = around.here ∙ slice_get_past fewer place over in
-    let starts : starts_after_it tables near touch ≡ true = rw none refl in absurd (cc))
+    let starts : starts_after_it editions near touch ≡ true = rw none refl in absurd (cc))
     (cases_lt place (length fewer))
 
-none_starts_further : (tables : FareTables) (fewer : List Touch) (touch : Touch) (place : ℕ) (near : Around) → IsAround fewer place near →
-    starts_further tables near touch ≡ false → suc place < length fewer
-none_starts_further tables fewer touch place near around not_there = ⊎_elim (λ h. h)
+none_starts_further : (editions : FareEditions) (fewer : List Touch) (touch : Touch) (place : ℕ) (near : Around) → IsAround fewer place near →
+    starts_further editions near touch ≡ false → suc place < length fewer
+none_starts_further editions fewer touch place near around not_there = ⊎_elim (λ h. h)
     (λ over. let none : near.next ≡ None = around.next ∙ slice_get_past fewer (suc place) over in
-    let starts : starts_further tables near touch ≡ true = rw none refl in absurd (cc))
+    let starts : starts_further editions near touch ≡ true = rw none refl in absurd (cc))
     (cases_lt (suc place) (length fewer))
 
-pub last_further : (tables : FareTables) (fewer : List Touch) (touch : Touch) (place to : ℕ) (near : Around) → place ≤ length fewer → IsAround fewer place near →
-    starts_after_it tables near touch ≡ false → starts_further tables near touch ≡ true → to ≡ suc place → IsLastPlace tables fewer touch place to
-last_further tables fewer touch place to near le around not_after there on =
+pub last_further : (editions : FareEditions) (fewer : List Touch) (touch : Touch) (place to : ℕ) (near : Around) → place ≤ length fewer → IsAround fewer place near →
+    starts_after_it editions near touch ≡ false → starts_further editions near touch ≡ true → to ≡ suc place → IsLastPlace editions fewer touch place to
+last_further editions fewer touch place to near le around not_after there on =
     let both = and_parts _ _ there in
-    let with_it : starts_if_there tables (Some touch) near.here near.next near.later ≡ true = both.0 in
-    let without : starts_if_there tables near.first near.here near.next near.later ≡ true = both.1 in
-    let a : starts_in tables fewer (suc place) ≡ true = cc in
-    let window = further tables fewer place touch le in
-    let b : starts_in tables (insert fewer place touch) (suc (suc place)) ≡ true = cc in
-    let within = none_starts_after tables fewer touch place near around not_after in
-    let last : IsLastPlace tables fewer touch place (suc place) = last_place_from_marks tables fewer touch place (suc place) (omega arith) (omega arith) (λ other lt far. absurd (omega arith)) (λ far. absurd (omega (arith, far))) (mark_by_place tables fewer (suc place) ∙ a)
-    (mark_by_place tables (insert fewer place touch) (suc (suc place)) ∙ b) in
-    subst (IsLastPlace tables fewer touch place) (sym on) last
+    let with_it : starts_if_there editions (Some touch) near.here near.next near.later ≡ true = both.0 in
+    let without : starts_if_there editions near.first near.here near.next near.later ≡ true = both.1 in
+    let a : starts_in editions fewer (suc place) ≡ true = cc in
+    let window = further editions fewer place touch le in
+    let b : starts_in editions (insert fewer place touch) (suc (suc place)) ≡ true = cc in
+    let within = none_starts_after editions fewer touch place near around not_after in
+    let last : IsLastPlace editions fewer touch place (suc place) = last_place_from_marks editions fewer touch place (suc place) (omega arith) (omega arith) (λ other lt far. absurd (omega arith)) (λ far. absurd (omega (arith, far))) (mark_by_place editions fewer (suc place) ∙ a)
+    (mark_by_place editions (insert fewer place touch) (suc (suc place)) ∙ b) in
+    subst (IsLastPlace editions fewer touch place) (sym on) last
 
 -- which of two numbers it is
 pub in_then : (test : Bool) (n a b : ℕ) → test ≡ true → n ≡ a → n ≡ (if test then a else b)
@@ -253,47 +253,47 @@ pub in_else : (test : Bool) (n a b : ℕ) → test ≡ false → n ≡ b → n �
 in_else test n a b h e = e ∙ sym (ap (λ (v : Bool). if v then a else b) h)
 
 -- by the mark of a later tap
-pub last_by_mark : (tables : FareTables) (fewer : List Touch) (touch : Touch) (is_there : Bool) (place first to : ℕ) (marks : List Bool) (near : Around) →
-    IsAround fewer place near → IsPlaced tables fewer touch is_there place marks → starts_further tables near touch ≡ false →
+pub last_by_mark : (editions : FareEditions) (fewer : List Touch) (touch : Touch) (is_there : Bool) (place first to : ℕ) (marks : List Bool) (near : Around) →
+    IsAround fewer place near → IsPlaced editions fewer touch is_there place marks → starts_further editions near touch ≡ false →
     first ≡ (if is_there then place + 3 else place + 2) → (more : ℕ) → to ≡ place + 2 + more → more ≤ length marks - first → mark_in marks (first + more) ≡ true →
-    ((other : ℕ) → first ≤ other → other < first + more → mark_in marks other ≡ false) → IsLastPlace tables fewer touch place to
-last_by_mark tables fewer touch true place first to marks near around placed not_further at more far within marked none =
-    let room = none_starts_further tables fewer touch place near around not_further in
-    let many : length marks ≡ suc (length fewer) = ap length placed.marked ∙ as_many tables None None (insert fewer place touch) ∙ long_more fewer place touch placed.inside in
+    ((other : ℕ) → first ≤ other → other < first + more → mark_in marks other ≡ false) → IsLastPlace editions fewer touch place to
+last_by_mark editions fewer touch true place first to marks near around placed not_further at more far within marked none =
+    let room = none_starts_further editions fewer touch place near around not_further in
+    let many : length marks ≡ suc (length fewer) = ap length placed.marked ∙ as_many editions None None (insert fewer place touch) ∙ long_more fewer place touch placed.inside in
     let on : first + more ≡ suc to = omega arith in
-    let same : (other : ℕ) → place + 2 ≤ other → mark_in (starts tables fewer) other ≡ mark_in marks (suc other) =
-    λ other le. sym (marks_after_it tables fewer place other touch le placed.inside) ∙ ap (λ (list : List Bool). mark_in list (suc other)) (sym placed.marked) in
-    let a : mark_in (starts tables fewer) to ≡ true = same to (omega arith) ∙ ap (mark_in marks) (sym on) ∙ marked in
-    last_place_from_marks tables fewer touch place to (omega arith) (omega arith) (λ other lt before. same other (omega arith) ∙ none (suc other) (omega arith) (omega arith))
-    (λ far. goes_on_further tables fewer touch place near placed.inside around not_further) a (marks_after_it tables fewer place to touch (omega arith) placed.inside ∙ a)
-last_by_mark tables fewer touch false place first to marks near around placed not_further at more far within marked none =
-    let room = none_starts_further tables fewer touch place near around not_further in
-    let many : length marks ≡ length fewer = ap length placed.marked ∙ as_many tables None None fewer in
+    let same : (other : ℕ) → place + 2 ≤ other → mark_in (starts editions fewer) other ≡ mark_in marks (suc other) =
+    λ other le. sym (marks_after_it editions fewer place other touch le placed.inside) ∙ ap (λ (list : List Bool). mark_in list (suc other)) (sym placed.marked) in
+    let a : mark_in (starts editions fewer) to ≡ true = same to (omega arith) ∙ ap (mark_in marks) (sym on) ∙ marked in
+    last_place_from_marks editions fewer touch place to (omega arith) (omega arith) (λ other lt before. same other (omega arith) ∙ none (suc other) (omega arith) (omega arith))
+    (λ far. goes_on_further editions fewer touch place near placed.inside around not_further) a (marks_after_it editions fewer place to touch (omega arith) placed.inside ∙ a)
+last_by_mark editions fewer touch false place first to marks near around placed not_further at more far within marked none =
+    let room = none_starts_further editions fewer touch place near around not_further in
+    let many : length marks ≡ length fewer = ap length placed.marked ∙ as_many editions None None fewer in
     let on : first + more ≡ to = omega arith in
-    let same : (other : ℕ) → mark_in (starts tables fewer) other ≡ mark_in marks other = λ other. ap (λ (list : List Bool). mark_in list other) (sym placed.marked) in
-    let a : mark_in (starts tables fewer) to ≡ true = same to ∙ ap (mark_in marks) (sym on) ∙ marked in
-    last_place_from_marks tables fewer touch place to (omega arith) (omega arith) (λ other lt before. same other ∙ none other (omega arith) (omega arith))
-    (λ far. goes_on_further tables fewer touch place near placed.inside around not_further) a (marks_after_it tables fewer place to touch (omega arith) placed.inside ∙ a)
+    let same : (other : ℕ) → mark_in (starts editions fewer) other ≡ mark_in marks other = λ other. ap (λ (list : List Bool). mark_in list other) (sym placed.marked) in
+    let a : mark_in (starts editions fewer) to ≡ true = same to ∙ ap (mark_in marks) (sym on) ∙ marked in
+    last_place_from_marks editions fewer touch place to (omega arith) (omega arith) (λ other lt before. same other ∙ none other (omega arith) (omega arith))
+    (λ far. goes_on_further editions fewer touch place near placed.inside around not_further) a (marks_after_it editions fewer place to touch (omega arith) placed.inside ∙ a)
 
 -- ---- both
 
-pub placed_by : (tables : FareTables) (taps : List Touch) (touch : Touch) (is_there : Bool) (place : ℕ) (marks : List Bool) → StandsThere is_there place touch taps →
-    marks ≡ starts tables taps → IsPlaced tables (fewer_of is_there place taps) touch is_there place marks
-placed_by tables taps touch true place marks there marked = record {
+pub placed_by : (editions : FareEditions) (taps : List Touch) (touch : Touch) (is_there : Bool) (place : ℕ) (marks : List Bool) → StandsThere is_there place touch taps →
+    marks ≡ starts editions taps → IsPlaced editions (fewer_of is_there place taps) touch is_there place marks
+placed_by editions taps touch true place marks there marked = record {
   inside = let within = slice_get_within taps place touch there in let one = length-remove taps place within in omega arith;
-  marked = marked ∙ ap (starts tables) (sym (put_back taps place touch there));
+  marked = marked ∙ ap (starts editions) (sym (put_back taps place touch there));
 }
-placed_by tables taps touch false place marks there marked = record { inside = there; marked = marked }
+placed_by editions taps touch false place marks there marked = record { inside = there; marked = marked }
 
-pub place_within : (tables : FareTables) (taps : List Touch) (touch : Touch) (is_there : Bool) (place : ℕ) (marks : List Bool) → StandsThere is_there place touch taps →
-    marks ≡ starts tables taps → place ≤ length marks
-place_within tables taps touch true place marks there marked =
-    let within = slice_get_within taps place touch there in let many = as_many tables None None taps in let same = ap length marked in omega arith
-place_within tables taps touch false place marks there marked = let many = as_many tables None None taps in let same = ap length marked in omega arith
+pub place_within : (editions : FareEditions) (taps : List Touch) (touch : Touch) (is_there : Bool) (place : ℕ) (marks : List Bool) → StandsThere is_there place touch taps →
+    marks ≡ starts editions taps → place ≤ length marks
+place_within editions taps touch true place marks there marked =
+    let within = slice_get_within taps place touch there in let many = as_many editions None None taps in let same = ap length marked in omega arith
+place_within editions taps touch false place marks there marked = let many = as_many editions None None taps in let same = ap length marked in omega arith
 
-pub from_to : (tables : FareTables) (fewer : List Touch) (touch : Touch) (place from to : ℕ) → IsFirstPlace tables fewer touch place from → IsLastPlace tables fewer touch place to →
-    IsStretch tables fewer touch place from to
-from_to tables fewer touch place from to a b = record {
+pub from_to : (editions : FareEditions) (fewer : List Touch) (touch : Touch) (place from to : ℕ) → IsFirstPlace editions fewer touch place from → IsLastPlace editions fewer touch place to →
+    IsStretch editions fewer touch place from to
+from_to editions fewer touch place from to a b = record {
   from_before = a.from_before;
   to_after = b.to_after;
   within = b.within;

@@ -1,7 +1,7 @@
 -- Disturbed taps: how many a command disturbs by which one tap enters the effective ones or leaves them. What a book reads is bounded by them.
 use Rattle.std.specs.Prelude.{◌≡◌, ℕ, suc, ◌+◌, ◌-◌, nat_lt, ◌&&◌, not, Bool, true, false, if◌then◌else◌, List, [], ◌∷◌, length, map, filter, take, drop, refl}
 use Rattle.std.specs.List.{list_all, list_any, remove}
-use Rattle.pay_tables.specs.Words.{FareTables}
+use Rattle.pay_tables.specs.Words.{FareEditions, FareTables}
 use Rattle.pay_rules.specs.declared.tap.Touch.{Touch}
 use Rattle.pay_rules.specs.declared.tap.Kind.TheVariants.{In, Out, Bus}
 use Rattle.pay_rules.specs.Order.{same_number}
@@ -21,9 +21,9 @@ taps_of_any from to at (one ∷ later) =
     (if nat_lt from (at + many) && nat_lt at to then many else 0) + taps_of_any from to (at + many) later
 
 -- What the tap at a place of all rail taps disturbs: without it the journeys that have a tap next to it, and with it those that have it or a tap next to it.
-abbrev pub disturbed_by_rail : FareTables → List Touch → ℕ → ℕ
-disturbed_by_rail tables taps place =
-    taps_of_any (place - 1) (place + 1) 0 (journeys tables (legs tables (remove taps place))) + taps_of_any (place - 1) (place + 2) 0 (journeys tables (legs tables taps))
+abbrev pub disturbed_by_rail : FareEditions → List Touch → ℕ → ℕ
+disturbed_by_rail editions taps place =
+    taps_of_any (place - 1) (place + 1) 0 (journeys editions.own (legs editions (remove taps place))) + taps_of_any (place - 1) (place + 2) 0 (journeys editions.own (legs editions taps))
 
 -- ---- on buses
 
@@ -60,10 +60,10 @@ disturbed_between disturbed_by before after =
     else if nat_lt (length after) (length before) then disturbed_by before (place_of_further after before) else 0
 
 -- by a command that makes these effective taps of those before it
-abbrev pub disturbed : FareTables → List Touch → List Touch → ℕ
-disturbed tables before after =
-    disturbed_between (disturbed_by_rail tables) (filter is_rail before) (filter is_rail after)
-    + disturbed_between (disturbed_by_bus tables.rules.hopper) (filter is_bus before) (filter is_bus after)
+abbrev pub disturbed : FareEditions → List Touch → List Touch → ℕ
+disturbed editions before after =
+    disturbed_between (disturbed_by_rail editions) (filter is_rail before) (filter is_rail after)
+    + disturbed_between (disturbed_by_bus editions.own.rules.hopper) (filter is_bus before) (filter is_bus after)
 
 -- ---- worked rows: taps on Monday 2024-01-08, so many seconds after 07:00
 
@@ -98,28 +98,28 @@ two_before = refl
 out_tap : ℕ → Touch
 out_tap seconds = record { filled = false; first = 1; second = seconds; stamp = record { utc = 1_704_697_200 + seconds; day = 19_730; second = 25_200 + seconds }; place = 11; kind = Out }
 
-lone_ones : (tables : FareTables) → disturbed_by_rail tables (map out_tap (0 ∷ 600 ∷ 1200 ∷ 1800 ∷ [])) 1 ≡ 5
+lone_ones : (editions : FareEditions) → disturbed_by_rail editions (map out_tap (0 ∷ 600 ∷ 1200 ∷ 1800 ∷ [])) 1 ≡ 5
 unfolding out_tap
-lone_ones tables = refl
+lone_ones editions = refl
 
 -- the first of them has one tap next to it
-lone_first : (tables : FareTables) → disturbed_by_rail tables (map out_tap (0 ∷ 600 ∷ 1200 ∷ 1800 ∷ [])) 0 ≡ 3
+lone_first : (editions : FareEditions) → disturbed_by_rail editions (map out_tap (0 ∷ 600 ∷ 1200 ∷ 1800 ∷ [])) 0 ≡ 3
 unfolding out_tap
-lone_first tables = refl
+lone_first editions = refl
 
 -- the last of them has one next to it, and those farther before it are not disturbed
-lone_last : (tables : FareTables) → disturbed_by_rail tables (map out_tap (0 ∷ 600 ∷ 1200 ∷ 1800 ∷ [])) 3 ≡ 3
+lone_last : (editions : FareEditions) → disturbed_by_rail editions (map out_tap (0 ∷ 600 ∷ 1200 ∷ 1800 ∷ [])) 3 ≡ 3
 unfolding out_tap
-lone_last tables = refl
+lone_last editions = refl
 
 -- one alone
-only_one : (tables : FareTables) → disturbed_by_rail tables (map out_tap (0 ∷ [])) 0 ≡ 1
+only_one : (editions : FareEditions) → disturbed_by_rail editions (map out_tap (0 ∷ [])) 0 ≡ 1
 unfolding out_tap
-only_one tables = refl
+only_one editions = refl
 
 -- at one station a leg may take half an hour
-half_an_hour : FareTables → FareTables
-half_an_hour tables = record tables { rules = record tables.rules { same_limit = 1800 } }
+half_an_hour : FareTables → FareEditions
+half_an_hour tables = record { own = record tables { rules = record tables.rules { same_limit = 1800 } }; items = [] }
 
 in_tap : ℕ → Touch
 in_tap seconds = record { filled = false; first = 1; second = seconds; stamp = record { utc = 1_704_697_200 + seconds; day = 19_730; second = 25_200 + seconds }; place = 11; kind = In }
@@ -137,21 +137,21 @@ unfolding out_tap in_tap half_an_hour
 inside_a_leg tables = refl
 
 -- one that enters, the same one as it leaves, and none
-enters : (tables : FareTables) → disturbed tables (map out_tap (0 ∷ 1200 ∷ 1800 ∷ [])) (map out_tap (0 ∷ 600 ∷ 1200 ∷ 1800 ∷ [])) ≡ 5
+enters : (editions : FareEditions) → disturbed editions (map out_tap (0 ∷ 1200 ∷ 1800 ∷ [])) (map out_tap (0 ∷ 600 ∷ 1200 ∷ 1800 ∷ [])) ≡ 5
 unfolding out_tap
-enters tables = refl
+enters editions = refl
 
-leaves : (tables : FareTables) → disturbed tables (map out_tap (0 ∷ 600 ∷ 1200 ∷ 1800 ∷ [])) (map out_tap (0 ∷ 1200 ∷ 1800 ∷ [])) ≡ 5
+leaves : (editions : FareEditions) → disturbed editions (map out_tap (0 ∷ 600 ∷ 1200 ∷ 1800 ∷ [])) (map out_tap (0 ∷ 1200 ∷ 1800 ∷ [])) ≡ 5
 unfolding out_tap
-leaves tables = refl
+leaves editions = refl
 
-neither : (tables : FareTables) → disturbed tables (map out_tap (0 ∷ 1200 ∷ 1800 ∷ [])) (map out_tap (0 ∷ 1200 ∷ 1800 ∷ [])) ≡ 0
+neither : (editions : FareEditions) → disturbed editions (map out_tap (0 ∷ 1200 ∷ 1800 ∷ [])) (map out_tap (0 ∷ 1200 ∷ 1800 ∷ [])) ≡ 0
 unfolding out_tap
-neither tables = refl
+neither editions = refl
 
 -- with an hour as the Hopper time
-an_hour_free : FareTables → FareTables
-an_hour_free tables = record tables { rules = record tables.rules { hopper = 3600 } }
+an_hour_free : FareTables → FareEditions
+an_hour_free tables = record { own = record tables { rules = record tables.rules { hopper = 3600 } }; items = [] }
 
 -- among taps of both kinds a bus tap disturbs those on buses alone
 of_both_kinds : (tables : FareTables) →

@@ -2,7 +2,7 @@
 use Rattle.std.specs.Prelude.{◌≡◌, ℕ, ◌+◌, ◌≤◌, ◌<◌, ⊤, Bool, true, false, if◌then◌else◌, List, ◌∷◌, ◌++◌, length, filter, slice_get, Some, None}
 use Rattle.std.specs.List.{remove}
 use Rattle.smallvec.specs.SmallVec.{HasRoomFor}
-use Rattle.pay_tables.specs.Words.{FareTables}
+use Rattle.pay_tables.specs.Words.{FareEditions}
 use Rattle.pay_rules.specs.declared.tap.Touch.{Touch}
 use Rattle.pay_taps.specs.Words.{place_of, AreTimed}
 use Rattle.pay_rules.specs.Order.{put_in, HaveOwnNumbers}
@@ -29,14 +29,14 @@ use Rattle.pay_book.specs.declared.marked_taps.Repair.TheVariants as repair
 use Rattle.pay_book.specs.declared.rail.Disturbed.{Disturbed}
 
 -- the journeys of rail taps and of bus taps, each in order
-abbrev pub all_journeys : FareTables → List Touch → List Touch → List Journey
-all_journeys tables rail buses = journeys tables (legs tables rail) ++ boarded tables.rules.hopper buses
+abbrev pub all_journeys : FareEditions → List Touch → List Touch → List Journey
+all_journeys editions rail buses = journeys editions.own (legs editions rail) ++ boarded editions.own.rules.hopper buses
 
 -- marks and sums are those of the taps that are kept
-pub record IsRight (tables : FareTables) (held : MarkedTaps) : Type 0 where
-  pub starts : held.starts.items ≡ starts tables held.rail.touches
-  pub pays : held.pays.items ≡ marks_by_last tables.rules.hopper None held.buses.touches
-  pub sums : AreSums tables held.days (all_journeys tables held.rail.touches held.buses.touches)
+pub record IsRight (editions : FareEditions) (held : MarkedTaps) : Type 0 where
+  pub starts : held.starts.items ≡ starts editions held.rail.touches
+  pub pays : held.pays.items ≡ marks_by_last editions.own.rules.hopper None held.buses.touches
+  pub sums : AreSums editions held.days (all_journeys editions held.rail.touches held.buses.touches)
 
 -- there is room for a tap more by rail, with its mark
 pub record HasRoomByRail (held : MarkedTaps) : Type 0 where
@@ -77,47 +77,47 @@ pub record IsPossible (held : MarkedTaps) (change : Change) : Type 0 where
   pub few_then : length (taps_after is_rail change held.rail.touches) + length (taps_after is_bus change held.buses.touches) ≤ MOST_TOUCHES
 
 -- how many of the taps that are kept one disturbs that enters, or leaves where it is there
-abbrev pub disturbed_by : FareTables → MarkedTaps → Touch → Bool → ℕ
-disturbed_by tables held touch is_there =
-    if is_bus touch then disturbed_by_bus tables.rules.hopper (more_of is_there touch held.buses.touches) (place_of touch held.buses.touches)
-    else disturbed_by_rail tables (more_of is_there touch held.rail.touches) (place_of touch held.rail.touches)
+abbrev pub disturbed_by : FareEditions → MarkedTaps → Touch → Bool → ℕ
+disturbed_by editions held touch is_there =
+    if is_bus touch then disturbed_by_bus editions.own.rules.hopper (more_of is_there touch held.buses.touches) (place_of touch held.buses.touches)
+    else disturbed_by_rail editions (more_of is_there touch held.rail.touches) (place_of touch held.rail.touches)
 
 -- and how many a change does
-abbrev pub disturbed_by_change : FareTables → MarkedTaps → Change → ℕ
-disturbed_by_change tables held Nothing = 0
-disturbed_by_change tables held (Enters touch) = disturbed_by tables held touch false
-disturbed_by_change tables held (Leaves touch) = disturbed_by tables held touch true
+abbrev pub disturbed_by_change : FareEditions → MarkedTaps → Change → ℕ
+disturbed_by_change editions held Nothing = 0
+disturbed_by_change editions held (Enters touch) = disturbed_by editions held touch false
+disturbed_by_change editions held (Leaves touch) = disturbed_by editions held touch true
 
 -- what a tap by rail disturbs as it enters or leaves, with room for it; sums are kept of the days of the journeys that there are then
-pub record IsPreparedByRail (tables : FareTables) (held : MarkedTaps) (touch : Touch) (is_there : Bool) (found : Disturbed) : Type 0 where
+pub record IsPreparedByRail (editions : FareEditions) (held : MarkedTaps) (touch : Touch) (is_there : Bool) (found : Disturbed) : Type 0 where
   pub kind : is_bus touch ≡ false
   pub room : HasRoomByRail held
-  pub disturbed : IsDisturbedBy tables held.rail.touches touch is_there found.fewer.items found.more.items
+  pub disturbed : IsDisturbedBy editions held.rail.touches touch is_there found.fewer.items found.more.items
   pub opened : AreSummed held.days (if is_there then found.fewer.items else found.more.items)
 
 -- and one on a bus
-pub record IsPreparedOnBus (tables : FareTables) (held : MarkedTaps) (touch : Touch) (is_there : Bool) (found : Boardings) : Type 0 where
+pub record IsPreparedOnBus (editions : FareEditions) (held : MarkedTaps) (touch : Touch) (is_there : Bool) (found : Boardings) : Type 0 where
   pub kind : is_bus touch ≡ true
   pub room : HasRoomOnBuses held
-  pub disturbed : AreDisturbed tables.rules.hopper (fewer_of is_there (place_of touch held.buses.touches) held.buses.touches) touch found.fewer.items found.more.items
+  pub disturbed : AreDisturbed editions.own.rules.hopper (fewer_of is_there (place_of touch held.buses.touches) held.buses.touches) touch found.fewer.items found.more.items
   pub opened : AreSummed held.days (if is_there then found.fewer.items else found.more.items)
   pub within : place_of touch held.buses.touches ≤ length held.pays.items
   pub inside : is_there ≡ true → place_of touch held.buses.touches < length held.pays.items
 
-abbrev pub IsPreparedFor : FareTables → MarkedTaps → Touch → Bool → Repair → Type 0
-IsPreparedFor tables held touch is_there repair.Nothing = ⊥
-IsPreparedFor tables held touch is_there (repair.Rail found) = IsPreparedByRail tables held touch is_there found
-IsPreparedFor tables held touch is_there (repair.Bus found) = IsPreparedOnBus tables held touch is_there found
+abbrev pub IsPreparedFor : FareEditions → MarkedTaps → Touch → Bool → Repair → Type 0
+IsPreparedFor editions held touch is_there repair.Nothing = ⊥
+IsPreparedFor editions held touch is_there (repair.Rail found) = IsPreparedByRail editions held touch is_there found
+IsPreparedFor editions held touch is_there (repair.Bus found) = IsPreparedOnBus editions held touch is_there found
 
 -- what a change disturbs
-abbrev pub IsPrepared : FareTables → MarkedTaps → Change → Repair → Type 0
-IsPrepared tables held Nothing repair = ⊤
-IsPrepared tables held (Enters touch) repair = IsPreparedFor tables held touch false repair
-IsPrepared tables held (Leaves touch) repair = IsPreparedFor tables held touch true repair
+abbrev pub IsPrepared : FareEditions → MarkedTaps → Change → Repair → Type 0
+IsPrepared editions held Nothing repair = ⊤
+IsPrepared editions held (Enters touch) repair = IsPreparedFor editions held touch false repair
+IsPrepared editions held (Leaves touch) repair = IsPreparedFor editions held touch true repair
 
 -- what is kept is that of these effective taps
-pub record IsMarkedBy (tables : FareTables) (touches : List Touch) (held : MarkedTaps) : Type 0 where
-  pub right : IsRight tables held
+pub record IsMarkedBy (editions : FareEditions) (touches : List Touch) (held : MarkedTaps) : Type 0 where
+  pub right : IsRight editions held
   pub rail : held.rail.touches ≡ filter is_rail touches
   pub buses : held.buses.touches ≡ filter is_bus touches
 

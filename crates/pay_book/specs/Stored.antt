@@ -1,6 +1,6 @@
 -- When what a book keeps is right.
 use Rattle.std.specs.Prelude.{◌≡◌, ◌≤◌, Ok, List, length, filter, None}
-use Rattle.pay_tables.specs.Words.{FareTables}
+use Rattle.pay_tables.specs.Words.{FareEditions}
 use Rattle.pay_rules.specs.declared.addition.Addition.TheVariants.{Added}
 use Rattle.pay_rules.specs.Numbers.{IsNumbered}
 use Rattle.pay_rules.specs.declared.limits.TheConstants.{MOST_TAPS, MOST_FIXES, MOST_TOUCHES}
@@ -24,13 +24,13 @@ use Rattle.pay_book.specs.Disturbed.{disturbed}
 use Rattle.pay_book.specs.MarkedTaps.{all_journeys, IsPossible, taps_after, disturbed_by_change}
 use Rattle.pay_book.specs.declared.marked_taps.MarkedTaps.{MarkedTaps}
 
--- what a book keeps is that of the effective taps of what it has accepted, by these tables
-pub record IsConsistent (tables : FareTables) (book : BookParts) : Type 0 where
+-- what a book keeps is that of the effective taps of what it has accepted, by these editions
+pub record IsConsistent (editions : FareEditions) (book : BookParts) : Type 0 where
   pub rail : book.rail ≡ filter is_rail (touches book.accepted)
-  pub starts : book.starts ≡ starts tables book.rail
+  pub starts : book.starts ≡ starts editions book.rail
   pub buses : book.buses ≡ filter is_bus (touches book.accepted)
-  pub pays : book.pays ≡ marks_by_last tables.rules.hopper None book.buses
-  pub sums : AreSums tables book.days (all_journeys tables book.rail book.buses)
+  pub pays : book.pays ≡ marks_by_last editions.own.rules.hopper None book.buses
+  pub sums : AreSums editions book.days (all_journeys editions book.rail book.buses)
 
 -- the stored journeys by rail: from each tap that is marked as a start up to before the next
 abbrev pub stored_journeys : BookParts → List Journey
@@ -38,10 +38,10 @@ stored_journeys book = journeys_by_marks book.starts book.rail
 
 -- what is stored, by the definitions over all that is accepted: the journeys by rail, the marks of the boardings that pay, and of each
 -- day the sums of the fares of its journeys
-pub record IsStored (tables : FareTables) (book : BookParts) : Type 0 where
-  pub journeys : stored_journeys book ≡ rail_journeys tables (touches book.accepted)
-  pub pays : book.pays ≡ paying_marks tables.rules.hopper (instants_of (filter is_bus (touches book.accepted)))
-  pub sums : AreSums tables book.days (journeys_of tables (touches book.accepted))
+pub record IsStored (editions : FareEditions) (book : BookParts) : Type 0 where
+  pub journeys : stored_journeys book ≡ rail_journeys editions (touches book.accepted)
+  pub pays : book.pays ≡ paying_marks editions.own.rules.hopper (instants_of (filter is_bus (touches book.accepted)))
+  pub sums : AreSums editions book.days (journeys_of editions (touches book.accepted))
 
 -- ---- a change of effective taps
 
@@ -83,5 +83,5 @@ ChangeIsMade = (change : Change) (before after : List Touch) (held : MarkedTaps)
 
 -- and it disturbs as many of the kept taps as its command does of the effective ones
 abbrev pub ChangeDisturbs : Type 0
-ChangeDisturbs = (tables : FareTables) (change : Change) (before after : List Touch) (held : MarkedTaps) → IsChange change before after → AreStoredTaps held before
-    → disturbed_by_change tables held change ≡ disturbed tables before after
+ChangeDisturbs = (editions : FareEditions) (change : Change) (before after : List Touch) (held : MarkedTaps) → IsChange change before after → AreStoredTaps held before
+    → disturbed_by_change editions held change ≡ disturbed editions before after

@@ -18,7 +18,7 @@ use pay_money::Pence;
 use pay_rules::{
     Addition, Fares, Fix, FixFault, Lines, Priced, Quote, Sets, Shown, Tap, TapFault, What,
 };
-use pay_tables::Tables;
+use pay_tables::Editions;
 use pay_taps::Steps;
 use std::alloc::{AllocError, Global};
 use std::marker::Model;
@@ -61,22 +61,22 @@ impl Book {
     }
 
     /// The prices of a day and its week.
-    fn prices(&self, tables: &Tables, again: bool, day: u32) -> Priced
+    fn prices(&self, editions: &Editions, again: bool, day: u32) -> Priced
         requires is_day { IsDay day }
-        requires held { IsConsistent tables.now self.now }
-        ensures { result ≡ prices tables.now self.now.accepted again day }
+        requires held { IsConsistent editions.now self.now }
+        ensures { result ≡ prices editions.now self.now.accepted again day }
     {
         laws::boarded_by_all();
-        days::prices(tables, &self.held.days, again, day)
+        days::prices(editions, &self.held.days, again, day)
     }
 
     /// The prices of the day that a correction names.
-    fn prices_named(&self, tables: &Tables, again: bool, what: &What) -> Priced
-        requires held { IsConsistent tables.now self.now }
-        ensures { result ≡ prices_named tables.now self.now.accepted again what.now }
+    fn prices_named(&self, editions: &Editions, again: bool, what: &What) -> Priced
+        requires held { IsConsistent editions.now self.now }
+        ensures { result ≡ prices_named editions.now self.now.accepted again what.now }
     {
         match day_named(self.account.taps(), self.account.fixes(), what) {
-            Some(day) => self.prices(tables, again, day),
+            Some(day) => self.prices(editions, again, day),
             None => Priced {
                 again,
                 day: 0,
@@ -88,59 +88,59 @@ impl Book {
 
     /// Accepts a tap and prices it, or refuses it, as `Fares` says. It reads at most 64 stored taps, and four for each one that it
     /// disturbs: none is disturbed by a tap that is refused or repeated, or that a standing Void names.
-    pub fn tap(&mut self, tables: &Tables, tap: Tap) -> Result<Priced, TapFault>
+    pub fn tap(&mut self, editions: &Editions, tap: Tap) -> Result<Priced, TapFault>
         requires own { tap.account ≡ self.old.account }
-        requires priced_by { IsConsistent tables.now self.old }
+        requires priced_by { IsConsistent editions.now self.old }
         ensures same_account { self.new.account ≡ self.old.account }
-        ensures answer { IsTapResult result tables.now self.old.accepted tap }
+        ensures answer { IsTapResult result editions.now self.old.accepted tap }
         ensures after { self.new.accepted ≡ after_tap result self.old.accepted tap }
-        ensures priced_by { IsConsistent tables.now self.new }
-        ensures steps { result ≢ Err TapFault.Memory → self.new.steps ≤ 64 + 4 * disturbed tables.now (touches self.old.accepted) (touches self.new.accepted) }
+        ensures priced_by { IsConsistent editions.now self.new }
+        ensures steps { result ≢ Err TapFault.Memory → self.new.steps ≤ 64 + 4 * disturbed editions.now (touches self.old.accepted) (touches self.new.accepted) }
     {
         pay_rule_laws::accounts::refusals();
         self.steps = Steps::new();
-        match self.account.judge_tap(tables, &tap)? {
-            Addition::Repeat => Ok(self.prices(tables, true, tap.stamp.day())),
+        match self.account.judge_tap(editions, &tap)? {
+            Addition::Repeat => Ok(self.prices(editions, true, tap.stamp.day())),
             Addition::Added => {
-                self.add_tap(tables, tap)?;
-                Ok(self.prices(tables, false, tap.stamp.day()))
+                self.add_tap(editions, tap)?;
+                Ok(self.prices(editions, false, tap.stamp.day()))
             }
         }
     }
 
     /// Accepts a correction and prices the day that it names, or refuses it, as `Fares` says. It reads at most 64 stored taps, and four
     /// for each one that it disturbs: a Credit disturbs none.
-    pub fn fix(&mut self, tables: &Tables, fix: Fix) -> Result<Priced, FixFault>
+    pub fn fix(&mut self, editions: &Editions, fix: Fix) -> Result<Priced, FixFault>
         requires own { fix.account ≡ self.old.account }
-        requires priced_by { IsConsistent tables.now self.old }
+        requires priced_by { IsConsistent editions.now self.old }
         ensures same_account { self.new.account ≡ self.old.account }
-        ensures answer { IsFixResult result tables.now self.old.accepted fix }
+        ensures answer { IsFixResult result editions.now self.old.accepted fix }
         ensures after { self.new.accepted ≡ after_fix result self.old.accepted fix }
-        ensures priced_by { IsConsistent tables.now self.new }
-        ensures steps { result ≢ Err FixFault.Memory → self.new.steps ≤ 64 + 4 * disturbed tables.now (touches self.old.accepted) (touches self.new.accepted) }
+        ensures priced_by { IsConsistent editions.now self.new }
+        ensures steps { result ≢ Err FixFault.Memory → self.new.steps ≤ 64 + 4 * disturbed editions.now (touches self.old.accepted) (touches self.new.accepted) }
     {
         pay_rule_laws::accounts::refusals_of_fixes();
         self.steps = Steps::new();
-        match self.account.judge_fix(tables, &fix)? {
-            Addition::Repeat => Ok(self.prices_named(tables, true, &fix.what)),
+        match self.account.judge_fix(editions, &fix)? {
+            Addition::Repeat => Ok(self.prices_named(editions, true, &fix.what)),
             Addition::Added => {
-                self.add_fix(tables, fix)?;
-                Ok(self.prices_named(tables, false, &fix.what))
+                self.add_fix(editions, fix)?;
+                Ok(self.prices_named(editions, false, &fix.what))
             }
         }
     }
 
     /// Accepts a tap that is judged to be accepted. An `Err` is out of memory: then it is as before.
-    fn add_tap(&mut self, tables: &Tables, tap: Tap) -> Result<(), AllocError>
+    fn add_tap(&mut self, editions: &Editions, tap: Tap) -> Result<(), AllocError>
         requires own { tap.account ≡ self.old.account }
         requires judged { judged self.old.accepted.taps tap ≡ Ok Addition.Added }
-        requires held { IsConsistent tables.now self.old }
+        requires held { IsConsistent editions.now self.old }
         ensures same_account { self.new.account ≡ self.old.account }
         ensures accepted { OnOk result (self.new.accepted ≡ with_tap self.old.accepted tap) }
         ensures same { OnErr result (self.new.accepted ≡ self.old.accepted) }
-        ensures held { IsConsistent tables.now self.new }
+        ensures held { IsConsistent editions.now self.new }
         ensures rises { self.old.steps ≤ self.new.steps }
-        ensures steps { OnOk result (self.new.steps ≤ self.old.steps + 24 + 2 * disturbed tables.now (touches self.old.accepted) (touches self.new.accepted)) }
+        ensures steps { OnOk result (self.new.steps ≤ self.old.steps + 24 + 2 * disturbed editions.now (touches self.old.accepted) (touches self.new.accepted)) }
     {
         laws::changes();
         laws::tap_is_change();
@@ -149,23 +149,23 @@ impl Book {
         let change = change_by_tap(self.account.fixes(), &tap);
         let repair = self
             .held
-            .prepare(self.alloc, tables, &change, &mut self.steps)?;
+            .prepare(self.alloc, editions, &change, &mut self.steps)?;
         self.account.accept_tap(tap)?;
-        self.held.apply(tables, &change, &repair, &mut self.steps);
+        self.held.apply(editions, &change, &repair, &mut self.steps);
         Ok(())
     }
 
     /// Accepts a correction that is judged to be accepted. An `Err` is out of memory: then it is as before.
-    fn add_fix(&mut self, tables: &Tables, fix: Fix) -> Result<(), AllocError>
+    fn add_fix(&mut self, editions: &Editions, fix: Fix) -> Result<(), AllocError>
         requires own { fix.account ≡ self.old.account }
         requires judged { judged_fix self.old.accepted.fixes fix ≡ Ok Addition.Added }
-        requires held { IsConsistent tables.now self.old }
+        requires held { IsConsistent editions.now self.old }
         ensures same_account { self.new.account ≡ self.old.account }
         ensures accepted { OnOk result (self.new.accepted ≡ with_fix self.old.accepted fix) }
         ensures same { OnErr result (self.new.accepted ≡ self.old.accepted) }
-        ensures held { IsConsistent tables.now self.new }
+        ensures held { IsConsistent editions.now self.new }
         ensures rises { self.old.steps ≤ self.new.steps }
-        ensures steps { OnOk result (self.new.steps ≤ self.old.steps + 24 + 2 * disturbed tables.now (touches self.old.accepted) (touches self.new.accepted)) }
+        ensures steps { OnOk result (self.new.steps ≤ self.old.steps + 24 + 2 * disturbed editions.now (touches self.old.accepted) (touches self.new.accepted)) }
     {
         laws::changes();
         laws::fix_is_change();
@@ -174,9 +174,9 @@ impl Book {
         let change = change_by_fix(self.account.taps(), self.account.fixes(), &fix);
         let repair = self
             .held
-            .prepare(self.alloc, tables, &change, &mut self.steps)?;
+            .prepare(self.alloc, editions, &change, &mut self.steps)?;
         self.account.accept_fix(fix)?;
-        self.held.apply(tables, &change, &repair, &mut self.steps);
+        self.held.apply(editions, &change, &repair, &mut self.steps);
         Ok(())
     }
 }
@@ -203,24 +203,24 @@ impl Fares for Book {
         self.account.number()
     }
 
-    fn tap(&mut self, tables: &Tables, tap: Tap) -> Result<Priced, TapFault> {
-        Book::tap(self, tables, tap)
+    fn tap(&mut self, editions: &Editions, tap: Tap) -> Result<Priced, TapFault> {
+        Book::tap(self, editions, tap)
     }
 
-    fn fix(&mut self, tables: &Tables, fix: Fix) -> Result<Priced, FixFault> {
-        Book::fix(self, tables, fix)
+    fn fix(&mut self, editions: &Editions, fix: Fix) -> Result<Priced, FixFault> {
+        Book::fix(self, editions, fix)
     }
 
-    fn show(&self, tables: &Tables, day: u32) -> Result<Shown, AllocError> {
-        self.account.show(tables, day)
+    fn show(&self, editions: &Editions, day: u32) -> Result<Shown, AllocError> {
+        self.account.show(editions, day)
     }
 
-    fn quote(&self, tables: &Tables, through: u32) -> Result<Quote, AllocError> {
-        self.account.quote(tables, through)
+    fn quote(&self, editions: &Editions, through: u32) -> Result<Quote, AllocError> {
+        self.account.quote(editions, through)
     }
 
-    fn lines(&self, tables: &Tables, week: u32) -> Result<Lines, AllocError> {
-        self.account.lines(tables, week)
+    fn lines(&self, editions: &Editions, week: u32) -> Result<Lines, AllocError> {
+        self.account.lines(editions, week)
     }
 
     fn sets(&self) -> Result<Sets, AllocError> {

@@ -1,6 +1,6 @@
 ghost use Rattle.std.specs.Prelude.{◌≡◌, ◌≤◌, ◌<◌, ◌+◌, ◌^◌, ◌↔◌, [], ℕ, IsSome, IsTrue, Some, ◌-◌, cond, length, take, drop, option_map, slice_get, OnOk};
 ghost use Rattle.std.specs.BTreeMap.{is_at};
-ghost use Rattle.std.specs.List.{range_with_len};
+ghost use Rattle.std.specs.List.{range_with_len, zip};
 ghost use Rattle.std.specs.Ordering.{nat_cmp};
 ghost use Rattle.pay_money.specs.declared.limits.TheConstants.{MOST_MONEY};
 ghost use Rattle.pay_tables.specs.declared.limits.TheConstants.{MOST_ZONES};
@@ -59,12 +59,12 @@ fn stands_at(days: &[u32], place: usize, day: u32) -> bool
     }
 }
 
-/// The sums from a place on, as far as before another.
-fn between(sums: &[Cells], from: usize, to: usize) -> &[Cells]
-    requires { (from ≤ to) × (to ≤ length sums.now) }
-    ensures { result.now ≡ take (to - from) (drop from sums.now) }
+/// The items from a place on, as far as before another.
+fn between<T>(items: &[T], from: usize, to: usize) -> &[T]
+    requires { (from ≤ to) × (to ≤ length items.now) }
+    ensures { result.now ≡ take (to - from) (drop from items.now) }
 {
-    &sums[from..to]
+    &items[from..to]
 }
 
 impl DaySums {
@@ -90,15 +90,16 @@ impl DaySums {
         }
     }
 
-    /// The kept sums of so many days from one on, in their order.
-    pub(crate) fn of_days(&self, first: u32, count: u32) -> &[Cells]
+    /// Those of so many days from one on of which sums are kept, in their order, and the sums.
+    pub(crate) fn of_days(&self, first: u32, count: u32) -> (&[u32], &[Cells])
         requires { first + count < 2 ^ 32 }
-        ensures held { result.now ≡ stored_of self.now (range_with_len first count) }
-        ensures few { length result.now ≤ count }
+        ensures held { zip result.0.now result.1.now ≡ stored_of self.now (range_with_len first count) }
+        ensures beside { length result.0.now ≡ length result.1.now }
+        ensures few { length result.1.now ≤ count }
     {
         let from = place_in(&self.days, first);
         let to = place_in(&self.days, first + count);
-        between(&self.sums, from, to)
+        (between(&self.days, from, to), between(&self.sums, from, to))
     }
 
     /// Adds a fare to the sums of a day, which are kept.

@@ -2,7 +2,7 @@
 //! law calls its function.
 ghost use Rattle.pay_book.specs.Boardings.{BoardedByAll, MarkedWithIt, MarkedWithoutIt, RoomWithIt, RoomWithoutIt};
 ghost use Rattle.std.specs.Prelude.{List, [], ◌≡◌};
-ghost use Rattle.pay_tables.specs.Words.{FareTables};
+ghost use Rattle.pay_tables.specs.Words.{FareEditions};
 ghost use Rattle.pay_book.specs.Books.{BookParts};
 ghost use Rattle.pay_book.specs.MarkedTaps.{ChangesEachKind, ChangesArePossible};
 ghost use Rattle.pay_book.specs.Stored.{IsConsistent, IsStored, TapIsChange, FixIsChange, ChangeIsPossible, ChangeIsMade, ChangeDisturbs};
@@ -61,7 +61,7 @@ pub(crate) fn fix_is_change()
 /// What a book keeps is right: its stored journeys by rail, the marks of its boardings and the sums of its days are those of the
 /// definitions over all that it has accepted, whatever came, and in whatever order.
 pub fn stored()
-    ensures { (tables : FareTables) (book : BookParts) → IsConsistent tables book → IsStored tables book }
+    ensures { (editions : FareEditions) (book : BookParts) → IsConsistent editions book → IsStored editions book }
 {
     pay_links::laws::kept_as_marks();
     pay_hopper::laws::by_the_last();

@@ -10,7 +10,7 @@ ghost use Rattle.pay_book.specs.Fewer.{fewer_of, more_of};
 
 use crate::stretch::{Stretch, stretch_around, tap_at};
 use pay_rules::{Journey, Touch};
-use pay_tables::Tables;
+use pay_tables::Editions;
 use pay_taps::{Steps, Timeline};
 use std::alloc::{AllocError, Global};
 
@@ -36,9 +36,9 @@ fn second_before(rail: &Timeline, place: usize, steps: &mut Steps) -> Option<Tou
 
 /// Whether a journey starts at a tap, by the taps next to it.
 #[tactic(auto, using(crate::proofs::Marks::mark_by_place, crate::proofs::Fewer::at_most_one_read))]
-fn mark_of(tables: &Tables, rail: &Timeline, place: usize, steps: &mut Steps) -> bool
+fn mark_of(editions: &Editions, rail: &Timeline, place: usize, steps: &mut Steps) -> bool
     requires { place < length rail.now.touches }
-    ensures value { result ≡ mark_in (starts tables.now rail.now.touches) place }
+    ensures value { result ≡ mark_in (starts editions.now rail.now.touches) place }
     ensures rises { steps.old ≤ steps.new }
     ensures steps { steps.new ≤ steps.old + 4 }
 {
@@ -48,25 +48,25 @@ fn mark_of(tables: &Tables, rail: &Timeline, place: usize, steps: &mut Steps) ->
     let farther = second_before(rail, place, steps);
     let nearer = rail.before(place, steps);
     let next = rail.after(place, steps);
-    pay_links::starts_at(tables, &farther, &nearer, &tap, &next)
+    pay_links::starts_at(editions, &farther, &nearer, &tap, &next)
 }
 
 /// Marks the taps around a place again, once a tap was put in or taken out there.
 pub(crate) fn mark_again(
-    tables: &Tables,
+    editions: &Editions,
     rail: &Timeline,
     marks: &mut [bool],
     place: usize,
     steps: &mut Steps,
 )
-    requires { AreMarkedElsewhere tables.now rail.now.touches place marks.old }
-    ensures marks { marks.new ≡ starts tables.now rail.now.touches }
+    requires { AreMarkedElsewhere editions.now rail.now.touches place marks.old }
+    ensures marks { marks.new ≡ starts editions.now rail.now.touches }
     ensures rises { steps.old ≤ steps.new }
     ensures steps { steps.new ≤ steps.old + 16 }
 {
     let end = place.saturating_add(3).min(marks.len());
     for at in place.saturating_sub(1)..end {
-        marks[at] = mark_of(tables, rail, at, steps);
+        marks[at] = mark_of(editions, rail, at, steps);
     }
 }
 
@@ -103,18 +103,22 @@ fn taps_of_stretch(
 }
 
 /// The journeys by rail of taps in order. An `Err` is out of memory.
-fn journeys_of(alloc: Global, tables: &Tables, taps: &[Touch]) -> Result<Vec<Journey>, AllocError>
-    ensures { IfOk result (λ list. list.items ≡ journeys tables.now (legs tables.now taps.now)) }
+fn journeys_of(
+    alloc: Global,
+    editions: &Editions,
+    taps: &[Touch],
+) -> Result<Vec<Journey>, AllocError>
+    ensures { IfOk result (λ list. list.items ≡ journeys editions.now.own (legs editions.now taps.now)) }
 {
-    let parts = pay_pairs::legs(alloc, tables, taps)?;
-    pay_links::journeys(alloc, tables, &parts)
+    let parts = pay_pairs::legs(alloc, editions, taps)?;
+    pay_links::journeys(alloc, editions.own(), &parts)
 }
 
 /// The journeys that a rail tap changes as it enters, or as it leaves where it is there: what they are
 /// without it and with it. All others stay as they are. An `Err` is out of memory.
 pub(crate) fn disturbed_by(
     alloc: Global,
-    tables: &Tables,
+    editions: &Editions,
     rail: &Timeline,
     marks: &[bool],
     touch: &Touch,
@@ -122,21 +126,21 @@ pub(crate) fn disturbed_by(
     steps: &mut Steps,
 ) -> Result<Disturbed, AllocError>
     requires there { is_there ≡ true → slice_get rail.now.touches (place_of touch.now rail.now.touches) ≡ Some touch.now }
-    requires marked { marks.now ≡ starts tables.now rail.now.touches }
-    ensures disturbed { IfOk result (λ d. IsDisturbedBy tables.now rail.now.touches touch.now is_there d.fewer.items d.more.items) }
+    requires marked { marks.now ≡ starts editions.now rail.now.touches }
+    ensures disturbed { IfOk result (λ d. IsDisturbedBy editions.now rail.now.touches touch.now is_there d.fewer.items d.more.items) }
     ensures few { IfOk result (λ d. (length d.fewer.items ≤ 4) × (length d.more.items ≤ 5)) }
     ensures rises { steps.old ≤ steps.new }
-    ensures steps { OnOk result (steps.new ≤ steps.old + 8 + 2 * disturbed_by_rail tables.now (more_of is_there touch.now rail.now.touches) (place_of touch.now rail.now.touches)) }
+    ensures steps { OnOk result (steps.new ≤ steps.old + 8 + 2 * disturbed_by_rail editions.now (more_of is_there touch.now rail.now.touches) (place_of touch.now rail.now.touches)) }
 {
     pay_links::laws::starts_are_local();
     pay_links::laws::each_tap();
     pay_links::laws::cut();
     pay_taps::laws::places();
     let place = rail.place(touch);
-    let stretch = stretch_around(tables, rail, marks, touch, place, is_there, steps);
+    let stretch = stretch_around(editions, rail, marks, touch, place, is_there, steps);
     let mut taps = taps_of_stretch(alloc, rail, place, is_there, &stretch, steps)?;
-    let fewer = journeys_of(alloc, tables, &taps)?;
+    let fewer = journeys_of(alloc, editions, &taps)?;
     taps.insert(place - stretch.from, *touch)?;
-    let more = journeys_of(alloc, tables, &taps)?;
+    let more = journeys_of(alloc, editions, &taps)?;
     Ok(Disturbed { fewer, more })
 }

@@ -9,7 +9,7 @@ ghost use Rattle.pay_book.specs.Rail.{IsAround, starts_at_it, starts_before_it, 
 ghost use Rattle.pay_book.specs.Rail.{IsPlaced, IsFirstPlace, IsLastPlace, IsStretch, StandsThere};
 
 use pay_rules::Touch;
-use pay_tables::Tables;
+use pay_tables::Editions;
 use pay_taps::{Steps, Timeline};
 
 /// The taps next to a place: three before it, and from it on three.
@@ -143,54 +143,54 @@ fn taps_around(rail: &Timeline, place: usize, is_there: bool, steps: &mut Steps)
 
 /// Whether a journey starts at a tap, by the taps next to it, or there is no such tap.
 fn starts_if_there(
-    tables: &Tables,
+    editions: &Editions,
     farther: &Option<Touch>,
     nearer: &Option<Touch>,
     tap: &Option<Touch>,
     next: &Option<Touch>,
 ) -> bool
-    ensures { result ≡ starts_if_there tables.now farther.now nearer.now tap.now next.now }
+    ensures { result ≡ starts_if_there editions.now farther.now nearer.now tap.now next.now }
 {
     match tap {
-        Some(tap) => pay_links::starts_at(tables, farther, nearer, tap, next),
+        Some(tap) => pay_links::starts_at(editions, farther, nearer, tap, next),
         None => true,
     }
 }
 
 /// Whether a journey starts at the place of a tap both with it and without it.
-fn starts_at_it(tables: &Tables, near: &Around, touch: &Touch) -> bool
-    ensures { result ≡ starts_at_it tables.now near.now touch.now }
+fn starts_at_it(editions: &Editions, near: &Around, touch: &Touch) -> bool
+    ensures { result ≡ starts_at_it editions.now near.now touch.now }
 {
     let tap = Some(*touch);
-    starts_if_there(tables, &near.second, &near.first, &tap, &near.here)
-        && starts_if_there(tables, &near.second, &near.first, &near.here, &near.next)
+    starts_if_there(editions, &near.second, &near.first, &tap, &near.here)
+        && starts_if_there(editions, &near.second, &near.first, &near.here, &near.next)
 }
 
 /// Whether one does at the tap before it.
-fn starts_before_it(tables: &Tables, near: &Around, touch: &Touch) -> bool
-    ensures { result ≡ starts_before_it tables.now near.now touch.now }
+fn starts_before_it(editions: &Editions, near: &Around, touch: &Touch) -> bool
+    ensures { result ≡ starts_before_it editions.now near.now touch.now }
 {
     let tap = Some(*touch);
-    starts_if_there(tables, &near.third, &near.second, &near.first, &tap)
-        && starts_if_there(tables, &near.third, &near.second, &near.first, &near.here)
+    starts_if_there(editions, &near.third, &near.second, &near.first, &tap)
+        && starts_if_there(editions, &near.third, &near.second, &near.first, &near.here)
 }
 
 /// Whether one does at the tap after it.
-fn starts_after_it(tables: &Tables, near: &Around, touch: &Touch) -> bool
-    ensures { result ≡ starts_after_it tables.now near.now touch.now }
+fn starts_after_it(editions: &Editions, near: &Around, touch: &Touch) -> bool
+    ensures { result ≡ starts_after_it editions.now near.now touch.now }
 {
     let tap = Some(*touch);
-    starts_if_there(tables, &near.first, &tap, &near.here, &near.next)
-        && starts_if_there(tables, &near.second, &near.first, &near.here, &near.next)
+    starts_if_there(editions, &near.first, &tap, &near.here, &near.next)
+        && starts_if_there(editions, &near.second, &near.first, &near.here, &near.next)
 }
 
 /// Whether one does at the second tap after it.
-fn starts_further(tables: &Tables, near: &Around, touch: &Touch) -> bool
-    ensures { result ≡ starts_further tables.now near.now touch.now }
+fn starts_further(editions: &Editions, near: &Around, touch: &Touch) -> bool
+    ensures { result ≡ starts_further editions.now near.now touch.now }
 {
     let tap = Some(*touch);
-    starts_if_there(tables, &tap, &near.here, &near.next, &near.later)
-        && starts_if_there(tables, &near.first, &near.here, &near.next, &near.later)
+    starts_if_there(editions, &tap, &near.here, &near.next, &near.later)
+        && starts_if_there(editions, &near.first, &near.here, &near.next, &near.later)
 }
 
 /// The last place before another at which a journey starts, by the marks, or the first of all.
@@ -225,15 +225,21 @@ fn places_to_start(marks: &[bool], first: usize) -> usize
 }
 
 /// A place up to that of a tap, as near as can be, at which journeys start with it and without it.
-fn first_place(tables: &Tables, marks: &[bool], near: &Around, touch: &Touch, place: usize) -> usize
+fn first_place(
+    editions: &Editions,
+    marks: &[bool],
+    near: &Around,
+    touch: &Touch,
+    place: usize,
+) -> usize
     requires { place ≤ length marks.now }
     ensures { (fewer : List Touch) (is_there : Bool) → IsAround fewer place near.now →
-        IsPlaced tables.now fewer touch.now is_there place marks.now → IsFirstPlace tables.now fewer touch.now place result }
+        IsPlaced editions.now fewer touch.now is_there place marks.now → IsFirstPlace editions.now fewer touch.now place result }
 {
-    if place == 0 || starts_at_it(tables, near, touch) {
+    if place == 0 || starts_at_it(editions, near, touch) {
         return place;
     }
-    if starts_before_it(tables, near, touch) {
+    if starts_before_it(editions, near, touch) {
         return place - 1;
     }
     last_start(marks, place - 1)
@@ -242,7 +248,7 @@ fn first_place(tables: &Tables, marks: &[bool], near: &Around, touch: &Touch, pl
 /// A place from that of a tap on, among the taps without it, as near as can be, at which journeys start
 /// with it and without it.
 fn last_place(
-    tables: &Tables,
+    editions: &Editions,
     marks: &[bool],
     near: &Around,
     touch: &Touch,
@@ -251,12 +257,12 @@ fn last_place(
 ) -> usize
     requires { place ≤ length marks.now }
     ensures { (fewer : List Touch) → IsAround fewer place near.now →
-        IsPlaced tables.now fewer touch.now is_there place marks.now → IsLastPlace tables.now fewer touch.now place result }
+        IsPlaced editions.now fewer touch.now is_there place marks.now → IsLastPlace editions.now fewer touch.now place result }
 {
-    if starts_after_it(tables, near, touch) {
+    if starts_after_it(editions, near, touch) {
         return place;
     }
-    if starts_further(tables, near, touch) {
+    if starts_further(editions, near, touch) {
         return place + 1;
     }
     let first = if is_there { place + 3 } else { place + 2 };
@@ -265,7 +271,7 @@ fn last_place(
 
 /// What a tap disturbs that is there at a place, or is not and enters there.
 pub(crate) fn stretch_around(
-    tables: &Tables,
+    editions: &Editions,
     rail: &Timeline,
     marks: &[bool],
     touch: &Touch,
@@ -274,14 +280,14 @@ pub(crate) fn stretch_around(
     steps: &mut Steps,
 ) -> Stretch
     requires there { StandsThere is_there place touch.now rail.now.touches }
-    requires marked { marks.now ≡ starts tables.now rail.now.touches }
-    ensures stretch { IsStretch tables.now (fewer_of is_there place rail.now.touches) touch.now place result.from result.to }
+    requires marked { marks.now ≡ starts editions.now rail.now.touches }
+    ensures stretch { IsStretch editions.now (fewer_of is_there place rail.now.touches) touch.now place result.from result.to }
     ensures rises { steps.old ≤ steps.new }
     ensures steps { steps.new ≤ steps.old + 6 }
 {
     let near = taps_around(rail, place, is_there, steps);
     Stretch {
-        from: first_place(tables, marks, &near, touch, place),
-        to: last_place(tables, marks, &near, touch, place, is_there),
+        from: first_place(editions, marks, &near, touch, place),
+        to: last_place(editions, marks, &near, touch, place, is_there),
     }
 }

@@ -71,8 +71,9 @@ fn lower_of_outside(best: Offer, cells: &Cells, other: Cover, band: &Band, place
     )
 }
 
-/// `capped_price` of what a band leaves outside.
-fn price_outside(tables: &Tables, cells: &Cells, other: Cover) -> Offer
+/// `capped_price` of what a band leaves outside, which may be one of another edition. It is that of
+/// `Cells::outside`, for which no cells have to be made.
+pub fn capped_price_outside(tables: &Tables, cells: &Cells, other: Cover) -> Offer
     ensures value { result ≡ capped_price_of tables.now (outside other cells.now) }
     ensures in_range { result.0 ≤ MOST_MONEY }
 {
@@ -82,18 +83,6 @@ fn price_outside(tables: &Tables, cells: &Cells, other: Cover) -> Offer
         best = lower_of_outside(best, cells, other, &bands[place], place as u8);
     }
     best
-}
-
-/// `capped_price` of what the band at a place in the fare file leaves outside; where none stands there, of
-/// all fares. It is that of `Cells::outside`, for which no cells have to be made.
-pub fn capped_price_outside(tables: &Tables, cells: &Cells, place: u8) -> Offer
-    ensures value { result ≡ capped_price_of tables.now (outside_of (slice_get tables.now.bands place) cells.now) }
-    ensures in_range { result.0 ≤ MOST_MONEY }
-{
-    match tables.bands().get(usize::from(place)) {
-        Some(band) => price_outside(tables, cells, band.cover),
-        None => capped_price(tables, cells),
-    }
 }
 
 /// The price of a day's fares, and the band that gives it, by its place in the fare file: that of

@@ -3,7 +3,7 @@
 ghost use Rattle.std.specs.Prelude.{◌≡◌, ◌≤◌, ℕ, ◌∷◌, ◌++◌, [], List, length, IsPermutation};
 ghost use Rattle.pay_tables.specs.declared.band.Band.{Band};
 ghost use Rattle.pay_tables.specs.declared.limits.TheConstants.{MOST_ZONES};
-ghost use Rattle.pay_tables.specs.Words.{FareTables};
+ghost use Rattle.pay_tables.specs.Words.{FareTables, on};
 ghost use Rattle.pay_rules.specs.declared.journey.Journey.{Journey};
 ghost use Rattle.pay_rules.specs.JourneyFares.{fare};
 ghost use Rattle.pay_caps.specs.declared.cell.Cell.{Cell};
@@ -16,7 +16,7 @@ ghost use Rattle.pay_rules.specs.DayPrices.{fares, not_covered, capped_price, ma
 ghost use Rattle.pay_caps.specs.SumPrices.{capped_price_of, day_price_of};
 ghost use Rattle.pay_caps.specs.Laws.{OthersAreLeft, StretchIsTaken, RestIsLeft, EachFareIsThere, StretchIsAdded, DayIsWithinBand, ChargeIsWithinBand};
 
-use pay_tables::Tables;
+use pay_tables::Editions;
 
 /// The sums of journeys are made by adding the fare of each, whatever the order, and what was added can
 /// be taken away.
@@ -31,24 +31,24 @@ pub fn sums()
 {}
 
 /// The fare of each of some journeys is in their sums, and what is left when it is taken are the sums of the
-/// others.
-pub fn takes(tables: &Tables)
-    ensures there { (before : List Journey) (journey : Journey) (after : List Journey) →
-        fare tables.now journey ≤ sum_at (cell_of tables.now journey) (cells_of tables.now (before ++ journey ∷ after)) }
-    ensures left { OthersAreLeft tables.now }
+/// others, by the tables of each day.
+pub fn takes(editions: &Editions)
+    ensures there { (day : ℕ) (before : List Journey) (journey : Journey) (after : List Journey) →
+        fare (on editions.now day) journey ≤ sum_at (cell_of (on editions.now day) journey) (cells_of (on editions.now day) (before ++ journey ∷ after)) }
+    ensures left { (day : ℕ) → OthersAreLeft (on editions.now day) }
 {
-    day_prices(tables);
+    day_prices(editions);
 }
 
 /// The fares of a stretch of journeys can be taken from the sums of all, one after another, which leaves
 /// the sums of the others, and added to these again. It does not matter where the stretch stands.
-pub fn stretches(tables: &Tables)
-    ensures others_left { StretchIsTaken tables.now }
-    ensures rest_left { RestIsLeft tables.now }
-    ensures there { EachFareIsThere tables.now }
-    ensures all_again { StretchIsAdded tables.now }
+pub fn stretches(editions: &Editions)
+    ensures others_left { (day : ℕ) → StretchIsTaken (on editions.now day) }
+    ensures rest_left { (day : ℕ) → RestIsLeft (on editions.now day) }
+    ensures there { (day : ℕ) → EachFareIsThere (on editions.now day) }
+    ensures all_again { (day : ℕ) → StretchIsAdded (on editions.now day) }
 {
-    takes(tables);
+    takes(editions);
 }
 
 /// What a band leaves outside of the sums of journeys are the sums of those that it does not cover.
@@ -56,16 +56,16 @@ pub fn sums_outside()
     ensures { (tables : FareTables) (band : Band) (list : List Journey) → cells_of tables (not_covered tables band list) ≡ outside band.cover (cells_of tables list) }
 {}
 
-/// The price of the sums of a day's journeys is the price of the journeys.
-pub fn day_prices(tables: &Tables)
-    ensures in_range { (journey : Journey) → IsCell MOST_ZONES (cell_of tables.now journey) }
-    ensures capped { (list : List Journey) → capped_price_of tables.now (cells_of tables.now list) ≡ capped_price tables.now list }
-    ensures day { (list : List Journey) → day_price_of tables.now (cells_of tables.now list) ≡ day_price tables.now list }
-    ensures maximum { (list : List Journey) → (cells_of tables.now list).maximum ≡ maximum_fares tables.now list }
-    ensures all { (list : List Journey) → total (cells_of tables.now list) ≡ fares tables.now list }
+/// The price of the sums of a day's journeys is the price of the journeys, by the tables of each day.
+pub fn day_prices(editions: &Editions)
+    ensures in_range { (day : ℕ) (journey : Journey) → IsCell MOST_ZONES (cell_of (on editions.now day) journey) }
+    ensures capped { (day : ℕ) (list : List Journey) → capped_price_of (on editions.now day) (cells_of (on editions.now day) list) ≡ capped_price (on editions.now day) list }
+    ensures day { (day : ℕ) (list : List Journey) → day_price_of (on editions.now day) (cells_of (on editions.now day) list) ≡ day_price (on editions.now day) list }
+    ensures maximum { (day : ℕ) (list : List Journey) → (cells_of (on editions.now day) list).maximum ≡ maximum_fares (on editions.now day) list }
+    ensures all { (day : ℕ) (list : List Journey) → total (cells_of (on editions.now day) list) ≡ fares (on editions.now day) list }
 {
-    tables.zones();
-    pay_fares::laws::spans_within(tables);
+    pay_tables::laws::each_day(editions);
+    pay_fares::laws::spans_within(editions);
 }
 
 /// A day never costs more than its fares, nor more than what a band caps and leaves outside; and a

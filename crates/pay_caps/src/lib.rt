@@ -11,4 +11,4 @@ pub mod limits;
 pub use cell::{Cell, cell_of, covers};
 pub use cells::Cells;
 pub use day_prices::{Offer, capped_price, capped_price_outside, day_price, lower};
-pub use pay_fares::{fare, laws as fare_laws};
+pub use pay_fares::{fare, fare_by, laws as fare_laws};

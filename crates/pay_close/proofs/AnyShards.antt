@@ -3,7 +3,7 @@ use Rattle.std.proofs.Common.{◌≡◌, ℕ, suc, ◌≤◌, ◌%◌, Bool, tru
 use Rattle.std.specs.FinMap.{FinMap, get, entries, entries_sorted}
 use Rattle.std.specs.Ordering.{nat_cmp}
 use Rattle.std.proofs.lemmas.Nat.{mod_below}
-use Rattle.pay_tables.specs.Words.{FareTables}
+use Rattle.pay_tables.specs.Words.{FareEditions}
 use Rattle.pay_rules.specs.Accepted.{Accepted}
 use Rattle.pay_rules.specs.QuoteParts.{QuoteParts}
 use Rattle.pay_rules.specs.Quotes.{quote}
@@ -80,43 +80,43 @@ quotes_brought : (b : BatchParts) (o : Option Answer) → Brings b o → brings_
 quotes_brought b None brings = absurd brings
 quotes_brought b (Some answer) brings = ap gives_quotes brings
 
-module _ (tables : FareTables) (each : ℕ → State) (day of : ℕ) where
+module _ (editions : FareEditions) (each : ℕ → State) (day of : ℕ) where
   -- the batch of a shard
   abbrev of_shard : ℕ → BatchParts
-  of_shard k = batch tables (each k) day k of
+  of_shard k = batch editions (each k) day k of
 
   -- the batches of so many shards, from one on
   abbrev all_from : ℕ → ℕ → BatchParts
   all_from from many = record { quotes = one_by_one (λ k. (of_shard k).quotes) from many; sets = one_by_one (λ k. (of_shard k).sets) from many }
 
-  all_bring : (from : ℕ) (put : List Taken) → AreOfShards tables each day of from put → AreBrought put
+  all_bring : (from : ℕ) (put : List Taken) → AreOfShards editions each day of from put → AreBrought put
   all_bring from [] are = tt
   all_bring from (t ∷ ts) are = (quotes_brought (of_shard from) t.answer are.0, all_bring (suc from) ts are.1)
 
-  brought_is : (from : ℕ) (put : List Taken) → AreOfShards tables each day of from put → brought put ≡ all_from from (length put)
+  brought_is : (from : ℕ) (put : List Taken) → AreOfShards editions each day of from put → brought put ≡ all_from from (length put)
   brought_is from [] are = refl
   brought_is from (t ∷ ts) are =
       let here = batch_brought (of_shard from) t.answer are.0 in
       let rest = brought_is (suc from) ts are.1 in
       λ i. both (here i) (rest i)
 
-  module _ (whole : State) (put : List Taken) (some : 1 ≤ of) (is : IsStateOfAll of each whole) (many : length put ≡ of) (are : AreOfShards tables each day of 0 put) where
+  module _ (whole : State) (put : List Taken) (some : 1 ≤ of) (is : IsStateOfAll of each whole) (many : length put ≡ of) (are : AreOfShards editions each day of 0 put) where
     pub shards_whole : IsWhole of put
     shards_whole = (many, all_bring 0 put are)
 
-    quotes_in_order : in_order_by (λ (q : QuoteParts). q.account) (all_from 0 of).quotes ≡ (batch_of_all tables whole day).quotes
-    quotes_in_order = all_made (λ (q : QuoteParts). q.account) (λ (e : ℕ × Accepted). is_quoted day (sets e.0 e.1)) (λ (e : ℕ × Accepted). quote tables e.0 e.1 day) (λ e. refl) of some each whole is
+    quotes_in_order : in_order_by (λ (q : QuoteParts). q.account) (all_from 0 of).quotes ≡ (batch_of_all editions whole day).quotes
+    quotes_in_order = all_made (λ (q : QuoteParts). q.account) (λ (e : ℕ × Accepted). is_quoted day (sets e.0 e.1)) (λ (e : ℕ × Accepted). quote editions e.0 e.1 day) (λ e. refl) of some each whole is
 
-    sets_in_order : in_order_by (λ (s : SetsParts). s.account) (all_from 0 of).sets ≡ (batch_of_all tables whole day).sets
+    sets_in_order : in_order_by (λ (s : SetsParts). s.account) (all_from 0 of).sets ≡ (batch_of_all editions whole day).sets
     sets_in_order = all_made (λ (s : SetsParts). s.account) (λ (e : ℕ × Accepted). is_quoted day (sets e.0 e.1)) (λ (e : ℕ × Accepted). sets e.0 e.1) (λ e. refl) of some each whole is
 
-    pub shards_gathered : gathered put ≡ batch_of_all tables whole day
+    pub shards_gathered : gathered put ≡ batch_of_all editions whole day
     shards_gathered =
         ap in_order (brought_is 0 put are)
         ∙ (λ i. in_order (all_from 0 (many i)))
         ∙ (λ i. record { quotes = quotes_in_order i; sets = sets_in_order i })
 
 -- so one close is the other
-pub shards_closed : (tables : FareTables) (of : ℕ) (each : ℕ → State) (books : Books) (day : ℕ) (put : List Taken) → 1 ≤ of → IsStateOfAll of each books.state → length put ≡ of → AreOfShards tables each day of 0 put
-    → posted_of books.ledger put ≡ close tables books day
-shards_closed tables of each books day put some is many are = ap (λ (b : BatchParts). posted books.ledger b.quotes b.sets) (shards_gathered tables each day of books.state put some is many are)
+pub shards_closed : (editions : FareEditions) (of : ℕ) (each : ℕ → State) (books : Books) (day : ℕ) (put : List Taken) → 1 ≤ of → IsStateOfAll of each books.state → length put ≡ of → AreOfShards editions each day of 0 put
+    → posted_of books.ledger put ≡ close editions books day
+shards_closed editions of each books day put some is many are = ap (λ (b : BatchParts). posted books.ledger b.quotes b.sets) (shards_gathered editions each day of books.state put some is many are)

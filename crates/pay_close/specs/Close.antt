@@ -3,7 +3,7 @@ use Rattle.std.specs.Prelude.{◌≡◌, ◌<◌, ⊤, ℕ, true, List, [], ◌�
 use Rattle.std.specs.List.{AllByRecursion}
 use Rattle.std.specs.FinMap as map
 use Rattle.pay_day.specs.Words.{monday}
-use Rattle.pay_tables.specs.Words.{FareTables}
+use Rattle.pay_tables.specs.Words.{FareEditions}
 use Rattle.pay_rules.specs.Accepted.{Accepted}
 use Rattle.pay_rules.specs.QuoteParts.{IsQuote}
 use Rattle.pay_rules.specs.declared.posting.Posting.{Posting}
@@ -25,12 +25,12 @@ abbrev pub new_books : Books
 new_books = record { state = map.empty; ledger = record { postings = []; taps = []; fixes = [] } }
 
 -- the quotes and the sets of all accounts that are quoted through a day, in ascending order of account
-abbrev pub batch_of_all : FareTables → State → ℕ → BatchParts
-batch_of_all tables state day = batch tables state day 0 1
+abbrev pub batch_of_all : FareEditions → State → ℕ → BatchParts
+batch_of_all editions state day = batch editions state day 0 1
 
 -- The close of a day: each of these quotes is posted, one after another, and then the sets are archived.
-abbrev pub close : FareTables → Books → ℕ → Result (List Posting × LedgerParts) PostFault
-close tables books day = posted books.ledger (batch_of_all tables books.state day).quotes (batch_of_all tables books.state day).sets
+abbrev pub close : FareEditions → Books → ℕ → Result (List Posting × LedgerParts) PostFault
+close editions books day = posted books.ledger (batch_of_all editions books.state day).quotes (batch_of_all editions books.state day).sets
 
 -- the ledger after a close: a refusal leaves it as it was
 abbrev pub ledger_after : LedgerParts → Result (List Posting × LedgerParts) PostFault → LedgerParts
@@ -48,24 +48,24 @@ pub data Event : Type 0 where
   Closed : ℕ → Event
 
 -- a command changes what its account has accepted, and a close changes the ledger
-abbrev pub after : FareTables → Books → Event → Books
-after tables books (Answered item) = record { state = (item_step tables books.state item).after; ledger = books.ledger }
-after tables books (Closed day) = record { state = books.state; ledger = ledger_after books.ledger (close tables books day) }
+abbrev pub after : FareEditions → Books → Event → Books
+after editions books (Answered item) = record { state = (item_step editions books.state item).after; ledger = books.ledger }
+after editions books (Closed day) = record { state = books.state; ledger = ledger_after books.ledger (close editions books day) }
 
-abbrev pub after_all : FareTables → Books → List Event → Books
-after_all tables books [] = books
-after_all tables books (event ∷ later) = after_all tables (after tables books event) later
+abbrev pub after_all : FareEditions → Books → List Event → Books
+after_all editions books [] = books
+after_all editions books (event ∷ later) = after_all editions (after editions books event) later
 
 -- what a history comes to: commands and closes, one after another, from the beginning
-abbrev pub history : FareTables → List Event → Books
-history tables events = after_all tables new_books events
+abbrev pub history : FareEditions → List Event → Books
+history editions events = after_all editions new_books events
 
 -- all postings by then, and what an account has accepted
-abbrev pub postings_after : FareTables → List Event → List Posting
-postings_after tables events = (history tables events).ledger.postings
+abbrev pub postings_after : FareEditions → List Event → List Posting
+postings_after editions events = (history editions events).ledger.postings
 
-abbrev pub accepted_after : FareTables → List Event → ℕ → Accepted
-accepted_after tables events account = accepted_of (history tables events).state account
+abbrev pub accepted_after : FareEditions → List Event → ℕ → Accepted
+accepted_after editions events account = accepted_of (history editions events).state account
 
 -- the commands among the events, in order
 abbrev pub answered : List Event → List Item
@@ -74,16 +74,16 @@ answered (Answered item ∷ later) = item ∷ answered later
 answered (Closed day ∷ later) = answered later
 
 -- each quote of each close has its numbers in their ranges, as the type of a quote says
-abbrev pub AreQuotes : FareTables → Books → List Event → Type 0
-AreQuotes tables books [] = ⊤
-AreQuotes tables books (Answered item ∷ later) = AreQuotes tables (after tables books (Answered item)) later
-AreQuotes tables books (Closed day ∷ later) = AllByRecursion IsQuote (batch_of_all tables books.state day).quotes × AreQuotes tables (after tables books (Closed day)) later
+abbrev pub AreQuotes : FareEditions → Books → List Event → Type 0
+AreQuotes editions books [] = ⊤
+AreQuotes editions books (Answered item ∷ later) = AreQuotes editions (after editions books (Answered item)) later
+AreQuotes editions books (Closed day ∷ later) = AllByRecursion IsQuote (batch_of_all editions books.state day).quotes × AreQuotes editions (after editions books (Closed day)) later
 
 -- ---- worked rows
 
 -- a command for which memory was wanting changes nothing
-refused_for_memory : (tables : FareTables) (entry : Entry) → history tables (Answered (record { entry = entry; refused_memory = true }) ∷ []) ≡ new_books
-refused_for_memory tables entry = refl
+refused_for_memory : (editions : FareEditions) (entry : Entry) → history editions (Answered (record { entry = entry; refused_memory = true }) ∷ []) ≡ new_books
+refused_for_memory editions entry = refl
 
 -- nor does a close that is refused
 refused_close : (ledger : LedgerParts) → ledger_after ledger (Err QuoteDiffers) ≡ ledger

@@ -4,18 +4,20 @@ use Rattle.std.specs.Prelude.{ok_or, nat_le, nat_lt, ◌==◌, ◌&&◌}
 use Rattle.toml.specs.Data.{Data, Items, no_items, item, Members, get_member, as_integer, as_table, as_array}
 use Rattle.pay_day.specs.declared.limits.TheConstants.{FIRST_DAY, LAST_DAY}
 use Rattle.pay_money.specs.declared.limits.TheConstants.{OPERATORS}
-use Rattle.pay_tables.specs.declared.limits.TheConstants.{MOST_ZONES, MOST_MINUTES, MOST_FARE, MOST_HOPPER_SECONDS, MOST_SAME_SECONDS, MOST_INTERCHANGE_SECONDS, MOST_PLACE, MOST_HOLIDAYS, MOST_PLACES, MOST_INTERCHANGES, MOST_BANDS}
+use Rattle.pay_tables.specs.declared.limits.TheConstants.{MOST_ZONES, MOST_MINUTES, MOST_FARE, MOST_HOPPER_SECONDS, MOST_SAME_SECONDS, MOST_INTERCHANGE_SECONDS, MOST_PLACE, MOST_HOLIDAYS, MOST_PLACES, MOST_INTERCHANGES, MOST_BANDS, MOST_EDITIONS}
 use Rattle.pay_fare_file.specs.declared.fault.FareFileFault.{FareFileFault}
-use Rattle.pay_fare_file.specs.declared.fault.FareFileFault.TheVariants.{NotToml, MissingKey, WrongType, OutOfRange, Duplicate, UnknownPlace, TooMany}
+use Rattle.pay_fare_file.specs.declared.fault.FareFileFault.TheVariants.{NotToml, MissingKey, WrongType, OutOfRange, Duplicate, UnknownPlace, TooMany, HopperDiffers}
 use Rattle.std.specs.Ordering.{nat_cmp}
 use Rattle.std.specs.FinMap.{FinMap, contains_key, empty}
 use Rattle.pay_tables.specs.declared.band.Band.{Band}
+use Rattle.pay_tables.specs.declared.edition.Edition.{Edition}
 use Rattle.pay_tables.specs.declared.interchange.Interchange.{Interchange}
 use Rattle.pay_tables.specs.declared.place.Place.{Place}
 use Rattle.pay_tables.specs.declared.single.Single.{Single}
+use Rattle.pay_tables.specs.Words.{FareTables}
 use Rattle.pay_fare_file.specs.Fault.{◌>>=◌}
 use Rattle.pay_fare_file.specs.Keys.{needed, integer_in, integer_of, integer_at, table_of, table_at, array_of, array_at, items_len, items_of, items_or_none, items_at}
-use Rattle.pay_fare_file.specs.FareFile.{with_each, with_minutes, minutes_items_at, minutes_at, rules_of, single_of, another_single, with_single, singles_at, has_single, has_each_single, greatest_to, cover_at, band_of, another_band, with_band, has_band, bands_at, has_holiday, another_holiday, with_holiday, holidays_at, station_of, route_of, unless_taken, with_place, with_station, with_route, places_at, another_at, interchange_of, joins_stations, has_interchange, unless_joined, another_interchange, with_interchange, interchanges_at, fare_file}
+use Rattle.pay_fare_file.specs.FareFile.{with_each, with_minutes, minutes_items_at, minutes_at, unless_differs, hopper_at, rules_of, single_of, another_single, with_single, singles_at, has_single, has_each_single, greatest_to, cover_at, band_of, another_band, with_band, has_band, bands_at, has_holiday, another_holiday, with_holiday, holidays_at, station_of, route_of, unless_taken, with_place, with_station, with_route, places_at, another_at, interchange_of, joins_stations, has_interchange, unless_joined, another_interchange, with_interchange, interchanges_at, own_keys, tables_of_edition, edition_of, has_edition, another_edition, with_edition, editions_at, fare_file}
 
 abbrev other_fault : FareFileFault → Bool
 other_fault NotToml = false
@@ -75,11 +77,15 @@ minutes_at_other zones ms =
     (then_other (array_at (codes "minutes") ms) _ (array_at_other (codes "minutes") ms) (λ items. cond_other (items_len items == zones) (Ok items) (Err OutOfRange) refl refl))
     (with_each_other with_minutes (λ before d. then_other (integer_of 1 MOST_MINUTES d) _ (integer_of_other 1 MOST_MINUTES d) (λ n. refl)) [])
 
-rules_of_other : (ms : Members) → other (rules_of ms) ≡ true
-rules_of_other ms =
+unless_differs_other : (own : Option ℕ) (hopper : ℕ) → other (unless_differs own hopper) ≡ true
+unless_differs_other None hopper = refl
+unless_differs_other (Some its) hopper = cond_other (hopper == its) (Ok hopper) (Err HopperDiffers) refl refl
+
+rules_of_other : (own : Option ℕ) (ms : Members) → other (rules_of own ms) ≡ true
+rules_of_other own ms =
     integer_then (codes "bus") 0 MOST_FARE ms _ (λ bus.
     integer_then (codes "maximum") 0 MOST_FARE ms _ (λ maximum.
-    integer_then (codes "hopper") 1 MOST_HOPPER_SECONDS ms _ (λ hopper.
+    then_other (hopper_at own ms) _ (integer_then (codes "hopper") 1 MOST_HOPPER_SECONDS ms (unless_differs own) (unless_differs_other own)) (λ hopper.
     integer_then (codes "same_free") 0 MOST_SAME_SECONDS ms _ (λ same_free.
     integer_then (codes "same_limit") same_free MOST_SAME_SECONDS ms _ (λ same_limit. refl)))))
 
@@ -185,17 +191,46 @@ interchanges_at_other : (places : FinMap nat_cmp Place) (ms : Members) → other
 interchanges_at_other places ms =
     then_other (items_at (codes "interchange") MOST_INTERCHANGES ms) _ (items_at_other (codes "interchange") MOST_INTERCHANGES ms) (with_each_other (with_interchange places) (with_interchange_other places) [])
 
-fare_file_other : (ms : Members) → other (fare_file ms) ≡ true
-fare_file_other ms =
+rules_at_other : (own : Option ℕ) (ms : Members) → other (table_at (codes "rules") ms >>= rules_of own) ≡ true
+rules_at_other own ms = then_other (table_at (codes "rules") ms) (rules_of own) (needed_other table_of (get_member (codes "rules") ms) (λ d. ok_or_other (as_table d))) (rules_of_other own)
+
+own_keys_other : (ms : Members) → other (own_keys ms) ≡ true
+own_keys_other ms =
     integer_then (codes "zones") 1 MOST_ZONES ms _ (λ zones.
     then_other (minutes_at zones ms) _ (minutes_at_other zones ms) (λ minutes.
-    then_other (table_at (codes "rules") ms >>= rules_of) _
-    (then_other (table_at (codes "rules") ms) rules_of (needed_other table_of (get_member (codes "rules") ms) (λ d. ok_or_other (as_table d))) rules_of_other) (λ rules.
+    then_other (table_at (codes "rules") ms >>= rules_of None) _ (rules_at_other None ms) (λ rules.
     then_other (singles_at zones ms) _ (singles_at_other zones ms) (λ singles.
     then_other (bands_at zones ms) _ (bands_at_other zones ms) (λ bands.
     then_other (holidays_at ms) _ (holidays_at_other ms) (λ holidays.
     then_other (places_at zones ms) _ (places_at_other zones ms) (λ places.
     then_other (interchanges_at places ms) _ (interchanges_at_other places ms) (λ interchanges. refl))))))))
+
+tables_of_edition_other : (own : FareTables) (ms : Members) → other (tables_of_edition own ms) ≡ true
+tables_of_edition_other own ms =
+    then_other (minutes_at own.zones ms) _ (minutes_at_other own.zones ms) (λ minutes.
+    then_other (table_at (codes "rules") ms >>= rules_of (Some own.rules.hopper)) _ (rules_at_other (Some own.rules.hopper) ms) (λ rules.
+    then_other (singles_at own.zones ms) _ (singles_at_other own.zones ms) (λ singles.
+    then_other (bands_at own.zones ms) _ (bands_at_other own.zones ms) (λ bands. refl))))
+
+edition_of_other : (own : FareTables) (d : Data) → other (edition_of own d) ≡ true
+edition_of_other own d =
+    then_other (table_of d) _ (ok_or_other (as_table d)) (λ ms.
+    integer_then (codes "day") (FIRST_DAY + 1) LAST_DAY ms _ (λ day.
+    then_other (tables_of_edition own ms) _ (tables_of_edition_other own ms) (λ tables. refl)))
+
+with_edition_other : (own : FareTables) (before : List Edition) (d : Data) → other (with_edition own before d) ≡ true
+with_edition_other own before d =
+    then_other (another_edition own before d) _
+    (then_other (edition_of own d) _ (edition_of_other own d) (λ edition. cond_other (has_edition before edition.day) (Err Duplicate) (Ok edition) refl refl)) (λ edition. refl)
+
+editions_at_other : (own : FareTables) (ms : Members) → other (editions_at own ms) ≡ true
+editions_at_other own ms =
+    then_other (items_at (codes "edition") MOST_EDITIONS ms) _ (items_at_other (codes "edition") MOST_EDITIONS ms) (with_each_other (with_edition own) (with_edition_other own) [])
+
+fare_file_other : (ms : Members) → other (fare_file ms) ≡ true
+fare_file_other ms =
+    then_other (own_keys ms) _ (own_keys_other ms) (λ own.
+    then_other (editions_at own ms) _ (editions_at_other own ms) (λ items. refl))
 
 refused_as_none : {X : Type 0} (r : Result X FareFileFault) → other r ≡ true → r ≡ Err NotToml → ⊥
 refused_as_none (Ok x) h e = absurd cc

@@ -8,19 +8,22 @@ use Rattle.std.specs.FinMap.{FinMap, get, empty, contains_key, get-empty, get-in
 use Rattle.std.proofs.lemmas.Bool.Decides.{nat_tests}
 use Rattle.std.proofs.lemmas.List.Elements.{All-nil, All-cons, All-append}
 use Rattle.toml.specs.Data.{Data, Items, no_items, item, Members, get_member, as_integer}
+use Rattle.pay_day.specs.declared.limits.TheConstants.{FIRST_DAY, LAST_DAY}
 use Rattle.pay_money.specs.declared.limits.TheConstants.{OPERATORS}
-use Rattle.pay_tables.specs.declared.limits.TheConstants.{MOST_ZONES, MOST_MINUTES, MOST_FARE, MOST_HOPPER_SECONDS, MOST_SAME_SECONDS, MOST_INTERCHANGE_SECONDS, MOST_PLACE, MOST_PLACES, MOST_INTERCHANGES, MOST_BANDS}
+use Rattle.pay_tables.specs.declared.limits.TheConstants.{MOST_ZONES, MOST_MINUTES, MOST_FARE, MOST_HOPPER_SECONDS, MOST_SAME_SECONDS, MOST_INTERCHANGE_SECONDS, MOST_PLACE, MOST_PLACES, MOST_INTERCHANGES, MOST_BANDS, MOST_EDITIONS}
 use Rattle.pay_fare_file.specs.declared.fault.FareFileFault.{FareFileFault}
-use Rattle.pay_fare_file.specs.declared.fault.FareFileFault.TheVariants.{WrongType, OutOfRange, Duplicate, UnknownPlace, MissingKey, TooMany}
+use Rattle.pay_fare_file.specs.declared.fault.FareFileFault.TheVariants.{WrongType, OutOfRange, Duplicate, UnknownPlace, MissingKey, TooMany, HopperDiffers}
 use Rattle.pay_tables.specs.declared.band.Band.{Band}
 use Rattle.pay_tables.specs.declared.band.Cover.TheVariants.{Buses, Zones}
+use Rattle.pay_tables.specs.declared.edition.Edition.{Edition}
 use Rattle.pay_tables.specs.declared.place.Place.{Place}
+use Rattle.pay_tables.specs.declared.rules.Rules.{Rules}
 use Rattle.pay_tables.specs.declared.single.Single.{Single}
 use Rattle.pay_tables.specs.declared.zones.Span.{Span}
 use Rattle.pay_fare_file.specs.Fault.{◌>>=◌}
 use Rattle.pay_fare_file.specs.Keys.{needed, integer_in, integer_of, integer_at, table_of, table_at, array_of, array_at, items_len, items_or_none, items_at}
-use Rattle.pay_tables.specs.Words.{IsSpan, same_span, IsCover, IsBand, AreRules, IsSingle, IsPlace, IsInterchange, IsFareTables}
-use Rattle.pay_fare_file.specs.FareFile.{with_each, with_minutes, minutes_items_at, minutes_at, rules_of, single_of, another_single, with_single, singles_at, has_single, has_singles_from, has_each_single, greatest_to, cover_at, band_of, another_band, with_band, has_band, bands_at, holidays_at, station_of, route_of, unless_taken, with_place, with_station, with_route, places_at, another_at, interchange_of, joins_stations, has_interchange, unless_joined, another_interchange, with_interchange, interchanges_at, fare_file}
+use Rattle.pay_tables.specs.Words.{IsSpan, same_span, IsCover, IsBand, AreRules, IsSingle, IsPlace, IsInterchange, FareTables, IsFareTables, AreOfOneFile, IsEdition, IsFareEditions}
+use Rattle.pay_fare_file.specs.FareFile.{with_each, with_minutes, minutes_items_at, minutes_at, unless_differs, hopper_at, rules_of, single_of, another_single, with_single, singles_at, has_single, has_singles_from, has_each_single, greatest_to, cover_at, band_of, another_band, with_band, has_band, bands_at, holidays_at, station_of, route_of, unless_taken, with_place, with_station, with_route, places_at, another_at, interchange_of, joins_stations, has_interchange, unless_joined, another_interchange, with_interchange, interchanges_at, own_keys, tables_of_edition, edition_of, has_edition, another_edition, with_edition, editions_at, fare_file}
 
 -- ---- steps
 
@@ -106,14 +109,35 @@ minutes_are zones ms =
 
 -- ---- rules
 
-rules_are : (ms : Members) → IfOk (rules_of ms) AreRules
-rules_are ms =
-    integer_then AreRules (codes "bus") 0 MOST_FARE ms _ (λ bus b.
-    integer_then AreRules (codes "maximum") 0 MOST_FARE ms _ (λ maximum m.
-    integer_then AreRules (codes "hopper") 1 MOST_HOPPER_SECONDS ms _ (λ hopper h.
-    integer_then AreRules (codes "same_free") 0 MOST_SAME_SECONDS ms _ (λ same_free f.
-    integer_then AreRules (codes "same_limit") same_free MOST_SAME_SECONDS ms _ (λ same_limit l.
-    record { bus = b.1; maximum = m.1; hopper = h; same_free = l.0; same_limit = l.1 })))))
+-- a Hopper time in its range, and that of the file's own rules where one is given
+abbrev IsHopper : Option ℕ → ℕ → Type 0
+IsHopper own hopper = ((1 ≤ hopper) × (hopper ≤ MOST_HOPPER_SECONDS)) × IfSome own (λ its. hopper ≡ its)
+
+hopper_is : (own : Option ℕ) (ms : Members) → IfOk (hopper_at own ms) (IsHopper own)
+hopper_is own ms = integer_then (IsHopper own) (codes "hopper") 1 MOST_HOPPER_SECONDS ms (unless_differs own) (λ hopper r. alike own hopper r)
+  where
+    same : (hopper its : ℕ) → (hopper == its) ≡ true → hopper ≡ its
+    same hopper its e = grind (arith, nat_tests)
+
+    alike : (own : Option ℕ) (hopper : ℕ) → (1 ≤ hopper) × (hopper ≤ MOST_HOPPER_SECONDS) → IfOk (unless_differs own hopper) (IsHopper own)
+    alike None hopper r = (r, tt)
+    alike (Some its) hopper r = IfOk_cond (IsHopper (Some its)) (hopper == its) (Ok hopper) HopperDiffers (λ e. (r, same hopper its e))
+
+-- rules in their ranges, with that Hopper time
+abbrev AreRulesLike : Option ℕ → Rules → Type 0
+AreRulesLike own rules = AreRules rules × IfSome own (λ its. rules.hopper ≡ its)
+
+rules_are : (own : Option ℕ) (ms : Members) → IfOk (rules_of own ms) (AreRulesLike own)
+rules_are own ms =
+    integer_then (AreRulesLike own) (codes "bus") 0 MOST_FARE ms _ (λ bus b.
+    integer_then (AreRulesLike own) (codes "maximum") 0 MOST_FARE ms _ (λ maximum m.
+    IfOk_then (IsHopper own) (AreRulesLike own) (hopper_at own ms) _ (hopper_is own ms) (λ hopper h.
+    integer_then (AreRulesLike own) (codes "same_free") 0 MOST_SAME_SECONDS ms _ (λ same_free f.
+    integer_then (AreRulesLike own) (codes "same_limit") same_free MOST_SAME_SECONDS ms _ (λ same_limit l.
+    (record { bus = b.1; maximum = m.1; hopper = h.0; same_free = l.0; same_limit = l.1 }, h.1))))))
+
+rules_at : (own : Option ℕ) (ms : Members) → IfOk (table_at (codes "rules") ms >>= rules_of own) (AreRulesLike own)
+rules_at own ms = IfOk_after (AreRulesLike own) (table_at (codes "rules") ms) (rules_of own) (rules_are own)
 
 -- ---- single fares
 
@@ -289,13 +313,13 @@ interchanges_are places ms =
     IfOk_cond IsInterchange (joins_stations places pair) (unless_joined before pair) UnknownPlace (λ _. IfOk_unless IsInterchange (has_interchange before pair) (Ok pair) Duplicate (λ _. h)))) (λ pair h.
     All-append IsInterchange before (pair ∷ []) all (All-cons IsInterchange pair [] h (All-nil IsInterchange)))) [] items (All-nil IsInterchange))
 
--- ---- the file
+-- ---- the file's own keys
 
-pub fare_file_is : (ms : Members) → IfOk (fare_file ms) IsFareTables
-fare_file_is ms =
+pub own_keys_are : (ms : Members) → IfOk (own_keys ms) IsFareTables
+own_keys_are ms =
     integer_then IsFareTables (codes "zones") 1 MOST_ZONES ms _ (λ zones z.
     IfOk_then (λ ns. AreMinutes zones ns no_items) IsFareTables (minutes_at zones ms) _ (minutes_are zones ms) (λ minutes m.
-    IfOk_then AreRules IsFareTables (table_at (codes "rules") ms >>= rules_of) _ (IfOk_after AreRules (table_at (codes "rules") ms) rules_of rules_are) (λ rules r.
+    IfOk_then (AreRulesLike None) IsFareTables (table_at (codes "rules") ms >>= rules_of None) _ (rules_at None ms) (λ rules r.
     IfOk_then (AreSingles zones) IsFareTables (singles_at zones ms) _ (singles_are zones ms) (λ singles s.
     IfOk_then (λ bands. AreBands zones bands no_items) IsFareTables (bands_at zones ms) _ (bands_are zones ms) (λ bands b.
     IfOk_after IsFareTables (holidays_at ms) _ (λ holidays.
@@ -305,7 +329,7 @@ fare_file_is ms =
       zones = z;
       minutes = omega (arith, m.1);
       each_minutes = m.0;
-      rules = r;
+      rules = r.0;
       singles = s.0;
       each_span = each_span singles zones s.1;
       bands = b.0;
@@ -313,3 +337,60 @@ fare_file_is ms =
       places = p;
       interchanges = i;
     }))))))))
+
+-- ---- editions
+
+-- tables of an edition of a file
+abbrev AreOfEdition : FareTables → FareTables → Type 0
+AreOfEdition own tables = IsFareTables tables × AreOfOneFile own tables
+
+pub tables_of_edition_are : (own : FareTables) → IsFareTables own → (ms : Members) → IfOk (tables_of_edition own ms) (AreOfEdition own)
+tables_of_edition_are own is ms =
+    IfOk_then (λ ns. AreMinutes own.zones ns no_items) (AreOfEdition own) (minutes_at own.zones ms) _ (minutes_are own.zones ms) (λ minutes m.
+    IfOk_then (AreRulesLike (Some own.rules.hopper)) (AreOfEdition own) (table_at (codes "rules") ms >>= rules_of (Some own.rules.hopper)) _ (rules_at (Some own.rules.hopper) ms) (λ rules r.
+    IfOk_then (AreSingles own.zones) (AreOfEdition own) (singles_at own.zones ms) _ (singles_are own.zones ms) (λ singles s.
+    IfOk_then (λ bands. AreBands own.zones bands no_items) (AreOfEdition own) (bands_at own.zones ms) _ (bands_are own.zones ms) (λ bands b. (
+      record {
+        zones = is.zones;
+        minutes = omega (arith, m.1);
+        each_minutes = m.0;
+        rules = r.0;
+        singles = s.0;
+        each_span = each_span singles own.zones s.1;
+        bands = b.0;
+        few_bands = omega (arith, b.1);
+        places = is.places;
+        interchanges = is.interchanges;
+      },
+      record { zones = refl; holidays = refl; places = refl; interchanges = refl; hopper = r.1 },
+    )))))
+
+edition_is : (own : FareTables) → IsFareTables own → (d : Data) → IfOk (edition_of own d) (IsEdition own)
+edition_is own is d =
+    IfOk_after (IsEdition own) (table_of d) _ (λ ms.
+    integer_then (IsEdition own) (codes "day") (FIRST_DAY + 1) LAST_DAY ms _ (λ day r.
+    IfOk_then (AreOfEdition own) (IsEdition own) (tables_of_edition own ms) _ (tables_of_edition_are own is ms) (λ tables t.
+    record { day = (omega (arith, r.0), r.1); in_range = t.0; shared = t.1 })))
+
+-- few editions of a file, with those that are to come
+abbrev AreEditions : FareTables → List Edition → Items → Type 0
+AreEditions own editions ds = All (IsEdition own) editions × (length editions + items_len ds ≤ MOST_EDITIONS)
+
+with_edition_keeps : (own : FareTables) → IsFareTables own → (before : List Edition) (d : Data) (ds : Items) → AreEditions own before (item d ds) → IfOk (with_edition own before d) (λ more. AreEditions own more ds)
+with_edition_keeps own is before d ds h =
+    IfOk_then (IsEdition own) (λ more. AreEditions own more ds) (another_edition own before d) _
+    (IfOk_then (IsEdition own) (IsEdition own) (edition_of own d) _ (edition_is own is d) (λ edition e. IfOk_unless (IsEdition own) (has_edition before edition.day) (Ok edition) Duplicate (λ _. e))) (λ edition e.
+    (All-append (IsEdition own) before (edition ∷ []) h.0 (All-cons (IsEdition own) edition [] e (All-nil (IsEdition own))), omega (arith, h.1, length-append before (edition ∷ []))))
+
+editions_are : (own : FareTables) → IsFareTables own → (ms : Members) → IfOk (editions_at own ms) (λ editions. AreEditions own editions no_items)
+editions_are own is ms =
+    IfOk_then (λ items. items_len items ≤ MOST_EDITIONS) (λ editions. AreEditions own editions no_items) (items_at (codes "edition") MOST_EDITIONS ms) _ (items_few (codes "edition") MOST_EDITIONS ms) (λ items few.
+    with_each_keeps (AreEditions own) (with_edition own) (with_edition_keeps own is) [] items (All-nil (IsEdition own), omega (arith, few)))
+
+-- ---- the file
+
+pub fare_file_is : (ms : Members) → IfOk (fare_file ms) IsFareEditions
+fare_file_is ms =
+    IfOk_then IsFareTables IsFareEditions (own_keys ms) _ (own_keys_are ms) (λ own is.
+    IfOk_then (λ editions. AreEditions own editions no_items) IsFareEditions (editions_at own ms) _ (editions_are own is ms) (λ editions e.
+    record { own = is; each = e.0; few = omega (arith, e.1) }))

@@ -1,4 +1,4 @@
--- What a fare file says: its keys in order, and the first fault.
+-- What a fare file says: its own keys in order, then those of its editions, and the first fault.
 use Rattle.std.specs.Prelude.{ℕ, ◌+◌, ◌-◌, ◌==◌, ◌&&◌, min, nat_eq, Bool, true, false, List, [], ◌∷◌, ◌++◌, Option, Some, None, Result, Ok, Err, codes, if◌then◌else◌}
 use Rattle.std.specs.List.{list_all, list_any, range_with_len}
 use Rattle.std.specs.Ordering.{nat_cmp}
@@ -7,12 +7,13 @@ use Rattle.toml.specs.Data.{Data, Items, no_items, item, Members}
 use Rattle.toml.specs.Parse.{parse_document}
 use Rattle.pay_day.specs.declared.limits.TheConstants.{FIRST_DAY, LAST_DAY}
 use Rattle.pay_money.specs.declared.limits.TheConstants.{OPERATORS}
-use Rattle.pay_tables.specs.declared.limits.TheConstants.{MOST_ZONES, MOST_MINUTES, MOST_FARE, MOST_HOPPER_SECONDS, MOST_SAME_SECONDS, MOST_INTERCHANGE_SECONDS, MOST_PLACE, MOST_HOLIDAYS, MOST_PLACES, MOST_INTERCHANGES, MOST_BANDS}
+use Rattle.pay_tables.specs.declared.limits.TheConstants.{MOST_ZONES, MOST_MINUTES, MOST_FARE, MOST_HOPPER_SECONDS, MOST_SAME_SECONDS, MOST_INTERCHANGE_SECONDS, MOST_PLACE, MOST_HOLIDAYS, MOST_PLACES, MOST_INTERCHANGES, MOST_BANDS, MOST_EDITIONS}
 use Rattle.pay_tables.specs.declared.band.Band.{Band}
 use Rattle.pay_tables.specs.declared.band.Cover.{Cover}
 use Rattle.pay_tables.specs.declared.band.Cover.TheVariants.{Buses, Zones}
 use Rattle.pay_fare_file.specs.declared.fault.FareFileFault.{FareFileFault}
-use Rattle.pay_fare_file.specs.declared.fault.FareFileFault.TheVariants.{NotToml, MissingKey, OutOfRange, Duplicate, UnknownPlace}
+use Rattle.pay_fare_file.specs.declared.fault.FareFileFault.TheVariants.{NotToml, MissingKey, OutOfRange, Duplicate, UnknownPlace, HopperDiffers}
+use Rattle.pay_tables.specs.declared.edition.Edition.{Edition}
 use Rattle.pay_tables.specs.declared.interchange.Interchange.{Interchange}
 use Rattle.pay_tables.specs.declared.place.Place.{Place}
 use Rattle.pay_tables.specs.declared.place.Place.TheVariants.{Station, Route}
@@ -20,7 +21,7 @@ use Rattle.pay_tables.specs.declared.rules.Rules.{Rules}
 use Rattle.pay_tables.specs.declared.single.Single.{Single}
 use Rattle.pay_tables.specs.declared.zones.Span.{Span}
 use Rattle.pay_fare_file.specs.Fault.{◌>>=◌}
-use Rattle.pay_tables.specs.Words.{FareTables, is_between, same_cover, same_span}
+use Rattle.pay_tables.specs.Words.{FareEditions, FareTables, is_between, same_cover, same_span}
 use Rattle.pay_fare_file.specs.Keys.{array_at, integer_at, integer_of, items_at, items_len, table_of, table_at}
 
 -- what was said before some items, and what each of them adds to it, in order
@@ -45,12 +46,20 @@ minutes_items_at zones ms = do
 abbrev pub minutes_at : ℕ → Members → Result (List ℕ) FareFileFault
 minutes_at zones ms = minutes_items_at zones ms >>= with_each with_minutes []
 
+-- the Hopper time of rules: where they are those of an edition it is that of the file's own rules
+abbrev pub unless_differs : Option ℕ → ℕ → Result ℕ FareFileFault
+unless_differs None hopper = Ok hopper
+unless_differs (Some own) hopper = if hopper == own then Ok hopper else Err HopperDiffers
+
+abbrev pub hopper_at : Option ℕ → Members → Result ℕ FareFileFault
+hopper_at own ms = integer_at (codes "hopper") 1 MOST_HOPPER_SECONDS ms >>= unless_differs own
+
 -- the rules; the time of a free leg at one station is not above the limit of such a leg
-abbrev pub rules_of : Members → Result Rules FareFileFault
-rules_of ms = do
+abbrev pub rules_of : Option ℕ → Members → Result Rules FareFileFault
+rules_of own ms = do
   bus ← integer_at (codes "bus") 0 MOST_FARE ms
   maximum ← integer_at (codes "maximum") 0 MOST_FARE ms
-  hopper ← integer_at (codes "hopper") 1 MOST_HOPPER_SECONDS ms
+  hopper ← hopper_at own ms
   same_free ← integer_at (codes "same_free") 0 MOST_SAME_SECONDS ms
   same_limit ← integer_at (codes "same_limit") same_free MOST_SAME_SECONDS ms
   Ok (record { bus = bus; maximum = maximum; hopper = hopper; same_free = same_free; same_limit = same_limit })
@@ -252,12 +261,12 @@ interchanges_at places ms = items_at (codes "interchange") MOST_INTERCHANGES ms 
 abbrev pub zones_at : Members → Result ℕ FareFileFault
 zones_at ms = integer_at (codes "zones") 1 MOST_ZONES ms
 
--- what a file says, where it is a document
-abbrev pub fare_file : Members → Result FareTables FareFileFault
-fare_file ms = do
+-- what a file's own keys say
+abbrev pub own_keys : Members → Result FareTables FareFileFault
+own_keys ms = do
   zones ← zones_at ms
   minutes ← minutes_at zones ms
-  rules ← table_at (codes "rules") ms >>= rules_of
+  rules ← table_at (codes "rules") ms >>= rules_of None
   singles ← singles_at zones ms
   bands ← bands_at zones ms
   holidays ← holidays_at ms
@@ -265,10 +274,53 @@ fare_file ms = do
   interchanges ← interchanges_at places ms
   Ok (record { zones = zones; minutes = minutes; rules = rules; singles = singles; bands = bands; holidays = holidays; places = places; interchanges = interchanges })
 
-abbrev pub fare_document : Option Members → Result FareTables FareFileFault
+-- the tables of an edition: it says anew what its own keys name, bands too where it has none, and the rest is the file's own
+abbrev pub tables_of_edition : FareTables → Members → Result FareTables FareFileFault
+tables_of_edition own ms = do
+  minutes ← minutes_at own.zones ms
+  rules ← table_at (codes "rules") ms >>= rules_of (Some own.rules.hopper)
+  singles ← singles_at own.zones ms
+  bands ← bands_at own.zones ms
+  Ok (record own { minutes = minutes; rules = rules; singles = singles; bands = bands })
+
+-- an edition: its first day, and its tables
+abbrev pub edition_of : FareTables → Data → Result Edition FareFileFault
+edition_of own d = do
+  ms ← table_of d
+  day ← integer_at (codes "day") (FIRST_DAY + 1) LAST_DAY ms
+  tables ← tables_of_edition own ms
+  Ok (record { day = day; tables = tables })
+
+-- whether an edition begins on a day
+abbrev pub has_edition : List Edition → ℕ → Bool
+has_edition editions day = list_any (λ edition. day == edition.day) editions
+
+-- one more edition, from a day on which none begins
+abbrev pub another_edition : FareTables → List Edition → Data → Result Edition FareFileFault
+another_edition own before d = do
+  edition ← edition_of own d
+  if has_edition before edition.day then Err Duplicate else Ok edition
+
+abbrev pub with_edition : FareTables → List Edition → Data → Result (List Edition) FareFileFault
+with_edition own before d = do
+  edition ← another_edition own before d
+  Ok (before ++ edition ∷ [])
+
+-- the editions of a file, whose own keys say so much
+abbrev pub editions_at : FareTables → Members → Result (List Edition) FareFileFault
+editions_at own ms = items_at (codes "edition") MOST_EDITIONS ms >>= with_each (with_edition own) []
+
+-- what a file says, where it is a document
+abbrev pub fare_file : Members → Result FareEditions FareFileFault
+fare_file ms = do
+  own ← own_keys ms
+  items ← editions_at own ms
+  Ok (record { own = own; items = items })
+
+abbrev pub fare_document : Option Members → Result FareEditions FareFileFault
 fare_document None = Err NotToml
 fare_document (Some ms) = fare_file ms
 
 -- what the text of a file says
-abbrev pub fare_text : List ℕ → Result FareTables FareFileFault
+abbrev pub fare_text : List ℕ → Result FareEditions FareFileFault
 fare_text text = fare_document (parse_document text)

@@ -1,7 +1,7 @@
 -- The refusals of a fare file, and what it is to answer by a definition.
 use Rattle.std.specs.Prelude.{◌≡◌, ◌≢◌, ℕ, List, codes, Result, Ok, Err, MatchResult}
 use Rattle.pay_fare_file.specs.declared.fault.FareFileFault.{FareFileFault}
-use Rattle.pay_fare_file.specs.declared.fault.FareFileFault.TheVariants.{NotToml, MissingKey, WrongType, OutOfRange, Duplicate, UnknownPlace, TooMany, Memory}
+use Rattle.pay_fare_file.specs.declared.fault.FareFileFault.TheVariants.{NotToml, MissingKey, WrongType, OutOfRange, Duplicate, UnknownPlace, TooMany, HopperDiffers, Memory}
 
 -- the number that is printed for a refusal
 abbrev pub fault_number : FareFileFault → ℕ
@@ -12,6 +12,7 @@ fault_number OutOfRange = 13
 fault_number Duplicate = 14
 fault_number UnknownPlace = 15
 fault_number TooMany = 16
+fault_number HopperDiffers = 17
 fault_number Memory = 90
 
 -- the name that is printed for a refusal
@@ -23,6 +24,7 @@ fault_name OutOfRange = codes "OutOfRange"
 fault_name Duplicate = codes "Duplicate"
 fault_name UnknownPlace = codes "UnknownPlace"
 fault_name TooMany = codes "TooMany"
+fault_name HopperDiffers = codes "HopperDiffers"
 fault_name Memory = codes "Memory"
 
 infixl 10 ◌>>=◌

@@ -6,16 +6,17 @@ use Rattle.std.specs.FinMap.{FinMap, empty, insert, gets}
 use Rattle.toml.specs.Data.{Data, string, integer, array, table, Items, no_items, item, Members, no_members, member}
 use Rattle.toml.specs.Parse.{parse_document}
 use Rattle.toml.proofs.OnLiterals.{toml_on_literals}
-use Rattle.pay_fare_file.specs.declared.fault.FareFileFault.TheVariants.{NotToml, MissingKey, WrongType, OutOfRange, Duplicate, UnknownPlace, TooMany}
+use Rattle.pay_fare_file.specs.declared.fault.FareFileFault.TheVariants.{NotToml, MissingKey, WrongType, OutOfRange, Duplicate, UnknownPlace, TooMany, HopperDiffers}
 use Rattle.pay_tables.specs.declared.band.Band.{Band}
 use Rattle.pay_tables.specs.declared.band.Cover.TheVariants.{Buses, Zones}
+use Rattle.pay_tables.specs.declared.edition.Edition.{Edition}
 use Rattle.pay_tables.specs.declared.interchange.Interchange.{Interchange}
 use Rattle.pay_tables.specs.declared.place.Place.{Place}
 use Rattle.pay_tables.specs.declared.place.Place.TheVariants.{Station, Route}
 use Rattle.pay_tables.specs.declared.single.Single.{Single}
-use Rattle.pay_tables.specs.Words.{FareTables, interchange, counts}
+use Rattle.pay_tables.specs.Words.{FareEditions, FareTables, interchange, counts}
 use Rattle.pay_fare_file.specs.Keys.{integer_at, items_at}
-use Rattle.pay_fare_file.specs.FareFile.{minutes_at, rules_of, singles_at, bands_at, holidays_at, places_at, interchange_of, is_station, unless_joined, with_interchange, interchanges_at, fare_file, fare_document, fare_text}
+use Rattle.pay_fare_file.specs.FareFile.{minutes_at, rules_of, singles_at, bands_at, holidays_at, places_at, interchange_of, is_station, unless_joined, with_interchange, interchanges_at, edition_of, with_edition, editions_at, fare_file, fare_document, fare_text}
 
 -- ---- how the rows are written
 
@@ -71,6 +72,10 @@ caps from to day week = record { cover = Zones (record { from = from; to = to })
 abbrev caps_buses : ℕ → ℕ → Band
 caps_buses day week = record { cover = Buses; day = day; week = week }
 
+-- what a file of no editions says
+abbrev alone : FareTables → FareEditions
+alone tables = record { own = tables; items = [] }
+
 -- ---- the sample, without its interchange
 
 abbrev sample_rules : Members
@@ -97,7 +102,7 @@ sample_tables = record {
   interchanges = [];
 }
 
-sample : fare_file (file 3 (90 ∷ 100 ∷ 110 ∷ []) sample_rules sample_singles sample_bands (19_723 ∷ []) sample_stations (one (route 50 4))) ≡ Ok sample_tables
+sample : fare_file (file 3 (90 ∷ 100 ∷ 110 ∷ []) sample_rules sample_singles sample_bands (19_723 ∷ []) sample_stations (one (route 50 4))) ≡ Ok (alone sample_tables)
 sample = simp gets
 
 how_much : counts sample_tables ≡ record { places = 6; bands = 3; interchanges = 0; holidays = 1 }
@@ -105,7 +110,7 @@ how_much = simp gets
 
 -- bands, holidays, stations and routes may be missing
 least : fare_file (member (codes "minutes") (array (numbers (1 ∷ []))) (member (codes "rules") (table (rules 0 100_000 7_200 0 0)) (member (codes "single") (array (one (fare 1 1 0 100_000))) (number (codes "zones") 1 no_members))))
-    ≡ Ok (record { zones = 1; minutes = 1 ∷ []; rules = record { bus = 0; maximum = 100_000; hopper = 7_200; same_free = 0; same_limit = 0 }; singles = says 1 1 0 100_000 ∷ []; bands = []; holidays = []; places = empty; interchanges = [] })
+    ≡ Ok (alone (record { zones = 1; minutes = 1 ∷ []; rules = record { bus = 0; maximum = 100_000; hopper = 7_200; same_free = 0; same_limit = 0 }; singles = says 1 1 0 100_000 ∷ []; bands = []; holidays = []; places = empty; interchanges = [] }))
 least = refl
 
 -- ---- the order of the keys
@@ -174,16 +179,16 @@ rules_that_are_no_table : fare_file (member (codes "minutes") (array (numbers (1
 rules_that_are_no_table = refl
 
 -- each number just outside its range
-bus_too_large : rules_of (rules 100_001 860 3_600 120 1_800) ≡ Err OutOfRange
+bus_too_large : rules_of None (rules 100_001 860 3_600 120 1_800) ≡ Err OutOfRange
 bus_too_large = refl
 
-no_hopper_time : rules_of (rules 175 860 0 120 1_800) ≡ Err OutOfRange
+no_hopper_time : rules_of None (rules 175 860 0 120 1_800) ≡ Err OutOfRange
 no_hopper_time = refl
 
-hopper_too_long : rules_of (rules 175 860 7_201 120 1_800) ≡ Err OutOfRange
+hopper_too_long : rules_of None (rules 175 860 7_201 120 1_800) ≡ Err OutOfRange
 hopper_too_long = refl
 
-free_above_the_limit : rules_of (rules 175 860 3_600 1_801 1_800) ≡ Err OutOfRange
+free_above_the_limit : rules_of None (rules 175 860 3_600 1_801 1_800) ≡ Err OutOfRange
 free_above_the_limit = refl
 
 below_nothing : integer_at (codes "bus") 0 100_000 (member (codes "bus") (integer (negsuc 0)) no_members) ≡ Err OutOfRange
@@ -193,7 +198,7 @@ a_text_for_a_number : integer_at (codes "bus") 0 100_000 (member (codes "bus") (
 a_text_for_a_number = refl
 
 -- of two faults the first key's
-order_of_rules : rules_of (member (codes "bus") (string (codes "175")) (number (codes "hopper") 0 no_members)) ≡ Err WrongType
+order_of_rules : rules_of None (member (codes "bus") (string (codes "175")) (number (codes "hopper") 0 no_members)) ≡ Err WrongType
 order_of_rules = refl
 
 -- ---- single fares of two zones
@@ -522,6 +527,111 @@ second_of_two = refl
 not_listed : interchange with_interchanges 10 14 ≡ None
 not_listed = refl
 
+-- ---- editions of a file of one zone
+
+abbrev own : FareTables
+own = record {
+  zones = 1;
+  minutes = 90 ∷ [];
+  rules = record { bus = 175; maximum = 860; hopper = 3_600; same_free = 120; same_limit = 1_800 };
+  singles = says 1 1 280 270 ∷ [];
+  bands = caps_buses 525 2_470 ∷ [];
+  holidays = 19_723 ∷ [];
+  places = empty;
+  interchanges = [];
+}
+
+-- an item of a day and of rules, without bands
+abbrev from_day : ℕ → Members → Data
+from_day day r =
+    table (number (codes "day") day (member (codes "minutes") (array (numbers (95 ∷ []))) (member (codes "rules") (table r) (member (codes "single") (array (one (fare 1 1 290 280))) no_members))))
+
+abbrev new_rules : Members
+new_rules = rules 180 900 3_600 60 1_200
+
+-- it has no bands, though the file's own keys have one, and shares the zones and the holidays
+abbrev edition : ℕ → Edition
+edition day = record {
+  day = day;
+  tables = record own {
+    minutes = 95 ∷ [];
+    rules = record { bus = 180; maximum = 900; hopper = 3_600; same_free = 60; same_limit = 1_200 };
+    singles = says 1 1 290 280 ∷ [];
+    bands = [];
+  };
+}
+
+an_edition : edition_of own (from_day 19_731 new_rules) ≡ Ok (edition 19_731)
+an_edition = refl
+
+edition_from_day_5 : edition_of own (from_day 5 new_rules) ≡ Ok (edition 5)
+edition_from_day_5 = refl
+
+edition_from_the_last_day : edition_of own (from_day 50_000 new_rules) ≡ Ok (edition 50_000)
+edition_from_the_last_day = refl
+
+edition_from_the_first_day : edition_of own (from_day 4 new_rules) ≡ Err OutOfRange
+edition_from_the_first_day = refl
+
+edition_after_the_last_day : edition_of own (from_day 50_001 new_rules) ≡ Err OutOfRange
+edition_after_the_last_day = refl
+
+edition_that_is_no_table : edition_of own (integer (pos 19_731)) ≡ Err WrongType
+edition_that_is_no_table = refl
+
+-- of two faults the first key's
+day_before_minutes : edition_of own (table no_members) ≡ Err MissingKey
+day_before_minutes = refl
+
+day_out_of_range_before_minutes : edition_of own (table (number (codes "day") 4 no_members)) ≡ Err OutOfRange
+day_out_of_range_before_minutes = refl
+
+edition_without_minutes : edition_of own (table (number (codes "day") 5 (member (codes "minutes") a_text no_members))) ≡ Err WrongType
+edition_without_minutes = refl
+
+-- the Hopper time differs once it is in its range, and before the times at one station are looked at
+other_hopper_time : edition_of own (from_day 19_731 (rules 180 900 3_500 60 1_200)) ≡ Err HopperDiffers
+other_hopper_time = refl
+
+hopper_range_before_difference : edition_of own (from_day 19_731 (rules 180 900 7_201 60 1_200)) ≡ Err OutOfRange
+hopper_range_before_difference = refl
+
+maximum_before_difference : edition_of own (from_day 19_731 (rules 180 100_001 3_500 60 1_200)) ≡ Err OutOfRange
+maximum_before_difference = refl
+
+difference_before_free_time : edition_of own (from_day 19_731 (rules 180 900 3_500 7_201 1_200)) ≡ Err HopperDiffers
+difference_before_free_time = refl
+
+-- two of one day; the second item's own keys come before its day is looked for
+same_day_twice : with_edition own (edition 19_731 ∷ []) (from_day 19_731 new_rules) ≡ Err Duplicate
+same_day_twice = refl
+
+own_keys_before_the_day : with_edition own (edition 19_731 ∷ []) (from_day 19_731 (rules 180 900 3_500 60 1_200)) ≡ Err HopperDiffers
+own_keys_before_the_day = refl
+
+abbrev editions : Items → Members
+editions items = member (codes "edition") (array items) no_members
+
+no_editions : editions_at own no_members ≡ Ok []
+no_editions = refl
+
+-- they stand in any order
+later_one_first : editions_at own (editions (item (from_day 19_800 new_rules) (one (from_day 19_731 new_rules)))) ≡ Ok (edition 19_800 ∷ edition 19_731 ∷ [])
+later_one_first = refl
+
+editions_that_are_no_array : editions_at own (number (codes "edition") 1 no_members) ≡ Err WrongType
+editions_that_are_no_array = refl
+
+-- eight and nine of them, which are none; too many items come before the items
+abbrev four_more : Items → Items
+four_more items = item (integer (pos 1)) (three_more items)
+
+eight : editions_at own (editions (four_more (four_more no_items))) ≡ Err WrongType
+eight = refl
+
+nine : editions_at own (editions (four_more (four_more (one (integer (pos 1)))))) ≡ Err TooMany
+nine = refl
+
 -- ---- texts
 
 abbrev short_text : List ℕ
@@ -538,7 +648,7 @@ unfolding toml_on_literals
 from_text = refl
 
 from_file : fare_document (Some short_file)
-    ≡ Ok (record {
+    ≡ Ok (alone (record {
       zones = 1;
       minutes = 90 ∷ [];
       rules = record { bus = 175; maximum = 860; hopper = 3_600; same_free = 120; same_limit = 1_800 };
@@ -547,7 +657,7 @@ from_file : fare_document (Some short_file)
       holidays = [];
       places = placed ((50, Route 4) ∷ []);
       interchanges = [];
-    })
+    }))
 from_file = simp gets
 
 no_toml : fare_text (codes "zones") ≡ Err NotToml

@@ -31,6 +31,9 @@ pub enum FareFileFault {
     /// 16: an array has more items than its limit.
     #[error("16 TooMany")]
     TooMany,
+    /// 17: the Hopper time of an edition is not that of the file's own rules.
+    #[error("17 HopperDiffers")]
+    HopperDiffers,
     /// 90: memory ran out. The file may be a good one.
     #[error("90 Memory")]
     Memory,
@@ -52,6 +55,7 @@ impl FareFileFault {
             FareFileFault::Duplicate => 14,
             FareFileFault::UnknownPlace => 15,
             FareFileFault::TooMany => 16,
+            FareFileFault::HopperDiffers => 17,
             FareFileFault::Memory => 90,
         }
     }
@@ -68,6 +72,7 @@ impl FareFileFault {
             FareFileFault::Duplicate => "Duplicate",
             FareFileFault::UnknownPlace => "UnknownPlace",
             FareFileFault::TooMany => "TooMany",
+            FareFileFault::HopperDiffers => "HopperDiffers",
             FareFileFault::Memory => "Memory",
         }
     }

@@ -1,7 +1,8 @@
-//! The fare file: a text of TOML, read key by key as the tables that it says, or its first fault.
+//! The fare file: a text of TOML, read key by key as the tables and the editions that it says, or its first fault.
 #![tactic(auto)]
 
 mod bands;
+mod editions;
 mod fault;
 mod holidays;
 mod interchanges;
@@ -15,4 +16,4 @@ mod singles;
 mod stations;
 
 pub use fault::FareFileFault;
-pub use reading::read_tables;
+pub use reading::read_editions;

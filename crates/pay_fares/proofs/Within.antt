@@ -1,10 +1,9 @@
 -- The spans of journeys lie within the zones, and no journey costs more than the largest fare.
-use Rattle.std.proofs.Common.{◌≡◌, ℕ, ◌≤◌, Bool, true, false, cond, List, [], ◌∷◌, All, length, ap, arith}
+use Rattle.std.proofs.Common.{◌≡◌, ℕ, ◌≤◌, Bool, true, false, cond, List, [], ◌∷◌, All, length, arith}
 use Rattle.std.specs.List.{flat_map}
 use Rattle.std.proofs.lemmas.List.Elements.{All-nil, All-cons}
 use Rattle.pay_tables.specs.declared.limits.TheConstants.{MOST_FARE}
 use Rattle.pay_tables.specs.declared.place.Place.{Place}
-use Rattle.pay_tables.specs.declared.rules.Rules.{Rules}
 use Rattle.pay_tables.specs.declared.zones.Span.{Span}
 use Rattle.pay_tables.specs.Words.{FareTables, IsPlace, IsSpan, station_at, span_of, single_fare}
 use Rattle.pay_rules.specs.declared.parts.Leg.{Leg}
@@ -43,16 +42,10 @@ either : (b : Bool) (m n : ℕ) → m ≤ MOST_FARE → n ≤ MOST_FARE → cond
 either true m n h k = h
 either false m n h k = k
 
-pub fare_within : (tables : FareTables) (rules : Rules) → rules ≡ tables.rules → rules.maximum ≤ MOST_FARE → rules.bus ≤ MOST_FARE
+pub fare_within : (tables : FareTables) → tables.rules.maximum ≤ MOST_FARE → tables.rules.bus ≤ MOST_FARE
     → ((span : Span) (peak : Bool) → single_fare tables span peak ≤ MOST_FARE) → (journey : Journey) → fare tables journey ≤ MOST_FARE
-fare_within tables rules is h k singles journey = of_journey (is_peak tables journey) journey
+fare_within tables maximum bus singles journey = of_journey (is_peak tables journey) journey
   where
-    maximum : tables.rules.maximum ≤ MOST_FARE
-    maximum = omega (arith, ap (λ (r : Rules). r.maximum) is, h)
-
-    bus : tables.rules.bus ≤ MOST_FARE
-    bus = omega (arith, ap (λ (r : Rules). r.bus) is, k)
-
     of_journey : (peak : Bool) (journey : Journey) → fare_if tables peak journey ≤ MOST_FARE
     of_journey peak (Run legs) = singles (span_of_legs tables legs) peak
     of_journey peak (Same leg) = either (is_free tables leg) 0 (single_fare tables (span_of_station tables leg.entry.place) peak) (omega arith) (singles (span_of_station tables leg.entry.place) peak)

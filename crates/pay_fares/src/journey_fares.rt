@@ -1,12 +1,12 @@
 ghost use Rattle.std.specs.Prelude.{◌≡◌, ◌≤◌};
 ghost use Rattle.pay_tables.specs.declared.limits.TheConstants.{MOST_FARE};
-ghost use Rattle.pay_rules.specs.JourneyFares.{is_free, fare};
+ghost use Rattle.pay_rules.specs.JourneyFares.{is_free, fare, fare_by};
 
 use crate::peak::is_peak;
 use crate::runs::{span_of_run, span_of_station};
 use pay_money::Pence;
 use pay_rules::{Journey, Leg};
-use pay_tables::Tables;
+use pay_tables::{Editions, Tables};
 
 /// Whether a leg that ends where it began is free.
 fn is_free(tables: &Tables, leg: &Leg) -> bool
@@ -36,4 +36,13 @@ pub fn fare(tables: &Tables, journey: &Journey) -> Pence
         Journey::Bus { pays: true, .. } => tables.rules().bus,
         Journey::Bus { pays: false, .. } => Pence::ZERO,
     }
+}
+
+/// What a journey costs by the edition of its service day, which is that of its first tap.
+pub fn fare_by(editions: &Editions, journey: &Journey) -> Pence
+    ensures value { result ≡ fare_by editions.now journey.now }
+    ensures in_range { result ≤ MOST_FARE }
+{
+    let day = journey.first_tap().stamp.day();
+    fare(editions.on(day), journey)
 }

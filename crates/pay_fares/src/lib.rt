@@ -6,6 +6,6 @@ pub mod laws;
 mod peak;
 mod runs;
 
-pub use journey_fares::fare;
+pub use journey_fares::{fare, fare_by};
 pub use peak::is_peak;
 pub use runs::{span_of_run, span_of_station};

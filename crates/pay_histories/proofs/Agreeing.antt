@@ -6,7 +6,7 @@ use Rattle.std.specs.FinMap.{get, entries, values}
 use Rattle.std.specs.List.{AllByRecursion}
 use Rattle.std.proofs.lemmas.Bool.{and_parts, and_from, ltb-true}
 use Rattle.pay_day.specs.Words.{monday}
-use Rattle.pay_tables.specs.Words.{FareTables}
+use Rattle.pay_tables.specs.Words.{FareEditions}
 use Rattle.pay_rules.specs.declared.tap.Tap.{Tap}
 use Rattle.pay_rules.specs.SameTap.{tap_itself}
 use Rattle.pay_rules.specs.Taps.{same_tap, number as tap_number}
@@ -121,9 +121,9 @@ some_same {X} x y e = ap (λ (o : Option X). unwrap_or o x) e
 -- ---- what was posted and archived, beside what accounts have accepted
 
 -- a posting's quote is of what its account has accepted now, or of an earlier version
-abbrev pub IsQuoted : FareTables → State → Posting → Type 0
-IsQuoted tables state p =
-    (p.quote.week ≡ monday p.quote.through) × ((p.quote ≡ quote tables p.quote.account (accepted_of state p.quote.account) p.quote.through) ⊎ (p.quote.version < version (accepted_of state p.quote.account)))
+abbrev pub IsQuoted : FareEditions → State → Posting → Type 0
+IsQuoted editions state p =
+    (p.quote.week ≡ monday p.quote.through) × ((p.quote ≡ quote editions p.quote.account (accepted_of state p.quote.account) p.quote.through) ⊎ (p.quote.version < version (accepted_of state p.quote.account)))
 
 -- an archived tap is one that its account has accepted, and an archived correction too
 abbrev pub IsAcceptedTap : State → Tap → Type 0
@@ -138,19 +138,19 @@ Archives = List Tap × List Fix
 abbrev pub AreAccepted : State → Archives → Type 0
 AreAccepted state archive = AllByRecursion (IsAcceptedTap state) archive.0 × AllByRecursion (IsAcceptedFix state) archive.1
 
-pub record Agree (tables : FareTables) (state : State) (ledger : LedgerParts) : Type 0 where
+pub record Agree (editions : FareEditions) (state : State) (ledger : LedgerParts) : Type 0 where
   pub theirs : (account : ℕ) → AreTheirs account (accepted_of state account)
-  pub quoted : AllByRecursion (IsQuoted tables state) ledger.postings
+  pub quoted : AllByRecursion (IsQuoted editions state) ledger.postings
   pub accepted : AreAccepted state (ledger.taps, ledger.fixes)
 
 -- ---- a command
 
-still_quoted : (tables : FareTables) (before now : State) → HaveGrown before now → (p : Posting) → IsQuoted tables before p → IsQuoted tables now p
-still_quoted tables before now grown p is = (
+still_quoted : (editions : FareEditions) (before now : State) → HaveGrown before now → (p : Posting) → IsQuoted editions before p → IsQuoted editions now p
+still_quoted editions before now grown p is = (
   is.0,
   elim (grown p.quote.account).counted [
     | inl same ↦ elim is.1 [
-      | inl as_quoted ↦ inl (as_quoted ∙ ap (λ a. quote tables p.quote.account a p.quote.through) same)
+      | inl as_quoted ↦ inl (as_quoted ∙ ap (λ a. quote editions p.quote.account a p.quote.through) same)
       | inr earlier ↦ inr (omega (arith, earlier, ap version same))
     ]
     | inr more ↦ elim is.1 [
@@ -161,10 +161,10 @@ still_quoted tables before now grown p is = (
 )
 
 -- where what accounts have accepted grows, the ledger agrees with it as before
-pub still_agree : (tables : FareTables) (before now : State) (ledger : LedgerParts) → HaveGrown before now → Agree tables before ledger → Agree tables now ledger
-still_agree tables before now ledger grown agree = record {
+pub still_agree : (editions : FareEditions) (before now : State) (ledger : LedgerParts) → HaveGrown before now → Agree editions before ledger → Agree editions now ledger
+still_agree editions before now ledger grown agree = record {
   theirs = λ account. (grown account).theirs (agree.theirs account);
-  quoted = all_weaker (IsQuoted tables before) (IsQuoted tables now) ledger.postings (still_quoted tables before now grown) agree.quoted;
+  quoted = all_weaker (IsQuoted editions before) (IsQuoted editions now) ledger.postings (still_quoted editions before now grown) agree.quoted;
   accepted = (
     all_weaker (IsAcceptedTap before) (IsAcceptedTap now) ledger.taps (λ tap is. (grown tap.account).taps (tap_number tap) tap is) agree.accepted.0,
     all_weaker (IsAcceptedFix before) (IsAcceptedFix now) ledger.fixes (λ fix is. (grown fix.account).fixes (fix_number fix) fix is) agree.accepted.1,
@@ -173,12 +173,12 @@ still_agree tables before now ledger grown agree = record {
 
 -- ---- a close
 
-module _ (tables : FareTables) (state : State) (day : ℕ) where
+module _ (editions : FareEditions) (state : State) (day : ℕ) where
   abbrev pub IsTheirs : ℕ × Accepted → Type 0
   IsTheirs e = accepted_of state e.0 ≡ e.1
 
   abbrev pub quote_of : ℕ × Accepted → QuoteParts
-  quote_of e = quote tables e.0 e.1 day
+  quote_of e = quote editions e.0 e.1 day
 
   abbrev pub sets_of : ℕ × Accepted → SetsParts
   sets_of e = sets e.0 e.1
@@ -189,7 +189,7 @@ module _ (tables : FareTables) (state : State) (day : ℕ) where
       all_filtered IsTheirs (λ e. is_of_shard 0 1 e.0 && is_quoted day (sets e.0 e.1)) (entries state)
       (all_of IsTheirs (entries state) (λ e is. ap (λ (o : Option Accepted). unwrap_or o nothing) (entry_is_there nat_cmp_total state e is)))
 
-  pub follows : (account : ℕ) (p : Posting) → IsQuoted tables state p → is_of account (monday day) p ≡ true → MayFollow (quote tables account (accepted_of state account) day) p.quote
+  pub follows : (account : ℕ) (p : Posting) → IsQuoted editions state p → is_of account (monday day) p ≡ true → MayFollow (quote editions account (accepted_of state account) day) p.quote
   follows account p is of =
       let parts = and_parts (p.quote.account == account) (p.quote.week == monday day) of in
       let own : p.quote.account ≡ account = eqb-true p.quote.account account parts.0 in
@@ -198,17 +198,17 @@ module _ (tables : FareTables) (state : State) (day : ℕ) where
       elim is.1 [
         | inl as_quoted ↦
             let of_version : p.quote.version ≡ version (accepted_of state p.quote.account) = ap (λ (q : QuoteParts). q.version) as_quoted in
-            record { no_earlier = omega (arith, of_version, as_many); same = λ v through. as_quoted ∙ (λ i. quote tables (own i) (accepted_of state (own i)) (through i)); of_week = sym is.0 ∙ in_week }
+            record { no_earlier = omega (arith, of_version, as_many); same = λ v through. as_quoted ∙ (λ i. quote editions (own i) (accepted_of state (own i)) (through i)); of_week = sym is.0 ∙ in_week }
         | inr earlier ↦ record { no_earlier = omega (arith, earlier, as_many); same = λ v through. absurd (omega (arith, earlier, as_many, v)); of_week = sym is.0 ∙ in_week }
       ]
 
   abbrev pub AllQuoted : List Posting → Type 0
-  AllQuoted = AllByRecursion (IsQuoted tables state)
+  AllQuoted = AllByRecursion (IsQuoted editions state)
 
   pub one_quoted : (list : List Posting) (e : ℕ × Accepted) → IsTheirs e → AllQuoted list → Comes {A = Posting × List Posting} (Then AllQuoted) (IsLate day) (post list (quote_of e))
   one_quoted list e is all =
-      subst (λ a. Comes {A = Posting × List Posting} (Then AllQuoted) (IsLate day) (post list (quote tables e.0 a day))) is
-      (one_posted (IsQuoted tables state) (quote tables e.0 (accepted_of state e.0) day) (follows e.0) (λ before. (refl, inl refl)) list all)
+      subst (λ a. Comes {A = Posting × List Posting} (Then AllQuoted) (IsLate day) (post list (quote editions e.0 a day))) is
+      (one_posted (IsQuoted editions state) (quote editions e.0 (accepted_of state e.0) day) (follows e.0) (λ before. (refl, inl refl)) list all)
 
   each_quoted : (list : List Posting) (es : List (ℕ × Accepted)) → AllByRecursion IsTheirs es → AllQuoted list → Comes {A = List Posting × List Posting} (Then AllQuoted) (IsLate day) (post_each list (map quote_of es))
   each_quoted list [] are all = all
@@ -274,18 +274,18 @@ module _ (tables : FareTables) (state : State) (day : ℕ) where
         (λ now still. sets_archived now es of.1 still)
 
 -- a close leaves a ledger that agrees, and is refused only where a later day of its week was closed
-pub close_agrees : (tables : FareTables) (books : Books) (day : ℕ) → Agree tables books.state books.ledger
-    → Comes {A = List Posting × LedgerParts} (Then (Agree tables books.state)) (IsLate day) (close tables books day)
-close_agrees tables books day agree =
+pub close_agrees : (editions : FareEditions) (books : Books) (day : ℕ) → Agree editions books.state books.ledger
+    → Comes {A = List Posting × LedgerParts} (Then (Agree editions books.state)) (IsLate day) (close editions books day)
+close_agrees editions books day agree =
     let state = books.state in
     let list = quoted state day 0 1 in
-    comes_then (Then (AllQuoted tables state day)) (Then (Agree tables state)) (IsLate day)
-    (post_each books.ledger.postings (map (quote_of tables state day) list))
-    (λ given. archived_sets (books.ledger.taps, books.ledger.fixes) (map (sets_of tables state day) list) >>= (λ archive. Ok (given.0, record { postings = given.1; taps = archive.0; fixes = archive.1 })))
-    (each_quoted tables state day books.ledger.postings list (all_theirs tables state day) agree.quoted)
+    comes_then (Then (AllQuoted editions state day)) (Then (Agree editions state)) (IsLate day)
+    (post_each books.ledger.postings (map (quote_of editions state day) list))
+    (λ given. archived_sets (books.ledger.taps, books.ledger.fixes) (map (sets_of editions state day) list) >>= (λ archive. Ok (given.0, record { postings = given.1; taps = archive.0; fixes = archive.1 })))
+    (each_quoted editions state day books.ledger.postings list (all_theirs editions state day) agree.quoted)
     (λ given posted.
-    comes_then (AreAccepted state) (Then (Agree tables state)) (IsLate day)
-    (archived_sets (books.ledger.taps, books.ledger.fixes) (map (sets_of tables state day) list))
+    comes_then (AreAccepted state) (Then (Agree editions state)) (IsLate day)
+    (archived_sets (books.ledger.taps, books.ledger.fixes) (map (sets_of editions state day) list))
     (λ archive. Ok (given.0, record { postings = given.1; taps = archive.0; fixes = archive.1 }))
-    (sets_archived tables state day agree.theirs (books.ledger.taps, books.ledger.fixes) list (all_theirs tables state day) agree.accepted)
+    (sets_archived editions state day agree.theirs (books.ledger.taps, books.ledger.fixes) list (all_theirs editions state day) agree.accepted)
     (λ archive are. record { theirs = agree.theirs; quoted = posted; accepted = (are.0, are.1) }))

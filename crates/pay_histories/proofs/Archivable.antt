@@ -10,7 +10,7 @@ use Rattle.pay_rules.specs.declared.addition.Addition.{Addition}
 use Rattle.pay_rules.specs.declared.addition.Addition.TheVariants.{Added, Repeat}
 use Rattle.pay_rules.specs.declared.addition.AdditionFault.{AdditionFault}
 use Rattle.pay_rules.specs.declared.addition.AdditionFault.TheVariants.{Conflict, Full}
-use Rattle.pay_tables.specs.Words.{FareTables}
+use Rattle.pay_tables.specs.Words.{FareEditions}
 use Rattle.pay_rules.specs.declared.limits.TheConstants.{MOST_TAPS, MOST_FIXES}
 use Rattle.pay_rules.specs.declared.tap.Tap.{Tap}
 use Rattle.pay_rules.specs.Taps.{same_tap, judged, number as tap_number}
@@ -70,61 +70,61 @@ room_if_added same most x (Some there) count e = absurd (by (same there x) e)
 -- ---- an account
 
 -- all that an account has accepted may be archived
-pub record IsArchivable (tables : FareTables) (accepted : Accepted) : Type 0 where
-  pub each_tap : AreEach tap_number (IsArchivedTap tables) accepted.taps
-  pub each_fix : AreEach fix_number (IsArchivedFix tables) accepted.fixes
+pub record IsArchivable (editions : FareEditions) (accepted : Accepted) : Type 0 where
+  pub each_tap : AreEach tap_number (IsArchivedTap editions) accepted.taps
+  pub each_fix : AreEach fix_number (IsArchivedFix editions) accepted.fixes
   pub few_taps : len accepted.taps ≤ MOST_TAPS
   pub few_fixes : len accepted.fixes ≤ MOST_FIXES
 
-nothing_is_archivable : (tables : FareTables) → IsArchivable tables nothing
-nothing_is_archivable tables = record {
-  each_tap = each_of_none tap_number (IsArchivedTap tables);
-  each_fix = each_of_none fix_number (IsArchivedFix tables);
+nothing_is_archivable : (editions : FareEditions) → IsArchivable editions nothing
+nothing_is_archivable editions = record {
+  each_tap = each_of_none tap_number (IsArchivedTap editions);
+  each_fix = each_of_none fix_number (IsArchivedFix editions);
   few_taps = omega (arith, len-empty number_cmp Tap);
   few_fixes = omega (arith, len-empty number_cmp Fix);
 }
 
 -- what is priced has its place
-placed_tap : (tables : FareTables) (accepted : Accepted) (tap : Tap) (is : Bool) (r : Result Addition AdditionFault) (priced : Priced) → (if is then tap_added tables accepted tap r else Err of_tap.UnknownPlace) ≡ Ok priced → is ≡ true
-placed_tap tables accepted tap true r priced e = refl
-placed_tap tables accepted tap false r priced e = absurd (cc)
+placed_tap : (editions : FareEditions) (accepted : Accepted) (tap : Tap) (is : Bool) (r : Result Addition AdditionFault) (priced : Priced) → (if is then tap_added editions accepted tap r else Err of_tap.UnknownPlace) ≡ Ok priced → is ≡ true
+placed_tap editions accepted tap true r priced e = refl
+placed_tap editions accepted tap false r priced e = absurd (cc)
 
-placed_fix : (tables : FareTables) (accepted : Accepted) (fix : Fix) (is : Bool) (r : Result Addition AdditionFault) (priced : Priced) → (if is then fix_added tables accepted fix r else Err of_fix.UnknownPlace) ≡ Ok priced → is ≡ true
-placed_fix tables accepted fix true r priced e = refl
-placed_fix tables accepted fix false r priced e = absurd (cc)
+placed_fix : (editions : FareEditions) (accepted : Accepted) (fix : Fix) (is : Bool) (r : Result Addition AdditionFault) (priced : Priced) → (if is then fix_added editions accepted fix r else Err of_fix.UnknownPlace) ≡ Ok priced → is ≡ true
+placed_fix editions accepted fix true r priced e = refl
+placed_fix editions accepted fix false r priced e = absurd (cc)
 
-after_one_tap : (tables : FareTables) (accepted : Accepted) (tap : Tap) (priced : Priced) → IsCommand (asked.Tap tap) → tap_result tables accepted tap ≡ Ok priced → IsArchivable tables accepted → IsArchivable tables (after_tap (Ok priced) accepted tap)
-after_one_tap tables accepted tap priced is e before = by priced.again refl
+after_one_tap : (editions : FareEditions) (accepted : Accepted) (tap : Tap) (priced : Priced) → IsCommand (asked.Tap tap) → tap_result editions accepted tap ≡ Ok priced → IsArchivable editions accepted → IsArchivable editions (after_tap (Ok priced) accepted tap)
+after_one_tap editions accepted tap priced is e before = by priced.again refl
   where
-    by : (again : Bool) → priced.again ≡ again → IsArchivable tables (if again then accepted else with_tap accepted tap)
+    by : (again : Bool) → priced.again ≡ again → IsArchivable editions (if again then accepted else with_tap accepted tap)
     by true repeat = before
     by false new =
-        let known = is_known tables tap.place tap.kind in
-        let added = added_tap tables accepted tap known (judged accepted.taps tap) priced e new in
+        let known = is_known editions tap.place tap.kind in
+        let added = added_tap editions accepted tap known (judged accepted.taps tap) priced e new in
         let none = new_if_added tap_number tap_account same_tap MOST_TAPS tap (get accepted.taps (tap_number tap)) (len accepted.taps) added in
         let room = room_if_added same_tap MOST_TAPS tap (get accepted.taps (tap_number tap)) (len accepted.taps) added in
-        let one : IsArchivedTap tables tap = record { of_account = is.0; in_range = is.1; placed = placed_tap tables accepted tap known (judged accepted.taps tap) priced e } in
+        let one : IsArchivedTap editions tap = record { of_account = is.0; in_range = is.1; placed = placed_tap editions accepted tap known (judged accepted.taps tap) priced e } in
         record {
-          each_tap = each_of_more tap_number (IsArchivedTap tables) accepted.taps tap one before.each_tap;
+          each_tap = each_of_more tap_number (IsArchivedTap editions) accepted.taps tap one before.each_tap;
           each_fix = before.each_fix;
           few_taps = omega (arith, one_longer tap_number tap_account accepted.taps tap none, room);
           few_fixes = before.few_fixes;
         }
 
-after_one_fix : (tables : FareTables) (accepted : Accepted) (fix : Fix) (priced : Priced) → IsCommand (asked.Fix fix) → fix_result tables accepted fix ≡ Ok priced → IsArchivable tables accepted → IsArchivable tables (after_fix (Ok priced) accepted fix)
-after_one_fix tables accepted fix priced is e before = by priced.again refl
+after_one_fix : (editions : FareEditions) (accepted : Accepted) (fix : Fix) (priced : Priced) → IsCommand (asked.Fix fix) → fix_result editions accepted fix ≡ Ok priced → IsArchivable editions accepted → IsArchivable editions (after_fix (Ok priced) accepted fix)
+after_one_fix editions accepted fix priced is e before = by priced.again refl
   where
-    by : (again : Bool) → priced.again ≡ again → IsArchivable tables (if again then accepted else with_fix accepted fix)
+    by : (again : Bool) → priced.again ≡ again → IsArchivable editions (if again then accepted else with_fix accepted fix)
     by true repeat = before
     by false new =
-        let known = is_known_fix tables fix.what in
-        let added = added_fix tables accepted fix known (judged_fix accepted.fixes fix) priced e new in
+        let known = is_known_fix editions fix.what in
+        let added = added_fix editions accepted fix known (judged_fix accepted.fixes fix) priced e new in
         let none = new_if_added fix_number fix_account same_fix MOST_FIXES fix (get accepted.fixes (fix_number fix)) (len accepted.fixes) added in
         let room = room_if_added same_fix MOST_FIXES fix (get accepted.fixes (fix_number fix)) (len accepted.fixes) added in
-        let one : IsArchivedFix tables fix = record { of_account = is.0; in_range = is.1; placed = placed_fix tables accepted fix known (judged_fix accepted.fixes fix) priced e } in
+        let one : IsArchivedFix editions fix = record { of_account = is.0; in_range = is.1; placed = placed_fix editions accepted fix known (judged_fix accepted.fixes fix) priced e } in
         record {
           each_tap = before.each_tap;
-          each_fix = each_of_more fix_number (IsArchivedFix tables) accepted.fixes fix one before.each_fix;
+          each_fix = each_of_more fix_number (IsArchivedFix editions) accepted.fixes fix one before.each_fix;
           few_taps = before.few_taps;
           few_fixes = omega (arith, one_longer fix_number fix_account accepted.fixes fix none, room);
         }
@@ -132,51 +132,51 @@ after_one_fix tables accepted fix priced is e before = by priced.again refl
 -- ---- all accounts
 
 -- of every account what it has accepted may be archived
-abbrev pub AreArchivable : FareTables → State → Type 0
-AreArchivable tables state = (account : ℕ) → IsArchivable tables (accepted_of state account)
+abbrev pub AreArchivable : FareEditions → State → Type 0
+AreArchivable editions state = (account : ℕ) → IsArchivable editions (accepted_of state account)
 
-kept_archivable : (tables : FareTables) (new : Bool) (state : State) (account : ℕ) (x : Accepted) → IsArchivable tables x → AreArchivable tables state → AreArchivable tables (kept new state account x)
-kept_archivable tables false state account x one all q = all q
-kept_archivable tables true state account x one all q = subst (IsArchivable tables) (sym (held state account x q)) (by (eq_by_cmp nat_cmp q account))
+kept_archivable : (editions : FareEditions) (new : Bool) (state : State) (account : ℕ) (x : Accepted) → IsArchivable editions x → AreArchivable editions state → AreArchivable editions (kept new state account x)
+kept_archivable editions false state account x one all q = all q
+kept_archivable editions true state account x one all q = subst (IsArchivable editions) (sym (held state account x q)) (by (eq_by_cmp nat_cmp q account))
   where
-    by : (b : Bool) → IsArchivable tables (cond b x (accepted_of state q))
+    by : (b : Bool) → IsArchivable editions (cond b x (accepted_of state q))
     by true = one
     by false = all q
 
-by_tap : (tables : FareTables) (state : State) (tap : Tap) (r : Result Priced TapFault) → IsCommand (asked.Tap tap) → tap_result tables (accepted_of state tap.account) tap ≡ r → AreArchivable tables state
-    → AreArchivable tables (step_tap_result state tap r).after
-by_tap tables state tap (Err fault) is e all = all
-by_tap tables state tap (Ok priced) is e all =
-    kept_archivable tables (not priced.again) state tap.account (after_tap (Ok priced) (accepted_of state tap.account) tap)
-    (after_one_tap tables (accepted_of state tap.account) tap priced is e (all tap.account)) all
+by_tap : (editions : FareEditions) (state : State) (tap : Tap) (r : Result Priced TapFault) → IsCommand (asked.Tap tap) → tap_result editions (accepted_of state tap.account) tap ≡ r → AreArchivable editions state
+    → AreArchivable editions (step_tap_result state tap r).after
+by_tap editions state tap (Err fault) is e all = all
+by_tap editions state tap (Ok priced) is e all =
+    kept_archivable editions (not priced.again) state tap.account (after_tap (Ok priced) (accepted_of state tap.account) tap)
+    (after_one_tap editions (accepted_of state tap.account) tap priced is e (all tap.account)) all
 
-by_fix : (tables : FareTables) (state : State) (fix : Fix) (r : Result Priced FixFault) → IsCommand (asked.Fix fix) → fix_result tables (accepted_of state fix.account) fix ≡ r → AreArchivable tables state
-    → AreArchivable tables (step_fix_result state fix r).after
-by_fix tables state fix (Err fault) is e all = all
-by_fix tables state fix (Ok priced) is e all =
-    kept_archivable tables (not priced.again) state fix.account (after_fix (Ok priced) (accepted_of state fix.account) fix)
-    (after_one_fix tables (accepted_of state fix.account) fix priced is e (all fix.account)) all
+by_fix : (editions : FareEditions) (state : State) (fix : Fix) (r : Result Priced FixFault) → IsCommand (asked.Fix fix) → fix_result editions (accepted_of state fix.account) fix ≡ r → AreArchivable editions state
+    → AreArchivable editions (step_fix_result state fix r).after
+by_fix editions state fix (Err fault) is e all = all
+by_fix editions state fix (Ok priced) is e all =
+    kept_archivable editions (not priced.again) state fix.account (after_fix (Ok priced) (accepted_of state fix.account) fix)
+    (after_one_fix editions (accepted_of state fix.account) fix priced is e (all fix.account)) all
 
-by_step : (tables : FareTables) (state : State) (a : Asked) → IsCommand a → AreArchivable tables state → AreArchivable tables (step tables state a).after
-by_step tables state (asked.Tap tap) is all = by_tap tables state tap (tap_result tables (accepted_of state tap.account) tap) is refl all
-by_step tables state (asked.Fix fix) is all = by_fix tables state fix (fix_result tables (accepted_of state fix.account) fix) is refl all
-by_step tables state (asked.Due account day) is all = all
-by_step tables state (asked.Show account day) is all = all
-by_step tables state (asked.Quotes day shard of) is all = all
+by_step : (editions : FareEditions) (state : State) (a : Asked) → IsCommand a → AreArchivable editions state → AreArchivable editions (step editions state a).after
+by_step editions state (asked.Tap tap) is all = by_tap editions state tap (tap_result editions (accepted_of state tap.account) tap) is refl all
+by_step editions state (asked.Fix fix) is all = by_fix editions state fix (fix_result editions (accepted_of state fix.account) fix) is refl all
+by_step editions state (asked.Due account day) is all = all
+by_step editions state (asked.Show account day) is all = all
+by_step editions state (asked.Quotes day shard of) is all = all
 
-by_item : (tables : FareTables) (state : State) (item : Item) → IsCommand item.entry.command → AreArchivable tables state → AreArchivable tables (item_step tables state item).after
-by_item tables state item is all = by item.refused_memory
+by_item : (editions : FareEditions) (state : State) (item : Item) → IsCommand item.entry.command → AreArchivable editions state → AreArchivable editions (item_step editions state item).after
+by_item editions state item is all = by item.refused_memory
   where
-    by : (marked : Bool) → AreArchivable tables (marked_step marked tables state item.entry.command).after
+    by : (marked : Bool) → AreArchivable editions (marked_step marked editions state item.entry.command).after
     by true = all
-    by false = by_step tables state item.entry.command is all
+    by false = by_step editions state item.entry.command is all
 
 -- ---- a history
 
-archivable_after : (tables : FareTables) (books : Books) (events : List Event) → AreCommands events → AreArchivable tables books.state → AreArchivable tables (after_all tables books events).state
-archivable_after tables books [] are all = all
-archivable_after tables books (Answered item ∷ events) are all = archivable_after tables (after tables books (Answered item)) events are.1 (by_item tables books.state item are.0 all)
-archivable_after tables books (Closed day ∷ events) are all = archivable_after tables (after tables books (Closed day)) events are all
+archivable_after : (editions : FareEditions) (books : Books) (events : List Event) → AreCommands events → AreArchivable editions books.state → AreArchivable editions (after_all editions books events).state
+archivable_after editions books [] are all = all
+archivable_after editions books (Answered item ∷ events) are all = archivable_after editions (after editions books (Answered item)) events are.1 (by_item editions books.state item are.0 all)
+archivable_after editions books (Closed day ∷ events) are all = archivable_after editions (after editions books (Closed day)) events are all
 
-pub always_archivable : (tables : FareTables) (events : List Event) → AreCommands events → AreArchivable tables (history tables events).state
-always_archivable tables events are = archivable_after tables new_books events are (λ account. subst (IsArchivable tables) (sym (opened account)) (nothing_is_archivable tables))
+pub always_archivable : (editions : FareEditions) (events : List Event) → AreCommands events → AreArchivable editions (history editions events).state
+always_archivable editions events are = archivable_after editions new_books events are (λ account. subst (IsArchivable editions) (sym (opened account)) (nothing_is_archivable editions))

@@ -9,7 +9,7 @@ use Rattle.std.proofs.lemmas.List.Sums.{fold-append}
 use Rattle.pay_day.specs.Words.{monday}
 use Rattle.pay_rules.specs.InTurn.{IsIn}
 use Rattle.pay_rules.specs.Numbers.{number_cmp}
-use Rattle.pay_tables.specs.Words.{FareTables}
+use Rattle.pay_tables.specs.Words.{FareEditions}
 use Rattle.pay_rules.specs.declared.tap.Tap.{Tap}
 use Rattle.pay_rules.specs.declared.fix.Fix.{Fix}
 use Rattle.pay_rules.specs.declared.posting.Posting.{Posting}
@@ -75,19 +75,19 @@ still_last quote other list same is = once_posted (Then (IsLastPosted quote)) li
 
 -- ---- all of a close
 
-module _ (tables : FareTables) (state : State) (day : ℕ) where
+module _ (editions : FareEditions) (state : State) (day : ℕ) where
   abbrev Theirs : ℕ × Accepted → Type 0
-  Theirs = IsTheirs tables state day
+  Theirs = IsTheirs editions state day
 
   abbrev of : ℕ × Accepted → QuoteParts
-  of = quote_of tables state day
+  of = quote_of editions state day
 
   -- of one account there is one quote
   one_quote : (e other : ℕ × Accepted) → Theirs e → Theirs other → is_quote_of e.0 (monday day) (of other) ≡ true → of other ≡ of e
   one_quote e other is there same =
       let own : other.0 ≡ e.0 = eqb-true other.0 e.0 (and_parts (other.0 == e.0) (monday day == monday day) same).0 in
       let accepted : other.1 ≡ e.1 = sym there ∙ ap (accepted_of state) own ∙ is in
-      λ i. quote tables (own i) (accepted i) day
+      λ i. quote editions (own i) (accepted i) day
 
   stays : (e : ℕ × Accepted) (list : List Posting) (es : List (ℕ × Accepted)) → Theirs e → AllByRecursion Theirs es → IsLastPosted (of e) list
       → Comes {A = List Posting × List Posting} (Then (IsLastPosted (of e))) Any (post_each list (map of es))
@@ -95,13 +95,13 @@ module _ (tables : FareTables) (state : State) (day : ℕ) where
   stays e list (other ∷ es) theirs are is =
       first_then (Then (IsLastPosted (of e))) (IsLastPosted (of e)) Any list (of other) (map of es) (still_last (of e) (of other) list (one_quote e other theirs are.0) is) (λ first now. stays e first.1 es theirs are.1 now)
 
-  own_last : (e : ℕ × Accepted) (list : List Posting) → Theirs e → AllQuoted tables state day list → Comes {A = Posting × List Posting} (Then (IsLastPosted (of e))) Any (post list (of e))
+  own_last : (e : ℕ × Accepted) (list : List Posting) → Theirs e → AllQuoted editions state day list → Comes {A = Posting × List Posting} (Then (IsLastPosted (of e))) Any (post list (of e))
   own_last e list theirs all =
-      subst (λ a. Comes {A = Posting × List Posting} (Then (IsLastPosted (quote tables e.0 a day))) Any (post list (quote tables e.0 a day))) theirs
-      (stands_last (IsQuoted tables state) (quote tables e.0 (accepted_of state e.0) day) (follows tables state day e.0) list all)
+      subst (λ a. Comes {A = Posting × List Posting} (Then (IsLastPosted (quote editions e.0 a day))) Any (post list (quote editions e.0 a day))) theirs
+      (stands_last (IsQuoted editions state) (quote editions e.0 (accepted_of state e.0) day) (follows editions state day e.0) list all)
 
   -- the quote of each is the last of its account and week when all are posted
-  all_last : (e : ℕ × Accepted) (list : List Posting) (es : List (ℕ × Accepted)) → IsIn es e → AllByRecursion Theirs es → AllQuoted tables state day list
+  all_last : (e : ℕ × Accepted) (list : List Posting) (es : List (ℕ × Accepted)) → IsIn es e → AllByRecursion Theirs es → AllQuoted editions state day list
       → Comes {A = List Posting × List Posting} (Then (IsLastPosted (of e))) Any (post_each list (map of es))
   all_last e list [] is are all = absurd is
   all_last e list (other ∷ es) is are all = elim is [
@@ -110,8 +110,8 @@ module _ (tables : FareTables) (state : State) (day : ℕ) where
         (subst (λ (x : ℕ × Accepted). Comes {A = Posting × List Posting} (Then (IsLastPosted (of x))) Any (post list (of other))) here (own_last other list are.0 all))
         (λ first now. stays e first.1 es (subst Theirs here are.0) are.1 now)
     | inr later ↦
-        first_then (Then (AllQuoted tables state day)) (IsLastPosted (of e)) Any list (of other) (map of es)
-        (any_refusal (Then (AllQuoted tables state day)) (IsLate day) (post list (of other)) (one_quoted tables state day list other are.0 all))
+        first_then (Then (AllQuoted editions state day)) (IsLastPosted (of e)) Any list (of other) (map of es)
+        (any_refusal (Then (AllQuoted editions state day)) (IsLate day) (post list (of other)) (one_quoted editions state day list other are.0 all))
         (λ first now. all_last e first.1 es later are.1 now)
   ]
 
@@ -162,11 +162,11 @@ is_in_batch state day account is = by (get state account) refl
         (subst (λ a. IsIn (entries state) (account, a)) (sym same) (entry_of account x (entries state) (sym (get-entries state account) ∙ e)))
 
 -- the quote of each such account is the last posted once the day is closed
-pub closed_last : (tables : FareTables) (books : Books) (day account : ℕ) → Agree tables books.state books.ledger → is_quoted day (sets account (accepted_of books.state account)) ≡ true
-    → Comes {A = List Posting × LedgerParts} (λ answer. IsLastPosted (quote tables account (accepted_of books.state account) day) answer.1.postings) Any (close tables books day)
-closed_last tables books day account agree is =
+pub closed_last : (editions : FareEditions) (books : Books) (day account : ℕ) → Agree editions books.state books.ledger → is_quoted day (sets account (accepted_of books.state account)) ≡ true
+    → Comes {A = List Posting × LedgerParts} (λ answer. IsLastPosted (quote editions account (accepted_of books.state account) day) answer.1.postings) Any (close editions books day)
+closed_last editions books day account agree is =
     let state = books.state in
     let list = quoted state day 0 1 in
-    let own : QuoteParts = quote tables account (accepted_of state account) day in
-    on_ledger (IsLastPosted own) books.ledger (map (quote_of tables state day) list) (map (sets_of tables state day) list)
-    (all_last tables state day (account, accepted_of state account) books.ledger.postings list (is_in_batch state day account is) (all_theirs tables state day) agree.quoted)
+    let own : QuoteParts = quote editions account (accepted_of state account) day in
+    on_ledger (IsLastPosted own) books.ledger (map (quote_of editions state day) list) (map (sets_of editions state day) list)
+    (all_last editions state day (account, accepted_of state account) books.ledger.postings list (is_in_batch state day account is) (all_theirs editions state day) agree.quoted)

@@ -11,7 +11,7 @@ use Rattle.pay_rules.specs.declared.addition.Addition.{Addition}
 use Rattle.pay_rules.specs.declared.addition.Addition.TheVariants.{Added, Repeat}
 use Rattle.pay_rules.specs.declared.addition.AdditionFault.{AdditionFault}
 use Rattle.pay_rules.specs.declared.addition.AdditionFault.TheVariants.{Conflict}
-use Rattle.pay_tables.specs.Words.{FareTables}
+use Rattle.pay_tables.specs.Words.{FareEditions}
 use Rattle.pay_rules.specs.declared.limits.TheConstants.{MOST_TAPS, MOST_FIXES}
 use Rattle.pay_rules.specs.declared.tap.Tap.{Tap}
 use Rattle.pay_rules.specs.Taps.{same_tap, judged, number as tap_number}
@@ -141,49 +141,49 @@ one_fix_more accepted fix none = record {
 }
 
 -- prices that are no repeat are of a further tap
-pub added_tap : (tables : FareTables) (accepted : Accepted) (tap : Tap) (is : Bool) (r : Result Addition AdditionFault) (priced : Priced) → (if is then tap_added tables accepted tap r else Err of_tap.UnknownPlace) ≡ Ok priced
+pub added_tap : (editions : FareEditions) (accepted : Accepted) (tap : Tap) (is : Bool) (r : Result Addition AdditionFault) (priced : Priced) → (if is then tap_added editions accepted tap r else Err of_tap.UnknownPlace) ≡ Ok priced
     → priced.again ≡ false → r ≡ Ok Added
-added_tap tables accepted tap false r priced e new = absurd (cc)
-added_tap tables accepted tap true (Ok Added) priced e new = refl
-added_tap tables accepted tap true (Ok Repeat) priced e new =
-    let same : prices tables accepted true tap.stamp.day ≡ priced = cc in
+added_tap editions accepted tap false r priced e new = absurd (cc)
+added_tap editions accepted tap true (Ok Added) priced e new = refl
+added_tap editions accepted tap true (Ok Repeat) priced e new =
+    let same : prices editions accepted true tap.stamp.day ≡ priced = cc in
     let again : true ≡ priced.again = ap (λ (p : Priced). p.again) same in
     absurd (cc)
-added_tap tables accepted tap true (Err fault) priced e new = absurd (cc)
+added_tap editions accepted tap true (Err fault) priced e new = absurd (cc)
 
-tap_grows : (tables : FareTables) (accepted : Accepted) (tap : Tap) (priced : Priced) → tap_result tables accepted tap ≡ Ok priced → Grown tap.account accepted (after_tap (Ok priced) accepted tap)
-tap_grows tables accepted tap priced e = by priced.again refl
+tap_grows : (editions : FareEditions) (accepted : Accepted) (tap : Tap) (priced : Priced) → tap_result editions accepted tap ≡ Ok priced → Grown tap.account accepted (after_tap (Ok priced) accepted tap)
+tap_grows editions accepted tap priced e = by priced.again refl
   where
     by : (again : Bool) → priced.again ≡ again → Grown tap.account accepted (if again then accepted else with_tap accepted tap)
     by true is = as_before tap.account accepted
     by false is =
         one_tap_more accepted tap (new_if_added tap_number tap_account same_tap MOST_TAPS tap (get accepted.taps (tap_number tap)) (len accepted.taps)
-        (added_tap tables accepted tap (is_known tables tap.place tap.kind) (judged accepted.taps tap) priced e is))
+        (added_tap editions accepted tap (is_known editions tap.place tap.kind) (judged accepted.taps tap) priced e is))
 
 -- and of a further correction
-is_repeat : (tables : FareTables) (accepted : Accepted) (named : Option ℕ) → (prices_on tables accepted true named).again ≡ true
-is_repeat tables accepted None = refl
-is_repeat tables accepted (Some day) = refl
+is_repeat : (editions : FareEditions) (accepted : Accepted) (named : Option ℕ) → (prices_on editions accepted true named).again ≡ true
+is_repeat editions accepted None = refl
+is_repeat editions accepted (Some day) = refl
 
-pub added_fix : (tables : FareTables) (accepted : Accepted) (fix : Fix) (is : Bool) (r : Result Addition AdditionFault) (priced : Priced) → (if is then fix_added tables accepted fix r else Err of_fix.UnknownPlace) ≡ Ok priced
+pub added_fix : (editions : FareEditions) (accepted : Accepted) (fix : Fix) (is : Bool) (r : Result Addition AdditionFault) (priced : Priced) → (if is then fix_added editions accepted fix r else Err of_fix.UnknownPlace) ≡ Ok priced
     → priced.again ≡ false → r ≡ Ok Added
-added_fix tables accepted fix false r priced e new = absurd (cc)
-added_fix tables accepted fix true (Ok Added) priced e new = refl
-added_fix tables accepted fix true (Ok Repeat) priced e new =
+added_fix editions accepted fix false r priced e new = absurd (cc)
+added_fix editions accepted fix true (Ok Added) priced e new = refl
+added_fix editions accepted fix true (Ok Repeat) priced e new =
     let named = day_named accepted.taps accepted.fixes fix.what in
-    let same : prices_on tables accepted true named ≡ priced = cc in
-    let again : true ≡ priced.again = sym (is_repeat tables accepted named) ∙ ap (λ (p : Priced). p.again) same in
+    let same : prices_on editions accepted true named ≡ priced = cc in
+    let again : true ≡ priced.again = sym (is_repeat editions accepted named) ∙ ap (λ (p : Priced). p.again) same in
     absurd (cc)
-added_fix tables accepted fix true (Err fault) priced e new = absurd (cc)
+added_fix editions accepted fix true (Err fault) priced e new = absurd (cc)
 
-fix_grows : (tables : FareTables) (accepted : Accepted) (fix : Fix) (priced : Priced) → fix_result tables accepted fix ≡ Ok priced → Grown fix.account accepted (after_fix (Ok priced) accepted fix)
-fix_grows tables accepted fix priced e = by priced.again refl
+fix_grows : (editions : FareEditions) (accepted : Accepted) (fix : Fix) (priced : Priced) → fix_result editions accepted fix ≡ Ok priced → Grown fix.account accepted (after_fix (Ok priced) accepted fix)
+fix_grows editions accepted fix priced e = by priced.again refl
   where
     by : (again : Bool) → priced.again ≡ again → Grown fix.account accepted (if again then accepted else with_fix accepted fix)
     by true is = as_before fix.account accepted
     by false is =
         one_fix_more accepted fix (new_if_added fix_number fix_account same_fix MOST_FIXES fix (get accepted.fixes (fix_number fix)) (len accepted.fixes)
-        (added_fix tables accepted fix (is_known_fix tables fix.what) (judged_fix accepted.fixes fix) priced e is))
+        (added_fix editions accepted fix (is_known_fix editions fix.what) (judged_fix accepted.fixes fix) priced e is))
 
 -- ---- all accounts
 
@@ -206,26 +206,26 @@ kept_grown true state account x grown q = subst (Grown q (accepted_of state q)) 
     by true same = subst (λ k. Grown k (accepted_of state k) x) (sym (same refl)) grown
     by false same = as_before q (accepted_of state q)
 
-grown_by_tap : (tables : FareTables) (state : State) (tap : Tap) (r : Result Priced TapFault) → tap_result tables (accepted_of state tap.account) tap ≡ r → HaveGrown state (step_tap_result state tap r).after
-grown_by_tap tables state tap (Err fault) e = λ q. as_before q (accepted_of state q)
-grown_by_tap tables state tap (Ok priced) e =
-    kept_grown (not priced.again) state tap.account (after_tap (Ok priced) (accepted_of state tap.account) tap) (tap_grows tables (accepted_of state tap.account) tap priced e)
+grown_by_tap : (editions : FareEditions) (state : State) (tap : Tap) (r : Result Priced TapFault) → tap_result editions (accepted_of state tap.account) tap ≡ r → HaveGrown state (step_tap_result state tap r).after
+grown_by_tap editions state tap (Err fault) e = λ q. as_before q (accepted_of state q)
+grown_by_tap editions state tap (Ok priced) e =
+    kept_grown (not priced.again) state tap.account (after_tap (Ok priced) (accepted_of state tap.account) tap) (tap_grows editions (accepted_of state tap.account) tap priced e)
 
-grown_by_fix : (tables : FareTables) (state : State) (fix : Fix) (r : Result Priced FixFault) → fix_result tables (accepted_of state fix.account) fix ≡ r → HaveGrown state (step_fix_result state fix r).after
-grown_by_fix tables state fix (Err fault) e = λ q. as_before q (accepted_of state q)
-grown_by_fix tables state fix (Ok priced) e =
-    kept_grown (not priced.again) state fix.account (after_fix (Ok priced) (accepted_of state fix.account) fix) (fix_grows tables (accepted_of state fix.account) fix priced e)
+grown_by_fix : (editions : FareEditions) (state : State) (fix : Fix) (r : Result Priced FixFault) → fix_result editions (accepted_of state fix.account) fix ≡ r → HaveGrown state (step_fix_result state fix r).after
+grown_by_fix editions state fix (Err fault) e = λ q. as_before q (accepted_of state q)
+grown_by_fix editions state fix (Ok priced) e =
+    kept_grown (not priced.again) state fix.account (after_fix (Ok priced) (accepted_of state fix.account) fix) (fix_grows editions (accepted_of state fix.account) fix priced e)
 
-step_grown : (tables : FareTables) (state : State) (a : Asked) → HaveGrown state (step tables state a).after
-step_grown tables state (asked.Tap tap) = grown_by_tap tables state tap (tap_result tables (accepted_of state tap.account) tap) refl
-step_grown tables state (asked.Fix fix) = grown_by_fix tables state fix (fix_result tables (accepted_of state fix.account) fix) refl
-step_grown tables state (asked.Due account day) = λ q. as_before q (accepted_of state q)
-step_grown tables state (asked.Show account day) = λ q. as_before q (accepted_of state q)
-step_grown tables state (asked.Quotes day shard of) = λ q. as_before q (accepted_of state q)
+step_grown : (editions : FareEditions) (state : State) (a : Asked) → HaveGrown state (step editions state a).after
+step_grown editions state (asked.Tap tap) = grown_by_tap editions state tap (tap_result editions (accepted_of state tap.account) tap) refl
+step_grown editions state (asked.Fix fix) = grown_by_fix editions state fix (fix_result editions (accepted_of state fix.account) fix) refl
+step_grown editions state (asked.Due account day) = λ q. as_before q (accepted_of state q)
+step_grown editions state (asked.Show account day) = λ q. as_before q (accepted_of state q)
+step_grown editions state (asked.Quotes day shard of) = λ q. as_before q (accepted_of state q)
 
-pub item_grown : (tables : FareTables) (state : State) (item : Item) → HaveGrown state (item_step tables state item).after
-item_grown tables state item = by item.refused_memory
+pub item_grown : (editions : FareEditions) (state : State) (item : Item) → HaveGrown state (item_step editions state item).after
+item_grown editions state item = by item.refused_memory
   where
-    by : (marked : Bool) → HaveGrown state (marked_step marked tables state item.entry.command).after
+    by : (marked : Bool) → HaveGrown state (marked_step marked editions state item.entry.command).after
     by true = λ q. as_before q (accepted_of state q)
-    by false = step_grown tables state item.entry.command
+    by false = step_grown editions state item.entry.command

@@ -3,7 +3,7 @@ use Rattle.std.proofs.Common.{◌≡◌, ℕ, true, List, [], ◌∷◌, map, So
 use Rattle.std.specs.FinMap.{get, values, from_entries}
 use Rattle.std.specs.List.{AllByRecursion}
 use Rattle.pay_rules.specs.Numbers.{number_cmp, ByNumber}
-use Rattle.pay_tables.specs.Words.{FareTables}
+use Rattle.pay_tables.specs.Words.{FareEditions}
 use Rattle.pay_rules.specs.declared.limits.TheConstants.{MOST_TAPS, MOST_FIXES}
 use Rattle.pay_rules.specs.Taps.{number as tap_number}
 use Rattle.pay_rules.specs.Fixes.{number as fix_number}
@@ -32,40 +32,40 @@ use Rattle.pay_histories.proofs.Histories.{always_agree}
 abbrev LedgerIsApart : LedgerParts → Type 0
 LedgerIsApart ledger = IsApart (ledger.taps, ledger.fixes)
 
-close_apart : (tables : FareTables) (books : Books) (day : ℕ) → LedgerIsApart books.ledger → Comes {A = List Posting × LedgerParts} (Then LedgerIsApart) Any (close tables books day)
-close_apart tables books day apart =
-    let batch = batch_of_all tables books.state day in
+close_apart : (editions : FareEditions) (books : Books) (day : ℕ) → LedgerIsApart books.ledger → Comes {A = List Posting × LedgerParts} (Then LedgerIsApart) Any (close editions books day)
+close_apart editions books day apart =
+    let batch = batch_of_all editions books.state day in
     of_archive IsApart books.ledger batch.quotes batch.sets (sets_apart (books.ledger.taps, books.ledger.fixes) batch.sets apart)
 
 ledger_apart : (ledger : LedgerParts) (r : Result (List Posting × LedgerParts) PostFault) → LedgerIsApart ledger → Comes {A = List Posting × LedgerParts} (Then LedgerIsApart) Any r → LedgerIsApart (ledger_after ledger r)
 ledger_apart ledger (Ok answer) apart comes = comes
 ledger_apart ledger (Err why) apart comes = apart
 
-apart_after : (tables : FareTables) (books : Books) (events : List Event) → LedgerIsApart books.ledger → LedgerIsApart (after_all tables books events).ledger
-apart_after tables books [] apart = apart
-apart_after tables books (Answered item ∷ events) apart = apart_after tables (after tables books (Answered item)) events apart
-apart_after tables books (Closed day ∷ events) apart = apart_after tables (after tables books (Closed day)) events (ledger_apart books.ledger (close tables books day) apart (close_apart tables books day apart))
+apart_after : (editions : FareEditions) (books : Books) (events : List Event) → LedgerIsApart books.ledger → LedgerIsApart (after_all editions books events).ledger
+apart_after editions books [] apart = apart
+apart_after editions books (Answered item ∷ events) apart = apart_after editions (after editions books (Answered item)) events apart
+apart_after editions books (Closed day ∷ events) apart = apart_after editions (after editions books (Closed day)) events (ledger_apart books.ledger (close editions books day) apart (close_apart editions books day apart))
 
-always_apart : (tables : FareTables) (events : List Event) → LedgerIsApart (history tables events).ledger
-always_apart tables events = apart_after tables new_books events (tt, tt)
+always_apart : (editions : FareEditions) (events : List Event) → LedgerIsApart (history editions events).ledger
+always_apart editions events = apart_after editions new_books events (tt, tt)
 
 -- ---- an archive
 
-is_archive : (tables : FareTables) (state : State) (ledger : LedgerParts) → AreArchivable tables state → Agree tables state ledger → LedgerIsApart ledger → IsArchive tables ledger.taps ledger.fixes
-is_archive tables state ledger may agree apart = record {
-  each_tap = all_weaker (IsAcceptedTap state) (IsArchivedTap tables) ledger.taps (λ tap is. (may tap.account).each_tap (tap_number tap) tap is) agree.accepted.0;
-  each_fix = all_weaker (IsAcceptedFix state) (IsArchivedFix tables) ledger.fixes (λ fix is. (may fix.account).each_fix (fix_number fix) fix is) agree.accepted.1;
+is_archive : (editions : FareEditions) (state : State) (ledger : LedgerParts) → AreArchivable editions state → Agree editions state ledger → LedgerIsApart ledger → IsArchive editions ledger.taps ledger.fixes
+is_archive editions state ledger may agree apart = record {
+  each_tap = all_weaker (IsAcceptedTap state) (IsArchivedTap editions) ledger.taps (λ tap is. (may tap.account).each_tap (tap_number tap) tap is) agree.accepted.0;
+  each_fix = all_weaker (IsAcceptedFix state) (IsArchivedFix editions) ledger.fixes (λ fix is. (may fix.account).each_fix (fix_number fix) fix is) agree.accepted.1;
   taps_together = are_together tap_account tap_number MOST_TAPS (λ account. (accepted_of state account).taps) ledger.taps agree.accepted.0 apart.0 (λ account. (may account).few_taps);
   fixes_together = are_together fix_account fix_number MOST_FIXES (λ account. (accepted_of state account).fixes) ledger.fixes agree.accepted.1 apart.1 (λ account. (may account).few_fixes);
 }
 
 -- ---- a history
 
-pub archive_restored : ArchivedIsRestored → (tables : FareTables) (events : List Event) → AreCommands events
-    → (accounts : List (ℕ × Accepted)) × AreRestoredFrom tables (history tables events).ledger accounts × AreRestored (history tables events).ledger.taps (history tables events).ledger.fixes accounts
-archive_restored restores tables events are =
-    let books = history tables events in
-    restores tables books.ledger.taps books.ledger.fixes (is_archive tables books.state books.ledger (always_archivable tables events are) (always_agree tables events) (always_apart tables events))
+pub archive_restored : ArchivedIsRestored → (editions : FareEditions) (events : List Event) → AreCommands events
+    → (accounts : List (ℕ × Accepted)) × AreRestoredFrom editions (history editions events).ledger accounts × AreRestored (history editions events).ledger.taps (history editions events).ledger.fixes accounts
+archive_restored restores editions events are =
+    let books = history editions events in
+    restores editions books.ledger.taps books.ledger.fixes (is_archive editions books.state books.ledger (always_archivable editions events are) (always_agree editions events) (always_apart editions events))
 
 -- ---- once a day is closed
 
@@ -78,31 +78,31 @@ is_set_of {X} account number list sets a at theirs among n x = (
 )
 
 -- the archive has all that a quoted account has accepted
-closed_has : (tables : FareTables) (books : Books) (day account : ℕ) → is_quoted day (sets account (accepted_of books.state account)) ≡ true
-    → Comes {A = List Posting × LedgerParts} (λ answer. HasSet (sets account (accepted_of books.state account)) (answer.1.taps, answer.1.fixes)) Any (close tables books day)
-closed_has tables books day account is =
+closed_has : (editions : FareEditions) (books : Books) (day account : ℕ) → is_quoted day (sets account (accepted_of books.state account)) ≡ true
+    → Comes {A = List Posting × LedgerParts} (λ answer. HasSet (sets account (accepted_of books.state account)) (answer.1.taps, answer.1.fixes)) Any (close editions books day)
+closed_has editions books day account is =
     let state = books.state in
     let list = quoted state day 0 1 in
     let own : SetsParts = sets account (accepted_of state account) in
-    let all : List SetsParts = map (sets_of tables state day) list in
-    of_archive (HasSet own) books.ledger (map (quote_of tables state day) list) all
+    let all : List SetsParts = map (sets_of editions state day) list in
+    of_archive (HasSet own) books.ledger (map (quote_of editions state day) list) all
     (comes_weaker (HasSets (books.ledger.taps, books.ledger.fixes) all) (HasSet own) Any (archived_sets (books.ledger.taps, books.ledger.fixes) all)
-    (λ now has. has.1 own (is_mapped (sets_of tables state day) list (account, accepted_of state account) (is_in_batch state day account is))) (sets_there (books.ledger.taps, books.ledger.fixes) all))
+    (λ now has. has.1 own (is_mapped (sets_of editions state day) list (account, accepted_of state account) (is_in_batch state day account is))) (sets_there (books.ledger.taps, books.ledger.fixes) all))
 
-pub closed_restored : ArchivedIsRestored → RestoredIsAsBefore → (tables : FareTables) (events : List Event) (day : ℕ) (given : List Posting) (ledger : LedgerParts) → AreCommands events → close tables (history tables events) day ≡ Ok (given, ledger)
-    → (accounts : List (ℕ × Accepted)) × AreRestoredFrom tables ledger accounts
-    × ((account : ℕ) → is_quoted day (sets account (accepted_after tables events account)) ≡ true → accepted_of (from_entries accounts) account ≡ accepted_after tables events account)
-closed_restored restores as_before tables events day given ledger are e =
-    let books = history tables events in
+pub closed_restored : ArchivedIsRestored → RestoredIsAsBefore → (editions : FareEditions) (events : List Event) (day : ℕ) (given : List Posting) (ledger : LedgerParts) → AreCommands events → close editions (history editions events) day ≡ Ok (given, ledger)
+    → (accounts : List (ℕ × Accepted)) × AreRestoredFrom editions ledger accounts
+    × ((account : ℕ) → is_quoted day (sets account (accepted_after editions events account)) ≡ true → accepted_of (from_entries accounts) account ≡ accepted_after editions events account)
+closed_restored restores as_before editions events day given ledger are e =
+    let books = history editions events in
     let state : State = books.state in
-    let r = close tables books day in
-    let agree : Agree tables state ledger = of_answer (Then (Agree tables state)) (IsLate day) r (given, ledger) e (close_agrees tables books day (always_agree tables events)) in
-    let apart : LedgerIsApart ledger = of_answer (Then LedgerIsApart) Any r (given, ledger) e (close_apart tables books day (always_apart tables events)) in
-    let there = restores tables ledger.taps ledger.fixes (is_archive tables state ledger (always_archivable tables events are) agree apart) in (
+    let r = close editions books day in
+    let agree : Agree editions state ledger = of_answer (Then (Agree editions state)) (IsLate day) r (given, ledger) e (close_agrees editions books day (always_agree editions events)) in
+    let apart : LedgerIsApart ledger = of_answer (Then LedgerIsApart) Any r (given, ledger) e (close_apart editions books day (always_apart editions events)) in
+    let there = restores editions ledger.taps ledger.fixes (is_archive editions state ledger (always_archivable editions events are) agree apart) in (
       there.0,
       there.1,
       λ account is.
-          let has : HasSet (sets account (accepted_of state account)) (ledger.taps, ledger.fixes) = of_answer {A = List Posting × LedgerParts} (λ answer. HasSet (sets account (accepted_of state account)) (answer.1.taps, answer.1.fixes)) Any r (given, ledger) e (closed_has tables books day account is) in
+          let has : HasSet (sets account (accepted_of state account)) (ledger.taps, ledger.fixes) = of_answer {A = List Posting × LedgerParts} (λ answer. HasSet (sets account (accepted_of state account)) (answer.1.taps, answer.1.fixes)) Any r (given, ledger) e (closed_has editions books day account is) in
           as_before ledger.taps ledger.fixes there.0 there.2 account (accepted_of state account)
           (is_set_of tap_account tap_number ledger.taps (λ a. (accepted_of state a).taps) account agree.accepted.0 (agree.theirs account).taps has.0)
           (is_set_of fix_account fix_number ledger.fixes (λ a. (accepted_of state a).fixes) account agree.accepted.1 (agree.theirs account).fixes has.1),

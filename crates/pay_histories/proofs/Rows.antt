@@ -3,7 +3,7 @@ use Rattle.std.proofs.Common.{◌≡◌, ℕ, true, cond, ◌&&◌, List, [], �
 use Rattle.std.specs.Cmp.{nat_cmp_total}
 use Rattle.std.specs.FinMap.{empty, entries, insert, put, entries-insert, len-empty, len-entries}
 use Rattle.std.specs.Ordering.{nat_cmp}
-use Rattle.pay_tables.specs.Words.{FareTables}
+use Rattle.pay_tables.specs.Words.{FareEditions}
 use Rattle.pay_rules.specs.declared.tap.Kind.TheVariants.{Bus}
 use Rattle.pay_rules.specs.declared.tap.Tap.{Tap}
 use Rattle.pay_rules.specs.Accepted.{Accepted}
@@ -25,15 +25,15 @@ no_entries : entries (empty {X = Accepted} {R = nat_cmp}) ≡ []
 no_entries = nothing_there (entries empty) (sym (len-entries empty) ∙ len-empty nat_cmp Accepted)
 
 -- where no account has accepted anything, any day is closed without a posting
-first_close : (tables : FareTables) (day : ℕ) → close tables new_books day ≡ Ok ([], new_books.ledger)
-first_close tables day = ap (λ (es : List (ℕ × Accepted)). posted new_books.ledger (batch_of tables day (chosen day es)).quotes (batch_of tables day (chosen day es)).sets) no_entries
+first_close : (editions : FareEditions) (day : ℕ) → close editions new_books day ≡ Ok ([], new_books.ledger)
+first_close editions day = ap (λ (es : List (ℕ × Accepted)). posted new_books.ledger (batch_of editions day (chosen day es)).quotes (batch_of editions day (chosen day es)).sets) no_entries
 
 -- one account with a tap of that week is quoted, and its sets are archived
-one_account_quoted : (tables : FareTables) (accepted : Accepted) (day : ℕ) → is_quoted day (sets 7 accepted) ≡ true
-    → batch_of_all tables (insert empty 7 accepted) day ≡ record { quotes = quote tables 7 accepted day ∷ []; sets = sets 7 accepted ∷ [] }
-one_account_quoted tables accepted day is =
-    ap (λ (es : List (ℕ × Accepted)). batch_of tables day (chosen day es)) (entries-insert nat_cmp_total empty 7 accepted ∙ ap (put nat_cmp 7 accepted) no_entries)
-    ∙ ap (λ b. batch_of tables day (cond b ((7, accepted) ∷ []) [])) is
+one_account_quoted : (editions : FareEditions) (accepted : Accepted) (day : ℕ) → is_quoted day (sets 7 accepted) ≡ true
+    → batch_of_all editions (insert empty 7 accepted) day ≡ record { quotes = quote editions 7 accepted day ∷ []; sets = sets 7 accepted ∷ [] }
+one_account_quoted editions accepted day is =
+    ap (λ (es : List (ℕ × Accepted)). batch_of editions day (chosen day es)) (entries-insert nat_cmp_total empty 7 accepted ∙ ap (put nat_cmp 7 accepted) no_entries)
+    ∙ ap (λ b. batch_of editions day (cond b ((7, accepted) ∷ []) [])) is
 
 -- Monday 2024-01-08 is closed too late once the Tuesday was, and not because of the Monday after
 after_tuesday : IsLate 19_730 (StaleQuote 7 2 19_731)
@@ -64,5 +64,5 @@ unfolding bus_tap
 no_account is = omega (arith, is.0.0)
 
 -- where nothing was archived, no account is restored
-none_restored : (tables : FareTables) → AreRestoredFrom tables new_books.ledger []
-none_restored tables = ap Some no_entries
+none_restored : (editions : FareEditions) → AreRestoredFrom editions new_books.ledger []
+none_restored editions = ap Some no_entries

@@ -10,7 +10,7 @@ use Rattle.pay_rules.specs.declared.posting.Posting.{Posting}
 use Rattle.pay_rules.specs.Accepted.{Accepted}
 use Rattle.pay_rules.specs.QuoteParts.{QuoteParts}
 use Rattle.pay_rules.specs.Quotes.{quote}
-use Rattle.pay_tables.specs.Words.{FareTables}
+use Rattle.pay_tables.specs.Words.{FareEditions}
 use Rattle.pay_postings.specs.Ledger.{LedgerParts}
 use Rattle.pay_postings.specs.Amounts.{total, no_amounts, added, less}
 use Rattle.pay_postings.specs.Postings.{is_quote_of, is_of, with_amount, net, with_shares, shares_posted, later_of, last_of, posting_of, post, post_each}
@@ -104,10 +104,10 @@ each_settled list (quote ∷ quotes) are settled = first_then (Then IsSettled) I
 -- ---- a close
 
 -- each quote of a close is shared, and so the ledger is settled after it
-pub close_settled : (tables : FareTables) (books : Books) (day : ℕ) → ((account : ℕ) (accepted : Accepted) → IsShared (quote tables account accepted day)) → IsSettled books.ledger.postings
-    → Comes {A = List Posting × LedgerParts} (λ answer. IsSettled answer.1.postings) Any (close tables books day)
-close_settled tables books day shared settled =
-    let batch = batch_of_all tables books.state day in
+pub close_settled : (editions : FareEditions) (books : Books) (day : ℕ) → ((account : ℕ) (accepted : Accepted) → IsShared (quote editions account accepted day)) → IsSettled books.ledger.postings
+    → Comes {A = List Posting × LedgerParts} (λ answer. IsSettled answer.1.postings) Any (close editions books day)
+close_settled editions books day shared settled =
+    let batch = batch_of_all editions books.state day in
     let list = quoted books.state day 0 1 in
     on_ledger IsSettled books.ledger batch.quotes batch.sets
-    (each_settled books.ledger.postings batch.quotes (all_mapped IsShared (λ (e : ℕ × Accepted). quote tables e.0 e.1 day) list (all_of (λ (e : ℕ × Accepted). IsShared (quote tables e.0 e.1 day)) list (λ e is. shared e.0 e.1))) settled)
+    (each_settled books.ledger.postings batch.quotes (all_mapped IsShared (λ (e : ℕ × Accepted). quote editions e.0 e.1 day) list (all_of (λ (e : ℕ × Accepted). IsShared (quote editions e.0 e.1 day)) list (λ e is. shared e.0 e.1))) settled)

@@ -1,7 +1,7 @@
 -- What is restored of the archive that closes wrote.
 use Rattle.std.specs.Prelude.{◌≡◌, ◌≤◌, ℕ, true, false, List, [], ◌∷◌, Some, Ok, ⊤}
 use Rattle.std.specs.FinMap.{from_entries}
-use Rattle.pay_tables.specs.Words.{FareTables}
+use Rattle.pay_tables.specs.Words.{FareEditions}
 use Rattle.pay_rules.specs.declared.fix.What.{What}
 use Rattle.pay_rules.specs.declared.fix.What.TheVariants as what
 use Rattle.pay_rules.specs.Accepted.{Accepted}
@@ -42,19 +42,19 @@ IsPlaced (asked.Fix fix) = IsWhatPlaced fix.what
 IsPlaced _ = ⊤
 
 -- the rows of a ledger's archive are not refused, and these are the accounts by them
-abbrev pub AreRestoredFrom : FareTables → LedgerParts → List (ℕ × Accepted) → Type 0
-AreRestoredFrom tables ledger accounts = restored tables (tap_rows ledger.taps) (fix_rows ledger.fixes) ≡ Some accounts
+abbrev pub AreRestoredFrom : FareEditions → LedgerParts → List (ℕ × Accepted) → Type 0
+AreRestoredFrom editions ledger accounts = restored editions (tap_rows ledger.taps) (fix_rows ledger.fixes) ≡ Some accounts
 
 -- the archive that a history leaves is not refused, and each account has just its own of it again
 abbrev pub ArchiveIsRestored : Type 0
-ArchiveIsRestored = (tables : FareTables) (events : List Event) → AreCommands events
-    → (accounts : List (ℕ × Accepted)) × AreRestoredFrom tables (history tables events).ledger accounts × AreRestored (history tables events).ledger.taps (history tables events).ledger.fixes accounts
+ArchiveIsRestored = (editions : FareEditions) (events : List Event) → AreCommands events
+    → (accounts : List (ℕ × Accepted)) × AreRestoredFrom editions (history editions events).ledger accounts × AreRestored (history editions events).ledger.taps (history editions events).ledger.fixes accounts
 
 -- once a day is closed, each account that the close selects is restored just as it is
 abbrev pub ClosedIsRestored : Type 0
-ClosedIsRestored = (tables : FareTables) (events : List Event) (day : ℕ) (given : List Posting) (ledger : LedgerParts) → AreCommands events → close tables (history tables events) day ≡ Ok (given, ledger)
-    → (accounts : List (ℕ × Accepted)) × AreRestoredFrom tables ledger accounts
-    × ((account : ℕ) → is_quoted day (sets account (accepted_after tables events account)) ≡ true → accepted_of (from_entries accounts) account ≡ accepted_after tables events account)
+ClosedIsRestored = (editions : FareEditions) (events : List Event) (day : ℕ) (given : List Posting) (ledger : LedgerParts) → AreCommands events → close editions (history editions events) day ≡ Ok (given, ledger)
+    → (accounts : List (ℕ × Accepted)) × AreRestoredFrom editions ledger accounts
+    × ((account : ℕ) → is_quoted day (sets account (accepted_after editions events account)) ≡ true → accepted_of (from_entries accounts) account ≡ accepted_after editions events account)
 
 -- ---- worked rows
 

@@ -2,7 +2,7 @@
 //! caller whose proof needs a law calls its function.
 ghost use Rattle.std.specs.Prelude.{◌≡◌, ◌≢◌, ℕ, List, Err};
 ghost use Rattle.std.specs.FinMap.{empty};
-ghost use Rattle.pay_tables.specs.Words.{FareTables};
+ghost use Rattle.pay_tables.specs.Words.{FareEditions};
 ghost use Rattle.pay_rules.specs.declared.post_fault.PostFault.{PostFault};
 ghost use Rattle.pay_rules.specs.declared.post_fault.PostFault.TheVariants as fault;
 ghost use Rattle.pay_postings.specs.Words.{total, net, shares_posted, ArePaid};
@@ -12,48 +12,48 @@ ghost use Rattle.pay_histories.specs.Payments.{NetIsDueByLast, SharesAreByLast, 
 ghost use Rattle.pay_histories.specs.Restores.{IsPlaced, IsCommand, ArchiveIsRestored, ClosedIsRestored};
 
 use pay_shard::Command;
-use pay_tables::Tables;
+use pay_tables::Editions;
 
 /// A close never finds that something else is due than was posted for the same version and day, nor that the archive has
 /// another tap or correction of a number: what was answered and what was closed before agree.
 pub fn closes_agree()
-    ensures as_due { (tables : FareTables) (events : List Event) (day : ℕ) → close tables (history tables events) day ≢ Err fault.QuoteDiffers }
-    ensures as_archived { (tables : FareTables) (events : List Event) (day : ℕ) → close tables (history tables events) day ≢ Err fault.ArchiveConflict }
+    ensures as_due { (editions : FareEditions) (events : List Event) (day : ℕ) → close editions (history editions events) day ≢ Err fault.QuoteDiffers }
+    ensures as_archived { (editions : FareEditions) (events : List Event) (day : ℕ) → close editions (history editions events) day ≢ Err fault.ArchiveConflict }
 
     // The one refusal that there may be is of a close that comes too late.
-    ensures late { (tables : FareTables) (events : List Event) (day : ℕ) (why : PostFault) → close tables (history tables events) day ≡ Err why → IsLate day why }
+    ensures late { (editions : FareEditions) (events : List Event) (day : ℕ) (why : PostFault) → close editions (history editions events) day ≡ Err why → IsLate day why }
 {}
 
 /// Whatever was answered and closed: what an account was charged for a week, less what it was given back, is what is due by
 /// the quote that was posted last, and what fell to each operator is its share, all of it together.
-pub fn payments(tables: &Tables)
-    ensures net { NetIsDueByLast tables.now }
-    ensures by_operator { SharesAreByLast tables.now }
+pub fn payments(editions: &Editions)
+    ensures net { NetIsDueByLast editions.now }
+    ensures by_operator { SharesAreByLast editions.now }
     ensures together { (events : List Event) (account week : ℕ)
-        → total (shares_posted account week (postings_after tables.now events)) ≡ net account week (postings_after tables.now events) }
+        → total (shares_posted account week (postings_after editions.now events)) ≡ net account week (postings_after editions.now events) }
 {
-    pay_account::laws::quotes(tables);
+    pay_account::laws::quotes(editions);
 }
 
 /// Once a day is closed, each account with an accepted tap or Fill on a day of its week so far was charged, less what it was
 /// given back, just what is due through that day by all that it has accepted; and each operator got its share.
-pub fn closed_days(tables: &Tables)
-    ensures net { ClosedNetIsDue tables.now }
-    ensures by_operator { ClosedSharesAreDue tables.now }
+pub fn closed_days(editions: &Editions)
+    ensures net { ClosedNetIsDue editions.now }
+    ensures by_operator { ClosedSharesAreDue editions.now }
 {
-    pay_account::laws::quotes(tables);
+    pay_account::laws::quotes(editions);
 }
 
 /// A close changes nothing of what accounts have accepted: the state after any history is that of a machine which answered its
 /// commands alone.
 pub fn states()
-    ensures { (tables : FareTables) (events : List Event) → (history tables events).state ≡ replay tables empty (answered events) }
+    ensures { (editions : FareEditions) (events : List Event) → (history editions events).state ≡ replay editions empty (answered events) }
 {}
 
 /// Whatever was answered and closed, the postings of the ledger were posted one after another, so that as much is posted as
 /// was due at each of them. That each quote is in its ranges is what its type says.
 pub fn paid()
-    ensures { (tables : FareTables) (events : List Event) → AreQuotes tables new_books events → ArePaid (postings_after tables events) }
+    ensures { (editions : FareEditions) (events : List Event) → AreQuotes editions new_books events → ArePaid (postings_after editions events) }
 {
     pay_postings::laws::paid();
 }

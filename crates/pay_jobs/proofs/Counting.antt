@@ -10,12 +10,12 @@ use Rattle.pay_jobs.specs.declared.fault.Fault.TheVariants.{Output}
 beyond : (before piece rest all : List ℕ) → all ≡ before ++ piece → all ++ rest ≡ before ++ (piece ++ rest)
 beyond before piece rest all is = ap (λ l. l ++ rest) is ∙ append_assoc before piece rest
 
--- four pieces and an end, each put after those before it
-pub four_and_end : (none one two three four all a b c d e : List ℕ) → none ≡ [] → one ≡ none ++ a → two ≡ one ++ b → three ≡ two ++ c → four ≡ three ++ d → all ≡ four ++ e
-    → all ≡ (a ++ (b ++ (c ++ d))) ++ e
-four_and_end none one two three four all a b c d e empty is-a is-b is-c is-d is-e =
-    is-e ∙ ap (λ l. l ++ e) (is-d ∙ (beyond two c d three is-c ∙ (beyond one b (c ++ d) two is-b
-    ∙ (beyond none a (b ++ (c ++ d)) one is-a ∙ ap (λ l. l ++ (a ++ (b ++ (c ++ d)))) empty))))
+-- four pieces, a fifth and an end, each put after those before it
+pub five_and_end : (none one two three four five all a b c d f e : List ℕ) → none ≡ [] → one ≡ none ++ a → two ≡ one ++ b → three ≡ two ++ c → four ≡ three ++ d → five ≡ four ++ f → all ≡ five ++ e
+    → all ≡ ((a ++ (b ++ (c ++ d))) ++ f) ++ e
+five_and_end none one two three four five all a b c d f e empty is-a is-b is-c is-d is-f is-e =
+    is-e ∙ ap (λ l. l ++ e) (is-f ∙ ap (λ l. l ++ f) (is-d ∙ (beyond two c d three is-c ∙ (beyond one b (c ++ d) two is-b
+    ∙ (beyond none a (b ++ (c ++ d)) one is-a ∙ ap (λ l. l ++ (a ++ (b ++ (c ++ d)))) empty)))))
 
 pub check_ends : {T E : Type 0} (r : Result T E) (fares line : List ℕ) (held written : Option (List ℕ)) → IsCounted fares line
     → OnOk r (Appends held written line) → OnOk r (CheckEnds fares held written)

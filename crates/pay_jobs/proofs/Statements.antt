@@ -9,10 +9,10 @@ use Rattle.pay_fare_file.specs.Words.{fare_text}
 use Rattle.pay_rules.specs.declared.shown.Line.{Line}
 use Rattle.pay_session.specs.Words.{line_requests}
 use Rattle.pay_statement.specs.Words.{statement_text}
-use Rattle.pay_tables.specs.Words.{FareTables}
+use Rattle.pay_tables.specs.Words.{FareEditions}
 use Rattle.pay_wire.specs.Words.{AppendsFront}
 use Rattle.pay_jobs.specs.Faults.{IsWantOfMemory, IsWeekFault}
-use Rattle.pay_run.specs.Words.{Machine, new_machine, outcome, AreAllPriced, ZoneStays, TablesStay, LedgerStays, machine_past, IsPastAccepted, WeekTold, WeekNotTold}
+use Rattle.pay_run.specs.Words.{Machine, new_machine, outcome, AreAllPriced, ZoneStays, EditionsStay, LedgerStays, machine_past, IsPastAccepted, WeekTold, WeekNotTold}
 use Rattle.pay_jobs.specs.Texts.{Texts}
 use Rattle.pay_jobs.specs.Run.{Begins, Resumes}
 use Rattle.pay_jobs.specs.Statement.{WeekBreaks, PageFails, IsPage, StatementWritten, StatementRefused}
@@ -38,31 +38,31 @@ not_told Memory Journal texts reader is breaks = absurd is
 not_told Memory LedgerAlone texts reader is breaks = absurd is
 
 -- the texts by which a page is made: a fare file and a zone that are read
-module _ (texts : Texts) (zone : TimeZone) (tables : FareTables) (says : fare_text texts.fares ≡ Ok tables) (rule : IsPosixZone texts.zone (plain_zone zone)) (reader : Option (List ℕ) × Option (List ℕ)) where
-  begins : Begins texts.fares texts.zone None (new_machine zone tables None)
+module _ (texts : Texts) (zone : TimeZone) (editions : FareEditions) (says : fare_text texts.fares ≡ Ok editions) (rule : IsPosixZone texts.zone (plain_zone zone)) (reader : Option (List ℕ) × Option (List ℕ)) where
+  begins : Begins texts.fares texts.zone None (new_machine zone editions None)
   begins = record { says = says; rule = rule; new = refl; posted = refl }
 
-  pub week_not_told : (of : WeekFault) (fault : Fault) → IsWeekFault of fault → WeekNotTold zone tables texts.past reader of → PageFails fault texts reader
-  week_not_told of fault is fails = not_told of fault texts reader is record { machine = new_machine zone tables None; begins = begins; fails = fails }
+  pub week_not_told : (of : WeekFault) (fault : Fault) → IsWeekFault of fault → WeekNotTold zone editions texts.past reader of → PageFails fault texts reader
+  week_not_told of fault is fails = not_told of fault texts reader is record { machine = new_machine zone editions None; begins = begins; fails = fails }
 
   -- the week was told, and memory for its text was refused
-  pub not_spelled : (fault : Fault) (of : ℕ × ℕ) (lines : List Line) → IsWantOfMemory fault → WeekTold zone tables texts.past reader of lines → PageFails fault texts reader
+  pub not_spelled : (fault : Fault) (of : ℕ × ℕ) (lines : List Line) → IsWantOfMemory fault → WeekTold zone editions texts.past reader of lines → PageFails fault texts reader
   not_spelled fault of lines is tells = week_not_told Memory fault is (inr (IfSome_then reader.0 tells.1 (λ input t. inl t.unread)))
 
   -- the machine that the journal gives back
   abbrev past : Machine
-  past = machine_past zone tables texts.past
+  past = machine_past zone editions texts.past
 
   in_zone : ZoneStays → past.zone ≡ zone
-  in_zone stays = stays [] (new_machine zone tables None) (line_requests texts.past)
+  in_zone stays = stays [] (new_machine zone editions None) (line_requests texts.past)
 
-  by_tables : TablesStay → past.tables ≡ tables
-  by_tables stay = stay [] (new_machine zone tables None) (line_requests texts.past)
+  by_tables : EditionsStay → past.editions ≡ editions
+  by_tables stay = stay [] (new_machine zone editions None) (line_requests texts.past)
 
-  resumes : ZoneStays → TablesStay → LedgerStays → IsPastAccepted zone tables texts.past → Resumes texts None past
+  resumes : ZoneStays → EditionsStay → LedgerStays → IsPastAccepted zone editions texts.past → Resumes texts None past
   resumes zones fares ledgers accepted =
-      let none : past.ledger ≡ None = ledgers (new_machine zone tables None) (line_requests texts.past) accepted in
-      let as_new : new_machine past.zone past.tables past.ledger ≡ new_machine zone tables None = (λ i. new_machine (in_zone zones i) (by_tables fares i) (none i)) in
+      let none : past.ledger ≡ None = ledgers (new_machine zone editions None) (line_requests texts.past) accepted in
+      let as_new : new_machine past.zone past.editions past.ledger ≡ new_machine zone editions None = (λ i. new_machine (in_zone zones i) (by_tables fares i) (none i)) in
       record {
         says = says ∙ ap Ok (sym (by_tables fares));
         rule = subst (λ z. IsPosixZone texts.zone (plain_zone z)) (sym (in_zone zones)) rule;
@@ -73,7 +73,7 @@ module _ (texts : Texts) (zone : TimeZone) (tables : FareTables) (says : fare_te
         posted = none;
       }
 
-  pub page_stands : (zones : ZoneStays) (fares : TablesStay) (ledgers : LedgerStays) (of : ℕ × ℕ) (lines : List Line) (text : List ℕ) → WeekTold zone tables texts.past reader of lines → text ≡ statement_text tables lines → IsPage texts of reader text
+  pub page_stands : (zones : ZoneStays) (fares : EditionsStay) (ledgers : LedgerStays) (of : ℕ × ℕ) (lines : List Line) (text : List ℕ) → WeekTold zone editions texts.past reader of lines → text ≡ statement_text editions lines → IsPage texts of reader text
   page_stands zones fares ledgers of lines text tells is = record {
     machine = past;
     resumes = resumes zones fares ledgers tells.0;

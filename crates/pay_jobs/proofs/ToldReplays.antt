@@ -2,7 +2,7 @@
 use Rattle.std.proofs.Common.{◌≡◌, inl, inr, ℕ, List, Option, None, Result, Ok, Err, OnOk, OnErr, IfErr, refl, sym, subst}
 use Rattle.std.specs.Io.KnownBytes.{Appends}
 use Rattle.jiff.specs.declared.tz.timezone.TimeZone.{TimeZone}
-use Rattle.pay_tables.specs.Words.{FareTables}
+use Rattle.pay_tables.specs.Words.{FareEditions}
 use Rattle.pay_wire.specs.Words.{AppendsFront}
 use Rattle.pay_journal.specs.declared.replaying.ReplayFault.{ReplayFault}
 use Rattle.pay_journal.specs.declared.replaying.ReplayFault.TheVariants as replaying
@@ -43,15 +43,15 @@ unsummed_refused LedgerAlone fares zone texts (inr (of, says, told)) = absurd to
 pub unsummed_memory : (fault : Fault) (fares zone : List ℕ) (texts : List (List ℕ)) → IsWantOfMemory fault → IsNotSummed fares zone texts fault
 unsummed_memory fault fares zone texts h = unsummed_refused fault fares zone texts (inl h)
 
-stopped_by : (why : ReplayFault) (fault : Fault) (number : ℕ) (fares zone_text : List ℕ) (texts : List (List ℕ)) (zone : TimeZone) (tables : FareTables) → IsFaultOf number why fault → Begins fares zone_text None (new_machine zone tables None)
-    → IsStoppedAmong zone tables texts fault → IsNotSummed fares zone_text texts fault
-stopped_by (replaying.Line line why) fault number fares zone_text texts zone tables is begins stopped =
-    subst (λ f. IsStoppedAmong zone tables texts f → IsNotSummed fares zone_text texts f) (sym is) (λ s. (new_machine zone tables None, begins, s)) stopped
-stopped_by replaying.Memory fault number fares zone_text texts zone tables is begins stopped = unsummed_memory fault fares zone_text texts is
+stopped_by : (why : ReplayFault) (fault : Fault) (number : ℕ) (fares zone_text : List ℕ) (texts : List (List ℕ)) (zone : TimeZone) (editions : FareEditions) → IsFaultOf number why fault → Begins fares zone_text None (new_machine zone editions None)
+    → IsStoppedAmong zone editions texts fault → IsNotSummed fares zone_text texts fault
+stopped_by (replaying.Line line why) fault number fares zone_text texts zone editions is begins stopped =
+    subst (λ f. IsStoppedAmong zone editions texts f → IsNotSummed fares zone_text texts f) (sym is) (λ s. (new_machine zone editions None, begins, s)) stopped
+stopped_by replaying.Memory fault number fares zone_text texts zone editions is begins stopped = unsummed_memory fault fares zone_text texts is
 
-pub unsummed_stopped : (fault : Fault) (fares zone_text : List ℕ) (texts : List (List ℕ)) (zone : TimeZone) (tables : FareTables) → Begins fares zone_text None (new_machine zone tables None) → IsStoppedAmong zone tables texts fault
+pub unsummed_stopped : (fault : Fault) (fares zone_text : List ℕ) (texts : List (List ℕ)) (zone : TimeZone) (editions : FareEditions) → Begins fares zone_text None (new_machine zone editions None) → IsStoppedAmong zone editions texts fault
     → IsNotSummed fares zone_text texts fault
-unsummed_stopped fault fares zone_text texts zone tables begins stopped = stopped_by stopped.stops.1.0 fault _ fares zone_text texts zone tables stopped.stops.1.1 begins stopped
+unsummed_stopped fault fares zone_text texts zone editions begins stopped = stopped_by stopped.stops.1.0 fault _ fares zone_text texts zone editions stopped.stops.1.1 begins stopped
 
 -- ---- from the text of a line
 

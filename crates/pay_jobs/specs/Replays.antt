@@ -10,7 +10,7 @@ use Rattle.pay_rules.specs.declared.fix.What.{What}
 use Rattle.pay_rules.specs.declared.fix.What.TheVariants as what
 use Rattle.pay_shard.specs.declared.asked.Asked.{Asked}
 use Rattle.pay_shard.specs.declared.asked.Asked.TheVariants as asked
-use Rattle.pay_tables.specs.Words.{FareTables}
+use Rattle.pay_tables.specs.Words.{FareEditions}
 use Rattle.pay_wire.specs.Words.{AppendsFront}
 use Rattle.pay_session.specs.Words.{line_requests, rest_of}
 use Rattle.pay_journal.specs.declared.replaying.ReplayFault.{ReplayFault}
@@ -109,21 +109,21 @@ IsFaultOf number (replaying.Line line why) fault = fault ≡ JournalLineOf numbe
 IsFaultOf number replaying.Memory fault = IsWantOfMemory fault
 
 -- Why a journal of this number is not accepted after what was: a line of it is refused so, or memory was wanting.
-abbrev pub IsStoppedAt : TimeZone → FareTables → List Request → List ℕ → ℕ → Fault → Type 0
-IsStoppedAt zone tables before text number fault =
-    AreAllPriced (outcome [] (new_machine zone tables None) before).replies × ((why : ReplayFault) × IsFaultOf number why fault × IsNotReplayed (machine_of zone tables before None) (line_requests text) why)
+abbrev pub IsStoppedAt : TimeZone → FareEditions → List Request → List ℕ → ℕ → Fault → Type 0
+IsStoppedAt zone editions before text number fault =
+    AreAllPriced (outcome [] (new_machine zone editions None) before).replies × ((why : ReplayFault) × IsFaultOf number why fault × IsNotReplayed (machine_of zone editions before None) (line_requests text) why)
 
 -- The lines of the journals before one are accepted, and this one is not.
-pub record IsStoppedAmong (zone : TimeZone) (tables : FareTables) (texts : List (List ℕ)) (fault : Fault) : Type 0 where
+pub record IsStoppedAmong (zone : TimeZone) (editions : FareEditions) (texts : List (List ℕ)) (fault : Fault) : Type 0 where
   pub front : List (List ℕ)
   pub text : List ℕ
   pub others : List (List ℕ)
   pub parts : texts ≡ front ++ text ∷ others
-  pub stops : IsStoppedAt zone tables (all_requests front) text (length front + 1) fault
+  pub stops : IsStoppedAt zone editions (all_requests front) text (length front + 1) fault
 
 -- a fare file and a zone are read, and a line of a journal is refused so, where all before it are accepted
 abbrev pub IsNotAcceptedOf : (fares zone : List ℕ) (texts : List (List ℕ)) → Fault → Type 0
-IsNotAcceptedOf fares zone texts fault = (machine : Machine) × Begins fares zone None machine × IsStoppedAmong machine.zone machine.tables texts fault
+IsNotAcceptedOf fares zone texts fault = (machine : Machine) × Begins fares zone None machine × IsStoppedAmong machine.zone machine.editions texts fault
 
 -- why nothing is told
 abbrev pub IsNotSummed : (fares zone : List ℕ) (texts : List (List ℕ)) → Fault → Type 0

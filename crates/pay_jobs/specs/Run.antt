@@ -8,7 +8,7 @@ use Rattle.jiff.specs.Words.{read_whole}
 use Rattle.sqlite.specs.Held.{Held, state}
 use Rattle.sqlite.specs.State.{HasCleanDisk}
 use Rattle.sqlite.specs.Store.{Ghosts}
-use Rattle.pay_tables.specs.Words.{FareTables}
+use Rattle.pay_tables.specs.Words.{FareEditions}
 use Rattle.pay_fare_file.specs.Words.{fare_text, fault_number, fault_name}
 use Rattle.pay_fare_file.specs.declared.fault.FareFileFault.{FareFileFault}
 use Rattle.pay_jobs.specs.Faults.{IsRefusal, IsWantOfMemory}
@@ -30,31 +30,31 @@ use Rattle.pay_session.specs.declared.stop.SessionFault.{SessionFault}
 
 -- A machine that has accepted nothing, with the fare file that the first text says, and the zone of the second, a POSIX rule; and with this ledger, or with none.
 pub record Begins (fares zone : List ℕ) (ledger : Option LedgerParts) (m : Machine) : Type 0 where
-  pub says : fare_text fares ≡ Ok m.tables
+  pub says : fare_text fares ≡ Ok m.editions
   pub rule : IsPosixZone zone (plain_zone m.zone)
   pub new : m.accounts ≡ map.empty
   pub posted : m.ledger ≡ ledger
 
 -- Such a machine which has, besides, what the whole lines of the journal give back.
 pub record Resumes (texts : Texts) (ledger : Option LedgerParts) (m : Machine) : Type 0 where
-  pub says : fare_text texts.fares ≡ Ok m.tables
+  pub says : fare_text texts.fares ≡ Ok m.editions
   pub rule : IsPosixZone texts.zone (plain_zone m.zone)
-  pub gives_back : GivesBack m.zone m.tables (line_requests texts.past) m
+  pub gives_back : GivesBack m.zone m.editions (line_requests texts.past) m
   pub posted : m.ledger ≡ ledger
 
 -- ---- the first step: texts are read
 
 -- a fare file and a zone, by their texts
 pub record AreRead (fares zone : List ℕ) (read : FaresAndZone) : Type 0 where
-  pub says : fare_text fares ≡ Ok (arc_value read.tables)
+  pub says : fare_text fares ≡ Ok (arc_value read.editions)
   pub rule : IsPosixZone zone (plain_zone read.zone)
 
 -- A zone, and a desk that has what the whole lines of the journal give back, with how much of it was taken.
 pub record HasBegun (texts : Texts) (begun : Begun) : Type 0 where
-  pub tables : FareTables
-  pub says : fare_text texts.fares ≡ Ok tables
+  pub editions : FareEditions
+  pub says : fare_text texts.fares ≡ Ok editions
   pub rule : IsPosixZone texts.zone (plain_zone begun.zone)
-  pub replay : IsReplayOf begun.zone tables texts.past begun.desk.shard begun.replayed
+  pub replay : IsReplayOf begun.zone editions texts.past begun.desk.shard begun.replayed
 
 -- a refusal of the fare file, or want of memory
 abbrev pub IsRefused : Fault → List ℕ → Type 0
@@ -62,7 +62,7 @@ IsRefused fault fares = IsWantOfMemory fault ⊎ ((why : FareFileFault) × (fare
 
 -- a fare file that is read, and a zone that is no POSIX rule
 abbrev pub IsBadZone : List ℕ → List ℕ → Type 0
-IsBadZone fares zone = (tables : FareTables) × (fare_text fares ≡ Ok tables) × (read_whole zone ≡ None)
+IsBadZone fares zone = (editions : FareEditions) × (fare_text fares ≡ Ok editions) × (read_whole zone ≡ None)
 
 -- why the two are not read: the fare file, or, if that is read, the zone
 abbrev pub AreNotRead : List ℕ → List ℕ → Fault → Type 0

@@ -22,13 +22,13 @@ pub record IsPage (texts : Texts) (of : ℕ × ℕ) (reader : Option (List ℕ) 
   pub resumes : Resumes texts None machine
   pub lines : List Line
   pub tells : IfSome reader.0 (λ input. TellsWeek machine input reader.1 of.0 of.1 lines)
-  pub says : text ≡ statement_text machine.tables lines
+  pub says : text ≡ statement_text machine.editions lines
 
 -- the week was not told after the journal, by the fare file and in the zone that are read
 pub record WeekBreaks (fault : WeekFault) (texts : Texts) (reader : Option (List ℕ) × Option (List ℕ)) : Type 0 where
   pub machine : Machine
   pub begins : Begins texts.fares texts.zone None machine
-  pub fails : WeekNotTold machine.zone machine.tables texts.past reader fault
+  pub fails : WeekNotTold machine.zone machine.editions texts.past reader fault
 
 -- why there is no page, by the fault: before the input was read, while it was, or for want of memory
 abbrev pub PageFails : Fault → Texts → Option (List ℕ) × Option (List ℕ) → Type 0

@@ -4,7 +4,7 @@ use jiff::tz::TimeZone;
 use pay_book::Book;
 use pay_journal::Replayed;
 use pay_shard::LocalDesk;
-use pay_tables::Tables;
+use pay_tables::Editions;
 use std::sync::Arc;
 
 /// A session that can be held: its zone, and a desk that has what its journal gives back.
@@ -22,7 +22,7 @@ pub struct Begun {
 #[derive(Drop)]
 pub struct FaresAndZone {
     /// The fare file.
-    pub tables: Arc<Tables>,
+    pub editions: Arc<Editions>,
     /// The zone.
     pub zone: TimeZone<'static>,
 }

@@ -1,18 +1,19 @@
 //! The job `check`, by the text of its fare file: all that the program does below the reading of files.
 ghost use Rattle.std.specs.Prelude.{◌≡◌, ◌++◌, ◌∷◌, decimal, IfOk, IfErr, OnOk};
 ghost use Rattle.std.specs.String.{string_bytes};
-ghost use Rattle.pay_jobs.specs.Check.{CheckEnds, CheckFails, IsCounted, counts_line};
+ghost use Rattle.pay_jobs.specs.Check.{CheckEnds, CheckFails, IsCounted, counts_line, editions_words};
 ghost use Rattle.pay_jobs.specs.Run.{IsRefused};
 ghost use Rattle.pay_wire.specs.Words.{IsFlushed, HasFault};
 
 use crate::fault::Fault;
 use crate::output::write_text;
-use pay_fare_file::read_tables;
+use pay_fare_file::read_editions;
 use pay_tables::Counts;
 use pay_wire::KnownWriter;
 use std::alloc::{AllocError, Global};
 
-/// Writes how many of each thing the fare file of a text has, as one line, and flushes the writer.
+/// Writes how many of each thing the fare file of a text has, and how many editions, as one line, and flushes the
+/// writer.
 pub fn check_text<W: KnownWriter>(alloc: Global, fares: &str, writer: &mut W) -> Result<(), Fault>
     ensures ends { OnOk result (CheckEnds fares.now (W.contents writer.old) (W.contents writer.new)) }
     ensures fails { IfErr result (λ fault. CheckFails fault fares.now (W.contents writer.old) (W.contents writer.new)) }
@@ -28,22 +29,33 @@ fn counted(alloc: Global, fares: &str) -> Result<String, Fault>
     ensures counted { IfOk result (λ line. IsCounted fares.now (string_bytes line)) }
     ensures refused { IfErr result (λ fault. IsRefused fault fares.now) }
 {
-    let tables = read_tables(alloc, fares)?;
-    let line = counts_line(alloc, tables.counts())?;
+    let editions = read_editions(alloc, fares)?;
+    let line = counts_line(alloc, editions.own().counts(), editions.items())?;
     Ok(line)
 }
 
 /// The counts as a line, newline included.
-fn counts_line(alloc: Global, counts: Counts) -> Result<String, AllocError>
-    ensures { IfOk result (λ line. string_bytes line ≡ counts_line counts) }
+fn counts_line(alloc: Global, counts: Counts, editions: usize) -> Result<String, AllocError>
+    ensures { IfOk result (λ line. string_bytes line ≡ counts_line counts editions) }
 {
     let mut line = String::new(alloc);
     put(&mut line, "OK places", counts.places)?;
     put(&mut line, " bands", counts.bands)?;
     put(&mut line, " interchanges", counts.interchanges)?;
     put(&mut line, " holidays", counts.holidays)?;
+    put_editions(&mut line, editions)?;
     line.push_str("\n")?;
     Ok(line)
+}
+
+/// Puts how many editions there are at the end of a line, where there are any.
+fn put_editions(line: &mut String, editions: usize) -> Result<(), AllocError>
+    ensures { OnOk result (string_bytes line.new ≡ string_bytes line.old ++ editions_words editions) }
+{
+    if editions == 0 {
+        return Ok(());
+    }
+    put(line, " editions", editions)
 }
 
 /// Puts a name, a space and a number at the end of a line.

@@ -6,7 +6,7 @@ ghost use Rattle.std.specs.Ordering.{nat_cmp};
 ghost use Rattle.std.specs.String.{string_bytes};
 ghost use Rattle.pay_session.specs.Words.{line_requests, rest_of};
 ghost use Rattle.pay_session.specs.declared.request.Request.{Request};
-ghost use Rattle.pay_tables.specs.Words.{FareTables};
+ghost use Rattle.pay_tables.specs.Words.{FareEditions};
 ghost use Rattle.pay_wire.specs.Words.{IsFlushed, HasFault};
 ghost use Rattle.pay_run.specs.Words.{commands_in, HasReplayed, IsReplayedAfter};
 ghost use Rattle.pay_jobs.specs.Replays.{ReplayWritten, ReplayRefused, IsFaultOf, IsStoppedAt, IsStoppedAmong, IsSummed, IsNotSummed, account_of, all_requests, each_once, instant_of, instant_of_what, last_of, list_of, rests, sooner, summary_line, summary_of};
@@ -63,9 +63,9 @@ fn summed(alloc: Global, fares: &str, zone: &str, texts: &[Vec<u8>]) -> Result<S
     ensures summed { IfOk result (λ line. IsSummed fares.now zone.now (each (λ text. text.items) texts.now) (string_bytes line)) }
     ensures fails { IfErr result (IsNotSummed fares.now zone.now (each (λ text. text.items) texts.now)) }
 {
-    let tables = read_fares(alloc, fares)?;
+    let editions = read_fares(alloc, fares)?;
     let zone = read_zone(zone)?;
-    let mut desk = new_desk(alloc, tables);
+    let mut desk = new_desk(alloc, editions);
     let rest = replay_each(&mut desk, &zone, texts)?;
     // What was replayed is what the journal has.
     replayed_lines(&desk);
@@ -83,7 +83,7 @@ fn replay_text(
 ) -> Result<u64, Fault>
     ensures rest { IfOk result (λ rest. rest ≡ length (rest_of text.now)) }
     ensures replayed { OnOk result (IsReplayedAfter zone.now desk.old desk.new (line_requests text.now)) }
-    ensures stopped { IfErr result (λ fault. (tables : FareTables) (before : List Request) → HasReplayed zone.now tables desk.old before → IsStoppedAt zone.now tables before text.now journal fault) }
+    ensures stopped { IfErr result (λ fault. (editions : FareEditions) (before : List Request) → HasReplayed zone.now editions desk.old before → IsStoppedAt zone.now editions before text.now journal fault) }
 {
     match replay_more(desk, zone, text) {
         Ok(replayed) => Ok(text.len() as u64 - replayed.bytes),
@@ -108,8 +108,8 @@ fn replay_each(
     texts: &[Vec<u8>],
 ) -> Result<u128, Fault>
     ensures rest { IfOk result (λ rest. rest ≡ rests (each (λ text. text.items) texts.now)) }
-    ensures replayed { OnOk result ((tables : FareTables) → HasReplayed zone.now tables desk.old [] → HasReplayed zone.now tables desk.new (all_requests (each (λ text. text.items) texts.now))) }
-    ensures stopped { IfErr result (λ fault. (tables : FareTables) → HasReplayed zone.now tables desk.old [] → IsStoppedAmong zone.now tables (each (λ text. text.items) texts.now) fault) }
+    ensures replayed { OnOk result ((editions : FareEditions) → HasReplayed zone.now editions desk.old [] → HasReplayed zone.now editions desk.new (all_requests (each (λ text. text.items) texts.now))) }
+    ensures stopped { IfErr result (λ fault. (editions : FareEditions) → HasReplayed zone.now editions desk.old [] → IsStoppedAmong zone.now editions (each (λ text. text.items) texts.now) fault) }
 {
     let mut rest = 0u128;
     for place in 0..texts.len() {

@@ -17,12 +17,12 @@ use crate::fault::Fault;
 use crate::ledger::take_with;
 use jiff::tz::TimeZone;
 use pay_book::Book;
-use pay_fare_file::read_tables;
+use pay_fare_file::read_editions;
 use pay_journal::{Keeper, Lasting, LineKeeper};
 use pay_ledger::Ledger;
 use pay_run::{Ran, replayed_desk, run_lines, run_lines_without_ledger};
 use pay_session::{Done, KnownReader};
-use pay_tables::Tables;
+use pay_tables::Editions;
 use pay_wire::KnownWriter;
 use sqlite::Alter;
 use std::alloc::{AllocError, Global};
@@ -34,9 +34,9 @@ pub fn begin(alloc: Global, fares: &str, zone: &str, past: &[u8]) -> Result<Begu
     ensures begun { IfOk result (HasBegun (texts fares.now zone.now past.now)) }
     ensures fails { IfErr result (IsNotBegun (texts fares.now zone.now past.now)) }
 {
-    let tables = read_fares(alloc, fares)?;
+    let editions = read_fares(alloc, fares)?;
     let zone = read_zone(zone)?;
-    let begun = replayed_desk(alloc, tables, &zone, past)?;
+    let begun = replayed_desk(alloc, editions, &zone, past)?;
     let (desk, replayed) = begun;
     Ok(Begun {
         zone,
@@ -123,18 +123,18 @@ pub fn begin_service(alloc: Global, fares: &str, zone: &str) -> Result<FaresAndZ
     ensures read { IfOk result (AreRead fares.now zone.now) }
     ensures fails { IfErr result (AreNotRead fares.now zone.now) }
 {
-    let tables = read_fares(alloc, fares)?;
+    let editions = read_fares(alloc, fares)?;
     let zone = read_zone(zone)?;
-    Ok(FaresAndZone { tables, zone })
+    Ok(FaresAndZone { editions, zone })
 }
 
 /// The fare file that a text says.
-pub(crate) fn read_fares(alloc: Global, text: &str) -> Result<Arc<Tables>, Fault>
-    ensures ok { IfOk result (λ tables. fare_text text.now ≡ Ok (arc_value tables)) }
+pub(crate) fn read_fares(alloc: Global, text: &str) -> Result<Arc<Editions>, Fault>
+    ensures ok { IfOk result (λ editions. fare_text text.now ≡ Ok (arc_value editions)) }
     ensures refused { IfErr result (λ fault. IsRefused fault text.now) }
 {
-    let tables = read_tables(alloc, text)?;
-    let shared = Arc::new(alloc, tables).map_err(AllocError::from)?;
+    let editions = read_editions(alloc, text)?;
+    let shared = Arc::new(alloc, editions).map_err(AllocError::from)?;
     Ok(shared)
 }
 

@@ -17,7 +17,7 @@ use pay_rules::Line;
 use pay_run::week_by_lines;
 use pay_session::KnownReader;
 use pay_statement::write_csv;
-use pay_tables::Tables;
+use pay_tables::Editions;
 use pay_wire::KnownWriter;
 use std::alloc::{AllocError, Global};
 use std::sync::Arc;
@@ -63,27 +63,27 @@ fn read_page<R: KnownReader>(
     ensures cause { IfErr result (λ fault. fault ≡ Fault.Input → HasInputFault R.MayAnswer reader.old reader.new) }
 {
     pay_run::laws::all_else_stays();
-    let tables = read_fares(alloc, fares)?;
+    let editions = read_fares(alloc, fares)?;
     let zone = read_zone(zone)?;
-    let shared = share(&tables)?;
+    let shared = share(&editions)?;
     let lines = week_by_lines::<Book, R>(alloc, reader, &zone, shared, past, account, day)?;
-    let page = page_of(alloc, &tables, lines.as_slice())?;
+    let page = page_of(alloc, &editions, lines.as_slice())?;
     Ok(page)
 }
 
-/// The same tables once more.
-fn share(tables: &Arc<Tables>) -> Result<Arc<Tables>, AllocError>
-    ensures { IfOk result (λ shared. arc_value shared ≡ arc_value tables.now) }
+/// The same editions once more.
+fn share(editions: &Arc<Editions>) -> Result<Arc<Editions>, AllocError>
+    ensures { IfOk result (λ shared. arc_value shared ≡ arc_value editions.now) }
 {
-    Arc::clone(tables)
+    Arc::clone(editions)
 }
 
 /// The text of the statement of journeys.
-fn page_of(alloc: Global, tables: &Tables, lines: &[Line]) -> Result<Vec<u8>, AllocError>
-    ensures { IfOk result (λ page. page.items ≡ statement_text tables.now lines.now) }
+fn page_of(alloc: Global, editions: &Editions, lines: &[Line]) -> Result<Vec<u8>, AllocError>
+    ensures { IfOk result (λ page. page.items ≡ statement_text editions.now lines.now) }
 {
     // A vector takes all bytes, as far as there is memory.
-    match write_csv(tables, lines, Vec::new(alloc)) {
+    match write_csv(editions, lines, Vec::new(alloc)) {
         Ok(page) => Ok(page),
         Err(_) => Err(AllocError),
     }

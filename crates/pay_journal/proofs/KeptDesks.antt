@@ -7,7 +7,7 @@ use Rattle.std.proofs.KnownBytes.{Appends-nil, Appends-trans, Appends-kept}
 use Rattle.std.proofs.lemmas.Grind.{flat_map-append}
 use Rattle.std.proofs.lemmas.List.{append-nil}
 use Rattle.pay_rules.specs.InTurn.{IsIn}
-use Rattle.pay_tables.specs.Words.{FareTables}
+use Rattle.pay_tables.specs.Words.{FareEditions}
 use Rattle.pay_rules.specs.State.{State}
 use Rattle.pay_shard.specs.Words.{LocalParts, commands_of, transcript_of, AreInPlace, AreBelow, ShardParts, with_item, with_items, with_room, state_now, replay, new_items, IsHistory, without, IsReplyTo, ReplayGoesOn, NewStandAfter, FrontHasReply}
 use Rattle.pay_shard.specs.declared.asked.Asked.{Asked}
@@ -56,21 +56,21 @@ same_shard stuck seen desk free is = is.is_more ∙ ap (λ (l : List Item). with
 -- ---- a command was taken
 
 -- the lines that were kept, and the next one
-kept_next : (goes : ReplayGoesOn) (new : NewStandAfter) (tables : FareTables) (base : State) (first later journal : List Item) (item : Item) (rest : List ℕ) (held_first held holds : Option (List ℕ))
-    → rest ≡ [] → journal ≡ first ++ later → Appends held_first held (lines_of_items (new_items tables (replay tables base first) later) ++ rest)
-    → Appends held holds (lines_of_items (new_items tables (replay tables base journal) (item ∷ [])))
-    → Appends held_first holds (lines_of_items (new_items tables (replay tables base first) (later ++ item ∷ [])) ++ [])
-kept_next goes new tables base first later journal item rest held_first held holds none is before next =
-    let begun = replay tables base first in
-    let line = lines_of_items (new_items tables (replay tables base journal) (item ∷ [])) in
-    let there : replay tables base journal ≡ replay tables begun later = ap (replay tables base) is ∙ goes tables base first later in
-    let split : lines_of_items (new_items tables begun later) ++ line ≡ lines_of_items (new_items tables begun (later ++ item ∷ [])) =
-    ap (λ (s : State). lines_of_items (new_items tables begun later) ++ lines_of_items (new_items tables s (item ∷ []))) there
-    ∙ sym (flat_map-append (λ (i : Item). line_of i.entry.command) (new_items tables begun later) (new_items tables (replay tables begun later) (item ∷ [])))
-    ∙ ap lines_of_items (sym (new tables begun later (item ∷ []))) in
-    let known : Appends held_first held (lines_of_items (new_items tables begun later)) =
-    subst (Appends held_first held) (ap (λ (l : List ℕ). lines_of_items (new_items tables begun later) ++ l) none ∙ append-nil (lines_of_items (new_items tables begun later))) before in
-    subst (Appends held_first holds) (split ∙ sym (append-nil (lines_of_items (new_items tables begun (later ++ item ∷ []))))) (Appends-trans held_first held holds _ line known next)
+kept_next : (goes : ReplayGoesOn) (new : NewStandAfter) (editions : FareEditions) (base : State) (first later journal : List Item) (item : Item) (rest : List ℕ) (held_first held holds : Option (List ℕ))
+    → rest ≡ [] → journal ≡ first ++ later → Appends held_first held (lines_of_items (new_items editions (replay editions base first) later) ++ rest)
+    → Appends held holds (lines_of_items (new_items editions (replay editions base journal) (item ∷ [])))
+    → Appends held_first holds (lines_of_items (new_items editions (replay editions base first) (later ++ item ∷ [])) ++ [])
+kept_next goes new editions base first later journal item rest held_first held holds none is before next =
+    let begun = replay editions base first in
+    let line = lines_of_items (new_items editions (replay editions base journal) (item ∷ [])) in
+    let there : replay editions base journal ≡ replay editions begun later = ap (replay editions base) is ∙ goes editions base first later in
+    let split : lines_of_items (new_items editions begun later) ++ line ≡ lines_of_items (new_items editions begun (later ++ item ∷ [])) =
+    ap (λ (s : State). lines_of_items (new_items editions begun later) ++ lines_of_items (new_items editions s (item ∷ []))) there
+    ∙ sym (flat_map-append (λ (i : Item). line_of i.entry.command) (new_items editions begun later) (new_items editions (replay editions begun later) (item ∷ [])))
+    ∙ ap lines_of_items (sym (new editions begun later (item ∷ []))) in
+    let known : Appends held_first held (lines_of_items (new_items editions begun later)) =
+    subst (Appends held_first held) (ap (λ (l : List ℕ). lines_of_items (new_items editions begun later) ++ l) none ∙ append-nil (lines_of_items (new_items editions begun later))) before in
+    subst (Appends held_first holds) (split ∙ sym (append-nil (lines_of_items (new_items editions begun (later ++ item ∷ []))))) (Appends-trans held_first held holds _ line known next)
 
 module _ (ticket : ℕ) (command : Asked) (k : KeptParts) (before after : LocalParts) (holds : Option (List ℕ)) (free : k.stuck ≡ false) (seen : IsSeen k.stuck k.seen.shard before)
     (same_waiting : k.seen.waiting ≡ before.waiting) (put : IsPutKept ticket command before after k.holds holds) where
@@ -87,8 +87,8 @@ module _ (ticket : ℕ) (command : Asked) (k : KeptParts) (before after : LocalP
   taken_keeps goes new lines =
       let s = k.seen.shard in
       let none = rest_of_none k.stuck lines.rest free lines.is_rest in
-      let as_before = subst (λ (b : ShardParts). Appends k.holds holds (lines_of_items (new_items b.tables (state_now b) (put.taken.item ∷ [])))) was put.bytes in
-      let next = kept_next goes new s.tables s.base k.first lines.later s.journal put.taken.item lines.rest k.held_first k.holds holds none lines.begins lines.bytes as_before in
+      let as_before = subst (λ (b : ShardParts). Appends k.holds holds (lines_of_items (new_items b.editions (state_now b) (put.taken.item ∷ [])))) was put.bytes in
+      let next = kept_next goes new s.editions s.base k.first lines.later s.journal put.taken.item lines.rest k.held_first k.holds holds none lines.begins lines.bytes as_before in
       subst (λ (b : ShardParts). KeepsLines (record { seen = record { shard = b; waiting = after.waiting }; first = k.first; held_first = k.held_first; holds = holds; stuck = k.stuck })) (sym is_now)
       (record {
         later = lines.later ++ put.taken.item ∷ [];
@@ -188,7 +188,7 @@ module _ {K : Type 0} (HasFailed : K → Type 0) (holds : K → Option (List ℕ
       record { seen = record { shard = shown; waiting = waiting }; first = first.journal; held_first = holds began; holds = holds keeper; stuck = stuck }
 
   pub all_begun : (desk : LocalParts) (began keeper : K) (shown first : ShardParts) → shown ≡ desk.shard → first ≡ desk.shard → began ≡ keeper
-      → desk.shard.number ≡ 0 → AreInPlace 0 desk.shard.journal → IsHistory desk.shard.tables desk.shard.base desk.shard.journal → AreBelow (length desk.shard.journal) desk.waiting
+      → desk.shard.number ≡ 0 → AreInPlace 0 desk.shard.journal → IsHistory desk.shard.editions desk.shard.base desk.shard.journal → AreBelow (length desk.shard.journal) desk.waiting
       → IsKeptDesk (HasFailed keeper) desk (parts_of began keeper first shown desk.waiting false)
   all_begun desk began keeper shown first is_shown is_first same number placed history below =
       subst (λ (b : K). IsKeptDesk (HasFailed keeper) desk (parts_of b keeper first shown desk.waiting false)) (sym same)
@@ -217,7 +217,7 @@ module _ {K : Type 0} (HasFailed : K → Type 0) (holds : K → Option (List ℕ
 
   module _ (began before keeper : K) (first shown : ShardParts) (desk after : LocalParts) (stuck : Bool) (is : IsKeptDesk (HasFailed before) desk (parts_of began before first shown desk.waiting stuck)) (free : stuck ≡ false) where
     pub all_put : ReplayGoesOn → NewStandAfter → (ticket : ℕ) (command : Asked) (now : ShardParts) → IsPutKept ticket command desk after (holds before) (holds keeper) → now ≡ after.shard
-        → after.shard.number ≡ 0 → AreInPlace 0 after.shard.journal → IsHistory after.shard.tables after.shard.base after.shard.journal → AreBelow (length after.shard.journal) after.waiting
+        → after.shard.number ≡ 0 → AreInPlace 0 after.shard.journal → IsHistory after.shard.editions after.shard.base after.shard.journal → AreBelow (length after.shard.journal) after.waiting
         → IsKeptDesk (HasFailed keeper) after (parts_of began keeper first now after.waiting stuck)
     all_put goes new ticket command now put is_now number placed history below =
         subst (λ (s : ShardParts). IsKeptDesk (HasFailed keeper) after (parts_of began keeper first s after.waiting stuck)) (sym is_now)

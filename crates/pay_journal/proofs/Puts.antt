@@ -4,7 +4,7 @@ use Rattle.std.specs.Prelude.{if◌then◌else◌}
 use Rattle.std.specs.Io.KnownBytes.{Appends}
 use Rattle.std.proofs.KnownBytes.{Appends-nil}
 use Rattle.std.proofs.lemmas.List.{append-nil}
-use Rattle.pay_tables.specs.Words.{FareTables}
+use Rattle.pay_tables.specs.Words.{FareEditions}
 use Rattle.pay_wire.specs.Words.{AppendsFront}
 use Rattle.pay_rules.specs.State.{State}
 use Rattle.pay_shard.specs.Words.{LocalParts, commands_of, transcript_of, desk_parts, IsTaken, ShardParts, with_items, with_room, state_now, item_step, is_new, new_items, Standing, with_waiting, without, IsAfterAll, IsNoneOf, NothingIsLost, StandsAsBefore}
@@ -18,23 +18,23 @@ use Rattle.pay_journal.specs.Puts.{is_new_answer, IsPutKept, IsNotPut}
 
 -- ---- the line of one item
 
-lines_of_one : (tables : FareTables) (state : State) (item : Item) → lines_of_items (new_items tables state (item ∷ [])) ≡ line_if (is_new (item_step tables state item).reply) item.entry.command
-lines_of_one tables state item = by (is_new (item_step tables state item).reply)
+lines_of_one : (editions : FareEditions) (state : State) (item : Item) → lines_of_items (new_items editions state (item ∷ [])) ≡ line_if (is_new (item_step editions state item).reply) item.entry.command
+lines_of_one editions state item = by (is_new (item_step editions state item).reply)
   where
     by : (b : Bool) → lines_of_items (if b then item ∷ [] else []) ≡ line_if b item.entry.command
     by true = append-nil (line_of item.entry.command)
     by false = refl
 
 its_line : (ticket : ℕ) (command : Asked) (before after : ShardParts) (taken : IsTaken ticket command before after)
-    → lines_of_items (new_items before.tables (state_now before) (taken.item ∷ [])) ≡ line_if (is_new_answer (transcript_of after ticket)) command
+    → lines_of_items (new_items before.editions (state_now before) (taken.item ∷ [])) ≡ line_if (is_new_answer (transcript_of after ticket)) command
 its_line ticket command before after taken =
-    let new : is_new_answer (transcript_of after ticket) ≡ is_new (item_step before.tables (state_now before) taken.item).reply = ap is_new_answer taken.answered in
-    lines_of_one before.tables (state_now before) taken.item ∙ (λ i. line_if (sym new i) (taken.is_entry i).command)
+    let new : is_new_answer (transcript_of after ticket) ≡ is_new (item_step before.editions (state_now before) taken.item).reply = ap is_new_answer taken.answered in
+    lines_of_one before.editions (state_now before) taken.item ∙ (λ i. line_if (sym new i) (taken.is_entry i).command)
 
 -- ---- a shard with no more
 
 pub with_none : (s : ShardParts) (room : ℕ) → with_items s [] room ≡ with_room s room
-with_none s room = ap (λ (j : List Item). record { number = s.number; tables = s.tables; base = s.base; journal = j; room = room }) (append-nil s.journal)
+with_none s room = ap (λ (j : List Item). record { number = s.number; editions = s.editions; base = s.base; journal = j; room = room }) (append-nil s.journal)
 
 -- ---- what came of a command
 
@@ -49,12 +49,12 @@ module _ (ticket : ℕ) (command : Asked) (before put after : LocalParts) (held 
         taken = taken;
         later = later;
         fresh = fresh;
-        waits = same_waiting ∙ ap (λ (s : Standing (FareTables × State)). s.waiting) waits;
+        waits = same_waiting ∙ ap (λ (s : Standing (FareEditions × State)). s.waiting) waits;
         transcript = transcript;
         bytes = subst (Appends held holds) (sym (its_line ticket command before.shard put.shard taken)) more;
       })
 
-  pub not_kept : (Failed : Type 0) → StandsAsBefore (FareTables × State) → IsTaken ticket command before.shard put.shard → IsNoneOf ticket before.waiting
+  pub not_kept : (Failed : Type 0) → StandsAsBefore (FareEditions × State) → IsTaken ticket command before.shard put.shard → IsNoneOf ticket before.waiting
       → (desk_parts put).standing ≡ with_waiting (before.waiting ++ ticket ∷ []) (desk_parts before).standing
       → after.shard ≡ put.shard → after.waiting ≡ without ticket put.waiting → AppendsFront held holds (line_of command) → Failed
       → IsNotPut Failed NotKept command before after held holds
@@ -65,7 +65,7 @@ module _ (ticket : ℕ) (command : Asked) (before put after : LocalParts) (held 
       (record {
         more = taken.item ∷ [];
         is_more = taken.added;
-        same = dropped ∙ ap (λ (s : Standing (FareTables × State)). s.waiting) as_before;
+        same = dropped ∙ ap (λ (s : Standing (FareEditions × State)). s.waiting) as_before;
         front = front.0;
         bytes = front.1;
         cause = inr (refl, failed);
@@ -77,7 +77,7 @@ pub no_memory : (Failed : Type 0) (fault : DeskFault) (command : Asked) (before 
 no_memory Failed fault command before after held is same stands = record {
   more = [];
   is_more = same ∙ sym (with_none before.shard after.shard.room);
-  same = ap (λ (s : Standing (FareTables × State)). s.waiting) stands;
+  same = ap (λ (s : Standing (FareEditions × State)). s.waiting) stands;
   front = 0;
   bytes = Appends-nil held;
   cause = inl (is, refl, refl);

@@ -2,7 +2,7 @@
 use Rattle.std.specs.Prelude.{◌≡◌, ◌⊎◌, ℕ, Bool, true, false, List, [], ◌++◌, length, take, Option, refl}
 use Rattle.std.specs.Coded.{Coded, code_by, coded×, coded_ℕ, coded_bool, coded_list, coded_option}
 use Rattle.std.specs.Io.KnownBytes.{Appends}
-use Rattle.pay_tables.specs.Words.{FareTables}
+use Rattle.pay_tables.specs.Words.{FareEditions}
 use Rattle.pay_rules.specs.State.{State}
 use Rattle.pay_shard.specs.Words.{LocalParts, local_code, commands_of, transcript_of, AreInPlace, AreBelow, DeskParts, Standing, ShardParts, with_items, replay, new_items, IsHistory}
 use Rattle.pay_shard.specs.contracts.item.Item as item
@@ -31,7 +31,7 @@ kept_code =
 
 -- what such a desk began with: a fare file, accounts, the items of a journal, and what its keeper held
 pub record Beginning : Type 0 where
-  pub tables : FareTables
+  pub editions : FareEditions
   pub base : State
   pub items : List Item
   pub holds : Option (List ℕ)
@@ -43,7 +43,7 @@ CanFail {K = K} HasFailed = (keeper : K) × HasFailed keeper
 -- how such a desk stands
 abbrev pub standing_of : KeptParts → Standing Beginning
 standing_of k = record {
-  origin = record { tables = k.seen.shard.tables; base = k.seen.shard.base; items = k.first; holds = k.held_first };
+  origin = record { editions = k.seen.shard.editions; base = k.seen.shard.base; items = k.first; holds = k.held_first };
   shards = 1;
   waiting = k.seen.waiting;
 }
@@ -60,7 +60,7 @@ kept_parts Fails k = record {
 
 -- of more items of its journal, those that were newly accepted
 abbrev pub new_since : KeptParts → List Item → List Item
-new_since k later = new_items k.seen.shard.tables (replay k.seen.shard.tables k.seen.shard.base k.first) later
+new_since k later = new_items k.seen.shard.editions (replay k.seen.shard.editions k.seen.shard.base k.first) later
 
 -- after the lines that were kept there is nothing; or where the desk is stuck, a front of one line more, which may be all of it
 abbrev pub IsRest : Bool → List ℕ → Type 0
@@ -86,7 +86,7 @@ pub record IsSeen (stuck : Bool) (seen : ShardParts) (desk : LocalParts) : Type 
 pub record IsOwn (seen : ShardParts) : Type 0 where
   pub number : seen.number ≡ 0
   pub in_place : AreInPlace 0 seen.journal
-  pub history : IsHistory seen.tables seen.base seen.journal
+  pub history : IsHistory seen.editions seen.base seen.journal
 
 -- what such a desk keeps: a local desk and a keeper, which has failed if it is stuck
 pub record IsKeptDesk (Failed : Type 0) (desk : LocalParts) (k : KeptParts) : Type 0 where

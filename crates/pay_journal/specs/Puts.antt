@@ -25,7 +25,7 @@ pub record IsPutKept (ticket : ℕ) (command : Asked) (before after : LocalParts
   pub fresh : IsNoneOf ticket before.waiting
   pub waits : after.waiting ≡ before.waiting ++ ticket ∷ []
   pub transcript : NothingIsLost (transcript_of before.shard) (transcript_of after.shard)
-  pub bytes : Appends held holds (lines_of_items (new_items before.shard.tables (state_now before.shard) (taken.item ∷ [])))
+  pub bytes : Appends held holds (lines_of_items (new_items before.shard.editions (state_now before.shard) (taken.item ∷ [])))
 
 -- A command was not taken, for want of memory; or it could not be kept, and stands in the journal or not.
 pub record IsNotPut (Failed : Type 0) (fault : DeskFault) (command : Asked) (before after : LocalParts) (held holds : Option (List ℕ)) : Type 0 where

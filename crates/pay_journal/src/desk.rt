@@ -103,7 +103,7 @@ impl<F: Fares, K: Keeper> KeptDesk<F, K> {
         ensures seen { (more : List Item) × (result.now ≡ with_items self.now.seen.shard more result.now.room) × (self.now.stuck ≡ false → more ≡ []) }
         ensures number { self.now.seen.shard.number ≡ 0 }
         ensures in_place { AreInPlace 0 self.now.seen.shard.journal }
-        ensures history { IsHistory self.now.seen.shard.tables self.now.seen.shard.base self.now.seen.shard.journal }
+        ensures history { IsHistory self.now.seen.shard.editions self.now.seen.shard.base self.now.seen.shard.journal }
         ensures kept { KeepsLines self.now }
     {
         self.desk.shard()

@@ -10,7 +10,7 @@ use Rattle.std.proofs.lemmas.List.FromFn.{length-range_with_len, get_or-range_wi
 use Rattle.std.proofs.lemmas.List.Sorted.{All-permutation, IsPermutation-sym}
 use mathlib.Core.List.{IsPrefix}
 use Rattle.jiff.specs.declared.tz.timezone.TimeZone.{TimeZone}
-use Rattle.pay_tables.specs.Words.{FareTables}
+use Rattle.pay_tables.specs.Words.{FareEditions}
 use Rattle.pay_mailbox.specs.Words.{SenderParts, of}
 use Rattle.pay_wire.specs.Words.{IsSpelled}
 use Rattle.pay_wire.specs.declared.command.SpelledCommand.{SpelledCommand}
@@ -129,17 +129,17 @@ in_journal false items journal i is has = subst (λ l. IsIn l i) is has
 in_journal true items journal i is has = subst (λ l. IsIn l i) (sym is.1) (in_front items (is.0 ∷ []) i has)
 
 -- an answer by prices among those to a lane is to an accepted command
-answered_accepted : (lane shard place : ℕ) (tables : FareTables) (state : State) (items : List Item) (a : Answer)
-    → IsIn (passed_to lane (zip (entries_of items) (answers_from shard place tables state items))) a → is_priced a.reply ≡ true → IsIn (accepted_asked tables state items) a.command
-answered_accepted lane shard place tables state [] a has priced = absurd has
-answered_accepted lane shard place tables state (item ∷ items) a has priced =
-    by (eqb item.entry.lane lane) has (λ there. answered_accepted lane shard (place + 1) tables (item_step tables state item).after items a there priced)
+answered_accepted : (lane shard place : ℕ) (editions : FareEditions) (state : State) (items : List Item) (a : Answer)
+    → IsIn (passed_to lane (zip (entries_of items) (answers_from shard place editions state items))) a → is_priced a.reply ≡ true → IsIn (accepted_asked editions state items) a.command
+answered_accepted lane shard place editions state [] a has priced = absurd has
+answered_accepted lane shard place editions state (item ∷ items) a has priced =
+    by (eqb item.entry.lane lane) has (λ there. answered_accepted lane shard (place + 1) editions (item_step editions state item).after items a there priced)
   where
     first : Answer
-    first = answer_at shard place tables state item
+    first = answer_at shard place editions state item
 
     others : List Asked
-    others = with_prices items (run tables (item_step tables state item).after items).replies
+    others = with_prices items (run editions (item_step editions state item).after items).replies
 
     here : (b : Bool) → b ≡ true → item.entry.command ≡ a.command → IsIn (if b then item.entry.command ∷ others else others) a.command
     here true e same = inl same
@@ -150,32 +150,32 @@ answered_accepted lane shard place tables state (item ∷ items) a has priced =
     beyond false there = there
 
     rest : List Answer
-    rest = passed_to lane (zip (entries_of items) (answers_from shard (place + 1) tables (item_step tables state item).after items))
+    rest = passed_to lane (zip (entries_of items) (answers_from shard (place + 1) editions (item_step editions state item).after items))
 
-    by : (b : Bool) → IsIn (if b then answer_at shard place tables state item ∷ rest else rest) a → (IsIn rest a → IsIn others a.command)
-        → IsIn (if is_priced (item_step tables state item).reply then item.entry.command ∷ others else others) a.command
+    by : (b : Bool) → IsIn (if b then answer_at shard place editions state item ∷ rest else rest) a → (IsIn rest a → IsIn others a.command)
+        → IsIn (if is_priced (item_step editions state item).reply then item.entry.command ∷ others else others) a.command
     by true (inl is) later =
-        here (is_priced (item_step tables state item).reply) (ap (λ (x : Answer). is_priced x.reply) is ∙ priced) (ap (λ (x : Answer). x.command) is)
-    by true (inr there) later = beyond (is_priced (item_step tables state item).reply) (later there)
-    by false there later = beyond (is_priced (item_step tables state item).reply) (later there)
+        here (is_priced (item_step editions state item).reply) (ap (λ (x : Answer). is_priced x.reply) is ∙ priced) (ap (λ (x : Answer). x.command) is)
+    by true (inr there) later = beyond (is_priced (item_step editions state item).reply) (later there)
+    by false there later = beyond (is_priced (item_step editions state item).reply) (later there)
 
 -- ---- workers by their numbers
 
 -- with a fare file, and no accounts
-abbrev IsFresh : FareTables → WorkerParts → Type 0
-IsFresh fares w = (w.shard.tables ≡ fares) × (w.shard.base ≡ empty)
+abbrev IsFresh : FareEditions → WorkerParts → Type 0
+IsFresh fares w = (w.shard.editions ≡ fares) × (w.shard.base ≡ empty)
 
-fresh_all : (fares : FareTables) (office ws : List WorkerParts) → All (λ (w : WorkerParts). w.shard.tables ≡ fares) office → All (λ (w : WorkerParts). w.shard.base ≡ empty) office
+fresh_all : (fares : FareEditions) (office ws : List WorkerParts) → All (λ (w : WorkerParts). w.shard.editions ≡ fares) office → All (λ (w : WorkerParts). w.shard.base ≡ empty) office
     → AllZip IsSameWorker office ws → AllByRecursion (IsFresh fares) ws
-fresh_all fares [] [] tables bases same = tt
-fresh_all fares [] (w ∷ ws) tables bases same = absurd same
-fresh_all fares (v ∷ office) [] tables bases same = absurd same
-fresh_all fares (v ∷ office) (w ∷ ws) tables bases same = (
+fresh_all fares [] [] editions bases same = tt
+fresh_all fares [] (w ∷ ws) editions bases same = absurd same
+fresh_all fares (v ∷ office) [] editions bases same = absurd same
+fresh_all fares (v ∷ office) (w ∷ ws) editions bases same = (
   (
-    same.0.tables ∙ All-head (λ (x : WorkerParts). x.shard.tables ≡ fares) v office tables,
+    same.0.editions ∙ All-head (λ (x : WorkerParts). x.shard.editions ≡ fares) v office editions,
     same.0.base ∙ All-head (λ (x : WorkerParts). x.shard.base ≡ empty) v office bases,
   ),
-  fresh_all fares office ws (All-tail (λ (x : WorkerParts). x.shard.tables ≡ fares) v office tables) (All-tail (λ (x : WorkerParts). x.shard.base ≡ empty) v office bases) same.1,
+  fresh_all fares office ws (All-tail (λ (x : WorkerParts). x.shard.editions ≡ fares) v office editions) (All-tail (λ (x : WorkerParts). x.shard.base ≡ empty) v office bases) same.1,
 )
 
 same_numbers : (ws vs : List WorkerParts) → AllZip IsSameWorker ws vs → shard_numbers vs ≡ shard_numbers ws
@@ -216,7 +216,7 @@ module _ (lanes : List LaneParts) where
       record { worker = found.worker; gate = found.gate; kept = found.kept; is_in = inr found.is_in; number = found.number }
 
   -- gates that are not stuck hold just the lines of what is newly accepted
-  module _ (fares : FareTables) (merged : List (ℕ × Item)) where
+  module _ (fares : FareEditions) (merged : List (ℕ × Item)) where
     none_left : (stuck : Bool) (rest : List ℕ) → stuck ≡ false → IsRest stuck rest → rest ≡ []
     none_left false rest free is = is
     none_left true rest free is = absurd (cc)
@@ -224,7 +224,7 @@ module _ (lanes : List LaneParts) where
     gate_keeps : (w : WorkerParts) (g : GateParts) (shard : ℕ) → HasKept lanes w g → IsFresh fares w → w.shard.number ≡ shard → IsAllOrButLast w.shut (items_of w.shard.number merged) w.shard.journal → g.stuck ≡ false
         → Appends g.held_first g.holds (lines_of_items (of_others (new_of fares merged shard)))
     gate_keeps w g shard kept fresh number merge free =
-        let lines = lines_of_items (of_others (new_items w.shard.tables w.shard.base kept.items)) in
+        let lines = lines_of_items (of_others (new_items w.shard.editions w.shard.base kept.items)) in
         let bare = subst (λ rest. Appends g.held_first g.holds (lines ++ rest)) (none_left g.stuck kept.rest free kept.is_rest) kept.bytes in
         let whole = subst (Appends g.held_first g.holds) (append-nil lines) bare in
         let items = same_items w.shut kept.items (items_of w.shard.number merged) w.shard.journal kept.are merge ∙ ap (λ n. items_of n merged) number in
@@ -373,7 +373,7 @@ module _ (Holds : GateParts → List Passed → Bool → Type 0) (terms : Terms)
   are_numbers = same_numbers left.office ws left.passed.same ∙ left.new.numbers
 
   fresh : AllByRecursion (IsFresh terms.fares) ws
-  fresh = fresh_all terms.fares left.office ws left.new.tables left.new.bases left.passed.same
+  fresh = fresh_all terms.fares left.office ws left.new.editions left.new.bases left.passed.same
 
   is_merge : IsMergeOf merged ws
   is_merge = journals_merge lanes merged ws left.gates left.kept up.kept up.merge
@@ -410,7 +410,7 @@ module _ (Holds : GateParts → List Passed → Bool → Type 0) (terms : Terms)
       let w : WorkerParts = at.worker in
       let first = of_last (IsFirstOf w.shard.number (answered_of w at.kept.items)) left.others lane at.kept.taken in
       let stands = in_whole (of by_shard w.shard.number lane.answers.got) (passed_to lane.number (answered_of w at.kept.items)) a first (chosen_in by_shard w.shard.number lane.answers.got a (sym at.number) has) in
-      let accepted = answered_accepted lane.number w.shard.number 0 w.shard.tables w.shard.base at.kept.items a stands priced in
+      let accepted = answered_accepted lane.number w.shard.number 0 w.shard.editions w.shard.base at.kept.items a stands priced in
       let plain = one_in (IsFresh terms.fares) ws w fresh at.is_in in
       let items = same_items w.shut at.kept.items (items_of a.shard merged) w.shard.journal at.kept.are (its_items a.shard at) in
       (a.shard, subst (λ l. IsIn l a.command) (λ i. accepted_asked (plain.0 i) (plain.1 i) (items i)) accepted)

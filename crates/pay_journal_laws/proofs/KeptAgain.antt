@@ -6,7 +6,7 @@ use Rattle.std.specs.List.{AllByRecursion, flat_map}
 use Rattle.std.proofs.Math.Nat.{mod-lt}
 use Rattle.jiff.specs.declared.tz.timezone.TimeZone.{TimeZone}
 use Rattle.pay_rules.specs.InTurn.{IsIn}
-use Rattle.pay_tables.specs.Words.{FareTables}
+use Rattle.pay_tables.specs.Words.{FareEditions}
 use Rattle.pay_wire.specs.Words.{IsSpelled, spelling_of_command}
 use Rattle.pay_wire.specs.declared.command.SpelledCommand.{SpelledCommand}
 use Rattle.pay_rules.specs.State.{State}
@@ -106,23 +106,23 @@ module _ {X Y : Type 0} where
 abbrev pub HasLine : Asked → Type 0
 HasLine a = (c : SpelledCommand) × (spelled_of a ≡ Some c)
 
-new_has_line : (mark : Bool) (tables : FareTables) (state : State) (a : Asked) → is_new (marked_step mark tables state a).reply ≡ true → HasLine a
-new_has_line true tables state a new = absurd (cc)
-new_has_line false tables state (asked.Tap tap) new = (_, refl)
-new_has_line false tables state (asked.Fix fix) new = (_, refl)
-new_has_line false tables state (asked.Due account day) new = absurd (cc)
-new_has_line false tables state (asked.Show account day) new = absurd (cc)
-new_has_line false tables state (asked.Quotes day shard of) new = absurd (cc)
+new_has_line : (mark : Bool) (editions : FareEditions) (state : State) (a : Asked) → is_new (marked_step mark editions state a).reply ≡ true → HasLine a
+new_has_line true editions state a new = absurd (cc)
+new_has_line false editions state (asked.Tap tap) new = (_, refl)
+new_has_line false editions state (asked.Fix fix) new = (_, refl)
+new_has_line false editions state (asked.Due account day) new = absurd (cc)
+new_has_line false editions state (asked.Show account day) new = absurd (cc)
+new_has_line false editions state (asked.Quotes day shard of) new = absurd (cc)
 
 -- a newly accepted item is one of the items, and has a line
-pub of_new : (tables : FareTables) (state : State) (items : List Item) (i : Item) → IsIn (new_items tables state items) i → IsIn items i × HasLine i.entry.command
-of_new tables state [] i has = absurd has
-of_new tables state (item ∷ items) i has =
-    by (is_new (item_step tables state item).reply) (new_has_line item.refused_memory tables state item.entry.command) has (of_new tables (item_step tables state item).after items i)
+pub of_new : (editions : FareEditions) (state : State) (items : List Item) (i : Item) → IsIn (new_items editions state items) i → IsIn items i × HasLine i.entry.command
+of_new editions state [] i has = absurd has
+of_new editions state (item ∷ items) i has =
+    by (is_new (item_step editions state item).reply) (new_has_line item.refused_memory editions state item.entry.command) has (of_new editions (item_step editions state item).after items i)
   where
     by : (b : Bool) → (b ≡ true → HasLine item.entry.command)
-        → IsIn (if b then item ∷ new_items tables (item_step tables state item).after items else new_items tables (item_step tables state item).after items) i
-        → (IsIn (new_items tables (item_step tables state item).after items) i → IsIn items i × HasLine i.entry.command) → IsIn (item ∷ items) i × HasLine i.entry.command
+        → IsIn (if b then item ∷ new_items editions (item_step editions state item).after items else new_items editions (item_step editions state item).after items) i
+        → (IsIn (new_items editions (item_step editions state item).after items) i → IsIn items i × HasLine i.entry.command) → IsIn (item ∷ items) i × HasLine i.entry.command
     by true line (inl is) later = (inl is, subst (λ (j : Item). HasLine j.entry.command) is (line refl))
     by true line (inr there) later = let it = later there in (inr it.0, it.1)
     by false line there later = let it = later there in (inr it.0, it.1)
@@ -180,7 +180,7 @@ module _ (one : AskedByItsLine) (zone : TimeZone) where
 
 -- ---- what the journals then ask for
 
-module _ (kept_asks : KeptAsksMore) (fares : FareTables) (merged : List (ℕ × Item)) where
+module _ (kept_asks : KeptAsksMore) (fares : FareEditions) (merged : List (ℕ × Item)) where
   -- a line that the gate of a shard has kept asks for this
   abbrev IsKeptBy : ℕ → Request → Type 0
   IsKeptBy shard r = IsIn (line_requests (lines_of_items (of_others (new_of fares merged shard)))) r
@@ -267,7 +267,7 @@ put_is zone r a x puts has = elim (subst (λ (y : Asks). IsIn (put_by y) x) puts
 put_in : (zone : TimeZone) (r : Request) (a : Asked) → Puts zone r a → IsIn (put_by (asks_of zone r)) a
 put_in zone r a puts = subst (λ (y : Asks). IsIn (put_by y) a) (sym puts) (inl refl)
 
-module _ (one : AskedByItsLine) (read : LinesAreReadBack) (more_asked : KeptAsksMore) (repeats : RepeatsAreOfNew) (fares : FareTables) (zone : TimeZone) (merged : List (ℕ × Item)) (gates : List GateParts) (texts : List (List ℕ))
+module _ (one : AskedByItsLine) (read : LinesAreReadBack) (more_asked : KeptAsksMore) (repeats : RepeatsAreOfNew) (fares : FareEditions) (zone : TimeZone) (merged : List (ℕ × Item)) (gates : List GateParts) (texts : List (List ℕ))
     (kept : HaveKept fares zone merged gates texts) where
   others_read : (shard : ℕ) → AreRead zone (of_others (new_of fares merged shard))
   others_read shard = are_read one zone (of_others (new_of fares merged shard)) (λ i has.

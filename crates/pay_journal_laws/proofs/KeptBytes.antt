@@ -20,7 +20,7 @@ use Rattle.pay_session.specs.declared.request.Request.TheVariants as requests
 use Rattle.pay_run.specs.Journals.{is_new, new_requests, cut_after, GivesBack}
 use Rattle.pay_journal_laws.specs.KeptBytes.{BytesGiveBack, AreAllAsked, HoldsMachine, IsCutRun, LinesAskInRange, FrontsAskInRange, KeptBytesGiveBack, WholeBytesGiveBack, CutBytesGiveBack, EndedIsHeld, StoppedReadingIsHeld, StoppedWritingIsHeld}
 use Rattle.pay_run.specs.KeptLines.{lines_of_requests, KeepsNew}
-use Rattle.pay_run.specs.Laws.{KeptGivesBack, CutLeavesFront, ZoneStays, TablesStay}
+use Rattle.pay_run.specs.Laws.{KeptGivesBack, CutLeavesFront, ZoneStays, EditionsStay}
 use Rattle.pay_run.specs.LineRuns.{ComesTo, beside_with}
 use Rattle.pay_run.specs.Machine.{Machine, Failure, step}
 use Rattle.pay_run.specs.Outcomes.{Outcome, outcome}
@@ -156,14 +156,14 @@ all_lines rs of = ap lines_of_requests of.are ∙ lines_of_commands of.commands
 
 -- ---- a machine after requests
 
-module _ (is_cut : IsCutAtNewlines) (reads : LinesAreReadBack) (goes_on : KeptGivesBack) (zone_stays : ZoneStays) (tables_stay : TablesStay) where
+module _ (is_cut : IsCutAtNewlines) (reads : LinesAreReadBack) (goes_on : KeptGivesBack) (zone_stays : ZoneStays) (tables_stay : EditionsStay) where
   -- its zone and its fare file stay
-  own_terms : (m : Machine) (list : List Request) (marks : List (Option Failure)) (kept : List Request) → GivesBack m.zone m.tables kept (outcome marks m list).after
-      → GivesBack (outcome marks m list).after.zone (outcome marks m list).after.tables kept (outcome marks m list).after
+  own_terms : (m : Machine) (list : List Request) (marks : List (Option Failure)) (kept : List Request) → GivesBack m.zone m.editions kept (outcome marks m list).after
+      → GivesBack (outcome marks m list).after.zone (outcome marks m list).after.editions kept (outcome marks m list).after
   own_terms m list marks kept gives =
       let after = (outcome marks m list).after in
       subst (λ t. GivesBack after.zone t kept after) (sym (tables_stay marks m list))
-      (subst (λ z. GivesBack z m.tables kept after) (sym (zone_stays marks m list)) gives)
+      (subst (λ z. GivesBack z m.editions kept after) (sym (zone_stays marks m list)) gives)
 
   -- lines after those that give a machine back, as they are read
   gives_after : (journal more : List ℕ) (m : Machine) (list : List Request) (marks : List (Option Failure)) → BytesGiveBack journal m → rest_of journal ≡ []
@@ -172,7 +172,7 @@ module _ (is_cut : IsCutAtNewlines) (reads : LinesAreReadBack) (goes_on : KeptGi
       let is : line_requests journal ++ new_requests marks m list ≡ line_requests (journal ++ more) =
       ap (λ rs. line_requests journal ++ rs) (sym read) ∙ sym (beyond is_cut journal more whole).0 in
       own_terms m list marks (line_requests (journal ++ more))
-      (subst (λ rs. GivesBack m.zone m.tables rs (outcome marks m list).after) is (goes_on m.zone m.tables (line_requests journal) m list marks gives))
+      (subst (λ rs. GivesBack m.zone m.editions rs (outcome marks m list).after) is (goes_on m.zone m.editions (line_requests journal) m list marks gives))
 
   -- what is newly accepted is read back from its lines, and what stands after them is no line
   new_read : (m : Machine) (list : List Request) (marks : List (Option Failure)) (rest : List ℕ) → AreAllAsked list → has_newline rest ≡ false
@@ -198,7 +198,7 @@ module _ (is_cut : IsCutAtNewlines) (reads : LinesAreReadBack) (goes_on : KeptGi
       let lines = whole_lines is_cut past in
       let whole : rest_of journal ≡ [] = ap rest_of cut ∙ lines.1 in
       let same : line_requests past ≡ line_requests journal = sym (ap line_requests cut ∙ lines.0) in
-      let given : BytesGiveBack journal m = subst (λ rs. GivesBack m.zone m.tables rs m) same gives in
+      let given : BytesGiveBack journal m = subst (λ rs. GivesBack m.zone m.editions rs m) same gives in
       let read = new_read m list marks kept.rest all none in (
         bytes,
         refl,

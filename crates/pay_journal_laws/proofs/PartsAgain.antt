@@ -4,7 +4,7 @@ use Rattle.std.specs.FinMap.{empty}
 use Rattle.std.specs.List.{AllByRecursion}
 use Rattle.std.proofs.lemmas.Grind.{flat_map-append}
 use Rattle.pay_rules.specs.InTurn.{IsIn}
-use Rattle.pay_tables.specs.Words.{FareTables}
+use Rattle.pay_tables.specs.Words.{FareEditions}
 use Rattle.pay_rules.specs.State.{State}
 use Rattle.pay_shard.specs.Words.{item_step, run, AreAllPriced, asked_by, AreUnmarked}
 use Rattle.pay_shard.specs.declared.asked.Asked.{Asked}
@@ -58,9 +58,9 @@ asked_both [] more = refl
 asked_both (i ∷ items) more = ap (λ l. i.entry.command ∷ l) (asked_both items more)
 
 -- the run of the first items is the front of the run
-priced_front : (tables : FareTables) (state : State) (items more : List Item) → AreAllPriced (run tables state (items ++ more)).replies → AreAllPriced (run tables state items).replies
-priced_front tables state [] more all = tt
-priced_front tables state (i ∷ items) more all = (all.0, priced_front tables (item_step tables state i).after items more all.1)
+priced_front : (editions : FareEditions) (state : State) (items more : List Item) → AreAllPriced (run editions state (items ++ more)).replies → AreAllPriced (run editions state items).replies
+priced_front editions state [] more all = tt
+priced_front editions state (i ∷ items) more all = (all.0, priced_front editions (item_step editions state i).after items more all.1)
 
 -- ---- parts
 

@@ -10,7 +10,7 @@ use Rattle.pay_rules.specs.declared.addition.Addition.{Addition}
 use Rattle.pay_rules.specs.declared.addition.Addition.TheVariants.{Added, Repeat}
 use Rattle.pay_rules.specs.declared.addition.AdditionFault.{AdditionFault}
 use Rattle.pay_rules.specs.declared.addition.AdditionFault.TheVariants.{Conflict, Full, Memory}
-use Rattle.pay_tables.specs.Words.{FareTables}
+use Rattle.pay_tables.specs.Words.{FareEditions}
 use Rattle.pay_rules.specs.SameTap.{tap_from_same}
 use Rattle.pay_rules.specs.declared.limits.TheConstants.{MOST_TAPS, MOST_FIXES}
 use Rattle.pay_rules.specs.declared.tap.Tap.{Tap}
@@ -70,9 +70,9 @@ module _ {X : Type 0} (same : X → X → Bool) (most : ℕ) (x : X) where
       by true e = absurd (cc)
       by false e = absurd (cc)
 
-not_again : (tables : FareTables) (accepted : Accepted) (named : Option ℕ) → not (prices_on tables accepted false named).again ≡ true
-not_again tables accepted None = refl
-not_again tables accepted (Some day) = refl
+not_again : (editions : FareEditions) (accepted : Accepted) (named : Option ℕ) → not (prices_on editions accepted false named).again ≡ true
+not_again editions accepted None = refl
+not_again editions accepted (Some day) = refl
 
 -- ---- what stands in the sets of a state
 
@@ -150,52 +150,52 @@ module _ (state : State) (list : List Asked) (known : IsKnownBy state list) wher
   new_fix fix (Err of_fix.FixesFull) new = absurd (cc)
   new_fix fix (Err of_fix.Memory) new = absurd (cc)
 
-  new_known : (mark : Bool) (tables : FareTables) (a : Asked) → is_new (marked_step mark tables state a).reply ≡ true → IsKnownBy (marked_step mark tables state a).after (a ∷ list)
-  new_known true tables a new = absurd (cc)
-  new_known false tables (asked.Tap tap) new = new_tap tap (tap_result tables (accepted_of state tap.account) tap) new
-  new_known false tables (asked.Fix fix) new = new_fix fix (fix_result tables (accepted_of state fix.account) fix) new
-  new_known false tables (asked.Due account day) new = absurd (cc)
-  new_known false tables (asked.Show account day) new = absurd (cc)
-  new_known false tables (asked.Quotes day shard of) new = absurd (cc)
+  new_known : (mark : Bool) (editions : FareEditions) (a : Asked) → is_new (marked_step mark editions state a).reply ≡ true → IsKnownBy (marked_step mark editions state a).after (a ∷ list)
+  new_known true editions a new = absurd (cc)
+  new_known false editions (asked.Tap tap) new = new_tap tap (tap_result editions (accepted_of state tap.account) tap) new
+  new_known false editions (asked.Fix fix) new = new_fix fix (fix_result editions (accepted_of state fix.account) fix) new
+  new_known false editions (asked.Due account day) new = absurd (cc)
+  new_known false editions (asked.Show account day) new = absurd (cc)
+  new_known false editions (asked.Quotes day shard of) new = absurd (cc)
 
   -- ---- and a repeat was known
 
-  tap_was_known : (tables : FareTables) (tap : Tap) (place : Bool) (j : Result Addition AdditionFault) → judged_tap (accepted_of state tap.account).taps tap ≡ j
-      → is_priced (step_tap_result state tap (if place then tap_added tables (accepted_of state tap.account) tap j else Err of_tap.UnknownPlace)).reply ≡ true
-      → is_new (step_tap_result state tap (if place then tap_added tables (accepted_of state tap.account) tap j else Err of_tap.UnknownPlace)).reply ≡ false
+  tap_was_known : (editions : FareEditions) (tap : Tap) (place : Bool) (j : Result Addition AdditionFault) → judged_tap (accepted_of state tap.account).taps tap ≡ j
+      → is_priced (step_tap_result state tap (if place then tap_added editions (accepted_of state tap.account) tap j else Err of_tap.UnknownPlace)).reply ≡ true
+      → is_new (step_tap_result state tap (if place then tap_added editions (accepted_of state tap.account) tap j else Err of_tap.UnknownPlace)).reply ≡ false
       → IsIn list (asked.Tap tap)
-  tap_was_known tables tap true (Ok Added) e priced old = absurd (cc)
-  tap_was_known tables tap true (Ok Repeat) e priced old =
+  tap_was_known editions tap true (Ok Added) e priced old = absurd (cc)
+  tap_was_known editions tap true (Ok Repeat) e priced old =
       let at = is_there same_tap MOST_TAPS tap (get (accepted_of state tap.account).taps (tap_number tap)) (len (accepted_of state tap.account).taps) e in
       subst (λ t. IsIn list (asked.Tap t)) (tap_from_same at.0 tap at.2) (known.taps tap.account (tap_number tap) at.0 at.1)
-  tap_was_known tables tap true (Err Conflict) e priced old = absurd (cc)
-  tap_was_known tables tap true (Err Full) e priced old = absurd (cc)
-  tap_was_known tables tap true (Err Memory) e priced old = absurd (cc)
-  tap_was_known tables tap false j e priced old = absurd (cc)
+  tap_was_known editions tap true (Err Conflict) e priced old = absurd (cc)
+  tap_was_known editions tap true (Err Full) e priced old = absurd (cc)
+  tap_was_known editions tap true (Err Memory) e priced old = absurd (cc)
+  tap_was_known editions tap false j e priced old = absurd (cc)
 
-  fix_was_known : (tables : FareTables) (fix : Fix) (place : Bool) (j : Result Addition AdditionFault) → judged_fix (accepted_of state fix.account).fixes fix ≡ j
-      → is_priced (step_fix_result state fix (if place then fix_added tables (accepted_of state fix.account) fix j else Err of_fix.UnknownPlace)).reply ≡ true
-      → is_new (step_fix_result state fix (if place then fix_added tables (accepted_of state fix.account) fix j else Err of_fix.UnknownPlace)).reply ≡ false
+  fix_was_known : (editions : FareEditions) (fix : Fix) (place : Bool) (j : Result Addition AdditionFault) → judged_fix (accepted_of state fix.account).fixes fix ≡ j
+      → is_priced (step_fix_result state fix (if place then fix_added editions (accepted_of state fix.account) fix j else Err of_fix.UnknownPlace)).reply ≡ true
+      → is_new (step_fix_result state fix (if place then fix_added editions (accepted_of state fix.account) fix j else Err of_fix.UnknownPlace)).reply ≡ false
       → IsIn list (asked.Fix fix)
-  fix_was_known tables fix true (Ok Added) e priced old =
+  fix_was_known editions fix true (Ok Added) e priced old =
       let more = with_fix (accepted_of state fix.account) fix in
-      let new = not_again tables more (day_named more.taps more.fixes fix.what) in
+      let new = not_again editions more (day_named more.taps more.fixes fix.what) in
       absurd (cc)
-  fix_was_known tables fix true (Ok Repeat) e priced old =
+  fix_was_known editions fix true (Ok Repeat) e priced old =
       let at = is_there same_fix MOST_FIXES fix (get (accepted_of state fix.account).fixes (fix_number fix)) (len (accepted_of state fix.account).fixes) e in
       subst (λ f. IsIn list (asked.Fix f)) (same_is_one at.0 fix at.2) (known.fixes fix.account (fix_number fix) at.0 at.1)
-  fix_was_known tables fix true (Err Conflict) e priced old = absurd (cc)
-  fix_was_known tables fix true (Err Full) e priced old = absurd (cc)
-  fix_was_known tables fix true (Err Memory) e priced old = absurd (cc)
-  fix_was_known tables fix false j e priced old = absurd (cc)
+  fix_was_known editions fix true (Err Conflict) e priced old = absurd (cc)
+  fix_was_known editions fix true (Err Full) e priced old = absurd (cc)
+  fix_was_known editions fix true (Err Memory) e priced old = absurd (cc)
+  fix_was_known editions fix false j e priced old = absurd (cc)
 
-  was_known : (mark : Bool) (tables : FareTables) (a : Asked) → is_priced (marked_step mark tables state a).reply ≡ true → is_new (marked_step mark tables state a).reply ≡ false → IsIn list a
-  was_known true tables a priced old = absurd (cc)
-  was_known false tables (asked.Tap tap) priced old = tap_was_known tables tap (is_known tables tap.place tap.kind) (judged_tap (accepted_of state tap.account).taps tap) refl priced old
-  was_known false tables (asked.Fix fix) priced old = fix_was_known tables fix (is_known_fix tables fix.what) (judged_fix (accepted_of state fix.account).fixes fix) refl priced old
-  was_known false tables (asked.Due account day) priced old = absurd (cc)
-  was_known false tables (asked.Show account day) priced old = absurd (cc)
-  was_known false tables (asked.Quotes day shard of) priced old = absurd (cc)
+  was_known : (mark : Bool) (editions : FareEditions) (a : Asked) → is_priced (marked_step mark editions state a).reply ≡ true → is_new (marked_step mark editions state a).reply ≡ false → IsIn list a
+  was_known true editions a priced old = absurd (cc)
+  was_known false editions (asked.Tap tap) priced old = tap_was_known editions tap (is_known editions tap.place tap.kind) (judged_tap (accepted_of state tap.account).taps tap) refl priced old
+  was_known false editions (asked.Fix fix) priced old = fix_was_known editions fix (is_known_fix editions fix.what) (judged_fix (accepted_of state fix.account).fixes fix) refl priced old
+  was_known false editions (asked.Due account day) priced old = absurd (cc)
+  was_known false editions (asked.Show account day) priced old = absurd (cc)
+  was_known false editions (asked.Quotes day shard of) priced old = absurd (cc)
 
 -- ---- a journal
 
@@ -205,32 +205,32 @@ first_or a x others true (inl is) = inl (refl, is)
 first_or a x others true (inr later) = inr later
 first_or a x others false has = inr has
 
-module _ (stays : OthersChangeNothing) (tables : FareTables) where
-  known_or_new : (items : List Item) (state : State) (list : List Asked) → IsKnownBy state list → (a : Asked) → IsIn (accepted_asked tables state items) a
-      → IsIn list a ⊎ IsIn (asked_by (new_items tables state items)) a
+module _ (stays : OthersChangeNothing) (editions : FareEditions) where
+  known_or_new : (items : List Item) (state : State) (list : List Asked) → IsKnownBy state list → (a : Asked) → IsIn (accepted_asked editions state items) a
+      → IsIn list a ⊎ IsIn (asked_by (new_items editions state items)) a
   known_or_new [] state list known a has = absurd has
   known_or_new (item ∷ items) state list known a has =
-      by (is_new (item_step tables state item).reply) refl
-      (first_or item.entry.command a (with_prices items (run tables (item_step tables state item).after items).replies) (is_priced (item_step tables state item).reply) has)
-      (λ l its there. known_or_new items (item_step tables state item).after l its a there)
+      by (is_new (item_step editions state item).reply) refl
+      (first_or item.entry.command a (with_prices items (run editions (item_step editions state item).after items).replies) (is_priced (item_step editions state item).reply) has)
+      (λ l its there. known_or_new items (item_step editions state item).after l its a there)
     where
-      by : (new : Bool) → is_new (item_step tables state item).reply ≡ new
-          → ((is_priced (item_step tables state item).reply ≡ true) × (item.entry.command ≡ a)) ⊎ IsIn (accepted_asked tables (item_step tables state item).after items) a
-          → ((l : List Asked) → IsKnownBy (item_step tables state item).after l → IsIn (accepted_asked tables (item_step tables state item).after items) a
-          → IsIn l a ⊎ IsIn (asked_by (new_items tables (item_step tables state item).after items)) a)
+      by : (new : Bool) → is_new (item_step editions state item).reply ≡ new
+          → ((is_priced (item_step editions state item).reply ≡ true) × (item.entry.command ≡ a)) ⊎ IsIn (accepted_asked editions (item_step editions state item).after items) a
+          → ((l : List Asked) → IsKnownBy (item_step editions state item).after l → IsIn (accepted_asked editions (item_step editions state item).after items) a
+          → IsIn l a ⊎ IsIn (asked_by (new_items editions (item_step editions state item).after items)) a)
           → IsIn list a
-          ⊎ IsIn (asked_by (if new then item ∷ new_items tables (item_step tables state item).after items else new_items tables (item_step tables state item).after items)) a
+          ⊎ IsIn (asked_by (if new then item ∷ new_items editions (item_step editions state item).after items else new_items editions (item_step editions state item).after items)) a
       by true new (inl here) rest = inr (inl here.1)
       by true new (inr later) rest =
-          elim (rest (item.entry.command ∷ list) (new_known state list known item.refused_memory tables item.entry.command new) later) [
+          elim (rest (item.entry.command ∷ list) (new_known state list known item.refused_memory editions item.entry.command new) later) [
             | inl before ↦ elim before [ inl is ↦ inr (inl is) | inr there ↦ inl there ]
             | inr there ↦ inr (inr there)
           ]
-      by false old (inl here) rest = inl (subst (IsIn list) here.1 (was_known state list known item.refused_memory tables item.entry.command here.0 old))
-      by false old (inr later) rest = rest list (subst (λ s. IsKnownBy s list) (sym (stays tables state item old)) known) later
+      by false old (inl here) rest = inl (subst (IsIn list) here.1 (was_known state list known item.refused_memory editions item.entry.command here.0 old))
+      by false old (inr later) rest = rest list (subst (λ s. IsKnownBy s list) (sym (stays editions state item old)) known) later
 
 pub repeats_are_of_new : OthersChangeNothing → RepeatsAreOfNew
-repeats_are_of_new stays tables items a has = elim (known_or_new stays tables items empty [] none_known a has) [
+repeats_are_of_new stays editions items a has = elim (known_or_new stays editions items empty [] none_known a has) [
   | inl none ↦ absurd none
   | inr new ↦ new
 ]

@@ -4,7 +4,7 @@ use Rattle.std.specs.Io.KnownBytes.{Appends}
 use Rattle.std.specs.List.{AllByRecursion}
 use Rattle.jiff.specs.declared.tz.timezone.TimeZone.{TimeZone}
 use Rattle.pay_rules.specs.InTurn.{IsIn}
-use Rattle.pay_tables.specs.Words.{FareTables}
+use Rattle.pay_tables.specs.Words.{FareEditions}
 use Rattle.pay_wire.specs.Words.{IsSpelled}
 use Rattle.pay_wire.specs.declared.command.SpelledCommand.{SpelledCommand}
 use Rattle.pay_shard.specs.Words.{items_of, AreAskedOf}
@@ -30,7 +30,7 @@ texts_then (g ∷ gates) (text ∷ texts) = unwrap_or g.holds [] ∷ texts_then 
 abbrev pub IsMergeOf : List (ℕ × Item) → List WorkerParts → Type 0
 IsMergeOf merged = AllByRecursion (λ (w : WorkerParts). IsAllOrButLast w.shut (items_of w.shard.number merged) w.shard.journal)
 
-module _ (fares : FareTables) (merged : List (ℕ × Item)) where
+module _ (fares : FareEditions) (merged : List (ℕ × Item)) where
   -- The gates of the shards from one on hold, after what they held first, the line of each newly accepted item of theirs, but those of the
   -- spared lane.
   abbrev pub KeepNew : ℕ → List GateParts → Type 0
@@ -39,7 +39,7 @@ module _ (fares : FareTables) (merged : List (ℕ × Item)) where
 
 -- In a zone, these gates have kept after these texts what so many shards newly accepted of a merge. What the texts ask for was answered by prices, and
 -- is all that the spared lane asked anew; and what other lanes asked anew is what a line asks for.
-pub record HaveKept (fares : FareTables) (zone : TimeZone) (merged : List (ℕ × Item)) (gates : List GateParts) (texts : List (List ℕ)) : Type 0 where
+pub record HaveKept (fares : FareEditions) (zone : TimeZone) (merged : List (ℕ × Item)) (gates : List GateParts) (texts : List (List ℕ)) : Type 0 where
   pub some : 1 ≤ length gates
   pub asked : AreAskedOf (length gates) merged
   pub whole : AreWholeOf (map (λ (g : GateParts). g.held_first) gates) texts
@@ -55,7 +55,7 @@ pub record HaveKept (fares : FareTables) (zone : TimeZone) (merged : List (ℕ �
 -- What gates have kept, and the texts that were there, give the accounts of their shards back, whatever order the lines have, and however often
 -- some of them stand there.
 abbrev pub KeptGivesBack : Type 0
-KeptGivesBack = (fares : FareTables) (zone : TimeZone) (merged : List (ℕ × Item)) (gates : List GateParts) (texts later : List (List ℕ))
+KeptGivesBack = (fares : FareEditions) (zone : TimeZone) (merged : List (ℕ × Item)) (gates : List GateParts) (texts later : List (List ℕ))
     → HaveKept fares zone merged gates texts → AskAlike (texts_then gates texts) later → GiveBack fares zone merged later
 
 -- ---- worked rows

@@ -4,7 +4,7 @@ use Rattle.std.specs.Fmt.{digits}
 use Rattle.std.specs.List.{AllByRecursion}
 use Rattle.jiff.specs.declared.tz.timezone.TimeZone.{TimeZone}
 use Rattle.pay_rules.specs.declared.tap.Kind.TheVariants.{Bus}
-use Rattle.pay_tables.specs.Words.{FareTables}
+use Rattle.pay_tables.specs.Words.{FareEditions}
 use Rattle.sqlite.specs.State.{State}
 use Rattle.pay_journal.specs.Words.{KeptParts, IsCutTo}
 use Rattle.pay_postings.specs.Words.{LedgerParts}
@@ -25,7 +25,7 @@ use Rattle.pay_run.specs.Past.{whole_bytes}
 
 -- the whole lines of some bytes give a machine back
 abbrev pub BytesGiveBack : List ℕ → Machine → Type 0
-BytesGiveBack bytes m = GivesBack m.zone m.tables (line_requests bytes) m
+BytesGiveBack bytes m = GivesBack m.zone m.editions (line_requests bytes) m
 
 -- the numbers of each of these requests are in their ranges, as of all that lines ask for
 abbrev pub AreAllAsked : List Request → Type 0
@@ -99,8 +99,8 @@ module _ {L : Type 0} (Has : L → Option LedgerParts → Type 0) (Fails : Type 
 -- ---- worked rows
 
 -- no bytes give back a machine without accounts
-no_bytes : (zone : TimeZone) (tables : FareTables) → BytesGiveBack [] (new_machine zone tables None)
-no_bytes zone tables = record { accepted = tt; machine = refl }
+no_bytes : (zone : TimeZone) (editions : FareEditions) → BytesGiveBack [] (new_machine zone editions None)
+no_bytes zone editions = record { accepted = tt; machine = refl }
 
 -- a tap of account 7, by its sequence number
 abbrev tap_by : ℕ → Request

@@ -6,11 +6,11 @@ ghost use Rattle.pay_shard.specs.Words.{IsForShards};
 
 use pay_book::Book;
 use pay_day::Moment;
-use pay_fare_file::read_tables;
+use pay_fare_file::read_editions;
 use pay_lanes::{OpenGate, Opened, open};
 use pay_rules::{Kind, Tap};
 use pay_shard::{Answer, Asked, Command, Reply};
-use pay_tables::Tables;
+use pay_tables::Editions;
 use std::fmt::Debug;
 use std::process::Abort;
 use std::sync::Arc;
@@ -46,10 +46,10 @@ pub fn expect_same<R: Abort, T: Copy + PartialEq + Debug>(rt: &R, found: T, want
     assert_eq!(rt; found, wanted);
 }
 
-/// The tables of the fare file.
-pub fn one_route<R: Abort + AllocGlobal>(rt: &R) -> Arc<Tables> {
-    let tables = read_tables(rt.alloc(), ONE_ROUTE).expect(rt, "the fare file");
-    Arc::new(rt.alloc(), tables).expect(rt, "memory")
+/// The editions of the fare file.
+pub fn one_route<R: Abort + AllocGlobal>(rt: &R) -> Arc<Editions> {
+    let editions = read_editions(rt.alloc(), ONE_ROUTE).expect(rt, "the fare file");
+    Arc::new(rt.alloc(), editions).expect(rt, "memory")
 }
 
 /// So many gates.

@@ -7,7 +7,7 @@ use pay_book::Book;
 use pay_lanes::{Ended, Gate, Lane, Opened, Turn, Worker, end, laws, open};
 use pay_rules::Fares;
 use pay_shard::{Answer, Entry, Journal, Shard};
-use pay_tables::Tables;
+use pay_tables::Editions;
 use std::alloc::{AllocGlobal, Global};
 use std::process::Abort;
 use std::snapshot::Snapshot;
@@ -202,13 +202,13 @@ fn next_of<'a, R: Abort>(rt: &R, taken: &'a [Answer], next: usize) -> &'a Answer
 // So the answers that two lanes took are those that the run of the journal gives, in its order, and no more.
 fn expect_run<R: Abort + AllocGlobal>(
     rt: &R,
-    tables: Arc<Tables>,
+    editions: Arc<Editions>,
     journal: &Journal,
     first: &[Answer],
     second: &[Answer],
 ) {
     let none: Vec<Book> = Vec::new(rt.alloc());
-    let mut shard = Shard::new(rt.alloc(), 0, tables, none)
+    let mut shard = Shard::new(rt.alloc(), 0, editions, none)
         .ok()
         .expect(rt, "memory");
     let (mut of_first, mut of_second) = (0usize, 0usize);
@@ -231,11 +231,11 @@ where
     R: Threads + Wait + Abort + AllocGlobal + Copy + Send + 'static,
 {
     let alloc = rt.alloc();
-    let tables = one_route(&rt);
-    let same_tables = Arc::try_clone(&tables).expect(&rt, "memory");
+    let editions = one_route(&rt);
+    let same_tables = Arc::try_clone(&editions).expect(&rt, "memory");
     let mut gates = Vec::new(alloc);
     gates.push(Yielding { state }).expect(&rt, "memory");
-    let opened = open::<Book, Yielding>(alloc, tables, 1, 2, gates)
+    let opened = open::<Book, Yielding>(alloc, editions, 1, 2, gates)
         .ok()
         .expect(&rt, "memory");
     let (ended, first, second) = run_all(rt, alloc, opened);

@@ -25,7 +25,7 @@ one_more_answered s t item answer h =
     ap (λ j. zip (entries_of j) (answers_given t)) h.journal
     ∙ (ap (λ a. zip (entries_of (s.journal ++ item ∷ [])) a) h.answers
     ∙ (ap (λ e. zip e (answers_given s ++ answer ∷ [])) (map_push (λ (i : Item). i.entry) s.journal item)
-    ∙ zip_more (entries_of s.journal) (answers_given s) item.entry answer (length-map s.journal (λ (i : Item). i.entry) ∙ sym (answers_length s.number 0 s.tables s.base s.journal))))
+    ∙ zip_more (entries_of s.journal) (answers_given s) item.entry answer (length-map s.journal (λ (i : Item). i.entry) ∙ sym (answers_length s.number 0 s.editions s.base s.journal))))
 
 -- the answers to a lane
 pub passed_alike : (lane : ℕ) (items : List Item) (answers : List Answer) → passed_to lane (zip (entries_of items) answers) ≡ at_lane lane items answers

@@ -8,7 +8,7 @@ use Rattle.std.proofs.Math.Seq.{take-length}
 use Rattle.std.proofs.Math.ListN.{drop_of_length-le}
 use Rattle.std.specs.Option.{option_map}
 use Rattle.std.proofs.lemmas.Option.{slice_get-map, slice_get_within, get_or_from_slice_get}
-use Rattle.pay_tables.specs.Words.{FareTables}
+use Rattle.pay_tables.specs.Words.{FareEditions}
 use Rattle.pay_mailbox.specs.Words.{MailboxParts, SenderParts, ReceiverParts, sender_of, having_made}
 use Rattle.pay_shard.specs.Words.{ShardParts, answers_given}
 use Rattle.pay_shard.specs.declared.item.Entry.{Entry}
@@ -177,11 +177,11 @@ abbrev pub IsReadyFor : List (SenderParts Answer) → ReceiverParts Entry → Ty
 IsReadyFor senders r = IsReady MOST_REQUESTS (length senders) r
 
 -- a new worker, whatever lanes it has
-abbrev pub IsNew : FareTables → WorkerParts → Type 0
+abbrev pub IsNew : FareEditions → WorkerParts → Type 0
 IsNew fares w = IsNewWorker fares (length w.lanes) w
 
 -- workers that are made, and the number and the ways of those that are left
-pub record WorkersLeft (fares : FareTables) (made : List WorkerParts) (number : ℕ) (left all : Ways) : Type 0 where
+pub record WorkersLeft (fares : FareEditions) (made : List WorkerParts) (number : ℕ) (left all : Ways) : Type 0 where
   pub numbers : shard_numbers made ≡ range_with_len 0 number
   pub requests : requests_of made ++ left.1 ≡ all.1
   pub ways : ways_of made ++ left.0 ≡ all.0
@@ -190,7 +190,7 @@ pub record WorkersLeft (fares : FareTables) (made : List WorkerParts) (number : 
   pub ready : AllZip IsReadyFor left.0 left.1
   pub own : AreNewSenders number left.0
 
-pub workers_begin : (fares : FareTables) (made : List WorkerParts) (left all : Ways) → made ≡ [] → left.0 ≡ all.0 → left.1 ≡ all.1 → AllZip IsReadyFor all.0 all.1 → AreNewSenders 0 all.0 → WorkersLeft fares made 0 left all
+pub workers_begin : (fares : FareEditions) (made : List WorkerParts) (left all : Ways) → made ≡ [] → left.0 ≡ all.0 → left.1 ≡ all.1 → AllZip IsReadyFor all.0 all.1 → AreNewSenders 0 all.0 → WorkersLeft fares made 0 left all
 workers_begin fares made left all none lists rs ready own = subst (λ m. WorkersLeft fares m 0 left all) (sym none) (record {
   numbers = refl;
   requests = rs;
@@ -202,13 +202,13 @@ workers_begin fares made left all none lists rs ready own = subst (λ m. Workers
 })
 
 -- the next worker
-pub record IsNext (fares : FareTables) (number : ℕ) (s : List (SenderParts Answer)) (r : ReceiverParts Entry) (w : WorkerParts) : Type 0 where
+pub record IsNext (fares : FareEditions) (number : ℕ) (s : List (SenderParts Answer)) (r : ReceiverParts Entry) (w : WorkerParts) : Type 0 where
   pub its_number : w.shard.number ≡ number
   pub its_requests : w.requests ≡ r
   pub its_lanes : w.lanes ≡ s
   pub its_new : IsNewWorker fares (length s) w
 
-module _ (fares : FareTables) (made : List WorkerParts) (number : ℕ) (all : Ways) where
+module _ (fares : FareEditions) (made : List WorkerParts) (number : ℕ) (all : Ways) where
   workers_first : (s : List (SenderParts Answer)) (lists : List (List (SenderParts Answer))) (r : ReceiverParts Entry) (rs : List (ReceiverParts Entry)) (w : WorkerParts)
       → IsNext fares number s r w → WorkersLeft fares made number (s ∷ lists, r ∷ rs) all → WorkersLeft fares (made ++ w ∷ []) (number + 1) (lists, rs) all
   workers_first s lists r rs w next h = record {
@@ -406,7 +406,7 @@ lanes_numbers number (s ∷ lists) [] same = cc
 lanes_numbers number (s ∷ lists) (r ∷ rs) same = ap (λ l. number ∷ l) (lanes_numbers (number + 1) lists rs (omega (arith, same)))
 
 -- workers over these mailboxes, with ways to the lanes
-pub record AreOver (fares : FareTables) (ws : List WorkerParts) (all : Ways) : Type 0 where
+pub record AreOver (fares : FareEditions) (ws : List WorkerParts) (all : Ways) : Type 0 where
   pub requests : requests_of ws ≡ all.1
   pub ways : ways_of ws ≡ all.0
   pub new : All (IsNew fares) ws
@@ -445,7 +445,7 @@ module _ (shards lanes : ℕ) (rs : List (ReceiverParts Entry)) (qs : List (Rece
       none_sent : (n : ℕ) → All (λ (x : SenderParts Entry). x.sent ≡ []) (senders_after n rs)
       none_sent n = All-map (λ (x : SenderParts Entry). x.sent ≡ []) (λ (r : ReceiverParts Entry). sender_of r.mailbox (r.made + n) []) rs (λ k d lt. refl)
 
-  module _ (fares : FareTables) (ws : List WorkerParts) (over : AreOver fares ws opened_ways) where
+  module _ (fares : FareEditions) (ws : List WorkerParts) (over : AreOver fares ws opened_ways) where
     -- what holds of the ways of each worker
     each_way : (P : List (SenderParts Answer) → Type 0) → All P to_lanes → All (λ (w : WorkerParts). P w.lanes) ws
     each_way P all = all_of_map (λ (w : WorkerParts). w.lanes) P ws (subst (All P) (sym over.ways) all)
@@ -537,6 +537,6 @@ pub lanes_are : (shards lanes : ℕ) (rs : List (ReceiverParts Entry)) (qs now :
     → now ≡ having_made_more shards qs → made ≡ lanes_from 0 lists now → made ≡ opened_lanes shards lanes rs qs
 lanes_are shards lanes rs qs now lists made lists_are is so = so ∙ (ap (λ l. lanes_from 0 l now) lists_are ∙ ap (lanes_from 0 (lists_of rs 0 lanes)) is)
 
-pub workers_are : (fares : FareTables) (shards lanes : ℕ) (rs now : List (ReceiverParts Entry)) (qs : List (ReceiverParts Answer)) (lists : List (List (SenderParts Answer))) (ws : List WorkerParts)
+pub workers_are : (fares : FareEditions) (shards lanes : ℕ) (rs now : List (ReceiverParts Entry)) (qs : List (ReceiverParts Answer)) (lists : List (List (SenderParts Answer))) (ws : List WorkerParts)
     → lists ≡ lists_of qs 0 shards → now ≡ having_made_more lanes rs → requests_of ws ≡ now → ways_of ws ≡ lists → All (IsNew fares) ws → AreOver fares ws (opened_ways shards lanes rs qs)
 workers_are fares shards lanes rs now qs lists ws lists_are is requests ways new = record { requests = requests ∙ is; ways = ways ∙ lists_are; new = new }

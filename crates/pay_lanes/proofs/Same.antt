@@ -14,12 +14,12 @@ pub lane_shards : (l m : LaneParts) → IsSameLane l m → length m.shards ≡ l
 lane_shards l m a = same_length m.shards l.shards a.shards
 
 pub worker_itself : (w : WorkerParts) → IsSameWorker w w
-worker_itself w = record { number = refl; tables = refl; base = refl; requests = refl; back = refl; lanes = refl; began = refl }
+worker_itself w = record { number = refl; editions = refl; base = refl; requests = refl; back = refl; lanes = refl; began = refl }
 
 pub worker_then : (w v u : WorkerParts) → IsSameWorker w v → IsSameWorker v u → IsSameWorker w u
 worker_then w v u a b = record {
   number = b.number ∙ a.number;
-  tables = b.tables ∙ a.tables;
+  editions = b.editions ∙ a.editions;
   base = b.base ∙ a.base;
   requests = b.requests ∙ a.requests;
   back = b.back ∙ a.back;

@@ -3,7 +3,7 @@ use Rattle.std.proofs.Common.{◌≡◌, ℕ, zero, suc, ◌+◌, ◌<◌, eqb, 
 use Rattle.std.proofs.Math.Dec.{eqb-zero-suc, eqb-suc-zero, eqb-suc-suc}
 use Rattle.pay_mailbox.specs.Words.{SenderParts, having_sent}
 use Rattle.pay_shard.specs.Words.{ShardParts, answers_from, answers_given, item_step, with_room}
-use Rattle.pay_tables.specs.Words.{FareTables}
+use Rattle.pay_tables.specs.Words.{FareEditions}
 use Rattle.pay_rules.specs.State.{State}
 use Rattle.pay_shard.specs.declared.item.Item.{Item}
 use Rattle.pay_shard.specs.declared.reply.Answer.{Answer}
@@ -57,9 +57,9 @@ module _ {T : Type 0} where
 
 -- ---- the answers to the items of a lane
 
-pub answers_length : (shard place : ℕ) (tables : FareTables) (state : State) (items : List Item) → length (answers_from shard place tables state items) ≡ length items
-answers_length shard place tables state [] = refl
-answers_length shard place tables state (item ∷ items) = ap suc (answers_length shard (place + 1) tables (item_step tables state item).after items)
+pub answers_length : (shard place : ℕ) (editions : FareEditions) (state : State) (items : List Item) → length (answers_from shard place editions state items) ≡ length items
+answers_length shard place editions state [] = refl
+answers_length shard place editions state (item ∷ items) = ap suc (answers_length shard (place + 1) editions (item_step editions state item).after items)
 
 -- one more item, and the answer to it
 pub at_lane_more : (lane : ℕ) (items : List Item) (answers : List Answer) (item : Item) (answer : Answer) → length answers ≡ length items
@@ -89,7 +89,7 @@ pub answered : (s t : ShardParts) (item : Item) (answer : Answer) (lane : ℕ) �
 answered s t item answer lane h =
     ap (λ j. at_lane lane j (answers_given t)) h.journal
     ∙ (ap (λ a. at_lane lane (s.journal ++ item ∷ []) a) h.answers
-    ∙ at_lane_more lane s.journal (answers_given s) item answer (answers_length s.number 0 s.tables s.base s.journal))
+    ∙ at_lane_more lane s.journal (answers_given s) item answer (answers_length s.number 0 s.editions s.base s.journal))
 
 -- ---- each lane is told
 

@@ -63,7 +63,7 @@ AreJournalsFrom of shard (items ∷ journals) = All (λ (i : Item). IsAskedOf of
 
 -- a journal is marked rightly, from what its shard began with
 abbrev pub IsRight : WorkerParts → Type 0
-IsRight w = IsHistory w.shard.tables w.shard.base w.shard.journal
+IsRight w = IsHistory w.shard.editions w.shard.base w.shard.journal
 
 -- what a lane sent to each shard
 abbrev pub sent_by : LaneParts → List (List Entry)

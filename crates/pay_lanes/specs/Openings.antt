@@ -1,7 +1,7 @@
 -- What is opened.
 use Rattle.std.specs.Prelude.{◌≡◌, ℕ, ◌+◌, ◌<◌, ◌≢◌, ◌⊎◌, List, [], ◌∷◌, All, length, map, false, Option, None, ⊤}
 use Rattle.std.specs.FinMap.{empty}
-use Rattle.pay_tables.specs.Words.{FareTables}
+use Rattle.pay_tables.specs.Words.{FareEditions}
 use Rattle.pay_mailbox.specs.Words.{SenderParts, ReceiverParts, sender_of, receiver_of}
 use Rattle.pay_shard.specs.declared.item.Entry.{Entry}
 use Rattle.pay_shard.specs.declared.reply.Answer.{Answer}
@@ -22,8 +22,8 @@ abbrev pub began_of : List WorkerParts → List (Option (List ℕ))
 began_of workers = map (λ (w : WorkerParts). w.began) workers
 
 -- a worker of so many lanes over a shard without accounts and with an empty journal, by this fare file, which has popped and sent nothing
-pub record IsNewWorker (fares : FareTables) (lane_count : ℕ) (w : WorkerParts) : Type 0 where
-  pub tables : w.shard.tables ≡ fares
+pub record IsNewWorker (fares : FareEditions) (lane_count : ℕ) (w : WorkerParts) : Type 0 where
+  pub editions : w.shard.editions ≡ fares
   pub base : w.shard.base ≡ empty
   pub journal : w.shard.journal ≡ []
   pub popped : w.requests.got ≡ []

@@ -94,7 +94,7 @@ pub record IsSameLane (before after : LaneParts) : Type 0 where
 -- a worker that goes on is the same end of the same queues, over a shard of the same number, fare file and beginning, and its gate began as it did
 pub record IsSameWorker (before after : WorkerParts) : Type 0 where
   pub number : after.shard.number ≡ before.shard.number
-  pub tables : after.shard.tables ≡ before.shard.tables
+  pub editions : after.shard.editions ≡ before.shard.editions
   pub base : after.shard.base ≡ before.shard.base
   pub requests : after.requests.mailbox ≡ before.requests.mailbox
   pub back : after.requests.back ≡ before.requests.back

@@ -17,7 +17,7 @@ use pay_mailbox::{Inbox, Outbox, Senders};
 use pay_rules::Fares;
 use pay_shard::limits::MOST_SHARDS;
 use pay_shard::{Answer, Entry, Shard};
-use pay_tables::Tables;
+use pay_tables::Editions;
 use std::alloc::{AllocError, Global};
 use std::sync::Arc;
 use thiserror::Error;
@@ -125,7 +125,7 @@ fn all_lanes(
 /// The worker of a shard without accounts.
 fn worker<F: Fares, G: Gate>(
     alloc: Global,
-    tables: &Arc<Tables>,
+    editions: &Arc<Editions>,
     number: u8,
     requests: Inbox<Entry, ByLane>,
     lanes: Vec<Outbox<Answer, ByShard>>,
@@ -137,11 +137,11 @@ fn worker<F: Fares, G: Gate>(
     ensures number { IfOk result (λ made. made.shard.number ≡ number) }
     ensures requests { IfOk result (λ made. made.requests ≡ requests) }
     ensures lanes { IfOk result (λ made. made.lanes ≡ lanes.items) }
-    ensures new { IfOk result (IsNewWorker (arc_value tables.now) (length lanes.items)) }
+    ensures new { IfOk result (IsNewWorker (arc_value editions.now) (length lanes.items)) }
     ensures began { IfOk result (λ made. made.began ≡ G.began gate) }
 {
-    let tables = Arc::try_clone(tables)?;
-    let Ok(shard) = Shard::new(alloc, number, tables, Vec::new(alloc)) else {
+    let editions = Arc::try_clone(editions)?;
+    let Ok(shard) = Shard::new(alloc, number, editions, Vec::new(alloc)) else {
         return Err(AllocError);
     };
     let left = Vec::with_capacity(alloc, MOST_REQUESTS)?;
@@ -152,7 +152,7 @@ fn worker<F: Fares, G: Gate>(
 /// A worker for each of these mailboxes, with a list of senders to the lanes.
 fn all_workers<F: Fares, G: Gate>(
     alloc: Global,
-    tables: &Arc<Tables>,
+    editions: &Arc<Editions>,
     requests: Vec<Inbox<Entry, ByLane>>,
     lanes: Vec<Vec<Outbox<Answer, ByShard>>>,
     gates: Vec<G>,
@@ -165,13 +165,13 @@ fn all_workers<F: Fares, G: Gate>(
     ensures numbers { IfOk result (λ made. shard_numbers made.items ≡ range_with_len 0 (length requests.items)) }
     ensures requests { IfOk result (λ made. requests_of made.items ≡ requests.items) }
     ensures lanes { IfOk result (λ made. ways_of made.items ≡ each vec_items lanes.items) }
-    ensures new { IfOk result (λ made. All (λ w. IsNewWorker (arc_value tables.now) (length w.lanes) w) made.items) }
+    ensures new { IfOk result (λ made. All (λ w. IsNewWorker (arc_value editions.now) (length w.lanes) w) made.items) }
     ensures began { IfOk result (λ made. began_of made.items ≡ each G.began gates.items) }
 {
     let mut made = Vec::new(alloc);
     let mut number = 0;
     for ((requests, lanes), gate) in requests.into_iter().zip(lanes).zip(gates) {
-        made.push(worker(alloc, tables, number, requests, lanes, gate)?)?;
+        made.push(worker(alloc, editions, number, requests, lanes, gate)?)?;
         number += 1;
     }
     Ok(made)
@@ -181,7 +181,7 @@ fn all_workers<F: Fares, G: Gate>(
 /// has a gate, which has let nothing pass yet. Where it is refused, the gates are dropped.
 pub fn open<F: Fares, G: Gate>(
     alloc: Global,
-    tables: Arc<Tables>,
+    editions: Arc<Editions>,
     shards: u8,
     lanes: u8,
     gates: Vec<G>,
@@ -189,7 +189,7 @@ pub fn open<F: Fares, G: Gate>(
     requires { All (λ gate. G.Holds gate [] false) gates.items }
     ensures count { (result ≡ Err Count) ↔ IsOutOfCount shards lanes (length gates.items) }
     ensures workers { IfOk result (λ opened. shard_numbers opened.workers.items ≡ range_with_len 0 shards) }
-    ensures new_workers { IfOk result (λ opened. All (IsNewWorker (arc_value tables) lanes) opened.workers.items) }
+    ensures new_workers { IfOk result (λ opened. All (IsNewWorker (arc_value editions) lanes) opened.workers.items) }
     ensures began { IfOk result (λ opened. began_of opened.workers.items ≡ each G.began gates.items) }
     ensures lanes { IfOk result (λ opened. numbers opened.lanes.items ≡ range_with_len 0 lanes) }
     ensures new_lanes { IfOk result (λ opened. All (IsNewLane shards) opened.lanes.items) }
@@ -208,6 +208,6 @@ pub fn open<F: Fares, G: Gate>(
     let to_shards = all_outboxes(alloc, &mut requests, lanes)?;
     let to_lanes = all_outboxes(alloc, &mut answers, shards)?;
     let lanes = all_lanes(alloc, to_shards, answers)?;
-    let workers = all_workers(alloc, &tables, requests, to_lanes, gates)?;
+    let workers = all_workers(alloc, &editions, requests, to_lanes, gates)?;
     Ok(Opened { workers, lanes })
 }

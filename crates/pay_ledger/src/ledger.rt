@@ -19,7 +19,7 @@ use crate::fault::{LedgerFault, OpenFault};
 use crate::lookup::{Archive, archive_of, net_of, of_week, posted_of};
 use crate::opening::prepare;
 use crate::post::post;
-use pay_restore::{Fares, Tables, restored};
+use pay_restore::{Editions, Fares, restored};
 use pay_rules::{Posting, Postings, Quote, Sets};
 use sqlite::{Alter, Connection};
 use std::alloc::Global;
@@ -48,16 +48,16 @@ impl<S: Alter> Model for Ledger<S> {
 /// The accounts of what is archived. No call of the database is made for them, so that no fault is the store's.
 fn accounts_of<F: Fares>(
     alloc: Global,
-    tables: &Tables,
+    editions: &Editions,
     archive: &Archive,
 ) -> Result<Vec<F>, LedgerFault>
-    ensures answer { AreAccountsOf result (restored tables.now archive.now.taps.items archive.now.fixes.items) (λ accounts. each (λ a. (F.account a, F.accepted a)) accounts.items) }
+    ensures answer { AreAccountsOf result (restored editions.now archive.now.taps.items archive.now.fixes.items) (λ accounts. each (λ a. (F.account a, F.accepted a)) accounts.items) }
     ensures own { IfErr result (λ fault. fault ≢ LedgerFault.Store) }
     ensures ascending { IfOk result (λ accounts. IsStrictlySortedBy nat_cmp (each F.account accounts.items)) }
     ensures distinct { IfOk result (λ accounts. IsDistinct (eq_by_cmp nat_cmp) (each F.account accounts.items)) }
-    ensures priced { IfOk result (λ accounts. ArePriced F.account (F.IsPricedBy tables.now) accounts.items) }
+    ensures priced { IfOk result (λ accounts. ArePriced F.account (F.IsPricedBy editions.now) accounts.items) }
 {
-    Ok(restored(alloc, tables, &archive.taps, &archive.fixes)?)
+    Ok(restored(alloc, editions, &archive.taps, &archive.fixes)?)
 }
 
 impl<S: Alter> Ledger<S> {
@@ -135,18 +135,18 @@ impl<S: Alter> Ledger<S> {
     /// The accounts of the archive, one for each account number in it, in ascending order, priced by these tables: each has
     /// accepted just its archived taps and corrections. `BadArchive` where a row has a number out of its range, or where an
     /// account would refuse what it tells.
-    pub fn restore<F: Fares>(&mut self, tables: &Tables) -> Result<Vec<F>, LedgerFault>
-        ensures rows { RestoresRows S.Store self.old self.new result (restored tables.now) (λ accounts. each (λ a. (F.account a, F.accepted a)) accounts.items) }
-        ensures ledger { RestoresLedger S.Store self.old self.new result (restored tables.now) (λ accounts. each (λ a. (F.account a, F.accepted a)) accounts.items) }
+    pub fn restore<F: Fares>(&mut self, editions: &Editions) -> Result<Vec<F>, LedgerFault>
+        ensures rows { RestoresRows S.Store self.old self.new result (restored editions.now) (λ accounts. each (λ a. (F.account a, F.accepted a)) accounts.items) }
+        ensures ledger { RestoresLedger S.Store self.old self.new result (restored editions.now) (λ accounts. each (λ a. (F.account a, F.accepted a)) accounts.items) }
         // So they may be those that a shard begins with.
         ensures ascending { IfOk result (λ accounts. IsStrictlySortedBy nat_cmp (each F.account accounts.items)) }
         ensures distinct { IfOk result (λ accounts. IsDistinct (eq_by_cmp nat_cmp) (each F.account accounts.items)) }
-        ensures priced { IfOk result (λ accounts. ArePriced F.account (F.IsPricedBy tables.now) accounts.items) }
+        ensures priced { IfOk result (λ accounts. ArePriced F.account (F.IsPricedBy editions.now) accounts.items) }
         ensures unchanged { ChangesNothing S.Store self.old self.new }
         ensures survives { LeavesAsBefore S.Store self.old self.new }
     {
         let archive = archive_of(self.alloc, &mut self.conn)?;
-        accounts_of(self.alloc, tables, &archive)
+        accounts_of(self.alloc, editions, &archive)
     }
 
     /// Whether nothing is archived, so that there is no account to restore. The rows of the whole archive are read.

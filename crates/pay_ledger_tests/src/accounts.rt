@@ -6,7 +6,7 @@ use crate::given::{MONDAY, expect_same};
 use pay_account::Account;
 use pay_money::Pence;
 use pay_rules::{Fares, Fix, Priced, Tap, What};
-use pay_tables::Tables;
+use pay_tables::Editions;
 use std::process::Abort;
 
 /// What is new, of the Monday, and comes to this price of the day and of the week.
@@ -20,21 +20,27 @@ fn priced(pence: u64) -> Priced {
 }
 
 /// Sends a tap, and compares the price of the day.
-pub fn expect_price<R: Abort>(rt: &R, account: &mut Account, tables: &Tables, tap: Tap, pence: u64)
+pub fn expect_price<R: Abort>(
+    rt: &R,
+    account: &mut Account,
+    editions: &Editions,
+    tap: Tap,
+    pence: u64,
+)
     ensures { account.new.0 ≡ account.old.0 }
 {
     let tap = Tap {
         account: account.number(),
         ..tap
     };
-    expect_same(rt, account.tap(tables, tap), Ok(priced(pence)));
+    expect_same(rt, account.tap(editions, tap), Ok(priced(pence)));
 }
 
 /// Sends correction 1 by staff 3, which takes a tap out, and compares the price of the day.
 pub fn expect_voided<R: Abort>(
     rt: &R,
     account: &mut Account,
-    tables: &Tables,
+    editions: &Editions,
     tap: (u16, u32),
     pence: u64,
 )
@@ -46,5 +52,5 @@ pub fn expect_voided<R: Abort>(
         seq: 1,
         what: What::Void(tap.0, tap.1),
     };
-    expect_same(rt, account.fix(tables, fix), Ok(priced(pence)));
+    expect_same(rt, account.fix(editions, fix), Ok(priced(pence)));
 }

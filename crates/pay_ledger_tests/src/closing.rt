@@ -192,8 +192,8 @@ where
     R: Threads + Wait + Abort + AllocGlobal + Copy + Send + 'static,
 {
     let gates = gates(&rt, counts, opens_at, looks);
-    let (tables, _) = sample_in_london(&rt);
-    let (office, lanes) = start(rt, rt.alloc(), tables, 2, lanes, gates)
+    let (editions, _) = sample_in_london(&rt);
+    let (office, lanes) = start(rt, rt.alloc(), editions, 2, lanes, gates)
         .ok()
         .expect(&rt, "an office");
     closer_over(rt, office, lanes)
@@ -393,9 +393,9 @@ where
 
 // What the run of a shard's journal gives to each Quotes in it.
 fn batches_of<R: Abort + AllocGlobal>(rt: &R, ended: &Ended<Counting>, number: u8) -> Vec<Batch> {
-    let (tables, _) = sample_in_london(rt);
+    let (editions, _) = sample_in_london(rt);
     let none: Vec<Book> = Vec::new(rt.alloc());
-    let mut shard = Shard::new(rt.alloc(), number, tables, none)
+    let mut shard = Shard::new(rt.alloc(), number, editions, none)
         .ok()
         .expect(rt, "memory");
     let journal = ended

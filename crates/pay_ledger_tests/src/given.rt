@@ -3,9 +3,9 @@
 use crate::sample::SAMPLE_FARES;
 use jiff::tz::TimeZone;
 use pay_day::Moment;
-use pay_fare_file::read_tables;
+use pay_fare_file::read_editions;
 use pay_rules::{Kind, Tap};
-use pay_tables::Tables;
+use pay_tables::Editions;
 use std::fmt::Debug;
 use std::process::Abort;
 use std::sync::Arc;
@@ -43,16 +43,16 @@ pub fn tell<R: AllocGlobal>(rt: &R, bytes: usize) {
     let _ = Vec::<u8>::with_capacity(rt.alloc(), bytes);
 }
 
-/// The tables of the sample fare file.
-pub fn sample<R: Abort + AllocGlobal>(rt: &R) -> Tables {
-    read_tables(rt.alloc(), SAMPLE_FARES).expect(rt, "the sample")
+/// The editions of the sample fare file.
+pub fn sample<R: Abort + AllocGlobal>(rt: &R) -> Editions {
+    read_editions(rt.alloc(), SAMPLE_FARES).expect(rt, "the sample")
 }
 
 /// The same for several, and the clocks of London.
-pub fn sample_in_london<'a, R: Abort + AllocGlobal>(rt: &R) -> (Arc<Tables>, TimeZone<'a>) {
-    let tables = Arc::new(rt.alloc(), sample(rt)).expect(rt, "memory");
+pub fn sample_in_london<'a, R: Abort + AllocGlobal>(rt: &R) -> (Arc<Editions>, TimeZone<'a>) {
+    let editions = Arc::new(rt.alloc(), sample(rt)).expect(rt, "memory");
     let zone = TimeZone::posix("GMT0BST,M3.5.0/1,M10.5.0").expect(rt, "a rule");
-    (tables, zone)
+    (editions, zone)
 }
 
 /// A tap of account 7 by reader 1, at a second of the Monday.

@@ -13,7 +13,7 @@ use pay_ledger::{Ledger, LedgerFault, OpenFault};
 use pay_money::Pence;
 use pay_money::limits::OPERATORS;
 use pay_rules::{Fares, Kind, PostFault, Posting, Quote, Sets};
-use pay_tables::Tables;
+use pay_tables::Editions;
 use sqlite::{Alter, Connection, Error, MemStore, Row};
 use std::alloc::Global;
 use std::process::Abort;
@@ -126,17 +126,17 @@ pub fn expect_posted<R: Abort + AllocGlobal, S: Alter + Drop>(
 }
 
 /// What an account owes through the Monday, and all that it has accepted.
-pub fn owed<R: Abort>(rt: &R, account: &Account, tables: &Tables) -> (Quote, Sets)
+pub fn owed<R: Abort>(rt: &R, account: &Account, editions: &Editions) -> (Quote, Sets)
     requires { 1 ≤ account.now.0 }
 {
-    let quote = account.quote(tables, MONDAY).expect(rt, "memory");
+    let quote = account.quote(editions, MONDAY).expect(rt, "memory");
     (quote, account.sets().expect(rt, "memory"))
 }
 
 /// An account by its number, its version and what it owes through the Monday.
-fn account_told<R: Abort>(rt: &R, account: &Account, tables: &Tables) -> (u32, u32, u64) {
+fn account_told<R: Abort>(rt: &R, account: &Account, editions: &Editions) -> (u32, u32, u64) {
     assert!(rt; 1 <= account.number());
-    let (quote, _) = owed(rt, account, tables);
+    let (quote, _) = owed(rt, account, editions);
     (quote.account(), quote.version(), quote.due().pence())
 }
 
@@ -159,14 +159,14 @@ pub fn expect_by_store<R: Abort + AllocGlobal>(
 fn restored<R: Abort + AllocGlobal, S: Alter + Drop>(
     rt: &R,
     ledger: &mut Ledger<S>,
-    tables: &Tables,
+    editions: &Editions,
 ) -> Vec<Account> {
     tell(rt, MAY_BE_REFUSED);
-    let accounts = match ledger.restore(tables) {
+    let accounts = match ledger.restore(editions) {
         Ok(accounts) => accounts,
         Err(fault) => {
             expect_by_store(rt, fault == LedgerFault::Store, fault == NO_MEMORY, true);
-            ledger.restore(tables).expect(rt, "accounts")
+            ledger.restore(editions).expect(rt, "accounts")
         }
     };
     tell(rt, MAY_NOT_BE);
@@ -177,13 +177,13 @@ fn restored<R: Abort + AllocGlobal, S: Alter + Drop>(
 pub fn expect_restored<R: Abort + AllocGlobal, S: Alter + Drop>(
     rt: &R,
     ledger: &mut Ledger<S>,
-    tables: &Tables,
+    editions: &Editions,
     wanted: &[(u32, u32, u64)],
 ) {
-    let accounts = restored(rt, ledger, tables);
+    let accounts = restored(rt, ledger, editions);
     let mut list = Vec::new(rt.alloc());
     for account in &accounts {
-        let it = account_told(rt, account, tables);
+        let it = account_told(rt, account, editions);
         list.push(it).expect(rt, "memory");
     }
     expect_same(rt, list.as_slice(), wanted);
@@ -218,16 +218,16 @@ tap 7 1 2 1704699000 19730 27000 12 1
 ";
 
 /// A ledger with a journey of account 7, which was quoted at each of its taps.
-fn journey<R: Abort + AllocGlobal>(rt: &R, tables: &Tables) -> Ledger<MemStore> {
+fn journey<R: Abort + AllocGlobal>(rt: &R, editions: &Editions) -> Ledger<MemStore> {
     let mut ledger = empty_ledger(rt);
     let mut account: Account = Fares::new(rt.alloc(), 7);
     let entry = tap_at(rt, 1, 25_200, 10, Kind::In);
-    expect_price(rt, &mut account, tables, entry, 860);
-    let (quote, sets) = owed(rt, &account, tables);
+    expect_price(rt, &mut account, editions, entry, 860);
+    let (quote, sets) = owed(rt, &account, editions);
     expect_posted(rt, &mut ledger, (&[quote], &[sets]), Ok(&[CHARGED]));
     let exit = tap_at(rt, 2, 27_000, 12, Kind::Out);
-    expect_price(rt, &mut account, tables, exit, 340);
-    let (quote, sets) = owed(rt, &account, tables);
+    expect_price(rt, &mut account, editions, exit, 340);
+    let (quote, sets) = owed(rt, &account, editions);
     let batch = ([quote], [sets]);
     expect_posted(rt, &mut ledger, (&batch.0, &batch.1), Ok(&[GIVEN_BACK]));
     expect_posted(rt, &mut ledger, (&batch.0, &batch.1), Ok(&[GIVEN_BACK]));
@@ -236,11 +236,11 @@ fn journey<R: Abort + AllocGlobal>(rt: &R, tables: &Tables) -> Ledger<MemStore> 
 
 #[test]
 fn charges_and_gives_back(rt: HostRuntime) {
-    let tables = sample(&rt);
-    let mut ledger = journey(&rt, &tables);
+    let editions = sample(&rt);
+    let mut ledger = journey(&rt, &editions);
     expect_week(&rt, &mut ledger, &[CHARGED, GIVEN_BACK], 340);
     let mut ledger = expect_rows(&rt, ledger, JOURNEY);
-    expect_restored(&rt, &mut ledger, &tables, &[(7, 2, 340)]);
+    expect_restored(&rt, &mut ledger, &editions, &[(7, 2, 340)]);
 }
 
 /// A quote of an account through the Monday, of which all is operator 1's.
@@ -272,8 +272,8 @@ fn expect_refused<R: Abort + AllocGlobal>(
 // a quote that could be posted.
 #[test]
 fn refuses_and_stays(rt: HostRuntime) {
-    let tables = sample(&rt);
-    let ledger = journey(&rt, &tables);
+    let editions = sample(&rt);
+    let ledger = journey(&rt, &editions);
     let stale = [quoted(&rt, 7, 1, 860)];
     let ledger = expect_refused(&rt, ledger, (&stale, &[]), STALE);
     let other = [quoted(&rt, 7, 2, 341)];
@@ -282,8 +282,8 @@ fn refuses_and_stays(rt: HostRuntime) {
     let ledger = expect_refused(&rt, ledger, (&half, &[]), STALE);
     let mut account: Account = Fares::new(rt.alloc(), 7);
     let elsewhere = tap_at(&rt, 1, 25_200, 11, Kind::In);
-    expect_price(&rt, &mut account, &tables, elsewhere, 860);
-    let (_, sets) = owed(&rt, &account, &tables);
+    expect_price(&rt, &mut account, &editions, elsewhere, 860);
+    let (_, sets) = owed(&rt, &account, &editions);
     let _ = expect_refused(
         &rt,
         ledger,
@@ -335,12 +335,12 @@ fn restores_corrections(rt: HostRuntime) {
 }
 
 /// An account after a boarding, which costs 175.
-fn boarded<R: Abort + AllocGlobal>(rt: &R, tables: &Tables, number: u32) -> Account
+fn boarded<R: Abort + AllocGlobal>(rt: &R, editions: &Editions, number: u32) -> Account
     ensures { result.0 ≡ number }
 {
     let mut account: Account = Fares::new(rt.alloc(), number);
     let bus = tap_at(rt, 1, 25_200, 50, Kind::Bus);
-    expect_price(rt, &mut account, tables, bus, 175);
+    expect_price(rt, &mut account, editions, bus, 175);
     account
 }
 
@@ -349,13 +349,13 @@ fn both_owed<R: Abort>(
     rt: &R,
     eight: &Account,
     seven: &Account,
-    tables: &Tables,
+    editions: &Editions,
 ) -> ([Quote; 2], [Sets; 2])
     requires eight { 1 ≤ eight.now.0 }
     requires seven { 1 ≤ seven.now.0 }
 {
-    let (quote, sets) = owed(rt, eight, tables);
-    let (other_quote, other_sets) = owed(rt, seven, tables);
+    let (quote, sets) = owed(rt, eight, editions);
+    let (other_quote, other_sets) = owed(rt, seven, editions);
     ([quote, other_quote], [sets, other_sets])
 }
 
@@ -390,24 +390,24 @@ fix 8 3 1 0 1 1 0 0 0
 /// A ledger with both boardings, and what is to be posted once that of account 8 was voided.
 fn boardings<R: Abort + AllocGlobal>(
     rt: &R,
-    tables: &Tables,
+    editions: &Editions,
 ) -> (Ledger<MemStore>, ([Quote; 2], [Sets; 2])) {
     let mut ledger = empty_ledger(rt);
-    let (mut eight, seven) = (boarded(rt, tables, 8), boarded(rt, tables, 7));
-    let first = both_owed(rt, &eight, &seven, tables);
+    let (mut eight, seven) = (boarded(rt, editions, 8), boarded(rt, editions, 7));
+    let first = both_owed(rt, &eight, &seven, editions);
     expect_posted(rt, &mut ledger, (&first.0, &first.1), Ok(&BOARDED));
-    expect_voided(rt, &mut eight, tables, (1, 1), 0);
-    let second = both_owed(rt, &eight, &seven, tables);
+    expect_voided(rt, &mut eight, editions, (1, 1), 0);
+    let second = both_owed(rt, &eight, &seven, editions);
     (expect_rows(rt, ledger, BOARDINGS), second)
 }
 
 #[test]
 fn gives_back_what_was_voided(rt: HostRuntime) {
-    let tables = sample(&rt);
-    let (mut ledger, batch) = boardings(&rt, &tables);
+    let editions = sample(&rt);
+    let (mut ledger, batch) = boardings(&rt, &editions);
     expect_posted(&rt, &mut ledger, (&batch.0, &batch.1), Ok(&VOIDED));
     let mut ledger = expect_rows(&rt, ledger, VOIDED_ROWS);
-    expect_restored(&rt, &mut ledger, &tables, &[(7, 1, 175), (8, 2, 0)]);
+    expect_restored(&rt, &mut ledger, &editions, &[(7, 1, 175), (8, 2, 0)]);
 }
 
 /// What comes of a batch under a limit on steps, or where memory may be refused.
@@ -456,8 +456,8 @@ fn post_within<R: Abort + AllocGlobal>(
 
 /// Posts what is due once account 8's boarding was voided, under a limit on steps, or else where memory may be refused. Where that
 /// is refused, all is as before, and it is posted without.
-fn void_within<R: Abort + AllocGlobal>(rt: &R, tables: &Tables, limit: Option<u64>) -> Limited {
-    let (ledger, batch) = boardings(rt, tables);
+fn void_within<R: Abort + AllocGlobal>(rt: &R, editions: &Editions, limit: Option<u64>) -> Limited {
+    let (ledger, batch) = boardings(rt, editions);
     let (ledger, outcome) = post_within(rt, ledger, limit, (&batch.0, &batch.1));
     if outcome != Limited::Posted {
         let mut ledger = expect_rows(rt, ledger, BOARDINGS);
@@ -469,11 +469,11 @@ fn void_within<R: Abort + AllocGlobal>(rt: &R, tables: &Tables, limit: Option<u6
 
 #[test]
 fn posts_all_or_nothing_under_each_limit(rt: HostRuntime) {
-    let tables = sample(&rt);
+    let editions = sample(&rt);
     let mut is_refused = false;
     let mut outcome = Limited::Closed;
     for limit in 1..100 {
-        outcome = void_within(&rt, &tables, Some(limit));
+        outcome = void_within(&rt, &editions, Some(limit));
         if outcome == Limited::Posted {
             break;
         }

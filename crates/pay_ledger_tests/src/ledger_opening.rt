@@ -120,11 +120,11 @@ fn makes_all_tables_or_none_without_memory(rt: HostRuntime) {
 
 /// The entry of account 7 is not posted.
 fn expect_not_posted<R: Abort + AllocGlobal>(rt: &R, ledger: &mut Ledger<MemStore>) {
-    let tables = sample(rt);
+    let editions = sample(rt);
     let mut account: Account = Fares::new(rt.alloc(), 7);
     let entry = tap_at(rt, 1, 25_200, 10, Kind::In);
-    expect_price(rt, &mut account, &tables, entry, 860);
-    let (quote, sets) = owed(rt, &account, &tables);
+    expect_price(rt, &mut account, &editions, entry, 860);
+    let (quote, sets) = owed(rt, &account, &editions);
     expect_posted(rt, ledger, (&[quote], &[sets]), Err(BAD));
 }
 
@@ -134,16 +134,16 @@ const BAD: LedgerFault = LedgerFault::Refused(PostFault::BadArchive);
 /// so all that grows of our own is the list that is read, and only want of memory for that is told.
 fn expect_not_restored<R: Abort + AllocGlobal>(rt: &R, sql: &str) {
     let mut ledger = opened(rt, changed(rt, sql));
-    let tables = sample(rt);
+    let editions = sample(rt);
     tell(rt, MAY_BE_REFUSED);
-    let first: Result<Vec<Account>, LedgerFault> = ledger.restore(&tables);
+    let first: Result<Vec<Account>, LedgerFault> = ledger.restore(&editions);
     tell(rt, MAY_NOT_BE);
     let mut fault = first.err();
     if fault == Some(NO_MEMORY) {
         tell(rt, WAS_REFUSED);
     }
     if fault == Some(NO_MEMORY) || fault == Some(LedgerFault::Store) {
-        let second: Result<Vec<Account>, LedgerFault> = ledger.restore(&tables);
+        let second: Result<Vec<Account>, LedgerFault> = ledger.restore(&editions);
         fault = second.err();
     }
     expect_same(rt, fault, Some(BAD));

@@ -44,8 +44,8 @@ pub fn expect_run<R: Abort + AllocGlobal, S: Alter>(
     answered: u128,
     replies: &str,
 ) {
-    let (tables, _) = sample_in_london(rt);
-    let mut desk: LocalDesk<Book> = LocalDesk::new(rt.alloc(), tables, Vec::new(rt.alloc()))
+    let (editions, _) = sample_in_london(rt);
+    let mut desk: LocalDesk<Book> = LocalDesk::new(rt.alloc(), editions, Vec::new(rt.alloc()))
         .ok()
         .expect(rt, "a desk");
     let mut till = LedgerTill::new(rt.alloc(), ledger);

@@ -2,7 +2,7 @@
 use Rattle.std.proofs.Common.{◌≡◌, suc, Bool, true, false, not, ◌&&◌, List, [], ◌∷◌, ◌++◌, length, get_or, slice_get, Option, Some, None, refl, ap, sym, ◌∙◌, arith}
 use Rattle.std.specs.Option.{is_none}
 use Rattle.std.proofs.lemmas.Bool.{and_parts}
-use Rattle.pay_tables.specs.Words.{FareTables}
+use Rattle.pay_tables.specs.Words.{FareEditions}
 use Rattle.pay_rules.specs.declared.tap.Touch.{Touch}
 use Rattle.pay_rules.specs.Legs.{legs}
 use Rattle.pay_rules.specs.declared.parts.Leg.{Leg}
@@ -17,56 +17,56 @@ none_found None h = refl
 none_found (Some leg) h = cc
 
 -- where a journey starts, the tap before and this one are no leg
-no_leg_ends : (tables : FareTables) (farther nearer : Option Touch) (tap : Touch) (next : Option Touch) → starts_at tables farther nearer tap next ≡ true →
-    leg_between tables nearer (Some tap) ≡ None
-no_leg_ends tables farther nearer tap next h = none_found (leg_between tables nearer (Some tap)) (and_parts _ _ h).0
+no_leg_ends : (editions : FareEditions) (farther nearer : Option Touch) (tap : Touch) (next : Option Touch) → starts_at editions farther nearer tap next ≡ true →
+    leg_between editions nearer (Some tap) ≡ None
+no_leg_ends editions farther nearer tap next h = none_found (leg_between editions nearer (Some tap)) (and_parts _ _ h).0
 
 -- from there on the taps before do not count
-later_alone : (tables : FareTables) (farther nearer : Option Touch) (later : List Touch) → get_or (starts_after tables farther nearer later) 0 true ≡ true →
-    starts_after tables farther nearer later ≡ starts tables later
-later_alone tables farther nearer [] h = refl
-later_alone tables farther nearer (tap ∷ []) h = ap (λ mark. mark ∷ []) h
-later_alone tables farther nearer (tap ∷ next ∷ later) h =
-    let here = leg_between tables (Some tap) (Some next) in
-    let beyond = leg_between tables (Some next) (slice_get later 0) in
-    let rest = starts_after tables (Some tap) (Some next) later in
-    ap (λ mark. mark ∷ starts_after tables nearer (Some tap) (next ∷ later)) h
-    ∙ ap (λ before. true ∷ (is_none here && not (are_linked tables before beyond)) ∷ rest) (no_leg_ends tables farther nearer tap (Some next) h)
+later_alone : (editions : FareEditions) (farther nearer : Option Touch) (later : List Touch) → get_or (starts_after editions farther nearer later) 0 true ≡ true →
+    starts_after editions farther nearer later ≡ starts editions later
+later_alone editions farther nearer [] h = refl
+later_alone editions farther nearer (tap ∷ []) h = ap (λ mark. mark ∷ []) h
+later_alone editions farther nearer (tap ∷ next ∷ later) h =
+    let here = leg_between editions (Some tap) (Some next) in
+    let beyond = leg_between editions (Some next) (slice_get later 0) in
+    let rest = starts_after editions (Some tap) (Some next) later in
+    ap (λ mark. mark ∷ starts_after editions nearer (Some tap) (next ∷ later)) h
+    ∙ ap (λ before. true ∷ (is_none here && not (are_linked editions.own before beyond)) ∷ rest) (no_leg_ends editions farther nearer tap (Some next) h)
 
 -- and to the tap before the one there does not count
-last_alone : (tables : FareTables) (farther nearer : Option Touch) (tap : Touch) (later : List Touch) →
-    get_or (starts_after tables nearer (Some tap) later) 0 true ≡ true → starts_at tables farther nearer tap (slice_get later 0) ≡ starts_at tables farther nearer tap None
-last_alone tables farther nearer tap [] h = refl
-last_alone tables farther nearer tap (next ∷ later) h =
-    ap (λ leg. is_none (leg_between tables nearer (Some tap)) && not (are_linked tables (leg_between tables farther nearer) leg))
-    (no_leg_ends tables nearer (Some tap) next (slice_get later 0) h)
+last_alone : (editions : FareEditions) (farther nearer : Option Touch) (tap : Touch) (later : List Touch) →
+    get_or (starts_after editions nearer (Some tap) later) 0 true ≡ true → starts_at editions farther nearer tap (slice_get later 0) ≡ starts_at editions farther nearer tap None
+last_alone editions farther nearer tap [] h = refl
+last_alone editions farther nearer tap (next ∷ later) h =
+    ap (λ leg. is_none (leg_between editions nearer (Some tap)) && not (are_linked editions.own (leg_between editions farther nearer) leg))
+    (no_leg_ends editions nearer (Some tap) next (slice_get later 0) h)
 
-marks_cut_after : (tables : FareTables) (farther nearer : Option Touch) (earlier later : List Touch) →
-    get_or (starts_after tables farther nearer (earlier ++ later)) (length earlier) true ≡ true →
-    starts_after tables farther nearer (earlier ++ later) ≡ starts_after tables farther nearer earlier ++ starts tables later
-marks_cut_after tables farther nearer [] later h = later_alone tables farther nearer later h
-marks_cut_after tables farther nearer (tap ∷ []) later h =
-    ap (λ mark. mark ∷ starts_after tables nearer (Some tap) later) (last_alone tables farther nearer tap later h)
-    ∙ ap (λ marks. starts_at tables farther nearer tap None ∷ marks) (later_alone tables nearer (Some tap) later h)
-marks_cut_after tables farther nearer (tap ∷ next ∷ earlier) later h =
-    ap (λ marks. starts_at tables farther nearer tap (Some next) ∷ marks) (marks_cut_after tables nearer (Some tap) (next ∷ earlier) later h)
+marks_cut_after : (editions : FareEditions) (farther nearer : Option Touch) (earlier later : List Touch) →
+    get_or (starts_after editions farther nearer (earlier ++ later)) (length earlier) true ≡ true →
+    starts_after editions farther nearer (earlier ++ later) ≡ starts_after editions farther nearer earlier ++ starts editions later
+marks_cut_after editions farther nearer [] later h = later_alone editions farther nearer later h
+marks_cut_after editions farther nearer (tap ∷ []) later h =
+    ap (λ mark. mark ∷ starts_after editions nearer (Some tap) later) (last_alone editions farther nearer tap later h)
+    ∙ ap (λ marks. starts_at editions farther nearer tap None ∷ marks) (later_alone editions nearer (Some tap) later h)
+marks_cut_after editions farther nearer (tap ∷ next ∷ earlier) later h =
+    ap (λ marks. starts_at editions farther nearer tap (Some next) ∷ marks) (marks_cut_after editions nearer (Some tap) (next ∷ earlier) later h)
 
 pub marks_cut : MarksAreCut
-marks_cut tables earlier later apart = marks_cut_after tables None None earlier later apart
+marks_cut editions earlier later apart = marks_cut_after editions None None earlier later apart
 
 -- ---- journeys
 
-as_many : (tables : FareTables) (farther nearer : Option Touch) (taps : List Touch) → length (starts_after tables farther nearer taps) ≡ length taps
-as_many tables farther nearer [] = refl
-as_many tables farther nearer (tap ∷ later) = ap suc (as_many tables nearer (Some tap) later)
+as_many : (editions : FareEditions) (farther nearer : Option Touch) (taps : List Touch) → length (starts_after editions farther nearer taps) ≡ length taps
+as_many editions farther nearer [] = refl
+as_many editions farther nearer (tap ∷ later) = ap suc (as_many editions nearer (Some tap) later)
 
 pub as_many_marks : AsManyMarksAsTaps
-as_many_marks tables taps = as_many tables None None taps
+as_many_marks editions taps = as_many editions None None taps
 
 -- the first of all taps starts a journey
-none_before : (tables : FareTables) (taps : List Touch) → until_start (starts tables taps) taps ≡ []
-none_before tables [] = refl
-none_before tables (tap ∷ later) = refl
+none_before : (editions : FareEditions) (taps : List Touch) → until_start (starts editions taps) taps ≡ []
+none_before editions [] = refl
+none_before editions (tap ∷ later) = refl
 
 until_cut : (marks others : List Bool) (taps more : List Touch) → length marks ≡ length taps → until_start others more ≡ [] →
     until_start (marks ++ others) (taps ++ more) ≡ until_start marks taps
@@ -88,8 +88,8 @@ by_marks_cut (true ∷ marks) others (tap ∷ taps) more l none =
 by_marks_cut (false ∷ marks) others (tap ∷ taps) more l none = by_marks_cut marks others taps more (omega arith) none
 
 pub journeys_cut : JourneysAreKeptAsMarks → JourneysAreCut
-journeys_cut kept tables earlier later apart =
-    sym (kept tables (earlier ++ later)) ∙ ap (λ marks. journeys_by_marks marks (earlier ++ later)) (marks_cut tables earlier later apart)
-    ∙ by_marks_cut (starts tables earlier) (starts tables later) earlier later (as_many tables None None earlier) (none_before tables later)
-    ∙ ap (λ list. list ++ journeys_by_marks (starts tables later) later) (kept tables earlier)
-    ∙ ap (λ list. journeys tables (legs tables earlier) ++ list) (kept tables later)
+journeys_cut kept editions earlier later apart =
+    sym (kept editions (earlier ++ later)) ∙ ap (λ marks. journeys_by_marks marks (earlier ++ later)) (marks_cut editions earlier later apart)
+    ∙ by_marks_cut (starts editions earlier) (starts editions later) earlier later (as_many editions None None earlier) (none_before editions later)
+    ∙ ap (λ list. list ++ journeys_by_marks (starts editions later) later) (kept editions earlier)
+    ∙ ap (λ list. journeys editions.own (legs editions earlier) ++ list) (kept editions later)

@@ -3,7 +3,7 @@ use Rattle.std.proofs.Common.{◌≡◌, Bool, true, false, List, [], ◌∷◌,
 use Rattle.std.specs.List.{AllByRecursion}
 use Rattle.std.proofs.lemmas.List.{append-nil}
 use Rattle.std.proofs.lemmas.List.Elements.{recursion_from_All}
-use Rattle.pay_tables.specs.Words.{FareTables}
+use Rattle.pay_tables.specs.Words.{FareEditions, FareTables}
 use Rattle.pay_rules.specs.declared.tap.Touch.{Touch}
 use Rattle.pay_rules.specs.Legs.{legs, taps_of}
 use Rattle.pay_rules.specs.declared.parts.Leg.{Leg}
@@ -36,10 +36,10 @@ taps_of_parts tables (journey.Bus tap pays ∷ later) are = absurd are.0
 each_is_journey : (tables : FareTables) (parts : List RailPart) → AllByRecursion (IsJourney tables) (journeys tables parts)
 each_is_journey tables parts = recursion_from_All (IsJourney tables) (journeys tables parts) (journeys_are tables parts).each
 
-pub each_tap : ((tables : FareTables) (taps : List Touch) → taps_of (legs tables taps) ≡ taps) → JourneysHaveEachTap
-each_tap parted tables taps =
-    taps_of_parts tables (journeys tables (legs tables taps)) (each_is_journey tables (legs tables taps))
-    ∙ ap taps_of (journeys_are tables (legs tables taps)).all ∙ parted tables taps
+pub each_tap : ((editions : FareEditions) (taps : List Touch) → taps_of (legs editions taps) ≡ taps) → JourneysHaveEachTap
+each_tap parted editions taps =
+    taps_of_parts editions.own (journeys editions.own (legs editions taps)) (each_is_journey editions.own (legs editions taps))
+    ∙ ap taps_of (journeys_are editions.own (legs editions taps)).all ∙ parted editions taps
 
 -- ---- read back
 
@@ -97,8 +97,8 @@ read_back tables (journey.Lone tap ∷ later) are = first_back tap [] later ∙ 
 read_back tables (journey.Bus tap pays ∷ later) are = absurd are.0
 
 pub kept_as_marks : StartsAreLocal → JourneysHaveEachTap → JourneysAreKeptAsMarks
-kept_as_marks local each tables taps =
-    let list = journeys tables (legs tables taps) in
-    ap (λ marks. journeys_by_marks marks taps) (local tables taps)
-    ∙ ap (journeys_by_marks (start_marks list)) (sym (each tables taps))
-    ∙ read_back tables list (each_is_journey tables (legs tables taps))
+kept_as_marks local each editions taps =
+    let list = journeys editions.own (legs editions taps) in
+    ap (λ marks. journeys_by_marks marks taps) (local editions taps)
+    ∙ ap (journeys_by_marks (start_marks list)) (sym (each editions taps))
+    ∙ read_back editions.own list (each_is_journey editions.own (legs editions taps))

@@ -1,6 +1,6 @@
 -- The marks that the taps next to each one decide are the marks of the journeys.
 use Rattle.std.proofs.Common.{◌≡◌, Bool, true, false, not, List, [], ◌∷◌, ◌++◌, append_assoc, slice_get, if◌then◌else◌, Option, Some, None, flat_map, refl, ap, sym, ◌∙◌}
-use Rattle.pay_tables.specs.Words.{FareTables}
+use Rattle.pay_tables.specs.Words.{FareEditions, FareTables}
 use Rattle.pay_rules.specs.declared.tap.Touch.{Touch}
 use Rattle.pay_rules.specs.Legs.{is_leg, legs}
 use Rattle.pay_rules.specs.declared.parts.Leg.{Leg}
@@ -21,8 +21,8 @@ marks_of_parts tables before (part.Lone tap ∷ parts) = true ∷ marks_of_parts
 marks_of_parts tables before (part.Leg leg ∷ parts) = not (are_linked tables before (Some leg)) ∷ false ∷ marks_of_parts tables (Some leg) parts
 
 -- no tap that ends a leg begins one
-abbrev pub OneLegEach : FareTables → Type 0
-OneLegEach tables = (entry exit next : Touch) → is_leg tables entry exit ≡ true → is_leg tables exit next ≡ false
+abbrev pub OneLegEach : FareEditions → Type 0
+OneLegEach editions = (entry exit next : Touch) → is_leg editions entry exit ≡ true → is_leg editions exit next ≡ false
 
 -- ---- of taps and their parts
 
@@ -31,44 +31,44 @@ linked_with_none tables None = refl
 linked_with_none tables (Some leg) = refl
 
 -- a journey starts at a tap that is in no leg
-starts_alone : (tables : FareTables) (farther nearer : Option Touch) (tap : Touch) (next : Option Touch) →
-    leg_between tables nearer (Some tap) ≡ None → leg_between tables (Some tap) next ≡ None → starts_at tables farther nearer tap next ≡ true
-starts_alone tables farther nearer tap next a b =
-    let none = linked_with_none tables (leg_between tables farther nearer) in rw (a, b, none) refl
+starts_alone : (editions : FareEditions) (farther nearer : Option Touch) (tap : Touch) (next : Option Touch) →
+    leg_between editions nearer (Some tap) ≡ None → leg_between editions (Some tap) next ≡ None → starts_at editions farther nearer tap next ≡ true
+starts_alone editions farther nearer tap next a b =
+    let none = linked_with_none editions.own (leg_between editions farther nearer) in rw (a, b, none) refl
 
 -- after a leg no leg begins with its exit
-exit_is_apart : (tables : FareTables) → OneLegEach tables → (entry exit : Touch) (later : List Touch) → is_leg tables entry exit ≡ true →
-    leg_between tables (Some exit) (slice_get later 0) ≡ None
-exit_is_apart tables one entry exit [] h = refl
-exit_is_apart tables one entry exit (next ∷ later) h = rw (one entry exit next h) refl
+exit_is_apart : (editions : FareEditions) → OneLegEach editions → (entry exit : Touch) (later : List Touch) → is_leg editions entry exit ≡ true →
+    leg_between editions (Some exit) (slice_get later 0) ≡ None
+exit_is_apart editions one entry exit [] h = refl
+exit_is_apart editions one entry exit (next ∷ later) h = rw (one entry exit next h) refl
 
 -- the marks of two taps more, by whether they are a leg
-by_first_two : (tables : FareTables) (farther nearer : Option Touch) (tap next : Touch) (later : List Touch) (together : Bool) → is_leg tables tap next ≡ together →
-    leg_between tables nearer (Some tap) ≡ None →
-    (is_leg tables tap next ≡ true → starts_after tables (Some tap) (Some next) later ≡ marks_of_parts tables (leg_between tables (Some tap) (Some next)) (legs tables later)) →
-    (is_leg tables tap next ≡ false → starts_after tables nearer (Some tap) (next ∷ later) ≡ marks_of_parts tables (leg_between tables nearer (Some tap)) (legs tables (next ∷ later))) →
-    starts_after tables farther nearer (tap ∷ next ∷ later)
-    ≡ marks_of_parts tables (leg_between tables farther nearer) (if together then part.Leg (leg_of tap next) ∷ legs tables later else part.Lone tap ∷ legs tables (next ∷ later))
-by_first_two tables farther nearer tap next later true h apart both one =
-    let first : starts_at tables farther nearer tap (Some next) ≡ not (are_linked tables (leg_between tables farther nearer) (Some (leg_of tap next))) = rw (apart, h) refl in
-    let second : starts_at tables nearer (Some tap) next (slice_get later 0) ≡ false = rw h refl in
-    let rest : starts_after tables (Some tap) (Some next) later ≡ marks_of_parts tables (Some (leg_of tap next)) (legs tables later) = rw h at (both h) in
+by_first_two : (editions : FareEditions) (farther nearer : Option Touch) (tap next : Touch) (later : List Touch) (together : Bool) → is_leg editions tap next ≡ together →
+    leg_between editions nearer (Some tap) ≡ None →
+    (is_leg editions tap next ≡ true → starts_after editions (Some tap) (Some next) later ≡ marks_of_parts editions.own (leg_between editions (Some tap) (Some next)) (legs editions later)) →
+    (is_leg editions tap next ≡ false → starts_after editions nearer (Some tap) (next ∷ later) ≡ marks_of_parts editions.own (leg_between editions nearer (Some tap)) (legs editions (next ∷ later))) →
+    starts_after editions farther nearer (tap ∷ next ∷ later)
+    ≡ marks_of_parts editions.own (leg_between editions farther nearer) (if together then part.Leg (leg_of tap next) ∷ legs editions later else part.Lone tap ∷ legs editions (next ∷ later))
+by_first_two editions farther nearer tap next later true h apart both one =
+    let first : starts_at editions farther nearer tap (Some next) ≡ not (are_linked editions.own (leg_between editions farther nearer) (Some (leg_of tap next))) = rw (apart, h) refl in
+    let second : starts_at editions nearer (Some tap) next (slice_get later 0) ≡ false = rw h refl in
+    let rest : starts_after editions (Some tap) (Some next) later ≡ marks_of_parts editions.own (Some (leg_of tap next)) (legs editions later) = rw h at (both h) in
     cc
-by_first_two tables farther nearer tap next later false h apart both one =
-    let none : leg_between tables (Some tap) (Some next) ≡ None = rw h refl in
-    let first : starts_at tables farther nearer tap (Some next) ≡ true = starts_alone tables farther nearer tap (Some next) apart none in
-    let rest : starts_after tables nearer (Some tap) (next ∷ later) ≡ marks_of_parts tables None (legs tables (next ∷ later)) =
-    one h ∙ ap (λ before. marks_of_parts tables before (legs tables (next ∷ later))) apart in
+by_first_two editions farther nearer tap next later false h apart both one =
+    let none : leg_between editions (Some tap) (Some next) ≡ None = rw h refl in
+    let first : starts_at editions farther nearer tap (Some next) ≡ true = starts_alone editions farther nearer tap (Some next) apart none in
+    let rest : starts_after editions nearer (Some tap) (next ∷ later) ≡ marks_of_parts editions.own None (legs editions (next ∷ later)) =
+    one h ∙ ap (λ before. marks_of_parts editions.own before (legs editions (next ∷ later))) apart in
     cc
 
-marks_of_taps : (tables : FareTables) → OneLegEach tables → (farther nearer : Option Touch) (taps : List Touch) → leg_between tables nearer (slice_get taps 0) ≡ None →
-    starts_after tables farther nearer taps ≡ marks_of_parts tables (leg_between tables farther nearer) (legs tables taps)
-marks_of_taps tables each farther nearer [] apart = refl
-marks_of_taps tables each farther nearer (tap ∷ []) apart = ap (λ mark. mark ∷ []) (starts_alone tables farther nearer tap None apart refl)
-marks_of_taps tables each farther nearer (tap ∷ next ∷ later) apart =
-    by_first_two tables farther nearer tap next later (is_leg tables tap next) refl apart
-    (λ h. marks_of_taps tables each (Some tap) (Some next) later (exit_is_apart tables each tap next later h))
-    (λ h. marks_of_taps tables each nearer (Some tap) (next ∷ later) (rw h refl))
+marks_of_taps : (editions : FareEditions) → OneLegEach editions → (farther nearer : Option Touch) (taps : List Touch) → leg_between editions nearer (slice_get taps 0) ≡ None →
+    starts_after editions farther nearer taps ≡ marks_of_parts editions.own (leg_between editions farther nearer) (legs editions taps)
+marks_of_taps editions each farther nearer [] apart = refl
+marks_of_taps editions each farther nearer (tap ∷ []) apart = ap (λ mark. mark ∷ []) (starts_alone editions farther nearer tap None apart refl)
+marks_of_taps editions each farther nearer (tap ∷ next ∷ later) apart =
+    by_first_two editions farther nearer tap next later (is_leg editions tap next) refl apart
+    (λ h. marks_of_taps editions each (Some tap) (Some next) later (exit_is_apart editions each tap next later h))
+    (λ h. marks_of_taps editions each nearer (Some tap) (next ∷ later) (rw h refl))
 
 -- ---- of parts and their journeys
 
@@ -144,6 +144,6 @@ marks_with tables (Some run) (part.Leg leg ∷ parts) =
     leg_after tables run leg parts (is_same leg) (is_linked tables (last_leg run) leg) refl refl
     (marks_with tables None parts) (marks_with tables (Some (alone leg)) parts) (marks_with tables (Some (joined run (alone leg))) parts)
 
-pub starts_are_local : ((tables : FareTables) → OneLegEach tables) → StartsAreLocal
-starts_are_local each tables taps =
-    marks_of_taps tables (each tables) None None taps refl ∙ sym (marks_with tables None (legs tables taps))
+pub starts_are_local : ((editions : FareEditions) → OneLegEach editions) → StartsAreLocal
+starts_are_local each editions taps =
+    marks_of_taps editions (each editions) None None taps refl ∙ sym (marks_with editions.own None (legs editions taps))

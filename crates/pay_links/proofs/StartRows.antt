@@ -2,7 +2,7 @@
 use Rattle.std.proofs.Common.{◌≡◌, ℕ, ◌+◌, true, false, List, [], ◌∷◌, Some, refl}
 use Rattle.std.specs.Cmp.{nat_cmp_total}
 use Rattle.std.specs.FinMap.{from_entries, get-from_entries}
-use Rattle.pay_tables.specs.Words.{FareTables}
+use Rattle.pay_tables.specs.Words.{FareEditions, FareTables}
 use Rattle.pay_tables.specs.declared.place.Place.{Place}
 use Rattle.pay_rules.specs.declared.tap.Touch.{Touch}
 use Rattle.pay_tables.specs.declared.place.Place.TheVariants.{Station}
@@ -16,8 +16,8 @@ abbrev stations : List (ℕ × Place)
 stations = (10, Station 1 1 1) ∷ (11, Station 1 2 1) ∷ (12, Station 2 2 2) ∷ (13, Station 2 3 2) ∷ (14, Station 3 3 3) ∷ []
 
 -- 90, 100 and 110 minutes in one, two and three zones, 30 minutes at one station, and between 10 and 12 a journey may go on for 20
-abbrev sample : FareTables
-sample = record {
+abbrev tables : FareTables
+tables = record {
   zones = 3;
   minutes = 90 ∷ 100 ∷ 110 ∷ [];
   rules = record { bus = 175; maximum = 860; hopper = 3_600; same_free = 120; same_limit = 1_800 };
@@ -27,6 +27,9 @@ sample = record {
   places = from_entries stations;
   interchanges = record { a = 10; b = 12; seconds = 1_200 } ∷ [];
 }
+
+abbrev sample : FareEditions
+sample = record { own = tables; items = [] }
 
 -- taps so many seconds after 07:00 on 2024-01-08
 abbrev entry : ℕ → ℕ → Touch

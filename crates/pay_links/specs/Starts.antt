@@ -2,7 +2,7 @@
 use Rattle.std.specs.Prelude.{◌≡◌, ◌&&◌, not, Bool, true, false, if◌then◌else◌, List, [], ◌∷◌, ◌++◌, map, length, get_or, slice_get, Option, Some, None}
 use Rattle.std.specs.List.{flat_map}
 use Rattle.std.specs.Option.{is_none}
-use Rattle.pay_tables.specs.Words.{FareTables}
+use Rattle.pay_tables.specs.Words.{FareEditions, FareTables}
 use Rattle.pay_rules.specs.declared.tap.Touch.{Touch}
 use Rattle.pay_rules.specs.Legs.{is_leg}
 use Rattle.pay_rules.specs.declared.parts.Leg.{Leg}
@@ -18,10 +18,10 @@ abbrev pub leg_of : Touch → Touch → Leg
 leg_of entry exit = record { entry = entry; exit = exit }
 
 -- the leg of a tap and the next one, where there are both and they are one
-abbrev pub leg_between : FareTables → Option Touch → Option Touch → Option Leg
-leg_between tables None next = None
-leg_between tables (Some tap) None = None
-leg_between tables (Some tap) (Some next) = if is_leg tables tap next then Some (leg_of tap next) else None
+abbrev pub leg_between : FareEditions → Option Touch → Option Touch → Option Leg
+leg_between editions None next = None
+leg_between editions (Some tap) None = None
+leg_between editions (Some tap) (Some next) = if is_leg editions tap next then Some (leg_of tap next) else None
 
 -- whether there are a leg and one right after it, and the one is linked with the other
 abbrev pub are_linked : FareTables → Option Leg → Option Leg → Bool
@@ -31,22 +31,22 @@ are_linked tables (Some leg) (Some next) = is_linked tables leg next
 
 -- Whether a journey starts at a rail tap, by the two taps before it, the farther first, and the next one.
 -- None does where a leg ends, nor where a leg begins with which the leg right before it is linked; everywhere else one does.
-abbrev pub starts_at : FareTables → Option Touch → Option Touch → Touch → Option Touch → Bool
-starts_at tables farther nearer tap next =
-    is_none (leg_between tables nearer (Some tap)) && not (are_linked tables (leg_between tables farther nearer) (leg_between tables (Some tap) next))
+abbrev pub starts_at : FareEditions → Option Touch → Option Touch → Touch → Option Touch → Bool
+starts_at editions farther nearer tap next =
+    is_none (leg_between editions nearer (Some tap)) && not (are_linked editions.own (leg_between editions farther nearer) (leg_between editions (Some tap) next))
 
 -- the marks of rail taps in order, after two others
-abbrev pub starts_after : FareTables → Option Touch → Option Touch → List Touch → List Bool
-starts_after tables farther nearer [] = []
-starts_after tables farther nearer (tap ∷ later) = starts_at tables farther nearer tap (slice_get later 0) ∷ starts_after tables nearer (Some tap) later
+abbrev pub starts_after : FareEditions → Option Touch → Option Touch → List Touch → List Bool
+starts_after editions farther nearer [] = []
+starts_after editions farther nearer (tap ∷ later) = starts_at editions farther nearer tap (slice_get later 0) ∷ starts_after editions nearer (Some tap) later
 
 -- the marks of all rail taps of an account, in order
-abbrev pub starts : FareTables → List Touch → List Bool
-starts tables taps = starts_after tables None None taps
+abbrev pub starts : FareEditions → List Touch → List Bool
+starts editions taps = starts_after editions None None taps
 
 -- between earlier and later taps no journey goes on: one starts at the first of the later taps, if there is one
-abbrev pub AreApart : FareTables → List Touch → List Touch → Type 0
-AreApart tables earlier later = get_or (starts tables (earlier ++ later)) (length earlier) true ≡ true
+abbrev pub AreApart : FareEditions → List Touch → List Touch → Type 0
+AreApart editions earlier later = get_or (starts editions (earlier ++ later)) (length earlier) true ≡ true
 
 -- ---- marks of journeys
 

@@ -3,7 +3,7 @@ use Rattle.std.proofs.Common.{◌≡◌, ℕ, zero, suc, Bool, List, [], ◌∷�
 use Rattle.std.specs.List.{range_with_len, AllZip}
 use Rattle.std.proofs.lemmas.List.Elements.{All-head}
 use Rattle.std.proofs.lemmas.List.Sorted.{All-permutation, IsPermutation-sym, IsPermutation-refl}
-use Rattle.pay_tables.specs.Words.{FareTables}
+use Rattle.pay_tables.specs.Words.{FareEditions}
 use Rattle.pay_shard.specs.declared.item.Entry.{Entry}
 use Rattle.pay_shard.specs.declared.item.Item.{Item}
 use Rattle.pay_lanes.specs.Parts.{LaneParts, WorkerParts}
@@ -35,7 +35,7 @@ one_joined f joined x vs now v all same more = subst (λ l. AllZip IsSameWorker 
 
 -- ---- an office begins
 
-pub lanes_begun : (fares : FareTables) (shards lanes gates : ℕ) (ws : List WorkerParts) → (IsOutOfCount shards lanes gates → ⊥) → shard_numbers ws ≡ range_with_len 0 shards → All (IsNewWorker fares lanes) ws → lanes_of ws ≡ lanes
+pub lanes_begun : (fares : FareEditions) (shards lanes gates : ℕ) (ws : List WorkerParts) → (IsOutOfCount shards lanes gates → ⊥) → shard_numbers ws ≡ range_with_len 0 shards → All (IsNewWorker fares lanes) ws → lanes_of ws ≡ lanes
 lanes_begun fares zero lanes gates ws some order new = absurd (some (inl refl))
 lanes_begun fares (suc shards) lanes gates [] some order new = cc
 lanes_begun fares (suc shards) lanes gates (w ∷ ws) some order new = (All-head (IsNewWorker fares lanes) w ws new).lanes

@@ -10,7 +10,7 @@ ghost use Rattle.pay_office.specs.declared.office.ShutFault.TheVariants.{LaneMis
 use crate::work::{BeginFault, Stop, Working, begin};
 use pay_lanes::{Ended, Gate, Lane, OpenLanesFault, Opened, Worker, end, laws, open, put_in_order};
 use pay_rules::Fares;
-use pay_tables::Tables;
+use pay_tables::Editions;
 use std::alloc::{AllocError, Global};
 use std::marker::Model;
 use std::sync::{Arc, Wait};
@@ -143,7 +143,7 @@ where
 pub fn start<F, G, R>(
     rt: R,
     alloc: Global,
-    tables: Arc<Tables>,
+    editions: Arc<Editions>,
     shards: u8,
     lanes: u8,
     gates: Vec<G>,
@@ -155,7 +155,7 @@ where
     requires { All (λ gate. G.Holds gate [] false) gates.items }
     ensures count { (result ≡ Err Count) ↔ IsOutOfCount shards lanes (length gates.items) }
     ensures workers { IfOk result (λ begun. shard_numbers begun.0 ≡ range_with_len 0 shards) }
-    ensures new_workers { IfOk result (λ begun. All (IsNewWorker (arc_value tables) lanes) begun.0) }
+    ensures new_workers { IfOk result (λ begun. All (IsNewWorker (arc_value editions) lanes) begun.0) }
     ensures began { IfOk result (λ begun. began_of begun.0 ≡ each G.began gates.items) }
     ensures lanes { IfOk result (λ begun. numbers begun.1.items ≡ range_with_len 0 lanes) }
     ensures new_lanes { IfOk result (λ begun. All (IsNewLane shards) begun.1.items) }
@@ -164,7 +164,7 @@ where
     let Opened {
         workers,
         lanes: opened,
-    } = open(alloc, tables, shards, lanes, gates)?;
+    } = open(alloc, editions, shards, lanes, gates)?;
     let stop = Stop::new(alloc)?;
     let room = Vec::with_capacity(alloc, workers.len())?;
     let workers = begin_all(rt, alloc, &stop, workers)?;

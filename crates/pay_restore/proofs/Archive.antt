@@ -12,7 +12,7 @@ use Rattle.std.specs.declared.cmp.Ordering.{Ordering}
 use Rattle.std.specs.declared.cmp.Ordering.TheVariants.{Less, Equal, Greater}
 use Rattle.std.proofs.lemmas.Option.{none-some}
 use Rattle.pay_rules.specs.Numbers.{number_cmp, ByNumber}
-use Rattle.pay_tables.specs.Words.{FareTables}
+use Rattle.pay_tables.specs.Words.{FareEditions}
 use Rattle.pay_rules.specs.declared.limits.TheConstants.{MOST_TAPS, MOST_FIXES}
 use Rattle.pay_rules.specs.declared.tap.Tap.{Tap}
 use Rattle.pay_rules.specs.Taps.{number as tap_number}
@@ -102,20 +102,20 @@ module _ (mid end : State) (tap_list : List Tap) (fix_list : List Fix) (tapped :
 
 -- ---- what rows tell
 
-pub told : (tables : FareTables) (rows : List (ℤ × TapRow)) (further : List (ℤ × FixRow)) (accounts : List (ℕ × Accepted)) → restored tables rows further ≡ Some accounts → AreTold rows further accounts
-told tables rows further accounts e = by_taps (with_tap_rows tables none rows) refl e
+pub told : (editions : FareEditions) (rows : List (ℤ × TapRow)) (further : List (ℤ × FixRow)) (accounts : List (ℕ × Accepted)) → restored editions rows further ≡ Some accounts → AreTold rows further accounts
+told editions rows further accounts e = by_taps (with_tap_rows editions none rows) refl e
   where
-    by_fixes : (mid : State) (o : Option State) → with_tap_rows tables none rows ≡ Some mid → with_fix_rows tables mid further ≡ o → (o >>= λ all. Some (finite.entries all)) ≡ Some accounts → AreTold rows further accounts
+    by_fixes : (mid : State) (o : Option State) → with_tap_rows editions none rows ≡ Some mid → with_fix_rows editions mid further ≡ o → (o >>= λ all. Some (finite.entries all)) ≡ Some accounts → AreTold rows further accounts
     by_fixes mid None is then f = absurd (cc)
     by_fixes mid (Some end) is then f =
-        let tapped = tap_rows_took tables none mid rows is in
-        let fixed = fix_rows_took tables mid end further then in
+        let tapped = tap_rows_took editions none mid rows is in
+        let fixed = fix_rows_took editions mid end further then in
         let same : finite.entries end ≡ accounts = cc in
         (tapped.0, fixed.0, tapped.1, fixed.1, subst (AreRestored tapped.0 fixed.0) same (all_restored mid end tapped.0 fixed.0 tapped.2 fixed.2))
 
-    by_taps : (o : Option State) → with_tap_rows tables none rows ≡ o → (o >>= λ tapped. with_fix_rows tables tapped further >>= λ all. Some (finite.entries all)) ≡ Some accounts → AreTold rows further accounts
+    by_taps : (o : Option State) → with_tap_rows editions none rows ≡ o → (o >>= λ tapped. with_fix_rows editions tapped further >>= λ all. Some (finite.entries all)) ≡ Some accounts → AreTold rows further accounts
     by_taps None is f = absurd (cc)
-    by_taps (Some mid) is f = by_fixes mid (with_fix_rows tables mid further) is refl f
+    by_taps (Some mid) is f = by_fixes mid (with_fix_rows editions mid further) is refl f
 
 -- ---- what was archived
 
@@ -129,15 +129,15 @@ same_list (x ∷ list) (y ∷ other) e =
     let rest : map Some list ≡ map Some other = cc in
     λ i. head i ∷ same_list list other rest i
 
-taps_read : TapsBack → (tables : FareTables) (list : List Tap) → AllByRecursion (IsArchivedTap tables) list → map tap_of_row (tap_rows list) ≡ map Some list
-taps_read back tables [] all = refl
-taps_read back tables (tap ∷ list) all = λ i. tap_back back tables tap all.0 i ∷ taps_read back tables list all.1 i
+taps_read : TapsBack → (editions : FareEditions) (list : List Tap) → AllByRecursion (IsArchivedTap editions) list → map tap_of_row (tap_rows list) ≡ map Some list
+taps_read back editions [] all = refl
+taps_read back editions (tap ∷ list) all = λ i. tap_back back editions tap all.0 i ∷ taps_read back editions list all.1 i
 
-fixes_read : FixesBack → (tables : FareTables) (list : List Fix) → AllByRecursion (IsArchivedFix tables) list → map fix_of_row (fix_rows list) ≡ map Some list
-fixes_read back tables [] all = refl
-fixes_read back tables (fix ∷ list) all = λ i. fix_back back tables fix all.0 i ∷ fixes_read back tables list all.1 i
+fixes_read : FixesBack → (editions : FareEditions) (list : List Fix) → AllByRecursion (IsArchivedFix editions) list → map fix_of_row (fix_rows list) ≡ map Some list
+fixes_read back editions [] all = refl
+fixes_read back editions (fix ∷ list) all = λ i. fix_back back editions fix all.0 i ∷ fixes_read back editions list all.1 i
 
-module _ (tables : FareTables) (tap_list : List Tap) (fix_list : List Fix) (is : IsArchive tables tap_list fix_list) where
+module _ (editions : FareEditions) (tap_list : List Tap) (fix_list : List Fix) (is : IsArchive editions tap_list fix_list) where
   taps_fit : Fits tap_account tap_number taps fixes MOST_TAPS none tap_list
   taps_fit = record {
     own_numbers = λ y h z e. absurd (no_tap y.account (tap_number y) z e);
@@ -154,24 +154,24 @@ module _ (tables : FareTables) (tap_list : List Tap) (fix_list : List Fix) (is :
   -- what was read is what was written
   as_written : TapsBack → FixesBack → (accounts : List (ℕ × Accepted)) → AreTold (tap_rows tap_list) (fix_rows fix_list) accounts → AreRestored tap_list fix_list accounts
   as_written taps_back fixes_back accounts told =
-      subst (λ l. AreRestored l fix_list accounts) (same_list told.0 tap_list (sym told.2 ∙ taps_read taps_back tables tap_list is.each_tap))
-      (subst (λ l. AreRestored told.0 l accounts) (same_list told.1 fix_list (sym told.3 ∙ fixes_read fixes_back tables fix_list is.each_fix)) told.4)
+      subst (λ l. AreRestored l fix_list accounts) (same_list told.0 tap_list (sym told.2 ∙ taps_read taps_back editions tap_list is.each_tap))
+      (subst (λ l. AreRestored told.0 l accounts) (same_list told.1 fix_list (sym told.3 ∙ fixes_read fixes_back editions fix_list is.each_fix)) told.4)
 
-  not_refused : TapsBack → FixesBack → (accounts : List (ℕ × Accepted)) × (restored tables (tap_rows tap_list) (fix_rows fix_list) ≡ Some accounts)
+  not_refused : TapsBack → FixesBack → (accounts : List (ℕ × Accepted)) × (restored editions (tap_rows tap_list) (fix_rows fix_list) ≡ Some accounts)
   not_refused taps_back fixes_back =
-      let mid = tap_rows_fit taps_back tables none tap_list is.each_tap is.taps_together.own_numbers taps_fit in
-      let same = (tap_rows_took tables none mid.0 (tap_rows tap_list) mid.1).2.others in
-      let end = fix_rows_fit fixes_back tables mid.0 fix_list is.each_fix is.fixes_together.own_numbers (fixes_fit mid.0 same) in (
+      let mid = tap_rows_fit taps_back editions none tap_list is.each_tap is.taps_together.own_numbers taps_fit in
+      let same = (tap_rows_took editions none mid.0 (tap_rows tap_list) mid.1).2.others in
+      let end = fix_rows_fit fixes_back editions mid.0 fix_list is.each_fix is.fixes_together.own_numbers (fixes_fit mid.0 same) in (
         finite.entries end.0,
-        ap (λ (o : Option State). o >>= λ m. with_fix_rows tables m (fix_rows fix_list) >>= λ all. Some (finite.entries all)) mid.1
+        ap (λ (o : Option State). o >>= λ m. with_fix_rows editions m (fix_rows fix_list) >>= λ all. Some (finite.entries all)) mid.1
             ∙ ap (λ (o : Option State). o >>= λ all. Some (finite.entries all)) end.1,
       )
 
-pub archived : TapsBack → FixesBack → (tables : FareTables) (tap_list : List Tap) (fix_list : List Fix) → IsArchive tables tap_list fix_list
-    → (accounts : List (ℕ × Accepted)) × (restored tables (tap_rows tap_list) (fix_rows fix_list) ≡ Some accounts) × AreRestored tap_list fix_list accounts
-archived taps_back fixes_back tables tap_list fix_list is =
-    let there = not_refused tables tap_list fix_list is taps_back fixes_back in
-    (there.0, there.1, as_written tables tap_list fix_list is taps_back fixes_back there.0 (told tables (tap_rows tap_list) (fix_rows fix_list) there.0 there.1))
+pub archived : TapsBack → FixesBack → (editions : FareEditions) (tap_list : List Tap) (fix_list : List Fix) → IsArchive editions tap_list fix_list
+    → (accounts : List (ℕ × Accepted)) × (restored editions (tap_rows tap_list) (fix_rows fix_list) ≡ Some accounts) × AreRestored tap_list fix_list accounts
+archived taps_back fixes_back editions tap_list fix_list is =
+    let there = not_refused editions tap_list fix_list is taps_back fixes_back in
+    (there.0, there.1, as_written editions tap_list fix_list is taps_back fixes_back there.0 (told editions (tap_rows tap_list) (fix_rows fix_list) there.0 there.1))
 
 -- ---- as it was
 

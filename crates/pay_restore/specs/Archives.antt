@@ -7,7 +7,7 @@ use Rattle.std.specs.List.Sorted.{IsStrictlySortedBy}
 use Rattle.std.specs.Ordering.{nat_cmp}
 use Rattle.pay_rules.specs.Numbers.{ByNumber}
 use Rattle.pay_rules.specs.InTurn.{IsIn}
-use Rattle.pay_tables.specs.Words.{FareTables}
+use Rattle.pay_tables.specs.Words.{FareEditions}
 use Rattle.pay_rules.specs.declared.limits.TheConstants.{MOST_TAPS, MOST_FIXES}
 use Rattle.pay_rules.specs.declared.tap.Kind.TheVariants.{Bus}
 use Rattle.pay_rules.specs.declared.tap.Tap.{Tap}
@@ -42,16 +42,16 @@ abbrev pub IsAccount : ℕ → Type 0
 IsAccount account = (1 ≤ account) × (account ≤ 4_294_967_295)
 
 -- a tap as an account may accept it by a fare file: all numbers are in their ranges, and it has its place there, of the sort that it needs
-pub record IsArchivedTap (tables : FareTables) (tap : Tap) : Type 0 where
+pub record IsArchivedTap (editions : FareEditions) (tap : Tap) : Type 0 where
   pub of_account : IsAccount tap.account
   pub in_range : IsTapInRange tap
-  pub placed : is_known tables tap.place tap.kind ≡ true
+  pub placed : is_known editions tap.place tap.kind ≡ true
 
 -- and a correction
-pub record IsArchivedFix (tables : FareTables) (fix : Fix) : Type 0 where
+pub record IsArchivedFix (editions : FareEditions) (fix : Fix) : Type 0 where
   pub of_account : IsAccount fix.account
   pub in_range : IsFixInRange fix
-  pub placed : is_known_fix tables fix.what ≡ true
+  pub placed : is_known_fix editions fix.what ≡ true
 
 -- Those that an account accepted: no two of one account have one number, but for the very same, and each account has no more than it may have.
 pub record AreTogether {X : Type 0} (account : X → ℕ) (number : X → ℕ × ℕ) (most : ℕ) (list : List X) : Type 0 where
@@ -59,9 +59,9 @@ pub record AreTogether {X : Type 0} (account : X → ℕ) (number : X → ℕ ×
   pub few : (a : ℕ) → length (filter (λ x. account x == a) list) ≤ most
 
 -- an archive of accepted taps and corrections
-pub record IsArchive (tables : FareTables) (taps : List Tap) (fixes : List Fix) : Type 0 where
-  pub each_tap : AllByRecursion (IsArchivedTap tables) taps
-  pub each_fix : AllByRecursion (IsArchivedFix tables) fixes
+pub record IsArchive (editions : FareEditions) (taps : List Tap) (fixes : List Fix) : Type 0 where
+  pub each_tap : AllByRecursion (IsArchivedTap editions) taps
+  pub each_fix : AllByRecursion (IsArchivedFix editions) fixes
   pub taps_together : AreTogether tap_account tap_number MOST_TAPS taps
   pub fixes_together : AreTogether fix_account fix_number MOST_FIXES fixes
 

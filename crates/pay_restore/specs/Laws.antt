@@ -3,7 +3,7 @@ use Rattle.std.specs.Prelude.{◌≡◌, ◌↔◌, ℕ, ℤ, List, Some}
 use Rattle.std.specs.FinMap as finite
 use Rattle.pay_rules.specs.Numbers.{ByNumber, IsNumbered}
 use Rattle.pay_rules.specs.InTurn.{IsIn}
-use Rattle.pay_tables.specs.Words.{FareTables}
+use Rattle.pay_tables.specs.Words.{FareEditions}
 use Rattle.pay_rules.specs.declared.tap.Tap.{Tap}
 use Rattle.pay_rules.specs.Taps.{number as tap_number}
 use Rattle.pay_rules.specs.declared.fix.Fix.{Fix}
@@ -17,13 +17,13 @@ use Rattle.pay_restore.specs.Archives.{tap_account, fix_account, tap_rows, fix_r
 
 -- whatever is restored of rows is just what they tell
 abbrev pub RestoredIsTold : Type 0
-RestoredIsTold = (tables : FareTables) (rows : List (ℤ × TapRow)) (further : List (ℤ × FixRow)) (accounts : List (ℕ × Accepted)) → restored tables rows further ≡ Some accounts
+RestoredIsTold = (editions : FareEditions) (rows : List (ℤ × TapRow)) (further : List (ℤ × FixRow)) (accounts : List (ℕ × Accepted)) → restored editions rows further ≡ Some accounts
     → AreTold rows further accounts
 
 -- the rows of an archive are not refused, and each account has just its own of it again
 abbrev pub ArchivedIsRestored : Type 0
-ArchivedIsRestored = (tables : FareTables) (taps : List Tap) (fixes : List Fix) → IsArchive tables taps fixes
-    → (accounts : List (ℕ × Accepted)) × (restored tables (tap_rows taps) (fix_rows fixes) ≡ Some accounts) × AreRestored taps fixes accounts
+ArchivedIsRestored = (editions : FareEditions) (taps : List Tap) (fixes : List Fix) → IsArchive editions taps fixes
+    → (accounts : List (ℕ × Accepted)) × (restored editions (tap_rows taps) (fix_rows fixes) ≡ Some accounts) × AreRestored taps fixes accounts
 
 -- what had accepted just its own of the archive has accepted the same again
 abbrev pub RestoredIsAsBefore : Type 0

@@ -1,7 +1,7 @@
 -- The accounts of an archive: each archived tap and correction is handed to its account again, all taps first.
 use Rattle.std.specs.Prelude.{◌≡◌, ℕ, ℤ, pos, negsuc, true, false, if◌then◌else◌, List, [], ◌∷◌, map as each, Option, Some, None, Result, Ok, Err, MatchResult, IsSome, refl}
 use Rattle.std.specs.FinMap as map
-use Rattle.pay_tables.specs.Words.{FareTables}
+use Rattle.pay_tables.specs.Words.{FareEditions}
 use Rattle.pay_rules.specs.declared.tap.Tap.{Tap}
 use Rattle.pay_rules.specs.declared.fix.Fix.{Fix}
 use Rattle.pay_rules.specs.Accepted.{Accepted, with_tap, with_fix}
@@ -53,46 +53,46 @@ unless_refused (Ok priced) before more = Some (if priced.again then before else 
 unless_refused (Err fault) before more = None
 
 -- what it has accepted with an archived tap
-abbrev pub with_archived_tap : FareTables → Accepted → Tap → Option Accepted
-with_archived_tap tables accepted tap = unless_refused (tap_result tables accepted tap) accepted (with_tap accepted tap)
+abbrev pub with_archived_tap : FareEditions → Accepted → Tap → Option Accepted
+with_archived_tap editions accepted tap = unless_refused (tap_result editions accepted tap) accepted (with_tap accepted tap)
 
 -- and with an archived correction
-abbrev pub with_archived_fix : FareTables → Accepted → Fix → Option Accepted
-with_archived_fix tables accepted fix = unless_refused (fix_result tables accepted fix) accepted (with_fix accepted fix)
+abbrev pub with_archived_fix : FareEditions → Accepted → Fix → Option Accepted
+with_archived_fix editions accepted fix = unless_refused (fix_result editions accepted fix) accepted (with_fix accepted fix)
 
 -- the accounts with the tap of a row
-abbrev pub with_tap_row : FareTables → State → ℤ × TapRow → Option State
-with_tap_row tables state row = do
+abbrev pub with_tap_row : FareEditions → State → ℤ × TapRow → Option State
+with_tap_row editions state row = do
   tap ← tap_of_row row
-  accepted ← with_archived_tap tables (accepted_of state tap.account) tap
+  accepted ← with_archived_tap editions (accepted_of state tap.account) tap
   Some (map.insert state tap.account accepted)
 
 -- and with those of all rows, one after another
-abbrev pub with_tap_rows : FareTables → State → List (ℤ × TapRow) → Option State
-with_tap_rows tables state [] = Some state
-with_tap_rows tables state (row ∷ rows) = do
-  now ← with_tap_row tables state row
-  with_tap_rows tables now rows
+abbrev pub with_tap_rows : FareEditions → State → List (ℤ × TapRow) → Option State
+with_tap_rows editions state [] = Some state
+with_tap_rows editions state (row ∷ rows) = do
+  now ← with_tap_row editions state row
+  with_tap_rows editions now rows
 
 -- the accounts with the correction of a row
-abbrev pub with_fix_row : FareTables → State → ℤ × FixRow → Option State
-with_fix_row tables state row = do
+abbrev pub with_fix_row : FareEditions → State → ℤ × FixRow → Option State
+with_fix_row editions state row = do
   fix ← fix_of_row row
-  accepted ← with_archived_fix tables (accepted_of state fix.account) fix
+  accepted ← with_archived_fix editions (accepted_of state fix.account) fix
   Some (map.insert state fix.account accepted)
 
 -- and with those of all rows
-abbrev pub with_fix_rows : FareTables → State → List (ℤ × FixRow) → Option State
-with_fix_rows tables state [] = Some state
-with_fix_rows tables state (row ∷ rows) = do
-  now ← with_fix_row tables state row
-  with_fix_rows tables now rows
+abbrev pub with_fix_rows : FareEditions → State → List (ℤ × FixRow) → Option State
+with_fix_rows editions state [] = Some state
+with_fix_rows editions state (row ∷ rows) = do
+  now ← with_fix_row editions state row
+  with_fix_rows editions now rows
 
 -- all accounts of the archive, in ascending order of their numbers, and beside each what it has accepted
-abbrev pub restored : FareTables → List (ℤ × TapRow) → List (ℤ × FixRow) → Option (List (ℕ × Accepted))
-restored tables taps fixes = do
-  tapped ← with_tap_rows tables map.empty taps
-  all ← with_fix_rows tables tapped fixes
+abbrev pub restored : FareEditions → List (ℤ × TapRow) → List (ℤ × FixRow) → Option (List (ℕ × Accepted))
+restored editions taps fixes = do
+  tapped ← with_tap_rows editions map.empty taps
+  all ← with_fix_rows editions tapped fixes
   Some (map.entries all)
 
 -- An answer is what a definition gives. A refusal is want of memory, or there is none, and it tells a bad archive.
@@ -138,10 +138,10 @@ bus_row : TapRow
 bus_row = record { reader = pos 1; seq = pos 4; utc = pos 1_704_697_200; day = pos 19_730; second = pos 25_200; place = pos 50; kind = pos 2 }
 
 -- one row of no account, or of no kind, makes a bad archive
-row_of_no_account : (tables : FareTables) (fixes : List (ℤ × FixRow)) → restored tables ((pos 0, bus_row) ∷ []) fixes ≡ None
+row_of_no_account : (editions : FareEditions) (fixes : List (ℤ × FixRow)) → restored editions ((pos 0, bus_row) ∷ []) fixes ≡ None
 unfolding bus_row
-row_of_no_account tables fixes = refl
+row_of_no_account editions fixes = refl
 
-row_of_no_kind : (tables : FareTables) (fixes : List (ℤ × FixRow)) → restored tables ((pos 7, record bus_row { kind = pos 3 }) ∷ []) fixes ≡ None
+row_of_no_kind : (editions : FareEditions) (fixes : List (ℤ × FixRow)) → restored editions ((pos 7, record bus_row { kind = pos 3 }) ∷ []) fixes ≡ None
 unfolding bus_row
-row_of_no_kind tables fixes = refl
+row_of_no_kind editions fixes = refl

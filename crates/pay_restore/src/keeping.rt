@@ -2,7 +2,7 @@ ghost use Rattle.std.specs.Prelude.{◌≡◌, ◌≤◌, map as each, IfOk, OnO
 ghost use Rattle.std.specs.FinMap as map;
 ghost use Rattle.std.specs.List.Sorted.{IsStrictlySortedBy};
 ghost use Rattle.std.specs.Ordering.{nat_cmp};
-ghost use Rattle.pay_tables.specs.Words.{FareTables};
+ghost use Rattle.pay_tables.specs.Words.{FareEditions};
 ghost use Rattle.pay_rules.specs.Accepted.{Accepted};
 ghost use Rattle.pay_rules.specs.State.{accepted_of};
 ghost use Rattle.pay_restore.specs.Filed.{held, AreFiled};
@@ -14,12 +14,12 @@ use std::collections::BTreeMap;
 /// Takes an account out of those that are kept, or opens it where it is not there.
 pub(crate) fn take<F: Fares>(alloc: Global, accounts: &mut BTreeMap<u32, F>, number: u32) -> F
     ensures accepted { F.accepted result ≡ accepted_of (held F.accepted accounts.old.entries) number }
-    ensures own { (tables : FareTables) → AreFiled F.account (F.IsPricedBy tables) accounts.old.entries → F.account result ≡ number }
-    ensures priced_by { (tables : FareTables) → AreFiled F.account (F.IsPricedBy tables) accounts.old.entries → F.IsPricedBy tables result }
+    ensures own { (editions : FareEditions) → AreFiled F.account (F.IsPricedBy editions) accounts.old.entries → F.account result ≡ number }
+    ensures priced_by { (editions : FareEditions) → AreFiled F.account (F.IsPricedBy editions) accounts.old.entries → F.IsPricedBy editions result }
 
     // What is put at its number then stands beside the others.
     ensures others { (accepted : Accepted) → map.insert (held F.accepted accounts.new.entries) number accepted ≡ map.insert (held F.accepted accounts.old.entries) number accepted }
-    ensures kept { (tables : FareTables) → AreFiled F.account (F.IsPricedBy tables) accounts.old.entries → AreFiled F.account (F.IsPricedBy tables) accounts.new.entries }
+    ensures kept { (editions : FareEditions) → AreFiled F.account (F.IsPricedBy editions) accounts.old.entries → AreFiled F.account (F.IsPricedBy editions) accounts.new.entries }
 {
     match accounts.remove(&number) {
         Some(account) => account,
@@ -31,7 +31,7 @@ pub(crate) fn take<F: Fares>(alloc: Global, accounts: &mut BTreeMap<u32, F>, num
 pub(crate) fn keep<F: Fares>(accounts: &mut BTreeMap<u32, F>, account: F) -> Result<(), AllocError>
     requires { 1 ≤ F.account account }
     ensures state { OnOk result (held F.accepted accounts.new.entries ≡ map.insert (held F.accepted accounts.old.entries) (F.account account) (F.accepted account)) }
-    ensures kept { OnOk result ((tables : FareTables) → F.IsPricedBy tables account → AreFiled F.account (F.IsPricedBy tables) accounts.old.entries → AreFiled F.account (F.IsPricedBy tables) accounts.new.entries) }
+    ensures kept { OnOk result ((editions : FareEditions) → F.IsPricedBy editions account → AreFiled F.account (F.IsPricedBy editions) accounts.old.entries → AreFiled F.account (F.IsPricedBy editions) accounts.new.entries) }
 {
     let number = account.number();
     accounts.insert(number, account)?;

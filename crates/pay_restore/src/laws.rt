@@ -9,7 +9,7 @@ pub fn nothing_is_lost()
     ensures { RestoredIsTold }
 {}
 
-/// What was archived is restored: of taps and corrections that accounts accepted by these tables, the rows are not refused,
+/// What was archived is restored: of taps and corrections that accounts accepted by these editions, the rows are not refused,
 /// and each account has just its own again.
 pub fn archived_is_restored()
     ensures { ArchivedIsRestored }

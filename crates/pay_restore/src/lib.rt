@@ -8,5 +8,5 @@ mod restoring;
 mod retaking;
 
 pub use pay_rules::Fares;
-pub use pay_tables::Tables;
+pub use pay_tables::Editions;
 pub use restoring::restored;

@@ -1,7 +1,7 @@
 -- What is so of every account, and of each further tap and correction.
 use Rattle.std.specs.Prelude.{◌≡◌, ◌≢◌, ◌↔◌, ℕ, ◌≤◌, true, List, Some, None, Ok, Err}
 use Rattle.std.specs.FinMap.{get, len}
-use Rattle.pay_tables.specs.Words.{FareTables}
+use Rattle.pay_tables.specs.Words.{FareEditions}
 use Rattle.pay_rules.specs.Numbers.{ByNumber}
 use Rattle.pay_rules.specs.InTurn.{HaveTheSame}
 use Rattle.pay_rules.specs.declared.limits.TheConstants.{MOST_TAPS, MOST_FIXES}
@@ -26,41 +26,41 @@ HasAnother {X = X} number set x = (other : X) × (get set (number x) ≡ Some ot
 
 -- a tap conflicts where its place is known, and another one of its number is there
 abbrev pub TapConflicts : Type 0
-TapConflicts = (tables : FareTables) (accepted : Accepted) (tap : Tap) → (tap_result tables accepted tap ≡ Err tap_fault.Conflict)
-    ↔ ((is_known tables tap.place tap.kind ≡ true) × HasAnother tap_number accepted.taps tap)
+TapConflicts = (editions : FareEditions) (accepted : Accepted) (tap : Tap) → (tap_result editions accepted tap ≡ Err tap_fault.Conflict)
+    ↔ ((is_known editions tap.place tap.kind ≡ true) × HasAnother tap_number accepted.taps tap)
 
 -- the account is full where the place is known, none of the tap's number is there, and there is no room
 abbrev pub TapFindsNoRoom : Type 0
-TapFindsNoRoom = (tables : FareTables) (accepted : Accepted) (tap : Tap) → (tap_result tables accepted tap ≡ Err tap_fault.AccountFull)
-    ↔ ((is_known tables tap.place tap.kind ≡ true) × (get accepted.taps (tap_number tap) ≡ None) × (MOST_TAPS ≤ len accepted.taps))
+TapFindsNoRoom = (editions : FareEditions) (accepted : Accepted) (tap : Tap) → (tap_result editions accepted tap ≡ Err tap_fault.AccountFull)
+    ↔ ((is_known editions tap.place tap.kind ≡ true) × (get accepted.taps (tap_number tap) ≡ None) × (MOST_TAPS ≤ len accepted.taps))
 
 -- and so a correction conflicts
 abbrev pub FixConflicts : Type 0
-FixConflicts = (tables : FareTables) (accepted : Accepted) (fix : Fix) → (fix_result tables accepted fix ≡ Err fix_fault.FixConflict)
-    ↔ ((is_known_fix tables fix.what ≡ true) × HasAnother fix_number accepted.fixes fix)
+FixConflicts = (editions : FareEditions) (accepted : Accepted) (fix : Fix) → (fix_result editions accepted fix ≡ Err fix_fault.FixConflict)
+    ↔ ((is_known_fix editions fix.what ≡ true) × HasAnother fix_number accepted.fixes fix)
 
 -- and finds the account full
 abbrev pub FixFindsNoRoom : Type 0
-FixFindsNoRoom = (tables : FareTables) (accepted : Accepted) (fix : Fix) → (fix_result tables accepted fix ≡ Err fix_fault.FixesFull)
-    ↔ ((is_known_fix tables fix.what ≡ true) × (get accepted.fixes (fix_number fix) ≡ None) × (MOST_FIXES ≤ len accepted.fixes))
+FixFindsNoRoom = (editions : FareEditions) (accepted : Accepted) (fix : Fix) → (fix_result editions accepted fix ≡ Err fix_fault.FixesFull)
+    ↔ ((is_known_fix editions fix.what ≡ true) × (get accepted.fixes (fix_number fix) ≡ None) × (MOST_FIXES ≤ len accepted.fixes))
 
 -- ---- repeats
 
 -- a tap that was accepted and comes again is given the same prices
 abbrev pub TapIsPricedAgain : Type 0
-TapIsPricedAgain = (tables : FareTables) (accepted : Accepted) (tap : Tap) (priced : Priced) → tap_result tables accepted tap ≡ Ok priced
-    → tap_result tables (after_tap (Ok priced) accepted tap) tap ≡ Ok (record priced { again = true })
+TapIsPricedAgain = (editions : FareEditions) (accepted : Accepted) (tap : Tap) (priced : Priced) → tap_result editions accepted tap ≡ Ok priced
+    → tap_result editions (after_tap (Ok priced) accepted tap) tap ≡ Ok (record priced { again = true })
 
 -- and so is a correction
 abbrev pub FixIsPricedAgain : Type 0
-FixIsPricedAgain = (tables : FareTables) (accepted : Accepted) (fix : Fix) (priced : Priced) → fix_result tables accepted fix ≡ Ok priced
-    → fix_result tables (after_fix (Ok priced) accepted fix) fix ≡ Ok (record priced { again = true })
+FixIsPricedAgain = (editions : FareEditions) (accepted : Accepted) (fix : Fix) (priced : Priced) → fix_result editions accepted fix ≡ Ok priced
+    → fix_result editions (after_fix (Ok priced) accepted fix) fix ≡ Ok (record priced { again = true })
 
 -- ---- order
 
 -- where those of one list are accepted one after another, then so are those of another list that has the same ones, and the
 -- account has accepted the same in the end
 abbrev pub OrderIsForgotten : Type 0
-OrderIsForgotten = (tables : FareTables) (accepted : Accepted) (list other : List Change) → HaveTheSame list other
-    → AreAccepted tables accepted list
-    → AreAccepted tables accepted other × (after_all tables accepted other ≡ after_all tables accepted list)
+OrderIsForgotten = (editions : FareEditions) (accepted : Accepted) (list other : List Change) → HaveTheSame list other
+    → AreAccepted editions accepted list
+    → AreAccepted editions accepted other × (after_all editions accepted other ≡ after_all editions accepted list)

@@ -1,6 +1,6 @@
 //! Laws of what a tap and a correction come to.
 ghost use Rattle.std.specs.Prelude.{◌≡◌, ◌≢◌, ◌↔◌, false};
-ghost use Rattle.pay_tables.specs.Words.{FareTables};
+ghost use Rattle.pay_tables.specs.Words.{FareEditions};
 ghost use Rattle.pay_rules.specs.Accepted.{Accepted};
 ghost use Rattle.pay_rules.specs.TapPlaces.{is_known, is_known_fix};
 ghost use Rattle.pay_rules.specs.TapResults.{tap_result};
@@ -13,15 +13,15 @@ use pay_rules::{Fix, FixFault, Tap, TapFault};
 /// When each refusal of a tap comes. Of several that there are, the first here is given.
 pub fn refusals()
     // The fare file has no place there of the tap's sort.
-    ensures unknown_place { (tables : FareTables) (accepted : Accepted) (tap : Tap) → (tap_result tables accepted tap ≡ Err TapFault.UnknownPlace)
-        ↔ (is_known tables tap.place tap.kind ≡ false) }
+    ensures unknown_place { (editions : FareEditions) (accepted : Accepted) (tap : Tap) → (tap_result editions accepted tap ≡ Err TapFault.UnknownPlace)
+        ↔ (is_known editions tap.place tap.kind ≡ false) }
 
     // Another tap of its number is there.
     ensures conflict { TapConflicts }
 
     // None of its number is there, and there is no room.
     ensures full { TapFindsNoRoom }
-    ensures never_memory { (tables : FareTables) (accepted : Accepted) (tap : Tap) → tap_result tables accepted tap ≢ Err TapFault.Memory }
+    ensures never_memory { (editions : FareEditions) (accepted : Accepted) (tap : Tap) → tap_result editions accepted tap ≢ Err TapFault.Memory }
 {
     sets::judgements::<Tap>();
 }
@@ -29,15 +29,15 @@ pub fn refusals()
 /// When each refusal of a correction comes. Of several that there are, the first here is given.
 pub fn refusals_of_fixes()
     // It is a Fill, and the fare file has no place there of its sort.
-    ensures unknown_place { (tables : FareTables) (accepted : Accepted) (fix : Fix) → (fix_result tables accepted fix ≡ Err FixFault.UnknownPlace)
-        ↔ (is_known_fix tables fix.what ≡ false) }
+    ensures unknown_place { (editions : FareEditions) (accepted : Accepted) (fix : Fix) → (fix_result editions accepted fix ≡ Err FixFault.UnknownPlace)
+        ↔ (is_known_fix editions fix.what ≡ false) }
 
     // Another correction of its number is there.
     ensures conflict { FixConflicts }
 
     // None of its number is there, and there is no room.
     ensures full { FixFindsNoRoom }
-    ensures never_memory { (tables : FareTables) (accepted : Accepted) (fix : Fix) → fix_result tables accepted fix ≢ Err FixFault.Memory }
+    ensures never_memory { (editions : FareEditions) (accepted : Accepted) (fix : Fix) → fix_result editions accepted fix ≢ Err FixFault.Memory }
 {
     sets::judgements::<Fix>();
 }

@@ -3,7 +3,7 @@ use Rattle.std.proofs.Common.{◌≡◌, ℕ, ◌+◌, ◌*◌, true, false, [],
 use Rattle.std.specs.FinMap as map
 use Rattle.std.specs.FinMap.{FinMap, get}
 use Rattle.std.specs.Ordering.{nat_cmp}
-use Rattle.pay_tables.specs.Words.{FareTables}
+use Rattle.pay_tables.specs.Words.{FareEditions, FareTables}
 use Rattle.pay_tables.specs.declared.band.Band.{Band}
 use Rattle.pay_tables.specs.declared.band.Cover.{Cover}
 use Rattle.pay_tables.specs.declared.band.Cover.TheVariants.{Buses, Zones}
@@ -26,6 +26,10 @@ use Rattle.pay_rules.specs.Lines.{lines_on, lines_of_week}
 abbrev single : ℕ → ℕ → ℕ → ℕ → Single
 single from to peak off = record { span = record { from = from; to = to }; peak = peak; off = off }
 
+-- a file without editions
+abbrev alone : FareTables → FareEditions
+alone own = record { own = own; items = [] }
+
 -- three zones, a bus fare of 175 pence, a maximum fare of 860, an hour of Hopper, and 20 minutes between stations 10 and 12
 abbrev tables_with : FinMap nat_cmp Place → FareTables
 tables_with places = record {
@@ -40,8 +44,8 @@ tables_with places = record {
 }
 
 -- a map of places does not compute, so the rows whose legs need no station have none
-abbrev tables : FareTables
-tables = tables_with map.empty
+abbrev file : FareEditions
+file = alone (tables_with map.empty)
 
 -- and the others have these stations
 record AreStations (places : FinMap nat_cmp Place) : Type 0 where
@@ -73,7 +77,7 @@ abbrev priced : ℕ → ℕ → ℕ → Priced
 priced day day_price week_price = record { again = false; day = day; day_price = day_price; week_price = week_price }
 
 abbrev price : List Touch → ℕ → Priced
-price touches day = prices_of_touches tables (in_order touches) false day
+price touches day = prices_of_touches file (in_order touches) false day
 
 -- ---- boardings
 
@@ -142,7 +146,7 @@ week_of_lone_taps = refl
 -- ---- legs between stations, entered at 07:00, which is peak
 
 abbrev Costs : List Touch → ℕ → ℕ → Type 0
-Costs list day pence = (places : FinMap nat_cmp Place) → AreStations places → prices_of_touches (tables_with places) (in_order list) false day ≡ priced day pence pence
+Costs list day pence = (places : FinMap nat_cmp Place) → AreStations places → prices_of_touches (alone (tables_with places)) (in_order list) false day ≡ priced day pence pence
 
 -- from zone 1 to zone 2, the tap in accepted last
 a_leg : Costs (leave 1 1_704_699_000 12 ∷ enter 2 1_704_697_200 10 ∷ []) 19_730 340
@@ -190,7 +194,7 @@ abbrev line : LineKind → ℕ → ℕ → ℕ → ℕ → ℕ → Line
 line kind from to utc day fare = record { day = day; kind = kind; from = from; to = to; utc = utc; second = 25_200; fare = fare; band = None }
 
 abbrev lines : List Touch → ℕ → List Line
-lines touches day = lines_on tables (journeys_of tables (in_order touches)) day
+lines touches day = lines_on file (journeys_of file (in_order touches)) day
 
 -- the four boardings of the late tap
 four_boardings : lines (bus 1 1_704_697_200 ∷ bus 2 1_704_700_200 ∷ bus 3 1_704_702_200 ∷ bus 4 1_704_696_200 ∷ []) 19_730
@@ -210,7 +214,7 @@ at_one_instant = refl
 
 -- legs in the order of their taps in
 lines_of_two_legs : (places : FinMap nat_cmp Place) → AreStations places
-    → lines_on (tables_with places) (journeys_of (tables_with places) (in_order (leave 4 1_704_700_200 11 ∷ enter 1 1_704_697_200 14 ∷ enter 3 1_704_699_601 10 ∷ leave 2 1_704_698_400 12 ∷ []))) 19_730
+    → lines_on (alone (tables_with places)) (journeys_of (alone (tables_with places)) (in_order (leave 4 1_704_700_200 11 ∷ enter 1 1_704_697_200 14 ∷ enter 3 1_704_699_601 10 ∷ leave 2 1_704_698_400 12 ∷ []))) 19_730
     ≡ line kind.Rail 14 12 1_704_697_200 19_730 210 ∷ line kind.Rail 10 11 1_704_699_601 19_730 280 ∷ []
 lines_of_two_legs places s = simp (s.at_10, s.at_11, s.at_12, s.at_14)
 
@@ -237,8 +241,8 @@ zones from to = Zones (record { from = from; to = to })
 abbrev capped_with : FinMap nat_cmp Place → FareTables
 capped_with places = record (tables_with places) { bands = band Buses 525 2_470 ∷ band (zones 1 2) 890 4_470 ∷ band (zones 1 3) 1_050 5_250 ∷ [] }
 
-abbrev capped : FareTables
-capped = capped_with map.empty
+abbrev capped : FareEditions
+capped = alone (capped_with map.empty)
 
 abbrev price_capped : List Touch → ℕ → Priced
 price_capped touches day = prices_of_touches capped (in_order touches) false day
@@ -296,7 +300,7 @@ abbrev three_legs : List Touch
 three_legs = enter 1 1_704_697_200 10 ∷ leave 2 1_704_698_400 12 ∷ enter 3 1_704_699_000 12 ∷ leave 4 1_704_700_200 10 ∷ enter 5 1_704_700_800 10 ∷ leave 6 1_704_702_000 12 ∷ []
 
 abbrev CostsCapped : List Touch → ℕ → Type 0
-CostsCapped list pence = (places : FinMap nat_cmp Place) → AreStations places → prices_of_touches (capped_with places) list false 19_730 ≡ priced 19_730 pence pence
+CostsCapped list pence = (places : FinMap nat_cmp Place) → AreStations places → prices_of_touches (alone (capped_with places)) list false 19_730 ≡ priced 19_730 pence pence
 
 within_the_zones : CostsCapped three_legs 890
 within_the_zones places s = simp (s.at_10, s.at_12)

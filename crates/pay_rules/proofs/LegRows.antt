@@ -2,7 +2,8 @@
 use Rattle.std.proofs.Common.{◌≡◌, ℕ, ◌+◌, true, false, List, [], ◌∷◌, refl}
 use Rattle.std.specs.Cmp.{nat_cmp_total}
 use Rattle.std.specs.FinMap.{from_entries, get-from_entries}
-use Rattle.pay_tables.specs.Words.{FareTables}
+use Rattle.pay_tables.specs.Words.{FareEditions, FareTables}
+use Rattle.pay_tables.specs.declared.edition.Edition.{Edition}
 use Rattle.pay_tables.specs.declared.place.Place.{Place}
 use Rattle.pay_tables.specs.declared.place.Place.TheVariants.{Station}
 use Rattle.pay_rules.specs.declared.tap.Kind.TheVariants.{In, Out}
@@ -15,8 +16,8 @@ abbrev stations : List (ℕ × Place)
 stations = (10, Station 1 1 1) ∷ (11, Station 1 2 1) ∷ (12, Station 2 2 2) ∷ (13, Station 2 3 2) ∷ (14, Station 3 3 3) ∷ []
 
 -- 90, 100 and 110 minutes in one, two and three zones, and 30 minutes at one station
-abbrev sample : FareTables
-sample = record {
+abbrev tables : FareTables
+tables = record {
   zones = 3;
   minutes = 90 ∷ 100 ∷ 110 ∷ [];
   rules = record { bus = 175; maximum = 860; hopper = 3_600; same_free = 120; same_limit = 1_800 };
@@ -26,6 +27,9 @@ sample = record {
   places = from_entries stations;
   interchanges = [];
 }
+
+abbrev sample : FareEditions
+sample = record { own = tables; items = [] }
 
 -- taps so many seconds after 07:00 on 2024-01-08
 abbrev entry : ℕ → ℕ → Touch
@@ -107,3 +111,42 @@ one_tap = refl
 
 no_taps : legs sample [] ≡ []
 no_taps = refl
+
+-- ---- over an edition from day 19,731 on: 10 minutes at one station, and 20 in two zones
+
+abbrev shorter : Edition
+shorter = record { day = 19_731; tables = record tables { minutes = 10 ∷ 20 ∷ 30 ∷ []; rules = record tables.rules { same_limit = 600 } } }
+
+abbrev two : FareEditions
+two = record { own = tables; items = shorter ∷ [] }
+
+-- in at 04:29:59 of the Tuesday, which is Monday's service day, or at 04:30:00, and out so many seconds later
+abbrev in_before : ℕ → Touch
+in_before place = record { filled = false; first = 1; second = 1; stamp = record { utc = 1_704_774_599; day = 19_730; second = 16_199 }; place = place; kind = In }
+
+abbrev in_on_the_day : ℕ → Touch
+in_on_the_day place = record { filled = false; first = 1; second = 1; stamp = record { utc = 1_704_774_600; day = 19_731; second = 16_200 }; place = place; kind = In }
+
+abbrev out_after : Touch → ℕ → ℕ → Touch
+out_after tap place seconds =
+    record { filled = false; first = 1; second = 2; stamp = record { utc = tap.stamp.utc + seconds; day = 19_731; second = tap.stamp.second + seconds }; place = place; kind = Out }
+
+-- the way in decides: half an hour at one station where it was before, and ten minutes from the day on
+half_an_hour_from_before : is_leg two (in_before 10) (out_after (in_before 10) 10 1_800) ≡ true
+half_an_hour_from_before = refl
+
+over_half_an_hour_from_before : is_leg two (in_before 10) (out_after (in_before 10) 10 1_801) ≡ false
+over_half_an_hour_from_before = refl
+
+ten_minutes_on_the_day : is_leg two (in_on_the_day 10) (out_after (in_on_the_day 10) 10 600) ≡ true
+ten_minutes_on_the_day = refl
+
+over_ten_minutes_on_the_day : is_leg two (in_on_the_day 10) (out_after (in_on_the_day 10) 10 601) ≡ false
+over_ten_minutes_on_the_day = refl
+
+-- and in two zones a hundred minutes, and twenty
+a_hundred_minutes_from_before : is_leg two (in_before 10) (out_after (in_before 10) 12 6_000) ≡ true
+a_hundred_minutes_from_before = rw (get-from_entries nat_cmp_total stations 10, get-from_entries nat_cmp_total stations 12) refl
+
+over_twenty_minutes_on_the_day : is_leg two (in_on_the_day 10) (out_after (in_on_the_day 10) 12 1_201) ≡ false
+over_twenty_minutes_on_the_day = rw (get-from_entries nat_cmp_total stations 10, get-from_entries nat_cmp_total stations 12) refl

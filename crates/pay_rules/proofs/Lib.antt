@@ -4,3 +4,4 @@ mod LegRows
 mod FareRows
 mod ShareRows
 mod AccountRows
+mod EditionRows

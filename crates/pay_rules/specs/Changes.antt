@@ -1,6 +1,6 @@
 -- Taps and corrections as they come to an account, one after another.
 use Rattle.std.specs.Prelude.{◌≡◌, List, [], ◌∷◌, Ok, ⊤}
-use Rattle.pay_tables.specs.Words.{FareTables}
+use Rattle.pay_tables.specs.Words.{FareEditions}
 use Rattle.pay_rules.specs.declared.tap.Tap.{Tap}
 use Rattle.pay_rules.specs.declared.fix.Fix.{Fix}
 use Rattle.pay_rules.specs.declared.priced.Priced.{Priced}
@@ -14,21 +14,21 @@ pub data Change : Type 0 where
   Fixed : Fix → Change
 
 -- what is accepted after it
-abbrev pub after : FareTables → Accepted → Change → Accepted
-after tables accepted (Tapped tap) = after_tap (tap_result tables accepted tap) accepted tap
-after tables accepted (Fixed fix) = after_fix (fix_result tables accepted fix) accepted fix
+abbrev pub after : FareEditions → Accepted → Change → Accepted
+after editions accepted (Tapped tap) = after_tap (tap_result editions accepted tap) accepted tap
+after editions accepted (Fixed fix) = after_fix (fix_result editions accepted fix) accepted fix
 
 -- whether it is not refused
-abbrev pub IsAccepted : FareTables → Accepted → Change → Type 0
-IsAccepted tables accepted (Tapped tap) = (priced : Priced) × (tap_result tables accepted tap ≡ Ok priced)
-IsAccepted tables accepted (Fixed fix) = (priced : Priced) × (fix_result tables accepted fix ≡ Ok priced)
+abbrev pub IsAccepted : FareEditions → Accepted → Change → Type 0
+IsAccepted editions accepted (Tapped tap) = (priced : Priced) × (tap_result editions accepted tap ≡ Ok priced)
+IsAccepted editions accepted (Fixed fix) = (priced : Priced) × (fix_result editions accepted fix ≡ Ok priced)
 
 -- what is accepted after all of them, one after another
-abbrev pub after_all : FareTables → Accepted → List Change → Accepted
-after_all tables accepted [] = accepted
-after_all tables accepted (change ∷ later) = after_all tables (after tables accepted change) later
+abbrev pub after_all : FareEditions → Accepted → List Change → Accepted
+after_all editions accepted [] = accepted
+after_all editions accepted (change ∷ later) = after_all editions (after editions accepted change) later
 
 -- none of them is refused when its turn comes
-abbrev pub AreAccepted : FareTables → Accepted → List Change → Type 0
-AreAccepted tables accepted [] = ⊤
-AreAccepted tables accepted (change ∷ later) = IsAccepted tables accepted change × AreAccepted tables (after tables accepted change) later
+abbrev pub AreAccepted : FareEditions → Accepted → List Change → Type 0
+AreAccepted editions accepted [] = ⊤
+AreAccepted editions accepted (change ∷ later) = IsAccepted editions accepted change × AreAccepted editions (after editions accepted change) later

@@ -1,6 +1,6 @@
 -- What a correction gives an account: the prices or a refusal, and what it has accepted then.
 use Rattle.std.specs.Prelude.{◌≡◌, ℕ, Bool, true, false, if◌then◌else◌, Option, Some, None, Result, Ok, Err, IsOk}
-use Rattle.pay_tables.specs.Words.{FareTables}
+use Rattle.pay_tables.specs.Words.{FareEditions}
 use Rattle.pay_rules.specs.declared.fix.Fix.{Fix}
 use Rattle.pay_rules.specs.declared.fix.What.{What}
 use Rattle.pay_rules.specs.declared.addition.Addition.{Addition}
@@ -17,28 +17,28 @@ use Rattle.pay_rules.specs.Prices.{prices}
 use Rattle.pay_rules.specs.Faults.{fix_fault}
 
 -- the prices of a day, and where none is named no day and no prices
-abbrev pub prices_on : FareTables → Accepted → Bool → Option ℕ → Priced
-prices_on tables accepted again (Some day) = prices tables accepted again day
-prices_on tables accepted again None = record { again = again; day = 0; day_price = 0; week_price = 0 }
+abbrev pub prices_on : FareEditions → Accepted → Bool → Option ℕ → Priced
+prices_on editions accepted again (Some day) = prices editions accepted again day
+prices_on editions accepted again None = record { again = again; day = 0; day_price = 0; week_price = 0 }
 
 -- the prices of the day that a correction names, by what is accepted
-abbrev pub prices_named : FareTables → Accepted → Bool → What → Priced
-prices_named tables accepted again what = prices_on tables accepted again (day_named accepted.taps accepted.fixes what)
+abbrev pub prices_named : FareEditions → Accepted → Bool → What → Priced
+prices_named editions accepted again what = prices_on editions accepted again (day_named accepted.taps accepted.fixes what)
 
 -- with a further correction all is priced by it, and with a repeat as things are
-abbrev pub fix_added : FareTables → Accepted → Fix → Result Addition AdditionFault → Result Priced FixFault
-fix_added tables accepted fix (Ok Added) = Ok (prices_named tables (with_fix accepted fix) false fix.what)
-fix_added tables accepted fix (Ok Repeat) = Ok (prices_named tables accepted true fix.what)
-fix_added tables accepted fix (Err fault) = Err (fix_fault fault)
+abbrev pub fix_added : FareEditions → Accepted → Fix → Result Addition AdditionFault → Result Priced FixFault
+fix_added editions accepted fix (Ok Added) = Ok (prices_named editions (with_fix accepted fix) false fix.what)
+fix_added editions accepted fix (Ok Repeat) = Ok (prices_named editions accepted true fix.what)
+fix_added editions accepted fix (Err fault) = Err (fix_fault fault)
 
 -- the result of a correction where memory suffices: the place of a Fill is looked up first, then the number and the count of corrections
-abbrev pub fix_result : FareTables → Accepted → Fix → Result Priced FixFault
-fix_result tables accepted fix = if is_known_fix tables fix.what then fix_added tables accepted fix (judged accepted.fixes fix) else Err UnknownPlace
+abbrev pub fix_result : FareEditions → Accepted → Fix → Result Priced FixFault
+fix_result editions accepted fix = if is_known_fix editions fix.what then fix_added editions accepted fix (judged accepted.fixes fix) else Err UnknownPlace
 
 -- a result is that one, or want of memory where that one is no refusal
-abbrev pub IsFixResult : Result Priced FixFault → FareTables → Accepted → Fix → Type 0
-IsFixResult (Err Memory) tables accepted fix = IsOk (fix_result tables accepted fix)
-IsFixResult result tables accepted fix = result ≡ fix_result tables accepted fix
+abbrev pub IsFixResult : Result Priced FixFault → FareEditions → Accepted → Fix → Type 0
+IsFixResult (Err Memory) editions accepted fix = IsOk (fix_result editions accepted fix)
+IsFixResult result editions accepted fix = result ≡ fix_result editions accepted fix
 
 -- what is accepted after a result: the correction too, unless it was refused or a repeat
 abbrev pub after_fix : Result Priced FixFault → Accepted → Fix → Accepted

@@ -1,10 +1,11 @@
 -- What a journey costs by itself.
 use Rattle.std.specs.Prelude.{ℕ, ◌+◌, nat_le, Bool, if◌then◌else◌}
-use Rattle.pay_tables.specs.Words.{FareTables, single_fare}
+use Rattle.pay_tables.specs.Words.{FareEditions, FareTables, on, single_fare}
 use Rattle.pay_rules.specs.declared.parts.Leg.{Leg}
 use Rattle.pay_rules.specs.declared.journey.Journey.{Journey}
 use Rattle.pay_rules.specs.declared.journey.Journey.TheVariants.{Run, Same, Lone, Bus}
 use Rattle.pay_rules.specs.Runs.{span_of_legs, span_of_station}
+use Rattle.pay_rules.specs.RailJourneys.{first_tap}
 use Rattle.pay_rules.specs.Peak.{is_peak}
 
 -- whether a leg that ends where it began is free: it takes no more than so many seconds
@@ -23,3 +24,7 @@ fare_if tables peak (Bus tap pays) = if pays then tables.rules.bus else 0
 -- boarding the bus fare if it pays, and else nothing.
 abbrev pub fare : FareTables → Journey → ℕ
 fare tables journey = fare_if tables (is_peak tables journey) journey
+
+-- what it costs by the edition of its service day
+abbrev pub fare_by : FareEditions → Journey → ℕ
+fare_by editions journey = fare (on editions (first_tap journey).stamp.day) journey

@@ -2,7 +2,7 @@
 use Rattle.std.specs.Prelude.{ℕ, Bool, false, if◌then◌else◌, List, map, filter, slice_get, Option, Some, None}
 use Rattle.pay_day.specs.Words.{sunday}
 use Rattle.pay_tables.specs.declared.band.Band.{Band}
-use Rattle.pay_tables.specs.Words.{FareTables}
+use Rattle.pay_tables.specs.Words.{FareEditions, FareTables, on}
 use Rattle.pay_rules.specs.declared.tap.Kind.TheVariants.{Out}
 use Rattle.pay_rules.specs.Taps.{same_kind}
 use Rattle.pay_rules.specs.Order.{in_order_by}
@@ -65,25 +65,27 @@ line_of_journey tables giving journey = record {
 }
 
 -- the journeys of a service day in the order of their first taps, rail and bus together
-abbrev pub lines_on : FareTables → List Journey → ℕ → List Line
-lines_on tables list day =
+abbrev pub lines_on : FareEditions → List Journey → ℕ → List Line
+lines_on editions list day =
     let its = journeys_on list day in
-    map (line_of_journey tables (capped_price tables its).1) (in_order_by first_tap its)
+    map (line_of_journey (on editions day) (capped_price (on editions day) its).1) (in_order_by first_tap its)
 
--- a journey as a line, of a day whose journeys are among these: its band is of those that cover it the one that gives the price of that day
-abbrev pub line_among : FareTables → List Journey → Journey → Line
-line_among tables list journey = line_of_journey tables (capped_price tables (journeys_on list (first_tap journey).stamp.day)).1 journey
+-- a journey as a line, of a day whose journeys are among these: its fare is that of the day's edition, and its band is of those that cover it the one that gives the price of that day
+abbrev pub line_among : FareEditions → List Journey → Journey → Line
+line_among editions list journey =
+    let day = (first_tap journey).stamp.day in
+    line_of_journey (on editions day) (capped_price (on editions day) (journeys_on list day)).1 journey
 
 -- the journeys of a week from its Monday through its Sunday in the order of their first taps, rail and bus together, each with the band of its own day
-abbrev pub lines_of_week : FareTables → List Journey → ℕ → List Line
-lines_of_week tables list week = map (line_among tables list) (in_order_by first_tap (filter (is_within week (sunday week)) list))
+abbrev pub lines_of_week : FareEditions → List Journey → ℕ → List Line
+lines_of_week editions list week = map (line_among editions list) (in_order_by first_tap (filter (is_within week (sunday week)) list))
 
 -- and of what an account has accepted
-abbrev pub week_lines : FareTables → Accepted → ℕ → List Line
-week_lines tables accepted week = lines_of_week tables (journeys_of tables (touches accepted)) week
+abbrev pub week_lines : FareEditions → Accepted → ℕ → List Line
+week_lines editions accepted week = lines_of_week editions (journeys_of editions (touches accepted)) week
 
 -- what an account shows of a service day: its lines, and its price
-abbrev pub shown : FareTables → ℕ → Accepted → ℕ → Shown
-shown tables account accepted day =
-    let list = journeys_of tables (touches accepted) in
-    record { account = account; day = day; lines = lines_on tables list day; day_price = price_of_day tables list day }
+abbrev pub shown : FareEditions → ℕ → Accepted → ℕ → Shown
+shown editions account accepted day =
+    let list = journeys_of editions (touches accepted) in
+    record { account = account; day = day; lines = lines_on editions list day; day_price = price_of_day editions list day }

@@ -1,6 +1,6 @@
 -- What a tap gives an account: the prices or a refusal, and what it has accepted then.
 use Rattle.std.specs.Prelude.{◌≡◌, true, false, if◌then◌else◌, Result, Ok, Err, IsOk}
-use Rattle.pay_tables.specs.Words.{FareTables}
+use Rattle.pay_tables.specs.Words.{FareEditions}
 use Rattle.pay_rules.specs.declared.tap.Tap.{Tap}
 use Rattle.pay_rules.specs.declared.addition.Addition.{Addition}
 use Rattle.pay_rules.specs.declared.addition.Addition.TheVariants.{Added, Repeat}
@@ -15,19 +15,19 @@ use Rattle.pay_rules.specs.Prices.{prices}
 use Rattle.pay_rules.specs.Faults.{tap_fault}
 
 -- a further tap is priced among the others, and a repeat as things are
-abbrev pub tap_added : FareTables → Accepted → Tap → Result Addition AdditionFault → Result Priced TapFault
-tap_added tables accepted tap (Ok Added) = Ok (prices tables (with_tap accepted tap) false tap.stamp.day)
-tap_added tables accepted tap (Ok Repeat) = Ok (prices tables accepted true tap.stamp.day)
-tap_added tables accepted tap (Err fault) = Err (tap_fault fault)
+abbrev pub tap_added : FareEditions → Accepted → Tap → Result Addition AdditionFault → Result Priced TapFault
+tap_added editions accepted tap (Ok Added) = Ok (prices editions (with_tap accepted tap) false tap.stamp.day)
+tap_added editions accepted tap (Ok Repeat) = Ok (prices editions accepted true tap.stamp.day)
+tap_added editions accepted tap (Err fault) = Err (tap_fault fault)
 
 -- the result of a tap where memory suffices: its place is looked up first, then its number and the count of taps
-abbrev pub tap_result : FareTables → Accepted → Tap → Result Priced TapFault
-tap_result tables accepted tap = if is_known tables tap.place tap.kind then tap_added tables accepted tap (judged accepted.taps tap) else Err UnknownPlace
+abbrev pub tap_result : FareEditions → Accepted → Tap → Result Priced TapFault
+tap_result editions accepted tap = if is_known editions tap.place tap.kind then tap_added editions accepted tap (judged accepted.taps tap) else Err UnknownPlace
 
 -- a result is that one, or want of memory where that one is no refusal
-abbrev pub IsTapResult : Result Priced TapFault → FareTables → Accepted → Tap → Type 0
-IsTapResult (Err Memory) tables accepted tap = IsOk (tap_result tables accepted tap)
-IsTapResult result tables accepted tap = result ≡ tap_result tables accepted tap
+abbrev pub IsTapResult : Result Priced TapFault → FareEditions → Accepted → Tap → Type 0
+IsTapResult (Err Memory) editions accepted tap = IsOk (tap_result editions accepted tap)
+IsTapResult result editions accepted tap = result ≡ tap_result editions accepted tap
 
 -- what is accepted after a result: the tap too, unless it was refused or a repeat
 abbrev pub after_tap : Result Priced TapFault → Accepted → Tap → Accepted

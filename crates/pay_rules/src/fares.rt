@@ -1,6 +1,6 @@
 ghost use Rattle.std.specs.Prelude.{◌≡◌, ◌≤◌, ℕ, IfOk};
 ghost use Rattle.pay_day.specs.Words.{IsDay, monday};
-ghost use Rattle.pay_tables.specs.Words.{FareTables};
+ghost use Rattle.pay_tables.specs.Words.{FareEditions};
 ghost use Rattle.pay_rules.specs.Accepted.{Accepted, nothing};
 ghost use Rattle.pay_rules.specs.TapResults.{IsTapResult, after_tap};
 ghost use Rattle.pay_rules.specs.FixResults.{IsFixResult, after_fix};
@@ -15,7 +15,7 @@ use crate::quote::Quote;
 use crate::sets::Sets;
 use crate::shown::{Lines, Shown};
 use crate::tap::Tap;
-use pay_tables::Tables;
+use pay_tables::Editions;
 use std::alloc::{AllocError, Global};
 use thiserror::Error;
 
@@ -107,8 +107,8 @@ impl From<AdditionFault> for FixFault {
 }
 
 /// An account that prices its taps. It means its number and what it has accepted, taps and corrections, and
-/// all its results are of these and the fare file. That has to be one and the same at every call of an
-/// account, which may keep what it priced: a new account serves for any.
+/// all its results are of these and the editions of the fare file. These have to be the same at every call
+/// of an account, which may keep what it priced: a new account serves for any.
 pub trait Fares: Drop {
     /// The number of the account.
     ghost account: { Self → ℕ };
@@ -117,13 +117,13 @@ pub trait Fares: Drop {
     ghost accepted: { Self → Accepted };
 
     /// Whether the account may be priced by a fare file.
-    ghost IsPricedBy: { FareTables → Self → Type 0 };
+    ghost IsPricedBy: { FareEditions → Self → Type 0 };
 
     /// An account that has accepted nothing.
     fn new(alloc: Global, number: u32) -> Self
         ensures numbered { account result ≡ number }
         ensures nothing { accepted result ≡ nothing }
-        ensures any { (tables : FareTables) → IsPricedBy tables result };
+        ensures any { (editions : FareEditions) → IsPricedBy editions result };
 
     /// The number of the account.
     fn number(&self) -> u32
@@ -132,47 +132,47 @@ pub trait Fares: Drop {
     /// Accepts a tap and prices it: its day, and its week through Sunday. A repeat of an accepted tap
     /// is given the present prices. A fault is the first of `UnknownPlace`, `Conflict`, `AccountFull`
     /// and `Memory` that there is.
-    fn tap(&mut self, tables: &Tables, tap: Tap) -> Result<Priced, TapFault>
+    fn tap(&mut self, editions: &Editions, tap: Tap) -> Result<Priced, TapFault>
         requires own { tap.account ≡ account self.old }
-        requires priced_by { IsPricedBy tables.now self.old }
+        requires priced_by { IsPricedBy editions.now self.old }
         ensures same_account { account self.new ≡ account self.old }
-        ensures answer { IsTapResult result tables.now (accepted self.old) tap }
+        ensures answer { IsTapResult result editions.now (accepted self.old) tap }
         ensures after { accepted self.new ≡ after_tap result (accepted self.old) tap }
-        ensures priced_by { IsPricedBy tables.now self.new };
+        ensures priced_by { IsPricedBy editions.now self.new };
 
     /// Accepts a correction and prices the day that it names, and its week through Sunday. A repeat of an
     /// accepted one is given the present day and prices. A fault is the first of `UnknownPlace`,
     /// `FixConflict`, `FixesFull` and `Memory` that there is.
-    fn fix(&mut self, tables: &Tables, fix: Fix) -> Result<Priced, FixFault>
+    fn fix(&mut self, editions: &Editions, fix: Fix) -> Result<Priced, FixFault>
         requires own { fix.account ≡ account self.old }
-        requires priced_by { IsPricedBy tables.now self.old }
+        requires priced_by { IsPricedBy editions.now self.old }
         ensures same_account { account self.new ≡ account self.old }
-        ensures answer { IsFixResult result tables.now (accepted self.old) fix }
+        ensures answer { IsFixResult result editions.now (accepted self.old) fix }
         ensures after { accepted self.new ≡ after_fix result (accepted self.old) fix }
-        ensures priced_by { IsPricedBy tables.now self.new };
+        ensures priced_by { IsPricedBy editions.now self.new };
 
     /// Shows the journeys of a service day, counted from 1970-01-01, and its price. An `Err` is out of
     /// memory.
-    fn show(&self, tables: &Tables, day: u32) -> Result<Shown, AllocError>
-        requires { IsPricedBy tables.now self.now }
-        ensures { IfOk result (λ it. it ≡ shown tables.now (account self.now) (accepted self.now) day) };
+    fn show(&self, editions: &Editions, day: u32) -> Result<Shown, AllocError>
+        requires { IsPricedBy editions.now self.now }
+        ensures { IfOk result (λ it. it ≡ shown editions.now (account self.now) (accepted self.now) day) };
 
     /// What is owed of the week of a service day, counted from 1970-01-01, through that day, and what of it
     /// each operator gets. An `Err` is out of memory.
-    fn quote(&self, tables: &Tables, through: u32) -> Result<Quote, AllocError>
+    fn quote(&self, editions: &Editions, through: u32) -> Result<Quote, AllocError>
         requires numbered { 1 ≤ account self.now }
         requires is_day { IsDay through }
-        requires priced_by { IsPricedBy tables.now self.now }
-        ensures { IfOk result (λ it. it ≡ quote tables.now (account self.now) (accepted self.now) through) };
+        requires priced_by { IsPricedBy editions.now self.now }
+        ensures { IfOk result (λ it. it ≡ quote editions.now (account self.now) (accepted self.now) through) };
 
     /// The journeys of a week, whose Monday is counted from 1970-01-01, in the order of their first taps. Each
     /// is shown with the band that gives the price of its own day, where that covers it. An `Err` is out of
     /// memory.
-    fn lines(&self, tables: &Tables, week: u32) -> Result<Lines, AllocError>
+    fn lines(&self, editions: &Editions, week: u32) -> Result<Lines, AllocError>
         requires is_day { IsDay week }
         requires is_monday { monday week ≡ week }
-        requires priced_by { IsPricedBy tables.now self.now }
-        ensures { IfOk result (λ it. it ≡ week_lines tables.now (accepted self.now) week) };
+        requires priced_by { IsPricedBy editions.now self.now }
+        ensures { IfOk result (λ it. it ≡ week_lines editions.now (accepted self.now) week) };
 
     /// All that the account has accepted. An `Err` is out of memory.
     fn sets(&self) -> Result<Sets, AllocError>

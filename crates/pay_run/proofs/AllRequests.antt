@@ -6,7 +6,7 @@ use Rattle.std.specs.List.{list_any}
 use Rattle.jiff.specs.declared.tz.timezone.TimeZone.{TimeZone}
 use Rattle.pay_rules.specs.declared.posting.Posting.{Posting}
 use Rattle.pay_postings.specs.Words.{LedgerParts}
-use Rattle.pay_tables.specs.Words.{FareTables}
+use Rattle.pay_tables.specs.Words.{FareEditions}
 use Rattle.pay_shard.specs.declared.asked.Asked.{Asked}
 use Rattle.pay_shard.specs.declared.desk.DeskFault.{DeskFault}
 use Rattle.pay_shard.specs.declared.item.Item.{Item}
@@ -34,13 +34,13 @@ replies_of = map (λ (e : Event). e.reply)
 
 -- The requests were answered as the machine does, to the end of the journal. The lines of its newly accepted items are those of the
 -- newly accepted requests.
-pub record RunsTo (zone : TimeZone) (tables : FareTables) (base : State) (front back : List Item) (ledger : Option LedgerParts) (requests : List Request) (events : List Event) (Fails : Type 0) (Holds : Option LedgerParts → Type 0) : Type 0 where
+pub record RunsTo (zone : TimeZone) (editions : FareEditions) (base : State) (front back : List Item) (ledger : Option LedgerParts) (requests : List Request) (events : List Event) (Fails : Type 0) (Holds : Option LedgerParts → Type 0) : Type 0 where
   pub marks : List (Option Failure)
   pub ledger_after : Option LedgerParts
-  pub gives : outcome marks (machine_at zone tables base front ledger) requests ≡ record { replies = replies_of events; after = machine_at zone tables base (front ++ back) ledger_after }
+  pub gives : outcome marks (machine_at zone editions base front ledger) requests ≡ record { replies = replies_of events; after = machine_at zone editions base (front ++ back) ledger_after }
   pub ample : any_failure (replies_of events) ≡ false → list_any is_some marks ≡ false
   pub kept : (Fails → ⊥) → list_any is_keeping marks ≡ false
-  pub lines : lines_new tables (replay tables base front) back ≡ lines_of_requests (new_requests marks (machine_at zone tables base front ledger) requests)
+  pub lines : lines_new editions (replay editions base front) back ≡ lines_of_requests (new_requests marks (machine_at zone editions base front ledger) requests)
   pub holds : Holds ledger_after
 
 pub commands_append : (xs ys : List Taken) → commands_of (xs ++ ys) ≡ commands_of xs ++ commands_of ys
@@ -83,20 +83,20 @@ if_then true item items more = refl
 if_then false item items more = refl
 
 -- those of more items stand after those of the first
-new_after : (tables : FareTables) (state : State) (items more : List Item) → new_items tables state (items ++ more) ≡ new_items tables state items ++ new_items tables (replay tables state items) more
-new_after tables state [] more = refl
-new_after tables state (item ∷ items) more =
-    let b = is_shard_new (item_step tables state item).reply in
-    let next = (item_step tables state item).after in
-    ap (λ l. if b then item ∷ l else l) (new_after tables next items more) ∙ if_then b item (new_items tables next items) (new_items tables (replay tables next items) more)
+new_after : (editions : FareEditions) (state : State) (items more : List Item) → new_items editions state (items ++ more) ≡ new_items editions state items ++ new_items editions (replay editions state items) more
+new_after editions state [] more = refl
+new_after editions state (item ∷ items) more =
+    let b = is_shard_new (item_step editions state item).reply in
+    let next = (item_step editions state item).after in
+    ap (λ l. if b then item ∷ l else l) (new_after editions next items more) ∙ if_then b item (new_items editions next items) (new_items editions (replay editions next items) more)
 
-lines_after : (tables : FareTables) (base : State) (front own rest : List Item)
-    → lines_new tables (replay tables base front) (own ++ rest) ≡ lines_new tables (replay tables base front) own ++ lines_new tables (replay tables base (front ++ own)) rest
-lines_after tables base front own rest =
-    let state = replay tables base front in
-    ap lines_of_items (new_after tables state own rest)
-    ∙ flat_map-append (λ (i : Item). line_of i.entry.command) (new_items tables state own) (new_items tables (replay tables state own) rest)
-    ∙ ap (λ (s : State). lines_new tables state own ++ lines_new tables s rest) (sym (replay_after tables base front own))
+lines_after : (editions : FareEditions) (base : State) (front own rest : List Item)
+    → lines_new editions (replay editions base front) (own ++ rest) ≡ lines_new editions (replay editions base front) own ++ lines_new editions (replay editions base (front ++ own)) rest
+lines_after editions base front own rest =
+    let state = replay editions base front in
+    ap lines_of_items (new_after editions state own rest)
+    ∙ flat_map-append (λ (i : Item). line_of i.entry.command) (new_items editions state own) (new_items editions (replay editions state own) rest)
+    ∙ ap (λ (s : State). lines_new editions state own ++ lines_new editions s rest) (sym (replay_after editions base front own))
 
 -- one request before the others
 request_before : (b : Bool) (r : Request) (new : List Request) → (if b then line_of_request r else []) ++ lines_of_requests new ≡ lines_of_requests (if b then r ∷ new else new)
@@ -112,40 +112,40 @@ module _ {T : Type 0} (Refuses : DeskFault → Type 0) (Late Fails : Type 0) (Cl
   sound_before (r ∷ rs) (e ∷ es) before after served sound =
       was_sound Refuses Late Fails Closes Sound MayAnswer plain zone (asks_of zone r) e before served.0 served.1 (sound_before rs es served.0 after served.2 sound)
 
-  pub all_run : (number : ℕ) (tables : FareTables) (base : State) (front back journal : List Item) (ledger : Option LedgerParts) (requests : List Request) (events : List Event) (before after : T)
+  pub all_run : (number : ℕ) (editions : FareEditions) (base : State) (front back journal : List Item) (ledger : Option LedgerParts) (requests : List Request) (events : List Event) (before after : T)
       → AreInPlace 0 journal → journal ≡ front ++ back → AreServed 1 Refuses Late Closes zone before requests events after
-      → commands_of_items back ≡ commands_of (all_put events) → AreAnswered (transcript number tables base journal) (all_put events) → Sound after → MayAnswer before ledger
-      → RunsTo zone tables base front back ledger requests events Fails (MayAnswer after)
-  all_run number tables base front back journal ledger [] [] before after placed whole served commands said_so sound tells = record {
+      → commands_of_items back ≡ commands_of (all_put events) → AreAnswered (transcript number editions base journal) (all_put events) → Sound after → MayAnswer before ledger
+      → RunsTo zone editions base front back ledger requests events Fails (MayAnswer after)
+  all_run number editions base front back journal ledger [] [] before after placed whole served commands said_so sound tells = record {
     marks = [];
     ledger_after = ledger;
-    gives = ap (λ l. record { replies = []; after = machine_at zone tables base l ledger }) (sym (ap (λ l. front ++ l) (none_left back commands) ∙ append-nil front));
+    gives = ap (λ l. record { replies = []; after = machine_at zone editions base l ledger }) (sym (ap (λ l. front ++ l) (none_left back commands) ∙ append-nil front));
     ample = λ e. refl;
     kept = λ _. refl;
-    lines = ap (lines_new tables (replay tables base front)) (none_left back commands);
+    lines = ap (lines_new editions (replay editions base front)) (none_left back commands);
     holds = subst (λ t. MayAnswer t ledger) (sym served) tells;
   }
-  all_run number tables base front back journal ledger [] (e ∷ es) before after placed whole served commands said_so sound tells = absurd served
-  all_run number tables base front back journal ledger (r ∷ rs) [] before after placed whole served commands said_so sound tells = absurd served
-  all_run number tables base front back journal ledger (r ∷ rs) (e ∷ es) before after placed whole served commands said_so sound tells =
-      let transcript_of = transcript number tables base journal in
+  all_run number editions base front back journal ledger [] (e ∷ es) before after placed whole served commands said_so sound tells = absurd served
+  all_run number editions base front back journal ledger (r ∷ rs) [] before after placed whole served commands said_so sound tells = absurd served
+  all_run number editions base front back journal ledger (r ∷ rs) (e ∷ es) before after placed whole served commands said_so sound tells =
+      let transcript_of = transcript number editions base journal in
       let between = sound_before rs es served.0 after served.2 sound in
-      let one = one_steps Refuses Late Fails Closes Sound MayAnswer plain number zone tables base front back journal ledger (asks_of zone r) e (commands_of (all_put es)) before served.0 placed whole served.1 (commands ∙ commands_append e.put (all_put es))
+      let one = one_steps Refuses Late Fails Closes Sound MayAnswer plain number zone editions base front back journal ledger (asks_of zone r) e (commands_of (all_put es)) before served.0 placed whole served.1 (commands ∙ commands_append e.put (all_put es))
       (said_first transcript_of e.put (all_put es) said_so) between tells in
       let whole_after : journal ≡ (front ++ one.own) ++ one.rest = whole ∙ ap (λ l. front ++ l) one.parts ∙ sym (append_assoc front one.own one.rest) in
-      let later = all_run number tables base (front ++ one.own) one.rest journal one.ledger_after rs es served.0 after placed whole_after served.2 one.commands (said_rest transcript_of e.put (all_put es) said_so) sound one.holds in
-      let first : step one.mark (machine_at zone tables base front ledger) r ≡ record { reply = e.reply; after = machine_at zone tables base (front ++ one.own) one.ledger_after } = stepped one.mark r (machine_at zone tables base front ledger) _ one.step in
+      let later = all_run number editions base (front ++ one.own) one.rest journal one.ledger_after rs es served.0 after placed whole_after served.2 one.commands (said_rest transcript_of e.put (all_put es) said_so) sound one.holds in
+      let first : step one.mark (machine_at zone editions base front ledger) r ≡ record { reply = e.reply; after = machine_at zone editions base (front ++ one.own) one.ledger_after } = stepped one.mark r (machine_at zone editions base front ledger) _ one.step in
       record {
         marks = one.mark ∷ later.marks;
         ledger_after = later.ledger_after;
         gives = ap (λ (s : Step). reply_then s.reply (outcome later.marks s.after rs)) first ∙ ap (reply_then e.reply) later.gives
-            ∙ ap (λ l. record { replies = e.reply ∷ replies_of es; after = machine_at zone tables base l later.ledger_after }) (append_assoc front one.own one.rest ∙ ap (λ l. front ++ l) (sym one.parts));
+            ∙ ap (λ l. record { replies = e.reply ∷ replies_of es; after = machine_at zone editions base l later.ledger_after }) (append_assoc front one.own one.rest ∙ ap (λ l. front ++ l) (sym one.parts));
         ample = λ h. let both = both_false (tells_failure e.reply) (any_failure (replies_of es)) h in or_false (is_some one.mark) (list_any is_some later.marks) (ap is_some (one.ample both.0)) (later.ample both.1);
         kept = λ never. or_false (is_keeping one.mark) (list_any is_keeping later.marks) (one.kept never) (later.kept never);
-        lines = ap (lines_new tables (replay tables base front)) one.parts ∙ lines_after tables base front one.own one.rest
-            ∙ ap (λ l. l ++ lines_new tables (replay tables base (front ++ one.own)) one.rest) (one.lines ∙ line_is by_line one.mark (machine_at zone tables base front ledger) r e.reply (ap (λ (s : Step). s.reply) first))
+        lines = ap (lines_new editions (replay editions base front)) one.parts ∙ lines_after editions base front one.own one.rest
+            ∙ ap (λ l. l ++ lines_new editions (replay editions base (front ++ one.own)) one.rest) (one.lines ∙ line_is by_line one.mark (machine_at zone editions base front ledger) r e.reply (ap (λ (s : Step). s.reply) first))
             ∙ ap (λ l. (if is_new e.reply then line_of_request r else []) ++ l) later.lines
-            ∙ request_before (is_new e.reply) r (new_requests later.marks (machine_at zone tables base (front ++ one.own) one.ledger_after) rs)
+            ∙ request_before (is_new e.reply) r (new_requests later.marks (machine_at zone editions base (front ++ one.own) one.ledger_after) rs)
             ∙ ap (λ (s : Step). lines_of_requests (if is_new s.reply then r ∷ new_requests later.marks s.after rs else new_requests later.marks s.after rs)) (sym first);
         holds = later.holds;
       }

@@ -113,7 +113,7 @@ items_unmarked zone (r ∷ list) = unmarked_one (asks_of zone r) (items_for [] z
 
 -- a machine after the items of a journal, with a ledger
 abbrev pub beyond : Machine → List Item → Option LedgerParts → Machine
-beyond m items ledger = record { zone = m.zone; tables = m.tables; accounts = replay m.tables m.accounts items; ledger = ledger }
+beyond m items ledger = record { zone = m.zone; editions = m.editions; accounts = replay m.editions m.accounts items; ledger = ledger }
 
 after_one : (mark : Option Failure) (m : Machine) (of : Asks) (later : TimeZone → List Item) (ledger : Option LedgerParts)
     → beyond (step_asks mark m of).after (later (step_asks mark m of).after.zone) ledger ≡ beyond m (item_then (is_some mark) of (later m.zone)) ledger
@@ -203,7 +203,7 @@ items_kept (mark ∷ marks) m (r ∷ list) kept ample =
 accounts_by : (marks : List (Option Failure)) (m : Machine) (list : List Request) → items_for marks m.zone list ≡ items_for [] m.zone list
     → (outcome marks m list).after.accounts ≡ (outcome [] m list).after.accounts
 accounts_by marks m list same =
-    ap (λ (n : Machine). n.accounts) (ends_after marks m list) ∙ ap (replay m.tables m.accounts) same ∙ sym (ap (λ (n : Machine). n.accounts) (ends_after [] m list))
+    ap (λ (n : Machine). n.accounts) (ends_after marks m list) ∙ ap (replay m.editions m.accounts) same ∙ sym (ap (λ (n : Machine). n.accounts) (ends_after [] m list))
 
 -- the accounts are what they are where nothing failed
 pub accounts_alike : (marks : List (Option Failure)) (m : Machine) (list : List Request) → list_any tells_loss (outcome marks m list).replies ≡ false
@@ -234,15 +234,15 @@ accepted_if false zone r a later list e h = h
 
 -- what is accepted of the items is what the accepted requests ask for
 abbrev AreAsked : Machine → List Item → List Request → Type 0
-AreAsked m items list = accepted_asked m.tables m.accounts items ≡ commands_for m.zone list
+AreAsked m items list = accepted_asked m.editions m.accounts items ≡ commands_for m.zone list
 
 accepted_one : (mark : Option Failure) (m : Machine) (r : Request) (of : Asks) (later : TimeZone → List Item) (list : List Request) → asks_of m.zone r ≡ of
     → AreAsked (step_asks mark m of).after (later (step_asks mark m of).after.zone) list
     → AreAsked m (item_then (is_some mark) of (later m.zone)) (if is_priced (step_asks mark m of).reply then r ∷ list else list)
 accepted_one None m r (asks.Put a) later list e h =
-    let reply = (shard_step m.tables m.accounts a).reply in
-    let next = (shard_step m.tables m.accounts a).after in
-    accepted_if (is_shard_priced reply) m.zone r a (accepted_asked m.tables next (later m.zone)) list e h
+    let reply = (shard_step m.editions m.accounts a).reply in
+    let next = (shard_step m.editions m.accounts a).after in
+    accepted_if (is_shard_priced reply) m.zone r a (accepted_asked m.editions next (later m.zone)) list e h
     ∙ ap (λ b. commands_for m.zone (if b then r ∷ list else list)) (sym (said_priced reply))
 accepted_one (Some failure) m r (asks.Put a) later list e h = h
 accepted_one mark m r (asks.Close day) later list e h =
@@ -264,7 +264,7 @@ accepted_items (mark ∷ marks) m (r ∷ list) =
 
 -- all replies to a journal of a machine's shard are prices
 abbrev pub AreItemsPriced : Machine → List Item → Type 0
-AreItemsPriced m items = AreShardPriced (run m.tables m.accounts items).replies
+AreItemsPriced m items = AreShardPriced (run m.editions m.accounts items).replies
 
 -- a request that is answered by prices asks for a command, whose item is answered by prices too, and the zone and the ledger stay
 record GivesPrices (m : Machine) (of : Asks) (later : TimeZone → List Item) : Type 0 where
@@ -278,7 +278,7 @@ no_prices : (m : Machine) (day : ℕ) → is_priced (step_close None m day m.led
 no_prices m day = of_close (λ (s : Step). is_priced s.reply ≡ true → ⊥) m (λ reply ledger plain is. true_false (sym is ∙ plain)) None day m.ledger
 
 priced_one : (m : Machine) (of : Asks) (later : TimeZone → List Item) → is_priced (step_asks None m of).reply ≡ true → GivesPrices m of later
-priced_one m (asks.Put a) later is = record { asks_for = (a, refl); zone = refl; ledger = refl; priced = λ all. (sym (said_priced (shard_step m.tables m.accounts a).reply) ∙ is, all) }
+priced_one m (asks.Put a) later is = record { asks_for = (a, refl); zone = refl; ledger = refl; priced = λ all. (sym (said_priced (shard_step m.editions m.accounts a).reply) ∙ is, all) }
 priced_one m (asks.Close day) later is = absurd (no_prices m day is)
 priced_one m asks.Quit later is = absurd (cc)
 priced_one m (asks.No why) later is = absurd (cc)
@@ -310,7 +310,7 @@ record AsksForPriced (m : Machine) (of : Asks) (later : TimeZone → List Item) 
   later_priced : AreItemsPriced (step_asks None m of).after (later (step_asks None m of).after.zone)
 
 command_one : (m : Machine) (of : Asks) (a : Asked) (later : TimeZone → List Item) → of ≡ asks.Put a → AreItemsPriced m (item_then false of (later m.zone)) → AsksForPriced m of later
-command_one m (asks.Put b) a later e all = record { reply = said_priced (shard_step m.tables m.accounts b).reply ∙ all.0; zone = refl; later_priced = all.1 }
+command_one m (asks.Put b) a later e all = record { reply = said_priced (shard_step m.editions m.accounts b).reply ∙ all.0; zone = refl; later_priced = all.1 }
 command_one m (asks.Close day) a later e all = absurd (cc)
 command_one m asks.Quit a later e all = absurd (cc)
 command_one m (asks.No why) a later e all = absurd (cc)

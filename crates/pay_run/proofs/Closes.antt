@@ -18,4 +18,4 @@ module _ (P : Step → Type 0) (m : Machine) (each : (reply : SpelledReply) (led
   pub of_close : (failed : Option Failure) (day : ℕ) (ledger : Option LedgerParts) → P (step_close failed m day ledger)
   of_close failed day None = each _ m.ledger refl
   of_close (Some failure) day (Some ledger) = each _ m.ledger refl
-  of_close None day (Some ledger) = of_closed day (close m.tables (record { state = m.accounts; ledger = ledger }) day)
+  of_close None day (Some ledger) = of_closed day (close m.editions (record { state = m.accounts; ledger = ledger }) day)

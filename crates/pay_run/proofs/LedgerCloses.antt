@@ -8,7 +8,7 @@ use Rattle.pay_rules.specs.declared.posting.Posting.{Posting}
 use Rattle.pay_postings.specs.Words.{LedgerParts, posted}
 use Rattle.pay_rules.specs.declared.post_fault.PostFault.{PostFault}
 use Rattle.pay_ledger.specs.Words.{IsLedger, IsAsBefore}
-use Rattle.pay_tables.specs.Words.{FareTables}
+use Rattle.pay_tables.specs.Words.{FareEditions}
 use Rattle.pay_shard.specs.declared.reply.Answer.{Answer}
 use Rattle.pay_shard.specs.declared.reply.Reply.TheVariants as desk_reply
 use Rattle.pay_rules.specs.State.{State as Accounts}
@@ -33,7 +33,7 @@ true_false e = cc
 
 module _ (m : Machine) (day : ℕ) (new : State) (ledger : LedgerParts) (there : m.ledger ≡ Some ledger) where
   -- the quotes were posted
-  posted_as : (b : BatchParts) (given : List Posting) → b ≡ batch_of_all m.tables m.accounts day
+  posted_as : (b : BatchParts) (given : List Posting) → b ≡ batch_of_all m.editions m.accounts day
       → (after : LedgerParts) × (posted ledger b.quotes b.sets ≡ Ok (given, after)) × IsLedger new.now after → ClosesAs m day (Ok given) (HasLedger new)
   posted_as b given all done = record {
     mark = None;
@@ -50,7 +50,7 @@ module _ (m : Machine) (day : ℕ) (new : State) (ledger : LedgerParts) (there :
     still = subst (HasLedger new) (sym there) stays_so
 
     -- they were refused
-    refused_as : (b : BatchParts) (why : PostFault) (fault : Refusal) → b ≡ batch_of_all m.tables m.accounts day → fault ≡ refusal_of_posting why → posted ledger b.quotes b.sets ≡ Err why → ClosesAs m day (Err fault) (HasLedger new)
+    refused_as : (b : BatchParts) (why : PostFault) (fault : Refusal) → b ≡ batch_of_all m.editions m.accounts day → fault ≡ refusal_of_posting why → posted ledger b.quotes b.sets ≡ Err why → ClosesAs m day (Err fault) (HasLedger new)
     refused_as b why fault all told refuses = record {
       mark = None;
       ledger = m.ledger;
@@ -96,16 +96,16 @@ module _ (m : Machine) (day : ℕ) (new : State) (ledger : LedgerParts) (there :
 
 -- ---- by what was gathered
 
-module _ (gathers : OneShardGathersAll) (tables : FareTables) (state : Accounts) (day : ℕ) where
+module _ (gathers : OneShardGathersAll) (editions : FareEditions) (state : Accounts) (day : ℕ) where
   -- an answer of the machine that brings quotes brings those of all
-  brings_all : (one : Taken) (o : Option Answer) → one.answer ≡ o → IsSomeAnd o (λ answer. (answer.reply ≡ desk_reply.Quotes (batch_of_all tables state day)) ⊎ (answer.reply ≡ desk_reply.Memory)) → brings_quotes o ≡ true
-      → gathered (one ∷ []) ≡ batch_of_all tables state day
+  brings_all : (one : Taken) (o : Option Answer) → one.answer ≡ o → IsSomeAnd o (λ answer. (answer.reply ≡ desk_reply.Quotes (batch_of_all editions state day)) ⊎ (answer.reply ≡ desk_reply.Memory)) → brings_quotes o ≡ true
+      → gathered (one ∷ []) ≡ batch_of_all editions state day
   brings_all one None e is brings = absurd is
-  brings_all one (Some answer) e (inl quotes) brings = (gathers tables state day one answer e quotes).1
+  brings_all one (Some answer) e (inl quotes) brings = (gathers editions state day one answer e quotes).1
   brings_all one (Some answer) e (inr memory) brings = absurd (true_false (sym brings ∙ ap gives_quotes memory))
 
   -- all that the machine answered is gathered
-  gathers_all : (put : List Taken) → IsWhole 1 put → AllByRecursion (IsOfMachine tables state day) put → gathered put ≡ batch_of_all tables state day
+  gathers_all : (put : List Taken) → IsWhole 1 put → AllByRecursion (IsOfMachine editions state day) put → gathered put ≡ batch_of_all editions state day
   gathers_all [] whole are = absurd (omega (arith, whole.0))
   gathers_all (one ∷ []) whole are = brings_all one one.answer refl are.0 whole.1.0
   gathers_all (one ∷ other ∷ put) whole are = absurd (omega (arith, whole.0))
@@ -122,14 +122,14 @@ the_ledger : (s : State) (o : Option LedgerParts) → HasLedger s o → TheLedge
 the_ledger s None has = absurd has
 the_ledger s (Some ledger) has = record { ledger = ledger; there = refl; is = has }
 
-module _ (gathers : OneShardGathersAll) (m : Machine) (day : ℕ) (old new : State) (put : List Taken) (answers : AllByRecursion (IsOfMachine m.tables m.accounts day) put) where
+module _ (gathers : OneShardGathersAll) (m : Machine) (day : ℕ) (old new : State) (put : List Taken) (answers : AllByRecursion (IsOfMachine m.editions m.accounts day) put) where
   as_before : (l : TheLedger old m.ledger) → IsAsBefore old new → IsLedger new.now l.ledger
   as_before l same = subst (λ (db : Database). IsLedger db l.ledger) (sym same.now) (l.is same.was_open)
 
   refused_or_failed : (fault : Refusal) (l : TheLedger old m.ledger) → (IsTrue new.is_open → IsLedger new.now l.ledger) → IsWhySaid 1 put l.ledger fault → ClosesAs m day (Err fault) (HasLedger new)
   refused_or_failed fault l still (inl outside) = outside_as m day new l.ledger l.there still fault outside
   refused_or_failed fault l still (inr refused) =
-      refused_as m day new l.ledger l.there still (gathered put) refused.0 fault (gathers_all gathers m.tables m.accounts day put refused.2 answers) refused.1 refused.3
+      refused_as m day new l.ledger l.there still (gathered put) refused.0 fault (gathers_all gathers m.editions m.accounts day put refused.2 answers) refused.1 refused.3
 
   -- a connection that was shut refuses for a cause from outside alone
   shut_or_not : (fault : Refusal) (l : TheLedger old m.ledger) → (IsTrue new.is_open → IsLedger new.now l.ledger) → ((ledger : LedgerParts) → IsLedger old.now ledger → IsWhySaid 1 put ledger fault)
@@ -142,7 +142,7 @@ module _ (gathers : OneShardGathersAll) (m : Machine) (day : ℕ) (old new : Sta
       let l = the_ledger old m.ledger has in
       let done = closes.closed clean in
       let became = done.1.ledger l.ledger (l.is done.1.was_open) in
-      posted_as m day new l.ledger l.there (gathered put) given (gathers_all gathers m.tables m.accounts day put done.0 answers) (became.0, became.1, became.2)
+      posted_as m day new l.ledger l.there (gathered put) given (gathers_all gathers m.editions m.accounts day put done.0 answers) (became.0, became.1, became.2)
   ledger_closes (Err fault) closes clean has =
       let l = the_ledger old m.ledger has in
       shut_or_not fault l (λ live. as_before l (closes.unchanged clean live)) (closes.refused clean) (closes.of_open clean)

@@ -4,7 +4,7 @@ use Rattle.std.specs.Prelude.{filter}
 use Rattle.jiff.specs.declared.tz.timezone.TimeZone.{TimeZone}
 use Rattle.pay_rules.specs.InTurn.{IsIn}
 use Rattle.pay_postings.specs.Words.{LedgerParts}
-use Rattle.pay_tables.specs.Words.{FareTables}
+use Rattle.pay_tables.specs.Words.{FareEditions}
 use Rattle.pay_shard.specs.declared.reply.Reply.{Reply}
 use Rattle.pay_shard.specs.declared.reply.Reply.TheVariants as shard_replies
 use Rattle.pay_rules.specs.State.{State}
@@ -122,8 +122,8 @@ module _ (others_stay : OthersChangeNothing) where
   old_step : (mark : Option Failure) (m : Machine) (ledger : Option LedgerParts) (of : Asks) → is_new (step_asks mark m of).reply ≡ false
       → with_ledger (step_asks mark m of).after ledger ≡ with_ledger m ledger
   old_step None m ledger (asks.Put a) old =
-      let stays = others_stay m.tables m.accounts (record { entry = record { lane = 0; ticket = 0; command = a }; refused_memory = false }) (sym (said_new (shard_step m.tables m.accounts a).reply) ∙ old) in
-      ap (λ (s : State). record { zone = m.zone; tables = m.tables; accounts = s; ledger = ledger }) stays
+      let stays = others_stay m.editions m.accounts (record { entry = record { lane = 0; ticket = 0; command = a }; refused_memory = false }) (sym (said_new (shard_step m.editions m.accounts a).reply) ∙ old) in
+      ap (λ (s : State). record { zone = m.zone; editions = m.editions; accounts = s; ledger = ledger }) stays
   old_step (Some failure) m ledger (asks.Put a) old = refl
   old_step mark m ledger (asks.Close day) old =
       of_close (λ (s : Step). with_ledger s.after ledger ≡ with_ledger m ledger) m (λ reply kept plain. refl) mark day m.ledger
@@ -182,14 +182,14 @@ module _ (others_stay : OthersChangeNothing) where
 
   -- ---- after what was kept before
 
-  pub kept_gives : (zone : TimeZone) (tables : FareTables) (kept : List Request) (m : Machine) (list : List Request) (marks : List (Option Failure)) → GivesBack zone tables kept m
-      → GivesBack zone tables (kept ++ new_requests marks m list) (outcome marks m list).after
-  kept_gives zone tables kept m list marks gives =
+  pub kept_gives : (zone : TimeZone) (editions : FareEditions) (kept : List Request) (m : Machine) (list : List Request) (marks : List (Option Failure)) → GivesBack zone editions kept m
+      → GivesBack zone editions (kept ++ new_requests marks m list) (outcome marks m list).after
+  kept_gives zone editions kept m list marks gives =
       let came = outcome marks m list in
       let ledger = came.after.ledger in
       let new = new_requests marks m list in
-      let begun = new_machine zone tables ledger in
-      let same = over_ledger (new_machine zone tables m.ledger) ledger kept gives.accepted in
+      let begun = new_machine zone editions ledger in
+      let same = over_ledger (new_machine zone editions m.ledger) ledger kept gives.accepted in
       let stands : (outcome [] begun kept).after ≡ with_ledger m ledger = ap (λ (o : Outcome). o.after) same ∙ ap (λ (n : Machine). with_ledger n ledger) gives.machine in
       let first : AreAllPriced (outcome [] begun kept).replies = subst (λ (o : Outcome). AreAllPriced o.replies) (sym same) gives.accepted in
       let second : AreAllPriced (outcome [] (outcome [] begun kept).after new).replies = subst (λ (n : Machine). AreAllPriced (outcome [] n new).replies) (sym stands) (all_accepted m list marks ledger) in
@@ -198,8 +198,8 @@ module _ (others_stay : OthersChangeNothing) where
         machine = after_both begun kept new ∙ ap (λ (n : Machine). (outcome [] n new).after) stands ∙ ap (λ (o : Outcome). o.after) (replayed marks m ledger list) ∙ own_ledger came.after;
       }
 
-  pub kept_in_any_order : AskedAlikeEndsAlike → (zone : TimeZone) (tables : FareTables) (kept other : List Request) (m : Machine) → ((r : Request) → IsIn kept r ↔ IsIn other r)
-      → GivesBack zone tables kept m → GivesBack zone tables other m
-  kept_in_any_order forgets zone tables kept other m alike gives =
-      let both = forgets (new_machine zone tables m.ledger) kept other alike gives.accepted in
+  pub kept_in_any_order : AskedAlikeEndsAlike → (zone : TimeZone) (editions : FareEditions) (kept other : List Request) (m : Machine) → ((r : Request) → IsIn kept r ↔ IsIn other r)
+      → GivesBack zone editions kept m → GivesBack zone editions other m
+  kept_in_any_order forgets zone editions kept other m alike gives =
+      let both = forgets (new_machine zone editions m.ledger) kept other alike gives.accepted in
       record { accepted = both.0; machine = both.1 ∙ gives.machine }

@@ -15,7 +15,7 @@ use Rattle.pay_rules.specs.declared.fares.FixFault.TheVariants as of_fix
 use Rattle.pay_rules.specs.declared.tap.Tap.{Tap}
 use Rattle.pay_rules.specs.declared.fix.Fix.{Fix}
 use Rattle.pay_postings.specs.Words.{LedgerParts}
-use Rattle.pay_tables.specs.Words.{FareTables}
+use Rattle.pay_tables.specs.Words.{FareEditions}
 use Rattle.pay_rules.specs.TapResults.{tap_result}
 use Rattle.pay_rules.specs.FixResults.{fix_result}
 use Rattle.pay_shard.specs.declared.asked.Asked.{Asked}
@@ -93,7 +93,7 @@ handed_both zone first desk last rs others es more stands kept f g =
     let Refuses = MaySometimeRefuse desk_parts (desk_parts first).standing in
     let Late = MaySometimeBeLate desk_parts (desk_parts first).standing in
     let beyond : IsSession zone 1 Refuses Late ClosesNothing (sides_from desk.shard.journal last.shard tt tt) others more =
-    subst (λ (s : Standing (FareTables × State)). IsSession zone 1 (MaySometimeRefuse desk_parts s) (MaySometimeBeLate desk_parts s) ClosesNothing (sides_from desk.shard.journal last.shard tt tt) others more) stands g in
+    subst (λ (s : Standing (FareEditions × State)). IsSession zone 1 (MaySometimeRefuse desk_parts s) (MaySometimeBeLate desk_parts s) ClosesNothing (sides_from desk.shard.journal last.shard tt tt) others more) stands g in
     let put : all_put (es ++ more) ≡ all_put es ++ all_put more = flat_map-append (λ (e : Event). e.put) es more in
     record {
       served = served_both Refuses Late zone rs es others more tt tt tt f.served beyond.served;
@@ -104,8 +104,8 @@ handed_both zone first desk last rs others es more stands kept f g =
     }
 
 -- to a desk without accounts nothing was handed
-pub has_none : (zone : TimeZone) (tables : FareTables) (desk : LocalParts) → desk.shard.tables ≡ tables → desk.shard.base ≡ finite.empty → desk.shard.journal ≡ [] → HasReplayed zone tables desk []
-has_none zone tables desk same no_base no_journal = record {
+pub has_none : (zone : TimeZone) (editions : FareEditions) (desk : LocalParts) → desk.shard.editions ≡ editions → desk.shard.base ≡ finite.empty → desk.shard.journal ≡ [] → HasReplayed zone editions desk []
+has_none zone editions desk same no_base no_journal = record {
   first = desk;
   same = same;
   no_base = no_base;
@@ -116,9 +116,9 @@ has_none zone tables desk same no_base no_journal = record {
 }
 
 -- all whole lines of one more text were
-pub goes_on : (zone : TimeZone) (tables : FareTables) (desk last : LocalParts) (before : List Request) (text : List ℕ) (it : Replayed) → HasReplayed zone tables desk before → (desk_parts last).standing ≡ (desk_parts desk).standing
-    → NothingIsLost (desk_parts desk).transcript (desk_parts last).transcript → IsReplayed zone desk_parts desk last text it → HasReplayed zone tables last (before ++ line_requests text)
-goes_on zone tables desk last before text it h same kept f = record {
+pub goes_on : (zone : TimeZone) (editions : FareEditions) (desk last : LocalParts) (before : List Request) (text : List ℕ) (it : Replayed) → HasReplayed zone editions desk before → (desk_parts last).standing ≡ (desk_parts desk).standing
+    → NothingIsLost (desk_parts desk).transcript (desk_parts last).transcript → IsReplayed zone desk_parts desk last text it → HasReplayed zone editions last (before ++ line_requests text)
+goes_on zone editions desk last before text it h same kept f = record {
   first = h.first;
   same = h.same;
   no_base = h.no_base;
@@ -135,20 +135,20 @@ goes_on zone tables desk last before text it h same kept f = record {
 -- ---- as the machine has it
 
 -- the requests were run by the machine, for none of which a line was to be kept
-record IsRun (zone : TimeZone) (tables : FareTables) (shard : ShardParts) (requests : List Request) (events : List Event) : Type 0 where
+record IsRun (zone : TimeZone) (editions : FareEditions) (shard : ShardParts) (requests : List Request) (events : List Event) : Type 0 where
   marks : List (Option Failure)
-  gives : outcome marks (new_machine zone tables None) requests ≡ record { replies = replies_of events; after = machine_on zone shard None }
+  gives : outcome marks (new_machine zone editions None) requests ≡ record { replies = replies_of events; after = machine_on zone shard None }
   kept : list_any is_keeping marks ≡ false
 
-handed_run : AskedByItsLine → (zone : TimeZone) (tables : FareTables) (first desk : LocalParts) (requests : List Request) (events : List Event) → first.shard.tables ≡ tables → first.shard.base ≡ finite.empty → first.shard.journal ≡ []
-    → (desk_parts desk).standing ≡ (desk_parts first).standing → AreInPlace 0 desk.shard.journal → AreHanded zone desk_parts first desk requests events → IsRun zone tables desk.shard requests events
-handed_run by_line zone tables first desk requests events same no_base no_journal stands placed handed =
+handed_run : AskedByItsLine → (zone : TimeZone) (editions : FareEditions) (first desk : LocalParts) (requests : List Request) (events : List Event) → first.shard.editions ≡ editions → first.shard.base ≡ finite.empty → first.shard.journal ≡ []
+    → (desk_parts desk).standing ≡ (desk_parts first).standing → AreInPlace 0 desk.shard.journal → AreHanded zone desk_parts first desk requests events → IsRun zone editions desk.shard requests events
+handed_run by_line zone editions first desk requests events same no_base no_journal stands placed handed =
     let stood = (desk_parts first).standing in
     let b : IsAfter [] desk.shard = record { back = desk.shard.journal; whole = refl; in_place = placed } in
     let s = subst (λ l. IsSession zone 1 (MaySometimeRefuse desk_parts stood) (MaySometimeBeLate desk_parts stood) ClosesNothing (sides_from l desk.shard tt tt) requests events) no_journal handed in
     let r = runs (MaySometimeRefuse desk_parts stood) (MaySometimeBeLate desk_parts stood) ⊥ ClosesNothing (λ till. ⊤) (λ till ledger. ledger ≡ None) (replay_plain stood) by_line zone [] desk.shard tt tt None requests events b tt refl s in
-    let begun : machine_on zone (record { number = desk.shard.number; tables = desk.shard.tables; base = desk.shard.base; journal = []; room = desk.shard.room }) None ≡ new_machine zone tables None =
-    (λ i. record { zone = zone; tables = ((ap (λ (s : Standing (FareTables × State)). s.origin.0) stands) ∙ same) i; accounts = ((ap (λ (s : Standing (FareTables × State)). s.origin.1) stands) ∙ no_base) i; ledger = None }) in
+    let begun : machine_on zone (record { number = desk.shard.number; editions = desk.shard.editions; base = desk.shard.base; journal = []; room = desk.shard.room }) None ≡ new_machine zone editions None =
+    (λ i. record { zone = zone; editions = ((ap (λ (s : Standing (FareEditions × State)). s.origin.0) stands) ∙ same) i; accounts = ((ap (λ (s : Standing (FareEditions × State)). s.origin.1) stands) ∙ no_base) i; ledger = None }) in
     record {
       marks = r.marks;
       gives = ap (λ m. outcome r.marks m requests) (sym begun) ∙ r.gives ∙ ap (λ l. record { replies = replies_of events; after = machine_on zone desk.shard l }) r.holds;
@@ -179,21 +179,21 @@ unmarked (mark ∷ marks) m (r ∷ list) all =
     ap (λ (s : Step). reply_then s.reply (outcome [] s.after list)) (step_alike mark m r all.0) ∙ ap (reply_then (step mark m r).reply) (unmarked marks (step mark m r).after list all.1)
 
 -- what was replayed is given back
-pub gives_back : AskedByItsLine → (zone : TimeZone) (tables : FareTables) (desk : LocalParts) (requests : List Request) → AreInPlace 0 desk.shard.journal → HasReplayed zone tables desk requests → GivesBack zone tables requests (machine_on zone desk.shard None)
-gives_back by_line zone tables desk requests placed h =
-    let r = handed_run by_line zone tables h.first desk requests h.events h.same h.no_base h.no_journal h.stands placed h.accepted.0 in
+pub gives_back : AskedByItsLine → (zone : TimeZone) (editions : FareEditions) (desk : LocalParts) (requests : List Request) → AreInPlace 0 desk.shard.journal → HasReplayed zone editions desk requests → GivesBack zone editions requests (machine_on zone desk.shard None)
+gives_back by_line zone editions desk requests placed h =
+    let r = handed_run by_line zone editions h.first desk requests h.events h.same h.no_base h.no_journal h.stands placed h.accepted.0 in
     let priced = subst (λ (o : Outcome). AreAllPriced o.replies) (sym r.gives) (priced_replies h.events h.accepted.2) in
-    let alike = unmarked r.marks (new_machine zone tables None) requests priced in
+    let alike = unmarked r.marks (new_machine zone editions None) requests priced in
     record { accepted = subst (λ (o : Outcome). AreAllPriced o.replies) (sym alike) priced; machine = ap (λ (o : Outcome). o.after) (alike ∙ r.gives) }
 
 -- a desk that has what requests give back prices by the fare file by which they were answered
-tables_of : (zone : TimeZone) (tables : FareTables) (shard : ShardParts) (list : List Request) → GivesBack zone tables list (machine_on zone shard None) → shard.tables ≡ tables
-tables_of zone tables shard list gives = ap (λ (m : Machine). m.tables) (sym gives.machine ∙ ends_after [] (new_machine zone tables None) list)
+tables_of : (zone : TimeZone) (editions : FareEditions) (shard : ShardParts) (list : List Request) → GivesBack zone editions list (machine_on zone shard None) → shard.editions ≡ editions
+tables_of zone editions shard list gives = ap (λ (m : Machine). m.editions) (sym gives.machine ∙ ends_after [] (new_machine zone editions None) list)
 
 -- and over another ledger they give back the same
-gives_over : (zone : TimeZone) (tables : FareTables) (shard : ShardParts) (list : List Request) → GivesBack zone tables list (machine_on zone shard None) → (ledger : Option LedgerParts) → GivesBack zone tables list (machine_on zone shard ledger)
-gives_over zone tables shard list gives ledger =
-    let same = over_ledger (new_machine zone tables None) ledger list gives.accepted in
+gives_over : (zone : TimeZone) (editions : FareEditions) (shard : ShardParts) (list : List Request) → GivesBack zone editions list (machine_on zone shard None) → (ledger : Option LedgerParts) → GivesBack zone editions list (machine_on zone shard ledger)
+gives_over zone editions shard list gives ledger =
+    let same = over_ledger (new_machine zone editions None) ledger list gives.accepted in
     record {
       accepted = subst (λ (o : Outcome). AreAllPriced o.replies) (sym same) gives.accepted;
       machine = ap (λ (o : Outcome). o.after) same ∙ ap (λ (m : Machine). with_ledger m ledger) gives.machine;
@@ -203,11 +203,11 @@ gives_over zone tables shard list gives ledger =
 whole_of : (n m k : ℕ) → n + m ≡ k → n ≡ k - m
 whole_of n m k e = omega (arith, e)
 
-pub is_replay : AskedByItsLine → (zone : TimeZone) (tables : FareTables) (desk last : LocalParts) (text : List ℕ) (it : Replayed) → desk.shard.tables ≡ tables → desk.shard.base ≡ finite.empty → desk.shard.journal ≡ [] → AreInPlace 0 last.shard.journal
-    → (desk_parts last).standing ≡ (desk_parts desk).standing → NothingIsLost (desk_parts desk).transcript (desk_parts last).transcript → IsReplayed zone desk_parts desk last text it → IsReplayOf zone tables text last.shard it
-is_replay by_line zone tables desk last text it same no_base no_journal placed stands kept f = record {
-  same = tables_of zone tables last.shard (line_requests text) (gives_back by_line zone tables last (line_requests text) placed (goes_on zone tables desk last [] text it (has_none zone tables desk same no_base no_journal) stands kept f));
-  gives_back = gives_over zone tables last.shard (line_requests text) (gives_back by_line zone tables last (line_requests text) placed (goes_on zone tables desk last [] text it (has_none zone tables desk same no_base no_journal) stands kept f));
+pub is_replay : AskedByItsLine → (zone : TimeZone) (editions : FareEditions) (desk last : LocalParts) (text : List ℕ) (it : Replayed) → desk.shard.editions ≡ editions → desk.shard.base ≡ finite.empty → desk.shard.journal ≡ [] → AreInPlace 0 last.shard.journal
+    → (desk_parts last).standing ≡ (desk_parts desk).standing → NothingIsLost (desk_parts desk).transcript (desk_parts last).transcript → IsReplayed zone desk_parts desk last text it → IsReplayOf zone editions text last.shard it
+is_replay by_line zone editions desk last text it same no_base no_journal placed stands kept f = record {
+  same = tables_of zone editions last.shard (line_requests text) (gives_back by_line zone editions last (line_requests text) placed (goes_on zone editions desk last [] text it (has_none zone editions desk same no_base no_journal) stands kept f));
+  gives_back = gives_over zone editions last.shard (line_requests text) (gives_back by_line zone editions last (line_requests text) placed (goes_on zone editions desk last [] text it (has_none zone editions desk same no_base no_journal) stands kept f));
   lines = f.counted;
   bytes = whole_of it.bytes (length (rest_of text)) (length text) f.sized;
 }
@@ -326,9 +326,9 @@ fix_plain state fix (Err of_fix.Memory) = refl
 refused_so : (mark : Option Failure) (m : Machine) (of : Asks) (reply : SpelledReply) (why : Refusal) → is_barred of ≡ false → (step_asks mark m of).reply ≡ reply → why_ended reply ≡ Some why → why ≢ refusal.Memory → is_keeping mark ≡ false
     → (step_asks None m of).reply ≡ replies.No why
 refused_so None m (asks.Put (asked.Tap tap)) reply why free told ends other kept =
-    why_of _ why (tap_plain m.accounts tap (tap_result m.tables (accepted_of m.accounts tap.account) tap)) (ap why_ended told ∙ ends)
+    why_of _ why (tap_plain m.accounts tap (tap_result m.editions (accepted_of m.accounts tap.account) tap)) (ap why_ended told ∙ ends)
 refused_so None m (asks.Put (asked.Fix fix)) reply why free told ends other kept =
-    why_of _ why (fix_plain m.accounts fix (fix_result m.tables (accepted_of m.accounts fix.account) fix)) (ap why_ended told ∙ ends)
+    why_of _ why (fix_plain m.accounts fix (fix_result m.editions (accepted_of m.accounts fix.account) fix)) (ap why_ended told ∙ ends)
 refused_so (Some Memory) m (asks.Put a) reply why free told ends other kept = absurd (other (sym (some_why refusal.Memory why (ap why_ended told ∙ ends))))
 refused_so (Some Store) m (asks.Put a) reply why free told ends other kept = absurd (other (sym (some_why refusal.Memory why (ap why_ended told ∙ ends))))
 refused_so (Some Desk) m (asks.Put a) reply why free told ends other kept = absurd (other (sym (some_why refusal.Memory why (ap why_ended told ∙ ends))))
@@ -353,10 +353,10 @@ same_zone : (m : Machine) (list : List Request) → (outcome [] m list).after.zo
 same_zone m list = ap (λ (n : Machine). n.zone) (ends_after [] m list)
 
 -- a replay that ended, after what was replayed before
-module _ (by_line : AskedByItsLine) (zone : TimeZone) (tables : FareTables) (desk last : LocalParts) (before : List Request) (text : List ℕ) (h : HasReplayed zone tables desk before) (placed : AreInPlace 0 last.shard.journal)
+module _ (by_line : AskedByItsLine) (zone : TimeZone) (editions : FareEditions) (desk last : LocalParts) (before : List Request) (text : List ℕ) (h : HasReplayed zone editions desk before) (placed : AreInPlace 0 last.shard.journal)
     (stands : (desk_parts last).standing ≡ (desk_parts desk).standing) (kept : NothingIsLost (desk_parts desk).transcript (desk_parts last).transcript) (line : ℕ) (why : Refusal) (e : IsEndedAt zone desk_parts desk last text line why) where
   abbrev pub new : Machine
-  new = new_machine zone tables None
+  new = new_machine zone editions None
 
   abbrev pub begun : Machine
   begun = (outcome [] new before).after
@@ -373,9 +373,9 @@ module _ (by_line : AskedByItsLine) (zone : TimeZone) (tables : FareTables) (des
   in_zone : (outcome [] begun e.done).after.zone ≡ zone
   in_zone = same_zone begun e.done ∙ same_zone new before
 
-  run : (requests : List Request) (events : List Event) → AreHanded zone desk_parts desk last requests events → IsRun zone tables last.shard (before ++ requests) (h.events ++ events)
+  run : (requests : List Request) (events : List Event) → AreHanded zone desk_parts desk last requests events → IsRun zone editions last.shard (before ++ requests) (h.events ++ events)
   run requests events handed =
-      handed_run by_line zone tables h.first last (before ++ requests) (h.events ++ events) h.same h.no_base h.no_journal (stands ∙ h.stands) placed
+      handed_run by_line zone editions h.first last (before ++ requests) (h.events ++ events) h.same h.no_base h.no_journal (stands ∙ h.stands) placed
       (handed_both zone h.first desk last before requests h.events events h.stands kept h.accepted.0 handed)
 
   told_all : AreAllPriced (replies_of (h.events ++ e.events))
@@ -422,24 +422,24 @@ module _ (by_line : AskedByItsLine) (zone : TimeZone) (tables : FareTables) (des
   stops_at other = (reaches, stopped.refused other)
 
 -- what is told of it
-pub not_replayed : AskedByItsLine → (zone : TimeZone) (tables : FareTables) (desk last : LocalParts) (before : List Request) (text : List ℕ) → HasReplayed zone tables desk before → AreInPlace 0 last.shard.journal
+pub not_replayed : AskedByItsLine → (zone : TimeZone) (editions : FareEditions) (desk last : LocalParts) (before : List Request) (text : List ℕ) → HasReplayed zone editions desk before → AreInPlace 0 last.shard.journal
     → (desk_parts last).standing ≡ (desk_parts desk).standing → NothingIsLost (desk_parts desk).transcript (desk_parts last).transcript → (f : ReplayFault) → IsEnded zone desk_parts desk last text f
-    → IsNotReplayed (outcome [] (new_machine zone tables None) before).after (line_requests text) f
-not_replayed by_line zone tables desk last before text h placed stands kept (fault.Line line why) e = stops_at by_line zone tables desk last before text h placed stands kept line why e.0 e.1
-not_replayed by_line zone tables desk last before text h placed stands kept fault.Memory e = (e.0, reaches by_line zone tables desk last before text h placed stands kept e.0 refusal.Memory e.1)
+    → IsNotReplayed (outcome [] (new_machine zone editions None) before).after (line_requests text) f
+not_replayed by_line zone editions desk last before text h placed stands kept (fault.Line line why) e = stops_at by_line zone editions desk last before text h placed stands kept line why e.0 e.1
+not_replayed by_line zone editions desk last before text h placed stands kept fault.Memory e = (e.0, reaches by_line zone editions desk last before text h placed stands kept e.0 refusal.Memory e.1)
 
 -- what was replayed before is accepted all the same
 first_priced : (m : Machine) (list more : List Request) → AreAllPriced (outcome [] m (list ++ more)).replies → AreAllPriced (outcome [] m list).replies
 first_priced m [] more all = tt
 first_priced m (r ∷ list) more all = (all.0, first_priced (step None m r).after list more all.1)
 
-pub accepted_before : AskedByItsLine → (zone : TimeZone) (tables : FareTables) (desk last : LocalParts) (before : List Request) (text : List ℕ) → HasReplayed zone tables desk before → AreInPlace 0 last.shard.journal
+pub accepted_before : AskedByItsLine → (zone : TimeZone) (editions : FareEditions) (desk last : LocalParts) (before : List Request) (text : List ℕ) → HasReplayed zone editions desk before → AreInPlace 0 last.shard.journal
     → (desk_parts last).standing ≡ (desk_parts desk).standing → NothingIsLost (desk_parts desk).transcript (desk_parts last).transcript → (f : ReplayFault) → IsEnded zone desk_parts desk last text f
-    → AreAllPriced (outcome [] (new_machine zone tables None) before).replies
-accepted_before by_line zone tables desk last before text h placed stands kept (fault.Line line why) e =
-    first_priced (new_machine zone tables None) before e.0.done (all_accepted by_line zone tables desk last before text h placed stands kept line why e.0)
-accepted_before by_line zone tables desk last before text h placed stands kept fault.Memory e =
-    first_priced (new_machine zone tables None) before e.1.done (all_accepted by_line zone tables desk last before text h placed stands kept e.0 refusal.Memory e.1)
+    → AreAllPriced (outcome [] (new_machine zone editions None) before).replies
+accepted_before by_line zone editions desk last before text h placed stands kept (fault.Line line why) e =
+    first_priced (new_machine zone editions None) before e.0.done (all_accepted by_line zone editions desk last before text h placed stands kept line why e.0)
+accepted_before by_line zone editions desk last before text h placed stands kept fault.Memory e =
+    first_priced (new_machine zone editions None) before e.1.done (all_accepted by_line zone editions desk last before text h placed stands kept e.0 refusal.Memory e.1)
 
 -- ---- one text more
 
@@ -447,14 +447,14 @@ module _ (zone : TimeZone) (desk last : LocalParts) (text : List ℕ) where
   pub more_replayed : (ended : Result Replayed ReplayFault) → (desk_parts last).standing ≡ (desk_parts desk).standing → NothingIsLost (desk_parts desk).transcript (desk_parts last).transcript
       → IfOk ended (IsReplayed zone desk_parts desk last text) → OnOk ended (IsReplayedAfter zone desk last (line_requests text))
   more_replayed (Err f) stands kept h = tt
-  more_replayed (Ok it) stands kept h = λ tables before has. goes_on zone tables desk last before text it has stands kept h
+  more_replayed (Ok it) stands kept h = λ editions before has. goes_on zone editions desk last before text it has stands kept h
 
   pub more_stopped : AskedByItsLine → (ended : Result Replayed ReplayFault) → AreInPlace 0 last.shard.journal → (desk_parts last).standing ≡ (desk_parts desk).standing
       → NothingIsLost (desk_parts desk).transcript (desk_parts last).transcript → IfErr ended (IsEnded zone desk_parts desk last text) → IfErr ended (IsNotReplayedAfter zone desk (line_requests text))
   more_stopped by_line (Ok it) placed stands kept h = tt
-  more_stopped by_line (Err f) placed stands kept h = λ tables before has. (
-    accepted_before by_line zone tables desk last before text has placed stands kept f h,
-    not_replayed by_line zone tables desk last before text has placed stands kept f h,
+  more_stopped by_line (Err f) placed stands kept h = λ editions before has. (
+    accepted_before by_line zone editions desk last before text has placed stands kept f h,
+    not_replayed by_line zone editions desk last before text has placed stands kept f h,
   )
 
 -- ---- the commands of a journal to which lines were replayed
@@ -491,7 +491,7 @@ module _ (Refuses : DeskFault → Type 0) (Late : Type 0) (zone : TimeZone) wher
       ∙ ap (λ l. l ++ map (λ (t : Taken). t.asked) (all_put es)) (one_put (asks_of zone r) e a served.0 served.1 priced.0)
       ∙ ap (λ l. command_of (asks_of zone r) ++ l) (all_commands rs es served.0 b served.2 priced.1)
 
-pub journal_commands : (zone : TimeZone) (tables : FareTables) (desk : LocalParts) (requests : List Request) → HasReplayed zone tables desk requests → commands_in desk.shard.journal ≡ asked_of zone requests
-journal_commands zone tables desk requests h =
+pub journal_commands : (zone : TimeZone) (editions : FareEditions) (desk : LocalParts) (requests : List Request) → HasReplayed zone editions desk requests → commands_in desk.shard.journal ≡ asked_of zone requests
+journal_commands zone editions desk requests h =
     in_commands desk.shard.journal ∙ ap (map (λ (p : ℕ × Asked). p.1)) (h.accepted.0.taken ∙ ap (λ l. commands_of_items l ++ commands_of (all_put h.events)) h.no_journal)
     ∙ put_commands (all_put h.events) ∙ all_commands (MaySometimeRefuse desk_parts (desk_parts h.first).standing) (MaySometimeBeLate desk_parts (desk_parts h.first).standing) zone requests h.events tt tt h.accepted.0.served h.accepted.2

@@ -3,7 +3,7 @@ use Rattle.std.proofs.Common.{◌≡◌, ◌⊎◌, ℕ, false, List, Option, No
 use Rattle.std.specs.Prelude.{Result, IsSomeAnd}
 use Rattle.std.specs.List.{AllByRecursion}
 use Rattle.pay_rules.specs.declared.posting.Posting.{Posting}
-use Rattle.pay_tables.specs.Words.{FareTables}
+use Rattle.pay_tables.specs.Words.{FareEditions}
 use Rattle.pay_postings.specs.Words.{LedgerParts}
 use Rattle.pay_shard.specs.declared.desk.DeskFault.{DeskFault}
 use Rattle.pay_shard.specs.declared.desk.DeskFault.TheVariants as desk_fault
@@ -17,8 +17,8 @@ use Rattle.pay_run.specs.Machine.{Machine, Failure, is_keeping, with_ledger, ste
 use Rattle.pay_run.specs.Outcomes.{tells_failure}
 
 -- one shard was asked for its quotes, and answered with those of all accounts, or by want of memory
-abbrev pub IsOfMachine : FareTables → State → ℕ → Taken → Type 0
-IsOfMachine tables state day t = IsSomeAnd t.answer (λ answer. (answer.reply ≡ desk_reply.Quotes (batch tables state day 0 1)) ⊎ (answer.reply ≡ desk_reply.Memory))
+abbrev pub IsOfMachine : FareEditions → State → ℕ → Taken → Type 0
+IsOfMachine editions state day t = IsSomeAnd t.answer (λ answer. (answer.reply ≡ desk_reply.Quotes (batch editions state day 0 1)) ⊎ (answer.reply ≡ desk_reply.Memory))
 
 -- A close came to what the machine's does, but for what failed, which it tells.
 pub record ClosesAs (m : Machine) (day : ℕ) (result : Result (List Posting) Refusal) (Holds : Option LedgerParts → Type 0) : Type 0 where
@@ -36,5 +36,5 @@ pub record IsPlain {T : Type 0} (Refuses : DeskFault → Type 0) (Late Fails : T
   pub never : Late → ⊥
   pub was_sound : (before after : T) (day : ℕ) (put : List Taken) (result : Result (List Posting) Refusal) → Closes before day 1 put result after → Sound after → Sound before
   pub closes : (before after : T) (m : Machine) (day : ℕ) (put : List Taken) (result : Result (List Posting) Refusal)
-      → Closes before day 1 put result after → AreQuotes day 1 0 put → AllByRecursion (IsOfMachine m.tables m.accounts day) put → Sound after → MayAnswer before m.ledger
+      → Closes before day 1 put result after → AreQuotes day 1 0 put → AllByRecursion (IsOfMachine m.editions m.accounts day) put → Sound after → MayAnswer before m.ledger
       → ClosesAs m day result (MayAnswer after)

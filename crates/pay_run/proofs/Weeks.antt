@@ -2,7 +2,7 @@
 use Rattle.std.proofs.Common.{◌≡◌, ◌≤◌, ◌∙◌, inl, ℕ, Bool, true, false, ◌%◌, List, Option, None, refl, sym, arith}
 use Rattle.std.specs.Prelude.{IsTrue}
 use Rattle.jiff.specs.declared.tz.timezone.TimeZone.{TimeZone}
-use Rattle.pay_tables.specs.Words.{FareTables}
+use Rattle.pay_tables.specs.Words.{FareEditions}
 use Rattle.pay_day.specs.Words.{IsDay, monday}
 use Rattle.pay_day.specs.declared.limits.TheConstants.{FIRST_DAY, DAYS_PER_WEEK}
 use Rattle.pay_wire.specs.Words.{WriterCall}
@@ -26,9 +26,9 @@ pub is_monday : (week : ℕ) → week % DAYS_PER_WEEK ≡ FIRST_DAY → monday w
 is_monday week first = omega (arith, first)
 
 -- what is told where the journal was not accepted
-pub past_fails : (zone : TimeZone) (tables : FareTables) (past : List ℕ) (known : Option (List ℕ)) (of : ReplayFault) → IsNotReplayed (new_machine zone tables None) (line_requests past) of → WeekNotTold zone tables past (known, known) (week_fault_of_replay of)
-past_fails zone tables past known (replaying.Line line why) h = (h, refl)
-past_fails zone tables past known replaying.Memory h = inl refl
+pub past_fails : (zone : TimeZone) (editions : FareEditions) (past : List ℕ) (known : Option (List ℕ)) (of : ReplayFault) → IsNotReplayed (new_machine zone editions None) (line_requests past) of → WeekNotTold zone editions past (known, known) (week_fault_of_replay of)
+past_fails zone editions past known (replaying.Line line why) h = (h, refl)
+past_fails zone editions past known replaying.Memory h = inl refl
 
 not_broken : (n : ℕ) → Memory ≡ Broken n → ⊥
 not_broken n e = cc

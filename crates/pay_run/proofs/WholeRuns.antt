@@ -12,7 +12,7 @@ use Rattle.pay_rules.specs.declared.posting.Posting.{Posting}
 use Rattle.pay_journal.specs.Words.{KeptParts, Beginning, CanFail, kept_parts, KeepsLines, AskedByItsLine, ClosesNothing}
 use Rattle.pay_rules.specs.declared.shown.Line.{Line}
 use Rattle.pay_postings.specs.Words.{LedgerParts}
-use Rattle.pay_tables.specs.Words.{FareTables}
+use Rattle.pay_tables.specs.Words.{FareEditions}
 use Rattle.pay_shard.specs.declared.desk.DeskFault.{DeskFault}
 use Rattle.pay_shard.specs.declared.item.Item.{Item}
 use Rattle.pay_rules.specs.State.{State}
@@ -90,32 +90,32 @@ same_after {X = X} (x ∷ xs) ys zs e = same_after xs ys zs (tails x x (xs ++ ys
 module _ {T : Type 0} (Refuses : DeskFault → Type 0) (Late Fails : Type 0) (Closes : T → ℕ → ℕ → List Taken → Result (List Posting) Refusal → T → Type 0) (Sound : T → Type 0) (MayAnswer : T → Option LedgerParts → Type 0) (plain : IsPlain Refuses Late Fails Closes Sound MayAnswer) (by_line : AskedByItsLine) (zone : TimeZone) where
   -- the machine where such a session began
   abbrev first : List Item → ShardParts → Option LedgerParts → Machine
-  first front shard ledger = machine_at zone shard.tables shard.base front ledger
+  first front shard ledger = machine_at zone shard.editions shard.base front ledger
 
   -- a session's requests are run by the machine
   pub runs : (front : List Item) (shard : ShardParts) (before after : T) (ledger : Option LedgerParts) (requests : List Request) (events : List Event) (b : IsAfter front shard) → Sound after → MayAnswer before ledger
-      → IsSession zone 1 Refuses Late Closes (sides_from front shard before after) requests events → RunsTo zone shard.tables shard.base front b.back ledger requests events Fails (MayAnswer after)
+      → IsSession zone 1 Refuses Late Closes (sides_from front shard before after) requests events → RunsTo zone shard.editions shard.base front b.back ledger requests events Fails (MayAnswer after)
   runs front shard before after ledger requests events b sound tells s =
       let own : commands_of_items b.back ≡ commands_of (all_put events) =
       same_after (commands_of_items front) (commands_of_items b.back) (commands_of (all_put events))
       (sym (map-append (λ (i : Item). (i.entry.ticket, i.entry.command)) front b.back) ∙ ap commands_of_items (sym b.whole) ∙ s.taken) in
-      all_run Refuses Late Fails Closes Sound MayAnswer plain by_line zone shard.number shard.tables shard.base front b.back shard.journal ledger requests events before after b.in_place b.whole s.served own s.said sound tells
+      all_run Refuses Late Fails Closes Sound MayAnswer plain by_line zone shard.number shard.editions shard.base front b.back shard.journal ledger requests events before after b.in_place b.whole s.served own s.said sound tells
 
   -- so they came to this
   abbrev came_to : ShardParts → List Event → Option LedgerParts → Outcome
-  came_to shard events ledger = record { replies = replies_of events; after = machine_at zone shard.tables shard.base shard.journal ledger }
+  came_to shard events ledger = record { replies = replies_of events; after = machine_at zone shard.editions shard.base shard.journal ledger }
 
   -- what is so beside the session: what is so of the newly accepted requests where it is so of all whose lines are those of the new items
-  module _ (front : List Item) (shard : ShardParts) (b : IsAfter front shard) (before after : T) (ledger : Option LedgerParts) (Keeps : List Request → Type 0) (keeps : (new : List Request) → lines_new shard.tables (replay shard.tables shard.base front) b.back ≡ lines_of_requests new → Keeps new)
+  module _ (front : List Item) (shard : ShardParts) (b : IsAfter front shard) (before after : T) (ledger : Option LedgerParts) (Keeps : List Request → Type 0) (keeps : (new : List Request) → lines_new shard.editions (replay shard.editions shard.base front) b.back ≡ lines_of_requests new → Keeps new)
       (sound : Sound after) (tells : MayAnswer before ledger) where
     abbrev beside : Beside
     beside = record { Holds = MayAnswer after; Keeps = Keeps; Fails = Fails }
 
-    comes : (requests : List Request) (events : List Event) (r : RunsTo zone shard.tables shard.base front b.back ledger requests events Fails (MayAnswer after))
+    comes : (requests : List Request) (events : List Event) (r : RunsTo zone shard.editions shard.base front b.back ledger requests events Fails (MayAnswer after))
         → ComesTo (first front shard ledger) requests beside (came_to shard events r.ledger_after)
     comes requests events r =
         let gives : outcome r.marks (first front shard ledger) requests ≡ came_to shard events r.ledger_after =
-        r.gives ∙ ap (λ l. record { replies = replies_of events; after = machine_at zone shard.tables shard.base l r.ledger_after }) (sym b.whole) in
+        r.gives ∙ ap (λ l. record { replies = replies_of events; after = machine_at zone shard.editions shard.base l r.ledger_after }) (sym b.whole) in
         record {
           marks = r.marks;
           run = sym gives;
@@ -187,21 +187,21 @@ module _ {T : Type 0} (Refuses : DeskFault → Type 0) (Late Fails : Type 0) (Cl
         let r = runs front shard before after ledger requests events b sound tells s in
         let replies : list_any lacks_memory (outcome r.marks (first front shard ledger) requests).replies ≡ false = ap (λ (o : Outcome). list_any lacks_memory o.replies) r.gives ∙ sym (any_alike events) ∙ ample in
         sym (accounts_kept r.marks (first front shard ledger) requests (r.kept never) replies)
-        ∙ ap (λ (o : Outcome). o.after.accounts) r.gives ∙ ap (replay shard.tables shard.base) (sym b.whole)
+        ∙ ap (λ (o : Outcome). o.after.accounts) r.gives ∙ ap (replay shard.editions shard.base) (sym b.whole)
 
 -- ---- a desk that keeps lines
 
 -- what such a desk began with, as it is told in the end
 pub same_origin : (Fails : Type 0) (desk : LocalParts) (held : Option (List ℕ)) (begun now settled : KeptParts) → begun ≡ record { seen = desk; first = desk.shard.journal; held_first = held; holds = held; stuck = false }
     → (kept_parts Fails now).standing ≡ (kept_parts Fails begun).standing → settled.seen ≡ now.seen → (settled.first ≡ now.first) × (settled.held_first ≡ now.held_first)
-    → (kept_parts Fails settled).standing.origin ≡ record { tables = desk.shard.tables; base = desk.shard.base; items = desk.shard.journal; holds = held }
+    → (kept_parts Fails settled).standing.origin ≡ record { editions = desk.shard.editions; base = desk.shard.base; items = desk.shard.journal; holds = held }
 same_origin Fails desk held begun now settled is same seen first =
-    (λ i. record { tables = (seen i).shard.tables; base = (seen i).shard.base; items = first.0 i; holds = first.1 i })
+    (λ i. record { editions = (seen i).shard.editions; base = (seen i).shard.base; items = first.0 i; holds = first.1 i })
     ∙ ap (λ (s : Standing Beginning). s.origin) same ∙ ap (λ (k : KeptParts). (kept_parts Fails k).standing.origin) is
 
 -- the machine of such a beginning
 abbrev pub machine_from : TimeZone → Beginning → Option LedgerParts → Machine
-machine_from zone o ledger = record { zone = zone; tables = o.tables; accounts = replay o.tables o.base o.items; ledger = ledger }
+machine_from zone o ledger = record { zone = zone; editions = o.editions; accounts = replay o.editions o.base o.items; ledger = ledger }
 
 -- a session of it, from what it began with to what is seen in the end
 abbrev pub Refuses : Type 0 → KeptParts → DeskFault → Type 0
@@ -213,7 +213,7 @@ Late Fails begun = MaySometimeBeLate (kept_parts Fails) (kept_parts Fails begun)
 module _ (Fails : Type 0) (begun now settled : KeptParts) where
   -- the sides as the session has them are those after what the desk began with
   pub same_sides : {T : Type 0} (desk : LocalParts) (held : Option (List ℕ)) (before after : T) → begun ≡ record { seen = desk; first = desk.shard.journal; held_first = held; holds = held; stuck = false }
-      → settled.seen ≡ now.seen → (kept_parts Fails settled).standing.origin ≡ record { tables = desk.shard.tables; base = desk.shard.base; items = desk.shard.journal; holds = held }
+      → settled.seen ≡ now.seen → (kept_parts Fails settled).standing.origin ≡ record { editions = desk.shard.editions; base = desk.shard.base; items = desk.shard.journal; holds = held }
       → sides_from begun.seen.shard.journal now.seen.shard before after ≡ sides_from settled.first settled.seen.shard before after
   same_sides desk held before after is seen origin =
       ap (λ (l : List Item). sides_from l now.seen.shard before after) (ap (λ (k : KeptParts). k.seen.shard.journal) is ∙ sym (ap (λ (o : Beginning). o.items) origin))
@@ -232,7 +232,7 @@ settled_if (Err e) stuck P ok err free = absurd (true_not_false (sym err ∙ fre
     true_not_false e = cc
 
 -- what its keeper has
-pub keeps_new : (k : KeptParts) (lines : KeepsLines k) (new : List Request) → lines_new k.seen.shard.tables (replay k.seen.shard.tables k.seen.shard.base k.first) lines.later ≡ lines_of_requests new
+pub keeps_new : (k : KeptParts) (lines : KeepsLines k) (new : List Request) → lines_new k.seen.shard.editions (replay k.seen.shard.editions k.seen.shard.base k.first) lines.later ≡ lines_of_requests new
     → KeepsNew k.held_first k.holds k.stuck new
 keeps_new k lines new same = record { rest = lines.rest; bytes = subst (λ (l : List ℕ). Appends k.held_first k.holds (l ++ lines.rest)) same lines.bytes; is_rest = lines.is_rest }
 
@@ -267,7 +267,7 @@ unkept_plain HasFailed never before = record {
 }
 
 -- a desk over one shard, to which lines are replayed: nothing is closed
-pub replay_plain : (before : Standing (FareTables × State))
+pub replay_plain : (before : Standing (FareEditions × State))
     → IsPlain {T = ⊤} (MaySometimeRefuse desk_parts before) (MaySometimeBeLate desk_parts before) ⊥ ClosesNothing (λ till. ⊤) (λ till ledger. ledger ≡ None)
 unfolding MaySometimeRefuse MaySometimeBeLate
 replay_plain before = record {
@@ -278,7 +278,7 @@ replay_plain before = record {
 }
 
 -- journeys of a week, of the same by the same fare file
-pub told_as : {E : Type 0} (result : Result (List Line) E) (t u : FareTables) (x y : Accepted) (week : ℕ) → t ≡ u → x ≡ y → IfOk result (λ it. it ≡ week_lines t x week) → IfOk result (λ it. it ≡ week_lines u y week)
+pub told_as : {E : Type 0} (result : Result (List Line) E) (t u : FareEditions) (x y : Accepted) (week : ℕ) → t ≡ u → x ≡ y → IfOk result (λ it. it ≡ week_lines t x week) → IfOk result (λ it. it ≡ week_lines u y week)
 told_as (Ok it) t u x y week p q e = e ∙ (λ i. week_lines (p i) (q i) week)
 told_as (Err fault) t u x y week p q e = tt
 
@@ -325,7 +325,7 @@ pub record Closing (T : Type 0) : Type 1 where
 -- Over any till whose closes are the machine's.
 module _ {T : Type 0} (till : Closing T) (by_line : AskedByItsLine) (zone : TimeZone) {Fails : Type 0} {desk : LocalParts} {held : Option (List ℕ)} {begun now settled : KeptParts} (went : Went Fails desk held begun now settled)
     (plain : IsPlain (Refuses Fails begun) (Late Fails begun) Fails till.Closes till.Sound till.Has) (before after : T) where
-  origin : (kept_parts Fails settled).standing.origin ≡ record { tables = desk.shard.tables; base = desk.shard.base; items = desk.shard.journal; holds = held }
+  origin : (kept_parts Fails settled).standing.origin ≡ record { editions = desk.shard.editions; base = desk.shard.base; items = desk.shard.journal; holds = held }
   origin = same_origin Fails desk held begun now settled went.is went.same went.seen went.first
 
   abbrev pub IsEnded : (input : List ℕ) (left written new : Option (List ℕ)) → Done → Sides T → Type 0

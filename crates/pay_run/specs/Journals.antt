@@ -3,7 +3,7 @@ use Rattle.std.specs.Prelude.{◌≡◌, ℕ, zero, suc, Bool, true, false, not,
 use Rattle.std.specs.List.{AllByRecursion}
 use Rattle.jiff.specs.declared.tz.timezone.TimeZone.{TimeZone}
 use Rattle.pay_postings.specs.Words.{LedgerParts}
-use Rattle.pay_tables.specs.Words.{FareTables}
+use Rattle.pay_tables.specs.Words.{FareEditions}
 use Rattle.pay_wire.specs.declared.refusal.Refusal.TheVariants as refusal
 use Rattle.pay_wire.specs.declared.reply.SpelledReply.{SpelledReply}
 use Rattle.pay_wire.specs.declared.reply.SpelledReply.TheVariants as replies
@@ -45,13 +45,13 @@ abbrev pub of_new : Option LedgerParts → Outcome → Outcome
 of_new ledger came = record { replies = filter is_new came.replies; after = with_ledger came.after ledger }
 
 -- the machine that began with no accounts, over a ledger, after requests for which nothing failed
-abbrev pub machine_of : TimeZone → FareTables → List Request → Option LedgerParts → Machine
-machine_of zone tables list ledger = (outcome [] (new_machine zone tables ledger) list).after
+abbrev pub machine_of : TimeZone → FareEditions → List Request → Option LedgerParts → Machine
+machine_of zone editions list ledger = (outcome [] (new_machine zone editions ledger) list).after
 
 -- What is kept gives a machine back: over its ledger each request is accepted, or a repeat, and this is the machine then.
-pub record GivesBack (zone : TimeZone) (tables : FareTables) (kept : List Request) (m : Machine) : Type 0 where
-  pub accepted : AreAllPriced (outcome [] (new_machine zone tables m.ledger) kept).replies
-  pub machine : machine_of zone tables kept m.ledger ≡ m
+pub record GivesBack (zone : TimeZone) (editions : FareEditions) (kept : List Request) (m : Machine) : Type 0 where
+  pub accepted : AreAllPriced (outcome [] (new_machine zone editions m.ledger) kept).replies
+  pub machine : machine_of zone editions kept m.ledger ≡ m
 
 -- ---- worked rows
 
@@ -83,5 +83,5 @@ after_two : (tap other : Request)
 after_two tap other = refl
 
 -- an empty journal gives a new machine back
-nothing_kept : (zone : TimeZone) (tables : FareTables) (ledger : Option LedgerParts) → GivesBack zone tables [] (new_machine zone tables ledger)
-nothing_kept zone tables ledger = record { accepted = tt; machine = refl }
+nothing_kept : (zone : TimeZone) (editions : FareEditions) (ledger : Option LedgerParts) → GivesBack zone editions [] (new_machine zone editions ledger)
+nothing_kept zone editions ledger = record { accepted = tt; machine = refl }

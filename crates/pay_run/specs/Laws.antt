@@ -4,7 +4,7 @@ use Rattle.std.specs.List.{list_any}
 use Rattle.jiff.specs.declared.tz.timezone.TimeZone.{TimeZone}
 use Rattle.pay_rules.specs.InTurn.{IsIn}
 use Rattle.pay_postings.specs.Words.{LedgerParts}
-use Rattle.pay_tables.specs.Words.{FareTables}
+use Rattle.pay_tables.specs.Words.{FareEditions}
 use Rattle.pay_shard.specs.declared.asked.Asked.{Asked}
 use Rattle.pay_wire.specs.declared.reply.SpelledReply.TheVariants.{No}
 use Rattle.pay_session.specs.Words.{asks_of}
@@ -19,8 +19,8 @@ abbrev pub ZoneStays : Type 0
 ZoneStays = (marks : List (Option Failure)) (m : Machine) (list : List Request) → (outcome marks m list).after.zone ≡ m.zone
 
 -- and so does the fare file
-abbrev pub TablesStay : Type 0
-TablesStay = (marks : List (Option Failure)) (m : Machine) (list : List Request) → (outcome marks m list).after.tables ≡ m.tables
+abbrev pub EditionsStay : Type 0
+EditionsStay = (marks : List (Option Failure)) (m : Machine) (list : List Request) → (outcome marks m list).after.editions ≡ m.editions
 
 -- and the ledger, where each request is answered by prices
 abbrev pub LedgerStays : Type 0
@@ -80,10 +80,10 @@ FrontReplaysAsCut = (m : Machine) (list : List Request) (marks : List (Option Fa
 
 -- what gives a machine back, and after it what this machine newly accepts, gives back the machine that there is then
 abbrev pub KeptGivesBack : Type 0
-KeptGivesBack = (zone : TimeZone) (tables : FareTables) (kept : List Request) (m : Machine) (list : List Request) (marks : List (Option Failure)) → GivesBack zone tables kept m
-    → GivesBack zone tables (kept ++ new_requests marks m list) (outcome marks m list).after
+KeptGivesBack = (zone : TimeZone) (editions : FareEditions) (kept : List Request) (m : Machine) (list : List Request) (marks : List (Option Failure)) → GivesBack zone editions kept m
+    → GivesBack zone editions (kept ++ new_requests marks m list) (outcome marks m list).after
 
 -- and so does a list that has the same requests, in whatever order and however often
 abbrev pub KeptInAnyOrder : Type 0
-KeptInAnyOrder = (zone : TimeZone) (tables : FareTables) (kept other : List Request) (m : Machine) → ((r : Request) → IsIn kept r ↔ IsIn other r)
-    → GivesBack zone tables kept m → GivesBack zone tables other m
+KeptInAnyOrder = (zone : TimeZone) (editions : FareEditions) (kept other : List Request) (m : Machine) → ((r : Request) → IsIn kept r ↔ IsIn other r)
+    → GivesBack zone editions kept m → GivesBack zone editions other m

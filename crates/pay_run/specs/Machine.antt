@@ -2,7 +2,7 @@
 use Rattle.std.specs.Prelude.{◌≡◌, ℕ, Bool, true, false, List, [], Option, Some, None, Result, Ok, Err, refl}
 use Rattle.std.specs.FinMap as map
 use Rattle.jiff.specs.declared.tz.timezone.TimeZone.{TimeZone}
-use Rattle.pay_tables.specs.Words.{FareTables}
+use Rattle.pay_tables.specs.Words.{FareEditions}
 use Rattle.pay_rules.specs.declared.posting.Posting.{Posting}
 use Rattle.pay_postings.specs.Words.{LedgerParts}
 use Rattle.pay_rules.specs.declared.post_fault.PostFault.{PostFault}
@@ -23,24 +23,24 @@ use Rattle.pay_session.specs.declared.request.Request.{Request}
 -- The zone and the fare file, which stay; what each account has accepted; and the ledger, or none where nothing is closed.
 pub record Machine : Type 0 where
   pub zone : TimeZone
-  pub tables : FareTables
+  pub editions : FareEditions
   pub accounts : State
   pub ledger : Option LedgerParts
 
 -- a machine that has accepted nothing, over what was posted before
-abbrev pub new_machine : TimeZone → FareTables → Option LedgerParts → Machine
-new_machine zone tables ledger = record { zone = zone; tables = tables; accounts = map.empty; ledger = ledger }
+abbrev pub new_machine : TimeZone → FareEditions → Option LedgerParts → Machine
+new_machine zone editions ledger = record { zone = zone; editions = editions; accounts = map.empty; ledger = ledger }
 
 -- a machine that goes on from what a shard has
 abbrev pub machine_on : TimeZone → ShardParts → Option LedgerParts → Machine
-machine_on zone shard ledger = record { zone = zone; tables = shard.tables; accounts = state_now shard; ledger = ledger }
+machine_on zone shard ledger = record { zone = zone; editions = shard.editions; accounts = state_now shard; ledger = ledger }
 
 -- the same with other accounts, or with another ledger
 abbrev pub with_accounts : Machine → State → Machine
-with_accounts m accounts = record { zone = m.zone; tables = m.tables; accounts = accounts; ledger = m.ledger }
+with_accounts m accounts = record { zone = m.zone; editions = m.editions; accounts = accounts; ledger = m.ledger }
 
 abbrev pub with_ledger : Machine → Option LedgerParts → Machine
-with_ledger m ledger = record { zone = m.zone; tables = m.tables; accounts = m.accounts; ledger = ledger }
+with_ledger m ledger = record { zone = m.zone; editions = m.editions; accounts = m.accounts; ledger = ledger }
 
 -- What may fail for a request, which no rule decides: memory for it, the store of the ledger, the desk's quotes for a close, or what
 -- keeps the lines that are accepted.
@@ -86,7 +86,7 @@ step_closed m day (Err fault) = stays m (replies.No (refusal_of_posting fault))
 abbrev pub step_close : Option Failure → Machine → ℕ → Option LedgerParts → Step
 step_close failed m day None = stays m (replies.No refusal.NotHere)
 step_close (Some failure) m day (Some ledger) = stays m (replies.No (refusal_of_failure failure))
-step_close None m day (Some ledger) = step_closed m day (close m.tables (record { state = m.accounts; ledger = ledger }) day)
+step_close None m day (Some ledger) = step_closed m day (close m.editions (record { state = m.accounts; ledger = ledger }) day)
 
 -- ---- a request
 
@@ -99,7 +99,7 @@ refusal_of_command Keeping = refusal.NotKept
 
 -- A command is answered by the accounts. Where something fails for it, that is the reply, and nothing changes.
 abbrev pub step_command : Option Failure → Machine → Asked → Step
-step_command None m a = step_of m (shard_step m.tables m.accounts a)
+step_command None m a = step_of m (shard_step m.editions m.accounts a)
 step_command (Some failure) m a = stays m (replies.No (refusal_of_command failure))
 
 -- by what a request comes to

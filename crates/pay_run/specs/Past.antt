@@ -3,7 +3,7 @@ use Rattle.std.specs.Prelude.{◌≡◌, ◌⊎◌, ℕ, ◌+◌, ◌-◌, true,
 use Rattle.std.specs.FinMap as map
 use Rattle.jiff.specs.declared.tz.timezone.TimeZone.{TimeZone}
 use Rattle.pay_postings.specs.Words.{LedgerParts}
-use Rattle.pay_tables.specs.Words.{FareTables}
+use Rattle.pay_tables.specs.Words.{FareEditions}
 use Rattle.pay_shard.specs.Words.{ShardParts, LocalParts, desk_parts}
 use Rattle.pay_wire.specs.declared.refusal.Refusal.{Refusal}
 use Rattle.pay_wire.specs.declared.refusal.Refusal.TheVariants as refusal
@@ -25,17 +25,17 @@ whole_bytes text = length text - length (rest_of text)
 
 -- The whole lines of a text were replayed over a desk that had no accounts: each is accepted, or was before, the desk has what the
 -- machine then has, and they are so many, of so many bytes.
-pub record IsReplayOf (zone : TimeZone) (tables : FareTables) (past : List ℕ) (shard : ShardParts) (it : Replayed) : Type 0 where
-  pub same : shard.tables ≡ tables
+pub record IsReplayOf (zone : TimeZone) (editions : FareEditions) (past : List ℕ) (shard : ShardParts) (it : Replayed) : Type 0 where
+  pub same : shard.editions ≡ editions
   -- over whatever ledger
-  pub gives_back : (ledger : Option LedgerParts) → GivesBack zone tables (line_requests past) (machine_on zone shard ledger)
+  pub gives_back : (ledger : Option LedgerParts) → GivesBack zone editions (line_requests past) (machine_on zone shard ledger)
   pub lines : it.lines ≡ length (line_requests past)
   pub bytes : it.bytes ≡ whole_bytes past
 
 -- Requests were handed to a desk that began with no accounts, and each was answered by prices.
-pub record HasReplayed (zone : TimeZone) (tables : FareTables) (desk : LocalParts) (requests : List Request) : Type 0 where
+pub record HasReplayed (zone : TimeZone) (editions : FareEditions) (desk : LocalParts) (requests : List Request) : Type 0 where
   pub first : LocalParts
-  pub same : first.shard.tables ≡ tables
+  pub same : first.shard.editions ≡ editions
   pub no_base : first.shard.base ≡ map.empty
   pub no_journal : first.shard.journal ≡ []
   pub stands : (desk_parts desk).standing ≡ (desk_parts first).standing
@@ -68,22 +68,22 @@ IsNotReplayed m list fault.Memory = (line : ℕ) × Reaches m list line
 
 -- what was replayed to a desk is accepted, and gives back what the desk has
 abbrev pub AreReplayed : LocalParts → Type 0
-AreReplayed desk = (zone : TimeZone) (tables : FareTables) (requests : List Request) → HasReplayed zone tables desk requests → GivesBack zone tables requests (machine_on zone desk.shard None)
+AreReplayed desk = (zone : TimeZone) (editions : FareEditions) (requests : List Request) → HasReplayed zone editions desk requests → GivesBack zone editions requests (machine_on zone desk.shard None)
 
 -- and its journal has just the commands of that
 abbrev pub HasCommands : LocalParts → Type 0
-HasCommands desk = (zone : TimeZone) (tables : FareTables) (requests : List Request) → HasReplayed zone tables desk requests → commands_in desk.shard.journal ≡ commands_of zone requests
+HasCommands desk = (zone : TimeZone) (editions : FareEditions) (requests : List Request) → HasReplayed zone editions desk requests → commands_in desk.shard.journal ≡ commands_of zone requests
 
 -- ---- one text more
 
 -- Whatever requests a desk was handed before, it was handed these after them, and each was answered by prices.
 abbrev pub IsReplayedAfter : TimeZone → LocalParts → LocalParts → List Request → Type 0
-IsReplayedAfter zone old new requests = (tables : FareTables) (before : List Request) → HasReplayed zone tables old before → HasReplayed zone tables new (before ++ requests)
+IsReplayedAfter zone old new requests = (editions : FareEditions) (before : List Request) → HasReplayed zone editions old before → HasReplayed zone editions new (before ++ requests)
 
 -- Whatever it was handed before is accepted, and after that these are not.
 abbrev pub IsNotReplayedAfter : TimeZone → LocalParts → List Request → ReplayFault → Type 0
-IsNotReplayedAfter zone old requests why = (tables : FareTables) (before : List Request) → HasReplayed zone tables old before
-    → AreAllPriced (outcome [] (new_machine zone tables None) before).replies × IsNotReplayed (machine_of zone tables before None) requests why
+IsNotReplayedAfter zone old requests why = (editions : FareEditions) (before : List Request) → HasReplayed zone editions old before
+    → AreAllPriced (outcome [] (new_machine zone editions None) before).replies × IsNotReplayed (machine_of zone editions before None) requests why
 
 -- ---- worked rows
 

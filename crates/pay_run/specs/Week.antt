@@ -6,7 +6,7 @@ use Rattle.pay_day.specs.Words.{monday}
 use Rattle.pay_rules.specs.Lines.{week_lines}
 use Rattle.pay_rules.specs.declared.shown.Line.{Line}
 use Rattle.pay_rules.specs.State.{accepted_of}
-use Rattle.pay_tables.specs.Words.{FareTables}
+use Rattle.pay_tables.specs.Words.{FareEditions}
 use Rattle.pay_session.specs.Words.{ReaderCall, FailsBy, IsLastFill, HasNoEnd, line_requests, requests_of, unread}
 use Rattle.pay_journal.specs.declared.replaying.ReplayFault.{ReplayFault}
 use Rattle.pay_journal.specs.declared.replaying.ReplayFault.TheVariants as fault
@@ -23,7 +23,7 @@ use Rattle.pay_run.specs.declared.week.WeekFault.TheVariants.{Broken, NotAccepte
 -- The session, in which nothing is closed, ended by itself, and memory was refused for nothing. These are the journeys of the week that holds a day, of
 -- what the account has accepted of all that the input asks for.
 pub record TellsWeek (m : Machine) (input : List ℕ) (left : Option (List ℕ)) (account day : ℕ) (told : List Line) : Type 0 where
-  pub lines : told ≡ week_lines m.tables (accepted_of (outcome [] m (requests_of input)).after.accounts account) (monday day)
+  pub lines : told ≡ week_lines m.editions (accepted_of (outcome [] m (requests_of input)).after.accounts account) (monday day)
   pub unread : left ≡ Some (unread input)
 
 -- What is told where the session was broken off. Its replies go to a sink, which takes all; no clause says so of a writer, and what a failure
@@ -54,13 +54,13 @@ abbrev pub HasInputFault : {R : Type 0} → (R → ReaderCall → R → Type 0) 
 HasInputFault reads before reader = ((kind : ErrorKind) × IsLastFill reads (FailsBy reads kind) before reader) ⊎ HasNoEnd reads before reader
 
 -- With a journal: the machine that it gives back, whose lines are then those of a session.
-module _ (zone : TimeZone) (tables : FareTables) (past : List ℕ) where
+module _ (zone : TimeZone) (editions : FareEditions) (past : List ℕ) where
   abbrev pub machine_past : Machine
-  machine_past = machine_of zone tables (line_requests past) None
+  machine_past = machine_of zone editions (line_requests past) None
 
   -- the journal is accepted
   abbrev pub IsPastAccepted : Type 0
-  IsPastAccepted = AreAllPriced (outcome [] (new_machine zone tables None) (line_requests past)).replies
+  IsPastAccepted = AreAllPriced (outcome [] (new_machine zone editions None) (line_requests past)).replies
 
   -- from what a reader has left before and after, what is told of an account's week that holds a day
   abbrev pub WeekTold : (reader : Option (List ℕ) × Option (List ℕ)) → (of : ℕ × ℕ) → List Line → Type 0
@@ -69,6 +69,6 @@ module _ (zone : TimeZone) (tables : FareTables) (past : List ℕ) where
   -- How they were not told: a line of the journal is not accepted, the reader failed, or the session ended by itself; and memory for a line, of
   -- the journal or of the input, or for the journeys was refused.
   abbrev pub WeekNotTold : (reader : Option (List ℕ) × Option (List ℕ)) → WeekFault → Type 0
-  WeekNotTold reader (NotAccepted line why) = StopsAt (new_machine zone tables None) (line_requests past) line why × (reader.1 ≡ reader.0)
+  WeekNotTold reader (NotAccepted line why) = StopsAt (new_machine zone editions None) (line_requests past) line why × (reader.1 ≡ reader.0)
   WeekNotTold reader (Broken answered) = IsPastAccepted × IfSome reader.0 (λ input. FailsSo (Read answered) machine_past input (nowhere reader.1) beside_week)
   WeekNotTold reader Memory = (reader.1 ≡ reader.0) ⊎ IfSome reader.0 (λ input. (reader.1 ≡ Some (unread input)) ⊎ BreaksAtSink machine_past input reader.1)

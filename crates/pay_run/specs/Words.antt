@@ -3,7 +3,7 @@
 pub use Rattle.pay_run.specs.Commands.{command_of, commands_of, commands_in}
 pub use Rattle.pay_run.specs.Journals.{new_requests, machine_of, GivesBack}
 pub use Rattle.pay_run.specs.KeptLines.{lines_of_requests, KeepsNew}
-pub use Rattle.pay_run.specs.Laws.{ZoneStays, TablesStay, LedgerStays}
+pub use Rattle.pay_run.specs.Laws.{ZoneStays, EditionsStay, LedgerStays}
 pub use Rattle.pay_run.specs.Ledgers.{HasLedger, has_ledger_in, has_none}
 pub use Rattle.pay_run.specs.LineRuns.{Beside, Streams, ComesTo, Ends, StopsReading, StopsWriting, FailsSo, Before, before, After, after, Known, with_ledger_in, without_ledger, beside_with, beside_run, streams_of, EndsRun, FailsRun, LinesEnd, LinesFail}
 pub use Rattle.pay_run.specs.Machine.{Machine, new_machine, machine_on}

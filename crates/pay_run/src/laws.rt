@@ -7,7 +7,7 @@ ghost use Rattle.pay_session.specs.Words.{asks_of};
 ghost use Rattle.pay_session.specs.declared.asks.Asks.TheVariants.{Put};
 ghost use Rattle.pay_session.specs.declared.request.Request.{Request};
 ghost use Rattle.pay_run.specs.Machine.{Machine, Failure, refusal_of_command, stays, step};
-ghost use Rattle.pay_run.specs.Laws.{ZoneStays, TablesStay, LedgerStays, FailedCloseTells, OthersNeverFail, FailuresLeaveAccounts, AskedAlikeEndsAlike, AcceptedAlikeEndsAlike};
+ghost use Rattle.pay_run.specs.Laws.{ZoneStays, EditionsStay, LedgerStays, FailedCloseTells, OthersNeverFail, FailuresLeaveAccounts, AskedAlikeEndsAlike, AcceptedAlikeEndsAlike};
 ghost use Rattle.pay_run.specs.Laws.{NewReplayAlone, NewStayNew, NewReplayInAnyOrder, CutLeavesFront, FrontReplaysAsCut, KeptGivesBack, KeptInAnyOrder};
 
 /// Where memory, the store, the desk or what keeps lines fails for a request, no tap and no correction is in the accounts, and
@@ -68,6 +68,6 @@ pub fn journals()
 /// A machine keeps its zone and its fare file, and its ledger where each request is accepted, or was before.
 pub fn all_else_stays()
     ensures zone { ZoneStays }
-    ensures tables { TablesStay }
+    ensures editions { EditionsStay }
     ensures ledger { LedgerStays }
 {}

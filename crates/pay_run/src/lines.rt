@@ -17,7 +17,7 @@ use pay_ledger::Ledger;
 use pay_rules::Fares;
 use pay_session::{Done, KnownReader, SessionFault, session};
 use pay_shard::LocalDesk;
-use pay_tables::Tables;
+use pay_tables::Editions;
 use pay_till::NoTill;
 use pay_wire::KnownWriter;
 use sqlite::Alter;
@@ -25,13 +25,13 @@ use std::alloc::Global;
 use std::sync::Arc;
 
 /// A desk over one shard without accounts. It takes no memory.
-pub fn new_desk<F: Fares>(alloc: Global, tables: Arc<Tables>) -> LocalDesk<F>
-    ensures tables { result.shard.tables ≡ arc_value tables }
+pub fn new_desk<F: Fares>(alloc: Global, editions: Arc<Editions>) -> LocalDesk<F>
+    ensures editions { result.shard.editions ≡ arc_value editions }
     ensures base { result.shard.base ≡ map.empty }
     ensures journal { result.shard.journal ≡ [] }
-    ensures none { (zone : Zone) → HasReplayed zone (arc_value tables) result [] }
+    ensures none { (zone : Zone) → HasReplayed zone (arc_value editions) result [] }
 {
-    match LocalDesk::new(alloc, tables, Vec::new(alloc)) {
+    match LocalDesk::new(alloc, editions, Vec::new(alloc)) {
         Ok(desk) => desk,
         Err(_) => unreachable!(),
     }

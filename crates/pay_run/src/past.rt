@@ -10,7 +10,7 @@ use jiff::tz::TimeZone;
 use pay_journal::{ReplayFault, Replayed, replay};
 use pay_rules::Fares;
 use pay_shard::LocalDesk;
-use pay_tables::Tables;
+use pay_tables::Editions;
 use std::alloc::Global;
 use std::sync::Arc;
 
@@ -18,14 +18,14 @@ use std::sync::Arc;
 /// stands after the last newline is no line. Each line has to be a tap or a correction that is accepted, or was before.
 pub fn replayed_desk<F: Fares>(
     alloc: Global,
-    tables: Arc<Tables>,
+    editions: Arc<Editions>,
     zone: &TimeZone<'_>,
     past: &[u8],
 ) -> Result<(LocalDesk<F>, Replayed), ReplayFault>
-    ensures replayed { IfOk result (λ r. IsReplayOf zone.now (arc_value tables) past.now r.0.shard r.1) }
-    ensures stopped { IfErr result (IsNotReplayed (new_machine zone.now (arc_value tables) None) (line_requests past.now)) }
+    ensures replayed { IfOk result (λ r. IsReplayOf zone.now (arc_value editions) past.now r.0.shard r.1) }
+    ensures stopped { IfErr result (IsNotReplayed (new_machine zone.now (arc_value editions) None) (line_requests past.now)) }
 {
-    let mut desk = new_desk(alloc, tables);
+    let mut desk = new_desk(alloc, editions);
     let ended = replay(past, zone, &mut desk);
     // The journal's entries stand at their tickets, and each was asked for by its line.
     let _ = desk.shard();

@@ -15,7 +15,7 @@ use pay_journal::{KeptDesk, NoKeeper, ReplayFault};
 use pay_rules::{Fares, Lines};
 use pay_session::{KnownReader, SessionFault, session};
 use pay_shard::Shard;
-use pay_tables::Tables;
+use pay_tables::Editions;
 use pay_till::NoTill;
 use pay_wire::Refusal;
 use std::alloc::{AllocError, Global};
@@ -77,11 +77,11 @@ fn lines_of<F: Fares>(
 ) -> Result<Lines, AllocError>
     requires is_day { IsDay week }
     requires is_monday { monday week ≡ week }
-    ensures { IfOk result (λ it. it ≡ week_lines shard.now.tables (accepted_of (state_now shard.now) account) week) }
+    ensures { IfOk result (λ it. it ≡ week_lines shard.now.editions (accepted_of (state_now shard.now) account) week) }
 {
     match shard.account(account) {
-        Some(held) => held.lines(shard.tables(), week),
-        None => F::new(alloc, account).lines(shard.tables(), week),
+        Some(held) => held.lines(shard.editions(), week),
+        None => F::new(alloc, account).lines(shard.editions(), week),
     }
 }
 
@@ -92,17 +92,17 @@ pub fn week_by_lines<F: Fares, R: KnownReader>(
     alloc: Global,
     reader: &mut R,
     zone: &TimeZone<'_>,
-    tables: Arc<Tables>,
+    editions: Arc<Editions>,
     past: &[u8],
     account: u32,
     day: u32,
 ) -> Result<Lines, WeekFault>
     requires { IsDay day }
-    ensures week { IfOk result (λ lines. WeekTold zone.now (arc_value tables) past.now (R.remaining reader.old, R.remaining reader.new) (account, day) lines) }
-    ensures fails { IfErr result (λ fault. WeekNotTold zone.now (arc_value tables) past.now (R.remaining reader.old, R.remaining reader.new) fault) }
+    ensures week { IfOk result (λ lines. WeekTold zone.now (arc_value editions) past.now (R.remaining reader.old, R.remaining reader.new) (account, day) lines) }
+    ensures fails { IfErr result (λ fault. WeekNotTold zone.now (arc_value editions) past.now (R.remaining reader.old, R.remaining reader.new) fault) }
     ensures cause { IfErr result (λ fault. (n : ℕ) → fault ≡ Broken n → HasInputFault R.MayAnswer reader.old reader.new) }
 {
-    let begun = replayed_desk::<F>(alloc, tables, zone, past)?;
+    let begun = replayed_desk::<F>(alloc, editions, zone, past)?;
     let mut desk = KeptDesk::begin(begun.0, NoKeeper);
     let ended = session(reader, &mut io::sink(), zone, &mut desk, &mut NoTill);
     pay_journal::laws::one_line();

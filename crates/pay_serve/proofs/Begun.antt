@@ -8,7 +8,7 @@ use Rattle.std.proofs.lemmas.List.Elements.{All-cons, All-head, All-tail, All-we
 use Rattle.std.proofs.lemmas.List.FromFn.{length-range_with_len}
 use Rattle.std.proofs.lemmas.Slice.Zip.{AllZip-long}
 use Rattle.std.proofs.lemmas.List.Sorted.{All-permutation, IsPermutation-refl, IsPermutation-trans, IsPermutation-map, IsPermutation-append_comm}
-use Rattle.pay_tables.specs.Words.{FareTables}
+use Rattle.pay_tables.specs.Words.{FareEditions}
 use Rattle.pay_shard.specs.declared.limits.TheConstants.{MOST_SHARDS}
 use Rattle.pay_lanes.specs.declared.limits.TheConstants.{MOST_LANES}
 use Rattle.pay_lanes.specs.Words.{LaneParts, WorkerParts, AreTogether, lanes_of, numbers, shard_numbers, IsOutOfCount, IsNewLane, IsNewWorker}
@@ -97,19 +97,19 @@ first_new shards count ls rest l same all parts = subst (λ n. IsNewLane n l) sa
 pub others_new : (shards count : ℕ) (ls rest : List LaneParts) (l : LaneParts) → shards ≡ count → All (IsNewLane shards) ls → ls ≡ l ∷ rest → All (IsNewLane count) rest
 others_new shards count ls rest l same all parts = subst (λ n. All (IsNewLane n) rest) same (All-tail (IsNewLane shards) l rest (subst (All (IsNewLane shards)) parts all))
 
-lanes_are : (tables : FareTables) (shards lanes : ℕ) (office : List WorkerParts) → 1 ≤ shards → shard_numbers office ≡ range_with_len 0 shards → All (IsNewWorker tables lanes) office → lanes_of office ≡ lanes
-lanes_are tables shards lanes [] some are all =
+lanes_are : (editions : FareEditions) (shards lanes : ℕ) (office : List WorkerParts) → 1 ≤ shards → shard_numbers office ≡ range_with_len 0 shards → All (IsNewWorker editions lanes) office → lanes_of office ≡ lanes
+lanes_are editions shards lanes [] some are all =
     let none : 0 ≡ shards = ap length are ∙ length-range_with_len 0 shards in absurd (omega (arith, some, none))
-lanes_are tables shards lanes (w ∷ office) some are all = (All-head (IsNewWorker tables lanes) w office all).lanes
+lanes_are editions shards lanes (w ∷ office) some are all = (All-head (IsNewWorker editions lanes) w office all).lanes
 
 pub office_count : (shards : ℕ) (office : List WorkerParts) → shard_numbers office ≡ range_with_len 0 shards → shards ≡ length office
 office_count shards office are = sym (length-range_with_len 0 shards) ∙ (sym (ap length are) ∙ length-map office (λ (w : WorkerParts). w.shard.number))
 
 -- the first one after the others
-pub all_with : (tables : FareTables) (shards lanes : ℕ) (office : List WorkerParts) (ls rest : List LaneParts) (l : LaneParts)
-    → 1 ≤ shards → shard_numbers office ≡ range_with_len 0 shards → All (IsNewWorker tables lanes) office → numbers ls ≡ range_with_len 0 lanes → AreTogether office ls → ls ≡ l ∷ rest → AreAllWith office rest l
-all_with tables shards lanes office ls rest l some workers new are together parts =
-    let count : lanes_of office ≡ lanes = lanes_are tables shards lanes office some workers new in
+pub all_with : (editions : FareEditions) (shards lanes : ℕ) (office : List WorkerParts) (ls rest : List LaneParts) (l : LaneParts)
+    → 1 ≤ shards → shard_numbers office ≡ range_with_len 0 shards → All (IsNewWorker editions lanes) office → numbers ls ≡ range_with_len 0 lanes → AreTogether office ls → ls ≡ l ∷ rest → AreAllWith office rest l
+all_with editions shards lanes office ls rest l some workers new are together parts =
+    let count : lanes_of office ≡ lanes = lanes_are editions shards lanes office some workers new in
     let moved : IsPermutation ls (rest ++ l ∷ []) = subst (λ ks. IsPermutation ks (rest ++ l ∷ [])) (sym parts) (IsPermutation-append_comm (l ∷ []) rest) in
     let all : IsPermutation (range_with_len 0 (lanes_of office)) (numbers ls) =
     subst (λ ns. IsPermutation (range_with_len 0 (lanes_of office)) ns) (ap (range_with_len 0) count ∙ sym are) (IsPermutation-refl (range_with_len 0 (lanes_of office))) in (
@@ -118,13 +118,13 @@ all_with tables shards lanes office ls rest l some workers new are together part
     )
 
 -- the office of which the lanes were opened
-pub new_office : (tables : FareTables) (shards lanes : ℕ) (office : List WorkerParts) → 1 ≤ shards → shard_numbers office ≡ range_with_len 0 shards → All (IsNewWorker tables lanes) office → IsNewOffice tables office
-new_office tables shards lanes office some are new =
+pub new_office : (editions : FareEditions) (shards lanes : ℕ) (office : List WorkerParts) → 1 ≤ shards → shard_numbers office ≡ range_with_len 0 shards → All (IsNewWorker editions lanes) office → IsNewOffice editions office
+new_office editions shards lanes office some are new =
     let many : length office ≡ shards = sym (length-map office (λ (w : WorkerParts). w.shard.number)) ∙ (ap length are ∙ length-range_with_len 0 shards) in record {
       some = omega (arith, some, many);
       numbers = are ∙ ap (range_with_len 0) (sym many);
-      tables = All-weaker (IsNewWorker tables lanes) (λ (w : WorkerParts). w.shard.tables ≡ tables) (λ w is. is.tables) office new;
-      bases = All-weaker (IsNewWorker tables lanes) (λ (w : WorkerParts). w.shard.base ≡ empty) (λ w is. is.base) office new;
+      editions = All-weaker (IsNewWorker editions lanes) (λ (w : WorkerParts). w.shard.editions ≡ editions) (λ w is. is.editions) office new;
+      bases = All-weaker (IsNewWorker editions lanes) (λ (w : WorkerParts). w.shard.base ≡ empty) (λ w is. is.base) office new;
     }
 
 -- ---- lanes that are tried one after another

@@ -7,7 +7,7 @@ use Rattle.std.proofs.lemmas.List.{length-map}
 use Rattle.std.proofs.lemmas.List.Elements.{All-nil, All-cons, All-head, All-tail, All-push, All-map}
 use Rattle.std.proofs.lemmas.List.FromFn.{length-range_with_len, get_or-range_with_len}
 use Rattle.std.proofs.lemmas.List.Sorted.{All-permutation, IsPermutation-sym}
-use Rattle.pay_tables.specs.Words.{FareTables}
+use Rattle.pay_tables.specs.Words.{FareEditions}
 use Rattle.pay_mailbox.specs.Words.{SenderParts, of}
 use Rattle.pay_rules.specs.State.{State}
 use Rattle.pay_shard.specs.Words.{item_step, is_new, new_items}
@@ -71,10 +71,10 @@ journals_spared (w ∷ ws) (entries ∷ left) same none =
     (all_spared w.shard.journal entries (λ n other. All-head IsEmpty (of by_lane n (entries_of w.shard.journal ++ entries)) (arrived n ws left) (none n other)))
     (journals_spared ws left (omega (arith, same)) (λ n other. All-tail IsEmpty (of by_lane n (entries_of w.shard.journal ++ entries)) (arrived n ws left) (none n other)))
 
-none_new : (tables : FareTables) (base : State) (items : List Item) → All IsSpared items → of_others (new_items tables base items) ≡ []
-none_new tables base [] all = refl
-none_new tables base (i ∷ items) all =
-    by (new_items tables (item_step tables base i).after items) (All-head IsSpared i items all) (none_new tables (item_step tables base i).after items (All-tail IsSpared i items all)) (is_new (item_step tables base i).reply)
+none_new : (editions : FareEditions) (base : State) (items : List Item) → All IsSpared items → of_others (new_items editions base items) ≡ []
+none_new editions base [] all = refl
+none_new editions base (i ∷ items) all =
+    by (new_items editions (item_step editions base i).after items) (All-head IsSpared i items all) (none_new editions (item_step editions base i).after items (All-tail IsSpared i items all)) (is_new (item_step editions base i).reply)
   where
     by : (news : List Item) → is_other i.entry.lane ≡ false → of_others news ≡ [] → (b : Bool) → of_others (if b then i ∷ news else news) ≡ []
     by news spared none true = ap (λ b. cond b (i ∷ of_others news) (of_others news)) spared ∙ none
@@ -126,7 +126,7 @@ module _ (ws : List WorkerParts) (left : List (List Entry)) where
 gate_kept_none : (lanes : List LaneParts) (w : WorkerParts) (g : GateParts) → HasKept lanes w g → All IsSpared w.shard.journal → HasKeptNone g
 gate_kept_none lanes w g h spared = (
   h.rest,
-  subst (λ (items : List Item). Appends g.held_first g.holds (lines_of_items items ++ h.rest)) (none_new w.shard.tables w.shard.base h.items (front w.shut h.are)) h.bytes,
+  subst (λ (items : List Item). Appends g.held_first g.holds (lines_of_items items ++ h.rest)) (none_new w.shard.editions w.shard.base h.items (front w.shut h.are)) h.bytes,
   h.is_rest,
 )
   where

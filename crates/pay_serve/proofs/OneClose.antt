@@ -5,7 +5,7 @@ use Rattle.std.specs.FinMap.{empty}
 use Rattle.std.specs.List.{AllZip, find, range_with_len}
 use Rattle.std.proofs.lemmas.List.Elements.{All-head, All-tail, AllZip-get_or, length_all_zip}
 use mathlib.Core.List.{IsPrefix}
-use Rattle.pay_tables.specs.Words.{FareTables}
+use Rattle.pay_tables.specs.Words.{FareEditions}
 use Rattle.pay_mailbox.specs.Words.{SenderParts, of}
 use Rattle.pay_rules.specs.State.{State}
 use Rattle.pay_shard.specs.Words.{replay, batch, items_of, IsAskedOf, AreAskedOf}
@@ -76,36 +76,36 @@ module _ {X : Type 0} where
 -- ---- an answer to a lane's item
 
 -- an answer of a shard is that to an item at some place of its journal, after what stands before it
-record Answers (tables : FareTables) (state : State) (items : List Item) (a : Answer) : Type 0 where
+record Answers (editions : FareEditions) (state : State) (items : List Item) (a : Answer) : Type 0 where
   front : List Item
   item : Item
   back : List Item
   parts : front ++ item ∷ back ≡ items
   command : item.entry.command ≡ a.command
-  reply : (item_step tables (replay tables state front) item).reply ≡ a.reply
+  reply : (item_step editions (replay editions state front) item).reply ≡ a.reply
 
-answers_one : (shard lane place : ℕ) (tables : FareTables) (state : State) (items : List Item) (a : Answer) → Has (at_lane lane items (answers_from shard place tables state items)) a → Answers tables state items a
-answers_one shard lane place tables state [] a has = absurd has
-answers_one shard lane place tables state (item ∷ items) a has = by (eqb item.entry.lane lane) (answers_one shard lane (place + 1) tables (item_step tables state item).after items a) has
+answers_one : (shard lane place : ℕ) (editions : FareEditions) (state : State) (items : List Item) (a : Answer) → Has (at_lane lane items (answers_from shard place editions state items)) a → Answers editions state items a
+answers_one shard lane place editions state [] a has = absurd has
+answers_one shard lane place editions state (item ∷ items) a has = by (eqb item.entry.lane lane) (answers_one shard lane (place + 1) editions (item_step editions state item).after items a) has
   where
-    later : Answers tables (item_step tables state item).after items a → Answers tables state (item ∷ items) a
+    later : Answers editions (item_step editions state item).after items a → Answers editions state (item ∷ items) a
     later is = record { front = item ∷ is.front; item = is.item; back = is.back; parts = ap (λ l. item ∷ l) is.parts; command = is.command; reply = is.reply }
 
-    here : answer_at shard place tables state item ≡ a → Answers tables state (item ∷ items) a
+    here : answer_at shard place editions state item ≡ a → Answers editions state (item ∷ items) a
     here same = record { front = []; item = item; back = items; parts = refl; command = ap (λ (x : Answer). x.command) same; reply = ap (λ (x : Answer). x.reply) same }
 
-    by : (b : Bool) → (Has (at_lane lane items (answers_from shard (place + 1) tables (item_step tables state item).after items)) a → Answers tables (item_step tables state item).after items a)
-        → Has (if b then answer_at shard place tables state item ∷ at_lane lane items (answers_from shard (place + 1) tables (item_step tables state item).after items) else at_lane lane items (answers_from shard (place + 1) tables (item_step tables state item).after items)) a
-        → Answers tables state (item ∷ items) a
+    by : (b : Bool) → (Has (at_lane lane items (answers_from shard (place + 1) editions (item_step editions state item).after items)) a → Answers editions (item_step editions state item).after items a)
+        → Has (if b then answer_at shard place editions state item ∷ at_lane lane items (answers_from shard (place + 1) editions (item_step editions state item).after items) else at_lane lane items (answers_from shard (place + 1) editions (item_step editions state item).after items)) a
+        → Answers editions state (item ∷ items) a
     by true rest (inl same) = here same
     by true rest (inr more) = later (rest more)
     by false rest more = later (rest more)
 
 -- an item that asks for the quotes of a day, and was answered by quotes
-quoted : (tables : FareTables) (state : State) (refused : Bool) (command : Asked) (day shard of : ℕ) (reply : Reply) → command ≡ asked.Quotes day shard of
-    → (marked_step refused tables state command).reply ≡ reply → gives_quotes reply ≡ true → reply ≡ replies.Quotes (batch tables state day shard of)
-quoted tables state true command day shard of reply its told gives = let none : gives_quotes replies.Memory ≡ true = ap gives_quotes told ∙ gives in cc
-quoted tables state false command day shard of reply its told gives = sym told ∙ ap (λ c. (step tables state c).reply) its
+quoted : (editions : FareEditions) (state : State) (refused : Bool) (command : Asked) (day shard of : ℕ) (reply : Reply) → command ≡ asked.Quotes day shard of
+    → (marked_step refused editions state command).reply ≡ reply → gives_quotes reply ≡ true → reply ≡ replies.Quotes (batch editions state day shard of)
+quoted editions state true command day shard of reply its told gives = let none : gives_quotes replies.Memory ≡ true = ap gives_quotes told ∙ gives in cc
+quoted editions state false command day shard of reply its told gives = sym told ∙ ap (λ c. (step editions state c).reply) its
 
 -- ---- workers at their places
 
@@ -133,7 +133,7 @@ asked_at count a (w ∷ ws) (suc k) n d asked less is = asked_at count (a + 1) w
 
 -- ---- quotes that the shards of an office gave to a lane
 
-module _ (fares : FareTables) (office workers : List WorkerParts) (l : LaneParts) (d : WorkerParts) (day shards : ℕ)
+module _ (fares : FareEditions) (office workers : List WorkerParts) (l : LaneParts) (d : WorkerParts) (day shards : ℕ)
     (new : IsNewOffice fares office) (same : AllZip IsSameWorker office workers) (answered : All (IsAnswered l) workers)
     (was_asked : AreJournalsFrom (length workers) 0 (map (λ (w : WorkerParts). w.shard.journal) workers))
     (own : IsOfShards l) (many : length l.shards ≡ length workers) (count : shards ≡ length workers) where
@@ -148,8 +148,8 @@ module _ (fares : FareTables) (office workers : List WorkerParts) (l : LaneParts
   as_many : length office ≡ length workers
   as_many = length_all_zip IsSameWorker office workers same
 
-  tables_at : (k : ℕ) → k < length workers → (at k).shard.tables ≡ fares
-  tables_at k less = (AllZip-get_or IsSameWorker office workers k d d same (subst (λ n. k < n) (sym as_many) less)).tables ∙ new.tables k d (subst (λ n. k < n) (sym as_many) less)
+  tables_at : (k : ℕ) → k < length workers → (at k).shard.editions ≡ fares
+  tables_at k less = (AllZip-get_or IsSameWorker office workers k d d same (subst (λ n. k < n) (sym as_many) less)).editions ∙ new.editions k d (subst (λ n. k < n) (sym as_many) less)
 
   base_at : (k : ℕ) → k < length workers → (at k).shard.base ≡ empty
   base_at k less = (AllZip-get_or IsSameWorker office workers k d d same (subst (λ n. k < n) (sym as_many) less)).base ∙ new.bases k d (subst (λ n. k < n) (sym as_many) less)
@@ -160,11 +160,11 @@ module _ (fares : FareTables) (office workers : List WorkerParts) (l : LaneParts
       let less : a.shard < length workers = subst (λ n. a.shard < n) many (of_one (λ (x : Answer). x.shard < length l.shards) l.answers.got a own.taken has) in
       (less, by (at a.shard) (number_at a.shard less) (tables_at a.shard less) (base_at a.shard less) (answered a.shard d less))
     where
-      by : (w : WorkerParts) → w.shard.number ≡ a.shard → w.shard.tables ≡ fares → w.shard.base ≡ empty → IsAnswered l w → Answers fares empty w.shard.journal a
-      by w number tables base is =
+      by : (w : WorkerParts) → w.shard.number ≡ a.shard → w.shard.editions ≡ fares → w.shard.base ≡ empty → IsAnswered l w → Answers fares empty w.shard.journal a
+      by w number editions base is =
           let stands = in_whole (of by_shard w.shard.number l.answers.got) (answers_for l.number w.shard) a is (chosen_in by_shard w.shard.number l.answers.got a (sym number) has) in
-          let found = answers_one w.shard.number l.number 0 w.shard.tables w.shard.base w.shard.journal a stands in
-          subst (λ b. Answers fares b w.shard.journal a) base (subst (λ t. Answers t w.shard.base w.shard.journal a) tables found)
+          let found = answers_one w.shard.number l.number 0 w.shard.editions w.shard.base w.shard.journal a stands in
+          subst (λ b. Answers fares b w.shard.journal a) base (subst (λ t. Answers t w.shard.base w.shard.journal a) editions found)
 
   -- a shard gave its quotes after a front of its journal
   record HasBrought (k : ℕ) (t : Taken) : Type 0 where

@@ -7,7 +7,7 @@ use Rattle.pay_rules.specs.declared.posting.Posting.{Posting}
 use Rattle.jiff.specs.declared.tz.timezone.TimeZone.{TimeZone}
 use Rattle.pay_shard.specs.Words.{DeskParts, NothingIsLost}
 use Rattle.pay_shard.specs.declared.item.Item.{Item}
-use Rattle.pay_tables.specs.Words.{FareTables}
+use Rattle.pay_tables.specs.Words.{FareEditions}
 use Rattle.pay_journal.specs.declared.keeper.Keeper.{Ghosts as Keeping}
 use Rattle.pay_lanes.specs.Words.{LaneParts, WorkerParts, IsNewLane, IsSameLane, Passed}
 use Rattle.pay_serve.specs.KeepingGates.{GateParts}
@@ -86,18 +86,18 @@ pub record IsDayClosed (of : DayOf) (Closed : Closing) (before : LaneParts × Op
 
 -- what a service serves by: its fare file and its zone, the texts of its journals, what its keepers hold, and the day that it closes
 pub record Terms : Type 0 where
-  pub fares : FareTables
+  pub fares : FareEditions
   pub zone : TimeZone
   pub texts : List (List ℕ)
   pub held : List (Option (List ℕ))
   pub day : ℕ
 
-abbrev pub terms : FareTables → TimeZone → List (List ℕ) → List (Option (List ℕ)) → ℕ → Terms
+abbrev pub terms : FareEditions → TimeZone → List (List ℕ) → List (Option (List ℕ)) → ℕ → Terms
 terms fares zone texts held day = record { fares = fares; zone = zone; texts = texts; held = held; day = day }
 
 -- the terms of what a service is given, by what is known of its keepers
 abbrev pub terms_of : {K : Type 0} → Keeping K → Given K → Terms
-terms_of keeper given = terms (arc_value given.tables) given.zone (map vec_items given.texts.now) (map keeper.holds given.keepers.items) given.plan.close
+terms_of keeper given = terms (arc_value given.editions) given.zone (map vec_items given.texts.now) (map keeper.holds given.keepers.items) given.plan.close
 
 -- Over a new office, all that its journals had was taken again over one lane, which had asked for nothing; all connections were served over
 -- the others, which asked for nothing but what a line could ask for; and the day was closed over the first one, or not. Of each shard its gate,

@@ -1,7 +1,7 @@
 -- What the gate of a shard has kept, by the items of the shard's journal.
 use Rattle.std.specs.Prelude.{◌≡◌, ℕ, Bool, true, false, List, [], ◌∷◌, ◌++◌, All, zip, Option}
 use Rattle.std.specs.Io.KnownBytes.{Appends}
-use Rattle.pay_tables.specs.Words.{FareTables}
+use Rattle.pay_tables.specs.Words.{FareEditions}
 use Rattle.pay_rules.specs.State.{State}
 use Rattle.pay_shard.specs.Words.{answers, new_items}
 use Rattle.pay_shard.specs.declared.item.Item.{Item}
@@ -17,7 +17,7 @@ IsAllOrButLast true items journal = (last : Item) × (journal ≡ items ++ last 
 
 -- the entries of some items of a worker's journal, each with what the run answers
 abbrev pub answered_of : WorkerParts → List Item → List Passed
-answered_of w items = zip (entries_of items) (answers w.shard.number w.shard.tables w.shard.base items)
+answered_of w items = zip (entries_of items) (answers w.shard.number w.shard.editions w.shard.base items)
 
 -- With these lanes, a gate has kept the line of each newly accepted item of a worker's journal, but those of the spared lane, once and in
 -- order. If the worker takes nothing more, that is so of all items but the last one, to which no lane had an answer; it takes nothing more
@@ -28,7 +28,7 @@ pub record HasKept (lanes : List LaneParts) (w : WorkerParts) (g : GateParts) : 
   pub are : IsAllOrButLast w.shut items w.shard.journal
   -- after the lines there is nothing, or where the gate is stuck, a front of one more
   pub rest : List ℕ
-  pub bytes : Appends g.held_first g.holds (lines_of_items (of_others (new_items w.shard.tables w.shard.base items)) ++ rest)
+  pub bytes : Appends g.held_first g.holds (lines_of_items (of_others (new_items w.shard.editions w.shard.base items)) ++ rest)
   pub is_rest : IsRest g.stuck rest
   -- what each lane took are the first of the answers to these
   pub taken : All (IsFirstOf w.shard.number (answered_of w items)) lanes
@@ -43,5 +43,5 @@ PassedAreKept {K = K} holds HasFailed IsSettled = (lanes : List LaneParts) (w : 
 
 -- of what the run of a journal answers the lines of its newly accepted items are kept, but those of the spared lane, once and in order
 abbrev pub KeptAreNew : Type 0
-KeptAreNew = (shard : ℕ) (tables : FareTables) (base : State) (items : List Item)
-    → kept_lines (zip (entries_of items) (answers shard tables base items)) ≡ lines_of_items (of_others (new_items tables base items))
+KeptAreNew = (shard : ℕ) (editions : FareEditions) (base : State) (items : List Item)
+    → kept_lines (zip (entries_of items) (answers shard editions base items)) ≡ lines_of_items (of_others (new_items editions base items))

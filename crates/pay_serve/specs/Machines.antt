@@ -3,7 +3,7 @@ use Rattle.std.specs.Prelude.{◌≡◌, ◌≤◌, ◌<◌, ℕ, suc, Bool, Lis
 use Rattle.std.specs.FinMap.{empty}
 use Rattle.std.specs.List.{range_with_len}
 use mathlib.Core.List.{IsPrefix}
-use Rattle.pay_tables.specs.Words.{FareTables}
+use Rattle.pay_tables.specs.Words.{FareEditions}
 use Rattle.pay_postings.specs.Words.{LedgerParts}
 use Rattle.pay_shard.specs.Words.{replay, items_of, all_items, AreAskedOf}
 use Rattle.pay_shard.specs.declared.item.Entry.{Entry}
@@ -20,7 +20,7 @@ AreFronts front shard (w ∷ workers) = IsPrefix (front shard) w.shard.journal �
 
 -- What was put for a close was answered by these workers, each after a front of its journal. What is posted by that is what one machine
 -- without accounts posts, once it was asked all of these fronts, in any order that keeps that of each.
-pub record IsOneClose (fares : FareTables) (day : ℕ) (workers : List WorkerParts) (put : List Taken) : Type 0 where
+pub record IsOneClose (fares : FareEditions) (day : ℕ) (workers : List WorkerParts) (put : List Taken) : Type 0 where
   pub front : ℕ → List Item
   pub fronts : AreFronts front 0 workers
   pub closed : (ledger : LedgerParts) (merged : List (ℕ × Item)) → AreAskedOf (length workers) merged
@@ -28,10 +28,10 @@ pub record IsOneClose (fares : FareTables) (day : ℕ) (workers : List WorkerPar
       → posted_of ledger put ≡ close fares (record { state = replay fares empty (all_items merged); ledger = ledger }) day
 
 -- an office of shards without accounts, which price by this fare file
-pub record IsNewOffice (fares : FareTables) (office : List WorkerParts) : Type 0 where
+pub record IsNewOffice (fares : FareEditions) (office : List WorkerParts) : Type 0 where
   pub some : 1 ≤ length office
   pub numbers : shard_numbers office ≡ range_with_len 0 (length office)
-  pub tables : All (λ (w : WorkerParts). w.shard.tables ≡ fares) office
+  pub editions : All (λ (w : WorkerParts). w.shard.editions ≡ fares) office
   pub bases : All (λ (w : WorkerParts). w.shard.base ≡ empty) office
 
 -- an office has ended with these lanes, by some journals and what was left
@@ -45,4 +45,4 @@ IsOverWith Holds office lanes gates = (over : IsOver office lanes) × HaveLetPas
 -- An office has ended, and if it was new, and all its shards gave their quotes for a close, that was the close of one machine.
 pub record IsOverAsOne (office : List WorkerParts) (lanes : List LaneParts) (day shards : ℕ) (put : List Taken) : Type 0 where
   pub over : IsOver office lanes
-  pub one : (fares : FareTables) → IsNewOffice fares office → IsWhole shards put → IsOneClose fares day over.2.workers put
+  pub one : (fares : FareEditions) → IsNewOffice fares office → IsWhole shards put → IsOneClose fares day over.2.workers put

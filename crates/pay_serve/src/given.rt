@@ -2,14 +2,14 @@
 
 use crate::plan::Plan;
 use jiff::tz::TimeZone;
-use pay_tables::Tables;
+use pay_tables::Editions;
 use std::sync::Arc;
 
 /// What a service is given: by what it prices and which clock it has, what it serves, and its journals.
 #[derive(Drop)]
 pub struct Given<'a, K> {
     /// The fare file.
-    pub tables: Arc<Tables>,
+    pub editions: Arc<Editions>,
     /// The zone.
     pub zone: TimeZone<'static>,
     /// What is served.

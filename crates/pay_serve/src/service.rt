@@ -25,7 +25,7 @@ use crate::plan::Plan;
 use pay_journal::Keeper;
 use pay_office::{Lane, Office, start};
 use pay_rules::Fares;
-use pay_tables::Tables;
+use pay_tables::Editions;
 use pay_till::Till;
 use pay_wire::KnownWriter;
 use std::alloc::{AllocError, Global};
@@ -37,7 +37,7 @@ use std::thread::Threads;
 fn open_office<F, R, K>(
     rt: R,
     alloc: Global,
-    tables: Arc<Tables>,
+    editions: Arc<Editions>,
     plan: &Plan,
     keepers: Vec<K>,
 ) -> Result<(Office<F, KeepingGate<K>>, Lane, Vec<Lane>), ServeFault>
@@ -52,14 +52,14 @@ where
     ensures spared { IfOk result (λ opened. (opened.1.number ≡ SPARED_LANE) × IsNewLane (length opened.0) opened.1) }
     ensures others { IfOk result (λ opened. All (IsNewLane (length opened.0)) opened.2.items) }
     ensures all { IfOk result (λ opened. AreAllWith opened.0 opened.2.items opened.1) }
-    ensures new { IfOk result (λ opened. IsNewOffice (arc_value tables) opened.0) }
+    ensures new { IfOk result (λ opened. IsNewOffice (arc_value editions) opened.0) }
     ensures began { IfOk result (λ opened. began_of opened.0 ≡ each K.holds keepers.items) }
     ensures within { OnOk result (IsOutOfPlan plan.now → ⊥) }
     ensures cause { IfErr result (IsUnopened plan.now) }
 {
     let gates = all_gates(alloc, keepers)?;
     let lanes = plan.lanes.saturating_add(1);
-    let (office, mut lanes) = start(rt, alloc, tables, plan.shards, lanes, gates)?;
+    let (office, mut lanes) = start(rt, alloc, editions, plan.shards, lanes, gates)?;
     let spared = lanes.remove(0);
     Ok((office, spared, lanes))
 }
@@ -111,7 +111,7 @@ where
     pay_lanes::laws::same_workers();
     crate::laws::passed_are_kept::<K>();
     let Given {
-        tables,
+        editions,
         zone,
         plan,
         texts,
@@ -125,7 +125,7 @@ where
     let service = Arc::new(alloc, service).map_err(AllocError::from)?;
     let mut tried = Vec::with_capacity(alloc, plan.lanes as usize)?;
     let mut back = Vec::with_capacity(alloc, plan.lanes as usize + 1)?;
-    let (office, first, lanes) = open_office::<F, R, K>(rt, alloc, tables, &plan, keepers)?;
+    let (office, first, lanes) = open_office::<F, R, K>(rt, alloc, editions, &plan, keepers)?;
     let (taken, last) = take_through(rt, alloc, texts, &zone, first);
     match taken {
         Ok(()) => {}

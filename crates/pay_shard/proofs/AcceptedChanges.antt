@@ -4,7 +4,7 @@ use Rattle.std.specs.FinMap as map
 use Rattle.std.specs.FinMap.{get-insert}
 use Rattle.std.specs.Cmp.{nat_cmp_total}
 use Rattle.std.specs.Ordering.{nat_cmp, eq_by_cmp}
-use Rattle.pay_tables.specs.Words.{FareTables}
+use Rattle.pay_tables.specs.Words.{FareEditions}
 use Rattle.pay_rules.specs.declared.tap.Tap.{Tap}
 use Rattle.pay_rules.specs.declared.fix.Fix.{Fix}
 use Rattle.pay_rules.specs.declared.priced.Priced.{Priced}
@@ -35,20 +35,20 @@ get_kept false state account x there q = at (eq_by_cmp nat_cmp q account) (one_n
     at false same = refl
 
 -- a repeat is of an account that is there, and leaves it as it is
-there_by_tap : (tables : FareTables) (held : Option Accepted) (tap : Tap) (priced : Priced) → Ok priced ≡ tap_result tables (unwrap_or held nothing) tap → is_new {E = TapFault} (Ok priced) ≡ false
+there_by_tap : (editions : FareEditions) (held : Option Accepted) (tap : Tap) (priced : Priced) → Ok priced ≡ tap_result editions (unwrap_or held nothing) tap → is_new {E = TapFault} (Ok priced) ≡ false
     → held ≡ Some (after_tap (Ok priced) (unwrap_or held nothing) tap)
-there_by_tap tables None tap priced e old = let new = first_tap_is_new tables tap priced e in absurd (cc)
-there_by_tap tables (Some accepted) tap priced e old = ap Some (sym (same_tap_left (Ok priced) accepted tap old))
+there_by_tap editions None tap priced e old = let new = first_tap_is_new editions tap priced e in absurd (cc)
+there_by_tap editions (Some accepted) tap priced e old = ap Some (sym (same_tap_left (Ok priced) accepted tap old))
 
-there_by_fix : (tables : FareTables) (held : Option Accepted) (fix : Fix) (priced : Priced) → Ok priced ≡ fix_result tables (unwrap_or held nothing) fix → is_new {E = FixFault} (Ok priced) ≡ false
+there_by_fix : (editions : FareEditions) (held : Option Accepted) (fix : Fix) (priced : Priced) → Ok priced ≡ fix_result editions (unwrap_or held nothing) fix → is_new {E = FixFault} (Ok priced) ≡ false
     → held ≡ Some (after_fix (Ok priced) (unwrap_or held nothing) fix)
-there_by_fix tables None fix priced e old = let new = first_fix_is_new tables fix priced e in absurd (cc)
-there_by_fix tables (Some accepted) fix priced e old = ap Some (sym (same_fix_left (Ok priced) accepted fix old))
+there_by_fix editions None fix priced e old = let new = first_fix_is_new editions fix priced e in absurd (cc)
+there_by_fix editions (Some accepted) fix priced e old = ap Some (sym (same_fix_left (Ok priced) accepted fix old))
 
 -- a change that is accepted leads to this state: its own account has accepted it, and the others are as they were
-pub record Accepts (tables : FareTables) (state : State) (change : Change) (s : Step) : Type 0 where
-  pub accepts : IsAccepted tables (accepted_of state (account_of change)) change
-  pub held : (q : ℕ) → map.get s.after q ≡ cond (eq_by_cmp nat_cmp q (account_of change)) (Some (after tables (accepted_of state (account_of change)) change)) (map.get state q)
+pub record Accepts (editions : FareEditions) (state : State) (change : Change) (s : Step) : Type 0 where
+  pub accepts : IsAccepted editions (accepted_of state (account_of change)) change
+  pub held : (q : ℕ) → map.get s.after q ≡ cond (eq_by_cmp nat_cmp q (account_of change)) (Some (after editions (accepted_of state (account_of change)) change)) (map.get state q)
 
 unpriced_tap : (fault : TapFault) (state : State) (tap : Tap) → is_priced (step_tap_result state tap (Err fault)).reply ≡ false
 unpriced_tap of_tap.UnknownPlace state tap = refl
@@ -62,35 +62,35 @@ unpriced_fix of_fix.FixConflict state fix = refl
 unpriced_fix of_fix.FixesFull state fix = refl
 unpriced_fix of_fix.Memory state fix = refl
 
-accepts_tap : (tables : FareTables) (state : State) (tap : Tap) (r : Result Priced TapFault) → tap_result tables (accepted_of state tap.account) tap ≡ r
-    → is_priced (step_tap_result state tap r).reply ≡ true → Accepts tables state (Tapped tap) (step_tap_result state tap r)
-accepts_tap tables state tap (Err fault) e is = let never = unpriced_tap fault state tap in absurd (cc)
-accepts_tap tables state tap (Ok priced) e is =
+accepts_tap : (editions : FareEditions) (state : State) (tap : Tap) (r : Result Priced TapFault) → tap_result editions (accepted_of state tap.account) tap ≡ r
+    → is_priced (step_tap_result state tap r).reply ≡ true → Accepts editions state (Tapped tap) (step_tap_result state tap r)
+accepts_tap editions state tap (Err fault) e is = let never = unpriced_tap fault state tap in absurd (cc)
+accepts_tap editions state tap (Ok priced) e is =
     let was : Accepted = accepted_of state tap.account in
     record {
       accepts = (priced, e);
       held = λ q.
-          get_kept (not priced.again) state tap.account (after_tap (Ok priced) was tap) (there_by_tap tables (map.get state tap.account) tap priced (sym e)) q
+          get_kept (not priced.again) state tap.account (after_tap (Ok priced) was tap) (there_by_tap editions (map.get state tap.account) tap priced (sym e)) q
           ∙ ap (λ r. cond (eq_by_cmp nat_cmp q tap.account) (Some (after_tap r was tap)) (map.get state q)) (sym e);
     }
 
-accepts_fix : (tables : FareTables) (state : State) (fix : Fix) (r : Result Priced FixFault) → fix_result tables (accepted_of state fix.account) fix ≡ r
-    → is_priced (step_fix_result state fix r).reply ≡ true → Accepts tables state (Fixed fix) (step_fix_result state fix r)
-accepts_fix tables state fix (Err fault) e is = let never = unpriced_fix fault state fix in absurd (cc)
-accepts_fix tables state fix (Ok priced) e is =
+accepts_fix : (editions : FareEditions) (state : State) (fix : Fix) (r : Result Priced FixFault) → fix_result editions (accepted_of state fix.account) fix ≡ r
+    → is_priced (step_fix_result state fix r).reply ≡ true → Accepts editions state (Fixed fix) (step_fix_result state fix r)
+accepts_fix editions state fix (Err fault) e is = let never = unpriced_fix fault state fix in absurd (cc)
+accepts_fix editions state fix (Ok priced) e is =
     let was : Accepted = accepted_of state fix.account in
     record {
       accepts = (priced, e);
       held = λ q.
-          get_kept (not priced.again) state fix.account (after_fix (Ok priced) was fix) (there_by_fix tables (map.get state fix.account) fix priced (sym e)) q
+          get_kept (not priced.again) state fix.account (after_fix (Ok priced) was fix) (there_by_fix editions (map.get state fix.account) fix priced (sym e)) q
           ∙ ap (λ r. cond (eq_by_cmp nat_cmp q fix.account) (Some (after_fix r was fix)) (map.get state q)) (sym e);
     }
 
-pub accepts : (tables : FareTables) (state : State) (change : Change) → is_priced (step_change tables state change).reply ≡ true → Accepts tables state change (step_change tables state change)
-accepts tables state (Tapped tap) is = accepts_tap tables state tap (tap_result tables (accepted_of state tap.account) tap) refl is
-accepts tables state (Fixed fix) is = accepts_fix tables state fix (fix_result tables (accepted_of state fix.account) fix) refl is
+pub accepts : (editions : FareEditions) (state : State) (change : Change) → is_priced (step_change editions state change).reply ≡ true → Accepts editions state change (step_change editions state change)
+accepts editions state (Tapped tap) is = accepts_tap editions state tap (tap_result editions (accepted_of state tap.account) tap) refl is
+accepts editions state (Fixed fix) is = accepts_fix editions state fix (fix_result editions (accepted_of state fix.account) fix) refl is
 
 -- and what its account accepts is answered by prices
-pub priced_if_accepted : (tables : FareTables) (state : State) (change : Change) → IsAccepted tables (accepted_of state (account_of change)) change → is_priced (step_change tables state change).reply ≡ true
-priced_if_accepted tables state (Tapped tap) accepted = ap (λ r. is_priced (step_tap_result state tap r).reply) accepted.1
-priced_if_accepted tables state (Fixed fix) accepted = ap (λ r. is_priced (step_fix_result state fix r).reply) accepted.1
+pub priced_if_accepted : (editions : FareEditions) (state : State) (change : Change) → IsAccepted editions (accepted_of state (account_of change)) change → is_priced (step_change editions state change).reply ≡ true
+priced_if_accepted editions state (Tapped tap) accepted = ap (λ r. is_priced (step_tap_result state tap r).reply) accepted.1
+priced_if_accepted editions state (Fixed fix) accepted = ap (λ r. is_priced (step_fix_result state fix r).reply) accepted.1

@@ -3,7 +3,7 @@ use Rattle.std.proofs.Common.{◌≡◌, inl, inr, ◌↔◌, ℕ, true, false, 
 use Rattle.std.specs.List.{cons_option, filter_map}
 use Rattle.std.specs.Ordering.{nat_cmp, eq_by_cmp}
 use Rattle.pay_rules.specs.InTurn.{IsIn}
-use Rattle.pay_tables.specs.Words.{FareTables}
+use Rattle.pay_tables.specs.Words.{FareEditions}
 use Rattle.pay_rules.specs.declared.tap.Tap.{Tap}
 use Rattle.pay_rules.specs.declared.fix.Fix.{Fix}
 use Rattle.pay_rules.specs.Changes.{Change, Tapped, Fixed}
@@ -30,28 +30,28 @@ change_of (asked.Fix fix) = Some (Fixed fix)
 change_of _ = None
 
 -- the step of a tap or a correction
-abbrev pub step_change : FareTables → State → Change → Step
-step_change tables state (Tapped tap) = step_tap_result state tap (tap_result tables (accepted_of state tap.account) tap)
-step_change tables state (Fixed fix) = step_fix_result state fix (fix_result tables (accepted_of state fix.account) fix)
+abbrev pub step_change : FareEditions → State → Change → Step
+step_change editions state (Tapped tap) = step_tap_result state tap (tap_result editions (accepted_of state tap.account) tap)
+step_change editions state (Fixed fix) = step_fix_result state fix (fix_result editions (accepted_of state fix.account) fix)
 
 -- only what asks for a tap or a correction is answered by prices
-pub asks : (tables : FareTables) (state : State) (a : Asked) → is_priced (step tables state a).reply ≡ true → (change : Change) × (change_of a ≡ Some change)
-asks tables state (asked.Tap tap) is = (Tapped tap, refl)
-asks tables state (asked.Fix fix) is = (Fixed fix, refl)
-asks tables state (asked.Due account day) is = absurd (cc)
-asks tables state (asked.Show account day) is = absurd (cc)
-asks tables state (asked.Quotes day shard of) is = absurd (cc)
+pub asks : (editions : FareEditions) (state : State) (a : Asked) → is_priced (step editions state a).reply ≡ true → (change : Change) × (change_of a ≡ Some change)
+asks editions state (asked.Tap tap) is = (Tapped tap, refl)
+asks editions state (asked.Fix fix) is = (Fixed fix, refl)
+asks editions state (asked.Due account day) is = absurd (cc)
+asks editions state (asked.Show account day) is = absurd (cc)
+asks editions state (asked.Quotes day shard of) is = absurd (cc)
 
 same_change : (change other : Change) → Some change ≡ Some other → change ≡ other
 same_change change other e = ap (λ (o : Option Change). elim o [ Some x ↦ x | None ↦ change ]) e
 
 -- and what asks for one takes its step
-pub step_is : (tables : FareTables) (state : State) (a : Asked) (change : Change) → change_of a ≡ Some change → step tables state a ≡ step_change tables state change
-step_is tables state (asked.Tap tap) change e = ap (step_change tables state) (same_change (Tapped tap) change e)
-step_is tables state (asked.Fix fix) change e = ap (step_change tables state) (same_change (Fixed fix) change e)
-step_is tables state (asked.Due account day) change e = absurd (cc)
-step_is tables state (asked.Show account day) change e = absurd (cc)
-step_is tables state (asked.Quotes day shard of) change e = absurd (cc)
+pub step_is : (editions : FareEditions) (state : State) (a : Asked) (change : Change) → change_of a ≡ Some change → step editions state a ≡ step_change editions state change
+step_is editions state (asked.Tap tap) change e = ap (step_change editions state) (same_change (Tapped tap) change e)
+step_is editions state (asked.Fix fix) change e = ap (step_change editions state) (same_change (Fixed fix) change e)
+step_is editions state (asked.Due account day) change e = absurd (cc)
+step_is editions state (asked.Show account day) change e = absurd (cc)
+step_is editions state (asked.Quotes day shard of) change e = absurd (cc)
 
 unchanged_by_tap : (state : State) (tap : Tap) (r : Result Priced TapFault) → is_priced (step_tap_result state tap r).reply ≡ false → (step_tap_result state tap r).after ≡ state
 unchanged_by_tap state tap (Err fault) is = refl
@@ -62,12 +62,12 @@ unchanged_by_fix state fix (Err fault) is = refl
 unchanged_by_fix state fix (Ok priced) is = absurd (cc)
 
 -- what is not answered by prices changes nothing
-pub unchanged : (tables : FareTables) (state : State) (a : Asked) → is_priced (step tables state a).reply ≡ false → (step tables state a).after ≡ state
-unchanged tables state (asked.Tap tap) is = unchanged_by_tap state tap (tap_result tables (accepted_of state tap.account) tap) is
-unchanged tables state (asked.Fix fix) is = unchanged_by_fix state fix (fix_result tables (accepted_of state fix.account) fix) is
-unchanged tables state (asked.Due account day) is = refl
-unchanged tables state (asked.Show account day) is = refl
-unchanged tables state (asked.Quotes day shard of) is = refl
+pub unchanged : (editions : FareEditions) (state : State) (a : Asked) → is_priced (step editions state a).reply ≡ false → (step editions state a).after ≡ state
+unchanged editions state (asked.Tap tap) is = unchanged_by_tap state tap (tap_result editions (accepted_of state tap.account) tap) is
+unchanged editions state (asked.Fix fix) is = unchanged_by_fix state fix (fix_result editions (accepted_of state fix.account) fix) is
+unchanged editions state (asked.Due account day) is = refl
+unchanged editions state (asked.Show account day) is = refl
+unchanged editions state (asked.Quotes day shard of) is = refl
 
 -- it, if it is this account's
 abbrev pub if_own : ℕ → Option Change → Option Change

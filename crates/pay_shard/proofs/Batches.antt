@@ -8,7 +8,7 @@ use Rattle.pay_day.specs.Words.{monday}
 use Rattle.pay_rules.specs.Numbers.{number_cmp}
 use Rattle.pay_rules.specs.declared.tap.Tap.{Tap}
 use Rattle.pay_rules.specs.declared.fix.Fix.{Fix}
-use Rattle.pay_tables.specs.Words.{FareTables}
+use Rattle.pay_tables.specs.Words.{FareEditions}
 use Rattle.pay_rules.specs.Accepted.{Accepted, nothing}
 use Rattle.pay_rules.specs.QuoteParts.{QuoteParts}
 use Rattle.pay_rules.specs.Quotes.{quote}
@@ -18,16 +18,16 @@ use Rattle.pay_shard.specs.Selection.{is_of, is_tap_between, is_fill_between, is
 use Rattle.pay_rules.specs.State.{State, accepted_of}
 
 -- one account, quoted or not
-pub if_not : (tables : FareTables) (through : ℕ) (b : BatchParts) (account : ℕ) (accepted : Accepted) → is_quoted through (sets account accepted) ≡ false → b ≡ batch_if_quoted tables through b account accepted
+pub if_not : (editions : FareEditions) (through : ℕ) (b : BatchParts) (account : ℕ) (accepted : Accepted) → is_quoted through (sets account accepted) ≡ false → b ≡ batch_if_quoted editions through b account accepted
 unfolding batch_if_quoted
-if_not tables through b account accepted is = sym (ap (λ t. if t then record { quotes = b.quotes ++ quote tables account accepted through ∷ []; sets = b.sets ++ sets account accepted ∷ [] } else b) is)
+if_not editions through b account accepted is = sym (ap (λ t. if t then record { quotes = b.quotes ++ quote editions account accepted through ∷ []; sets = b.sets ++ sets account accepted ∷ [] } else b) is)
 
-pub if_so : (tables : FareTables) (through : ℕ) (b : BatchParts) (account : ℕ) (accepted : Accepted) (q : QuoteParts) (s : SetsParts) → is_quoted through (sets account accepted) ≡ true → q ≡ quote tables account accepted through → s ≡ sets account accepted
-    → record { quotes = b.quotes ++ q ∷ []; sets = b.sets ++ s ∷ [] } ≡ batch_if_quoted tables through b account accepted
+pub if_so : (editions : FareEditions) (through : ℕ) (b : BatchParts) (account : ℕ) (accepted : Accepted) (q : QuoteParts) (s : SetsParts) → is_quoted through (sets account accepted) ≡ true → q ≡ quote editions account accepted through → s ≡ sets account accepted
+    → record { quotes = b.quotes ++ q ∷ []; sets = b.sets ++ s ∷ [] } ≡ batch_if_quoted editions through b account accepted
 unfolding batch_if_quoted
-if_so tables through b account accepted q s is same all =
+if_so editions through b account accepted q s is same all =
     (λ i. record { quotes = b.quotes ++ same i ∷ []; sets = b.sets ++ all i ∷ [] })
-    ∙ sym (ap (λ t. if t then record { quotes = b.quotes ++ quote tables account accepted through ∷ []; sets = b.sets ++ sets account accepted ∷ [] } else b) is)
+    ∙ sym (ap (λ t. if t then record { quotes = b.quotes ++ quote editions account accepted through ∷ []; sets = b.sets ++ sets account accepted ∷ [] } else b) is)
 
 -- one that has accepted nothing is not quoted
 no_items : {X : Type 0} (xs : List X) → length xs ≡ 0 → xs ≡ []
@@ -41,15 +41,15 @@ nothing_quoted : (through account : ℕ) → is_quoted through (sets account not
 nothing_quoted through account =
     λ i. list_any (is_tap_between (monday through) through) (no_values Tap number_cmp i) || list_any (is_fill_between (monday through) through) (no_values Fix number_cmp i)
 
-pub not_there : (tables : FareTables) (through : ℕ) (b : BatchParts) (account : ℕ) (accepted : Accepted) → nothing ≡ accepted → b ≡ batch_if_quoted tables through b account accepted
-not_there tables through b account accepted none = if_not tables through b account accepted (ap (λ a. is_quoted through (sets account a)) (sym none) ∙ nothing_quoted through account)
+pub not_there : (editions : FareEditions) (through : ℕ) (b : BatchParts) (account : ℕ) (accepted : Accepted) → nothing ≡ accepted → b ≡ batch_if_quoted editions through b account accepted
+not_there editions through b account accepted none = if_not editions through b account accepted (ap (λ a. is_quoted through (sets account a)) (sym none) ∙ nothing_quoted through account)
 
 -- ---- one after another
 
 join : BatchParts → BatchParts → BatchParts
 join b c = record { quotes = b.quotes ++ c.quotes; sets = b.sets ++ c.sets }
 
-module _ (tables : FareTables) (state : State) (through shard of : ℕ) where
+module _ (editions : FareEditions) (state : State) (through shard of : ℕ) where
   abbrev pub at : ℕ → ℕ × Accepted
   at account = (account, accepted_of state account)
 
@@ -60,23 +60,23 @@ module _ (tables : FareTables) (state : State) (through shard of : ℕ) where
   chosen accounts = filter is_chosen (map at accounts)
 
   step : (b : BatchParts) (account : ℕ) (rest : List (ℕ × Accepted)) (mine is : Bool) → is_of shard of account ≡ mine → is_quoted through (sets account (accepted_of state account)) ≡ is
-      → join (if mine then (if is then record { quotes = b.quotes ++ quote tables account (accepted_of state account) through ∷ []; sets = b.sets ++ sets account (accepted_of state account) ∷ [] } else b) else b) (batch_of tables through rest)
-      ≡ join b (batch_of tables through (cond (mine && is) (at account ∷ rest) rest))
+      → join (if mine then (if is then record { quotes = b.quotes ++ quote editions account (accepted_of state account) through ∷ []; sets = b.sets ++ sets account (accepted_of state account) ∷ [] } else b) else b) (batch_of editions through rest)
+      ≡ join b (batch_of editions through (cond (mine && is) (at account ∷ rest) rest))
   unfolding join
   step b account rest true true m s = λ i. record {
-    quotes = append_assoc b.quotes (quote tables account (accepted_of state account) through ∷ []) (batch_of tables through rest).quotes i;
-    sets = append_assoc b.sets (sets account (accepted_of state account) ∷ []) (batch_of tables through rest).sets i;
+    quotes = append_assoc b.quotes (quote editions account (accepted_of state account) through ∷ []) (batch_of editions through rest).quotes i;
+    sets = append_assoc b.sets (sets account (accepted_of state account) ∷ []) (batch_of editions through rest).sets i;
   }
   step b account rest true false m s = refl
   step b account rest false is m s = refl
 
-  all_after : (b : BatchParts) (accounts : List ℕ) → fold (batch_with tables state (through, shard, of)) b accounts ≡ join b (batch_of tables through (chosen accounts))
+  all_after : (b : BatchParts) (accounts : List ℕ) → fold (batch_with editions state (through, shard, of)) b accounts ≡ join b (batch_of editions through (chosen accounts))
   unfolding join batch_if_quoted
   all_after b [] = sym (λ i. record { quotes = append-nil b.quotes i; sets = append-nil b.sets i })
   all_after b (account ∷ accounts) =
-      all_after (batch_with tables state (through, shard, of) b account) accounts
+      all_after (batch_with editions state (through, shard, of) b account) accounts
       ∙ step b account (chosen accounts) (is_of shard of account) (is_quoted through (sets account (accepted_of state account))) refl refl
 
-  pub all_quoted : (accounts : List ℕ) → finite.entries state ≡ map at accounts → fold (batch_with tables state (through, shard, of)) (record { quotes = []; sets = [] }) accounts ≡ batch tables state through shard of
+  pub all_quoted : (accounts : List ℕ) → finite.entries state ≡ map at accounts → fold (batch_with editions state (through, shard, of)) (record { quotes = []; sets = [] }) accounts ≡ batch editions state through shard of
   unfolding join
-  all_quoted accounts e = all_after (record { quotes = []; sets = [] }) accounts ∙ ap (λ es. batch_of tables through (filter is_chosen es)) (sym e)
+  all_quoted accounts e = all_after (record { quotes = []; sets = [] }) accounts ∙ ap (λ es. batch_of editions through (filter is_chosen es)) (sym e)

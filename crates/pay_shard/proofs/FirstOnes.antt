@@ -2,7 +2,7 @@
 use Rattle.std.proofs.Common.{◌≡◌, ℕ, Bool, true, false, not, Option, Some, None, Result, Ok, Err, if◌then◌else◌, nat_le, ap, ◌∙◌, refl}
 use Rattle.std.specs.FinMap as map
 use Rattle.std.specs.FinMap.{get-empty, len-empty}
-use Rattle.pay_tables.specs.Words.{FareTables}
+use Rattle.pay_tables.specs.Words.{FareEditions}
 use Rattle.pay_rules.specs.Numbers.{number_cmp, judgement}
 use Rattle.pay_rules.specs.declared.addition.Addition.TheVariants.{Added}
 use Rattle.pay_rules.specs.declared.addition.AdditionFault.TheVariants.{Full}
@@ -46,11 +46,11 @@ first_tap tap =
     ap (λ o. judgement same_tap MOST_TAPS tap o (map.len (map.empty {X = Tap} {R = number_cmp}))) (get-empty number_cmp (tap_number tap))
     ∙ ap (λ n. if nat_le MOST_TAPS n then Err Full else Ok Added) (len-empty number_cmp Tap)
 
-pub first_tap_is_new : (tables : FareTables) (tap : Tap) (priced : Priced) → Ok priced ≡ tap_result tables nothing tap → is_new {E = TapFault} (Ok priced) ≡ true
-first_tap_is_new tables tap priced e = by_place (is_known tables tap.place tap.kind) (e ∙ ap (λ j. if is_known tables tap.place tap.kind then tap_added tables nothing tap j else Err of_tap.UnknownPlace) (first_tap tap))
+pub first_tap_is_new : (editions : FareEditions) (tap : Tap) (priced : Priced) → Ok priced ≡ tap_result editions nothing tap → is_new {E = TapFault} (Ok priced) ≡ true
+first_tap_is_new editions tap priced e = by_place (is_known editions tap.place tap.kind) (e ∙ ap (λ j. if is_known editions tap.place tap.kind then tap_added editions nothing tap j else Err of_tap.UnknownPlace) (first_tap tap))
   where
-    by_place : (b : Bool) → Ok priced ≡ (if b then tap_added tables nothing tap (Ok Added) else Err of_tap.UnknownPlace) → not priced.again ≡ true
-    by_place true f = let same : priced ≡ prices tables (with_tap nothing tap) false tap.stamp.day = cc in ap (λ (p : Priced). not p.again) same
+    by_place : (b : Bool) → Ok priced ≡ (if b then tap_added editions nothing tap (Ok Added) else Err of_tap.UnknownPlace) → not priced.again ≡ true
+    by_place true f = let same : priced ≡ prices editions (with_tap nothing tap) false tap.stamp.day = cc in ap (λ (p : Priced). not p.again) same
     by_place false f = absurd (cc)
 
 first_fix : (fix : Fix) → judged_fix map.empty fix ≡ Ok Added
@@ -58,16 +58,16 @@ first_fix fix =
     ap (λ o. judgement same_fix MOST_FIXES fix o (map.len (map.empty {X = Fix} {R = number_cmp}))) (get-empty number_cmp (fix_number fix))
     ∙ ap (λ n. if nat_le MOST_FIXES n then Err Full else Ok Added) (len-empty number_cmp Fix)
 
-not_again : (tables : FareTables) (accepted : Accepted) (named : Option ℕ) → not (prices_on tables accepted false named).again ≡ true
-not_again tables accepted None = refl
-not_again tables accepted (Some day) = refl
+not_again : (editions : FareEditions) (accepted : Accepted) (named : Option ℕ) → not (prices_on editions accepted false named).again ≡ true
+not_again editions accepted None = refl
+not_again editions accepted (Some day) = refl
 
-pub first_fix_is_new : (tables : FareTables) (fix : Fix) (priced : Priced) → Ok priced ≡ fix_result tables nothing fix → is_new {E = FixFault} (Ok priced) ≡ true
-first_fix_is_new tables fix priced e = by_place (is_known_fix tables fix.what) (e ∙ ap (λ j. if is_known_fix tables fix.what then fix_added tables nothing fix j else Err of_fix.UnknownPlace) (first_fix fix))
+pub first_fix_is_new : (editions : FareEditions) (fix : Fix) (priced : Priced) → Ok priced ≡ fix_result editions nothing fix → is_new {E = FixFault} (Ok priced) ≡ true
+first_fix_is_new editions fix priced e = by_place (is_known_fix editions fix.what) (e ∙ ap (λ j. if is_known_fix editions fix.what then fix_added editions nothing fix j else Err of_fix.UnknownPlace) (first_fix fix))
   where
     named : Option ℕ
     named = day_named (with_fix nothing fix).taps (with_fix nothing fix).fixes fix.what
 
-    by_place : (b : Bool) → Ok priced ≡ (if b then fix_added tables nothing fix (Ok Added) else Err of_fix.UnknownPlace) → not priced.again ≡ true
-    by_place true f = let same : priced ≡ prices_on tables (with_fix nothing fix) false named = cc in ap (λ (p : Priced). not p.again) same ∙ not_again tables (with_fix nothing fix) named
+    by_place : (b : Bool) → Ok priced ≡ (if b then fix_added editions nothing fix (Ok Added) else Err of_fix.UnknownPlace) → not priced.again ≡ true
+    by_place true f = let same : priced ≡ prices_on editions (with_fix nothing fix) false named = cc in ap (λ (p : Priced). not p.again) same ∙ not_again editions (with_fix nothing fix) named
     by_place false f = absurd (cc)

@@ -6,7 +6,7 @@ use Rattle.std.proofs.lemmas.Bool.{lt-ltb, eqb-true, eq-eqb}
 use Rattle.std.specs.Prelude.{if◌then◌else◌, IfSome}
 use Rattle.std.proofs.lemmas.List.{map-append}
 use Rattle.pay_rules.specs.InTurn.{IsIn}
-use Rattle.pay_tables.specs.Words.{FareTables}
+use Rattle.pay_tables.specs.Words.{FareEditions}
 use Rattle.pay_shard.specs.Desks.{IsAfterAll, IsNoneOf, without, command_under, IsReplyTo, NothingIsLost}
 use Rattle.pay_shard.specs.LocalParts.{commands_of, transcript_of, AreInPlace, AreBelow, IsTaken, tickets_of, AreDistinct, AreOfRun, answers_without, IsLocal}
 use Rattle.pay_shard.specs.Machine.{item_step}
@@ -26,18 +26,18 @@ some_is : (x y : Answer) → ◌≡◌ {A = Option Answer} (Some x) (Some y) →
 some_is x y e = cc
 
 -- where each entry stands at its ticket, the answer at a place is to the command there
-own_at : (shard place : ℕ) (tables : FareTables) (state : State) (items : List Item) (k : ℕ) (a : Answer) → AreInPlace place items → slice_get (answers_from shard place tables state items) k ≡ Some a
+own_at : (shard place : ℕ) (editions : FareEditions) (state : State) (items : List Item) (k : ℕ) (a : Answer) → AreInPlace place items → slice_get (answers_from shard place editions state items) k ≡ Some a
     → (a.ticket ≡ place + k) × (command_under (place + k) (commands_of items) ≡ Some a.command)
-own_at shard place tables state [] k a are e = absurd (cc)
-own_at shard place tables state (item ∷ items) zero a are e =
-    let is = some_is (answer_at shard place tables state item) a e in
+own_at shard place editions state [] k a are e = absurd (cc)
+own_at shard place editions state (item ∷ items) zero a are e =
+    let is = some_is (answer_at shard place editions state item) a e in
     let its = are.0.1 in
     let here : item.entry.ticket ≡ place + 0 = omega (arith, its) in (
       sym (ap (λ (x : Answer). x.ticket) is) ∙ here,
       ap (λ (b : Bool). if b then Some item.entry.command else command_under (place + 0) (commands_of items)) (eq-eqb item.entry.ticket (place + 0) here) ∙ ap (λ (x : Answer). Some x.command) is,
     )
-own_at shard place tables state (item ∷ items) (suc k) a are e =
-    let rest = own_at shard (place + 1) tables (item_step tables state item).after items k a are.1 e in
+own_at shard place editions state (item ∷ items) (suc k) a are e =
+    let rest = own_at shard (place + 1) editions (item_step editions state item).after items k a are.1 e in
     let next : (place + 1) + k ≡ place + suc k = omega arith in (
       rest.0 ∙ next,
       ap (λ (b : Bool). if b then Some item.entry.command else command_under (place + suc k) (commands_of items)) (off (item.entry.ticket == place + suc k) refl)
@@ -61,7 +61,7 @@ reply_to s ticket reply placed e = by (transcript_of s ticket) refl e
     by : (o : Option Answer) → transcript_of s ticket ≡ o → option_map (λ (a : Answer). a.reply) o ≡ Some reply → IsReplyTo ticket (commands_of s.journal) (transcript_of s) reply
     by None stands e = absurd (cc)
     by (Some answer) stands e =
-        let own = own_at s.number 0 s.tables s.base s.journal ticket answer placed stands in
+        let own = own_at s.number 0 s.editions s.base s.journal ticket answer placed stands in
         record {
           answer = answer;
           stands = stands;
@@ -205,9 +205,9 @@ module _ (ticket : ℕ) where
 
 -- ---- one more item
 
-as_many_answers : (shard place : ℕ) (tables : FareTables) (state : State) (items : List Item) → length (answers_from shard place tables state items) ≡ length items
-as_many_answers shard place tables state [] = refl
-as_many_answers shard place tables state (item ∷ items) = ap suc (as_many_answers shard (place + 1) tables (item_step tables state item).after items)
+as_many_answers : (shard place : ℕ) (editions : FareEditions) (state : State) (items : List Item) → length (answers_from shard place editions state items) ≡ length items
+as_many_answers shard place editions state [] = refl
+as_many_answers shard place editions state (item ∷ items) = ap suc (as_many_answers shard (place + 1) editions (item_step editions state item).after items)
 
 still_there : (list more : List Answer) (place : ℕ) (a : Answer) → slice_get list place ≡ Some a → slice_get (list ++ more) place ≡ Some a
 still_there [] more place a e = absurd (cc)
@@ -224,14 +224,14 @@ within (x ∷ list) zero a e = omega arith
 within (x ∷ list) (suc place) a e = let rest = within list place a e in omega (arith, rest)
 
 answers_with : (s : ShardParts) (item : Item) (room : ℕ) → answers_given (with_item s item room) ≡ answers_given s ++ next_answer s item ∷ []
-answers_with s item room = answers_more s.number s.tables s.base s.journal item
+answers_with s item room = answers_more s.number s.editions s.base s.journal item
 
 answers_kept : (s : ShardParts) (item : Item) (room : ℕ) → NothingIsLost (transcript_of s) (transcript_of (with_item s item room))
 answers_kept s item room ticket a e = ap (λ l. slice_get l ticket) (answers_with s item room) ∙ still_there (answers_given s) (next_answer s item ∷ []) ticket a e
 
 next_stands : (s : ShardParts) (item : Item) (room : ℕ) → transcript_of (with_item s item room) (length s.journal) ≡ Some (next_answer s item)
 next_stands s item room =
-    (λ i. slice_get (answers_with s item room i) (sym (as_many_answers s.number 0 s.tables s.base s.journal) i)) ∙ the_last (answers_given s) (next_answer s item)
+    (λ i. slice_get (answers_with s item room i) (sym (as_many_answers s.number 0 s.editions s.base s.journal) i)) ∙ the_last (answers_given s) (next_answer s item)
 
 in_place_more : (place : ℕ) (items : List Item) (item : Item) → AreInPlace place items → item.entry.lane ≡ 0 → item.entry.ticket ≡ place + length items → AreInPlace place (items ++ item ∷ [])
 in_place_more place [] item are lane ticket = ((lane, omega (arith, ticket)), tt)
@@ -258,7 +258,7 @@ all_new s ticket (a ∷ answers) of e = (by (ticket == a.ticket) refl, all_new s
     by true same =
         let is = eqb-true ticket a.ticket same in
         let below = within (answers_given s) a.ticket a of.0 in
-        let many = as_many_answers s.number 0 s.tables s.base s.journal in
+        let many = as_many_answers s.number 0 s.editions s.base s.journal in
         absurd (omega (arith, is, below, many, e))
     by false off = refl
 
@@ -270,7 +270,7 @@ none_of s ticket (a ∷ answers) of e = (by (a.ticket == ticket) refl, none_of s
     by true same =
         let is = eqb-true a.ticket ticket same in
         let below = within (answers_given s) a.ticket a of.0 in
-        let many = as_many_answers s.number 0 s.tables s.base s.journal in
+        let many = as_many_answers s.number 0 s.editions s.base s.journal in
         absurd (omega (arith, is, below, many, e))
     by false off = refl
 
@@ -279,7 +279,7 @@ pub all_places : (s : ShardParts) (answers : List Answer) → AreOfRun s answers
 all_places s [] of = tt
 all_places s (a ∷ answers) of =
     let below = within (answers_given s) a.ticket a of.0 in
-    let many = as_many_answers s.number 0 s.tables s.base s.journal in
+    let many = as_many_answers s.number 0 s.editions s.base s.journal in
     (omega (arith, below, many), all_places s answers of.1)
 
 of_run_more : (s : ShardParts) (item : Item) (room : ℕ) (answers : List Answer) → AreOfRun s answers → AreOfRun (with_item s item room) answers

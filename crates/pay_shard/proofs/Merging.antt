@@ -7,7 +7,7 @@ use Rattle.std.specs.FinMap.Entries.{where_key, is_sorted-where_key, find-where_
 use Rattle.std.specs.List.{zip}
 use Rattle.std.specs.Ordering.{nat_cmp}
 use Rattle.std.proofs.lemmas.Bool.{eqb-true, eq-eqb}
-use Rattle.pay_tables.specs.Words.{FareTables}
+use Rattle.pay_tables.specs.Words.{FareEditions}
 use Rattle.pay_rules.specs.declared.tap.Tap.{Tap}
 use Rattle.pay_rules.specs.declared.fix.Fix.{Fix}
 use Rattle.pay_rules.specs.Accepted.{Accepted, nothing}
@@ -116,54 +116,54 @@ module _ (of shard : ℕ) where
 
   -- ---- a step
 
-  step_alike : (tables : FareTables) (w e : State) (a : Asked) → IsAskedOf of shard a → Agree w e → Alike w (step tables w a) (step tables e a)
-  step_alike tables w e (asked.Tap tap) own agree =
-      subst (λ r. Alike w (step_tap_result w tap (tap_result tables (accepted_of w tap.account) tap)) (step_tap_result e tap r)) (ap (λ x. tap_result tables x tap) (same_accepted w e tap.account own agree))
-      (tap_alike w e tap (tap_result tables (accepted_of w tap.account) tap) own agree)
-  step_alike tables w e (asked.Fix fix) own agree =
-      subst (λ r. Alike w (step_fix_result w fix (fix_result tables (accepted_of w fix.account) fix)) (step_fix_result e fix r)) (ap (λ x. fix_result tables x fix) (same_accepted w e fix.account own agree))
-      (fix_alike w e fix (fix_result tables (accepted_of w fix.account) fix) own agree)
-  step_alike tables w e (asked.Due account day) own agree = stays_alike w e _ _ (ap (λ x. replies.Due (quote tables account x day)) (same_accepted w e account own agree)) agree
-  step_alike tables w e (asked.Show account day) own agree = stays_alike w e _ _ (ap (λ x. replies.Shown (shown tables account x day)) (same_accepted w e account own agree)) agree
-  step_alike tables w e (asked.Quotes day named shards) own agree =
-      stays_alike w e _ _ ((λ i. replies.Quotes (batch tables w day (own.0 i) (own.1 i))) ∙ ap (λ es. replies.Quotes (batch_of tables day es)) (same_quoted w e day agree) ∙ sym (λ i. replies.Quotes (batch tables e day (own.0 i) (own.1 i)))) agree
+  step_alike : (editions : FareEditions) (w e : State) (a : Asked) → IsAskedOf of shard a → Agree w e → Alike w (step editions w a) (step editions e a)
+  step_alike editions w e (asked.Tap tap) own agree =
+      subst (λ r. Alike w (step_tap_result w tap (tap_result editions (accepted_of w tap.account) tap)) (step_tap_result e tap r)) (ap (λ x. tap_result editions x tap) (same_accepted w e tap.account own agree))
+      (tap_alike w e tap (tap_result editions (accepted_of w tap.account) tap) own agree)
+  step_alike editions w e (asked.Fix fix) own agree =
+      subst (λ r. Alike w (step_fix_result w fix (fix_result editions (accepted_of w fix.account) fix)) (step_fix_result e fix r)) (ap (λ x. fix_result editions x fix) (same_accepted w e fix.account own agree))
+      (fix_alike w e fix (fix_result editions (accepted_of w fix.account) fix) own agree)
+  step_alike editions w e (asked.Due account day) own agree = stays_alike w e _ _ (ap (λ x. replies.Due (quote editions account x day)) (same_accepted w e account own agree)) agree
+  step_alike editions w e (asked.Show account day) own agree = stays_alike w e _ _ (ap (λ x. replies.Shown (shown editions account x day)) (same_accepted w e account own agree)) agree
+  step_alike editions w e (asked.Quotes day named shards) own agree =
+      stays_alike w e _ _ ((λ i. replies.Quotes (batch editions w day (own.0 i) (own.1 i))) ∙ ap (λ es. replies.Quotes (batch_of editions day es)) (same_quoted w e day agree) ∙ sym (λ i. replies.Quotes (batch editions e day (own.0 i) (own.1 i)))) agree
 
-  marked_alike : (mark : Bool) (tables : FareTables) (w e : State) (a : Asked) → IsAskedOf of shard a → Agree w e → Alike w (marked_step mark tables w a) (marked_step mark tables e a)
-  marked_alike true tables w e a own agree = stays_alike w e replies.Memory replies.Memory refl agree
-  marked_alike false tables w e a own agree = step_alike tables w e a own agree
+  marked_alike : (mark : Bool) (editions : FareEditions) (w e : State) (a : Asked) → IsAskedOf of shard a → Agree w e → Alike w (marked_step mark editions w a) (marked_step mark editions e a)
+  marked_alike true editions w e a own agree = stays_alike w e replies.Memory replies.Memory refl agree
+  marked_alike false editions w e a own agree = step_alike editions w e a own agree
 
 -- ---- a merge
 
 -- each shard's state after one item of a merge
-abbrev after_one : FareTables → (ℕ → State) → ℕ × Item → ℕ → State
-after_one tables each m n = if m.0 == n then (item_step tables (each n) m.1).after else each n
+abbrev after_one : FareEditions → (ℕ → State) → ℕ × Item → ℕ → State
+after_one editions each m n = if m.0 == n then (item_step editions (each n) m.1).after else each n
 
 its_own : (of : ℕ) (each : ℕ → State) (whole : State) (n : ℕ) → IsWhole of each whole → Agree of n whole (each n)
 its_own of each whole n is q own = is q ∙ ap (λ k. finite.get (each k) q) own
 
-one_alike : (tables : FareTables) (of : ℕ) (each : ℕ → State) (whole : State) (m : ℕ × Item) → IsWhole of each whole → IsAskedOf of m.0 m.1.entry.command → Alike of m.0 whole (item_step tables whole m.1) (item_step tables (each m.0) m.1)
-one_alike tables of each whole m is own = marked_alike of m.0 m.1.refused_memory tables whole (each m.0) m.1.entry.command own (its_own of each whole m.0 is)
+one_alike : (editions : FareEditions) (of : ℕ) (each : ℕ → State) (whole : State) (m : ℕ × Item) → IsWhole of each whole → IsAskedOf of m.0 m.1.entry.command → Alike of m.0 whole (item_step editions whole m.1) (item_step editions (each m.0) m.1)
+one_alike editions of each whole m is own = marked_alike of m.0 m.1.refused_memory editions whole (each m.0) m.1.entry.command own (its_own of each whole m.0 is)
 
-whole_after : (tables : FareTables) (of : ℕ) (each : ℕ → State) (whole : State) (m : ℕ × Item) → IsWhole of each whole → IsAskedOf of m.0 m.1.entry.command → IsWhole of (after_one tables each m) (item_step tables whole m.1).after
-whole_after tables of each whole m is own q = by (m.0 == (q % of)) refl
+whole_after : (editions : FareEditions) (of : ℕ) (each : ℕ → State) (whole : State) (m : ℕ × Item) → IsWhole of each whole → IsAskedOf of m.0 m.1.entry.command → IsWhole of (after_one editions each m) (item_step editions whole m.1).after
+whole_after editions of each whole m is own q = by (m.0 == (q % of)) refl
   where
-    alike : Alike of m.0 whole (item_step tables whole m.1) (item_step tables (each m.0) m.1)
-    alike = one_alike tables of each whole m is own
+    alike : Alike of m.0 whole (item_step editions whole m.1) (item_step editions (each m.0) m.1)
+    alike = one_alike editions of each whole m is own
 
-    by : (b : Bool) → (m.0 == (q % of)) ≡ b → finite.get (item_step tables whole m.1).after q ≡ finite.get (if b then (item_step tables (each (q % of)) m.1).after else each (q % of)) q
+    by : (b : Bool) → (m.0 == (q % of)) ≡ b → finite.get (item_step editions whole m.1).after q ≡ finite.get (if b then (item_step editions (each (q % of)) m.1).after else each (q % of)) q
     by true here =
         let same : m.0 ≡ q % of = eqb-true m.0 (q % of) here in
-        alike.agree q (sym same) ∙ ap (λ n. finite.get (item_step tables (each n) m.1).after q) same
+        alike.agree q (sym same) ∙ ap (λ n. finite.get (item_step editions (each n) m.1).after q) same
     by false off = alike.beside q (λ same. let here = eq-eqb m.0 (q % of) (sym same) in absurd (cc)) ∙ is q
 
-pub merged_replies : (tables : FareTables) (of : ℕ) (each : ℕ → State) (whole : State) (merged : List (ℕ × Item)) → IsWhole of each whole → AreAskedOf of merged
-    → (shard : ℕ) → replies_of shard merged (run tables whole (all_items merged)).replies ≡ (run tables (each shard) (items_of shard merged)).replies
-merged_replies tables of each whole [] is are shard = refl
-merged_replies tables of each whole (m ∷ merged) is are shard =
-    by (m.0 == shard) refl (merged_replies tables of (after_one tables each m) (item_step tables whole m.1).after merged (whole_after tables of each whole m is are.0) are.1 shard)
+pub merged_replies : (editions : FareEditions) (of : ℕ) (each : ℕ → State) (whole : State) (merged : List (ℕ × Item)) → IsWhole of each whole → AreAskedOf of merged
+    → (shard : ℕ) → replies_of shard merged (run editions whole (all_items merged)).replies ≡ (run editions (each shard) (items_of shard merged)).replies
+merged_replies editions of each whole [] is are shard = refl
+merged_replies editions of each whole (m ∷ merged) is are shard =
+    by (m.0 == shard) refl (merged_replies editions of (after_one editions each m) (item_step editions whole m.1).after merged (whole_after editions of each whole m is are.0) are.1 shard)
   where
     rest : List Reply
-    rest = (run tables (item_step tables whole m.1).after (all_items merged)).replies
+    rest = (run editions (item_step editions whole m.1).after (all_items merged)).replies
 
     beyond : List (ℕ × Reply)
     beyond = filter (λ (r : ℕ × Reply). r.0 == shard) (zip (map (λ (m : ℕ × Item). m.0) merged) rest)
@@ -171,42 +171,42 @@ merged_replies tables of each whole (m ∷ merged) is are shard =
     mine : List (ℕ × Item)
     mine = filter (λ (m : ℕ × Item). m.0 == shard) merged
 
-    by : (b : Bool) → (m.0 == shard) ≡ b → replies_of shard merged rest ≡ (run tables (if b then (item_step tables (each shard) m.1).after else each shard) (items_of shard merged)).replies
-        → map (λ (r : ℕ × Reply). r.1) (cond b ((m.0, (item_step tables whole m.1).reply) ∷ beyond) beyond) ≡ (run tables (each shard) (map (λ (m : ℕ × Item). m.1) (cond b (m ∷ mine) mine))).replies
+    by : (b : Bool) → (m.0 == shard) ≡ b → replies_of shard merged rest ≡ (run editions (if b then (item_step editions (each shard) m.1).after else each shard) (items_of shard merged)).replies
+        → map (λ (r : ℕ × Reply). r.1) (cond b ((m.0, (item_step editions whole m.1).reply) ∷ beyond) beyond) ≡ (run editions (each shard) (map (λ (m : ℕ × Item). m.1) (cond b (m ∷ mine) mine))).replies
     by true here later =
         let same : m.0 ≡ shard = eqb-true m.0 shard here in
-        let reply = (one_alike tables of each whole m is are.0).reply ∙ ap (λ n. (item_step tables (each n) m.1).reply) same in
+        let reply = (one_alike editions of each whole m is are.0).reply ∙ ap (λ n. (item_step editions (each n) m.1).reply) same in
         λ i. reply i ∷ later i
     by false off later = later
 
-pub merged_states : (tables : FareTables) (of : ℕ) (each : ℕ → State) (whole : State) (merged : List (ℕ × Item)) → IsWhole of each whole → AreAskedOf of merged
-    → IsWhole of (λ shard. replay tables (each shard) (items_of shard merged)) (replay tables whole (all_items merged))
-merged_states tables of each whole [] is are = is
-merged_states tables of each whole (m ∷ merged) is are = λ q.
-    merged_states tables of (after_one tables each m) (item_step tables whole m.1).after merged (whole_after tables of each whole m is are.0) are.1 q ∙ ap (λ s. finite.get s q) (by (q % of) (m.0 == (q % of)))
+pub merged_states : (editions : FareEditions) (of : ℕ) (each : ℕ → State) (whole : State) (merged : List (ℕ × Item)) → IsWhole of each whole → AreAskedOf of merged
+    → IsWhole of (λ shard. replay editions (each shard) (items_of shard merged)) (replay editions whole (all_items merged))
+merged_states editions of each whole [] is are = is
+merged_states editions of each whole (m ∷ merged) is are = λ q.
+    merged_states editions of (after_one editions each m) (item_step editions whole m.1).after merged (whole_after editions of each whole m is are.0) are.1 q ∙ ap (λ s. finite.get s q) (by (q % of) (m.0 == (q % of)))
   where
-    by : (n : ℕ) (b : Bool) → replay tables (if b then (item_step tables (each n) m.1).after else each n) (items_of n merged) ≡ replay tables (each n) (map (λ (m : ℕ × Item). m.1) (cond b (m ∷ filter (λ (m : ℕ × Item). m.0 == n) merged) (filter (λ (m : ℕ × Item). m.0 == n) merged)))
+    by : (n : ℕ) (b : Bool) → replay editions (if b then (item_step editions (each n) m.1).after else each n) (items_of n merged) ≡ replay editions (each n) (map (λ (m : ℕ × Item). m.1) (cond b (m ∷ filter (λ (m : ℕ × Item). m.0 == n) merged) (filter (λ (m : ℕ × Item). m.0 == n) merged)))
     by n true = refl
     by n false = refl
 
-pub merged_histories : (tables : FareTables) (of : ℕ) (each : ℕ → State) (whole : State) (merged : List (ℕ × Item)) → IsWhole of each whole → AreAskedOf of merged
-    → ((shard : ℕ) → IsHistory tables (each shard) (items_of shard merged)) → IsHistory tables whole (all_items merged)
-merged_histories tables of each whole [] is are histories = tt
-merged_histories tables of each whole (m ∷ merged) is are histories =
-    (rightly, merged_histories tables of (after_one tables each m) (item_step tables whole m.1).after merged (whole_after tables of each whole m is are.0) are.1 (λ n. beyond n (m.0 == n) (histories n)))
+pub merged_histories : (editions : FareEditions) (of : ℕ) (each : ℕ → State) (whole : State) (merged : List (ℕ × Item)) → IsWhole of each whole → AreAskedOf of merged
+    → ((shard : ℕ) → IsHistory editions (each shard) (items_of shard merged)) → IsHistory editions whole (all_items merged)
+merged_histories editions of each whole [] is are histories = tt
+merged_histories editions of each whole (m ∷ merged) is are histories =
+    (rightly, merged_histories editions of (after_one editions each m) (item_step editions whole m.1).after merged (whole_after editions of each whole m is are.0) are.1 (λ n. beyond n (m.0 == n) (histories n)))
   where
     mine : ℕ → List (ℕ × Item)
     mine n = filter (λ (m : ℕ × Item). m.0 == n) merged
 
-    own : (b : Bool) → b ≡ true → IsHistory tables (each m.0) (map (λ (m : ℕ × Item). m.1) (cond b (m ∷ mine m.0) (mine m.0))) → IsMarkedRightly tables (each m.0) m.1
+    own : (b : Bool) → b ≡ true → IsHistory editions (each m.0) (map (λ (m : ℕ × Item). m.1) (cond b (m ∷ mine m.0) (mine m.0))) → IsMarkedRightly editions (each m.0) m.1
     own true here history = history.0
     own false off history = absurd (cc)
 
-    rightly : IsMarkedRightly tables whole m.1
+    rightly : IsMarkedRightly editions whole m.1
     rightly marked =
-        ap is_refusal ((step_alike of m.0 tables whole (each m.0) m.1.entry.command are.0 (its_own of each whole m.0 is)).reply)
+        ap is_refusal ((step_alike of m.0 editions whole (each m.0) m.1.entry.command are.0 (its_own of each whole m.0 is)).reply)
         ∙ own (m.0 == m.0) (eq-eqb m.0 m.0 refl) (histories m.0) marked
 
-    beyond : (n : ℕ) (b : Bool) → IsHistory tables (each n) (map (λ (m : ℕ × Item). m.1) (cond b (m ∷ mine n) (mine n))) → IsHistory tables (if b then (item_step tables (each n) m.1).after else each n) (items_of n merged)
+    beyond : (n : ℕ) (b : Bool) → IsHistory editions (each n) (map (λ (m : ℕ × Item). m.1) (cond b (m ∷ mine n) (mine n))) → IsHistory editions (if b then (item_step editions (each n) m.1).after else each n) (items_of n merged)
     beyond n true history = history.1
     beyond n false history = history

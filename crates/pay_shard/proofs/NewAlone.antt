@@ -1,7 +1,7 @@
 -- The newly accepted items of a journal, by themselves: what is left out changes nothing.
 use Rattle.std.proofs.Common.{◌≡◌, Bool, true, false, cond, List, [], ◌∷◌, ◌++◌, Result, Ok, Err, if◌then◌else◌, refl, sym, ap, subst}
 use Rattle.std.specs.Prelude.{filter}
-use Rattle.pay_tables.specs.Words.{FareTables}
+use Rattle.pay_tables.specs.Words.{FareEditions}
 use Rattle.pay_rules.specs.declared.tap.Tap.{Tap}
 use Rattle.pay_rules.specs.declared.fix.Fix.{Fix}
 use Rattle.pay_rules.specs.declared.priced.Priced.{Priced}
@@ -29,16 +29,16 @@ fix_stays : (state : State) (fix : Fix) (r : Result Priced FixFault) → is_new 
 fix_stays state fix (Err fault) old = refl
 fix_stays state fix (Ok priced) old = ap (λ new. kept new state fix.account (after_fix (Ok priced) (accepted_of state fix.account) fix)) old
 
-stays : (mark : Bool) (tables : FareTables) (state : State) (a : Asked) → is_new (marked_step mark tables state a).reply ≡ false → (marked_step mark tables state a).after ≡ state
-stays true tables state a old = refl
-stays false tables state (asked.Tap tap) old = tap_stays state tap (tap_result tables (accepted_of state tap.account) tap) old
-stays false tables state (asked.Fix fix) old = fix_stays state fix (fix_result tables (accepted_of state fix.account) fix) old
-stays false tables state (asked.Due account day) old = refl
-stays false tables state (asked.Show account day) old = refl
-stays false tables state (asked.Quotes day shard of) old = refl
+stays : (mark : Bool) (editions : FareEditions) (state : State) (a : Asked) → is_new (marked_step mark editions state a).reply ≡ false → (marked_step mark editions state a).after ≡ state
+stays true editions state a old = refl
+stays false editions state (asked.Tap tap) old = tap_stays state tap (tap_result editions (accepted_of state tap.account) tap) old
+stays false editions state (asked.Fix fix) old = fix_stays state fix (fix_result editions (accepted_of state fix.account) fix) old
+stays false editions state (asked.Due account day) old = refl
+stays false editions state (asked.Show account day) old = refl
+stays false editions state (asked.Quotes day shard of) old = refl
 
-pub others_stay : (tables : FareTables) (state : State) (item : Item) → is_new (item_step tables state item).reply ≡ false → (item_step tables state item).after ≡ state
-others_stay tables state item old = stays item.refused_memory tables state item.entry.command old
+pub others_stay : (editions : FareEditions) (state : State) (item : Item) → is_new (item_step editions state item).reply ≡ false → (item_step editions state item).after ≡ state
+others_stay editions state item old = stays item.refused_memory editions state item.entry.command old
 
 -- ---- so they may be left out
 
@@ -47,19 +47,19 @@ abbrev of_new : Run → Run
 of_new whole = record { replies = filter is_new whole.replies; after = whole.after }
 
 -- one item before the others, by whether it is newly accepted
-with_one : (tables : FareTables) (state : State) (item : Item) (later : List Item) (whole : Run) → run tables (item_step tables state item).after later ≡ of_new whole
-    → (b : Bool) → is_new (item_step tables state item).reply ≡ b
-    → run tables state (if b then item ∷ later else later)
-    ≡ record { replies = cond b ((item_step tables state item).reply ∷ filter is_new whole.replies) (filter is_new whole.replies); after = whole.after }
-with_one tables state item later whole rest true e = ap (reply_then (item_step tables state item).reply) rest
-with_one tables state item later whole rest false e = subst (λ s. run tables s later ≡ of_new whole) (others_stay tables state item e) rest
+with_one : (editions : FareEditions) (state : State) (item : Item) (later : List Item) (whole : Run) → run editions (item_step editions state item).after later ≡ of_new whole
+    → (b : Bool) → is_new (item_step editions state item).reply ≡ b
+    → run editions state (if b then item ∷ later else later)
+    ≡ record { replies = cond b ((item_step editions state item).reply ∷ filter is_new whole.replies) (filter is_new whole.replies); after = whole.after }
+with_one editions state item later whole rest true e = ap (reply_then (item_step editions state item).reply) rest
+with_one editions state item later whole rest false e = subst (λ s. run editions s later ≡ of_new whole) (others_stay editions state item e) rest
 
-pub run_alone : (tables : FareTables) (state : State) (items : List Item)
-    → run tables state (new_items tables state items) ≡ record { replies = filter is_new (run tables state items).replies; after = replay tables state items }
-run_alone tables state [] = refl
-run_alone tables state (item ∷ items) =
-    let next = (item_step tables state item).after in
-    with_one tables state item (new_items tables next items) (run tables next items) (run_alone tables next items) (is_new (item_step tables state item).reply) refl
+pub run_alone : (editions : FareEditions) (state : State) (items : List Item)
+    → run editions state (new_items editions state items) ≡ record { replies = filter is_new (run editions state items).replies; after = replay editions state items }
+run_alone editions state [] = refl
+run_alone editions state (item ∷ items) =
+    let next = (item_step editions state item).after in
+    with_one editions state item (new_items editions next items) (run editions next items) (run_alone editions next items) (is_new (item_step editions state item).reply) refl
 
 -- ---- each of them is newly accepted again
 
@@ -71,8 +71,8 @@ all_new : (replies : List Reply) → AreAllNew (filter is_new replies)
 all_new [] = tt
 all_new (reply ∷ later) = first_new reply (filter is_new later) (all_new later) (is_new reply) refl
 
-pub stay_new : (tables : FareTables) (state : State) (items : List Item) → AreAllNew (run tables state (new_items tables state items)).replies
-stay_new tables state items = subst (λ (r : Run). AreAllNew r.replies) (sym (run_alone tables state items)) (all_new (run tables state items).replies)
+pub stay_new : (editions : FareEditions) (state : State) (items : List Item) → AreAllNew (run editions state (new_items editions state items)).replies
+stay_new editions state items = subst (λ (r : Run). AreAllNew r.replies) (sym (run_alone editions state items)) (all_new (run editions state items).replies)
 
 -- ---- where a journal goes on
 
@@ -80,10 +80,10 @@ one_after : (b : Bool) (item : Item) (all first more : List Item) → all ≡ fi
 one_after true item all first more e = ap (λ l. item ∷ l) e
 one_after false item all first more e = e
 
-pub stand_after : (tables : FareTables) (state : State) (items more : List Item)
-    → new_items tables state (items ++ more) ≡ new_items tables state items ++ new_items tables (replay tables state items) more
-stand_after tables state [] more = refl
-stand_after tables state (item ∷ items) more =
-    let next = (item_step tables state item).after in
-    one_after (is_new (item_step tables state item).reply) item (new_items tables next (items ++ more)) (new_items tables next items)
-    (new_items tables (replay tables next items) more) (stand_after tables next items more)
+pub stand_after : (editions : FareEditions) (state : State) (items more : List Item)
+    → new_items editions state (items ++ more) ≡ new_items editions state items ++ new_items editions (replay editions state items) more
+stand_after editions state [] more = refl
+stand_after editions state (item ∷ items) more =
+    let next = (item_step editions state item).after in
+    one_after (is_new (item_step editions state item).reply) item (new_items editions next (items ++ more)) (new_items editions next items)
+    (new_items editions (replay editions next items) more) (stand_after editions next items more)

@@ -1,7 +1,7 @@
 -- The taps and corrections of a journal that are accepted.
 use Rattle.std.specs.Prelude.{◌≡◌, Bool, true, false, if◌then◌else◌, List, [], ◌∷◌, map, refl}
 use Rattle.std.specs.List.{AllByRecursion}
-use Rattle.pay_tables.specs.Words.{FareTables}
+use Rattle.pay_tables.specs.Words.{FareEditions}
 use Rattle.pay_rules.specs.declared.priced.Priced.{Priced}
 use Rattle.pay_rules.specs.State.{State}
 use Rattle.pay_shard.specs.Runs.{run}
@@ -34,8 +34,8 @@ with_prices (item ∷ items) (reply ∷ later) = if is_priced reply then item.en
 with_prices _ _ = []
 
 -- the taps and corrections of a journal that are accepted, and their repeats, in the order in which they came
-abbrev pub accepted_asked : FareTables → State → List Item → List Asked
-accepted_asked tables state items = with_prices items (run tables state items).replies
+abbrev pub accepted_asked : FareEditions → State → List Item → List Asked
+accepted_asked editions state items = with_prices items (run editions state items).replies
 
 -- a tap, one that is refused, the first again, and it again where memory was wanting
 repeat_and_marked : (tap other marked : Item) (first repeat : Priced)

@@ -6,18 +6,18 @@ use Rattle.std.specs.List.Sorted.{IsStrictlySortedBy}
 use Rattle.std.specs.Map.{lookup}
 use Rattle.std.specs.Set.{is_member}
 use Rattle.std.specs.Ordering.{nat_cmp, eq_by_cmp}
-use Rattle.pay_tables.specs.Codes.{fare_tables_code}
-use Rattle.pay_tables.specs.Words.{FareTables}
+use Rattle.pay_tables.specs.EditionCodes.{fare_editions_code}
+use Rattle.pay_tables.specs.Words.{FareEditions}
 use Rattle.pay_rules.specs.Accepted.{Accepted}
 use Rattle.pay_rules.specs.State.{State, state_code}
 
 -- the fare file by which they are priced, and what they have accepted
 pub record Held : Type 0 where
-  pub tables : FareTables
+  pub editions : FareEditions
   pub state : State
 
 abbrev pub held_code : Coded Held
-held_code = code_by (FareTables × State) (coded× fare_tables_code state_code) (λ h. (h.tables, h.state)) (λ p. record { tables = p.0; state = p.1 }) (λ _. refl)
+held_code = code_by (FareEditions × State) (coded× fare_editions_code state_code) (λ h. (h.editions, h.state)) (λ p. record { editions = p.0; state = p.1 }) (λ _. refl)
 
 -- where a number stands first
 abbrev pub place_of : ℕ → List ℕ → Option ℕ

@@ -2,7 +2,7 @@
 use Rattle.std.specs.Prelude.{◌≡◌, ℕ, ◌+◌, ◌<◌, ◌==◌, cond, length, List, [], ◌∷◌, map, Option, Some, ⊤, refl}
 use Rattle.std.specs.Coded.{Coded, code_by, coded×, coded_ℕ, coded_list}
 use Rattle.std.specs.List.{AllByRecursion, IsDistinct, slice_get}
-use Rattle.pay_tables.specs.Words.{FareTables}
+use Rattle.pay_tables.specs.Words.{FareEditions}
 use Rattle.pay_rules.specs.State.{State}
 use Rattle.pay_shard.specs.Desks.{DeskParts}
 use Rattle.pay_shard.specs.ShardParts.{ShardParts, shard_code, answers_given, next_answer, with_item}
@@ -29,9 +29,9 @@ abbrev pub transcript_of : ShardParts → ℕ → Option Answer
 transcript_of s ticket = slice_get (answers_given s) ticket
 
 -- Such a desk began with a fare file and accounts. It refuses for want of memory alone, and no reply of it is late.
-abbrev pub desk_parts : LocalParts → DeskParts (FareTables × State)
+abbrev pub desk_parts : LocalParts → DeskParts (FareEditions × State)
 desk_parts d = record {
-  standing = record { origin = (d.shard.tables, d.shard.base); shards = 1; waiting = d.waiting };
+  standing = record { origin = (d.shard.editions, d.shard.base); shards = 1; waiting = d.waiting };
   taken = commands_of d.shard.journal;
   transcript = transcript_of d.shard;
   MayRefuse = λ fault. fault ≡ Memory;

@@ -1,6 +1,6 @@
 -- The machine that answers: it keeps the accepted taps and corrections of each account, and prices them from scratch.
 use Rattle.std.specs.Prelude.{◌≡◌, Bool, true, false, Result, Ok, Err}
-use Rattle.pay_tables.specs.Words.{FareTables}
+use Rattle.pay_tables.specs.Words.{FareEditions}
 use Rattle.pay_rules.specs.declared.tap.Tap.{Tap}
 use Rattle.pay_rules.specs.declared.fix.Fix.{Fix}
 use Rattle.pay_rules.specs.TapResults.{tap_result}
@@ -40,21 +40,21 @@ step_fix_result state fix (Ok priced) = record { reply = replies.Priced priced; 
 step_fix_result state fix (Err fault) = stays state (reply_to_fix_fault fault)
 
 -- A tap and a correction are answered by their own account. What is due, shown or quoted changes nothing.
-abbrev pub step : FareTables → State → Asked → Step
-step tables state (asked.Tap tap) = step_tap_result state tap (tap_result tables (accepted_of state tap.account) tap)
-step tables state (asked.Fix fix) = step_fix_result state fix (fix_result tables (accepted_of state fix.account) fix)
-step tables state (asked.Due account day) = stays state (replies.Due (quote tables account (accepted_of state account) day))
-step tables state (asked.Show account day) = stays state (replies.Shown (shown tables account (accepted_of state account) day))
-step tables state (asked.Quotes day shard of) = stays state (replies.Quotes (batch tables state day shard of))
+abbrev pub step : FareEditions → State → Asked → Step
+step editions state (asked.Tap tap) = step_tap_result state tap (tap_result editions (accepted_of state tap.account) tap)
+step editions state (asked.Fix fix) = step_fix_result state fix (fix_result editions (accepted_of state fix.account) fix)
+step editions state (asked.Due account day) = stays state (replies.Due (quote editions account (accepted_of state account) day))
+step editions state (asked.Show account day) = stays state (replies.Shown (shown editions account (accepted_of state account) day))
+step editions state (asked.Quotes day shard of) = stays state (replies.Quotes (batch editions state day shard of))
 
 -- where memory for a command was refused, that is the reply, and nothing changes
-abbrev pub marked_step : Bool → FareTables → State → Asked → Step
-marked_step true tables state a = stays state replies.Memory
-marked_step false tables state a = step tables state a
+abbrev pub marked_step : Bool → FareEditions → State → Asked → Step
+marked_step true editions state a = stays state replies.Memory
+marked_step false editions state a = step editions state a
 
 -- what an item of a journal comes to
-abbrev pub item_step : FareTables → State → Item → Step
-item_step tables state item = marked_step item.refused_memory tables state item.entry.command
+abbrev pub item_step : FareEditions → State → Item → Step
+item_step editions state item = marked_step item.refused_memory editions state item.entry.command
 
 abbrev pub is_memory : Reply → Bool
 is_memory replies.Memory = true
@@ -66,7 +66,7 @@ is_refusal _ = false
 
 -- A reply is that of the machine, with the state after it, or want of memory, and then it would have been no refusal and
 -- nothing changed.
-abbrev pub IsAnswered : FareTables → State → Asked → Reply → State → Type 0
-IsAnswered tables state a reply after =
-    (marked_step (is_memory reply) tables state a ≡ record { reply = reply; after = after })
-    × (is_memory reply ≡ true → is_refusal (step tables state a).reply ≡ false)
+abbrev pub IsAnswered : FareEditions → State → Asked → Reply → State → Type 0
+IsAnswered editions state a reply after =
+    (marked_step (is_memory reply) editions state a ≡ record { reply = reply; after = after })
+    × (is_memory reply ≡ true → is_refusal (step editions state a).reply ≡ false)

@@ -18,7 +18,7 @@ ghost use Rattle.pay_shard.specs.Held.{ArePlaces, AreNumbersOf, state_of};
 use crate::batch::Batch;
 use crate::selection::is_quoted;
 use pay_rules::{Fares, Fix, FixFault, Priced, Quote, Shown, Tap, TapFault};
-use pay_tables::Tables;
+use pay_tables::Editions;
 use std::alloc::{AllocError, AllocFailed, Global};
 use std::collections::HashMap;
 use std::marker::Model;
@@ -29,7 +29,7 @@ use std::sync::Arc;
 #[derive(Drop)]
 pub struct Accounts<F: Fares> {
     alloc: Global,
-    tables: Arc<Tables>,
+    editions: Arc<Editions>,
     // The place of each account by its number.
     places: HashMap<u32, usize>,
     accounts: Vec<F>,
@@ -45,10 +45,10 @@ impl<F: Fares> Model for Accounts<F> {
 
     ghost coded = { held_code };
 
-    ghost view = { λ a. record { tables = arc_value a.tables; state = state_of F.account F.accepted a.accounts.items } };
+    ghost view = { λ a. record { editions = arc_value a.editions; state = state_of F.account F.accepted a.accounts.items } };
 
     ghost invariant = { λ a. ArePlaces a.places.entries (map F.account a.accounts.items)
-        × ArePriced F.account (F.IsPricedBy (arc_value a.tables)) a.accounts.items };
+        × ArePriced F.account (F.IsPricedBy (arc_value a.editions)) a.accounts.items };
 }
 
 /// The place of each account by its number. An `Err` is out of memory.
@@ -85,20 +85,20 @@ fn numbers_of(alloc: Global, places: &HashMap<u32, usize>) -> Result<Vec<u32>, A
 /// Quotes an account in a batch, if it has a tap or a Fill on a day of the week through that day.
 fn add_if_quoted<F: Fares>(
     batch: &mut Batch,
-    tables: &Tables,
+    editions: &Editions,
     held: &F,
     through: u32,
 ) -> Result<(), AllocError>
     requires numbered { 1 ≤ F.account held.now }
     requires is_day { IsDay through }
-    requires priced_by { F.IsPricedBy tables.now held.now }
-    ensures { OnOk result (batch.new ≡ batch_if_quoted tables.now through batch.old (F.account held.now) (F.accepted held.now)) }
+    requires priced_by { F.IsPricedBy editions.now held.now }
+    ensures { OnOk result (batch.new ≡ batch_if_quoted editions.now through batch.old (F.account held.now) (F.accepted held.now)) }
 {
     let sets = held.sets()?;
     if !is_quoted(&sets, through) {
         return Ok(());
     }
-    let quote = held.quote(tables, through)?;
+    let quote = held.quote(editions, through)?;
     batch.push(quote, sets)
 }
 
@@ -106,19 +106,19 @@ impl<F: Fares> Accounts<F> {
     /// These accounts. `Memory` gives them back; no accounts take no memory.
     pub fn new(
         alloc: Global,
-        tables: Arc<Tables>,
+        editions: Arc<Editions>,
         accounts: Vec<F>,
     ) -> Result<Accounts<F>, AllocFailed<Vec<F>>>
         requires distinct { IsDistinct (eq_by_cmp nat_cmp) (each F.account accounts.items) }
-        requires priced { ArePriced F.account (F.IsPricedBy (arc_value tables)) accounts.items }
-        ensures ok { IfOk result (λ made. made ≡ record { tables = arc_value tables; state = state_of F.account F.accepted accounts.items }) }
+        requires priced { ArePriced F.account (F.IsPricedBy (arc_value editions)) accounts.items }
+        ensures ok { IfOk result (λ made. made ≡ record { editions = arc_value editions; state = state_of F.account F.accepted accounts.items }) }
         ensures given_back { IfErr result (λ failed. failed.value ≡ accounts) }
         ensures none { accounts.items ≡ [] → IsOk result }
     {
         match places_of(alloc, &accounts) {
             Ok(places) => Ok(Accounts {
                 alloc,
-                tables,
+                editions,
                 places,
                 accounts,
             }),
@@ -127,10 +127,10 @@ impl<F: Fares> Accounts<F> {
     }
 
     /// The fare file by which they are priced.
-    pub fn tables(&self) -> &Tables
-        ensures { result.now ≡ self.now.tables }
+    pub fn editions(&self) -> &Editions
+        ensures { result.now ≡ self.now.editions }
     {
-        &self.tables
+        &self.editions
     }
 
     /// An account by its number.
@@ -138,7 +138,7 @@ impl<F: Fares> Accounts<F> {
         ensures some { IfSome result (λ it. map.get self.now.state number ≡ Some (F.accepted it.now)) }
         ensures own { IfSome result (λ it. F.account it.now ≡ number) }
         ensures numbered { IfSome result (λ it. 1 ≤ F.account it.now) }
-        ensures priced_by { IfSome result (λ it. F.IsPricedBy self.now.tables it.now) }
+        ensures priced_by { IfSome result (λ it. F.IsPricedBy self.now.editions it.now) }
         ensures none { IfNone result (map.get self.now.state number ≡ None) }
     {
         let place = *self.places.get(&number)?;
@@ -149,8 +149,8 @@ impl<F: Fares> Accounts<F> {
     fn keep(&mut self, account: F) -> Result<(), AllocError>
         requires absent { map.get self.old.state (F.account account) ≡ None }
         requires numbered { 1 ≤ F.account account }
-        requires priced_by { F.IsPricedBy self.old.tables account }
-        ensures kept { OnOk result (self.new ≡ record { tables = self.old.tables; state = map.insert self.old.state (F.account account) (F.accepted account) }) }
+        requires priced_by { F.IsPricedBy self.old.editions account }
+        ensures kept { OnOk result (self.new ≡ record { editions = self.old.editions; state = map.insert self.old.state (F.account account) (F.accepted account) }) }
         ensures err { OnErr result (self.new ≡ self.old) }
     {
         let number = account.number();
@@ -168,11 +168,11 @@ impl<F: Fares> Accounts<F> {
     /// Hands a tap to its account, which is opened by the first that it accepts: a refused tap leaves none.
     pub fn tap(&mut self, tap: Tap) -> Result<Priced, TapFault>
         requires { 1 ≤ tap.account }
-        ensures answer { IsTapResult result self.old.tables (accepted_of self.old.state tap.account) tap }
-        ensures after { self.new ≡ record { tables = self.old.tables; state = after_tap_of result self.old.state tap } }
+        ensures answer { IsTapResult result self.old.editions (accepted_of self.old.state tap.account) tap }
+        ensures after { self.new ≡ record { editions = self.old.editions; state = after_tap_of result self.old.state tap } }
     {
         match self.places.get(&tap.account) {
-            Some(place) => self.accounts[*place].tap(&self.tables, tap),
+            Some(place) => self.accounts[*place].tap(&self.editions, tap),
             None => self.open_by_tap(tap),
         }
     }
@@ -181,11 +181,11 @@ impl<F: Fares> Accounts<F> {
     fn open_by_tap(&mut self, tap: Tap) -> Result<Priced, TapFault>
         requires numbered { 1 ≤ tap.account }
         requires absent { map.get self.old.state tap.account ≡ None }
-        ensures answer { IsTapResult result self.old.tables (accepted_of self.old.state tap.account) tap }
-        ensures after { self.new ≡ record { tables = self.old.tables; state = after_tap_of result self.old.state tap } }
+        ensures answer { IsTapResult result self.old.editions (accepted_of self.old.state tap.account) tap }
+        ensures after { self.new ≡ record { editions = self.old.editions; state = after_tap_of result self.old.state tap } }
     {
         let mut account = F::new(self.alloc, tap.account);
-        let priced = account.tap(&self.tables, tap)?;
+        let priced = account.tap(&self.editions, tap)?;
         self.keep(account)?;
         Ok(priced)
     }
@@ -193,11 +193,11 @@ impl<F: Fares> Accounts<F> {
     /// Hands a correction to its account, which is opened by the first that it accepts, as by a tap.
     pub fn fix(&mut self, fix: Fix) -> Result<Priced, FixFault>
         requires { 1 ≤ fix.account }
-        ensures answer { IsFixResult result self.old.tables (accepted_of self.old.state fix.account) fix }
-        ensures after { self.new ≡ record { tables = self.old.tables; state = after_fix_of result self.old.state fix } }
+        ensures answer { IsFixResult result self.old.editions (accepted_of self.old.state fix.account) fix }
+        ensures after { self.new ≡ record { editions = self.old.editions; state = after_fix_of result self.old.state fix } }
     {
         match self.places.get(&fix.account) {
-            Some(place) => self.accounts[*place].fix(&self.tables, fix),
+            Some(place) => self.accounts[*place].fix(&self.editions, fix),
             None => self.open_by_fix(fix),
         }
     }
@@ -206,22 +206,22 @@ impl<F: Fares> Accounts<F> {
     fn open_by_fix(&mut self, fix: Fix) -> Result<Priced, FixFault>
         requires numbered { 1 ≤ fix.account }
         requires absent { map.get self.old.state fix.account ≡ None }
-        ensures answer { IsFixResult result self.old.tables (accepted_of self.old.state fix.account) fix }
-        ensures after { self.new ≡ record { tables = self.old.tables; state = after_fix_of result self.old.state fix } }
+        ensures answer { IsFixResult result self.old.editions (accepted_of self.old.state fix.account) fix }
+        ensures after { self.new ≡ record { editions = self.old.editions; state = after_fix_of result self.old.state fix } }
     {
         let mut account = F::new(self.alloc, fix.account);
-        let priced = account.fix(&self.tables, fix)?;
+        let priced = account.fix(&self.editions, fix)?;
         self.keep(account)?;
         Ok(priced)
     }
 
     /// Shows a service day of an account. One that has accepted nothing has no journeys.
     pub fn show(&self, account: u32, day: u32) -> Result<Shown, AllocError>
-        ensures { IfOk result (λ it. it ≡ shown self.now.tables account (accepted_of self.now.state account) day) }
+        ensures { IfOk result (λ it. it ≡ shown self.now.editions account (accepted_of self.now.state account) day) }
     {
         match self.get(account) {
-            Some(held) => held.show(&self.tables, day),
-            None => F::new(self.alloc, account).show(&self.tables, day),
+            Some(held) => held.show(&self.editions, day),
+            None => F::new(self.alloc, account).show(&self.editions, day),
         }
     }
 
@@ -229,11 +229,11 @@ impl<F: Fares> Accounts<F> {
     pub fn quote(&self, account: u32, through: u32) -> Result<Quote, AllocError>
         requires numbered { 1 ≤ account }
         requires is_day { IsDay through }
-        ensures { IfOk result (λ it. it ≡ quote self.now.tables account (accepted_of self.now.state account) through) }
+        ensures { IfOk result (λ it. it ≡ quote self.now.editions account (accepted_of self.now.state account) through) }
     {
         match self.get(account) {
-            Some(held) => held.quote(&self.tables, through),
-            None => F::new(self.alloc, account).quote(&self.tables, through),
+            Some(held) => held.quote(&self.editions, through),
+            None => F::new(self.alloc, account).quote(&self.editions, through),
         }
     }
 
@@ -248,13 +248,13 @@ impl<F: Fares> Accounts<F> {
     ) -> Result<(), AllocError>
         requires is_day { IsDay through }
         requires shards { 0 < of }
-        ensures { OnOk result (batch.new ≡ batch_with self.now.tables self.now.state (through, shard, of) batch.old account) }
+        ensures { OnOk result (batch.new ≡ batch_with self.now.editions self.now.state (through, shard, of) batch.old account) }
     {
         if account % u32::from(of) != u32::from(shard) {
             return Ok(());
         }
         match self.get(account) {
-            Some(held) => add_if_quoted(batch, &self.tables, held, through),
+            Some(held) => add_if_quoted(batch, &self.editions, held, through),
             None => Ok(()),
         }
     }
@@ -263,7 +263,7 @@ impl<F: Fares> Accounts<F> {
     pub fn quotes(&self, through: u32, shard: u8, of: u8) -> Result<Batch, AllocError>
         requires is_day { IsDay through }
         requires shards { 0 < of }
-        ensures { IfOk result (λ it. it ≡ batch self.now.tables self.now.state through shard of) }
+        ensures { IfOk result (λ it. it ≡ batch self.now.editions self.now.state through shard of) }
     {
         let mut batch = Batch::new(self.alloc);
         let numbers = numbers_of(self.alloc, &self.places)?;

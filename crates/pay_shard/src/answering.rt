@@ -12,8 +12,8 @@ impl<F: Fares> Accounts<F> {
     /// Answers what is asked.
     pub fn answer(&mut self, asked: Asked) -> Reply
         requires { IsInRange asked }
-        ensures answered { IsAnswered self.old.tables self.old.state asked result self.new.state }
-        ensures tables { self.new.tables ≡ self.old.tables }
+        ensures answered { IsAnswered self.old.editions self.old.state asked result self.new.state }
+        ensures editions { self.new.editions ≡ self.old.editions }
     {
         match asked {
             Asked::Tap(tap) => self.answer_tap(tap),
@@ -35,8 +35,8 @@ impl<F: Fares> Accounts<F> {
 
     fn answer_tap(&mut self, tap: Tap) -> Reply
         requires { 1 ≤ tap.account }
-        ensures answered { IsAnswered self.old.tables self.old.state (asked.Tap tap) result self.new.state }
-        ensures tables { self.new.tables ≡ self.old.tables }
+        ensures answered { IsAnswered self.old.editions self.old.state (asked.Tap tap) result self.new.state }
+        ensures editions { self.new.editions ≡ self.old.editions }
     {
         match self.tap(tap) {
             Ok(priced) => Reply::Priced(priced),
@@ -46,8 +46,8 @@ impl<F: Fares> Accounts<F> {
 
     fn answer_fix(&mut self, fix: Fix) -> Reply
         requires { 1 ≤ fix.account }
-        ensures answered { IsAnswered self.old.tables self.old.state (asked.Fix fix) result self.new.state }
-        ensures tables { self.new.tables ≡ self.old.tables }
+        ensures answered { IsAnswered self.old.editions self.old.state (asked.Fix fix) result self.new.state }
+        ensures editions { self.new.editions ≡ self.old.editions }
     {
         match self.fix(fix) {
             Ok(priced) => Reply::Priced(priced),

@@ -20,7 +20,7 @@ use crate::reply::{Answer, Reply};
 use crate::shard::Shard;
 use crate::ticket::Ticket;
 use pay_rules::Fares;
-use pay_tables::Tables;
+use pay_tables::Editions;
 use std::alloc::{AllocFailed, Global};
 use std::marker::Model;
 use std::sync::Arc;
@@ -88,19 +88,19 @@ impl<F: Fares> LocalDesk<F> {
     /// fare file. `Memory` gives the accounts back; a desk of none takes no memory.
     pub fn new(
         alloc: Global,
-        tables: Arc<Tables>,
+        editions: Arc<Editions>,
         base: Vec<F>,
     ) -> Result<LocalDesk<F>, AllocFailed<Vec<F>>>
         requires distinct { IsDistinct (eq_by_cmp nat_cmp) (each F.account base.items) }
-        requires priced { ArePriced F.account (F.IsPricedBy (arc_value tables)) base.items }
-        ensures tables { IfOk result (λ desk. desk.shard.tables ≡ arc_value tables) }
+        requires priced { ArePriced F.account (F.IsPricedBy (arc_value editions)) base.items }
+        ensures editions { IfOk result (λ desk. desk.shard.editions ≡ arc_value editions) }
         ensures base { IfOk result (λ desk. desk.shard.base ≡ state_of F.account F.accepted base.items) }
         ensures journal { IfOk result (λ desk. desk.shard.journal ≡ []) }
         ensures waiting { IfOk result (λ desk. desk.waiting ≡ []) }
         ensures given_back { IfErr result (λ failed. failed.value ≡ base) }
         ensures of_none { base.items ≡ [] → IsOk result }
     {
-        let shard = Shard::new(alloc, 0, tables, base)?;
+        let shard = Shard::new(alloc, 0, editions, base)?;
         Ok(LocalDesk {
             shard,
             kept: Vec::new(alloc),
@@ -129,11 +129,11 @@ impl<F: Fares> LocalDesk<F> {
 }
 
 impl<F: Fares> Desk for LocalDesk<F> {
-    ghost use Rattle.pay_tables.specs.Words.{FareTables};
+    ghost use Rattle.pay_tables.specs.Words.{FareEditions};
     ghost use Rattle.pay_rules.specs.State.{State};
     ghost use Rattle.pay_shard.specs.LocalParts.{desk_parts};
 
-    ghost Origin = { FareTables × State };
+    ghost Origin = { FareEditions × State };
 
     ghost parts = { desk_parts };
 

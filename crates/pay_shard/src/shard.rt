@@ -15,7 +15,7 @@ use crate::item::{Entry, Item};
 use crate::journal::Journal;
 use crate::reply::{Answer, Reply};
 use pay_rules::Fares;
-use pay_tables::Tables;
+use pay_tables::Editions;
 use std::alloc::{AllocError, AllocFailed, Global};
 use std::marker::Model;
 use std::snapshot::Snapshot;
@@ -43,14 +43,14 @@ impl<F: Fares> Model for Shard<F> {
 
     ghost view = { λ s. record {
       number = s.number;
-      tables = s.accounts.tables;
+      editions = s.accounts.editions;
       base = s.base.value.state;
       journal = s.journal.items;
       room = s.journal.room;
     } };
 
-    ghost invariant = { λ s. (s.accounts.state ≡ replay s.accounts.tables s.base.value.state s.journal.items)
-        × IsHistory s.accounts.tables s.base.value.state s.journal.items };
+    ghost invariant = { λ s. (s.accounts.state ≡ replay s.accounts.editions s.base.value.state s.journal.items)
+        × IsHistory s.accounts.editions s.base.value.state s.journal.items };
 }
 
 /// Whether a reply says that memory was refused.
@@ -66,19 +66,19 @@ impl<F: Fares> Shard<F> {
     pub fn new(
         alloc: Global,
         number: u8,
-        tables: Arc<Tables>,
+        editions: Arc<Editions>,
         base: Vec<F>,
     ) -> Result<Shard<F>, AllocFailed<Vec<F>>>
         requires distinct { IsDistinct (eq_by_cmp nat_cmp) (each F.account base.items) }
-        requires priced { ArePriced F.account (F.IsPricedBy (arc_value tables)) base.items }
+        requires priced { ArePriced F.account (F.IsPricedBy (arc_value editions)) base.items }
         ensures number { IfOk result (λ shard. shard.number ≡ number) }
-        ensures tables { IfOk result (λ shard. shard.tables ≡ arc_value tables) }
+        ensures editions { IfOk result (λ shard. shard.editions ≡ arc_value editions) }
         ensures base { IfOk result (λ shard. shard.base ≡ state_of F.account F.accepted base.items) }
         ensures journal { IfOk result (λ shard. shard.journal ≡ []) }
         ensures given_back { IfErr result (λ failed. failed.value ≡ base) }
         ensures of_none { base.items ≡ [] → IsOk result }
     {
-        let accounts = Accounts::new(alloc, tables, base)?;
+        let accounts = Accounts::new(alloc, editions, base)?;
         Ok(Shard {
             number,
             base: Snapshot::of(&accounts),
@@ -95,10 +95,10 @@ impl<F: Fares> Shard<F> {
     }
 
     /// The fare file by which it prices.
-    pub fn tables(&self) -> &Tables
-        ensures { result.now ≡ self.now.tables }
+    pub fn editions(&self) -> &Editions
+        ensures { result.now ≡ self.now.editions }
     {
-        self.accounts.tables()
+        self.accounts.editions()
     }
 
     /// How many more items the journal takes without memory.
@@ -122,7 +122,7 @@ impl<F: Fares> Shard<F> {
     pub fn journal(&self) -> &Journal
         ensures value { result.now.items ≡ self.now.journal }
         ensures room { result.now.room ≡ self.now.room }
-        ensures history { IsHistory self.now.tables self.now.base result.now.items }
+        ensures history { IsHistory self.now.editions self.now.base result.now.items }
     {
         &self.journal
     }
@@ -130,7 +130,7 @@ impl<F: Fares> Shard<F> {
     /// All that was asked, in order, without the accounts.
     pub fn into_journal(self) -> Journal
         ensures value { result.items ≡ self.journal }
-        ensures history { IsHistory self.tables self.base result.items }
+        ensures history { IsHistory self.editions self.base result.items }
     {
         self.journal
     }
@@ -139,7 +139,7 @@ impl<F: Fares> Shard<F> {
     pub fn account(&self, number: u32) -> Option<&F>
         ensures own { IfSome result (λ it. F.account it.now ≡ number) }
         ensures numbered { IfSome result (λ it. 1 ≤ F.account it.now) }
-        ensures priced_by { IfSome result (λ it. F.IsPricedBy self.now.tables it.now) }
+        ensures priced_by { IfSome result (λ it. F.IsPricedBy self.now.editions it.now) }
 
         // It is lent just where the replay of the journal has it, as it is there.
         ensures some { IfSome result (λ it. map.get (state_now self.now) number ≡ Some (F.accepted it.now)) }
@@ -158,7 +158,7 @@ impl<F: Fares> Shard<F> {
         ensures room { self.old.room ≤ self.new.room + 1 }
         ensures answer { result ≡ next_answer self.old (item_of entry (is_memory result.reply)) }
         ensures answers { answers_given self.new ≡ answers_given self.old ++ result ∷ [] }
-        ensures refusals { IsMarkedRightly self.old.tables (state_now self.old) (item_of entry (is_memory result.reply)) }
+        ensures refusals { IsMarkedRightly self.old.editions (state_now self.old) (item_of entry (is_memory result.reply)) }
     {
         let entry = &entry;
         let place = self.journal.len();

@@ -4,7 +4,7 @@ use Rattle.std.proofs.lemmas.List.{take_more}
 use Rattle.std.proofs.lemmas.Grind.{flat_map-append}
 use Rattle.std.proofs.KnownBytes.{Appends-trans}
 use Rattle.std.specs.Io.KnownBytes.{Appends, Keeps, append_known}
-use Rattle.pay_tables.specs.Words.{FareTables}
+use Rattle.pay_tables.specs.Words.{FareEditions}
 use Rattle.pay_rules.specs.declared.shown.Line.{Line}
 use Rattle.pay_statement.specs.Statement.{fields_of_line, row, rows_of_lines}
 
@@ -16,12 +16,12 @@ through (Some x) (Some y) None text p q = absurd q
 through (Some x) (Some y) (Some z) text p q = q ∙ p ∙ ap (λ (bytes : List ℕ). bytes ++ text) (append-nil x)
 
 -- the rows of the first journeys, and then the row of the next one
-pub row_more : (old mid new : Option (List ℕ)) (tables : FareTables) (lines : List Line) (i : ℕ) (line : Line) → i < length lines → line ≡ get_or lines i line
-    → Appends old mid (rows_of_lines tables (take i lines)) → Appends mid new (row (fields_of_line tables line)) → Appends old new (rows_of_lines tables (take (i + 1) lines))
-row_more old mid new tables lines i line low is before next =
-    let text : Line → List ℕ = λ l. row (fields_of_line tables l) in
-    let first = rows_of_lines tables (take i lines) in
-    let more : rows_of_lines tables (take (i + 1) lines) ≡ first ++ row (fields_of_line tables line) =
-    ap (rows_of_lines tables) (take_more lines i line low) ∙ flat_map-append text (take i lines) (get_or lines i line ∷ [])
+pub row_more : (old mid new : Option (List ℕ)) (editions : FareEditions) (lines : List Line) (i : ℕ) (line : Line) → i < length lines → line ≡ get_or lines i line
+    → Appends old mid (rows_of_lines editions (take i lines)) → Appends mid new (row (fields_of_line editions line)) → Appends old new (rows_of_lines editions (take (i + 1) lines))
+row_more old mid new editions lines i line low is before next =
+    let text : Line → List ℕ = λ l. row (fields_of_line editions l) in
+    let first = rows_of_lines editions (take i lines) in
+    let more : rows_of_lines editions (take (i + 1) lines) ≡ first ++ row (fields_of_line editions line) =
+    ap (rows_of_lines editions) (take_more lines i line low) ∙ flat_map-append text (take i lines) (get_or lines i line ∷ [])
     ∙ ap (λ (l : Line). first ++ (text l ++ [])) (sym is) ∙ ap (λ (rest : List ℕ). first ++ rest) (append-nil (text line)) in
-    subst (Appends old new) (sym more) (Appends-trans old mid new first (row (fields_of_line tables line)) before next)
+    subst (Appends old new) (sym more) (Appends-trans old mid new first (row (fields_of_line editions line)) before next)

@@ -9,7 +9,7 @@ use Rattle.csv.specs.Writing.{default_writer, needs_byte, needs_quotes, fields_t
 use Rattle.pay_tables.specs.declared.band.Band.{Band}
 use Rattle.pay_tables.specs.declared.band.Cover.{Cover}
 use Rattle.pay_tables.specs.declared.band.Cover.TheVariants.{Buses, Zones}
-use Rattle.pay_tables.specs.Words.{FareTables}
+use Rattle.pay_tables.specs.Words.{FareEditions, on}
 use Rattle.pay_rules.specs.declared.shown.Line.{Line}
 use Rattle.pay_rules.specs.declared.shown.LineKind.{LineKind}
 use Rattle.pay_rules.specs.declared.shown.LineKind.TheVariants as kind
@@ -106,7 +106,7 @@ plain_row field next fields plain = ap (λ (text : List ℕ). text ++ codes "\n"
 pub row_of_columns : row_text default_writer columns ≡ row columns
 row_of_columns = plain_row (codes "day") (codes "kind") _ (refl, (refl, (refl, (refl, (refl, (refl, (refl, tt)))))))
 
-pub row_of_line : (tables : FareTables) (line : Line) → row_text default_writer (fields_of_line tables line) ≡ row (fields_of_line tables line)
-row_of_line tables line =
+pub row_of_line : (editions : FareEditions) (line : Line) → row_text default_writer (fields_of_line editions line) ≡ row (fields_of_line editions line)
+row_of_line editions line =
     plain_row (decimal line.day) (word_of_kind line.kind) _
-    (number_plain line.day, (kind_plain line.kind, (number_plain line.from, (number_plain line.to, (time_plain line.second, (number_plain line.fare, (band_plain (band_at tables line.band), tt)))))))
+    (number_plain line.day, (kind_plain line.kind, (number_plain line.from, (number_plain line.to, (time_plain line.second, (number_plain line.fare, (band_plain (band_at (on editions line.day) line.band), tt)))))))

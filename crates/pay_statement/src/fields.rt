@@ -39,7 +39,7 @@ pub(crate) fn time_of_day(second: u32) -> Field
     time
 }
 
-/// The name of the band at a place of the fare file, `-` where there is none.
+/// The name of the band at a place of these tables, `-` where there is none.
 pub(crate) fn band_name(tables: &Tables, place: Option<u8>) -> Field
     ensures { result.items ≡ band_name (band_at tables.now place) }
 {

@@ -8,7 +8,7 @@ ghost use Rattle.pay_statement.specs.Rows.{IsBetweenRows};
 use crate::fields::{band_name, number, time_of_day};
 use csv::Writer;
 use pay_rules::Line;
-use pay_tables::Tables;
+use pay_tables::Editions;
 use std::io::Write;
 use thiserror::Error;
 
@@ -35,18 +35,18 @@ impl From<csv::Error> for StatementFault {
 /// The first row names the seven fields: `day,kind,from,to,start,fare,band`. Each journey is a row, in the
 /// order given: its service day, counted from 1970-01-01; `RAIL`, `SAME`, `LONE` or `BUS`; the stations where
 /// it began and ended, 0 for none; the local time of its first tap, as `07:00:00`; its fare before caps, in
-/// pence; and the name of its band in these tables, `bus` or its zones as `1-2`, and `-` where it has none.
-/// Commas stand between the fields of a row, and a newline ends it.
+/// pence; and the name of its band in the edition of its day, `bus` or its zones as `1-2`, and `-` where it has
+/// none. Commas stand between the fields of a row, and a newline ends it.
 pub fn write_csv<W: Write + Drop>(
-    tables: &Tables,
+    editions: &Editions,
     lines: &[Line],
     writer: W,
 ) -> Result<W, StatementFault>
     ensures { IfOk result (λ written.
-        Appends (W.contents writer) (W.contents written) (statement_text tables.now lines.now)) }
+        Appends (W.contents writer) (W.contents written) (statement_text editions.now lines.now)) }
 {
     let mut rows = Writer::from_writer(writer);
-    write_rows(&mut rows, tables, lines)?;
+    write_rows(&mut rows, editions, lines)?;
     match rows.into_inner() {
         Ok(writer) => Ok(writer),
         Err(_) => Err(StatementFault::Write),
@@ -56,14 +56,14 @@ pub fn write_csv<W: Write + Drop>(
 /// Writes the row that names the fields, and the rows of journeys.
 fn write_rows<W: Write + Drop>(
     rows: &mut Writer<W>,
-    tables: &Tables,
+    editions: &Editions,
     lines: &[Line],
 ) -> Result<(), StatementFault>
     requires { IsBetweenRows rows.old }
-    ensures { OnOk result (Appends (text_written W.contents rows.old) (text_written W.contents rows.new) (statement_text tables.now lines.now)) }
+    ensures { OnOk result (Appends (text_written W.contents rows.old) (text_written W.contents rows.new) (statement_text editions.now lines.now)) }
 {
     write_columns(rows)?;
-    write_lines(rows, tables, lines)
+    write_lines(rows, editions, lines)
 }
 
 /// Writes the row that names the fields.
@@ -81,15 +81,15 @@ fn write_columns<W: Write + Drop>(rows: &mut Writer<W>) -> Result<(), StatementF
 /// Writes the rows of journeys, in their order.
 fn write_lines<W: Write + Drop>(
     rows: &mut Writer<W>,
-    tables: &Tables,
+    editions: &Editions,
     lines: &[Line],
 ) -> Result<(), StatementFault>
     requires { IsBetweenRows rows.old }
     ensures between { OnOk result (IsBetweenRows rows.new) }
-    ensures text { OnOk result (Appends (text_written W.contents rows.old) (text_written W.contents rows.new) (rows_of_lines tables.now lines.now)) }
+    ensures text { OnOk result (Appends (text_written W.contents rows.old) (text_written W.contents rows.new) (rows_of_lines editions.now lines.now)) }
 {
     for line in lines {
-        write_line(rows, tables, line)?;
+        write_line(rows, editions, line)?;
     }
     Ok(())
 }
@@ -97,19 +97,19 @@ fn write_lines<W: Write + Drop>(
 /// Writes the row of a journey.
 fn write_line<W: Write + Drop>(
     rows: &mut Writer<W>,
-    tables: &Tables,
+    editions: &Editions,
     line: &Line,
 ) -> Result<(), StatementFault>
     requires { IsBetweenRows rows.old }
     ensures between { OnOk result (IsBetweenRows rows.new) }
-    ensures text { OnOk result (Appends (text_written W.contents rows.old) (text_written W.contents rows.new) (row (fields_of_line tables.now line.now))) }
+    ensures text { OnOk result (Appends (text_written W.contents rows.old) (text_written W.contents rows.new) (row (fields_of_line editions.now line.now))) }
 {
     let day = number(u64::from(line.day));
     let from = number(u64::from(line.from));
     let to = number(u64::from(line.to));
     let start = time_of_day(line.second);
     let fare = number(line.fare.pence());
-    let band = band_name(tables, line.band);
+    let band = band_name(editions.on(line.day), line.band);
     write_row(
         rows,
         &[

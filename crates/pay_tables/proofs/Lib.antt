@@ -2,3 +2,4 @@ pub mod NumberMaps
 pub mod Spans
 pub mod FoundItems
 pub mod Within
+pub mod Days

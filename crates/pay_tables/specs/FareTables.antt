@@ -61,19 +61,6 @@ pub record FareTables : Type 0 where
   pub places : FinMap nat_cmp Place
   pub interchanges : List Interchange
 
--- these tables, from what is said of fares and of legs, and of caps, holidays and places
-abbrev pub tables_from : ℕ × List ℕ × Rules × List Single → List Band × List ℕ × FinMap nat_cmp Place × List Interchange → FareTables
-tables_from fares others = record {
-  zones = fares.0;
-  minutes = fares.1;
-  rules = fares.2;
-  singles = fares.3;
-  bands = others.0;
-  holidays = others.1;
-  places = others.2;
-  interchanges = others.3;
-}
-
 -- the station at a number; a number without a place, which no accepted tap has, counts as a station in zone 1
 abbrev pub station_at : FareTables → ℕ → Place
 station_at tables number = unwrap_or (get tables.places number) (Station 1 1 1)

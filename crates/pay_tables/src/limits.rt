@@ -32,3 +32,6 @@ pub const MOST_PLACES: usize = 1_024;
 
 /// How many interchanges a fare file may list.
 pub const MOST_INTERCHANGES: usize = 256;
+
+/// How many editions a fare file may list.
+pub const MOST_EDITIONS: usize = 8;

@@ -1,68 +1,86 @@
-ghost use Rattle.std.specs.Prelude.{◌≡◌, ◌≤◌, IfSome, option_map, ◌*◌, All, length};
+ghost use Rattle.std.specs.Prelude.{◌≡◌, ◌≤◌, IfOk, IfSome, option_map, ◌*◌, All, length};
 ghost use Rattle.std.specs.FinMap as map;
 ghost use Rattle.std.specs.List.{find};
 ghost use Rattle.pay_tables.specs.declared.limits.TheConstants.{MOST_ZONES, MOST_MINUTES, MOST_FARE, MOST_INTERCHANGE_SECONDS, MOST_BANDS};
 ghost use Rattle.pay_tables.specs.FareTables.{AreRules, IsInterchange, IsPlace, IsSingle, is_between, station_at, single_of_span, single_fare, allowed_seconds, is_holiday, interchange, counts, IsFareTables};
 ghost use Rattle.pay_tables.specs.Bands.{IsBand};
-ghost use Rattle.pay_tables.specs.Parts.{tables_of};
+ghost use Rattle.pay_tables.specs.Parts.{edition_of, tables_of};
 ghost use Rattle.pay_tables.specs.Spans.{IsSpan};
 
 use crate::band::Band;
 use crate::counts::Counts;
 use crate::interchange::Interchange;
-use crate::parts::FareParts;
+use crate::network::Network;
+use crate::parts::{EditionParts, FareParts};
 use crate::place::Place;
-use crate::places::Places;
 use crate::rules::Rules;
 use crate::single::Single;
 use crate::zones::Span;
 use pay_money::Pence;
+use std::alloc::{AllocError, Global};
 use std::marker::Model;
+use std::sync::Arc;
 
-/// What a fare file says.
+/// What a fare file says of the days of one edition.
 #[derive(Drop)]
 pub struct Tables {
-    zones: u8,
+    // All editions of a file share one.
+    network: Arc<Network>,
     minutes: Vec<u32>,
     rules: Rules,
     singles: Vec<Single>,
     bands: Vec<Band>,
-    holidays: Vec<u32>,
-    places: Places,
-    interchanges: Vec<Interchange>,
 }
 
 impl Model for Tables {
-    ghost use Rattle.pay_tables.specs.FareTables.{FareTables, IsFareTables, tables_from};
+    ghost use Rattle.std.specs.Arc.{arc_value};
+    ghost use Rattle.pay_tables.specs.FareTables.{FareTables, IsFareTables};
     ghost use Rattle.pay_tables.specs.Codes.{fare_tables_code};
+    ghost use Rattle.pay_tables.specs.Parts.{tables_from};
 
     ghost Value = { FareTables };
 
     ghost coded = { fare_tables_code };
 
-    ghost view = { λ t. tables_from (t.zones, t.minutes.items, t.rules, t.singles.items)
-        (t.bands.items, t.holidays.items, t.places, t.interchanges.items) };
+    ghost view = { λ t. tables_from (arc_value t.network) (t.minutes.items, t.rules, t.singles.items, t.bands.items) };
 
-    ghost invariant = { λ t. IsFareTables (tables_from (t.zones, t.minutes.items, t.rules, t.singles.items)
-        (t.bands.items, t.holidays.items, t.places, t.interchanges.items)) };
+    ghost invariant = { λ t. IsFareTables (tables_from (arc_value t.network) (t.minutes.items, t.rules, t.singles.items, t.bands.items)) };
 }
 
 impl Tables {
-    /// The tables that parts make.
-    pub fn new(parts: FareParts) -> Tables
+    /// The tables that parts make, which are those of a file's own keys. An `Err` is out of memory.
+    pub fn new(alloc: Global, parts: FareParts) -> Result<Tables, AllocError>
         requires { IsFareTables (tables_of parts) }
-        ensures { result ≡ tables_of parts }
+        ensures { IfOk result (λ tables. tables ≡ tables_of parts) }
     {
-        Tables {
+        let network = Network {
             zones: parts.zones,
+            holidays: parts.holidays,
+            places: parts.places,
+            interchanges: parts.interchanges,
+        };
+        Ok(Tables {
+            network: Arc::new(alloc, network)?,
             minutes: parts.minutes,
             rules: parts.rules,
             singles: parts.singles,
             bands: parts.bands,
-            holidays: parts.holidays,
-            places: parts.places,
-            interchanges: parts.interchanges,
-        }
+        })
+    }
+
+    /// The tables of an edition of the same file, which say other things of legs, prices and caps, and share the
+    /// rest. An `Err` is out of memory.
+    pub fn edition(&self, parts: EditionParts) -> Result<Tables, AllocError>
+        requires { IsFareTables (edition_of self.now parts) }
+        ensures { IfOk result (λ tables. tables ≡ edition_of self.now parts) }
+    {
+        Ok(Tables {
+            network: Arc::clone(&self.network)?,
+            minutes: parts.minutes,
+            rules: parts.rules,
+            singles: parts.singles,
+            bands: parts.bands,
+        })
     }
 
     /// How many fare zones there are.
@@ -70,7 +88,7 @@ impl Tables {
         ensures value { result ≡ self.now.zones }
         ensures in_range { (1 ≤ result) × (result ≤ MOST_ZONES) }
     {
-        self.zones
+        self.network.zones
     }
 
     /// The prices and the times that hold for every journey.
@@ -86,7 +104,7 @@ impl Tables {
         ensures value { result ≡ map.get self.now.places number }
         ensures in_range { IfSome result (IsPlace self.now.zones) }
     {
-        self.places.get(number)
+        self.network.places.get(number)
     }
 
     /// The station at a place's number. A number without a place, which no accepted tap has, counts as
@@ -95,7 +113,7 @@ impl Tables {
         ensures value { result ≡ station_at self.now number }
         ensures in_range { IsPlace self.now.zones result }
     {
-        let _ = &self.zones;
+        let _ = &self.rules;
         match self.place(number) {
             Some(place) => place,
             None => Place::Station {
@@ -112,7 +130,7 @@ impl Tables {
         ensures value { result ≡ single_fare self.now span peak }
         ensures in_range { result ≤ MOST_FARE }
     {
-        let _ = &self.zones;
+        let _ = &self.rules;
         match self.single_of_span(span) {
             Some(single) if peak => single.peak,
             Some(single) => single.off,
@@ -151,10 +169,10 @@ impl Tables {
         ensures { result ≡ counts self.now }
     {
         Counts {
-            places: self.places.len(),
+            places: self.network.places.len(),
             bands: self.bands.len(),
-            interchanges: self.interchanges.len(),
-            holidays: self.holidays.len(),
+            interchanges: self.network.interchanges.len(),
+            holidays: self.network.holidays.len(),
         }
     }
 
@@ -162,14 +180,14 @@ impl Tables {
     pub(crate) fn in_range(&self)
         ensures { IsFareTables self.now }
     {
-        let _ = &self.zones;
+        let _ = &self.rules;
     }
 
     /// Whether a service day is a public holiday.
     pub fn is_holiday(&self, day: u32) -> bool
         ensures { result ≡ is_holiday self.now day }
     {
-        self.holidays.contains(&day)
+        self.network.holidays.contains(&day)
     }
 
     /// How many seconds may pass between the exit at one station and the entry at another, in either
@@ -188,6 +206,9 @@ impl Tables {
         ensures value { option_map (λ pair. pair.now) result ≡ find (is_between a b) self.now.interchanges }
         ensures in_range { IfSome result (λ pair. IsInterchange pair.now) }
     {
-        self.interchanges.iter().find(|pair| pair.is_between(a, b))
+        self.network
+            .interchanges
+            .iter()
+            .find(|pair| pair.is_between(a, b))
     }
 }

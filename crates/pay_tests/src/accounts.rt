@@ -7,14 +7,14 @@ use pay_account::*;
 use pay_book::Book;
 use pay_money::Pence;
 use pay_rules::{Credit, Fix, Kind, Tap, What};
-use pay_tables::Tables;
+use pay_tables::Editions;
 use std::alloc::AllocError;
 use std::process::Abort;
 
 /// Account 7, which has accepted nothing.
-pub fn empty_account<R: Abort + AllocGlobal, F: Fares>(rt: &R, tables: &Tables) -> F
+pub fn empty_account<R: Abort + AllocGlobal, F: Fares>(rt: &R, editions: &Editions) -> F
     ensures seven { F.account result ≡ 7 }
-    ensures priced_by { F.IsPricedBy tables.now result }
+    ensures priced_by { F.IsPricedBy editions.now result }
 {
     F::new(rt.alloc(), 7)
 }
@@ -23,37 +23,37 @@ pub fn empty_account<R: Abort + AllocGlobal, F: Fares>(rt: &R, tables: &Tables) 
 // allocation after those of the fare file failing in turn.
 
 /// The result of a tap.
-fn sent<F: Fares>(account: &mut F, tables: &Tables, tap: &Tap) -> Result<Priced, TapFault>
+fn sent<F: Fares>(account: &mut F, editions: &Editions, tap: &Tap) -> Result<Priced, TapFault>
     requires own { tap.now.account ≡ F.account account.old }
-    requires priced_by { F.IsPricedBy tables.now account.old }
+    requires priced_by { F.IsPricedBy editions.now account.old }
     ensures same_account { F.account account.new ≡ F.account account.old }
-    ensures priced_by { F.IsPricedBy tables.now account.new }
+    ensures priced_by { F.IsPricedBy editions.now account.new }
 {
-    match account.tap(tables, *tap) {
-        Err(TapFault::Memory) => account.tap(tables, *tap),
+    match account.tap(editions, *tap) {
+        Err(TapFault::Memory) => account.tap(editions, *tap),
         result => result,
     }
 }
 
 /// The result of a correction.
-fn fixed<F: Fares>(account: &mut F, tables: &Tables, fix: &Fix) -> Result<Priced, FixFault>
+fn fixed<F: Fares>(account: &mut F, editions: &Editions, fix: &Fix) -> Result<Priced, FixFault>
     requires own { fix.now.account ≡ F.account account.old }
-    requires priced_by { F.IsPricedBy tables.now account.old }
+    requires priced_by { F.IsPricedBy editions.now account.old }
     ensures same_account { F.account account.new ≡ F.account account.old }
-    ensures priced_by { F.IsPricedBy tables.now account.new }
+    ensures priced_by { F.IsPricedBy editions.now account.new }
 {
-    match account.fix(tables, *fix) {
-        Err(FixFault::Memory) => account.fix(tables, *fix),
+    match account.fix(editions, *fix) {
+        Err(FixFault::Memory) => account.fix(editions, *fix),
         result => result,
     }
 }
 
 /// What an account shows of a service day.
-pub fn shown<F: Fares>(account: &F, tables: &Tables, day: u32) -> Result<Shown, AllocError>
-    requires { F.IsPricedBy tables.now account.now }
+pub fn shown<F: Fares>(account: &F, editions: &Editions, day: u32) -> Result<Shown, AllocError>
+    requires { F.IsPricedBy editions.now account.now }
 {
-    match account.show(tables, day) {
-        Err(AllocError) => account.show(tables, day),
+    match account.show(editions, day) {
+        Err(AllocError) => account.show(editions, day),
         shown => shown,
     }
 }
@@ -62,13 +62,13 @@ pub fn shown<F: Fares>(account: &F, tables: &Tables, day: u32) -> Result<Shown, 
 pub fn expect_price<R: Abort, F: Fares>(
     rt: &R,
     account: &mut F,
-    tables: &Tables,
+    editions: &Editions,
     tap: Tap,
     pence: u64,
 )
-    requires { F.IsPricedBy tables.now account.old }
+    requires { F.IsPricedBy editions.now account.old }
     ensures same_account { F.account account.new ≡ F.account account.old }
-    ensures priced_by { F.IsPricedBy tables.now account.new }
+    ensures priced_by { F.IsPricedBy editions.now account.new }
 {
     let tap = Tap {
         account: account.number(),
@@ -80,7 +80,7 @@ pub fn expect_price<R: Abort, F: Fares>(
         day_price: Pence::new(pence),
         week_price: Pence::new(pence),
     };
-    expect_same(rt, sent(account, tables, &tap), Ok(priced));
+    expect_same(rt, sent(account, editions, &tap), Ok(priced));
 }
 
 /// Compares a line's kind, where it began and ended, its fare and its band.
@@ -101,51 +101,51 @@ fn expect_line<R: Abort>(
 }
 
 /// Sends six taps, and compares what is shown of the day. What the bus band leaves outside is shown without a band.
-fn prices_and_shows<R: Abort, F: Fares>(rt: &R, tables: &Tables, account: &mut F)
+fn prices_and_shows<R: Abort, F: Fares>(rt: &R, editions: &Editions, account: &mut F)
     requires seven { F.account account.old ≡ 7 }
-    requires priced_by { F.IsPricedBy tables.now account.old }
+    requires priced_by { F.IsPricedBy editions.now account.old }
 {
     let entry = tap_at(rt, 1, 25_200, 10, Kind::In);
-    expect_price(rt, account, tables, entry, 860);
+    expect_price(rt, account, editions, entry, 860);
     let exit = tap_at(rt, 2, 26_400, 12, Kind::Out);
-    expect_price(rt, account, tables, exit, 340);
-    expect_boarding(rt, account, tables, 3, 28_800, 515);
-    expect_boarding(rt, account, tables, 4, 36_000, 690);
-    expect_boarding(rt, account, tables, 5, 43_200, 865);
-    expect_boarding(rt, account, tables, 6, 50_400, 865);
-    expect_shown(rt, account, tables);
+    expect_price(rt, account, editions, exit, 340);
+    expect_boarding(rt, account, editions, 3, 28_800, 515);
+    expect_boarding(rt, account, editions, 4, 36_000, 690);
+    expect_boarding(rt, account, editions, 5, 43_200, 865);
+    expect_boarding(rt, account, editions, 6, 50_400, 865);
+    expect_shown(rt, account, editions);
 }
 
 /// Sends a boarding, and compares the price of the day.
 fn expect_boarding<R: Abort, F: Fares>(
     rt: &R,
     account: &mut F,
-    tables: &Tables,
+    editions: &Editions,
     seq: u32,
     second: u32,
     pence: u64,
 )
-    requires { F.IsPricedBy tables.now account.old }
+    requires { F.IsPricedBy editions.now account.old }
     ensures same_account { F.account account.new ≡ F.account account.old }
-    ensures priced_by { F.IsPricedBy tables.now account.new }
+    ensures priced_by { F.IsPricedBy editions.now account.new }
 {
     let tap = tap_at(rt, seq, second, 50, Kind::Bus);
-    expect_price(rt, account, tables, tap, pence);
+    expect_price(rt, account, editions, tap, pence);
 }
 
 #[test]
 fn prices_taps_and_shows_them(rt: HostRuntime) {
-    let tables = sample(&rt);
-    let mut account: Account = empty_account(&rt, &tables);
-    prices_and_shows(&rt, &tables, &mut account);
-    let mut book: Book = empty_account(&rt, &tables);
-    prices_and_shows(&rt, &tables, &mut book);
+    let editions = sample(&rt);
+    let mut account: Account = empty_account(&rt, &editions);
+    prices_and_shows(&rt, &editions, &mut account);
+    let mut book: Book = empty_account(&rt, &editions);
+    prices_and_shows(&rt, &editions, &mut book);
 }
 
-fn expect_shown<R: Abort, F: Fares>(rt: &R, account: &F, tables: &Tables)
-    requires { F.IsPricedBy tables.now account.now }
+fn expect_shown<R: Abort, F: Fares>(rt: &R, account: &F, editions: &Editions)
+    requires { F.IsPricedBy editions.now account.now }
 {
-    let it = shown(account, tables, MONDAY).expect(rt, "memory");
+    let it = shown(account, editions, MONDAY).expect(rt, "memory");
     expect_same(
         rt,
         (it.account, it.day, it.day_price),
@@ -161,14 +161,14 @@ fn expect_shown<R: Abort, F: Fares>(rt: &R, account: &F, tables: &Tables)
 pub fn expect_fixed<R: Abort, F: Fares>(
     rt: &R,
     account: &mut F,
-    tables: &Tables,
+    editions: &Editions,
     seq: u32,
     what: What,
     named: (u32, u64),
 )
-    requires { F.IsPricedBy tables.now account.old }
+    requires { F.IsPricedBy editions.now account.old }
     ensures same_account { F.account account.new ≡ F.account account.old }
-    ensures priced_by { F.IsPricedBy tables.now account.new }
+    ensures priced_by { F.IsPricedBy editions.now account.new }
 {
     let fix = Fix {
         account: account.number(),
@@ -182,30 +182,37 @@ pub fn expect_fixed<R: Abort, F: Fares>(
         day_price: Pence::new(named.1),
         week_price: Pence::new(named.1),
     };
-    expect_same(rt, fixed(account, tables, &fix), Ok(priced));
+    expect_same(rt, fixed(account, editions, &fix), Ok(priced));
 }
 
 /// Account 7 after six items: a forgotten touch out is filled in, money is given back, the Fill is withdrawn, and the tap
 /// taken out, and then one that there is not.
-fn corrected<R: Abort + AllocGlobal, F: Fares>(rt: &R, tables: &Tables) -> F {
+fn corrected<R: Abort + AllocGlobal, F: Fares>(rt: &R, editions: &Editions) -> F {
     let mut account = F::new(rt.alloc(), 7);
     let entry = tap_at(rt, 1, 25_200, 10, Kind::In);
     let out = What::Fill(tap_at(rt, 2, 27_000, 12, Kind::Out).stamp, 12, Kind::Out);
     let credit = What::Credit(Credit::from_parts(MONDAY, 100).expect(rt, "a credit"));
-    expect_price(rt, &mut account, tables, entry, 860);
-    expect_fixed(rt, &mut account, tables, 1, out, (MONDAY, 340));
-    expect_fixed(rt, &mut account, tables, 2, credit, (MONDAY, 340));
-    expect_fixed(rt, &mut account, tables, 3, What::Drop(3, 1), (MONDAY, 860));
-    expect_fixed(rt, &mut account, tables, 4, What::Void(1, 1), (MONDAY, 0));
-    expect_fixed(rt, &mut account, tables, 5, What::Void(9, 9), (0, 0));
+    expect_price(rt, &mut account, editions, entry, 860);
+    expect_fixed(rt, &mut account, editions, 1, out, (MONDAY, 340));
+    expect_fixed(rt, &mut account, editions, 2, credit, (MONDAY, 340));
+    expect_fixed(
+        rt,
+        &mut account,
+        editions,
+        3,
+        What::Drop(3, 1),
+        (MONDAY, 860),
+    );
+    expect_fixed(rt, &mut account, editions, 4, What::Void(1, 1), (MONDAY, 0));
+    expect_fixed(rt, &mut account, editions, 5, What::Void(9, 9), (0, 0));
     account
 }
 
 #[test]
 fn corrections(rt: HostRuntime) {
-    let tables = sample(&rt);
-    let account: Account = corrected(&rt, &tables);
+    let editions = sample(&rt);
+    let account: Account = corrected(&rt, &editions);
     expect_same(&rt, account.version(), 6);
-    let book: Book = corrected(&rt, &tables);
+    let book: Book = corrected(&rt, &editions);
     expect_same(&rt, book.number(), 7);
 }

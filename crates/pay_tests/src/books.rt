@@ -14,15 +14,15 @@ use pay_day::Moment;
 use pay_money::Pence;
 use pay_rules::{Credit, Fix, Kind, Tap, What};
 use pay_shard::{Asked, Reply, Shard, ShardRefusal};
-use pay_tables::Tables;
+use pay_tables::Editions;
 use std::alloc::AllocError;
 use std::process::Abort;
 
 /// So a day has so many journeys and this price.
-fn expect_day<R: Abort, F: Fares>(rt: &R, account: &F, tables: &Tables, day: (usize, u64))
-    requires { F.IsPricedBy tables.now account.now }
+fn expect_day<R: Abort, F: Fares>(rt: &R, account: &F, editions: &Editions, day: (usize, u64))
+    requires { F.IsPricedBy editions.now account.now }
 {
-    let it = shown(account, tables, MONDAY).expect(rt, "memory");
+    let it = shown(account, editions, MONDAY).expect(rt, "memory");
     expect_same(
         rt,
         (it.lines.as_slice().len(), it.day_price),
@@ -46,81 +46,81 @@ fn told(again: bool, pence: u64) -> Priced {
 fn sent<R: Abort + AllocGlobal, F: Fares>(
     rt: &R,
     account: &mut F,
-    tables: &Tables,
+    editions: &Editions,
     tap: &Tap,
     before: (usize, u64),
 ) -> Result<Priced, TapFault>
     requires own { tap.now.account ≡ F.account account.old }
-    requires priced_by { F.IsPricedBy tables.now account.old }
+    requires priced_by { F.IsPricedBy editions.now account.old }
     ensures same_account { F.account account.new ≡ F.account account.old }
-    ensures priced_by { F.IsPricedBy tables.now account.new }
+    ensures priced_by { F.IsPricedBy editions.now account.new }
 {
-    let result = account.tap(tables, *tap);
+    let result = account.tap(editions, *tap);
     if result != Err(TapFault::Memory) {
         return result;
     }
     tell(rt, WAS_REFUSED);
-    expect_day(rt, account, tables, before);
-    account.tap(tables, *tap)
+    expect_day(rt, account, editions, before);
+    account.tap(editions, *tap)
 }
 
 /// The result of a correction of such an account.
 fn fixed<R: Abort + AllocGlobal, F: Fares>(
     rt: &R,
     account: &mut F,
-    tables: &Tables,
+    editions: &Editions,
     fix: &Fix,
     before: (usize, u64),
 ) -> Result<Priced, FixFault>
     requires own { fix.now.account ≡ F.account account.old }
-    requires priced_by { F.IsPricedBy tables.now account.old }
+    requires priced_by { F.IsPricedBy editions.now account.old }
     ensures same_account { F.account account.new ≡ F.account account.old }
-    ensures priced_by { F.IsPricedBy tables.now account.new }
+    ensures priced_by { F.IsPricedBy editions.now account.new }
 {
-    let result = account.fix(tables, *fix);
+    let result = account.fix(editions, *fix);
     if result != Err(FixFault::Memory) {
         return result;
     }
     tell(rt, WAS_REFUSED);
-    expect_day(rt, account, tables, before);
-    account.fix(tables, *fix)
+    expect_day(rt, account, editions, before);
+    account.fix(editions, *fix)
 }
 
 /// Sends a tap, and compares how many journeys the Monday has and its price, before and after.
 fn expect_tap<R: Abort + AllocGlobal, F: Fares>(
     rt: &R,
     account: &mut F,
-    tables: &Tables,
+    editions: &Editions,
     tap: Tap,
     before: (usize, u64),
     after: (usize, u64),
 )
-    requires { F.IsPricedBy tables.now account.old }
+    requires { F.IsPricedBy editions.now account.old }
     ensures same_account { F.account account.new ≡ F.account account.old }
-    ensures priced_by { F.IsPricedBy tables.now account.new }
+    ensures priced_by { F.IsPricedBy editions.now account.new }
 {
     let tap = Tap {
         account: account.number(),
         ..tap
     };
-    let result = sent(rt, account, tables, &tap, before);
+    let result = sent(rt, account, editions, &tap, before);
     expect_same(rt, result, Ok(told(false, after.1)));
-    expect_day(rt, account, tables, after);
+    expect_day(rt, account, editions, after);
 }
 
 /// The same of a correction by staff 3.
 fn expect_fix<R: Abort + AllocGlobal, F: Fares>(
     rt: &R,
     account: &mut F,
-    tables: &Tables,
+    editions: &Editions,
     seq: u32,
     what: What,
     before: (usize, u64),
     after: (usize, u64),
 )
-    requires { F.IsPricedBy tables.now account.old }
+    requires { F.IsPricedBy editions.now account.old }
     ensures same_account { F.account account.new ≡ F.account account.old }
-    ensures priced_by { F.IsPricedBy tables.now account.new }
+    ensures priced_by { F.IsPricedBy editions.now account.new }
 {
     let fix = Fix {
         account: account.number(),
@@ -128,45 +128,65 @@ fn expect_fix<R: Abort + AllocGlobal, F: Fares>(
         seq,
         what,
     };
-    let result = fixed(rt, account, tables, &fix, before);
+    let result = fixed(rt, account, editions, &fix, before);
     expect_same(rt, result, Ok(told(false, after.1)));
-    expect_day(rt, account, tables, after);
+    expect_day(rt, account, editions, after);
 }
 
 /// Three boardings, of which a late one makes the next free and the last pay, and a journey from 10 to 12 at 340, which a late
 /// touch in cuts off from its beginning: that is then alone, at 860.
-fn boardings_and_a_ride<R: Abort + AllocGlobal, F: Fares>(rt: &R, tables: &Tables, account: &mut F)
-    requires { F.IsPricedBy tables.now account.old }
+fn boardings_and_a_ride<R: Abort + AllocGlobal, F: Fares>(
+    rt: &R,
+    editions: &Editions,
+    account: &mut F,
+)
+    requires { F.IsPricedBy editions.now account.old }
 {
     let bus = tap_at(rt, 1, 28_200, 50, Kind::Bus);
-    expect_tap(rt, account, tables, bus, (0, 0), (1, 175));
+    expect_tap(rt, account, editions, bus, (0, 0), (1, 175));
     let free = tap_at(rt, 2, 30_200, 50, Kind::Bus);
-    expect_tap(rt, account, tables, free, (1, 175), (2, 175));
+    expect_tap(rt, account, editions, free, (1, 175), (2, 175));
     let late = tap_at(rt, 3, 25_200, 50, Kind::Bus);
-    expect_tap(rt, account, tables, late, (2, 175), (3, 350));
+    expect_tap(rt, account, editions, late, (2, 175), (3, 350));
     let entry = tap_at(rt, 4, 26_400, 10, Kind::In);
-    expect_tap(rt, account, tables, entry, (3, 350), (4, 1_210));
+    expect_tap(rt, account, editions, entry, (3, 350), (4, 1_210));
     let exit = tap_at(rt, 5, 27_600, 12, Kind::Out);
-    expect_tap(rt, account, tables, exit, (4, 1_210), (4, 690));
+    expect_tap(rt, account, editions, exit, (4, 1_210), (4, 690));
     let again = tap_at(rt, 6, 27_000, 10, Kind::In);
     let filled = What::Fill(again.stamp, 10, Kind::In);
-    expect_tap(rt, account, tables, again, (4, 690), (5, 1_550));
+    expect_tap(rt, account, editions, again, (4, 690), (5, 1_550));
     expect_fix(
         rt,
         account,
-        tables,
+        editions,
         1,
         What::Void(1, 6),
         (5, 1_550),
         (4, 690),
     );
-    expect_fix(rt, account, tables, 2, What::Void(1, 3), (4, 690), (3, 515));
-    expect_fix(rt, account, tables, 3, What::Drop(3, 2), (3, 515), (4, 690));
-    expect_fix(rt, account, tables, 4, filled, (4, 690), (5, 1_550));
     expect_fix(
         rt,
         account,
-        tables,
+        editions,
+        2,
+        What::Void(1, 3),
+        (4, 690),
+        (3, 515),
+    );
+    expect_fix(
+        rt,
+        account,
+        editions,
+        3,
+        What::Drop(3, 2),
+        (3, 515),
+        (4, 690),
+    );
+    expect_fix(rt, account, editions, 4, filled, (4, 690), (5, 1_550));
+    expect_fix(
+        rt,
+        account,
+        editions,
         5,
         What::Void(1, 5),
         (5, 1_550),
@@ -176,76 +196,76 @@ fn boardings_and_a_ride<R: Abort + AllocGlobal, F: Fares>(rt: &R, tables: &Table
 
 /// A leg from 14 to 11 at 210, which becomes a run over 12 and 10 at 370 by two late taps: it has a leg from 10 to 11, at 280
 /// where it is alone. A tap of it that is taken out and restored changes it and restores it, and another late tap parts it.
-fn a_run<R: Abort + AllocGlobal, F: Fares>(rt: &R, tables: &Tables, account: &mut F)
-    requires { F.IsPricedBy tables.now account.old }
+fn a_run<R: Abort + AllocGlobal, F: Fares>(rt: &R, editions: &Editions, account: &mut F)
+    requires { F.IsPricedBy editions.now account.old }
 {
     let entry = tap_at(rt, 1, 25_200, 14, Kind::In);
-    expect_tap(rt, account, tables, entry, (0, 0), (1, 860));
+    expect_tap(rt, account, editions, entry, (0, 0), (1, 860));
     let exit = tap_at(rt, 2, 28_200, 11, Kind::Out);
-    expect_tap(rt, account, tables, exit, (1, 860), (1, 210));
+    expect_tap(rt, account, editions, exit, (1, 860), (1, 210));
     let between = tap_at(rt, 3, 26_400, 12, Kind::Out);
-    expect_tap(rt, account, tables, between, (1, 210), (2, 1_070));
+    expect_tap(rt, account, editions, between, (1, 210), (2, 1_070));
     let on = tap_at(rt, 4, 27_600, 10, Kind::In);
     let (whole, cut, no_exit) = ((1, 370), (2, 1_140), (2, 1_070));
-    expect_tap(rt, account, tables, on, no_exit, whole);
-    expect_fix(rt, account, tables, 1, What::Void(1, 3), whole, cut);
-    expect_fix(rt, account, tables, 2, What::Drop(3, 1), cut, whole);
-    expect_fix(rt, account, tables, 3, What::Void(1, 2), whole, no_exit);
-    expect_fix(rt, account, tables, 4, What::Drop(3, 3), no_exit, whole);
+    expect_tap(rt, account, editions, on, no_exit, whole);
+    expect_fix(rt, account, editions, 1, What::Void(1, 3), whole, cut);
+    expect_fix(rt, account, editions, 2, What::Drop(3, 1), cut, whole);
+    expect_fix(rt, account, editions, 3, What::Void(1, 2), whole, no_exit);
+    expect_fix(rt, account, editions, 4, What::Drop(3, 3), no_exit, whole);
     let parting = tap_at(rt, 5, 26_700, 13, Kind::In);
-    expect_tap(rt, account, tables, parting, (1, 370), (3, 1_350));
+    expect_tap(rt, account, editions, parting, (1, 370), (3, 1_350));
 }
 
 #[test]
 fn boardings_by_late_taps(rt: HostRuntime) {
-    let tables = sample(&rt);
-    let mut book: Book = empty_account(&rt, &tables);
-    let mut account: Account = empty_account(&rt, &tables);
+    let editions = sample(&rt);
+    let mut book: Book = empty_account(&rt, &editions);
+    let mut account: Account = empty_account(&rt, &editions);
     tell(&rt, MAY_BE_REFUSED);
-    boardings_and_a_ride(&rt, &tables, &mut book);
-    boardings_and_a_ride(&rt, &tables, &mut account);
+    boardings_and_a_ride(&rt, &editions, &mut book);
+    boardings_and_a_ride(&rt, &editions, &mut account);
 }
 
 #[test]
 fn runs_by_late_taps(rt: HostRuntime) {
-    let tables = sample(&rt);
-    let mut book: Book = empty_account(&rt, &tables);
-    let mut account: Account = empty_account(&rt, &tables);
+    let editions = sample(&rt);
+    let mut book: Book = empty_account(&rt, &editions);
+    let mut account: Account = empty_account(&rt, &editions);
     tell(&rt, MAY_BE_REFUSED);
-    a_run(&rt, &tables, &mut book);
-    a_run(&rt, &tables, &mut account);
+    a_run(&rt, &editions, &mut book);
+    a_run(&rt, &editions, &mut account);
 }
 
 /// Sends a boarding, of which there is one that pays.
 fn expect_boarding<R: Abort, F: Fares>(
     rt: &R,
     account: &mut F,
-    tables: &Tables,
+    editions: &Editions,
     number: (u32, u32),
     again: bool,
 )
-    requires { F.IsPricedBy tables.now account.old }
+    requires { F.IsPricedBy editions.now account.old }
     ensures same_account { F.account account.new ≡ F.account account.old }
-    ensures priced_by { F.IsPricedBy tables.now account.new }
+    ensures priced_by { F.IsPricedBy editions.now account.new }
 {
     let tap = Tap {
         account: account.number(),
         ..tap_at(rt, number.0, number.1, 50, Kind::Bus)
     };
-    let result = account.tap(tables, tap).expect(rt, "a price");
+    let result = account.tap(editions, tap).expect(rt, "a price");
     expect_same(rt, result, told(again, 175));
 }
 
 // A first boarding has none to read, one after it reads the last that paid, and a repeat reads none.
 #[test]
 fn reads_few_taps(rt: HostRuntime) {
-    let tables = sample(&rt);
-    let mut book: Book = empty_account(&rt, &tables);
-    expect_boarding(&rt, &mut book, &tables, (1, 25_200), false);
+    let editions = sample(&rt);
+    let mut book: Book = empty_account(&rt, &editions);
+    expect_boarding(&rt, &mut book, &editions, (1, 25_200), false);
     expect_same(&rt, book.steps(), 0);
-    expect_boarding(&rt, &mut book, &tables, (2, 25_800), false);
+    expect_boarding(&rt, &mut book, &editions, (2, 25_800), false);
     expect_same(&rt, book.steps(), 1);
-    expect_boarding(&rt, &mut book, &tables, (1, 25_200), true);
+    expect_boarding(&rt, &mut book, &editions, (1, 25_200), true);
     expect_same(&rt, book.steps(), 0);
 }
 
@@ -271,48 +291,53 @@ fn order(number: usize) -> [usize; 6] {
 }
 
 /// Sends the tap of this place.
-fn send_one<R: Abort, F: Fares>(rt: &R, account: &mut F, tables: &Tables, place: usize) -> Priced
-    requires { F.IsPricedBy tables.now account.old }
-    ensures { F.IsPricedBy tables.now account.new }
+fn send_one<R: Abort, F: Fares>(
+    rt: &R,
+    account: &mut F,
+    editions: &Editions,
+    place: usize,
+) -> Priced
+    requires { F.IsPricedBy editions.now account.old }
+    ensures { F.IsPricedBy editions.now account.new }
 {
     let (second, at, kind) = *SIX.get(place).expect(rt, "a tap");
     let tap = Tap {
         account: account.number(),
         ..tap_at(rt, place as u32 + 1, second, at, kind)
     };
-    account.tap(tables, tap).expect(rt, "a price")
+    account.tap(editions, tap).expect(rt, "a price")
 }
 
 /// What is told last, if the six come in this order.
 fn last_told<R: Abort, F: Fares>(
     rt: &R,
     account: &mut F,
-    tables: &Tables,
+    editions: &Editions,
     order: &[usize; 6],
 ) -> Priced
-    requires { F.IsPricedBy tables.now account.old }
+    requires { F.IsPricedBy editions.now account.old }
 {
-    send_one(rt, account, tables, order[0]);
-    send_one(rt, account, tables, order[1]);
-    send_one(rt, account, tables, order[2]);
-    send_one(rt, account, tables, order[3]);
-    send_one(rt, account, tables, order[4]);
-    send_one(rt, account, tables, order[5])
+    send_one(rt, account, editions, order[0]);
+    send_one(rt, account, editions, order[1]);
+    send_one(rt, account, editions, order[2]);
+    send_one(rt, account, editions, order[3]);
+    send_one(rt, account, editions, order[4]);
+    send_one(rt, account, editions, order[5])
 }
 
 /// Compares what is told last, if the six come to account 7 in this order.
-fn expect_order<R: Abort + AllocGlobal>(rt: &R, tables: &Tables, order: [usize; 6]) {
-    let mut book: Book = empty_account(rt, tables);
-    let last = last_told(rt, &mut book, tables, &order);
+fn expect_order<R: Abort + AllocGlobal>(rt: &R, editions: &Editions, order: [usize; 6]) {
+    let mut book: Book = empty_account(rt, editions);
+    let last = last_told(rt, &mut book, editions, &order);
     expect_same(rt, (order, last), (order, told(false, 690)));
 }
 
 // The first and the third boarding pay, and the journey from 10 to 12 costs 340.
 #[test]
 fn six_in_whatever_order(rt: HostRuntime) {
-    let tables = sample(&rt);
+    let editions = sample(&rt);
     for number in 0..720 {
-        expect_order(&rt, &tables, order(number));
+        expect_order(&rt, &editions, order(number));
     }
 }
 
@@ -588,12 +613,12 @@ fn histories_as_from_scratch(rt: HostRuntime) {
 }
 
 /// The book of account 7 to which these came, compared with one that has one boarding of the Monday, at 175.
-fn expect_book<R: Abort + AllocGlobal>(rt: &R, tables: &Tables, sent: [Sent; 3])
+fn expect_book<R: Abort + AllocGlobal>(rt: &R, editions: &Editions, sent: [Sent; 3])
     requires { AllByRecursion (λ one. account_of one ≡ 7) sent }
 {
-    let book = book_of(rt.alloc(), tables, 7, &sent).expect(rt, "memory");
+    let book = book_of(rt.alloc(), editions, 7, &sent).expect(rt, "memory");
     expect_same(rt, book.number(), 7);
-    expect_day(rt, &book, tables, (1, 175));
+    expect_day(rt, &book, editions, (1, 175));
 }
 
 /// A boarding of account 7.
@@ -621,10 +646,10 @@ fn void_of_second() -> Sent
 // Two boardings an hour and more apart, of which one is taken out, after it or before it comes.
 #[test]
 fn one_book_in_whatever_order(rt: HostRuntime) {
-    let tables = sample(&rt);
+    let editions = sample(&rt);
     expect_book(
         &rt,
-        &tables,
+        &editions,
         [
             boarding(&rt, 1, 25_200),
             boarding(&rt, 2, 30_200),
@@ -633,7 +658,7 @@ fn one_book_in_whatever_order(rt: HostRuntime) {
     );
     expect_book(
         &rt,
-        &tables,
+        &editions,
         [
             void_of_second(),
             boarding(&rt, 2, 30_200),

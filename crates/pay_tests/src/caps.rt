@@ -1,7 +1,7 @@
 ghost use Rattle.std.specs.Prelude.{◌≡◌};
 ghost use Rattle.pay_caps.specs.Words.{total};
 
-use crate::given::{expect_same, sample};
+use crate::given::{MONDAY, expect_same, sample};
 use pay_caps::*;
 use pay_money::Pence;
 use pay_tables::{Cover, Span, Tables};
@@ -27,41 +27,55 @@ fn expect_price(rt: &impl Abort, tables: &Tables, cells: &Cells, price: u64, ban
 
 #[test]
 fn days_and_what_is_left_outside(rt: HostRuntime) {
-    let tables = sample(&rt);
+    let editions = sample(&rt);
     let cells = a_day();
     expect_same(&rt, cells.capped_sum(), Pence::new(1_550));
     // All by the band of zones 1 to 3; 890 and 180 by that of zones 1 to 2.
-    expect_price(&rt, &tables, &cells, 1_050, Some(2));
+    expect_price(&rt, editions.own(), &cells, 1_050, Some(2));
     let inner = Cover::Zones(Span { from: 1, to: 2 });
     expect_same(&rt, cells.outside_sum(inner), Pence::new(180));
-    expect_price(&rt, &tables, &cells.outside(&tables, 1), 180, None);
+    expect_price(
+        &rt,
+        editions.own(),
+        &cells.outside(editions.own(), 1),
+        180,
+        None,
+    );
 }
 
 // A maximum fare comes on top until it is taken.
 #[test]
 fn maximum_fares_on_top(rt: HostRuntime) {
-    let tables = sample(&rt);
+    let editions = sample(&rt);
     let mut cells = a_day();
     cells.add(Cell::Maximum, Pence::new(860));
     expect_same(&rt, cells.maximum(), Pence::new(860));
-    expect_price(&rt, &tables, &cells, 1_910, Some(2));
-    let capped = capped_price(&tables, &cells);
+    expect_price(&rt, editions.own(), &cells, 1_910, Some(2));
+    let capped = capped_price(editions.own(), &cells);
     expect_same(
         &rt,
         lower((Pence::new(1_051), None), capped),
         (Pence::new(1_050), Some(2)),
     );
     cells.take(Cell::Maximum, Pence::new(860));
-    expect_price(&rt, &tables, &cells, 1_050, Some(2));
+    expect_price(&rt, editions.own(), &cells, 1_050, Some(2));
 }
 
 #[test]
 fn weeks_and_what_is_due(rt: HostRuntime) {
-    let tables = sample(&rt);
+    let editions = sample(&rt);
     // Days of 1050 each: six would be 6300, and the week's cap of zones 1 to 3 is 5250.
     let day = a_day();
-    expect_same(&rt, week_price(&tables, &[day; 4]), Pence::new(4_200));
-    expect_same(&rt, week_price(&tables, &[day; 6]), Pence::new(5_250));
+    expect_same(
+        &rt,
+        week_price(&editions, MONDAY, &[day; 4]),
+        Pence::new(4_200),
+    );
+    expect_same(
+        &rt,
+        week_price(&editions, MONDAY, &[day; 6]),
+        Pence::new(5_250),
+    );
     expect_same(
         &rt,
         due(Pence::new(5_250), Pence::new(250)),

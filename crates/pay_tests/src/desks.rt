@@ -9,15 +9,15 @@ use pay_book::Book;
 use pay_money::Pence;
 use pay_rules::{Kind, Tap};
 use pay_shard::{Asked, Command, Desk, LocalDesk, Reply};
-use pay_tables::Tables;
+use pay_tables::Editions;
 use std::process::Abort;
 use std::sync::Arc;
 
 /// A desk with no accounts.
-pub fn empty_desk<R: Abort + AllocGlobal>(rt: &R, tables: Tables) -> LocalDesk<Book> {
-    let tables = Arc::new(rt.alloc(), tables).expect(rt, "memory");
+pub fn empty_desk<R: Abort + AllocGlobal>(rt: &R, editions: Editions) -> LocalDesk<Book> {
+    let editions = Arc::new(rt.alloc(), editions).expect(rt, "memory");
     let none: Vec<Book> = Vec::new(rt.alloc());
-    LocalDesk::new(rt.alloc(), tables, none).expect(rt, "memory")
+    LocalDesk::new(rt.alloc(), editions, none).expect(rt, "memory")
 }
 
 /// The reply to what is put, and none if memory runs out.

@@ -9,7 +9,8 @@ use std::alloc::Global;
 
 #[test]
 fn reads_rules_and_counts(rt: HostRuntime) {
-    let tables = sample(&rt);
+    let editions = sample(&rt);
+    let tables = editions.own();
     let rules = tables.rules();
     expect_same(
         &rt,
@@ -32,7 +33,8 @@ fn reads_rules_and_counts(rt: HostRuntime) {
 
 #[test]
 fn reads_places(rt: HostRuntime) {
-    let tables = sample(&rt);
+    let editions = sample(&rt);
+    let tables = editions.own();
     let station = Place::Station {
         low: 2,
         high: 3,
@@ -49,7 +51,8 @@ fn reads_places(rt: HostRuntime) {
 
 #[test]
 fn reads_fares_and_times(rt: HostRuntime) {
-    let tables = sample(&rt);
+    let editions = sample(&rt);
+    let tables = editions.own();
     let stations = [tables.station(14), tables.station(12)];
     let found = span(&stations);
     expect_same(&rt, found, Span { from: 2, to: 3 });
@@ -65,7 +68,8 @@ fn reads_fares_and_times(rt: HostRuntime) {
 
 #[test]
 fn reads_bands(rt: HostRuntime) {
-    let tables = sample(&rt);
+    let editions = sample(&rt);
+    let tables = editions.own();
     let cover = Cover::Zones(Span { from: 1, to: 3 });
     let band = Band {
         cover,
@@ -80,7 +84,8 @@ fn reads_bands(rt: HostRuntime) {
 
 #[test]
 fn reads_holidays_and_interchanges(rt: HostRuntime) {
-    let tables = sample(&rt);
+    let editions = sample(&rt);
+    let tables = editions.own();
     assert!(rt; tables.is_holiday(19_723) && !tables.is_holiday(19_724));
     expect_same(
         &rt,
@@ -97,7 +102,7 @@ fn reads_holidays_and_interchanges(rt: HostRuntime) {
 
 /// What comes of a fare file.
 fn fault_of(alloc: Global, text: &str) -> Option<FareFileFault> {
-    read_tables(alloc, text).err()
+    read_editions(alloc, text).err()
 }
 
 // `rt try --test --fail-alloc N` runs it with each allocation failing in turn.

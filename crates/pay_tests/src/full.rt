@@ -3,9 +3,9 @@
 use crate::accounts::{empty_account, expect_fixed, expect_price};
 use crate::given::{MONDAY, expect_same, tap_at};
 use pay_account::Account;
-use pay_fare_file::read_tables;
+use pay_fare_file::read_editions;
 use pay_rules::{Addition, Fares, Fix, Kind, Tap, What};
-use pay_tables::Tables;
+use pay_tables::Editions;
 use std::process::Abort;
 
 /// How many taps and corrections an account may have.
@@ -33,26 +33,26 @@ fn filled<R: Abort>(rt: &R, number: u32) -> What {
 }
 
 /// A tap is accepted, and not priced.
-fn accept<R: Abort>(rt: &R, account: &mut Account, tables: &Tables, tap: Tap) {
+fn accept<R: Abort>(rt: &R, account: &mut Account, editions: &Editions, tap: Tap) {
     let tap = Tap {
         account: account.number(),
         ..tap
     };
-    match account.judge_tap(tables, &tap) {
+    match account.judge_tap(editions, &tap) {
         Ok(Addition::Added) => account.accept_tap(tap).expect(rt, "memory"),
         judged => expect_same(rt, judged, Ok(Addition::Added)),
     }
 }
 
 /// A correction is accepted, and not priced.
-fn accept_fix<R: Abort>(rt: &R, account: &mut Account, tables: &Tables, seq: u32, what: What) {
+fn accept_fix<R: Abort>(rt: &R, account: &mut Account, editions: &Editions, seq: u32, what: What) {
     let fix = Fix {
         account: account.number(),
         staff: 3,
         seq,
         what,
     };
-    match account.judge_fix(tables, &fix) {
+    match account.judge_fix(editions, &fix) {
         Ok(Addition::Added) => account.accept_fix(fix).expect(rt, "memory"),
         judged => expect_same(rt, judged, Ok(Addition::Added)),
     }
@@ -61,18 +61,18 @@ fn accept_fix<R: Abort>(rt: &R, account: &mut Account, tables: &Tables, seq: u32
 // All but the last tap and the last correction are accepted without a price, since each is priced by all that there are.
 #[test]
 fn as_many_as_there_may_be_at_the_highest_fare(rt: HostRuntime) {
-    let tables = read_tables(rt.alloc(), DEAREST).expect(&rt, "the fare file");
-    let mut account: Account = empty_account(&rt, &tables);
+    let editions = read_editions(rt.alloc(), DEAREST).expect(&rt, "the fare file");
+    let mut account: Account = empty_account(&rt, &editions);
     for number in 0..MOST_TAPS - 1 {
-        accept(&rt, &mut account, &tables, boarding(&rt, number));
+        accept(&rt, &mut account, &editions, boarding(&rt, number));
     }
     let last = boarding(&rt, MOST_TAPS - 1);
-    expect_price(&rt, &mut account, &tables, last, 1_638_400_000);
+    expect_price(&rt, &mut account, &editions, last, 1_638_400_000);
     for number in 0..MOST_FIXES - 1 {
         let what = filled(&rt, MOST_TAPS + number);
-        accept_fix(&rt, &mut account, &tables, number, what);
+        accept_fix(&rt, &mut account, &editions, number, what);
     }
     let (seq, last) = (MOST_FIXES - 1, filled(&rt, MOST_TAPS + MOST_FIXES - 1));
     let priced = (MONDAY, 1_740_800_000);
-    expect_fixed(&rt, &mut account, &tables, seq, last, priced);
+    expect_fixed(&rt, &mut account, &editions, seq, last, priced);
 }

@@ -2,9 +2,9 @@
 
 use crate::sample::SAMPLE_FARES;
 use pay_day::Moment;
-use pay_fare_file::read_tables;
+use pay_fare_file::read_editions;
 use pay_rules::{Kind, Tap, Touch};
-use pay_tables::Tables;
+use pay_tables::Editions;
 use std::fmt::Debug;
 use std::process::Abort;
 
@@ -41,10 +41,10 @@ pub fn tell<R: AllocGlobal>(rt: &R, bytes: usize) {
     let _ = Vec::<u8>::with_capacity(rt.alloc(), bytes);
 }
 
-/// The tables of the sample fare file, whose bands are that of the buses (525 a day, 2470 a week), of zones 1 to 2
+/// The sample fare file, whose bands are that of the buses (525 a day, 2470 a week), of zones 1 to 2
 /// (890, 4470) and of zones 1 to 3 (1050, 5250).
-pub fn sample<R: Abort + AllocGlobal>(rt: &R) -> Tables {
-    read_tables(rt.alloc(), SAMPLE_FARES).expect(rt, "the sample")
+pub fn sample<R: Abort + AllocGlobal>(rt: &R) -> Editions {
+    read_editions(rt.alloc(), SAMPLE_FARES).expect(rt, "the sample")
 }
 
 /// A tap of account 7 by reader 1, at a second of the Monday.

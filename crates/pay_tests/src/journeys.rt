@@ -9,18 +9,18 @@ use pay_links::*;
 use pay_money::Pence;
 use pay_pairs::*;
 use pay_rules::{Kind, Touch};
-use pay_tables::{Span, Tables};
+use pay_tables::{Editions, Span, Tables};
 use std::process::Abort;
 
 #[test]
 fn boardings_pay_after_the_hour(rt: HostRuntime) {
-    let tables = sample(&rt);
+    let editions = sample(&rt);
     let first = touch_at(&rt, 25_200, 50, Kind::Bus);
     let free = touch_at(&rt, 28_800, 50, Kind::Bus);
     let next = touch_at(&rt, 28_801, 50, Kind::Bus);
-    assert!(rt; pays(&tables, &None, &free));
-    assert!(rt; !pays(&tables, &Some(first.stamp), &free));
-    let marks = paying(rt.alloc(), &tables, &[first, free, next]).expect(&rt, "memory");
+    assert!(rt; pays(editions.own(), &None, &free));
+    assert!(rt; !pays(editions.own(), &Some(first.stamp), &free));
+    let marks = paying(rt.alloc(), editions.own(), &[first, free, next]).expect(&rt, "memory");
     expect_same(&rt, marks.as_slice(), [true, false, true].as_slice());
 }
 
@@ -62,37 +62,45 @@ fn expect_fare<R: Abort>(rt: &R, tables: &Tables, journey: &Journey, peak: bool,
 }
 
 /// The journeys by rail that taps make.
-fn journeys_of<R: Abort + AllocGlobal>(rt: &R, tables: &Tables, taps: &[Touch]) -> Vec<Journey> {
-    let parts = legs(rt.alloc(), tables, taps).expect(rt, "memory");
-    journeys(rt.alloc(), tables, &parts).expect(rt, "memory")
+fn journeys_of<R: Abort + AllocGlobal>(
+    rt: &R,
+    editions: &Editions,
+    taps: &[Touch],
+) -> Vec<Journey> {
+    let parts = legs(rt.alloc(), editions, taps).expect(rt, "memory");
+    journeys(rt.alloc(), editions.own(), &parts).expect(rt, "memory")
 }
 
 #[test]
 fn two_legs_are_one_journey(rt: HostRuntime) {
-    let tables = sample(&rt);
+    let editions = sample(&rt);
     let taps = [
         touch_at(&rt, 25_200, 14, Kind::In),
         touch_at(&rt, 26_400, 12, Kind::Out),
         touch_at(&rt, 27_600, 10, Kind::In),
         touch_at(&rt, 28_200, 11, Kind::Out),
     ];
-    let found = journeys_of(&rt, &tables, &taps);
+    let found = journeys_of(&rt, &editions, &taps);
     expect_same(&rt, found.len(), 1);
-    expect_rail(&rt, &tables, found.first().expect(&rt, "a journey"));
+    expect_rail(&rt, editions.own(), found.first().expect(&rt, "a journey"));
 }
 
 #[test]
 fn boardings_and_lone_taps(rt: HostRuntime) {
-    let tables = sample(&rt);
-    let bus = tables.bands().first().expect(&rt, "a band");
+    let editions = sample(&rt);
+    let bus = editions.own().bands().first().expect(&rt, "a band");
     let boarding = Journey::Bus {
         tap: touch_at(&rt, 43_200, 50, Kind::Bus),
         pays: true,
     };
-    expect_fare(&rt, &tables, &boarding, false, 175);
-    assert!(rt; covers(&tables, bus, &boarding));
+    expect_fare(&rt, editions.own(), &boarding, false, 175);
+    assert!(rt; covers(editions.own(), bus, &boarding));
     let lone = Journey::Lone(touch_at(&rt, 43_200, 11, Kind::In));
-    expect_fare(&rt, &tables, &lone, false, 860);
-    assert!(rt; !covers(&tables, bus, &lone));
-    expect_same(&rt, span_of_station(&tables, 11), Span { from: 2, to: 2 });
+    expect_fare(&rt, editions.own(), &lone, false, 860);
+    assert!(rt; !covers(editions.own(), bus, &lone));
+    expect_same(
+        &rt,
+        span_of_station(editions.own(), 11),
+        Span { from: 2, to: 2 },
+    );
 }

@@ -177,21 +177,21 @@ fn row_of(what: i64, of: (i64, i64, i64, i64, i64)) -> FixRow {
 
 /// What account 7 has accepted once it was sent these.
 fn sent<R: Abort + AllocGlobal>(rt: &R, taps: &[Tap], fixes: &[Fix]) -> Sets {
-    let tables = sample(rt);
+    let editions = sample(rt);
     let mut account: Account = Fares::new(rt.alloc(), 7);
     for tap in taps {
         let own = Tap {
             account: account.number(),
             ..*tap
         };
-        let _ = account.tap(&tables, own).expect(rt, "a price");
+        let _ = account.tap(&editions, own).expect(rt, "a price");
     }
     for fix in fixes {
         let own = Fix {
             account: account.number(),
             ..*fix
         };
-        let _ = account.fix(&tables, own).expect(rt, "a price");
+        let _ = account.fix(&editions, own).expect(rt, "a price");
     }
     account.sets().expect(rt, "memory")
 }

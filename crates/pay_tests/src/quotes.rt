@@ -12,32 +12,32 @@ use pay_book::Book;
 use pay_money::Pence;
 use pay_money::limits::OPERATORS;
 use pay_rules::{Kind, What};
-use pay_tables::Tables;
+use pay_tables::Editions;
 use std::alloc::AllocError;
 use std::process::Abort;
 
 // What follows asks again if memory runs out once, as for the prices of accounts.
 
 /// What an account owes through a service day.
-fn quoted<F: Fares>(account: &F, tables: &Tables, through: u32) -> Result<Quote, AllocError>
+fn quoted<F: Fares>(account: &F, editions: &Editions, through: u32) -> Result<Quote, AllocError>
     requires numbered { 1 ≤ F.account account.now }
     requires is_day { IsDay through }
-    requires priced_by { F.IsPricedBy tables.now account.now }
+    requires priced_by { F.IsPricedBy editions.now account.now }
 {
-    match account.quote(tables, through) {
-        Err(AllocError) => account.quote(tables, through),
+    match account.quote(editions, through) {
+        Err(AllocError) => account.quote(editions, through),
         quote => quote,
     }
 }
 
 /// The journeys of a week, whose Monday is this day.
-fn listed<F: Fares>(account: &F, tables: &Tables, week: u32) -> Result<Lines, AllocError>
+fn listed<F: Fares>(account: &F, editions: &Editions, week: u32) -> Result<Lines, AllocError>
     requires is_day { IsDay week }
     requires is_monday { monday week ≡ week }
-    requires priced_by { F.IsPricedBy tables.now account.now }
+    requires priced_by { F.IsPricedBy editions.now account.now }
 {
-    match account.lines(tables, week) {
-        Err(AllocError) => account.lines(tables, week),
+    match account.lines(editions, week) {
+        Err(AllocError) => account.lines(editions, week),
         lines => lines,
     }
 }
@@ -51,14 +51,30 @@ fn kept<F: Fares>(account: &F) -> Result<Sets, AllocError> {
 }
 
 /// Account 7 after three journeys by rail at 340 pence each, which the band of zones 1 to 2 caps at 890.
-fn three_rides<R: Abort + AllocGlobal, F: Fares>(rt: &R, tables: &Tables) -> F
+fn three_rides<R: Abort + AllocGlobal, F: Fares>(rt: &R, editions: &Editions) -> F
     ensures seven { F.account result ≡ 7 }
-    ensures priced_by { F.IsPricedBy tables.now result }
+    ensures priced_by { F.IsPricedBy editions.now result }
 {
     let mut account = F::new(rt.alloc(), 7);
-    ride(rt, &mut account, tables, 1, 25_200, (10, 12), (860, 340));
-    ride(rt, &mut account, tables, 3, 27_000, (12, 10), (1_200, 680));
-    ride(rt, &mut account, tables, 5, 28_800, (10, 12), (1_540, 890));
+    ride(rt, &mut account, editions, 1, 25_200, (10, 12), (860, 340));
+    ride(
+        rt,
+        &mut account,
+        editions,
+        3,
+        27_000,
+        (12, 10),
+        (1_200, 680),
+    );
+    ride(
+        rt,
+        &mut account,
+        editions,
+        5,
+        28_800,
+        (10, 12),
+        (1_540, 890),
+    );
     account
 }
 
@@ -66,7 +82,7 @@ fn three_rides<R: Abort + AllocGlobal, F: Fares>(rt: &R, tables: &Tables) -> F
 fn ride<R: Abort, F: Fares>(
     rt: &R,
     account: &mut F,
-    tables: &Tables,
+    editions: &Editions,
     seq: u32,
     second: u32,
     stations: (u16, u16),
@@ -74,22 +90,22 @@ fn ride<R: Abort, F: Fares>(
 )
     requires second { second ≤ 40_000 }
     requires seq { seq ≤ 40_000 }
-    requires priced_by { F.IsPricedBy tables.now account.old }
+    requires priced_by { F.IsPricedBy editions.now account.old }
     ensures same_account { F.account account.new ≡ F.account account.old }
-    ensures priced_by { F.IsPricedBy tables.now account.new }
+    ensures priced_by { F.IsPricedBy editions.now account.new }
 {
     let entry = tap_at(rt, seq, second, stations.0, Kind::In);
     let exit = tap_at(rt, seq + 1, second + 1_200, stations.1, Kind::Out);
-    expect_price(rt, account, tables, entry, prices.0);
-    expect_price(rt, account, tables, exit, prices.1);
+    expect_price(rt, account, editions, entry, prices.0);
+    expect_price(rt, account, editions, exit, prices.1);
 }
 
 /// Compares what is due after the three journeys.
-fn expect_due<R: Abort, F: Fares>(rt: &R, tables: &Tables, account: &F)
+fn expect_due<R: Abort, F: Fares>(rt: &R, editions: &Editions, account: &F)
     requires numbered { 1 ≤ F.account account.now }
-    requires priced_by { F.IsPricedBy tables.now account.now }
+    requires priced_by { F.IsPricedBy editions.now account.now }
 {
-    let quote = quoted(account, tables, MONDAY).expect(rt, "memory");
+    let quote = quoted(account, editions, MONDAY).expect(rt, "memory");
     expect_same(
         rt,
         (quote.account(), quote.week(), quote.through()),
@@ -101,40 +117,40 @@ fn expect_due<R: Abort, F: Fares>(rt: &R, tables: &Tables, account: &F)
 
 #[test]
 fn quotes_what_is_due(rt: HostRuntime) {
-    let tables = sample(&rt);
-    let account: Account = three_rides(&rt, &tables);
-    expect_due(&rt, &tables, &account);
-    let book: Book = three_rides(&rt, &tables);
-    expect_due(&rt, &tables, &book);
+    let editions = sample(&rt);
+    let account: Account = three_rides(&rt, &editions);
+    expect_due(&rt, &editions, &account);
+    let book: Book = three_rides(&rt, &editions);
+    expect_due(&rt, &editions, &book);
 }
 
 /// Compares the journeys of the week after a fourth that is not finished.
-fn expect_listed<R: Abort + AllocGlobal, F: Fares>(rt: &R, tables: &Tables, account: &mut F)
-    requires { F.IsPricedBy tables.now account.old }
+fn expect_listed<R: Abort + AllocGlobal, F: Fares>(rt: &R, editions: &Editions, account: &mut F)
+    requires { F.IsPricedBy editions.now account.old }
 {
     let lone = tap_at(rt, 7, 43_200, 10, Kind::In);
-    expect_price(rt, account, tables, lone, 1_750);
-    let lines = listed(account, tables, MONDAY).expect(rt, "memory");
+    expect_price(rt, account, editions, lone, 1_750);
+    let lines = listed(account, editions, MONDAY).expect(rt, "memory");
     expect_statement(rt, lines.as_slice(), BY_RAIL);
 }
 
 #[test]
 fn lists_a_week(rt: HostRuntime) {
-    let tables = sample(&rt);
-    let mut account: Account = three_rides(&rt, &tables);
-    expect_listed(&rt, &tables, &mut account);
-    let mut book: Book = three_rides(&rt, &tables);
-    expect_listed(&rt, &tables, &mut book);
+    let editions = sample(&rt);
+    let mut account: Account = three_rides(&rt, &editions);
+    expect_listed(&rt, &editions, &mut account);
+    let mut book: Book = three_rides(&rt, &editions);
+    expect_listed(&rt, &editions, &mut book);
 }
 
 /// Sends a tap and a Void of it, and compares what was accepted.
-fn expect_kept<R: Abort, F: Fares>(rt: &R, tables: &Tables, account: &mut F)
-    requires { F.IsPricedBy tables.now account.old }
+fn expect_kept<R: Abort, F: Fares>(rt: &R, editions: &Editions, account: &mut F)
+    requires { F.IsPricedBy editions.now account.old }
 {
     let tap = tap_at(rt, 1, 25_200, 10, Kind::In);
-    expect_price(rt, account, tables, tap, 860);
+    expect_price(rt, account, editions, tap, 860);
     let void = What::Void(1, 1);
-    expect_fixed(rt, account, tables, 1, void, (MONDAY, 0));
+    expect_fixed(rt, account, editions, 1, void, (MONDAY, 0));
     let sets = kept(account).expect(rt, "memory");
     expect_same(rt, sets.account(), 7);
     expect_same(
@@ -147,11 +163,11 @@ fn expect_kept<R: Abort, F: Fares>(rt: &R, tables: &Tables, account: &mut F)
 
 #[test]
 fn keeps_what_was_accepted(rt: HostRuntime) {
-    let tables = sample(&rt);
-    let mut account: Account = empty_account(&rt, &tables);
-    expect_kept(&rt, &tables, &mut account);
-    let mut book: Book = empty_account(&rt, &tables);
-    expect_kept(&rt, &tables, &mut book);
+    let editions = sample(&rt);
+    let mut account: Account = empty_account(&rt, &editions);
+    expect_kept(&rt, &editions, &mut account);
+    let mut book: Book = empty_account(&rt, &editions);
+    expect_kept(&rt, &editions, &mut book);
 }
 
 /// Whether the numbers of a quote of an account, at a version, for the week of the Monday through a day give one.

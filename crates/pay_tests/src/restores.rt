@@ -6,7 +6,7 @@ use pay_book::Book;
 use pay_restore::restored;
 use pay_rows::{FixRow, TapRow};
 use pay_rules::{Fares, PostFault};
-use pay_tables::Tables;
+use pay_tables::Editions;
 use std::alloc::AllocError;
 use std::process::Abort;
 
@@ -41,11 +41,11 @@ const DROPPED: FixRow = FixRow {
 /// What is restored: the number of each account, and how many taps and corrections it has accepted.
 fn counts_of<R: AllocGlobal>(
     rt: &R,
-    tables: &Tables,
+    editions: &Editions,
     taps: &[(i64, TapRow)],
     fixes: &[(i64, FixRow)],
 ) -> Result<Vec<(u32, usize, usize)>, PostFault> {
-    let accounts: Vec<Book> = restored(rt.alloc(), tables, taps, fixes)?;
+    let accounts: Vec<Book> = restored(rt.alloc(), editions, taps, fixes)?;
     let mut counts = Vec::new(rt.alloc());
     for account in &accounts {
         let sets = account.sets()?;
@@ -61,12 +61,12 @@ fn counts<R: Abort + AllocGlobal>(
     taps: &[(i64, TapRow)],
     fixes: &[(i64, FixRow)],
 ) -> Result<Vec<(u32, usize, usize)>, PostFault> {
-    let tables = sample(rt);
+    let editions = sample(rt);
     tell(rt, MAY_BE_REFUSED);
-    let mut found = counts_of(rt, &tables, taps, fixes);
+    let mut found = counts_of(rt, &editions, taps, fixes);
     if matches!(&found, Err(PostFault::Memory)) {
         tell(rt, WAS_REFUSED);
-        found = counts_of(rt, &tables, taps, fixes);
+        found = counts_of(rt, &editions, taps, fixes);
     }
     tell(rt, MAY_NOT_BE);
     found

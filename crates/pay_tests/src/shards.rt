@@ -10,19 +10,19 @@ use pay_book::Book;
 use pay_money::Pence;
 use pay_rules::{Fares, Fix, Kind, Priced, Quote, Tap, What};
 use pay_shard::{Asked, Batch, Command, Entry, Reply, Shard, ShardRefusal};
-use pay_tables::Tables;
+use pay_tables::Editions;
 use std::process::Abort;
 use std::sync::Arc;
 
 /// A shard of this number, with no accounts.
 pub fn empty_shard<R: Abort + AllocGlobal, F: Fares>(
     rt: &R,
-    tables: Tables,
+    editions: Editions,
     number: u8,
 ) -> Shard<F> {
-    let tables = Arc::new(rt.alloc(), tables).expect(rt, "memory");
+    let editions = Arc::new(rt.alloc(), editions).expect(rt, "memory");
     let none: Vec<F> = Vec::new(rt.alloc());
-    Shard::new(rt.alloc(), number, tables, none).expect(rt, "memory")
+    Shard::new(rt.alloc(), number, editions, none).expect(rt, "memory")
 }
 
 /// The reply to what is asked, as the next item of a shard's journal.

@@ -43,26 +43,26 @@ fn shares_of_what_is_due(rt: HostRuntime) {
 
 #[test]
 fn a_run_is_divided_by_its_legs(rt: HostRuntime) {
-    let tables = sample(&rt);
+    let editions = sample(&rt);
     let taps = [
         touch_at(&rt, 25_200, 14, Kind::In),
         touch_at(&rt, 26_400, 12, Kind::Out),
         touch_at(&rt, 27_600, 10, Kind::In),
         touch_at(&rt, 28_200, 11, Kind::Out),
     ];
-    let parts = legs(rt.alloc(), &tables, &taps).expect(&rt, "memory");
-    let mut found = journeys(rt.alloc(), &tables, &parts).expect(&rt, "memory");
+    let parts = legs(rt.alloc(), &editions, &taps).expect(&rt, "memory");
+    let mut found = journeys(rt.alloc(), editions.own(), &parts).expect(&rt, "memory");
     let run = found.pop().expect(&rt, "a journey");
     expect_same(
         &rt,
-        weights(&tables, &[(run, Pence::new(370))]),
+        weights(editions.own(), &[(run, Pence::new(370))]),
         first_four(185, 0, 185, 0),
     );
 }
 
 #[test]
 fn each_other_fare_falls_to_its_place(rt: HostRuntime) {
-    let tables = sample(&rt);
+    let editions = sample(&rt);
     let boarding = Journey::Bus {
         tap: touch_at(&rt, 43_200, 50, Kind::Bus),
         pays: true,
@@ -77,5 +77,9 @@ fn each_other_fare_falls_to_its_place(rt: HostRuntime) {
         (lone, Pence::new(860)),
         (stay, Pence::new(200)),
     ];
-    expect_same(&rt, weights(&tables, &list), first_four(860, 200, 0, 175));
+    expect_same(
+        &rt,
+        weights(editions.own(), &list),
+        first_four(860, 200, 0, 175),
+    );
 }

@@ -9,13 +9,13 @@ use pay_book::Book;
 use pay_day::Moment;
 use pay_rules::{Credit, Fares, Fix, Kind, Tap, What};
 use pay_shard::Asked;
-use pay_tables::Tables;
+use pay_tables::Editions;
 use std::process::Abort;
 
 /// Sends what is asked of an account, and answers whether it is not refused.
-fn is_taken<F: Fares>(account: &mut F, tables: &Tables, asked: &Asked) -> bool
-    requires { F.IsPricedBy tables.now account.old }
-    ensures { F.IsPricedBy tables.now account.new }
+fn is_taken<F: Fares>(account: &mut F, editions: &Editions, asked: &Asked) -> bool
+    requires { F.IsPricedBy editions.now account.old }
+    ensures { F.IsPricedBy editions.now account.new }
 {
     let number = account.number();
     match asked {
@@ -24,26 +24,26 @@ fn is_taken<F: Fares>(account: &mut F, tables: &Tables, asked: &Asked) -> bool
                 account: number,
                 ..*tap
             };
-            account.tap(tables, own).is_ok()
+            account.tap(editions, own).is_ok()
         }
         Asked::Fix(fix) => {
             let own = Fix {
                 account: number,
                 ..*fix
             };
-            account.fix(tables, own).is_ok()
+            account.fix(editions, own).is_ok()
         }
         _ => false,
     }
 }
 
 /// Sends all, of which none may be refused.
-fn take_all<R: Abort>(rt: &R, book: &mut Book, tables: &Tables, all: &[Asked])
-    requires { IsConsistent tables.now book.old }
-    ensures { IsConsistent tables.now book.new }
+fn take_all<R: Abort>(rt: &R, book: &mut Book, editions: &Editions, all: &[Asked])
+    requires { IsConsistent editions.now book.old }
+    ensures { IsConsistent editions.now book.new }
 {
     for asked in all {
-        expect_same(rt, is_taken(book, tables, asked), true);
+        expect_same(rt, is_taken(book, editions, asked), true);
     }
 }
 
@@ -110,15 +110,15 @@ fn rides<R: Abort + AllocGlobal>(rt: &R, count: u32) -> Vec<Asked> {
 fn expect_read<R: Abort>(
     rt: &R,
     book: &mut Book,
-    tables: &Tables,
+    editions: &Editions,
     asked: Asked,
     least: u64,
     most: u64,
 )
-    requires { IsConsistent tables.now book.old }
-    ensures { IsConsistent tables.now book.new }
+    requires { IsConsistent editions.now book.old }
+    ensures { IsConsistent editions.now book.new }
 {
-    take_all(rt, book, tables, &[asked]);
+    take_all(rt, book, editions, &[asked]);
     let read = book.steps();
     expect_same(rt, (read, least <= read, read <= most), (read, true, true));
 }
@@ -126,35 +126,35 @@ fn expect_read<R: Abort>(
 // The tap is 2,000 seconds after one and before another, and after that is one with none shortly before it.
 #[test]
 fn one_among_sixteen_thousand_boardings(rt: HostRuntime) {
-    let tables = sample(&rt);
-    let mut book: Book = empty_account(&rt, &tables);
-    take_all(&rt, &mut book, &tables, &boardings(&rt, 16_000, 4_000));
+    let editions = sample(&rt);
+    let mut book: Book = empty_account(&rt, &editions);
+    take_all(&rt, &mut book, &editions, &boardings(&rt, 16_000, 4_000));
     let late = tap(&rt, 16_000, SEVEN + 4_000 * 8_000 + 2_000, 50, Kind::Bus);
-    expect_read(&rt, &mut book, &tables, late, 1, 64 + 4 * 3);
+    expect_read(&rt, &mut book, &editions, late, 1, 64 + 4 * 3);
 }
 
 // The tap ends a leg earlier, so that it parts one journey of two taps into one of two and one of one.
 #[test]
 fn one_among_eight_thousand_rides(rt: HostRuntime) {
-    let tables = sample(&rt);
-    let mut book: Book = empty_account(&rt, &tables);
-    take_all(&rt, &mut book, &tables, &rides(&rt, 8_000));
+    let editions = sample(&rt);
+    let mut book: Book = empty_account(&rt, &editions);
+    take_all(&rt, &mut book, &editions, &rides(&rt, 8_000));
     let late = tap(&rt, 16_000, SEVEN + 7_200 * 4_000 + 600, 11, Kind::Out);
-    expect_read(&rt, &mut book, &tables, late, 1, 64 + 4 * 5);
+    expect_read(&rt, &mut book, &editions, late, 1, 64 + 4 * 5);
     let void = fix(1, What::Void(1, 16_000));
-    expect_read(&rt, &mut book, &tables, void, 1, 64 + 4 * 5);
+    expect_read(&rt, &mut book, &editions, void, 1, 64 + 4 * 5);
 }
 
 // With the tap before all of them each boarding pays that was free, and is free that paid, so that each is read.
 #[test]
 fn one_before_all_that_there_may_be(rt: HostRuntime) {
-    let tables = sample(&rt);
-    let mut book: Book = empty_account(&rt, &tables);
-    take_all(&rt, &mut book, &tables, &boardings(&rt, 16_383, 3_000));
+    let editions = sample(&rt);
+    let mut book: Book = empty_account(&rt, &editions);
+    take_all(&rt, &mut book, &editions, &boardings(&rt, 16_383, 3_000));
     let late = tap(&rt, 16_383, SEVEN - 1_000, 50, Kind::Bus);
-    expect_read(&rt, &mut book, &tables, late, 16_383, 64 + 4 * 16_383);
+    expect_read(&rt, &mut book, &editions, late, 16_383, 64 + 4 * 16_383);
     let again = tap(&rt, 16_383, SEVEN - 1_000, 50, Kind::Bus);
-    expect_read(&rt, &mut book, &tables, again, 0, 64);
+    expect_read(&rt, &mut book, &editions, again, 0, 64);
 }
 
 /// A Credit of one pound.
@@ -166,8 +166,8 @@ fn pound<R: Abort>(rt: &R) -> Asked {
 // A Credit disturbs none of them.
 #[test]
 fn one_credit_beside_a_thousand_boardings(rt: HostRuntime) {
-    let tables = sample(&rt);
-    let mut book: Book = empty_account(&rt, &tables);
-    take_all(&rt, &mut book, &tables, &boardings(&rt, 1_000, 3_000));
-    expect_read(&rt, &mut book, &tables, pound(&rt), 0, 64);
+    let editions = sample(&rt);
+    let mut book: Book = empty_account(&rt, &editions);
+    take_all(&rt, &mut book, &editions, &boardings(&rt, 1_000, 3_000));
+    expect_read(&rt, &mut book, &editions, pound(&rt), 0, 64);
 }

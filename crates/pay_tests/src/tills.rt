@@ -15,7 +15,7 @@ use pay_money::limits::OPERATORS;
 use pay_rules::{Fares, Kind, Posting, Postings};
 use pay_session::{Done, SessionFault, session};
 use pay_shard::{Command, Desk, DeskFault, LocalDesk, Reply, Ticket};
-use pay_tables::Tables;
+use pay_tables::Editions;
 use pay_till::Till;
 use pay_wire::Refusal;
 use std::process::Abort;
@@ -140,7 +140,7 @@ const REPLIES: &str =
 /// What is posted for a boarding of an account.
 fn posting<R: Abort + AllocGlobal>(
     rt: &R,
-    tables: &Tables,
+    editions: &Editions,
     number: u32,
     amount: i64,
     share_amounts: [i64; OPERATORS],
@@ -149,8 +149,8 @@ fn posting<R: Abort + AllocGlobal>(
 {
     let mut account: Account = Fares::new(rt.alloc(), number);
     let tap = tap_at(rt, 1, 25_200, 50, Kind::Bus);
-    expect_price(rt, &mut account, tables, tap, 175);
-    let quote = account.quote(tables, MONDAY).expect(rt, "memory");
+    expect_price(rt, &mut account, editions, tap, 175);
+    let quote = account.quote(editions, MONDAY).expect(rt, "memory");
     Posting {
         quote,
         amount,
@@ -159,7 +159,7 @@ fn posting<R: Abort + AllocGlobal>(
 }
 
 /// A till with two postings: what is charged, and what is given back.
-fn till<'a, R: Abort + AllocGlobal>(rt: &R, tables: &Tables) -> Prepared<'a> {
+fn till<'a, R: Abort + AllocGlobal>(rt: &R, editions: &Editions) -> Prepared<'a> {
     let mut charged = [0; OPERATORS];
     charged[3] = 175;
     let mut given_back = [0; OPERATORS];
@@ -167,10 +167,10 @@ fn till<'a, R: Abort + AllocGlobal>(rt: &R, tables: &Tables) -> Prepared<'a> {
     given_back[3] = -5;
     let mut postings = Vec::new(rt.alloc());
     postings
-        .push(posting(rt, tables, 7, 175, charged))
+        .push(posting(rt, editions, 7, 175, charged))
         .expect(rt, "memory");
     postings
-        .push(posting(rt, tables, 8, -25, given_back))
+        .push(posting(rt, editions, 8, -25, given_back))
         .expect(rt, "memory");
     Prepared {
         postings: Some(Postings::from(postings)),
@@ -180,9 +180,9 @@ fn till<'a, R: Abort + AllocGlobal>(rt: &R, tables: &Tables) -> Prepared<'a> {
 }
 
 /// A desk that was asked for nothing.
-fn desk<R: Abort + AllocGlobal>(rt: &R, tables: Tables) -> Unwilling {
+fn desk<R: Abort + AllocGlobal>(rt: &R, editions: Editions) -> Unwilling {
     Unwilling {
-        local: empty_desk(rt, tables),
+        local: empty_desk(rt, editions),
         asked: 0,
     }
 }
@@ -203,9 +203,9 @@ fn expect_ended<R: Abort + AllocGlobal>(
     wanted: Ended,
     bytes: usize,
 ) {
-    let tables = sample(rt);
-    let mut till = till(rt, &tables);
-    let mut desk = desk(rt, tables);
+    let editions = sample(rt);
+    let mut till = till(rt, &editions);
+    let mut desk = desk(rt, editions);
     let zone = TimeZone::posix("GMT0BST,M3.5.0/1,M10.5.0").expect(rt, "a rule");
     let result = session(&mut reader, &mut writer, &zone, &mut desk, &mut till);
     let ended = Ended {

@@ -4,5 +4,5 @@
 pub mod laws;
 mod week_prices;
 
-pub use pay_caps::{Cells, cell_of, covers, day_price, fare, fare_laws, laws as day_laws};
-pub use week_prices::{due, week_price};
+pub use pay_caps::{Cells, cell_of, covers, day_price, fare, fare_by, fare_laws, laws as day_laws};
+pub use week_prices::{due, price_of_days, week_price};

@@ -1,5 +1,8 @@
-use Rattle.pay_account.proofs.WeekCells.{days_of_week}
+use Rattle.pay_account.proofs.WeekCells.{days_of_week, monday_of_sunday}
 use Rattle.pay_account.proofs.laws.week_days.Goals as goal
 
-pub returns : goal.returns
-returns c = days_of_week
+pub returns-clause-days : goal.returns-clause-days
+returns-clause-days c = days_of_week
+
+pub returns-clause-monday : goal.returns-clause-monday
+returns-clause-monday c = monday_of_sunday

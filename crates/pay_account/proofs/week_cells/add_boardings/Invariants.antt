@@ -8,7 +8,7 @@ use Rattle.pay_account.proofs.week_cells.add_boardings.Given as goal
 abbrev pub invariant-loop-touch : goal.invariant-loop-touch
 invariant-loop-touch l = record {
   value :
-      week_with_journeys l.tables l.monday l.week (boardings_by_last l.tables.rules.hopper l.last_paid (drop l.touch-index l.touches))
-      ≡ week_with_journeys l.tables l.monday l.fn.week (boardings_by_last l.tables.rules.hopper None l.touches);
+      week_with_journeys l.editions l.monday l.week (boardings_by_last l.editions.own.rules.hopper l.last_paid (drop l.touch-index l.touches))
+      ≡ week_with_journeys l.editions l.monday l.fn.week (boardings_by_last l.editions.own.rules.hopper None l.touches);
   in_range : sum_by total l.week ≤ sum_by total l.fn.week + l.touch-index * MOST_FARE;
 }

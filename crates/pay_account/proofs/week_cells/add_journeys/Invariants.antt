@@ -6,6 +6,6 @@ use Rattle.pay_account.proofs.week_cells.add_journeys.Given as goal
 
 abbrev pub invariant-loop-journey : goal.invariant-loop-journey
 invariant-loop-journey l = record {
-  value : week_with_journeys l.tables l.monday l.week (drop l.journey-index l.journeys) ≡ week_with_journeys l.tables l.monday l.fn.week l.journeys;
+  value : week_with_journeys l.editions l.monday l.week (drop l.journey-index l.journeys) ≡ week_with_journeys l.editions l.monday l.fn.week l.journeys;
   in_range : sum_by total l.week ≤ sum_by total l.fn.week + l.journey-index * MOST_FARE;
 }

@@ -8,12 +8,12 @@ use Rattle.pay_account.proofs.week_cells.cells_of_week.Goals as goal
 
 pub returns : goal.returns
 returns c =
-    let tables = c.args.tables.now in
+    let editions = c.args.editions.now in
     let rail = c.args.rail.now in
-    let buses = boardings tables c.args.touches.now in
+    let buses = boardings editions c.args.touches.now in
     let begun = c.monday-monday.result in
     c.add_boardings.ensures
-    ∙ ap (λ week. week_with_journeys tables begun week buses) c.add_journeys.ensures.value
-    ∙ ap (λ none. week_with_journeys tables begun (week_with_journeys tables begun (replicate DAYS_PER_WEEK none) rail) buses) c.new-week.ensures
-    ∙ ap (λ first. week_with_journeys tables first (week_with_journeys tables first (replicate DAYS_PER_WEEK no_fares) rail) buses) c.monday-monday.ensures.value
-    ∙ of_week tables (c.sums.ensures.one_after tables) (c.sums.ensures.none tables) c.args.day c.requires.is_day rail buses
+    ∙ ap (λ week. week_with_journeys editions begun week buses) c.add_journeys.ensures.value
+    ∙ ap (λ none. week_with_journeys editions begun (week_with_journeys editions begun (replicate DAYS_PER_WEEK none) rail) buses) c.new-week.ensures
+    ∙ ap (λ first. week_with_journeys editions first (week_with_journeys editions first (replicate DAYS_PER_WEEK no_fares) rail) buses) c.monday-monday.ensures.value
+    ∙ of_week editions c.sums.ensures.one_after c.sums.ensures.none c.args.day c.requires.is_day rail buses

@@ -7,6 +7,6 @@ use Rattle.pay_book.proofs.history.book_of.Goals as goal
 pub loop-one-init : goal.loop-one-init
 loop-one-init c = record {
   account = c.new-book.ensures.numbered;
-  held = c.new-book.ensures.any c.args.tables.now;
-  accepted = ap (λ (accepted : Accepted). after_all c.args.tables.now accepted (map change_of c.args.sent.now)) c.new-book.ensures.nothing;
+  held = c.new-book.ensures.any c.args.editions.now;
+  accepted = ap (λ (accepted : Accepted). after_all c.args.editions.now accepted (map change_of c.args.sent.now)) c.new-book.ensures.nothing;
 }

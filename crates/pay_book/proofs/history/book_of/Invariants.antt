@@ -8,6 +8,6 @@ use Rattle.pay_book.proofs.history.book_of.Given as goal
 abbrev pub invariant-loop-one : goal.invariant-loop-one
 invariant-loop-one l = record {
   account : l.book.account ≡ l.account;
-  held : IsConsistent l.tables l.book;
-  accepted : after_all l.tables l.book.accepted (map change_of (drop l.one-index l.sent)) ≡ after_all l.tables nothing (map change_of l.sent);
+  held : IsConsistent l.editions l.book;
+  accepted : after_all l.editions l.book.accepted (map change_of (drop l.one-index l.sent)) ≡ after_all l.editions nothing (map change_of l.sent);
 }

@@ -7,7 +7,7 @@ loop-at-init c =
     let low : c.saturating_sub-at.result ≤ c.args.place - 1 = omega arith in
     let few : length c.args.marks.now < 2 ^ 64 = omega arith in
     record {
-      marked = marked_around c.args.tables.now c.args.rail.now.touches c.args.place _ c.min-end.result c.args.marks.now c.requires low
+      marked = marked_around c.args.editions.now c.args.rail.now.touches c.args.place _ c.min-end.result c.args.marks.now c.requires low
           (reached c.args.place c.saturating_add.result c.min-end.result (length c.args.marks.now) c.saturating_add.ensures c.min-end.ensures few);
       span = omega arith;
       rises = omega arith;
@@ -16,7 +16,7 @@ loop-at-init c =
 
 pub returns-clause-marks : goal.returns-clause-marks
 returns-clause-marks c =
-    all_marked c.args.tables.now c.args.rail.now.touches c.loop-at.at c.min-end.result c.loop-at.marks (omega arith) c.loop-at.invariant.marked
+    all_marked c.args.editions.now c.args.rail.now.touches c.loop-at.at c.min-end.result c.loop-at.marks (omega arith) c.loop-at.invariant.marked
 
 pub returns-clause-steps : goal.returns-clause-steps
 returns-clause-steps c =

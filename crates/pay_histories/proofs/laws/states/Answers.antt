@@ -3,4 +3,4 @@ use Rattle.pay_histories.proofs.Histories.{state_after}
 use Rattle.pay_histories.proofs.laws.states.Goals as goal
 
 pub returns : goal.returns
-returns c tables events = state_after tables new_books events
+returns c editions events = state_after editions new_books events

@@ -7,23 +7,23 @@ use Rattle.pay_jobs.specs.Replays.{summary_line, summary_of}
 use Rattle.pay_jobs.proofs.ToldReplays.{unsummed_refused, unsummed_memory, unsummed_stopped}
 use Rattle.pay_jobs.proofs.replays.summed.Goals as goal
 
-pub returns-in_err-tables-clause-fails : goal.returns-in_err-tables-clause-fails
-returns-in_err-tables-clause-fails c =
+pub returns-in_err-editions-clause-fails : goal.returns-in_err-editions-clause-fails
+returns-in_err-editions-clause-fails c =
     let p = err_from_is_err_and c.from_residual.result c.from_residual.ensures.1 in
-    rw (p.1, p.2) (unsummed_refused _ _ _ _ c.in_err-tables.ensures.refused)
+    rw (p.1, p.2) (unsummed_refused _ _ _ _ c.in_err-editions.ensures.refused)
 
 pub returns-in_err-zone-clause-fails : goal.returns-in_err-zone-clause-fails
 returns-in_err-zone-clause-fails c =
     let p = err_from_is_err_and c.from_residual-in_err-zone.result c.from_residual-in_err-zone.ensures.1 in
     let e = c.in_err-zone.ensures in
-    rw (p.1, p.2, e.bad) (arc_value c.in_ok-tables.tables, c.in_ok-tables.ensures.ok, e.none)
+    rw (p.1, p.2, e.bad) (arc_value c.in_ok-editions.editions, c.in_ok-editions.ensures.ok, e.none)
 
 pub returns-in_err-rest-clause-fails : goal.returns-in_err-rest-clause-fails
 returns-in_err-rest-clause-fails c =
     let begun = c.new_desk-desk.ensures in
     let p = err_from_is_err_and c.from_residual-in_err-rest.result c.from_residual-in_err-rest.ensures.1 in
-    rw (p.1, p.2) (unsummed_stopped _ _ _ _ c.in_ok-zone.zone (arc_value c.in_ok-tables.tables) (record { says = c.in_ok-tables.ensures.ok; rule = c.in_ok-zone.ensures.ok; new = refl; posted = refl })
-    (c.in_err-rest.ensures.stopped (arc_value c.in_ok-tables.tables) (begun.none c.in_ok-zone.zone)))
+    rw (p.1, p.2) (unsummed_stopped _ _ _ _ c.in_ok-zone.zone (arc_value c.in_ok-editions.editions) (record { says = c.in_ok-editions.ensures.ok; rule = c.in_ok-zone.ensures.ok; new = refl; posted = refl })
+    (c.in_err-rest.ensures.stopped (arc_value c.in_ok-editions.editions) (begun.none c.in_ok-zone.zone)))
 
 pub returns-in_err-summary-clause-fails : goal.returns-in_err-summary-clause-fails
 returns-in_err-summary-clause-fails c =
@@ -39,12 +39,12 @@ pub returns-clause-summed : goal.returns-clause-summed
 returns-clause-summed c =
     let begun = c.new_desk-desk.ensures in
     let zone = c.in_ok-zone.zone in
-    let tables = arc_value c.in_ok-tables.tables in
-    let has = c.in_ok-rest.ensures.replayed tables (begun.none zone) in
+    let editions = arc_value c.in_ok-editions.editions in
+    let has = c.in_ok-rest.ensures.replayed editions (begun.none zone) in
     let journal = c.journal.ensures.value ∙ ap (λ (s : ShardParts). s.journal) c.shard.ensures.value in
     record {
-      machine = new_machine zone tables None;
-      begins = record { says = c.in_ok-tables.ensures.ok; rule = c.in_ok-zone.ensures.ok; new = refl; posted = refl };
-      accepted = (c.replayed_lines.ensures.accepted zone tables _ has).accepted;
-      says = c.in_ok-line.ensures ∙ ap summary_line (c.in_ok-summary.ensures ∙ ap (λ l. summary_of l c.in_ok-rest.rest) (ap commands_in journal ∙ c.replayed_lines.ensures.commands zone tables _ has) ∙ ap (summary_of _) c.in_ok-rest.ensures.rest);
+      machine = new_machine zone editions None;
+      begins = record { says = c.in_ok-editions.ensures.ok; rule = c.in_ok-zone.ensures.ok; new = refl; posted = refl };
+      accepted = (c.replayed_lines.ensures.accepted zone editions _ has).accepted;
+      says = c.in_ok-line.ensures ∙ ap summary_line (c.in_ok-summary.ensures ∙ ap (λ l. summary_of l c.in_ok-rest.rest) (ap commands_in journal ∙ c.replayed_lines.ensures.commands zone editions _ has) ∙ ap (summary_of _) c.in_ok-rest.ensures.rest);
     }

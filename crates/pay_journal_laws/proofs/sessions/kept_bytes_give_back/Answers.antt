@@ -11,7 +11,7 @@ returns c =
     record {
       lines = ask_in_range c.read_as_spelled.ensures.spelled;
       fronts = fronts_asked;
-      kept = kept_bytes is_cut reads goes_on stays.zone stays.tables;
-      whole = whole_bytes_give is_cut reads goes_on stays.zone stays.tables;
-      cut = cut_bytes is_cut reads goes_on stays.zone stays.tables c.cut.ensures.anywhere c.journals.ensures.cut;
+      kept = kept_bytes is_cut reads goes_on stays.zone stays.editions;
+      whole = whole_bytes_give is_cut reads goes_on stays.zone stays.editions;
+      cut = cut_bytes is_cut reads goes_on stays.zone stays.editions c.cut.ensures.anywhere c.journals.ensures.cut;
     }

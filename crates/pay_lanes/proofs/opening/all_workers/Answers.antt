@@ -15,7 +15,7 @@ loop-requests-init g c =
     let gates : it.b.rest.items ≡ c.args.gates.items = search rules in
     let lanes : it.a.b.rest.items ≡ c.args.lanes.items = search rules in
     let requests : it.a.a.rest.items ≡ c.args.requests.items = search rules in (
-      workers_begin (arc_value c.args.tables.now) c.new-made.result.items (each vec_items it.a.b.rest.items, it.a.a.rest.items) (each vec_items c.args.lanes.items, c.args.requests.items)
+      workers_begin (arc_value c.args.editions.now) c.new-made.result.items (each vec_items it.a.b.rest.items, it.a.a.rest.items) (each vec_items c.args.lanes.items, c.args.requests.items)
           c.new-made.ensures.items (ap (each vec_items) lanes) requests c.requires.requests c.requires.lanes,
       ap length gates ∙ (c.requires.gates ∙ sym (ap length requests)),
       subst (All (λ gate. g.G.Gate.Holds gate [] false)) (sym gates) c.requires.none,
@@ -28,7 +28,7 @@ loop-requests-preserved g c =
     let was = c.loop-requests.requests-iterator in
     let is = c.next.new.self in
     let took = c.in-Some.ensures.steps in (
-      workers_then (arc_value c.args.tables.now) c.loop-requests.made.items c.loop-requests.number (each vec_items c.args.lanes.items, c.args.requests.items)
+      workers_then (arc_value c.args.editions.now) c.loop-requests.made.items c.loop-requests.number (each vec_items c.args.lanes.items, c.args.requests.items)
           (each vec_items was.a.b.rest.items) (each vec_items is.a.b.rest.items) was.a.a.rest.items is.a.a.rest.items
           c.in-Some.lanes.items c.in-Some.requests c.in_ok-worker.field-0 c.push.new.self.items
           (ap (each vec_items) took.0.1.0) took.0.0.0
@@ -66,7 +66,7 @@ Done g c =
 
 done : (g : given.Over) (c : goal.After-drop-requests-iterator-4 g) → Done g c
 done g c =
-    workers_done (arc_value c.args.tables.now) c.loop-requests.made.items c.loop-requests.number (each vec_items c.args.lanes.items, c.args.requests.items)
+    workers_done (arc_value c.args.editions.now) c.loop-requests.made.items c.loop-requests.number (each vec_items c.args.lanes.items, c.args.requests.items)
     (each vec_items c.loop-requests.requests-iterator.a.b.rest.items) c.loop-requests.requests-iterator.a.a.rest.items (ended g c) c.loop-requests.invariant.0
 
 pub returns-clause-numbers : goal.returns-clause-numbers

@@ -57,8 +57,8 @@ returns-clause-new_workers g c =
     let qs = c.in_ok-answers.answers.items in
     let requests = came_back c.in_ok-requests.requests.len c.args.lanes rs c.deref_mut.result.now c.all_outboxes.new.inboxes c.in_ok-requests.requests.ok.0 c.deref_mut.ensures.value c.in_ok-to_shards.ensures.inboxes in
     let to_lanes = lists_made vec_items c.args.shards c.in_ok-to_lanes.to_lanes.items qs c.deref_mut-2.result.now c.deref_mut-2.ensures.value c.in_ok-to_lanes.ensures.made in
-    let over = workers_are (arc_value c.args.tables) c.args.shards c.args.lanes rs _ qs _ c.in_ok-workers.workers.items to_lanes requests c.in_ok-workers.ensures.requests c.in_ok-workers.ensures.lanes c.in_ok-workers.ensures.new in
-    workers_are_new c.args.shards c.args.lanes rs qs (arc_value c.args.tables) c.in_ok-workers.workers.items over c.in_ok-answers.ensures.count
+    let over = workers_are (arc_value c.args.editions) c.args.shards c.args.lanes rs _ qs _ c.in_ok-workers.workers.items to_lanes requests c.in_ok-workers.ensures.requests c.in_ok-workers.ensures.lanes c.in_ok-workers.ensures.new in
+    workers_are_new c.args.shards c.args.lanes rs qs (arc_value c.args.editions) c.in_ok-workers.workers.items over c.in_ok-answers.ensures.count
 
 pub returns-clause-lanes : goal.returns-clause-lanes
 returns-clause-lanes g c =
@@ -87,6 +87,6 @@ returns-clause-together g c =
     let to_shards = lists_made vec_items c.args.lanes c.in_ok-to_shards.to_shards.items rs c.deref_mut.result.now c.deref_mut.ensures.value c.in_ok-to_shards.ensures.made in
     let to_lanes = lists_made vec_items c.args.shards c.in_ok-to_lanes.to_lanes.items qs c.deref_mut-2.result.now c.deref_mut-2.ensures.value c.in_ok-to_lanes.ensures.made in
     let made = lanes_are c.args.shards c.args.lanes rs qs _ _ c.in_ok-lanes.lanes.items to_shards answers c.in_ok-lanes.ensures in
-    let over = workers_are (arc_value c.args.tables) c.args.shards c.args.lanes rs _ qs _ c.in_ok-workers.workers.items to_lanes requests c.in_ok-workers.ensures.requests c.in_ok-workers.ensures.lanes c.in_ok-workers.ensures.new in
-    subst (AreTogether c.in_ok-workers.workers.items) (sym made) (are_together c.args.shards c.args.lanes rs qs (arc_value c.args.tables) c.in_ok-workers.workers.items over c.in_ok-requests.ensures.count c.in_ok-answers.ensures.count c.if-shards-gt-MOST_SHARDS.false
+    let over = workers_are (arc_value c.args.editions) c.args.shards c.args.lanes rs _ qs _ c.in_ok-workers.workers.items to_lanes requests c.in_ok-workers.ensures.requests c.in_ok-workers.ensures.lanes c.in_ok-workers.ensures.new in
+    subst (AreTogether c.in_ok-workers.workers.items) (sym made) (are_together c.args.shards c.args.lanes rs qs (arc_value c.args.editions) c.in_ok-workers.workers.items over c.in_ok-requests.ensures.count c.in_ok-answers.ensures.count c.if-shards-gt-MOST_SHARDS.false
     (lanes_are_new c.args.shards c.args.lanes rs qs c.in_ok-requests.ensures.count c.in_ok-requests.ensures.new c.in_ok-answers.ensures.new))

@@ -17,7 +17,7 @@ new-requires-2-clause-distinct g c = rw c.new.ensures.items tt
 pub returns-clause-new : goal.returns-clause-new
 unfolding state_of
 returns-clause-new g c = record {
-  tables = ap (λ (w : WorkerParts). w.shard.tables) c.new-3.ensures ∙ (c.in-Ok.ensures.tables ∙ c.in_ok-tables.ensures);
+  editions = ap (λ (w : WorkerParts). w.shard.editions) c.new-3.ensures ∙ (c.in-Ok.ensures.editions ∙ c.in_ok-editions.ensures);
   base = ap (λ (w : WorkerParts). w.shard.base) c.new-3.ensures ∙ (c.in-Ok.ensures.base ∙ (rw c.new.ensures.items refl));
   journal = ap (λ (w : WorkerParts). w.shard.journal) c.new-3.ensures ∙ c.in-Ok.ensures.journal;
   popped = ap (λ (w : WorkerParts). w.requests.got) c.new-3.ensures ∙ c.requires.requests.got;

@@ -10,7 +10,7 @@ invariant_of-office g c =
     let many = sym (as_many (λ w. w.promise.0.value) c.in_ok-workers-2.workers.items) ∙ ap length begun in
     let room = c.in_ok-room.ensures.exact in (
       sym (ap lanes_of begun
-          ∙ lanes_begun (arc_value c.args.tables) c.args.shards c.args.lanes (length c.args.gates.items) _ (λ out. (search rules)) c.in_ok-workers.ensures.workers c.in_ok-workers.ensures.new_workers),
+          ∙ lanes_begun (arc_value c.args.editions) c.args.shards c.args.lanes (length c.args.gates.items) _ (λ out. (search rules)) c.in_ok-workers.ensures.workers c.in_ok-workers.ensures.new_workers),
       c.in_ok-room.ensures.items,
       omega (arith, many, room),
     )

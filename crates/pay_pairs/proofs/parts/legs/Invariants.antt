@@ -5,4 +5,4 @@ use Rattle.pay_pairs.proofs.parts.legs.Given as goal
 
 abbrev pub invariant-loop-tap : goal.invariant-loop-tap
 invariant-loop-tap l =
-    legs l.tables l.taps ≡ l.parts.items ++ legs l.tables (with_waiting l.waiting (drop l.tap-index l.taps))
+    legs l.editions l.taps ≡ l.parts.items ++ legs l.editions (with_waiting l.waiting (drop l.tap-index l.taps))

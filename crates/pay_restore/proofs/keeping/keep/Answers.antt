@@ -10,6 +10,6 @@ returns-clause-state g c =
     ∙ ap (λ n. insert (held g.F.Fares.accepted c.args.accounts.now.entries) n (g.F.Fares.accepted c.args.account)) c.number-number.ensures
 
 pub returns-clause-kept : goal.returns-clause-kept
-returns-clause-kept g c tables priced kept =
-    subst (AreFiled g.F.Fares.account (g.F.Fares.IsPricedBy tables)) (sym c.in_ok-insert.ensures.entries)
-    (kept_and_one g.F.Fares.account (g.F.Fares.IsPricedBy tables) c.args.accounts.now.entries c.number-number.result c.args.account c.number-number.ensures c.requires priced kept)
+returns-clause-kept g c editions priced kept =
+    subst (AreFiled g.F.Fares.account (g.F.Fares.IsPricedBy editions)) (sym c.in_ok-insert.ensures.entries)
+    (kept_and_one g.F.Fares.account (g.F.Fares.IsPricedBy editions) c.args.accounts.now.entries c.number-number.result c.args.account c.number-number.ensures c.requires priced kept)

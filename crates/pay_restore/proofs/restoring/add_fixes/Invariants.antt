@@ -6,6 +6,6 @@ use Rattle.pay_restore.proofs.restoring.add_fixes.Given as goal
 -- what is left, after the corrections so far, comes to all
 abbrev pub invariant-loop-row : goal.invariant-loop-row
 invariant-loop-row g l = record {
-  told : with_fix_rows l.tables (held g.F.Fares.accepted l.accounts.entries) (drop l.row-index l.rows) ≡ with_fix_rows l.tables (held g.F.Fares.accepted l.fn.accounts.entries) l.rows;
-  kept : AreFiled g.F.Fares.account (g.F.Fares.IsPricedBy l.tables) l.accounts.entries;
+  told : with_fix_rows l.editions (held g.F.Fares.accepted l.accounts.entries) (drop l.row-index l.rows) ≡ with_fix_rows l.editions (held g.F.Fares.accepted l.fn.accounts.entries) l.rows;
+  kept : AreFiled g.F.Fares.account (g.F.Fares.IsPricedBy l.editions) l.accounts.entries;
 }

@@ -15,4 +15,4 @@ returns-clause-base g c = c.in-Ok.ensures.base ∙ (rw c.new.ensures.items refl)
 
 pub returns-clause-none : goal.returns-clause-none
 unfolding state_of
-returns-clause-none g c zone = has_none zone _ c.in-Ok.desk c.in-Ok.ensures.tables (c.in-Ok.ensures.base ∙ (rw c.new.ensures.items refl)) c.in-Ok.ensures.journal
+returns-clause-none g c zone = has_none zone _ c.in-Ok.desk c.in-Ok.ensures.editions (c.in-Ok.ensures.base ∙ (rw c.new.ensures.items refl)) c.in-Ok.ensures.journal

@@ -15,7 +15,7 @@ lines_of-requires-clause-is_monday g c = is_monday c.monday.result c.monday.ensu
 pub returns-in_err-begun-clause-fails : goal.returns-in_err-begun-clause-fails
 returns-in_err-begun-clause-fails g c =
     let p = err_from_is_err_and c.from_residual.result c.from_residual.ensures.1 in
-    rw (p.1, p.2) (past_fails c.args.zone.now (arc_value c.args.tables) c.args.past.now (g.R.Read.remaining c.args.reader.now) _ c.in_err-begun.ensures.stopped)
+    rw (p.1, p.2) (past_fails c.args.zone.now (arc_value c.args.editions) c.args.past.now (g.R.Read.remaining c.args.reader.now) _ c.in_err-begun.ensures.stopped)
 
 pub returns-in_err-begun-clause-cause : goal.returns-in_err-begun-clause-cause
 returns-in_err-begun-clause-cause g c =
@@ -24,7 +24,7 @@ returns-in_err-begun-clause-cause g c =
 
 pub returns-clause-week : goal.returns-clause-week
 returns-clause-week g c =
-    let ran : Resumed (λ (k : NoKeeper). ⊥) c.args.zone.now (arc_value c.args.tables) c.args.past.now = record {
+    let ran : Resumed (λ (k : NoKeeper). ⊥) c.args.zone.now (arc_value c.args.editions) c.args.past.now = record {
       never = λ k failed. failed;
       by_line = c.one_line.ensures;
       desk = c.in_ok-begun.begun.0;
@@ -43,7 +43,7 @@ returns-clause-week g c =
 
 pub returns-in_err-done-clause-fails : goal.returns-in_err-done-clause-fails
 returns-in_err-done-clause-fails g c =
-    let ran : Resumed (λ (k : NoKeeper). ⊥) c.args.zone.now (arc_value c.args.tables) c.args.past.now = record {
+    let ran : Resumed (λ (k : NoKeeper). ⊥) c.args.zone.now (arc_value c.args.editions) c.args.past.now = record {
       never = λ k failed. failed;
       by_line = c.one_line.ensures;
       desk = c.in_ok-begun.begun.0;
@@ -68,7 +68,7 @@ returns-in_err-done-clause-cause g c =
 
 pub returns-in_err-lines-clause-fails : goal.returns-in_err-lines-clause-fails
 returns-in_err-lines-clause-fails g c =
-    let ran : Resumed (λ (k : NoKeeper). ⊥) c.args.zone.now (arc_value c.args.tables) c.args.past.now = record {
+    let ran : Resumed (λ (k : NoKeeper). ⊥) c.args.zone.now (arc_value c.args.editions) c.args.past.now = record {
       never = λ k failed. failed;
       by_line = c.one_line.ensures;
       desk = c.in_ok-begun.begun.0;

@@ -48,7 +48,7 @@ pub returns-clause-all : goal.returns-clause-all
 returns-clause-all g c =
     let begun = c.in_ok-office.ensures in
     let counts = in_count c.args.plan.now.shards c.saturating_add-lanes.result _ (λ out. let e = begun.count.1 out in absurd cc) in
-    all_with (arc_value c.args.tables) c.args.plan.now.shards c.saturating_add-lanes.result c.in_ok-office.office c.in_ok-office.lanes.items c.remove-spared.new.self.items c.remove-spared.result
+    all_with (arc_value c.args.editions) c.args.plan.now.shards c.saturating_add-lanes.result c.in_ok-office.office c.in_ok-office.lanes.items c.remove-spared.new.self.items c.remove-spared.result
     counts.some begun.workers begun.new_workers begun.lanes begun.together
     (removed c.in_ok-office.lanes.items c.remove-spared.new.self.items c.remove-spared.result (some_lane c.saturating_add-lanes.result c.in_ok-office.lanes.items counts.some_lanes begun.lanes) c.remove-spared.ensures.value c.remove-spared.ensures.items)
 
@@ -56,7 +56,7 @@ pub returns-clause-new : goal.returns-clause-new
 returns-clause-new g c =
     let begun = c.in_ok-office.ensures in
     let counts = in_count c.args.plan.now.shards c.saturating_add-lanes.result _ (λ out. let e = begun.count.1 out in absurd cc) in
-    new_office (arc_value c.args.tables) c.args.plan.now.shards c.saturating_add-lanes.result c.in_ok-office.office counts.some begun.workers begun.new_workers
+    new_office (arc_value c.args.editions) c.args.plan.now.shards c.saturating_add-lanes.result c.in_ok-office.office counts.some begun.workers begun.new_workers
 
 pub returns-in_err-gates-clause-cause : goal.returns-in_err-gates-clause-cause
 returns-in_err-gates-clause-cause g c =

@@ -9,5 +9,5 @@ use Rattle.pay_statement.proofs.statement.write_lines.Given as goal
 abbrev pub invariant-loop-line : goal.invariant-loop-line
 invariant-loop-line g l = record {
   between : IsBetweenRows l.rows;
-  text : Appends (text_written g.W.Write.contents l.fn.rows) (text_written g.W.Write.contents l.rows) (rows_of_lines l.tables (take l.line-index l.lines));
+  text : Appends (text_written g.W.Write.contents l.fn.rows) (text_written g.W.Write.contents l.rows) (rows_of_lines l.editions (take l.line-index l.lines));
 }

@@ -1,11 +1,14 @@
-use Rattle.std.proofs.Common.{◌≡◌, ◌*◌, ◌≤◌, map, slice_get, take}
+use Rattle.std.proofs.Common.{◌≡◌, ◌+◌, ◌*◌, ◌≤◌, drop}
+use Rattle.std.specs.List.{zip}
 use Rattle.pay_money.specs.declared.limits.TheConstants.{MOST_MONEY}
-use Rattle.pay_caps.specs.Words.{outside_of}
-use Rattle.pay_week.specs.WeekSumPrices.{capped_days_of}
+use Rattle.pay_week.specs.WeekSumPrices.{capped_days_of, days_outside_of}
 use Rattle.pay_week.proofs.week_prices.capped_days_outside.Given as goal
 
-abbrev pub invariant-loop-cells : goal.invariant-loop-cells
-invariant-loop-cells l = record {
-  value : l.sum ≡ capped_days_of l.tables (map (outside_of (slice_get l.tables.bands l.place)) (take l.cells-index l.days));
-  in_range : l.sum ≤ l.cells-index * MOST_MONEY;
+-- with what is left, the sum so far comes to that of all days
+abbrev pub invariant-loop-place : goal.invariant-loop-place
+invariant-loop-place l = record {
+  value :
+      l.sum + capped_days_of l.editions (days_outside_of l.cover (zip (drop l.place l.days) (drop l.place l.sums)))
+      ≡ capped_days_of l.editions (days_outside_of l.cover (zip l.days l.sums));
+  in_range : l.sum ≤ l.place * MOST_MONEY;
 }

@@ -30,11 +30,11 @@ invariant_of-self-in-Ok c =
 
 pub returns-in-Ok-clause-answer : goal.returns-in-Ok-clause-answer
 returns-in-Ok-clause-answer c =
-    let tables = c.args.tables.now in
+    let editions = c.args.editions.now in
     let fix = c.args.fix in
     let before : Accepted = record { taps = c.self.inside.taps; fixes = c.self.inside.fixes } in
-    let place : is_known_fix tables fix.what ≡ true = sym c.is_known_fix.ensures ∙ c.if-not-is_known_fix.false in
+    let place : is_known_fix editions fix.what ≡ true = sym c.is_known_fix.ensures ∙ c.if-not-is_known_fix.false in
     let judgement : judged before.fixes fix ≡ Ok Added = c.in_ok-add.ensures.answer ∙ ap Ok c.in-Added.is in
     let more : c.add.new.self ≡ (with_fix before fix).fixes = c.in_ok-add.ensures.after ∙ ap (λ (it : Addition). set_after number (Ok it) before.fixes fix) c.in-Added.is in
-    ap Ok (c.in-Ok.ensures ∙ ap (λ (fs : Fixes). prices_named tables (record { taps = before.taps; fixes = fs }) false fix.what) more)
-    ∙ sym (known_fix tables before fix (Ok Added) place judgement) ∙ ap (λ a. fix_result tables a.1 fix) c.self.view_is
+    ap Ok (c.in-Ok.ensures ∙ ap (λ (fs : Fixes). prices_named editions (record { taps = before.taps; fixes = fs }) false fix.what) more)
+    ∙ sym (known_fix editions before fix (Ok Added) place judgement) ∙ ap (λ a. fix_result editions a.1 fix) c.self.view_is

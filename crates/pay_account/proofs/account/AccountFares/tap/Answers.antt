@@ -31,22 +31,22 @@ invariant_of-self-in-Ok c =
 
 pub returns-in_ok-price-in-Repeat-clause-answer : goal.returns-in_ok-price-in-Repeat-clause-answer
 returns-in_ok-price-in-Repeat-clause-answer c =
-    let tables = c.args.tables.now in
+    let editions = c.args.editions.now in
     let tap = c.args.tap in
     let before : Accepted = record { taps = c.self.inside.taps; fixes = c.self.inside.fixes } in
-    let place : is_known tables tap.place tap.kind ≡ true = sym c.is_known.ensures ∙ c.if-not-is_known.false in
+    let place : is_known editions tap.place tap.kind ≡ true = sym c.is_known.ensures ∙ c.if-not-is_known.false in
     let judgement : judged before.taps tap ≡ Ok Repeat = c.in_ok-add.ensures.answer ∙ ap Ok c.in-Repeat.is in
     let same : c.add.new.self ≡ before.taps = c.in_ok-add.ensures.after ∙ ap (λ (it : Addition). set_after number (Ok it) before.taps tap) c.in-Repeat.is in
-    ap Ok (c.in_ok-price-in-Repeat.ensures ∙ ap (λ (ts : Taps). prices tables (record { taps = ts; fixes = before.fixes }) true c.day.result) same ∙ ap (prices tables before true) c.day.ensures.value)
-    ∙ sym (known tables before tap (Ok Repeat) place judgement) ∙ ap (λ a. tap_result tables a.1 tap) c.self.view_is
+    ap Ok (c.in_ok-price-in-Repeat.ensures ∙ ap (λ (ts : Taps). prices editions (record { taps = ts; fixes = before.fixes }) true c.day.result) same ∙ ap (prices editions before true) c.day.ensures.value)
+    ∙ sym (known editions before tap (Ok Repeat) place judgement) ∙ ap (λ a. tap_result editions a.1 tap) c.self.view_is
 
 pub returns-in-Ok-clause-answer : goal.returns-in-Ok-clause-answer
 returns-in-Ok-clause-answer c =
-    let tables = c.args.tables.now in
+    let editions = c.args.editions.now in
     let tap = c.args.tap in
     let before : Accepted = record { taps = c.self.inside.taps; fixes = c.self.inside.fixes } in
-    let place : is_known tables tap.place tap.kind ≡ true = sym c.is_known.ensures ∙ c.if-not-is_known.false in
+    let place : is_known editions tap.place tap.kind ≡ true = sym c.is_known.ensures ∙ c.if-not-is_known.false in
     let judgement : judged before.taps tap ≡ Ok Added = c.in_ok-add.ensures.answer ∙ ap Ok c.in-Added.is in
     let more : c.add.new.self ≡ (with_tap before tap).taps = c.in_ok-add.ensures.after ∙ ap (λ (it : Addition). set_after number (Ok it) before.taps tap) c.in-Added.is in
-    ap Ok (c.in-Ok.ensures ∙ ap (λ (ts : Taps). prices tables (record { taps = ts; fixes = before.fixes }) false c.day-in-Added.result) more ∙ ap (prices tables (with_tap before tap) false) c.day-in-Added.ensures.value)
-    ∙ sym (known tables before tap (Ok Added) place judgement) ∙ ap (λ a. tap_result tables a.1 tap) c.self.view_is
+    ap Ok (c.in-Ok.ensures ∙ ap (λ (ts : Taps). prices editions (record { taps = ts; fixes = before.fixes }) false c.day-in-Added.result) more ∙ ap (prices editions (with_tap before tap) false) c.day-in-Added.ensures.value)
+    ∙ sym (known editions before tap (Ok Added) place judgement) ∙ ap (λ a. tap_result editions a.1 tap) c.self.view_is

@@ -29,6 +29,6 @@ returns-clause-steps c =
     let is = change_of_fix c.fix_is_change.ensures old c.args.fix c.taps.result.now c.taps-2.result.now c.fixes.result.now c.fixes-2.result.now c.change_by_fix-change.result
     (c.taps.ensures ∙ ap (λ (b : BookParts). b.accepted.taps) c.self.view_is) (c.taps-2.ensures ∙ ap (λ (b : BookParts). b.accepted.taps) c.self.view_is)
     (c.fixes.ensures ∙ ap (λ (b : BookParts). b.accepted.fixes) c.self.view_is) (c.fixes-2.ensures ∙ ap (λ (b : BookParts). b.accepted.fixes) c.self.view_is) c.len.ensures.numbered c.len-2.ensures.numbered c.requires.judged c.change_by_fix-change.ensures in
-    read_for c.changes.ensures.disturbs c.args.tables.now c.change_by_fix-change.result c.self.inside.held old c.accept_fix.new.self.1 (with_fix old c.args.fix) c.args.self.now.steps c.self.inside.steps c.prepare.new.steps c.apply.new.steps is
+    read_for c.changes.ensures.disturbs c.args.editions.now c.change_by_fix-change.result c.self.inside.held old c.accept_fix.new.self.1 (with_fix old c.args.fix) c.args.self.now.steps c.self.inside.steps c.prepare.new.steps c.apply.new.steps is
     (record { rail = ap (λ (b : BookParts). b.rail) c.self.view_is ∙ c.requires.held.rail; buses = ap (λ (b : BookParts). b.buses) c.self.view_is ∙ c.requires.held.buses })
     (c.in_ok-accept_fix.ensures.accepted ∙ ap (λ (b : BookParts). with_fix b.accepted c.args.fix) c.self.view_is) (ap (λ (b : BookParts). b.steps) c.self.view_is) c.in_ok-repair.ensures.steps c.apply.ensures.steps

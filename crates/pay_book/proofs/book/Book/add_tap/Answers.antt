@@ -29,6 +29,6 @@ returns-clause-steps c =
     let is = change_of_tap c.tap_is_change.ensures old c.args.tap c.taps.result.now c.fixes.result.now c.fixes-2.result.now c.change_by_tap-change.result
     (c.taps.ensures ∙ ap (λ (b : BookParts). b.accepted.taps) c.self.view_is) (c.fixes.ensures ∙ ap (λ (b : BookParts). b.accepted.fixes) c.self.view_is)
     (c.fixes-2.ensures ∙ ap (λ (b : BookParts). b.accepted.fixes) c.self.view_is) c.len.ensures.numbered c.len-2.ensures.numbered c.requires.judged c.change_by_tap-change.ensures in
-    read_for c.changes.ensures.disturbs c.args.tables.now c.change_by_tap-change.result c.self.inside.held old c.accept_tap.new.self.1 (with_tap old c.args.tap) c.args.self.now.steps c.self.inside.steps c.prepare.new.steps c.apply.new.steps is
+    read_for c.changes.ensures.disturbs c.args.editions.now c.change_by_tap-change.result c.self.inside.held old c.accept_tap.new.self.1 (with_tap old c.args.tap) c.args.self.now.steps c.self.inside.steps c.prepare.new.steps c.apply.new.steps is
     (record { rail = ap (λ (b : BookParts). b.rail) c.self.view_is ∙ c.requires.held.rail; buses = ap (λ (b : BookParts). b.buses) c.self.view_is ∙ c.requires.held.buses })
     (c.in_ok-accept_tap.ensures.accepted ∙ ap (λ (b : BookParts). with_tap b.accepted c.args.tap) c.self.view_is) (ap (λ (b : BookParts). b.steps) c.self.view_is) c.in_ok-repair.ensures.steps c.apply.ensures.steps

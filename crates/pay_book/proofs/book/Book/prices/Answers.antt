@@ -8,6 +8,6 @@ use Rattle.pay_book.proofs.book.Book.prices.Goals as goal
 
 pub returns : goal.returns
 returns c =
-    let tables = c.args.tables.now in
-    let list = journeys_of tables (touches c.args.self.now.accepted) in
-    c.prices.ensures list (subst (λ (b : BookParts). AreSums tables b.days list) (sym c.self.view_is) (sums_of_stored c.boarded_by_all.ensures tables c.args.self.now c.requires.held))
+    let editions = c.args.editions.now in
+    let list = journeys_of editions (touches c.args.self.now.accepted) in
+    c.prices.ensures list (subst (λ (b : BookParts). AreSums editions b.days list) (sym c.self.view_is) (sums_of_stored c.boarded_by_all.ensures editions c.args.self.now c.requires.held))

@@ -12,7 +12,7 @@ use Rattle.pay_book.proofs.marked_taps.MarkedTaps.enter_bus.Goals as goal
 
 pub mark-requires : goal.mark-requires
 mark-requires c =
-    let hopper = c.args.tables.now.rules.hopper in
+    let hopper = c.args.editions.now.own.rules.hopper in
     let buses = c.args.self.now.buses.touches in
     let touch = c.args.touch in
     let its = place_of touch buses in
@@ -24,19 +24,19 @@ mark-requires c =
 
 pub replace-requires : goal.replace-requires
 replace-requires c =
-    let tables = c.args.tables.now in
+    let editions = c.args.editions.now in
     let days = c.args.self.now.days in
     let found = c.args.found.now in
     let buses = c.args.self.now.buses.touches in
     let can =
-    boardings_can_be_replaced c.each_tap.ensures tables c.args.self.now.rail.touches buses (put_in c.args.touch buses) found.fewer.items found.more.items c.requires.disturbed.left c.requires.disturbed.right days
+    boardings_can_be_replaced c.each_tap.ensures editions c.args.self.now.rail.touches buses (put_in c.args.touch buses) found.fewer.items found.more.items c.requires.disturbed.left c.requires.disturbed.right days
     c.requires.disturbed.with_it c.requires.disturbed.without_it c.requires.right.sums c.requires.held (omega (arith, one_longer c.places.ensures.put_in c.args.touch buses c.insert-place.result c.insert-place.ensures.place c.insert-place.ensures.within, c.requires.few)) in
-    subst (λ old. CanReplace tables days old c.deref-3.result.now) (sym c.deref-2.ensures.value) (subst (λ new. CanReplace tables days found.fewer.items new) (sym c.deref-3.ensures.value) can)
+    subst (λ old. CanReplace editions days old c.deref-3.result.now) (sym c.deref-2.ensures.value) (subst (λ new. CanReplace editions days found.fewer.items new) (sym c.deref-3.ensures.value) can)
 
 pub returns-clause-right : goal.returns-clause-right
 returns-clause-right c =
-    let tables = c.args.tables.now in
-    let hopper = tables.rules.hopper in
+    let editions = c.args.editions.now in
+    let hopper = editions.own.rules.hopper in
     let rail = c.args.self.now.rail.touches in
     let buses = c.args.self.now.buses.touches in
     let touch = c.args.touch in
@@ -56,8 +56,8 @@ returns-clause-right c =
           ∙ c.stored_marks.ensures.with_it hopper buses touch found.fewer.items found.more.items c.requires.disturbed true
           ∙ ap (marks_by_last hopper None) (sym c.insert-place.ensures.after);
       sums =
-          bus_sums_after tables rail (put_in touch buses) c.insert-place.new.self.touches found.more.items c.deref-3.result.now left right c.replace.new.days c.insert-place.ensures.after c.deref-3.ensures.value
+          bus_sums_after editions rail (put_in touch buses) c.insert-place.new.self.touches found.more.items c.deref-3.result.now left right c.replace.new.days c.insert-place.ensures.after c.deref-3.ensures.value
           c.requires.disturbed.with_it
-          (c.replace.ensures (journeys tables (legs tables rail) ++ left) right
-          (bus_sums_before tables rail buses found.fewer.items c.deref-2.result.now left right c.args.self.now.days c.deref-2.ensures.value c.requires.disturbed.without_it c.requires.right.sums));
+          (c.replace.ensures (journeys editions.own (legs editions rail) ++ left) right
+          (bus_sums_before editions rail buses found.fewer.items c.deref-2.result.now left right c.args.self.now.days c.deref-2.ensures.value c.requires.disturbed.without_it c.requires.right.sums));
     }

@@ -6,9 +6,9 @@ use Rattle.pay_book.proofs.marked_taps.MarkedTaps.leave.Goals as goal
 
 pub leave_rail-requires-clause-disturbed : goal.leave_rail-requires-clause-disturbed
 leave_rail-requires-clause-disturbed c =
-    let tables = c.args.tables.now in
+    let editions = c.args.editions.now in
     let touch = c.args.touch.now in
     let rail = c.args.self.now.rail.touches in
     let found = c.in-Rail.found in
-    let prepared : IsPreparedByRail tables c.args.self.now touch true found = subst (IsPreparedFor tables c.args.self.now touch true) c.in-Rail.is c.requires.prepared in
-    disturbed_out tables rail touch (place_of touch rail) found.fewer.items found.more.items (c.requires.possible.rail (ap not prepared.kind)) prepared.disturbed
+    let prepared : IsPreparedByRail editions c.args.self.now touch true found = subst (IsPreparedFor editions c.args.self.now touch true) c.in-Rail.is c.requires.prepared in
+    disturbed_out editions rail touch (place_of touch rail) found.fewer.items found.more.items (c.requires.possible.rail (ap not prepared.kind)) prepared.disturbed

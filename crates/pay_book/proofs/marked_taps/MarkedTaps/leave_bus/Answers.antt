@@ -11,7 +11,7 @@ use Rattle.pay_book.proofs.marked_taps.MarkedTaps.leave_bus.Goals as goal
 
 pub mark-requires : goal.mark-requires
 mark-requires c =
-    let hopper = c.args.tables.now.rules.hopper in
+    let hopper = c.args.editions.now.own.rules.hopper in
     let buses = c.args.self.now.buses.touches in
     let touch = c.args.touch.now in
     let its = place_of touch buses in
@@ -22,8 +22,8 @@ mark-requires c =
 
 pub replace-requires : goal.replace-requires
 replace-requires c =
-    let tables = c.args.tables.now in
-    let hopper = tables.rules.hopper in
+    let editions = c.args.editions.now in
+    let hopper = editions.own.rules.hopper in
     let days = c.args.self.now.days in
     let found = c.args.found.now in
     let buses = c.args.self.now.buses.touches in
@@ -31,14 +31,14 @@ replace-requires c =
     let fewer = remove buses (place_of touch buses) in
     let again = ap (boarded hopper) (sym (c.places.ensures.again touch buses c.len.ensures.timed c.requires.there)) ∙ c.requires.disturbed.with_it in
     let can =
-    boardings_can_be_replaced c.each_tap.ensures tables c.args.self.now.rail.touches buses fewer found.more.items found.fewer.items c.requires.disturbed.left c.requires.disturbed.right days
+    boardings_can_be_replaced c.each_tap.ensures editions c.args.self.now.rail.touches buses fewer found.more.items found.fewer.items c.requires.disturbed.left c.requires.disturbed.right days
     c.requires.disturbed.without_it again c.requires.right.sums c.requires.held (omega (arith, one_shorter touch buses (place_of touch buses) c.requires.there, c.requires.few)) in
-    subst (λ old. CanReplace tables days old c.deref-3.result.now) (sym c.deref-2.ensures.value) (subst (λ new. CanReplace tables days found.more.items new) (sym c.deref-3.ensures.value) can)
+    subst (λ old. CanReplace editions days old c.deref-3.result.now) (sym c.deref-2.ensures.value) (subst (λ new. CanReplace editions days found.more.items new) (sym c.deref-3.ensures.value) can)
 
 pub returns-clause-right : goal.returns-clause-right
 returns-clause-right c =
-    let tables = c.args.tables.now in
-    let hopper = tables.rules.hopper in
+    let editions = c.args.editions.now in
+    let hopper = editions.own.rules.hopper in
     let rail = c.args.self.now.rail.touches in
     let buses = c.args.self.now.buses.touches in
     let touch = c.args.touch.now in
@@ -61,8 +61,8 @@ returns-clause-right c =
           ∙ c.stored_marks.ensures.without_it hopper buses touch found.fewer.items found.more.items c.len.ensures.timed c.requires.there c.requires.disturbed
           ∙ ap (marks_by_last hopper None) (sym after);
       sums =
-          bus_sums_after tables rail fewer c.remove-place.new.self.touches found.fewer.items c.deref-3.result.now left right c.replace.new.days after c.deref-3.ensures.value
+          bus_sums_after editions rail fewer c.remove-place.new.self.touches found.fewer.items c.deref-3.result.now left right c.replace.new.days after c.deref-3.ensures.value
           c.requires.disturbed.without_it
-          (c.replace.ensures (journeys tables (legs tables rail) ++ left) right
-          (bus_sums_before tables rail buses found.more.items c.deref-2.result.now left right c.args.self.now.days c.deref-2.ensures.value again c.requires.right.sums));
+          (c.replace.ensures (journeys editions.own (legs editions rail) ++ left) right
+          (bus_sums_before editions rail buses found.more.items c.deref-2.result.now left right c.args.self.now.days c.deref-2.ensures.value again c.requires.right.sums));
     }

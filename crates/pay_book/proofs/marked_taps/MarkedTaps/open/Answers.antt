@@ -4,5 +4,5 @@ use Rattle.pay_book.proofs.Replacing.{sums_stay}
 use Rattle.pay_book.proofs.marked_taps.MarkedTaps.open.Goals as goal
 
 pub returns-clause-right : goal.returns-clause-right
-returns-clause-right c = λ tables right.
-    right_stays tables c.args.self.now _ (record { rail = refl; starts = refl; buses = refl; pays = refl }) (λ list are. sums_stay c.args.self.now.days c.open_all.new.days c.open_all.ensures.same c.open_all.ensures.held tables list are) right
+returns-clause-right c = λ editions right.
+    right_stays editions c.args.self.now _ (record { rail = refl; starts = refl; buses = refl; pays = refl }) (λ list are. sums_stay c.args.self.now.days c.open_all.new.days c.open_all.ensures.same c.open_all.ensures.held editions list are) right

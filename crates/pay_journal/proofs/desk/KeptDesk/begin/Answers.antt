@@ -10,5 +10,5 @@ invariant_of-result g c =
     all_begun g.K.Keeper.HasFailed g.K.Keeper.holds desk c.of-3.result.value c.args.keeper c.of.result.value c.of-2.result.value
     (c.of.ensures ∙ c.shard-2.ensures.value) (c.of-2.ensures ∙ c.shard-3.ensures.value) c.of-3.ensures
     (ap (λ (s : ShardParts). s.number) (sym is) ∙ c.shard.ensures.number) (subst (λ (s : ShardParts). AreInPlace 0 s.journal) is c.shard.ensures.in_place)
-    (subst (λ (s : ShardParts). IsHistory s.tables s.base s.journal) is (subst (IsHistory c.shard.result.now.tables c.shard.result.now.base) c.journal.ensures.value c.journal.ensures.history))
+    (subst (λ (s : ShardParts). IsHistory s.editions s.base s.journal) is (subst (IsHistory c.shard.result.now.editions c.shard.result.now.base) c.journal.ensures.value c.journal.ensures.history))
     (subst (λ (s : ShardParts). AreBelow (length s.journal) desk.waiting) is c.shard.ensures.below)

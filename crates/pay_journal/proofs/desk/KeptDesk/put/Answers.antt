@@ -11,7 +11,7 @@ invariant_of-self g c =
     all_put g.K.Keeper.HasFailed g.K.Keeper.holds d.began.value d.keeper c.put_and_keep.new.keeper d.first.value d.seen.value d.desk after d.stuck c.self.invariant c.if-self.false
     c.fronts.ensures.replayed c.accepted_alone.ensures.after c.in-Ok.ticket c.args.command c.of.result.value c.in-Ok.ensures.put (c.of.ensures ∙ c.shard-in-Ok.ensures.value)
     (ap (λ (s : ShardParts). s.number) (sym is) ∙ c.shard.ensures.number) (subst (λ (s : ShardParts). AreInPlace 0 s.journal) is c.shard.ensures.in_place)
-    (subst (λ (s : ShardParts). IsHistory s.tables s.base s.journal) is (subst (IsHistory c.shard.result.now.tables c.shard.result.now.base) c.journal.ensures.value c.journal.ensures.history))
+    (subst (λ (s : ShardParts). IsHistory s.editions s.base s.journal) is (subst (IsHistory c.shard.result.now.editions c.shard.result.now.base) c.journal.ensures.value c.journal.ensures.history))
     (subst (λ (s : ShardParts). AreBelow (length s.journal) after.waiting) is c.shard.ensures.below)
 
 pub invariant_of-self-in-Err : goal.invariant_of-self-in-Err

@@ -1,6 +1,6 @@
 use Rattle.std.proofs.Common.{sym, ap, subst}
 use Rattle.pay_rules.specs.InTurn.{IsIn}
-use Rattle.pay_tables.specs.Words.{FareTables}
+use Rattle.pay_tables.specs.Words.{FareEditions}
 use Rattle.pay_rules.specs.State.{State}
 use Rattle.pay_shard.specs.Words.{Standing, IsReplyTo, commands_of, transcript_of}
 use Rattle.pay_journal.specs.KeptParts.{KeptParts}
@@ -11,7 +11,7 @@ pub invariant_of-self : goal.invariant_of-self
 invariant_of-self g c =
     let d = c.self.inside in
     all_got g.K.Keeper.HasFailed g.K.Keeper.holds d.began.value d.keeper d.first.value d.seen.value d.desk c.get.new.self d.stuck c.args.ticket c.self.invariant c.get.ensures.same
-    (ap (λ (s : Standing (FareTables × State)). s.waiting) c.get.ensures.got)
+    (ap (λ (s : Standing (FareEditions × State)). s.waiting) c.get.ensures.got)
 
 pub returns-clause-reply : goal.returns-clause-reply
 returns-clause-reply g c =

@@ -14,5 +14,5 @@ pub returns-in-None : goal.returns-in-None
 returns-in-None g c =
     let account = c.args.account in
     let accepted = accepted_of c.args.self.now.state account in
-    either (is_of c.args.shard c.args.of account) c.args.batch.now (batch_if_quoted c.args.self.now.tables c.args.through c.args.batch.now account accepted)
-    (not_there c.args.self.now.tables c.args.through c.args.batch.now account accepted (nothing_there c.args.self.now.state account c.in-None.ensures.none))
+    either (is_of c.args.shard c.args.of account) c.args.batch.now (batch_if_quoted c.args.self.now.editions c.args.through c.args.batch.now account accepted)
+    (not_there c.args.self.now.editions c.args.through c.args.batch.now account accepted (nothing_there c.args.self.now.state account c.in-None.ensures.none))

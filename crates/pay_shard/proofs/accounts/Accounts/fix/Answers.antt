@@ -45,7 +45,7 @@ pub returns-in-Some-clause-answer : goal.returns-in-Some-clause-answer
 returns-in-Some-clause-answer g c =
     let accepted = is_held g.F.Fares.account g.F.Fares.accepted c.self.inside.accounts.items c.self.inside.places.entries c.args.fix.account c.in-Some.place.now c.args.self.now.state c.index_mut.result.now
     (ap (λ (h : Held). h.state) c.self.view_is) c.self.invariant.0 c.in-Some.ensures.value c.index_mut.ensures.value in
-    subst (λ t. IsFixResult c.fix.result t (accepted_of c.args.self.now.state c.args.fix.account) c.args.fix) (c.deref.ensures ∙ ap (λ (h : Held). h.tables) c.self.view_is)
+    subst (λ t. IsFixResult c.fix.result t (accepted_of c.args.self.now.state c.args.fix.account) c.args.fix) (c.deref.ensures ∙ ap (λ (h : Held). h.editions) c.self.view_is)
     (subst (λ a. IsFixResult c.fix.result c.deref.result.now a c.args.fix) accepted c.fix.ensures.answer)
 
 pub returns-in-Some-clause-after : goal.returns-in-Some-clause-after
@@ -54,4 +54,4 @@ returns-in-Some-clause-after g c =
     let state = kept_at g.F.Fares.account g.F.Fares.accepted (is_new c.fix.result) c.self.inside.accounts.items c.self.inside.places.entries c.args.fix.account c.in-Some.place.now c.args.self.now.state before c.fix.new.self
     (λ a. after_fix c.fix.result a c.args.fix) (ap (λ (h : Held). h.state) c.self.view_is) c.self.invariant.0 c.in-Some.ensures.value c.index_mut.ensures.value c.fix.ensures.same_account c.fix.ensures.after
     (λ old. same_fix_left c.fix.result (g.F.Fares.accepted before) c.args.fix old) in
-    λ i. record { tables = (c.self.view_is i).tables; state = state i }
+    λ i. record { editions = (c.self.view_is i).editions; state = state i }

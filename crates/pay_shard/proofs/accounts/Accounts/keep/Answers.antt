@@ -11,13 +11,13 @@ invariant_of-self-in-Ok g c =
       subst (λ l. ArePlaces c.insert.new.self.entries (each g.F.Fares.account l)) same
           (opened g.F.Fares.account g.F.Fares.accepted before c.self.inside.places.entries c.insert.new.self.entries c.number-number.result c.len-place.result c.args.self.now.state c.args.account
           (ap (λ (h : Held). h.state) c.self.view_is) c.self.invariant.0 c.requires.absent c.number-number.ensures (c.len-place.ensures ∙ c.self.inside.accounts.ok.0) c.in-Ok.ensures.updates.0),
-      subst (ArePriced g.F.Fares.account (g.F.Fares.IsPricedBy _)) same (all_more _ before c.args.account c.self.invariant.1 (c.requires.numbered, subst (λ t. g.F.Fares.IsPricedBy t c.args.account) (sym (ap (λ (h : Held). h.tables) c.self.view_is)) c.requires.priced_by)),
+      subst (ArePriced g.F.Fares.account (g.F.Fares.IsPricedBy _)) same (all_more _ before c.args.account c.self.invariant.1 (c.requires.numbered, subst (λ t. g.F.Fares.IsPricedBy t c.args.account) (sym (ap (λ (h : Held). h.editions) c.self.view_is)) c.requires.priced_by)),
     )
 
 pub returns-in-Ok-clause-kept : goal.returns-in-Ok-clause-kept
 returns-in-Ok-clause-kept g c =
     let state = opens g.F.Fares.account g.F.Fares.accepted c.self.inside.accounts.items c.args.self.now.state c.args.account (ap (λ (h : Held). h.state) c.self.view_is) c.requires.absent in
     λ i. record {
-      tables = (c.self.view_is i).tables;
+      editions = (c.self.view_is i).editions;
       state = (ap (state_of g.F.Fares.account g.F.Fares.accepted) c.in_ok-push.ensures.items ∙ state) i;
     }

@@ -22,4 +22,4 @@ returns-clause-after g c =
     ap (λ n. map.insert now n (g.F.Fares.accepted account)) number
     ∙ kept_new (is_new {E = FixFault} (Ok priced)) now fix.account (g.F.Fares.accepted account) (after_fix (Ok priced) (accepted_of now fix.account) fix) first
     (c.in_ok-priced.ensures.after ∙ ap (λ a. after_fix (Ok priced) a fix) (c.new-account.ensures.nothing ∙ none)) in
-    c.in_ok-keep.ensures.kept ∙ (λ i. record { tables = c.args.self.now.tables; state = state i })
+    c.in_ok-keep.ensures.kept ∙ (λ i. record { editions = c.args.self.now.editions; state = state i })

@@ -22,4 +22,4 @@ returns-clause-after g c =
     ap (λ n. map.insert now n (g.F.Fares.accepted account)) number
     ∙ kept_new (is_new {E = TapFault} (Ok priced)) now tap.account (g.F.Fares.accepted account) (after_tap (Ok priced) (accepted_of now tap.account) tap) first
     (c.in_ok-priced.ensures.after ∙ ap (λ a. after_tap (Ok priced) a tap) (c.new-account.ensures.nothing ∙ none)) in
-    c.in_ok-keep.ensures.kept ∙ (λ i. record { tables = c.args.self.now.tables; state = state i })
+    c.in_ok-keep.ensures.kept ∙ (λ i. record { editions = c.args.self.now.editions; state = state i })

@@ -1,6 +1,6 @@
 use Rattle.std.proofs.Common.{◌≡◌, ℕ, ap, sym, ◌∙◌, unwrap_or}
 use Rattle.std.proofs.lemmas.Result.{IfOk-weaker}
-use Rattle.pay_tables.specs.Words.{FareTables}
+use Rattle.pay_tables.specs.Words.{FareEditions}
 use Rattle.pay_rules.specs.Accepted.{Accepted, nothing}
 use Rattle.pay_rules.specs.Quotes.{quote}
 use Rattle.pay_rules.specs.QuoteParts.{QuoteParts}
@@ -9,19 +9,19 @@ use Rattle.pay_shard.proofs.Places.{nothing_there}
 use Rattle.pay_shard.proofs.accounts.Accounts.quote.Goals as goal
 
 -- of the same account by the same fare file
-same_account : (t u : FareTables) (a b : ℕ) (x y : Accepted) (day : ℕ) (it : QuoteParts) → t ≡ u → a ≡ b → x ≡ y → it ≡ quote t a x day → it ≡ quote u b y day
+same_account : (t u : FareEditions) (a b : ℕ) (x y : Accepted) (day : ℕ) (it : QuoteParts) → t ≡ u → a ≡ b → x ≡ y → it ≡ quote t a x day → it ≡ quote u b y day
 same_account t u a b x y day it o p q e = e ∙ (λ i. quote (o i) (p i) (q i) day)
 
 pub returns-in-Some : goal.returns-in-Some
 returns-in-Some g c =
     let held = c.in-Some.held.now in
-    let tables = c.deref.ensures ∙ ap (λ (h : Held). h.tables) c.self.view_is in
+    let editions = c.deref.ensures ∙ ap (λ (h : Held). h.editions) c.self.view_is in
     let accepted = sym (ap (λ o. unwrap_or o nothing) c.in-Some.ensures.some) in
-    IfOk-weaker c.quote.result _ _ (λ it. same_account c.deref.result.now c.args.self.now.tables (g.F.Fares.account held) c.args.account (g.F.Fares.accepted held) _ c.args.through it tables c.in-Some.ensures.own accepted) c.quote.ensures
+    IfOk-weaker c.quote.result _ _ (λ it. same_account c.deref.result.now c.args.self.now.editions (g.F.Fares.account held) c.args.account (g.F.Fares.accepted held) _ c.args.through it editions c.in-Some.ensures.own accepted) c.quote.ensures
 
 pub returns-in-None : goal.returns-in-None
 returns-in-None g c =
     let new = c.new.result in
-    let tables = c.deref-in-None.ensures ∙ ap (λ (h : Held). h.tables) c.self.view_is in
+    let editions = c.deref-in-None.ensures ∙ ap (λ (h : Held). h.editions) c.self.view_is in
     let accepted = c.new.ensures.nothing ∙ nothing_there c.args.self.now.state c.args.account c.in-None.ensures.none in
-    IfOk-weaker c.quote-in-None.result _ _ (λ it. same_account c.deref-in-None.result.now c.args.self.now.tables (g.F.Fares.account new) c.args.account (g.F.Fares.accepted new) _ c.args.through it tables c.new.ensures.numbered accepted) c.quote-in-None.ensures
+    IfOk-weaker c.quote-in-None.result _ _ (λ it. same_account c.deref-in-None.result.now c.args.self.now.editions (g.F.Fares.account new) c.args.account (g.F.Fares.accepted new) _ c.args.through it editions c.new.ensures.numbered accepted) c.quote-in-None.ensures

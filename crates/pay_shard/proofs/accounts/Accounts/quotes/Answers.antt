@@ -18,5 +18,5 @@ loop-account-init g c =
     let entries : AreBy numbers now.state =
     subst (AreBy numbers) (ap (λ (h : Held). h.state) c.self.view_is)
     (entries_by_number g.F.Fares.account g.F.Fares.accepted c.self.inside.accounts.items c.self.inside.places.entries numbers c.self.invariant.0 c.in_ok-numbers.ensures) in
-    (λ i. fold (batch_with now.tables now.state (c.args.through, c.args.shard, c.args.of)) (c.new-batch.ensures i) (c.deref-account-items.ensures.value i))
-    ∙ all_quoted now.tables now.state c.args.through c.args.shard c.args.of numbers entries
+    (λ i. fold (batch_with now.editions now.state (c.args.through, c.args.shard, c.args.of)) (c.new-batch.ensures i) (c.deref-account-items.ensures.value i))
+    ∙ all_quoted now.editions now.state c.args.through c.args.shard c.args.of numbers entries

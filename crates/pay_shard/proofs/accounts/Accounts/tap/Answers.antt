@@ -45,7 +45,7 @@ pub returns-in-Some-clause-answer : goal.returns-in-Some-clause-answer
 returns-in-Some-clause-answer g c =
     let accepted = is_held g.F.Fares.account g.F.Fares.accepted c.self.inside.accounts.items c.self.inside.places.entries c.args.tap.account c.in-Some.place.now c.args.self.now.state c.index_mut.result.now
     (ap (λ (h : Held). h.state) c.self.view_is) c.self.invariant.0 c.in-Some.ensures.value c.index_mut.ensures.value in
-    subst (λ t. IsTapResult c.tap.result t (accepted_of c.args.self.now.state c.args.tap.account) c.args.tap) (c.deref.ensures ∙ ap (λ (h : Held). h.tables) c.self.view_is)
+    subst (λ t. IsTapResult c.tap.result t (accepted_of c.args.self.now.state c.args.tap.account) c.args.tap) (c.deref.ensures ∙ ap (λ (h : Held). h.editions) c.self.view_is)
     (subst (λ a. IsTapResult c.tap.result c.deref.result.now a c.args.tap) accepted c.tap.ensures.answer)
 
 pub returns-in-Some-clause-after : goal.returns-in-Some-clause-after
@@ -54,4 +54,4 @@ returns-in-Some-clause-after g c =
     let state = kept_at g.F.Fares.account g.F.Fares.accepted (is_new c.tap.result) c.self.inside.accounts.items c.self.inside.places.entries c.args.tap.account c.in-Some.place.now c.args.self.now.state before c.tap.new.self
     (λ a. after_tap c.tap.result a c.args.tap) (ap (λ (h : Held). h.state) c.self.view_is) c.self.invariant.0 c.in-Some.ensures.value c.index_mut.ensures.value c.tap.ensures.same_account c.tap.ensures.after
     (λ old. same_tap_left c.tap.result (g.F.Fares.accepted before) c.args.tap old) in
-    λ i. record { tables = (c.self.view_is i).tables; state = state i }
+    λ i. record { editions = (c.self.view_is i).editions; state = state i }

@@ -1,5 +1,5 @@
 use Rattle.std.proofs.Common.{ap, ◌∙◌, subst, ℕ, List}
-use Rattle.pay_tables.specs.Words.{FareTables}
+use Rattle.pay_tables.specs.Words.{FareEditions}
 use Rattle.pay_shard.specs.Desks.{Standing, without, IsReplyTo}
 use Rattle.pay_shard.specs.LocalParts.{commands_of, transcript_of, tickets_of}
 use Rattle.pay_shard.specs.ShardParts.{ShardParts}
@@ -21,5 +21,5 @@ returns-clause-got g c =
     ap (stands c.self.inside.shard) (ap tickets_of c.take_out.ensures.rest ∙ tickets_left c.number.result c.self.inside.kept.items c.self.invariant.1.1)
     ∙ (λ i. stands (c.self.view_is i).shard (without (c.number.ensures i) (c.self.view_is i).waiting))
   where
-    stands : ShardParts → List ℕ → Standing (FareTables × State)
-    stands s waiting = record { origin = (s.tables, s.base); shards = 1; waiting = waiting }
+    stands : ShardParts → List ℕ → Standing (FareEditions × State)
+    stands s waiting = record { origin = (s.editions, s.base); shards = 1; waiting = waiting }

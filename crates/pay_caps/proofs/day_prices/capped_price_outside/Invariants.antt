@@ -4,7 +4,7 @@ use Rattle.pay_caps.specs.Cells.{outside, outside_sum}
 use Rattle.pay_rules.specs.Lowest.{lowest, offers}
 use Rattle.pay_rules.specs.DayPrices.{day_cap}
 use Rattle.pay_caps.specs.SumPrices.{capped_price_of}
-use Rattle.pay_caps.proofs.day_prices.price_outside.Given as goal
+use Rattle.pay_caps.proofs.day_prices.capped_price_outside.Given as goal
 
 -- what the bands that are left offer, beside the best so far, comes to the lowest of all
 abbrev pub invariant-loop-place : goal.invariant-loop-place

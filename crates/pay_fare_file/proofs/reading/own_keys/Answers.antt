@@ -2,9 +2,9 @@ use Rattle.std.proofs.Common.{◌≡◌, Ok, rules}
 use Rattle.std.proofs.lemmas.Result.{IfOk-at_ok}
 use Rattle.toml.specs.View.{table_view}
 use Rattle.pay_tables.specs.Words.{IsFareTables, FareTables}
-use Rattle.pay_fare_file.specs.FareFile.{fare_file}
-use Rattle.pay_fare_file.proofs.Ranges.{fare_file_is}
-use Rattle.pay_fare_file.proofs.reading.tables_of.Goals as goal
+use Rattle.pay_fare_file.specs.FareFile.{own_keys}
+use Rattle.pay_fare_file.proofs.Ranges.{own_keys_are}
+use Rattle.pay_fare_file.proofs.reading.own_keys.Goals as goal
 
 pub new-requires : goal.new-requires
 new-requires c =
@@ -18,5 +18,5 @@ new-requires c =
       places = c.in_ok-places.places;
       interchanges = c.in_ok-interchanges.interchanges.items;
     } in
-    let given : fare_file (table_view c.args.file.now) ≡ Ok said = search rules in
-    IfOk-at_ok IsFareTables given (fare_file_is (table_view c.args.file.now))
+    let given : own_keys (table_view c.args.file.now) ≡ Ok said = search rules in
+    IfOk-at_ok IsFareTables given (own_keys_are (table_view c.args.file.now))

@@ -4,7 +4,7 @@ use Rattle.pay_rules.specs.DayPrices.{day_cap}
 use Rattle.pay_caps.specs.SumPrices.{capped_price_of}
 use Rattle.pay_caps.proofs.Lowest.{next_offer}
 use Rattle.pay_caps.proofs.SpanSums.{offers_outside}
-use Rattle.pay_caps.proofs.day_prices.price_outside.Goals as goal
+use Rattle.pay_caps.proofs.day_prices.capped_price_outside.Goals as goal
 
 pub loop-place-preserved : goal.loop-place-preserved
 loop-place-preserved c = record {
