@@ -38,6 +38,8 @@ class Fares(NamedTuple):
     hopper: int = 3_600
     same_free: int = 120
     same_limit: int = 1_800
+    # The first day of each edition, and what holds from there on. Stations, routes, holidays and interchanges are the file's own.
+    editions: dict = {}
 
 
 ROUTE = 50
@@ -53,6 +55,14 @@ BUS = Fares(
     operators={10: 1, 11: 1, 12: 2, 13: 2, 14: 3, ROUTE: 4},
 )
 SAMPLE = BUS._replace(bands=[Band(0, 0, 525, 2_470), Band(1, 2, 890, 4_470), Band(1, 3, 1_050, 5_250)])
+
+# The same with the edition of examples/two.toml.
+TWO = SAMPLE._replace(editions={19731: SAMPLE._replace(
+    single={zones: (peak + 10, off + 10) for zones, (peak, off) in SAMPLE.single.items()},
+    bands=[Band(0, 0, 540, 2_500), Band(1, 2, 900, 4_500), Band(1, 3, 1_060, 5_300)],
+    bus=180,
+    maximum=900,
+)})
 
 A_DAY, A_WEEK, DAY_BEGINS = 86_400, 7, 16_200
 OPERATORS = range(1, 17)
@@ -159,6 +169,12 @@ def monday(day):
     return day - (day + 3) % 7
 
 
+def on(fares, day):
+    """What holds on a day: the edition that began last by then, or the file's own keys."""
+    begun = [first for first in fares.editions if first <= day]
+    return fares.editions[max(begun)] if begun else fares
+
+
 def span(fares, places):
     lows, highs = zip(*(fares.stations[place] for place in places))
     return min(highs), max(min(highs), *lows)
@@ -190,7 +206,7 @@ def parts(fares, taps):
     made = []
     for tap in taps:
         before = made[-1][-1] if made else None
-        if before and (before.kind, tap.kind) == ("IN", "OUT") and tap.utc - before.utc <= limit(fares, before.place, tap.place):
+        if before and (before.kind, tap.kind) == ("IN", "OUT") and tap.utc - before.utc <= limit(on(fares, service_day(before.utc)), before.place, tap.place):
             made[-1] = [before, tap]
         else:
             made.append([tap])
@@ -218,6 +234,7 @@ def runs(fares, parts):
 def rail_journey(fares, run):
     taps, origins = [tap for part in run for tap in part], tuple(part[0].place for part in run)
     first, last = taps[0], taps[-1]
+    fares = on(fares, service_day(first.utc))
     if first is last:
         start, end = (0, first.place) if first.kind == "OUT" else (first.place, 0)
         return Journey(first.utc, "LONE", start, end, fares.maximum, origins)
@@ -235,7 +252,7 @@ def boardings(fares, taps):
     for tap in taps:
         pays = paid is None or tap.utc - paid > fares.hopper
         paid = tap.utc if pays else paid
-        yield tap, Journey(tap.utc, "BUS", tap.place, 0, fares.bus if pays else 0, (tap.place,))
+        yield tap, Journey(tap.utc, "BUS", tap.place, 0, on(fares, service_day(tap.utc)).bus if pays else 0, (tap.place,))
 
 
 def journeys(fares, taps):
@@ -283,22 +300,22 @@ def winner(bands, day):
     return [None, *bands][each.index(min(each))]
 
 
-def capped_week(bands, days):
-    """The price of the fares of each day of a week."""
-    prices = [sum(capped(bands, day) for day in days)]
-    prices += (band.week + sum(capped(bands, left) for left in (outside(band, day) for day in days) if left) for band in bands)
-    return min(prices)
-
-
-def day_price(fares, journeys):
-    day, lone = sums(journeys)
-    return capped(fares.bands, day) + lone
+def day_price(fares, day, journeys):
+    pence, lone = sums(journeys)
+    return capped(on(fares, day).bands, pence) + lone
 
 
 def week_price(fares, days):
-    """The price of a week, by the journeys of each day."""
-    days, lone = zip(*map(sums, days))
-    return capped_week(fares.bands, days) + sum(lone)
+    """The price of a week, by the journeys of each day from its Monday on: its bands are those of the Monday."""
+    bands = {day: on(fares, day).bands for day in days}
+    pence, lone = {}, 0
+    for day, journeys in days.items():
+        pence[day], alone = sums(journeys)
+        lone += alone
+    prices = [sum(capped(bands[day], its) for day, its in pence.items())]
+    for band in bands[min(days)]:
+        prices.append(band.week + sum(capped(bands[day], outside(band, its)) for day, its in pence.items() if outside(band, its)))
+    return min(prices) + lone
 
 
 def standing(account):
@@ -374,7 +391,7 @@ def of_week(fares, account, day):
 def prices(fares, account, day):
     """The price of a day and that of its week."""
     week = of_week(fares, account, day)
-    return day_price(fares, week[day]), week_price(fares, week.values())
+    return day_price(fares, day, week[day]), week_price(fares, week)
 
 
 def divided(total, weights):
@@ -397,7 +414,7 @@ def owed(fares, account, through):
     """What is due of a day's week through that day, and each operator's share of it."""
     days = by_days(fares, account, monday(through), through)
     credits = sum(fix.words[1] for fix in standing(account) if fix.form == "CREDIT" and fix.words[0] in days)
-    due = max(0, week_price(fares, days.values()) - credits)
+    due = max(0, week_price(fares, days) - credits)
     weights = carried(fares, itertools.chain(*days.values()))
     return due, dict(zip(OPERATORS, divided(due, weights.values())))
 
@@ -473,7 +490,7 @@ def shown(fares, accounts, number, day):
     """The lines that answer SHOW of the account of this number."""
     taps = effective(accounts.get(number, Account({}, {})))
     listed = [journey for journey in journeys(fares, taps) if service_day(journey.utc) == day]
-    head = f"SHOW {number} {day} {len(listed)} {day_price(fares, listed)}\n"
+    head = f"SHOW {number} {day} {len(listed)} {day_price(fares, day, listed)}\n"
     return [head] + [f"JNY {it.kind} {it.start} {it.end} {it.utc} {it.fare}\n" for it in listed]
 
 
@@ -488,14 +505,14 @@ def clock(utc):
 def statement(fares, accounts, number, day):
     """The rows of a statement: the journeys of the week of a day of the account of this number."""
     days = of_week(fares, accounts.get(number, Account({}, {})), day)
-    winners = {on: winner(fares.bands, sums(made)[0]) for on, made in days.items()}
+    winners = {day: winner(on(fares, day).bands, sums(made)[0]) for day, made in days.items()}
     # What an account's days have in turn are its journeys in the order of their first taps.
     rows = [COLUMNS]
-    for on, made in days.items():
+    for its_day, made in days.items():
         for it in made:
-            band = winners[on] if it.kind != "LONE" else None
+            band = winners[its_day] if it.kind != "LONE" else None
             name = band.name if band and covers(band, it.span) else "-"
-            rows.append([str(on), it.kind, str(it.start), str(it.end), clock(it.utc), str(it.fare), name])
+            rows.append([str(its_day), it.kind, str(it.start), str(it.end), clock(it.utc), str(it.fare), name])
     return rows
 
 
@@ -516,27 +533,41 @@ def array(items):
     return "[" + "".join(f"\n  {item}," for item in items) + "\n]"
 
 
-def fare_file(fares):
-    """The text of a fare file that says this."""
+def edition_keys(fares):
+    """The keys that an edition says anew, but for its rules."""
     singles = (f"{{ from = {low}, to = {high}, peak = {peak}, off = {off} }}" for (low, high), (peak, off) in fares.single.items())
     bands = (f"{{ from = {it.low}, to = {it.high}, day = {it.day}, week = {it.week} }}" for it in fares.bands)
-    stations = (f"{{ place = {place}, low = {low}, high = {high}, operator = {fares.operators[place]} }}" for place, (low, high) in fares.stations.items())
-    routes = (f"{{ place = {place}, operator = {fares.operators[place]} }}" for place in fares.routes)
-    interchanges = (f"{{ a = {min(pair)}, b = {max(pair)}, seconds = {seconds} }}" for pair, seconds in fares.interchanges.items())
     return f"""\
-zones = {len(fares.minutes)}
 minutes = {fares.minutes}
 single = {array(singles)}
 band = {array(bands)}
-holidays = {fares.holidays}
-station = {array(stations)}
-route = {array(routes)}
-interchange = {array(interchanges)}
+"""
 
-[rules]
+
+def rules_table(fares, name):
+    return f"""\
+[{name}]
 bus = {fares.bus}
 maximum = {fares.maximum}
 hopper = {fares.hopper}
 same_free = {fares.same_free}
 same_limit = {fares.same_limit}
 """
+
+
+def fare_file(fares):
+    """The text of a fare file that says this."""
+    stations = (f"{{ place = {place}, low = {low}, high = {high}, operator = {fares.operators[place]} }}" for place, (low, high) in fares.stations.items())
+    routes = (f"{{ place = {place}, operator = {fares.operators[place]} }}" for place in fares.routes)
+    interchanges = (f"{{ a = {min(pair)}, b = {max(pair)}, seconds = {seconds} }}" for pair, seconds in fares.interchanges.items())
+    editions = "".join(
+        f"\n[[edition]]\nday = {day}\n{edition_keys(it)}\n{rules_table(it, 'edition.rules')}" for day, it in fares.editions.items()
+    )
+    return f"""\
+zones = {len(fares.minutes)}
+{edition_keys(fares)}holidays = {fares.holidays}
+station = {array(stations)}
+route = {array(routes)}
+interchange = {array(interchanges)}
+
+{rules_table(fares, "rules")}{editions}"""

@@ -14,10 +14,12 @@ PROGRAM = f"{ROOT}/crates/farebox/out/farebox"
 EXAMPLES = f"{ROOT}/examples"
 FARES = f"{EXAMPLES}/bus.toml"
 SAMPLE = f"{EXAMPLES}/sample.toml"
+TWO = f"{EXAMPLES}/two.toml"
 
 LONDON = "GMT0BST,M3.5.0/1,M10.5.0"
 RUN = ["run", FARES, LONDON]
 RUN_SAMPLE = ["run", SAMPLE, LONDON]
+RUN_TWO = ["run", TWO, LONDON]
 CHECK = ["check", SAMPLE]
 # The statement of account 7, and of the week of Monday, 2024-01-08.
 STATE = ["statement", SAMPLE, LONDON, "7", "19730"]

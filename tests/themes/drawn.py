@@ -68,25 +68,49 @@ def crowd(_):
         yield f"{len(commands):,} lines with {given[1]}", *play(given, list(by_rules(fares, {}, commands, later=26)))
 
 
-def drawn_fares(draw):
-    """A fare file of nine zones and twelve bands whose caps are reached now and then."""
-    bands = [rules.Band(0, 0, 350, 1_000)]
+def drawn_bands(draw):
+    """Twelve bands whose caps are reached now and then."""
+    bands = [rules.Band(0, 0, 350 + draw.randint(0, 50), 1_000 + draw.randint(0, 100))]
     for low, high in draw.sample(SPANS, MOST_BANDS - 1):
         # Wider bands are dearer, more or less.
         wide = high - low
         bands.append(rules.Band(low, high, 200 + 40 * wide + draw.randint(0, 200), 600 + 100 * wide + draw.randint(0, 600)))
     draw.shuffle(bands)
+    return bands
+
+
+def drawn_singles(draw):
+    return {(low, high): (150 + 40 * (high - low) + draw.randint(0, 50), 120 + 30 * (high - low) + draw.randint(0, 20)) for low, high in SPANS}
+
+
+def drawn_edition(draw, fares):
+    """Other fares and limits than these, and now and then no bands."""
+    return fares._replace(
+        minutes=[draw.randint(2, 40) + 5 * zones for zones in range(1, ZONES + 1)],
+        single=drawn_singles(draw),
+        bands=drawn_bands(draw) if draw.random() < 0.8 else [],
+        bus=draw.randint(150, 200),
+        maximum=draw.randint(500, 900),
+        same_free=draw.randint(0, 900),
+        same_limit=draw.randint(900, 1_800),
+    )
+
+
+def drawn_fares(draw, editions=0):
+    """A fare file of nine zones and twelve bands whose caps are reached now and then, with so many editions in any order."""
     stations = {it: (zone_of(it), min(zone_of(it) + it // 10, ZONES)) for it in range(1, 2 * ZONES + 1)}
-    return rules.BUS._replace(
+    fares = rules.BUS._replace(
         minutes=[20 + 5 * zones for zones in range(1, ZONES + 1)],
-        single={(low, high): (150 + 40 * (high - low) + draw.randint(0, 50), 120 + 30 * (high - low) + draw.randint(0, 20)) for low, high in SPANS},
-        bands=bands,
+        single=drawn_singles(draw),
+        bands=drawn_bands(draw),
         holidays=[MONDAY + 2],
         stations=stations,
         routes=[50, 51],
         interchanges={frozenset(draw.sample(sorted(stations), 2)): draw.randint(300, 900) for _ in range(30)},
         operators={it: draw.randint(1, 16) for it in [*stations, 50, 51]},
     )
+    # From the last day but one before the week to the one after it.
+    return fares._replace(editions={day: drawn_edition(draw, fares) for day in draw.sample(range(MONDAY - 2, MONDAY + 8), editions)})
 
 
 def drawn_taps(draw, fares, accounts):
@@ -110,13 +134,13 @@ def drawn_taps(draw, fares, accounts):
 
 @test
 def drawn_caps(folder):
-    """Fare files of nine zones and twelve bands that are drawn at random, checked, and sessions by bench/rules.py."""
-    for seed in range(6):
+    """Fare files of nine zones, twelve bands and up to 8 editions that are drawn at random, checked, and sessions by bench/rules.py."""
+    for seed in range(12):
         draw = random.Random(seed)
-        fares = drawn_fares(draw)
+        fares = drawn_fares(draw, editions=max(0, seed - 3))
         path = written(folder, "drawn", rules.fare_file(fares).encode())
         name = f"the fare file of draw {seed}"
-        yield f"{name}, checked", run(["check", path]), counted(20, MOST_BANDS, len(fares.interchanges), 1)
+        yield f"{name}, checked", run(["check", path]), counted(20, MOST_BANDS, len(fares.interchanges), 1, len(fares.editions))
         taps = drawn_taps(draw, fares, 60)
         asked = drawn_dues(draw, 100, range(1, 61), WEEK_DAYS)
         commands = draw.sample(taps + asked, len(taps) + len(asked))
@@ -201,9 +225,10 @@ def drawn_sessions(folder):
         commands = [drawn_command(draw, account) for account in range(1, 9) for _ in range(60)]
         draw.shuffle(commands)
         yield f"corrections of draw {seed}", SAMPLE, rules.SAMPLE, commands, 0, range(1, 10), (MONDAY - 3, MONDAY + 1)
-        fares = drawn_fares(draw)
-        path = written(folder, f"drawn-{seed}", rules.fare_file(fares).encode())
-        yield f"the fare file of draw {seed}", path, fares, drawn_taps(draw, fares, 10), 0, range(1, 11), (MONDAY + 6,)
+        for editions in (0, 4):
+            fares = drawn_fares(draw, editions)
+            path = written(folder, f"drawn-{seed}-{editions}", rules.fare_file(fares).encode())
+            yield f"the fare file of draw {seed} with {editions} editions", path, fares, drawn_taps(draw, fares, 10), 0, range(1, 11), (MONDAY + 6,)
         for name, path, said in (("with caps", SAMPLE, rules.SAMPLE), ("without caps", FARES, rules.BUS)):
             yield f"a week {name} of draw {seed}", path, said, loads.corrected_week(draw, 10), 26 * seed, range(1, 11), (MONDAY + 2,)
 

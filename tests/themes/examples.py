@@ -4,7 +4,7 @@ import contextlib
 import os
 import sqlite3
 
-from running import EXAMPLES, RUN, RUN_SAMPLE, STATE, End, answers, heard, in_lines, read, run, run_file, started, test
+from running import EXAMPLES, RUN, RUN_SAMPLE, RUN_TWO, STATE, End, answers, heard, in_lines, read, run, run_file, started, test
 
 
 def told_in(column):
@@ -29,7 +29,7 @@ def told_replies():
 
 
 # The examples that are not run with examples/bus.toml.
-WITH_CAPS = {"capped-week.txt", "closes.txt", "corrections.txt", "statement.txt"}
+GIVEN = {name: RUN_SAMPLE for name in ("capped-week.txt", "closes.txt", "corrections.txt", "statement.txt")} | {"two-fares.txt": RUN_TWO}
 # Those of a session that is killed, and of the one that goes on from its journal.
 KILLED, GOES_ON = "killed.txt", "goes-on.txt"
 
@@ -39,7 +39,7 @@ def replies_that_are_told(_):
     """The replies to each session, through a pipe and from the file."""
     told = told_replies()
     for name in sorted(name for name in os.listdir(EXAMPLES) if name.endswith(".txt") and name not in (KILLED, GOES_ON)):
-        given = RUN_SAMPLE if name in WITH_CAPS else RUN
+        given = GIVEN.get(name, RUN)
         wanted = answers(told.get(name, b"nothing is told of it"))
         yield f"{name} through a pipe", run(given, read(name)), wanted
         yield f"{name} as a file", run_file(given, f"{EXAMPLES}/{name}"), wanted

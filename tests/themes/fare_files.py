@@ -144,9 +144,10 @@ def long_fare_files(folder):
     yield "bands after 3 MiB, checked", run(["check", written(folder, "long", long)]), answers(COUNTED)
 
 
-def counted(places, bands, interchanges, holidays):
+def counted(places, bands, interchanges, holidays, editions=0):
     """What a check of a fare file comes to that has so many of each."""
-    return answers(f"OK places {places} bands {bands} interchanges {interchanges} holidays {holidays}\n".encode())
+    more = f" editions {editions}" if editions else ""
+    return answers(f"OK places {places} bands {bands} interchanges {interchanges} holidays {holidays}{more}\n".encode())
 
 
 @test

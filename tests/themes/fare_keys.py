@@ -19,7 +19,7 @@ GOOD_FILE = {
     "minutes": "[90, 100, 110]",
     "zones": "3",
 }
-FAULT_NUMBERS = {"NotToml": 10, "MissingKey": 11, "WrongType": 12, "OutOfRange": 13, "Duplicate": 14, "UnknownPlace": 15, "TooMany": 16}
+FAULT_NUMBERS = {"NotToml": 10, "MissingKey": 11, "WrongType": 12, "OutOfRange": 13, "Duplicate": 14, "UnknownPlace": 15, "TooMany": 16, "HopperDiffers": 17}
 
 # Changes to it, `key = value`, with `-` for a key that is left out, and how the file is then refused.
 REFUSED_KEYS = """
@@ -355,8 +355,85 @@ REFUSED_INTERCHANGES = """
     station = [{ place = 10, low = 1, high = 1, operator = 1 }] & route = [{ place = 12, operator = 4 }] & interchange = [A] => UnknownPlace
     station = [] & route = [{ place = 10, operator = 4 }, { place = 12, operator = 4 }] & interchange = [A] => UnknownPlace
 """
+# A and B are whole editions of two days, C one of the day of A without its last key; M, R and S are what an edition must have.
+EDITION_ITEMS = {
+    "A": "{ day = 19731, M, R, S }",
+    "B": "{ day = 19738, M, R, S, band = [{ from = 0, to = 0, day = 1, week = 1 }] }",
+    "C": "{ day = 19731, M, R }",
+    "M": "minutes = [90, 100, 110]",
+    "R": "rules = { bus = 180, maximum = 900, hopper = 3600, same_free = 120, same_limit = 1800 }",
+    "S": "single = [{ from = 1, to = 1, peak = 290, off = 280 }, { from = 1, to = 2, peak = 350, off = 290 }, "
+    "{ from = 1, to = 3, peak = 380, off = 310 }, { from = 2, to = 2, peak = 210, off = 200 }, "
+    "{ from = 2, to = 3, peak = 220, off = 205 }, { from = 3, to = 3, peak = 210, off = 190 }]",
+}
+REFUSED_EDITIONS = """
+    edition = - => taken
+    edition = [] => taken
+    edition = [A] => taken
+    edition = [B, A] => taken
+    edition = [{ S, R, M, day = 50000 }] => taken
+    edition = [{ M, R, S, day = 5, band = [], zones = 9, colour = 'red' }] => taken
+    edition = 1 => WrongType
+    edition = A => WrongType
+    edition = [1] => WrongType
+    edition = [[]] => WrongType
+    edition = [{}] => MissingKey
+    edition = [{ M, R, S }] => MissingKey
+    edition = [{ day = '19731' }] => WrongType
+    edition = [{ day = 19731.0 }] => WrongType
+    edition = [{ day = 4 }] => OutOfRange
+    edition = [{ day = 50001 }] => OutOfRange
+    edition = [{ day = -1 }] => OutOfRange
+    edition = [{ day = 5 }] => MissingKey
+    edition = [{ day = 50000 }] => MissingKey
+    edition = [{ day = 5, minutes = 90 }] => WrongType
+    edition = [{ day = 5, minutes = [90, 100] }] => OutOfRange
+    edition = [{ day = 5, minutes = [90, 'x', 110] }] => WrongType
+    edition = [{ day = 5, minutes = [90, 100, 1441] }] => OutOfRange
+    edition = [{ day = 5, M }] => MissingKey
+    edition = [{ day = 5, M, rules = 1 }] => WrongType
+    edition = [{ day = 5, M, rules = {} }] => MissingKey
+    edition = [{ day = 5, M, rules = { bus = '1' } }] => WrongType
+    edition = [{ day = 5, M, rules = { bus = 100001 } }] => OutOfRange
+    edition = [{ day = 5, M, rules = { bus = 1, maximum = -1 } }] => OutOfRange
+    edition = [{ day = 5, M, rules = { bus = 1, maximum = 1 } }] => MissingKey
+    edition = [{ day = 5, M, rules = { bus = 1, maximum = 1, hopper = '3600' } }] => WrongType
+    // Its range first, then whether it is the file's own, then the next key.
+    edition = [{ day = 5, M, rules = { bus = 1, maximum = 1, hopper = 0 } }] => OutOfRange
+    edition = [{ day = 5, M, rules = { bus = 1, maximum = 1, hopper = 7201 } }] => OutOfRange
+    edition = [{ day = 5, M, rules = { bus = 1, maximum = 1, hopper = 3599 } }] => HopperDiffers
+    edition = [{ day = 5, M, rules = { bus = 1, maximum = 1, hopper = 3601, same_free = 'x' } }] => HopperDiffers
+    edition = [{ day = 5, M, rules = { bus = 1, maximum = 1, hopper = 3600, same_free = 'x' } }] => WrongType
+    edition = [{ day = 5, M, rules = { bus = 1, maximum = 1, hopper = 3600, same_free = 9, same_limit = 8 } }] => OutOfRange
+    edition = [{ day = 5, M, R }] => MissingKey
+    edition = [{ day = 5, M, R, single = 1 }] => WrongType
+    edition = [{ day = 5, M, R, single = [] }] => MissingKey
+    edition = [{ day = 5, M, R, single = [{ from = 4 }] }] => OutOfRange
+    edition = [{ day = 5, M, R, single = [{ from = 1, to = 1, peak = 1, off = 1 }, { from = 1, to = 1, peak = 1, off = 1 }] }] => Duplicate
+    edition = [{ day = 5, M, R, S, band = 1 }] => WrongType
+    edition = [{ day = 5, M, R, S, band = [{ from = 4 }] }] => OutOfRange
+    edition = [{ day = 5, M, R, S, band = [{ from = 0, to = 0, day = 1, week = 1 }, { from = 0, to = 0, day = 1, week = 1 }] }] => Duplicate
+    // Of two faults the first key's, whatever their order in the file.
+    edition = [{ M, rules = 1, day = 4 }] => OutOfRange
+    edition = [{ day = 5, rules = 1, S, minutes = [0, 0, 0] }] => OutOfRange
+    edition = [{ day = 5, M, single = 1, rules = {} }] => MissingKey
+    edition = [{ day = 5, M, R, single = [], band = 1 }] => MissingKey
+    // Its day is looked for after its own keys, and an earlier item comes before a later one.
+    edition = [A, A] => Duplicate
+    edition = [B, A, B] => Duplicate
+    edition = [A, C] => MissingKey
+    edition = [A, { day = 19731, M, rules = { bus = 1, maximum = 1, hopper = 1 } }] => HopperDiffers
+    edition = [A, A, 1] => Duplicate
+    edition = [A, 1, A] => WrongType
+    // Editions come last.
+    interchange = 1 & edition = [{ day = 4 }] => WrongType
+    interchange = [{}] & edition = 1 => MissingKey
+    station = [{ place = 0 }] & edition = [{}] => OutOfRange
+    // The zones are the file's own.
+    zones = 2 & minutes = [90, 100] & station = - & single = [{ from = 1, to = 1, peak = 0, off = 0 }, { from = 1, to = 2, peak = 0, off = 0 }, { from = 2, to = 2, peak = 0, off = 0 }] & edition = [A] => OutOfRange
+"""
 # An array that is no longer than it may be has the fault of its first item; with one item more none is looked at.
-LONGEST = {"band": 12, "holidays": 64, "station": 1_024, "route": 1_021, "interchange": 256}
+LONGEST = {"band": 12, "holidays": 64, "station": 1_024, "route": 1_021, "interchange": 256, "edition": 8}
 
 
 def refused_files():
@@ -368,9 +445,14 @@ def refused_files():
         ("", BAND_ITEMS, REFUSED_BANDS),
         ("", PLACE_ITEMS, REFUSED_PLACES),
         ("", INTERCHANGE_ITEMS, REFUSED_INTERCHANGES),
+        ("", EDITION_ITEMS, REFUSED_EDITIONS),
     ):
+        # A whole item first, and then what is named in it.
+        names = rf"\b[{''.join(items)}]\b" if items else "(?!)"
         for changes, wanted in rows_of(text):
-            yield ahead + re.sub(r"\b[A-G]\b", lambda it: items[it.group()], changes), wanted
+            for _ in range(2):
+                changes = re.sub(names, lambda it: items[it.group()], changes)
+            yield ahead + changes, wanted
     for key, most in LONGEST.items():
         yield f"{key} = {most * ['x']}", "WrongType"
         yield f"{key} = {(most + 1) * ['x']}", "TooMany"

@@ -118,7 +118,7 @@ def busy_day(_):
 
 # A fare file at its limits: stations 1, 2, .. in the zones 1 to 9 in turn, routes 65535, 65534, .., interchanges between the
 # stations 1 and 2, 3 and 4, .., and a holiday on each Monday from day 19723 on. Every fare is another one.
-ZONES, MOST_PLACES, MOST_CHANGES, MOST_HOLIDAYS, MOST_BANDS = 9, 1_024, 256, 64, 12
+ZONES, MOST_PLACES, MOST_CHANGES, MOST_HOLIDAYS, MOST_BANDS, MOST_EDITIONS = 9, 1_024, 256, 64, 12, 8
 SPANS = [(low, high) for low in range(1, ZONES + 1) for high in range(low, ZONES + 1)]
 LAST_ROUTE, LONE = 65_535, 99_907
 
@@ -136,9 +136,9 @@ def change_time(change):
     return 600 + change
 
 
-def at_limits(stations, routes, changes, holidays, bands=0):
-    """The text of the fare file with so many of each."""
-    return rules.fare_file(rules.Fares(
+def at_limits(stations, routes, changes, holidays, bands=0, editions=0):
+    """The text of the fare file with so many of each, where each edition says the same again."""
+    fares = rules.Fares(
         minutes=[10 * zones for zones in range(1, ZONES + 1)],
         single={span: (single(*span, True), single(*span, False)) for span in SPANS},
         bands=[rules.Band(*cover, 100_000, 100_000) for cover in [(0, 0), *SPANS][:bands]],
@@ -152,7 +152,8 @@ def at_limits(stations, routes, changes, holidays, bands=0):
         hopper=7_200,
         same_free=0,
         same_limit=7_200,
-    )).encode()
+    )
+    return rules.fare_file(fares._replace(editions={50_000 - it: fares for it in range(editions)})).encode()
 
 
 NINE_IN_THE_MORNING, NOON, TUESDAY = 32_400, 43_200, 19_731
@@ -204,7 +205,7 @@ def by_accounts(travels):
 
 @test
 def fare_file_at_limits(folder):
-    """As many places, bands, interchanges and holidays as a fare file may have, and one more."""
+    """As many places, bands, interchanges, holidays and editions as a fare file may have, and one more."""
     last = MOST_PLACES - 1
     unknown = ((last + 1, "IN"), (LAST_ROUTE - 1, "BUS"), (last, "BUS"), (LAST_ROUTE, "OUT"))
     pairs = [(f"TAP 1 1 7 {SEVEN} {place} {kind}", "NO 15 UnknownPlace") for place, kind in unknown]
@@ -213,7 +214,11 @@ def fare_file_at_limits(folder):
     yield "the fare file at its limits", *play(["run", whole, "UTC0"], pairs)
     too_many = fault("16 TooMany")
     for name, counts, wanted in (
-        ("all at its limits", (last, 1, MOST_CHANGES, MOST_HOLIDAYS, MOST_BANDS), counted(MOST_PLACES, MOST_BANDS, MOST_CHANGES, MOST_HOLIDAYS)),
+        (
+            "all at its limits",
+            (last, 1, MOST_CHANGES, MOST_HOLIDAYS, MOST_BANDS, MOST_EDITIONS),
+            counted(MOST_PLACES, MOST_BANDS, MOST_CHANGES, MOST_HOLIDAYS, MOST_EDITIONS),
+        ),
         ("nothing", (0, 0, 0, 0), counted(0, 0, 0, 0)),
         ("stations alone", (MOST_PLACES, 0, 0, 0), counted(MOST_PLACES, 0, 0, 0)),
         ("routes alone", (0, MOST_PLACES, 0, 0), counted(MOST_PLACES, 0, 0, 0)),
@@ -224,6 +229,7 @@ def fare_file_at_limits(folder):
         ("an interchange too many", (last, 1, MOST_CHANGES + 1, MOST_HOLIDAYS), too_many),
         ("a holiday too many", (last, 1, MOST_CHANGES, MOST_HOLIDAYS + 1), too_many),
         ("a band too many", (last, 1, MOST_CHANGES, MOST_HOLIDAYS, MOST_BANDS + 1), too_many),
+        ("an edition too many", (last, 1, MOST_CHANGES, MOST_HOLIDAYS, MOST_BANDS, MOST_EDITIONS + 1), too_many),
     ):
         path = written(folder, "counted", at_limits(*counts))
         yield f"{name}, checked", run(["check", path]), wanted
