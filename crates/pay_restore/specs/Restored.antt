@@ -99,6 +99,10 @@ restored editions taps fixes = do
 abbrev pub IsRestoredAs : {U X : Type 0} → Result U PostFault → Option X → X → Type 0
 IsRestoredAs result given now = MatchResult result (λ _. given ≡ Some now) (IsRefusedAsBad given)
 
+-- the accounts of an archive are those that a definition gives, or it is refused so
+abbrev pub AreAccountsOf : {A B : Type 0} → Result A PostFault → Option B → (A → B) → Type 0
+AreAccountsOf result given accounts = MatchResult result (λ it. given ≡ Some (accounts it)) (IsRefusedAsBad given)
+
 -- memory is wanting only for what a definition gives
 abbrev pub IsWantFor : {X : Type 0} → Option X → PostFault → Type 0
 IsWantFor given fault = fault ≡ Memory → IsSome given

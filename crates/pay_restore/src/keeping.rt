@@ -5,7 +5,7 @@ ghost use Rattle.std.specs.Ordering.{nat_cmp};
 ghost use Rattle.pay_tables.specs.Words.{FareEditions};
 ghost use Rattle.pay_rules.specs.Accepted.{Accepted};
 ghost use Rattle.pay_rules.specs.State.{accepted_of};
-ghost use Rattle.pay_restore.specs.Filed.{held, AreFiled};
+ghost use Rattle.pay_restore.specs.Filed.{held, AreFiled, AreFiledWith};
 
 use pay_rules::Fares;
 use std::alloc::{AllocError, Global};
@@ -31,7 +31,7 @@ pub(crate) fn take<F: Fares>(alloc: Global, accounts: &mut BTreeMap<u32, F>, num
 pub(crate) fn keep<F: Fares>(accounts: &mut BTreeMap<u32, F>, account: F) -> Result<(), AllocError>
     requires { 1 ≤ F.account account }
     ensures state { OnOk result (held F.accepted accounts.new.entries ≡ map.insert (held F.accepted accounts.old.entries) (F.account account) (F.accepted account)) }
-    ensures kept { OnOk result ((editions : FareEditions) → F.IsPricedBy editions account → AreFiled F.account (F.IsPricedBy editions) accounts.old.entries → AreFiled F.account (F.IsPricedBy editions) accounts.new.entries) }
+    ensures kept { OnOk result (AreFiledWith F.account F.IsPricedBy account accounts.old.entries accounts.new.entries) }
 {
     let number = account.number();
     accounts.insert(number, account)?;

@@ -1,11 +1,10 @@
-ghost use Rattle.std.specs.Prelude.{◌≡◌, map as each, Some, MatchResult, IfOk, IfErr, OnOk};
+ghost use Rattle.std.specs.Prelude.{map as each, IfOk, IfErr, OnOk};
 ghost use Rattle.std.specs.List.{IsDistinct};
 ghost use Rattle.std.specs.List.Sorted.{IsStrictlySortedBy};
 ghost use Rattle.std.specs.Ordering.{nat_cmp, eq_by_cmp};
-ghost use Rattle.pay_set_rows.specs.Readings.{IsRefusedAsBad};
 ghost use Rattle.pay_rules.specs.State.{ArePriced};
 ghost use Rattle.pay_restore.specs.Filed.{held, AreFiled};
-ghost use Rattle.pay_restore.specs.Restored.{with_tap_row, with_tap_rows, with_fix_row, with_fix_rows, restored, with_accepted, IsRestoredAs, IsWantFor};
+ghost use Rattle.pay_restore.specs.Restored.{with_tap_row, with_tap_rows, with_fix_row, with_fix_rows, restored, with_accepted, AreAccountsOf, IsRestoredAs, IsWantFor};
 
 use crate::keeping::{in_order, keep, take};
 use crate::reading::{fix_of_row, tap_of_row};
@@ -102,7 +101,7 @@ pub fn restored<F: Fares>(
     taps: &[(i64, TapRow)],
     fixes: &[(i64, FixRow)],
 ) -> Result<Vec<F>, PostFault>
-    ensures answer { MatchResult result (λ accounts. restored editions.now taps.now fixes.now ≡ Some (with_accepted F.account F.accepted accounts.items)) (IsRefusedAsBad (restored editions.now taps.now fixes.now)) }
+    ensures answer { AreAccountsOf result (restored editions.now taps.now fixes.now) (λ accounts. with_accepted F.account F.accepted accounts.items) }
 
     // So they may be those that a shard begins with.
     ensures ascending { IfOk result (λ accounts. IsStrictlySortedBy nat_cmp (each F.account accounts.items)) }
