@@ -32,8 +32,8 @@ Usage: farebox <COMMAND>
 
 Commands:
   run        Read taps, corrections and closes from standard input, and reply to each
-  check      Read a fare file, and print how many places, bands, interchanges and holidays it has,
-             or its first fault
+  check      Read a fare file, and print how many places, bands, interchanges, holidays and editions
+             it has, or its first fault; or compare it with another
   statement  Read taps and corrections from standard input, and print the statement of an account's week as CSV
   replay     Read journals, and print how many lines and accounts they have, with the first and last
              instant, or the first bad line
@@ -47,7 +47,7 @@ Options:
 Words of run (FARES ZONE), of check (FARES), of statement (FARES ZONE ACCOUNT DAY), of replay
 (FARES ZONE FILE..) and of serve (FARES ZONE --port P --lanes L --shards N --sessions K
 --close DAY), with options in any order:
-  FARES    the fare file, a TOML document
+  FARES    the fare file, a TOML document, which may hold editions, fares that hold from a day on
   ZONE     the time zone, a POSIX rule text (a name such as Europe/London is none)
   ACCOUNT  the account, a number from 1 to 4294967295
   DAY      a service day, counted from 1970-01-01: of the week, or the one that is closed
@@ -57,8 +57,9 @@ Words of run (FARES ZONE), of check (FARES), of statement (FARES ZONE ACCOUNT DA
   K        how many connections each lane serves, from 1 to 1000
   FILE     a journal, which run or serve wrote
 
-Further options: --journal FILE and --ledger FILE of run, and --sync with --journal; --journal FILE
-of statement, where it is only read; --journal FOLDER and --ledger FILE of serve.
+Further options: --journal FILE and --ledger FILE of run, and --sync with --journal; --lint and
+--against OLD of check, where OLD is another fare file, and --after DAY with --against; --journal
+FILE of statement, where it is only read; --journal FOLDER and --ledger FILE of serve.
 """ + RUN_EXAMPLE + STATUSES + RUN_FORMATS
 RUN_HELP = b"""\
 Read taps, corrections and closes from standard input, and reply to each
@@ -83,20 +84,34 @@ are closed into a file. With --journal and without --ledger nothing is closed, a
 by 34: what is posted would not be there for the next session. --sync is taken with --journal alone.
 """ + RUN_EXAMPLE + STATUSES + RUN_FORMATS
 CHECK_HELP = b"""\
-Read a fare file, and print how many places, bands, interchanges and holidays it has,
-or its first fault
+Read a fare file, and print how many places, bands, interchanges, holidays and editions
+it has, or its first fault; or compare it with another
 
-Usage: farebox check <FARES>
+Usage: farebox check [OPTIONS] <FARES>
 
 Arguments:
   <FARES>  The fare file, a TOML document
 
 Options:
-  -h, --help  Print help
+      --lint           Say where a fault lies, and warn of what may be a mistake: keys that nothing
+                       reads, a peak fare below its off-peak fare, fares of 0, no bands, no holiday
+                       after the last edition begins. A warning is status 1
+      --against <OLD>  Compare with another fare file: OK if each day is priced as by it, else the
+                       first day and key that are not
+      --after <DAY>    With --against: OK if all days up to this one are priced alike. A number
+                       from 4 to 50000
+  -h, --help           Print help
+
+A fare file may hold editions, fares that hold from a day on. Where it has n of them the line ends
+with ` editions n`. --after is taken with --against alone.
 
 Example: a fare file of five stations and a bus route, with three bands that cap prices.
   $ farebox check examples/sample.toml
   OK places 6 bands 3 interchanges 1 holidays 1
+
+Example: the same, and an edition with new fares from Tuesday 9 January 2024 on.
+  $ farebox check examples/two.toml
+  OK places 6 bands 3 interchanges 1 holidays 1 editions 1
 """ + STATUSES + b"""
 The fare file and the faults are described in docs/FORMATS.md.
 """
@@ -195,7 +210,10 @@ def help_texts(_):
     asked = (
         (PROGRAM_HELP, (["--help"], ["-h"], ["help"], ["--help", "run"], ["-h", "check"], ["-h", "statement"])),
         (RUN_HELP, (["run", "--help"], ["run", "-h"], ["help", "run"], ["run", MISSING, "no zone", "--help"])),
-        (CHECK_HELP, (["check", "--help"], ["check", "-h"], ["help", "check"], ["check", MISSING, "--help"])),
+        (CHECK_HELP, (
+            ["check", "--help"], ["check", "-h"], ["help", "check"], ["check", MISSING, "--help"], ["check", "--lint", "-h"],
+            ["check", MISSING, "--after", "50000", "--help", "--after", "50001"],
+        )),
         (STATEMENT_HELP, (
             ["statement", "--help"], ["statement", "-h"], ["help", "statement"], ["statement", MISSING, "no zone", "--help"],
             ["statement", "-h", "no", "words", "of", "it"], [*STATE, "-h"],
@@ -418,3 +436,48 @@ def words_of_files(folder):
     for given in TAKEN_FILES:
         yield f"the words {given}", run(given, cwd=folder), NO_FARES
     yield "no file was made", End(0, b" ".join(name.encode() for name in os.listdir(folder))), answers(b"")
+
+
+# The same of the options of `check`. The fare file is missing, and so is the other.
+TO_CHECK = ["check", MISSING]
+REFUSED_BY_CHECK = (
+    ["check", "--lint"], [*TO_CHECK, "--lint", "--lint"], [*TO_CHECK, "--lint=true"], [*TO_CHECK, "--lint="], [*TO_CHECK, "--lint", "true"],
+    [*TO_CHECK, "--Lint"], [*TO_CHECK, "--lints"], [*TO_CHECK, "-l"], [*TO_CHECK, "--", "--lint"], [*TO_CHECK, "--lint", "--version"],
+    ["check", "--against", MISSING], [*TO_CHECK, "--against"], [*TO_CHECK, "--against", "--lint"], [*TO_CHECK, "--against", "-a"],
+    [*TO_CHECK, "--against", "a", "b"], [*TO_CHECK, "--against", "a", "--against", "a"], [*TO_CHECK, "--against=a", "--against", "b"],
+    [*TO_CHECK, "--Against", "a"], [*TO_CHECK, "-a", "a"], [*TO_CHECK, "--against", b"\xff"], [*TO_CHECK, "--", "--against", "a"],
+    # A day with no other fare file, or without its number, or twice.
+    [*TO_CHECK, "--after", "19731"], [*TO_CHECK, "--after=19731"], ["check", "--after", "19731", MISSING], [*TO_CHECK, "--lint", "--after", "19731"],
+    [*TO_CHECK, "--against", "a", "--after"], [*TO_CHECK, "--after", "--against", "a"], [*TO_CHECK, "--against", "--after", "19731"],
+    [*TO_CHECK, "--against", "a", "--after", "4", "--after", "4"], [*TO_CHECK, "--against", "a", "--after=4", "--after", "5"],
+    # No option of `check`, and those of `check` for others.
+    [*TO_CHECK, "--sync"], [*TO_CHECK, "--close", "19731"], [*TO_RUN, "--lint"], [*TO_RUN, "--against", "a"], [*TO_STATE, "--lint"],
+    [*TO_STATE, "--after", "19731"], [*TO_REPLAY, "a", "--lint"], [*TO_SERVE, "--against", "a"], [*TO_SERVE, "--after", "19731"],
+    # What is refused comes before a call for help after it.
+    ["check", "--lint", "--lint", "--help"], ["check", "--after", "3", "--help"], ["check", "--after", "--help"], ["check", "--against", "-h"],
+)
+TAKEN_OPTIONS_OF_CHECK = (
+    [*TO_CHECK, "--lint"], ["check", "--lint", MISSING], ["check", "--lint", "--", MISSING], [*TO_CHECK, "--lint", "--"],
+    [*TO_CHECK, "--against", "a"], ["check", "--against", "a", MISSING], [*TO_CHECK, "--against=a"], [*TO_CHECK, "--against=-a"],
+    [*TO_CHECK, "--against", "-"], [*TO_CHECK, "--against="], [*TO_CHECK, "--against", ""], [*TO_CHECK, "--against", MISSING],
+    [*TO_CHECK, "--lint", "--against", "a"], [*TO_CHECK, "--against", "a", "--lint"],
+    [*TO_CHECK, "--against", "a", "--after", "19731"], [*TO_CHECK, "--after", "19731", "--against", "a"],
+    ["check", "--after=19731", MISSING, "--against=a"], ["check", "--after", "19731", "--lint", MISSING, "--against", "a"],
+    ["check", "--against", "a", "--after=19731", "--lint", "--", MISSING],
+)
+# Days that are outside their range, and in it.
+REFUSED_DAYS, TAKEN_DAYS = ("0", "3", "03", "+3", "50001", "4294987026"), ("4", "50000", "+4", "0050000")
+
+
+@test
+def words_of_check(folder):
+    """Options of a check: what is none, in what order they may stand, and the days of the one that has a number."""
+    for given in REFUSED_BY_CHECK:
+        yield f"the words {given}", run(given, cwd=folder), USAGE
+    for given in TAKEN_OPTIONS_OF_CHECK:
+        yield f"the words {given}", run(given, cwd=folder), NO_FARES
+    for between in (["--after", "{}"], ["--after={}"]):
+        for is_taken, days in ((False, (*NO_NUMBERS, *REFUSED_DAYS)), (True, TAKEN_DAYS)):
+            for day in days:
+                given = [*TO_CHECK, "--against", "a", *(word.format(day) for word in between)]
+                yield f"the words {given}", run(given, cwd=folder), NO_FARES if is_taken else USAGE

@@ -3,25 +3,29 @@ use Rattle.std.proofs.Common.{◌≡◌, ◌∙◌, ℕ, Bool, codes, true, fals
 use Rattle.clap.specs.Walk.{Row, Text, idle}
 use Rattle.clap.specs.Kinds.{Kinds}
 use Rattle.clap.specs.ValueTests.{is_unsigned_in}
-use Rattle.std.specs.Prelude.{⊤}
+use Rattle.std.specs.Prelude.{IfSome, ⊤}
 use Rattle.std.proofs.lemmas.Bool.Decides.{eqb_tells}
-use Rattle.pay_words.specs.Asked.{AreRunWords, AreServeWords, AreStatementWords, Asked, HaveNoHyphens, Word, allowed, asked, given, many_by, many_given, word_kind, words_ask, option_asked, program_asked}
-use Rattle.pay_words.specs.Asked.{check, check_asked, check_readers, replay, replay_asked, run, run_asked, run_of, serve, serve_asked, serve_of, statement, statement_asked, statement_of}
-use Rattle.pay_words.specs.Asked.{Given, Reader, taken, all_given, given_by, with_value, values, help, refused, without_dashes}
+use Rattle.pay_words.specs.Asked.{AreCheckWords, AreRunWords, AreServeWords, AreStatementWords, Asked, HaveNoHyphens, Word, allowed, asked, many_by, many_given, word_kind, words_ask, option_asked, program_asked}
+use Rattle.pay_words.specs.Asked.{check, check_asked, check_of, replay, replay_asked, run, run_asked, run_of, serve, serve_asked, serve_of, statement, statement_asked, statement_of}
+use Rattle.pay_words.specs.Asked.{Given, with_value, values, help, refused, without_dashes}
 use Rattle.pay_words.specs.Asked as words
-use Rattle.pay_words.specs.Options.{IsOption, Part, Said, Setting, StandApart, all_of, all_said, flag_value, help_wanted, not_taken, plain_words, reader_of, values_of, words_of_parts}
+use Rattle.pay_words.specs.Options.{IsOption, Part, Said, Setting, StandApart, all_of, all_said, flag_value, help_wanted, is_flag, not_taken, plain_words, reader_of, values_of, words_of_parts}
 use Rattle.pay_words.specs.Options.{port_option, lanes_option, shards_option, sessions_option, close_option, journal_option, sync_option, ledger_option}
+use Rattle.pay_words.specs.Options.{lint_option, against_option, after_option}
+use Rattle.pay_words.specs.Check.{AreCheckParts, CheckTexts, HasAfterInRange, check_grammar, check_of_texts, has_against}
 use Rattle.pay_words.specs.Run.{AreRunParts, Run, first_given, flags, has_journal, is_given, listed, run_grammar}
 use Rattle.pay_words.specs.Serve.{AreInRange, ArePartsOf, ServeTexts, has_ports, numbers_of, serve_grammar}
 use Rattle.pay_words.specs.Statement.{AreStatementParts, HasNumbersInRange, StatementTexts, statement_grammar, statement_of_texts}
+use Rattle.pay_words.proofs.OptionRules.{flag_given}
 use Rattle.pay_words.proofs.OptionsTaken.{AreTaken, Fits, Once, no_values, not_both, parts_taken}
 use Rattle.pay_words.proofs.PartsSaid.{Says, says}
 use Rattle.pay_words.proofs.Programs.{by_program}
-use Rattle.pay_words.proofs.WordKinds.{Reads, reads, same_bytes}
+use Rattle.pay_words.proofs.WordKinds.{Reads, reads}
 use Rattle.pay_words.proofs.WordLevels.{Level, rows_from}
 use Rattle.pay_words.proofs.WordSteps.{stand}
-use Rattle.pay_words.proofs.WordsAfterCheck.{check_long, check_rules, check_short}
+use Rattle.pay_words.proofs.WordsAfterCheck.{check_apart, check_built, check_rules, check_shape, under_day}
 use Rattle.pay_words.proofs.WordsAfterOptions.{Comes, Places, Under, ends}
+use Rattle.pay_words.proofs.WordsAfterReplay.{replay_long, replay_rules, replay_short}
 use Rattle.pay_words.proofs.WordsAfterRun.{run_apart, run_built, run_rules, run_shape}
 use Rattle.pay_words.proofs.WordsAfterServe.{serve_apart, serve_built, serve_rules, serve_shape}
 use Rattle.pay_words.proofs.WordsAfterStatement.{statement_apart, statement_built, statement_rules, statement_shape}
@@ -39,47 +43,15 @@ one_more word (values more) vs e = (more, refl, ap values_in e)
 one_more word help vs e = cc
 one_more word refused vs e = cc
 
--- a value that its reader takes, and what is given after it
-one_taken : (reads : Reader) (word : Text) (g : Given) (vs : List Text) → taken reads word g ≡ values vs
-    → (more : List Text) × (g ≡ values more) × (word ∷ more ≡ vs)
-one_taken reads word g vs e = go (reads word) refl
-  where
-    go : (fits : Bool) → reads word ≡ fits → (more : List Text) × (g ≡ values more) × (word ∷ more ≡ vs)
-    go true is = one_more word g vs (rw is at e)
-    go false is =
-        let none : refused ≡ values vs = rw is at e in cc
-
-all_are : (readers : List Reader) (rest vs : List Text) → all_given readers rest ≡ values vs → rest ≡ vs
-all_are readers [] vs e = ap values_in e
-all_are [] (word ∷ rest) vs e = cc
-all_are (reads ∷ readers) (word ∷ rest) vs e =
-    let m = one_taken reads word (all_given readers rest) vs e in
-    ap (λ (l : List Text). word ∷ l) (all_are readers rest m.0 m.1) ∙ m.2
-
-any_row : (word : Text) → Reads check_rules false check_long check_short [] [] None (word_kind word) word
-any_row word = reads check_rules false check_long check_short [] [] None refl word
+any_row : (word : Text) → Reads replay_rules false replay_long replay_short [] [] None (word_kind word) word
+any_row word = reads replay_rules false replay_long replay_short [] [] None refl word
 
 -- the values are the words, but for the first `--`
-given_are : (readers : List Reader) (rest vs : List Text) → given readers rest ≡ values vs → without_dashes rest ≡ vs
-given_are readers [] vs e = ap values_in e
-given_are readers (word ∷ rest) vs e = go (word_kind word) (any_row word) readers e (λ others ws h. given_are others rest ws h)
-  where
-    go : (k : Word) → Reads check_rules false check_long check_short [] [] None k word → (readers : List Reader) → given_by k readers word rest (λ others. given others rest) ≡ values vs
-        → ((others : List Reader) (ws : List Text) → given others rest ≡ values ws → without_dashes rest ≡ ws) → without_dashes (word ∷ rest) ≡ vs
-    go words.value r [] e next = cc
-    go words.value r (reads ∷ others) e next =
-        let m = one_taken reads word (given others rest) vs e in
-        rw r.0 (ap (λ (l : List Text). word ∷ l) (next others m.0 m.1) ∙ m.2)
-    go words.dashes r readers e next = rw r (all_are readers rest vs e)
-    go words.call_for_help r readers e next = cc
-    go words.call_for_version r readers e next = cc
-    go words.option r readers e next = cc
-
 many_are : (rest vs : List Text) → many_given rest ≡ values vs → without_dashes rest ≡ vs
 many_are [] vs e = ap values_in e
 many_are (word ∷ rest) vs e = go (word_kind word) (any_row word) e (λ ws h. many_are rest ws h)
   where
-    go : (k : Word) → Reads check_rules false check_long check_short [] [] None k word → many_by k word rest (many_given rest) ≡ values vs
+    go : (k : Word) → Reads replay_rules false replay_long replay_short [] [] None k word → many_by k word rest (many_given rest) ≡ values vs
         → ((ws : List Text) → many_given rest ≡ values ws → without_dashes rest ≡ ws) → without_dashes (word ∷ rest) ≡ vs
     go words.value r e next =
         let m = one_more word (many_given rest) vs e in
@@ -94,7 +66,7 @@ many_are (word ∷ rest) vs e = go (word_kind word) (any_row word) e (λ ws h. m
 -- the words after the program's own name, of a job, and what they were where there is none
 abbrev pub AreWordsOf : Asked → List Text → Type 0
 AreWordsOf (run r) ws = AreRunWords r (without_dashes ws)
-AreWordsOf (check a) ws = without_dashes ws ≡ codes "check" ∷ a ∷ []
+AreWordsOf (check c) ws = AreCheckWords c (without_dashes ws)
 AreWordsOf (statement s) ws = AreStatementWords s (without_dashes ws)
 AreWordsOf (replay a b files) ws = (without_dashes ws ≡ codes "replay" ∷ a ∷ b ∷ files) × (files ≢ [])
 AreWordsOf (serve s) ws = AreServeWords s (without_dashes ws)
@@ -106,10 +78,10 @@ under_listed rows k [] h = refl
 under_listed rows k (v ∷ []) h = refl
 under_listed rows k (v ∷ w ∷ more) h = absurd h
 
-under_flags : (rows : List Row) (vs : List Text) → Under rows sync_option vs → vs ≡ flags (is_given vs)
-under_flags rows [] h = refl
-under_flags rows (v ∷ []) h = ap (λ (w : Text). w ∷ []) (same_bytes v flag_value h.1)
-under_flags rows (v ∷ w ∷ more) h = absurd h
+under_flags : (rows : List Row) (k : Setting) → is_flag k ≡ true → (vs : List Text) → Under rows k vs → vs ≡ flags (is_given vs)
+under_flags rows k flag [] h = refl
+under_flags rows k flag (v ∷ []) h = ap (λ (w : Text). w ∷ []) (flag_given k flag v h.1)
+under_flags rows k flag (v ∷ w ∷ more) h = absurd h
 
 -- the one value of an option passed its reader
 under_fits : (rows : List Row) (k : Setting) (vs : List Text) (v : Text) → vs ≡ v ∷ [] → Under rows k vs → reader_of k v ≡ true
@@ -132,7 +104,7 @@ after_run rest = go (all_said run_grammar rest) (Level run_shape [] (stand [] No
         s.1,
         is,
         under_listed had journal_option (values_of journal_option parts) (under journal_option),
-        under_flags had (values_of sync_option parts) (under sync_option),
+        under_flags had sync_option refl (values_of sync_option parts) (under sync_option),
         under_listed had ledger_option (values_of ledger_option parts) (under ledger_option),
       ),
     )
@@ -143,15 +115,40 @@ after_run rest = go (all_said run_grammar rest) (Level run_shape [] (stand [] No
     go help_wanted ks rows s h = tt
     go not_taken ks rows s h = tt
 
-after_check : (rest : List Text) → AreWordsOf (check_asked (given check_readers rest)) (codes "check" ∷ rest)
-after_check rest = go (given check_readers rest) refl
+after_check : (rest : List Text) → AreWordsOf (check_asked (all_said check_grammar rest)) (codes "check" ∷ rest)
+after_check rest = go (all_said check_grammar rest) (Level check_shape [] (stand [] None idle 1 false) rest false []) (rows_from check_shape [] (stand [] None idle 1 false) rest)
+    (says check_grammar (codes "check") check_rules check_built check_apart rest) (ends check_grammar (codes "check") check_rules check_built check_apart rest)
   where
-    go : (g : Given) → given check_readers rest ≡ g → AreWordsOf (check_asked g) (codes "check" ∷ rest)
-    go (values []) e = tt
-    go (values (a ∷ [])) e = ap (λ (l : List Text). codes "check" ∷ l) (given_are check_readers rest (a ∷ []) e)
-    go (values (a ∷ b ∷ more)) e = tt
-    go help e = tt
-    go refused e = tt
+    made : (parts : List Part) (had : List Row) → Says check_grammar (codes "check") check_rules check_built check_apart (all_of parts) (without_dashes rest)
+        → ((k : Setting) → Under had k (values_of k parts)) → (vs : List Text) → plain_words parts ≡ vs
+        → AreWordsOf (check_of vs (values_of lint_option parts) (values_of against_option parts) (values_of after_option parts)) (codes "check" ∷ rest)
+    made parts had s under [] is = tt
+    made parts had s under (a ∷ b ∷ more) is = tt
+    made parts had s under (a ∷ []) is = (
+      record {
+        fares = a;
+        lints = is_given (values_of lint_option parts);
+        against = first_given (values_of against_option parts);
+        after = first_given (values_of after_option parts);
+      },
+      parts,
+      ap (λ (l : List Text). codes "check" ∷ l) s.0,
+      (
+        s.1,
+        is,
+        under_flags had lint_option refl (values_of lint_option parts) (under lint_option),
+        under_listed had against_option (values_of against_option parts) (under against_option),
+        under_listed had after_option (values_of after_option parts) (under after_option),
+      ),
+      under_day had (values_of after_option parts) (under after_option),
+      refl,
+    )
+
+    go : (x : Said) (ks : Kinds) (rows : List Row) → Says check_grammar (codes "check") check_rules check_built check_apart x (without_dashes rest)
+        → Comes check_grammar (codes "check") check_rules check_built check_apart x ks rows → AreWordsOf (check_asked x) (codes "check" ∷ rest)
+    go (all_of parts) ks rows s h = made parts h.0 s h.1.2 (plain_words parts) refl
+    go help_wanted ks rows s h = tt
+    go not_taken ks rows s h = tt
 
 after_statement : (rest : List Text) → AreWordsOf (statement_asked (all_said statement_grammar rest)) (codes "statement" ∷ rest)
 after_statement rest = go (all_said statement_grammar rest) (Level statement_shape [] (stand [] None idle 1 false) rest false []) (rows_from statement_shape [] (stand [] None idle 1 false) rest)
@@ -252,12 +249,12 @@ after_serve rest = go (all_said serve_grammar rest) (Level serve_shape [] (stand
     go help_wanted ks rows s h = tt
     go not_taken ks rows s h = tt
 
-after_option : (k : Word) (ws : List Text) → AreWordsOf (option_asked k) ws
-after_option words.value ws = tt
-after_option words.dashes ws = tt
-after_option words.call_for_help ws = tt
-after_option words.call_for_version ws = tt
-after_option words.option ws = tt
+after_other : (k : Word) (ws : List Text) → AreWordsOf (option_asked k) ws
+after_other words.value ws = tt
+after_other words.dashes ws = tt
+after_other words.call_for_help ws = tt
+after_other words.call_for_version ws = tt
+after_other words.option ws = tt
 
 -- what is not allowed is no job
 allowed_too : (x : Asked) (ws : List Text) → AreWordsOf x ws → AreWordsOf (allowed x) ws
@@ -266,7 +263,11 @@ allowed_too (run r) ws h = go (has_journal r) refl
     go : (fits : Bool) → has_journal r ≡ fits → AreWordsOf (allowed (run r)) ws
     go true is = rw is h
     go false is = rw is tt
-allowed_too (check a) ws h = h
+allowed_too (check c) ws h = go (has_against c) refl
+  where
+    go : (fits : Bool) → has_against c ≡ fits → AreWordsOf (allowed (check c)) ws
+    go true is = rw is h
+    go false is = rw is tt
 allowed_too (statement s) ws h = h
 allowed_too (replay a b files) ws h = h
 allowed_too (serve s) ws h = go (has_ports s) refl
@@ -283,7 +284,7 @@ said_in_order : (ws : List Text) → AreWordsOf (words_ask ws) (drop 1 ws)
 said_in_order [] = tt
 said_in_order (name ∷ []) = tt
 said_in_order (name ∷ word ∷ rest) = by_program (λ (w : Text). AreWordsOf (program_asked w rest) (w ∷ rest)) word (after_run rest) (after_check rest) (after_statement rest) (after_replay rest) (after_serve rest) tt
-    (λ none. rw (none.0, none.1, none.2, none.3, none.4, none.5) (after_option (word_kind word) (word ∷ rest)))
+    (λ none. rw (none.0, none.1, none.2, none.3, none.4, none.5) (after_other (word_kind word) (word ∷ rest)))
 
 -- but for the first, and for a `--`, the words are those of the job
 pub in_order : (ws : List Text) → AreWordsOf (asked ws) (drop 1 ws)
@@ -308,9 +309,9 @@ once_listed : (k : Setting) (o : Option Text) → ((v : Text) → reader_of k v 
 once_listed k None any = tt
 once_listed k (Some v) any = any v
 
-once_flags : (given : Bool) → Once sync_option (flags given)
-once_flags true = refl
-once_flags false = tt
+once_flags : (k : Setting) → reader_of k flag_value ≡ true → (given : Bool) → Once k (flags given)
+once_flags k takes true = takes
+once_flags k takes false = tt
 
 first_listed : (o : Option Text) → first_given (listed o) ≡ o
 first_listed None = refl
@@ -331,8 +332,11 @@ module _ (r : Run) (parts : List Part) (are : AreRunParts r parts) where
   run_once sessions_option = none_of_run sessions_option (λ e. cc)
   run_once close_option = none_of_run close_option (λ e. cc)
   run_once journal_option = subst (Once journal_option) (sym are.2) (once_listed journal_option r.journal (λ v. refl))
-  run_once sync_option = subst (Once sync_option) (sym are.3) (once_flags r.syncs)
+  run_once sync_option = subst (Once sync_option) (sym are.3) (once_flags sync_option refl r.syncs)
   run_once ledger_option = subst (Once ledger_option) (sym are.4) (once_listed ledger_option r.ledger (λ v. refl))
+  run_once lint_option = none_of_run lint_option (λ e. cc)
+  run_once against_option = none_of_run against_option (λ e. cc)
+  run_once after_option = none_of_run after_option (λ e. cc)
 
   run_taken : slice_index r.fares 0 ≢ 45 → slice_index r.zone 0 ≢ 45 → AreTaken run_grammar parts
   run_taken f z = record {
@@ -350,8 +354,42 @@ pub asks_run : (ws : List Text) (name : Text) (r : Run) (parts : List Part) → 
 asks_run ws name r parts is are may f z journal = ap asked is ∙ (ap (λ (x : Said). allowed (run_asked x)) (parts_taken run_grammar parts (run_taken r parts are f z) may)
     ∙ (ap allowed (run_is r parts are) ∙ (rw journal refl)))
 
-pub asks_check : (ws : List Text) (name fares : Text) → ws ≡ name ∷ codes "check" ∷ fares ∷ [] → slice_index fares 0 ≢ 45 → asked ws ≡ check fares
-asks_check ws name fares is f = ap asked is ∙ (rw (no_hyphen fares f) refl)
+once_day : (o : Option Text) → IfSome o (λ word. reader_of after_option word ≡ true) → Once after_option (listed o)
+once_day None fits = tt
+once_day (Some v) fits = fits
+
+module _ (t : CheckTexts) (parts : List Part) (are : AreCheckParts t parts) (fits : HasAfterInRange t) where
+  none_of_check : (k : Setting) → (IsOption check_grammar k → ⊥) → Once k (values_of k parts)
+  none_of_check k none = subst (Once k) (sym (no_values check_grammar k none parts are.0)) tt
+
+  check_once : (k : Setting) → Once k (values_of k parts)
+  check_once port_option = none_of_check port_option (λ e. cc)
+  check_once lanes_option = none_of_check lanes_option (λ e. cc)
+  check_once shards_option = none_of_check shards_option (λ e. cc)
+  check_once sessions_option = none_of_check sessions_option (λ e. cc)
+  check_once close_option = none_of_check close_option (λ e. cc)
+  check_once journal_option = none_of_check journal_option (λ e. cc)
+  check_once sync_option = none_of_check sync_option (λ e. cc)
+  check_once ledger_option = none_of_check ledger_option (λ e. cc)
+  check_once lint_option = subst (Once lint_option) (sym are.2) (once_flags lint_option refl t.lints)
+  check_once against_option = subst (Once against_option) (sym are.3) (once_listed against_option t.against (λ v. refl))
+  check_once after_option = subst (Once after_option) (sym are.4) (once_day t.after fits)
+
+  check_taken : slice_index t.fares 0 ≢ 45 → AreTaken check_grammar parts
+  check_taken f = record {
+    are = are.0;
+    fits = subst (Fits check_grammar.places) (sym are.1) (refl, tt);
+    hyphens = subst HaveNoHyphens (sym are.1) (f, tt);
+    once = check_once;
+  }
+
+  check_is : check_asked (all_of parts) ≡ check (check_of_texts t)
+  check_is = rw (are.1, are.2, are.3, are.4, given_flags t.lints, first_listed t.against, first_listed t.after) refl
+
+pub asks_check : (ws : List Text) (name : Text) (t : CheckTexts) (parts : List Part) → ws ≡ name ∷ codes "check" ∷ words_of_parts parts → AreCheckParts t parts → StandApart parts
+    → slice_index t.fares 0 ≢ 45 → HasAfterInRange t → has_against (check_of_texts t) ≡ true → asked ws ≡ check (check_of_texts t)
+asks_check ws name t parts is are may f fits against = ap asked is ∙ (ap (λ (x : Said). allowed (check_asked x)) (parts_taken check_grammar parts (check_taken t parts are fits f) may)
+    ∙ (ap allowed (check_is t parts are fits) ∙ (rw against refl)))
 
 module _ (t : StatementTexts) (parts : List Part) (are : AreStatementParts t parts) where
   none_of_statement : (k : Setting) → (IsOption statement_grammar k → ⊥) → Once k (values_of k parts)
@@ -366,6 +404,9 @@ module _ (t : StatementTexts) (parts : List Part) (are : AreStatementParts t par
   statement_once journal_option = subst (Once journal_option) (sym are.2) (once_listed journal_option t.journal (λ v. refl))
   statement_once sync_option = none_of_statement sync_option (λ e. cc)
   statement_once ledger_option = none_of_statement ledger_option (λ e. cc)
+  statement_once lint_option = none_of_statement lint_option (λ e. cc)
+  statement_once against_option = none_of_statement against_option (λ e. cc)
+  statement_once after_option = none_of_statement after_option (λ e. cc)
 
   statement_taken : slice_index t.fares 0 ≢ 45 → slice_index t.zone 0 ≢ 45 → HasNumbersInRange t → AreTaken statement_grammar parts
   statement_taken f z n = record {
@@ -393,6 +434,9 @@ asks_replay ws name fares zone file files is f z h = ap asked is
     ∙ ap (λ (g : Given). allowed (replay_asked g)) (many_values (fares ∷ zone ∷ file ∷ files) (f, (z, h)))
 
 module _ (t : ServeTexts) (parts : List Part) (are : ArePartsOf t parts) (fits : AreInRange t) where
+  none_of_serve : (k : Setting) → (IsOption serve_grammar k → ⊥) → Once k (values_of k parts)
+  none_of_serve k none = subst (Once k) (sym (no_values serve_grammar k none parts are.0)) tt
+
   serve_once : (k : Setting) → Once k (values_of k parts)
   serve_once port_option = subst (Once port_option) (sym are.2.0) fits.0
   serve_once lanes_option = subst (Once lanes_option) (sym are.2.1) fits.1
@@ -400,7 +444,10 @@ module _ (t : ServeTexts) (parts : List Part) (are : ArePartsOf t parts) (fits :
   serve_once sessions_option = subst (Once sessions_option) (sym are.2.3) fits.3
   serve_once close_option = subst (Once close_option) (sym are.2.4) fits.4
   serve_once journal_option = subst (Once journal_option) (sym are.3) (once_listed journal_option t.journal (λ v. refl))
-  serve_once sync_option = subst (Once sync_option) (sym (no_values serve_grammar sync_option (λ e. cc) parts are.0)) tt
+  serve_once sync_option = none_of_serve sync_option (λ e. cc)
+  serve_once lint_option = none_of_serve lint_option (λ e. cc)
+  serve_once against_option = none_of_serve against_option (λ e. cc)
+  serve_once after_option = none_of_serve after_option (λ e. cc)
   serve_once ledger_option = subst (Once ledger_option) (sym are.4) (once_listed ledger_option t.ledger (λ v. refl))
 
   serve_taken : slice_index t.fares 0 ≢ 45 → slice_index t.zone 0 ≢ 45 → AreTaken serve_grammar parts

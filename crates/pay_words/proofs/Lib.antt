@@ -1,5 +1,6 @@
 mod JobWords
 mod Numbers
+mod OptionEnds
 mod OptionParts
 mod OptionRows
 mod OptionRules

@@ -7,6 +7,7 @@ use Rattle.clap.specs.Faults.{fault_of}
 use Rattle.clap.specs.declared.error.kind.ErrorKind.TheVariants.{DisplayHelp, DisplayVersion, InvalidSubcommand, OutOfMemory}
 use Rattle.pay_words.specs.Asked.{Asked, HaveNoHyphens, IsAnswer, IsJobOrMemory, allowed, asked, number_of, run, check, statement, replay, serve, words_ask, help_asked, help_named, version_asked, usage, IsFaultOf, job_asked, AreJobWords, IsJobInRange, without_dashes}
 use Rattle.pay_words.specs.Options.{Part, StandApart, words_of_parts}
+use Rattle.pay_words.specs.Check.{AreCheckParts, Check, CheckTexts, HasAfterInRange, check_of_texts, has_against}
 use Rattle.pay_words.specs.Run.{AreRunParts, Run, has_journal}
 use Rattle.pay_words.specs.Serve.{AreInRange, ArePartsOf, Serve, ServeTexts, has_ports, last_port, numbers_of}
 use Rattle.pay_words.specs.Statement.{AreStatementParts, HasNumbersInRange, Statement, StatementTexts, statement_of_texts}
@@ -21,12 +22,12 @@ use Rattle.clap.proofs.ValueTestLemmas.{accepts-Accepts}
 use Rattle.clap.specs.Walk.{one_of}
 use Rattle.std.proofs.lemmas.Bool.{leb-true}
 use Rattle.clap.proofs.WalkLemmas.{both, first_value-rows, one_text-rows, raw_values-rows}
-use Rattle.std.specs.Prelude.{IsOkAnd, ⊤}
+use Rattle.std.specs.Prelude.{IfSome, IsOkAnd, ⊤}
 use Rattle.pay_words.specs.declared.words.Job.{Job}
-use Rattle.pay_words.specs.declared.words.Job.TheVariants.{Run as RunJob, Check, Statement as StatementJob, Replay, Serve as ServeJob}
+use Rattle.pay_words.specs.declared.words.Job.TheVariants.{Run as RunJob, Check as CheckJob, Statement as StatementJob, Replay, Serve as ServeJob}
 use Rattle.pay_words.specs.declared.words.WordsFault.{WordsFault}
 use Rattle.pay_words.specs.declared.words.WordsFault.TheVariants.{Help, Version, Usage, Memory}
-use Rattle.pay_words.specs.CommandLine.{GivesCheck, GivesReplay, GivesRun, GivesServe, GivesStatement, HasRun, HasServeTexts, HasStatementTexts, IsFaultOfKind, IsHelpOrMemory, IsVersionOrMemory, farebox_app, values_and_files, values_in}
+use Rattle.pay_words.specs.CommandLine.{GivesCheck, GivesReplay, GivesRun, GivesServe, GivesStatement, HasCheckTexts, HasRun, HasServeTexts, HasStatementTexts, IsFaultOfKind, IsHelpOrMemory, IsVersionOrMemory, farebox_app, values_and_files}
 use Rattle.pay_words.proofs.WordKinds.{Refuses, is_refusal}
 use Rattle.pay_words.proofs.WordsOfProgram.{Comes}
 use Rattle.pay_words.proofs.WordsAsked.{comes}
@@ -37,7 +38,7 @@ use Rattle.pay_words.proofs.JobWords.{AreWordsOf, asks_check, asks_replay, asks_
 -- the matches are those of the job that is asked for
 abbrev pub Gives : ArgMatches → Asked → Type 0
 Gives m (run r) = GivesRun m r
-Gives m (check fares) = GivesCheck m fares
+Gives m (check c) = GivesCheck m c
 Gives m (statement s) = GivesStatement m s
 Gives m (replay fares zone files) = GivesReplay m fares zone files
 Gives m (serve s) = GivesServe m s
@@ -49,7 +50,7 @@ matched ws m none has = go (words_ask ws) (comes ws)
   where
     go : (x : Asked) → Comes x (fault_of farebox_app ws) (subcommand_of farebox_app ws) → Gives m x
     go (run r) h = (h.1.0, (has refl).1 ∙ h.1.1, h.1.2)
-    go (check a) h = ap (option_map values_in) ((has refl).1 ∙ h.1)
+    go (check c) h = (h.1.0, h.1.1, (has refl).1 ∙ h.1.2, h.1.3, h.1.4, h.1.5)
     go (statement s) h = (h.1.0, h.1.1, (has refl).1 ∙ h.1.2, h.1.3, h.1.4, h.1.5)
     go (replay a b files) h = ap (option_map values_and_files) ((has refl).1 ∙ h.1)
     go (serve s) h = (h.1.0, h.1.1, (has refl).1 ∙ h.1.2, h.1.3, h.1.4, h.1.5)
@@ -137,18 +138,18 @@ run_values m f r same gives =
       first_value-rows f (codes "ledger") ∙ (ap (first_of (codes "ledger")) rows_are ∙ h.4),
     )
 
--- the matches of `check` have its value
-pub check_value : (m : ArgMatches) (f : Found) (fares : Text) → Some (rows_of f) ≡ option_map (λ p. p.1) (subcommand_rows_of m) → GivesCheck m fares
-    → first_value f (codes "FARES") ≡ Some fares
-check_value m f fares same gives = go (subcommand_rows_of m) same gives
-  where
-    go : (o : Option (Text × List Row)) → Some (rows_of f) ≡ option_map (λ p. p.1) o → option_map values_in o ≡ Some (codes "check", Some fares)
-        → first_value f (codes "FARES") ≡ Some fares
-    go None e h = cc
-    go (Some p) e h =
-        let rows_are : rows_of f ≡ p.1 = cc in
-        let all : values_in p ≡ (codes "check", Some fares) = cc in
-        first_value-rows f (codes "FARES") ∙ (ap (first_of (codes "FARES")) rows_are ∙ ap (λ (t : Text × Option Text). t.1) all)
+-- the matches of `check` have the words that it is given
+pub check_texts : (m : ArgMatches) (f : Found) (c : Check) → Some (rows_of f) ≡ option_map (λ p. p.1) (subcommand_rows_of m) → (gives : GivesCheck m c)
+    → HasCheckTexts f gives.0
+check_texts m f c same gives =
+    let some : Some (rows_of f) ≡ Some gives.1 = same ∙ ap (option_map (λ p. p.1)) gives.2 in
+    let rows_are : rows_of f ≡ gives.1 = cc in
+    let h = gives.3 in (
+      first_value-rows f (codes "FARES") ∙ (ap (first_of (codes "FARES")) rows_are ∙ h.0),
+      one_text-rows f (codes "lint") ∙ (ap (one_of (codes "lint")) rows_are ∙ h.1),
+      first_value-rows f (codes "against") ∙ (ap (first_of (codes "against")) rows_are ∙ h.2),
+      one_text-rows f (codes "after") ∙ (ap (one_of (codes "after")) rows_are ∙ h.3),
+    )
 
 -- the matches of `statement` have the words that it is given
 pub statement_texts : (m : ArgMatches) (f : Found) (s : Statement) → Some (rows_of f) ≡ option_map (λ p. p.1) (subcommand_rows_of m) → (gives : GivesStatement m s)
@@ -220,14 +221,14 @@ memory_answers x (Err fault) h = inl h
 -- a job is read where its words are asked for
 pub record ReadsJobs (m : ArgMatches) (r : Result Job WordsFault) : Type 0 where
   pub of_run : (x : Run) → GivesRun m x → IsAnswer (allowed (run x)) r
-  pub of_check : (fares : Text) → GivesCheck m fares → IsOkAnd r (λ job. job_asked job ≡ check fares)
+  pub of_check : (c : Check) → GivesCheck m c → IsAnswer (allowed (check c)) r
   pub of_statement : (s : Statement) → GivesStatement m s → IsOkAnd r (λ job. job_asked job ≡ statement s)
   pub of_replay : (fares zone : Text) (files : List Text) → GivesReplay m fares zone files → IsJobOrMemory (replay fares zone files) r
   pub of_serve : (s : Serve) → GivesServe m s → IsAnswer (allowed (serve s)) r
 
 pub job_read : (m : ArgMatches) (x : Asked) (r : Result Job WordsFault) → Gives m x → ReadsJobs m r → Answers (allowed x) r
 job_read m (run y) r h reads = answer_answers (allowed (run y)) r (reads.of_run y h)
-job_read m (check a) r h reads = job_answers (check a) r (reads.of_check a h)
+job_read m (check c) r h reads = answer_answers (allowed (check c)) r (reads.of_check c h)
 job_read m (statement s) r h reads = job_answers (statement s) r (reads.of_statement s h)
 job_read m (replay a b files) r h reads = memory_answers (replay a b files) r (reads.of_replay a b files h)
 job_read m (serve s) r h reads = answer_answers (allowed (serve s)) r (reads.of_serve s h)
@@ -238,7 +239,7 @@ job_read m usage r h reads = absurd h
 
 job_words_are : (ws : List Text) (job : Job) → asked ws ≡ job_asked job → AreJobWords job (without_dashes (drop 1 ws))
 job_words_are ws (RunJob w) e = subst (λ (x : Asked). AreWordsOf x (drop 1 ws)) e (in_order ws)
-job_words_are ws (Check fares) e = subst (λ (x : Asked). AreWordsOf x (drop 1 ws)) e (in_order ws)
+job_words_are ws (CheckJob w) e = subst (λ (x : Asked). AreWordsOf x (drop 1 ws)) e (in_order ws)
 job_words_are ws (StatementJob w) e = subst (λ (x : Asked). AreWordsOf x (drop 1 ws)) e (in_order ws)
 job_words_are ws (Replay w) e = (subst (λ (x : Asked). AreWordsOf x (drop 1 ws)) e (in_order ws)).0
 job_words_are ws (ServeJob w) e = subst (λ (x : Asked). AreWordsOf x (drop 1 ws)) e (in_order ws)
@@ -259,9 +260,10 @@ by_memory x y Usage e task (inl h) = absurd (subst IsTask (sym e ∙ h) task)
 by_memory x y Usage e task (inr h) = absurd (subst IsTask (sym e ∙ h) task)
 by_memory x y Memory e task h = refl
 
--- what is asked for has its journal, or its ports
+-- what is asked for has its journal, its other fare file, or its ports
 abbrev IsAllowed : Asked → Type 0
 IsAllowed (run r) = has_journal r ≡ true
+IsAllowed (check c) = has_against c ≡ true
 IsAllowed (serve s) = has_ports s ≡ true
 IsAllowed _ = ⊤
 
@@ -271,12 +273,16 @@ asked_is_allowed (run r) = go (has_journal r) refl
     go : (t : Bool) → has_journal r ≡ t → IsAllowed (allowed (run r))
     go true is = rw is is
     go false is = rw is tt
+asked_is_allowed (check c) = go (has_against c) refl
+  where
+    go : (t : Bool) → has_against c ≡ t → IsAllowed (allowed (check c))
+    go true is = rw is is
+    go false is = rw is tt
 asked_is_allowed (serve s) = go (has_ports s) refl
   where
     go : (t : Bool) → has_ports s ≡ t → IsAllowed (allowed (serve s))
     go true is = rw is is
     go false is = rw is tt
-asked_is_allowed (check a) = tt
 asked_is_allowed (statement s) = tt
 asked_is_allowed (replay a b files) = tt
 asked_is_allowed help_asked = tt
@@ -289,9 +295,22 @@ number_in_range least most word n fits is =
     let within = accepts-Accepts false (vp.Unsigned least most) word fits in
     (subst (λ (k : ℕ). least ≤ k) is within.2, subst (λ (k : ℕ). k ≤ most) is within.3)
 
+-- and where there may be none
+given_in_range : (least most : ℕ) (word : Option Text) (n : Option ℕ) → IfSome word (λ w. is_unsigned_in least most w ≡ true) → option_map number_of word ≡ n
+    → IfSome n (λ k. (least ≤ k) × (k ≤ most))
+given_in_range least most word None fits is = tt
+given_in_range least most None (Some n) fits is = cc
+given_in_range least most (Some w) (Some n) fits is =
+    let same : number_of w ≡ n = cc in
+    number_in_range least most w n fits same
+
 job_in_range : (ws : List Text) (job : Job) → asked ws ≡ job_asked job → IsJobInRange job
 job_in_range ws (RunJob w) e = subst IsAllowed e (asked_is_allowed (words_ask ws))
-job_in_range ws (Check fares) e = tt
+job_in_range ws (CheckJob w) e =
+    let made = job_words_are ws (CheckJob w) e in (
+      subst IsAllowed e (asked_is_allowed (words_ask ws)),
+      given_in_range 4 50_000 made.0.after w.after made.4 (ap (λ (c : Check). c.after) made.5),
+    )
 job_in_range ws (StatementJob w) e =
     let made = job_words_are ws (StatementJob w) e in
     let account = number_in_range 1 4_294_967_295 made.0.account w.account made.4.0 (ap (λ (s : Statement). s.account) made.5) in
@@ -336,8 +355,9 @@ module _ (r : Result Job WordsFault) (ws : List Text) (ok : IfOk r (λ job. aske
       → slice_index x.fares 0 ≢ 45 → slice_index x.zone 0 ≢ 45 → has_journal x ≡ true → IsJobOrMemory (run x) r
   result_run name x parts is are may f z journal = job_or_memory r ws (run x) ok err (asks_run ws name x parts is are may f z journal) tt
 
-  pub result_check : (name fares : Text) → ws ≡ name ∷ codes "check" ∷ fares ∷ [] → slice_index fares 0 ≢ 45 → IsJobOrMemory (check fares) r
-  result_check name fares is f = job_or_memory r ws (check fares) ok err (asks_check ws name fares is f) tt
+  pub result_check : (name : Text) (t : CheckTexts) (parts : List Part) → ws ≡ name ∷ codes "check" ∷ words_of_parts parts → AreCheckParts t parts → StandApart parts
+      → slice_index t.fares 0 ≢ 45 → HasAfterInRange t → has_against (check_of_texts t) ≡ true → IsJobOrMemory (check (check_of_texts t)) r
+  result_check name t parts is are may f fits against = job_or_memory r ws (check (check_of_texts t)) ok err (asks_check ws name t parts is are may f fits against) tt
 
   pub result_statement : (name : Text) (t : StatementTexts) (parts : List Part) → ws ≡ name ∷ codes "statement" ∷ words_of_parts parts → AreStatementParts t parts → StandApart parts
       → slice_index t.fares 0 ≢ 45 → slice_index t.zone 0 ≢ 45 → HasNumbersInRange t → IsJobOrMemory (statement (statement_of_texts t)) r

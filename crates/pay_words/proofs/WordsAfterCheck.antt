@@ -1,69 +1,108 @@
 -- What `clap` makes of the words after `check`.
-use Rattle.std.proofs.Common.{◌≡◌, codes, true, false, refl, sym, subst, List, [], ◌∷◌, None}
-use Rattle.clap.specs.Walk.{Rule, Text, Walk, walked}
+use Rattle.std.proofs.Common.{◌≡◌, ◌∙◌, ◌+◌, codes, true, false, refl, sym, ap, subst, List, [], ◌∷◌, ◌++◌, Some, None}
+use Rattle.std.specs.Prelude.{IfSome, fold, min, option_map}
+use Rattle.clap.specs.Lexer.{usize_max}
+use Rattle.clap.specs.Walk.{Row, Rule, Text, arg_by_index, idle, with_default}
 use Rattle.clap.specs.Simple.{Shape}
-use Rattle.clap.specs.Faults.{defaults_fault, turn_fault, walk_fault}
-use Rattle.clap.specs.declared.error.kind.ErrorKind.TheVariants.{UnknownArgument}
-use Rattle.pay_words.specs.Asked.{Asked, Word, all_given, any_text, check_readers, check_asked, given, given_by, with_value, word_kind}
-use Rattle.pay_words.specs.Asked as words
-use Rattle.pay_words.proofs.WordKinds.{LongOptions, Reads, Refuses, ShortOptions, help_filled, reads}
-use Rattle.pay_words.proofs.WordLevels.{level_refuses, turn_value}
-use Rattle.pay_words.proofs.WordsOfProgram as program
-use Rattle.pay_words.proofs.WordsOfProgram.{after_fares, after_none, fares_pending, place_rule, program_shape}
+use Rattle.clap.specs.Kinds.{Kinds}
+use Rattle.clap.specs.Faults.{check_fault}
+use Rattle.pay_words.specs.Asked.{check_asked, check_of}
+use Rattle.pay_words.specs.Check.{check_grammar}
+use Rattle.pay_words.specs.OneWord.{is_day}
+use Rattle.pay_words.specs.Options.{Place, Said, all_of, all_said, help_wanted, not_taken, place_after, plain_words, values_of}
+use Rattle.pay_words.specs.Options.{fares_place, lint_option, against_option, after_option}
+use Rattle.pay_words.specs.Run.{first_given, is_given}
+use Rattle.pay_words.proofs.OptionEnds.{IsFinal, flag_final, row_first, row_one, under_first, under_one}
+use Rattle.pay_words.proofs.OptionRows.{no_default_faults, no_defaults}
+use Rattle.pay_words.proofs.OptionRules.{IsBuilt, position_of, rule_at, rule_by_long, rules_for, setting_rule}
+use Rattle.pay_words.proofs.WordLevels.{Level, rows_from}
+use Rattle.pay_words.proofs.WordSteps.{stand}
+use Rattle.pay_words.proofs.WordsAfterOptions as options
+use Rattle.pay_words.proofs.WordsAfterOptions.{AreApart, Places, Under, ends}
+use Rattle.pay_words.proofs.WordsOfProgram.{Comes, program_shape}
 
 abbrev pub check_rules : List Rule
-check_rules = place_rule (codes "FARES") 1 ∷ help_filled ∷ []
+check_rules = rule_at fares_place ∷ rules_for (lint_option ∷ against_option ∷ after_option ∷ [])
 
 abbrev pub check_shape : Shape
 check_shape = program_shape (codes "check") check_rules
 
-pub check_long : LongOptions check_rules false
-check_long name = refl
+pub check_apart : AreApart check_grammar.places
+check_apart = (tt, tt)
 
-pub check_short : ShortOptions check_rules false
-check_short x = refl
+check_index : (vs : List Text) → arg_by_index check_rules (position_of vs) ≡ option_map rule_at (place_after check_grammar.places vs)
+check_index [] = refl
+check_index (a ∷ []) = refl
+check_index (a ∷ b ∷ []) = refl
+check_index (a ∷ b ∷ c ∷ []) = refl
+check_index (a ∷ b ∷ c ∷ d ∷ more) = refl
 
-abbrev EndsFrom : Asked → Walk → List Text → Type 0
-EndsFrom = program.EndsFrom (codes "check") check_rules check_long check_short
+check_next : (vs : List Text) (p : Place) (word : Text) → place_after check_grammar.places vs ≡ Some p → min (position_of vs + 1) usize_max ≡ position_of (vs ++ word ∷ [])
+check_next [] p word is = refl
+check_next (a ∷ more) p word is = cc
 
--- after `--`
-trailing_one : (a : Text) (rest : List Text) → EndsFrom (check_asked (with_value a (all_given [] rest))) (after_fares a true) rest
-unfolding walked walk_fault defaults_fault
-trailing_one a [] = (refl, refl)
-trailing_one a (x ∷ rest) = refl
+pub check_built : IsBuilt check_grammar check_rules
+check_built = record {
+  by_long = λ name. rule_by_long check_grammar.options name;
+  by_short = λ x. refl;
+  by_name = (refl, (refl, (refl, tt)));
+  by_place = (refl, tt);
+  by_index = check_index;
+  next = check_next;
+  defaults = λ rows. no_default_faults check_rules rows (refl, (refl, (refl, (refl, (refl, tt)))));
+}
 
-trailing_none : (rest : List Text) → EndsFrom (check_asked (all_given (any_text ∷ []) rest)) (after_none true) rest
-unfolding walked walk_fault defaults_fault
-trailing_none [] = refl
-trailing_none (a ∷ rest) = trailing_one a rest
+-- ---- the end of the words
 
--- the words from a place on, by the kind of the first
-second : (a word : Text) (rest : List Text) (k : Word) → Reads check_rules false check_long check_short [] [] (fares_pending a) k word
-    → EndsFrom (check_asked (with_value a (given_by k [] word rest (λ others. given others rest)))) (after_fares a false) (word ∷ rest)
-second a word rest words.value r =
-    let stray : turn_fault check_shape [] (after_fares a false) word ≡ UnknownArgument ∷ [] =
-    turn_value check_rules false check_long check_short [] check_shape [] [] (fares_pending a) 2 word refl r in
-    level_refuses check_shape [] (after_fares a false) word rest false [] (subst Refuses (sym stray) refl)
-second a word rest words.dashes r = program.after_dashes (codes "check") check_rules check_long check_short [] (fares_pending a) 2 word rest _ r (trailing_one a rest)
-second a word rest words.call_for_help r = program.helps (codes "check") check_rules check_long check_short [] (fares_pending a) 2 word rest r
-second a word rest words.option r = program.declines (codes "check") check_rules check_long check_short [] (fares_pending a) 2 word rest r
-second a word rest words.call_for_version r = program.declines (codes "check") check_rules check_long check_short [] (fares_pending a) 2 word rest r
+-- a day that was given passed its reader
+pub under_day : (rows : List Row) (vs : List Text) → Under rows after_option vs → IfSome (first_given vs) (λ word. is_day word ≡ true)
+under_day rows [] h = tt
+under_day rows (v ∷ []) h = h.1
+under_day rows (v ∷ w ∷ more) h = absurd h
 
-one_given : (a : Text) (rest : List Text) → EndsFrom (check_asked (with_value a (given [] rest))) (after_fares a false) rest
-unfolding defaults_fault walk_fault
-one_given a [] = (refl, refl)
-one_given a (word ∷ rest) = second a word rest (word_kind word) (reads check_rules false check_long check_short [] [] (fares_pending a) refl word)
+check_ended : (rows : List Row) → fold with_default rows check_rules ≡ with_default rows (setting_rule lint_option)
+check_ended rows =
+    ap (λ (r : List Row). fold with_default r (rules_for (lint_option ∷ against_option ∷ after_option ∷ []))) (no_defaults (rule_at fares_place ∷ []) rows (refl, tt))
+    ∙ no_defaults (rules_for (against_option ∷ after_option ∷ [])) (with_default rows (setting_rule lint_option)) (refl, (refl, (refl, tt)))
 
-first : (word : Text) (rest : List Text) (k : Word) → Reads check_rules false check_long check_short [] [] None k word
-    → EndsFrom (check_asked (given_by k (any_text ∷ []) word rest (λ others. given others rest))) (after_none false) (word ∷ rest)
-first word rest words.value r = program.after_value (codes "check") check_rules check_long check_short [] None 1 word rest _ (after_fares word false) r refl refl (one_given word rest)
-first word rest words.dashes r = program.after_dashes (codes "check") check_rules check_long check_short [] None 1 word rest _ r (trailing_none rest)
-first word rest words.call_for_help r = program.helps (codes "check") check_rules check_long check_short [] None 1 word rest r
-first word rest words.option r = program.declines (codes "check") check_rules check_long check_short [] None 1 word rest r
-first word rest words.call_for_version r = program.declines (codes "check") check_rules check_long check_short [] None 1 word rest r
+-- what is asked for by all that was given, and what `clap` says of it
+finish : (vs ls gs ds : List Text) (had rows : List Row) → Places check_grammar.places vs had → Under had against_option gs → Under had after_option ds
+    → IsFinal lint_option had ls rows → Comes (check_of vs ls gs ds) (check_fault check_shape rows false) (Some (codes "check", rows))
+finish [] ls gs ds had rows h g d f =
+    let fares = f.0 (codes "FARES") refl ∙ h.0 in rw fares refl
+finish (a ∷ b ∷ more) ls gs ds had rows h g d f = absurd h.2
+finish (a ∷ []) ls gs ds had rows h g d f =
+    let fares = f.0 (codes "FARES") refl ∙ h.0 in (
+      rw fares refl,
+      (
+        record { fares = a; lints = is_given ls; against = first_given gs; after = first_given ds },
+        rows,
+        refl,
+        (
+          rw fares refl,
+          f.1,
+          ap row_first (f.0 (codes "against") refl) ∙ under_first had against_option gs g,
+          ap row_one (f.0 (codes "after") refl) ∙ under_one had after_option ds d,
+        ),
+        under_day had ds d,
+        refl,
+      ),
+    )
+
+final : (had : List Row) (ls : List Text) → Under had lint_option ls → IsFinal lint_option had ls (fold with_default had check_rules)
+final had ls h = subst (IsFinal lint_option had ls) (sym (check_ended had)) (flag_final lint_option refl had ls h)
 
 -- what the words of `check` come to
-pub check_ends : (rest : List Text) → EndsFrom (check_asked (given check_readers rest)) (after_none false) rest
-unfolding defaults_fault walk_fault
-check_ends [] = refl
-check_ends (word ∷ rest) = first word rest (word_kind word) (reads check_rules false check_long check_short [] [] None refl word)
+pub check_ends : (rest : List Text) → Comes (check_asked (all_said check_grammar rest)) (Level check_shape [] (stand [] None idle 1 false) rest false [])
+    (Some (codes "check", rows_from check_shape [] (stand [] None idle 1 false) rest))
+check_ends rest = go (all_said check_grammar rest) (Level check_shape [] (stand [] None idle 1 false) rest false []) (rows_from check_shape [] (stand [] None idle 1 false) rest)
+    (ends check_grammar (codes "check") check_rules check_built check_apart rest)
+  where
+    go : (x : Said) (ks : Kinds) (rows : List Row) → options.Comes check_grammar (codes "check") check_rules check_built check_apart x ks rows → Comes (check_asked x) ks (Some (codes "check", rows))
+    go (all_of parts) ks rows h =
+        subst (λ (k : Kinds). Comes (check_asked (all_of parts)) k (Some (codes "check", rows))) (sym h.2)
+        (subst (λ (r : List Row). Comes (check_asked (all_of parts)) (check_fault check_shape (fold with_default h.0 check_rules) false) (Some (codes "check", r))) (sym h.3)
+        (finish (plain_words parts) (values_of lint_option parts) (values_of against_option parts) (values_of after_option parts) h.0 (fold with_default h.0 check_rules)
+        h.1.1 (h.1.2 against_option) (h.1.2 after_option) (final h.0 (values_of lint_option parts) (h.1.2 lint_option))))
+    go help_wanted ks rows h = h
+    go not_taken ks rows h = h

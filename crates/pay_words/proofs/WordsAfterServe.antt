@@ -11,13 +11,13 @@ use Rattle.pay_words.specs.Options.{Place, Said, all_of, all_said, help_wanted, 
 use Rattle.pay_words.specs.Options.{fares_place, zone_place, port_option, lanes_option, shards_option, sessions_option, close_option, journal_option, ledger_option}
 use Rattle.pay_words.specs.Run.{first_given}
 use Rattle.pay_words.specs.Serve.{serve_grammar}
+use Rattle.pay_words.proofs.OptionEnds.{under_first}
 use Rattle.pay_words.proofs.OptionRows.{no_default_faults, no_defaults}
 use Rattle.pay_words.proofs.OptionRules.{IsBuilt, position_of, rule_at, rule_by_long, rules_for}
 use Rattle.pay_words.proofs.WordLevels.{Level, rows_from}
 use Rattle.pay_words.proofs.WordSteps.{stand}
 use Rattle.pay_words.proofs.WordsAfterOptions as options
 use Rattle.pay_words.proofs.WordsAfterOptions.{AreApart, Places, Under, ends}
-use Rattle.pay_words.proofs.WordsAfterRun.{under_first}
 use Rattle.pay_words.proofs.WordsOfProgram.{Comes, program_shape}
 
 abbrev pub serve_rules : List Rule

@@ -6,9 +6,10 @@ use Rattle.clap.specs.Simple.{App, Shape, built, built_leaf, entered, help_shape
 use Rattle.clap.specs.Kinds.{Kinds, or_else}
 use Rattle.clap.specs.Faults.{check_fault, defaults_fault, entered_fault, fault_of, flags_fault, settle_fault, turn_fault, walk_fault}
 use Rattle.clap.specs.declared.error.kind.ErrorKind.TheVariants.{DisplayHelp, DisplayVersion, InvalidSubcommand, UnknownArgument}
-use Rattle.pay_words.specs.Asked.{Asked, Word, words_ask, check_asked, check_readers, given, many_given, word_kind, option_asked, program_asked, replay_asked, run_asked, serve_asked, statement_asked}
+use Rattle.pay_words.specs.Asked.{Asked, Word, words_ask, check_asked, many_given, word_kind, option_asked, program_asked, replay_asked, run_asked, serve_asked, statement_asked}
 use Rattle.pay_words.specs.Asked as words
 use Rattle.pay_words.specs.Options.{all_said}
+use Rattle.pay_words.specs.Check.{check_grammar}
 use Rattle.pay_words.specs.Run.{run_grammar}
 use Rattle.pay_words.specs.Serve.{serve_grammar}
 use Rattle.pay_words.specs.Statement.{statement_grammar}
@@ -143,8 +144,8 @@ run_comes : (name : Text) (rest : List Text) → Comes (run_asked (all_said run_
 run_comes name rest = lifted (run_asked (all_said run_grammar rest)) (below run_shape rest) _ (Some (codes "run", rows_below run_shape rest)) _
     (fault_is name (codes "run" ∷ rest) ∙ met_run rest) (subcommand_is name (codes "run" ∷ rest) ∙ run_entered rest) (run_ends rest)
 
-check_comes : (name : Text) (rest : List Text) → Comes (check_asked (given check_readers rest)) (fault_of farebox_app (name ∷ codes "check" ∷ rest)) (subcommand_of farebox_app (name ∷ codes "check" ∷ rest))
-check_comes name rest = lifted (check_asked (given check_readers rest)) (below check_shape rest) _ (Some (codes "check", rows_below check_shape rest)) _
+check_comes : (name : Text) (rest : List Text) → Comes (check_asked (all_said check_grammar rest)) (fault_of farebox_app (name ∷ codes "check" ∷ rest)) (subcommand_of farebox_app (name ∷ codes "check" ∷ rest))
+check_comes name rest = lifted (check_asked (all_said check_grammar rest)) (below check_shape rest) _ (Some (codes "check", rows_below check_shape rest)) _
     (fault_is name (codes "check" ∷ rest) ∙ met_check rest) (subcommand_is name (codes "check" ∷ rest) ∙ check_entered rest) (check_ends rest)
 
 statement_comes : (name : Text) (rest : List Text)

@@ -11,10 +11,11 @@ use Rattle.clap.specs.declared.error.kind.ErrorKind.TheVariants.{DisplayHelp, Di
 use Rattle.clap.specs.declared.parser.matches.ValueSource.TheVariants.{CommandLine}
 use Rattle.pay_words.specs.Asked.{Asked, Word, run, check, statement, replay, serve, help_asked, help_named, version_asked, usage}
 use Rattle.pay_words.specs.Asked as words
+use Rattle.pay_words.specs.Check.{Check, CheckTexts, HasAfterInRange, check_of_texts}
 use Rattle.pay_words.specs.Run.{Run}
 use Rattle.pay_words.specs.Serve.{AreInRange, Serve, ServeTexts, numbers_of}
 use Rattle.pay_words.specs.Statement.{HasNumbersInRange, Statement, StatementTexts, statement_of_texts}
-use Rattle.pay_words.specs.CommandLine.{HaveRun, HaveServeTexts, HaveStatementTexts, required_word}
+use Rattle.pay_words.specs.CommandLine.{HaveCheckTexts, HaveRun, HaveServeTexts, HaveStatementTexts, required_word}
 use Rattle.pay_words.proofs.WordKinds.{LongOptions, Reads, Refuses, ShortOptions}
 use Rattle.pay_words.proofs.WordLevels.{Level, level_next, level_refuses, level_shows, place, rows_from, rows_next, turn_dashes, turn_refuses, turn_shows, turn_value, walked_dashes, walked_value}
 
@@ -59,6 +60,10 @@ replay_rows a b files = run_rows a b ++ files_row files ∷ []
 abbrev pub ComesWithRun : Run → Option (Text × List Row) → Type 0
 ComesWithRun r sub = (rows : List Row) × (sub ≡ Some (codes "run", rows)) × HaveRun rows r
 
+-- the matches are of words that `check` is given, of these values
+abbrev pub ComesWithCheck : Check → Option (Text × List Row) → Type 0
+ComesWithCheck c sub = (t : CheckTexts) × (rows : List Row) × (sub ≡ Some (codes "check", rows)) × HaveCheckTexts rows t × HasAfterInRange t × (check_of_texts t ≡ c)
+
 -- the matches are of words that `statement` is given, of these numbers
 abbrev pub ComesWithNumbers : Statement → Option (Text × List Row) → Type 0
 ComesWithNumbers s sub = (t : StatementTexts) × (rows : List Row) × (sub ≡ Some (codes "statement", rows)) × HaveStatementTexts rows t × HasNumbersInRange t × (statement_of_texts t ≡ s)
@@ -70,7 +75,7 @@ ComesWithOptions s sub = (t : ServeTexts) × (rows : List Row) × (sub ≡ Some 
 -- what a parse comes to, by what the words ask for
 abbrev pub Comes : Asked → Kinds → Option (Text × List Row) → Type 0
 Comes (run r) ks sub = (ks ≡ []) × ComesWithRun r sub
-Comes (check a) ks sub = (ks ≡ []) × (sub ≡ Some (codes "check", fares_row a))
+Comes (check c) ks sub = (ks ≡ []) × ComesWithCheck c sub
 Comes (statement s) ks sub = (ks ≡ []) × ComesWithNumbers s sub
 Comes (replay a b files) ks sub = (ks ≡ []) × (sub ≡ Some (codes "replay", replay_rows a b files))
 Comes (serve s) ks sub = (ks ≡ []) × ComesWithOptions s sub

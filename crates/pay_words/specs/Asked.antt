@@ -1,12 +1,13 @@
 -- What the words of the process ask for.
 use Rattle.std.specs.Prelude.{◌≡◌, ◌≢◌, ◌≤◌, ℕ, List, [], ◌∷◌, ◌++◌, codes, option_map, refl, Result, MatchResult, IsOkAnd}
-use Rattle.std.specs.Prelude.{◌⊎◌, ⊤, true, false, Some, None, if◌then◌else◌}
+use Rattle.std.specs.Prelude.{◌⊎◌, ⊤, true, false, Some, None, IfSome, if◌then◌else◌}
 use Rattle.std.specs.Str.{bytes_eq, chars}
 use Rattle.std.specs.String.{string_bytes}
 use Rattle.clap.specs.Walk.{texts}
 use Rattle.pay_words.specs.declared.words.Job.{Job}
-use Rattle.pay_words.specs.declared.words.Job.TheVariants.{Run as RunJob, Check, Statement as StatementJob, Replay, Serve as ServeJob}
+use Rattle.pay_words.specs.declared.words.Job.TheVariants.{Run as RunJob, Check as CheckJob, Statement as StatementJob, Replay, Serve as ServeJob}
 use Rattle.pay_words.specs.declared.words.RunWords.{RunWords}
+use Rattle.pay_words.specs.declared.words.CheckWords.{CheckWords}
 use Rattle.pay_words.specs.declared.words.StatementWords.{StatementWords}
 use Rattle.pay_words.specs.declared.words.ServeWords.{ServeWords}
 use Rattle.pay_words.specs.declared.words.WordsFault.{WordsFault}
@@ -17,6 +18,8 @@ pub use Rattle.pay_words.specs.OneWord.{Reader, any_text, is_account, is_day, nu
 pub use Rattle.pay_words.specs.Options.{HasNoHyphen}
 use Rattle.pay_words.specs.Options.{Part, Said, StandApart, all_of, all_said, help_wanted, not_taken, plain, apart, joined, plain_words, values_of, words_of_parts}
 use Rattle.pay_words.specs.Options.{port_option, lanes_option, shards_option, sessions_option, close_option, journal_option, sync_option, ledger_option}
+use Rattle.pay_words.specs.Options.{lint_option, against_option, after_option}
+use Rattle.pay_words.specs.Check.{AreCheckParts, Check, CheckTexts, HasAfterInRange, check_grammar, check_of_texts, has_against}
 use Rattle.pay_words.specs.Run.{AreRunParts, Run, first_given, has_journal, is_given, run_grammar}
 use Rattle.pay_words.specs.Serve.{AreInRange, ArePartsOf, Serve, ServeTexts, has_ports, last_port, numbers_of, serve_grammar}
 use Rattle.pay_words.specs.Statement.{AreStatementParts, HasNumbersInRange, Statement, StatementTexts, statement_grammar, statement_of_texts}
@@ -33,30 +36,6 @@ abbrev pub with_value : Text → Given → Given
 with_value word (values rest) = values (word ∷ rest)
 with_value word help = help
 with_value word refused = refused
-
--- a value that has to pass its reader, and what the words after it give
-abbrev pub taken : Reader → Text → Given → Given
-taken reads word after = if reads word then with_value word after else refused
-
--- words that are all values, each for the next of these readers
-abbrev pub all_given : List Reader → List Text → Given
-all_given readers [] = values []
-all_given [] (word ∷ rest) = refused
-all_given (reads ∷ readers) (word ∷ rest) = taken reads word (all_given readers rest)
-
--- a word by its kind, where values for these readers may still come, and what the words after it give
-abbrev pub given_by : Word → List Reader → Text → List Text → (List Reader → Given) → Given
-given_by value [] word rest next = refused
-given_by value (reads ∷ readers) word rest next = taken reads word (next readers)
-given_by dashes readers word rest next = all_given readers rest
-given_by call_for_help readers word rest next = help
-given_by call_for_version readers word rest next = refused
-given_by option readers word rest next = refused
-
--- the words, of which each that is a value is for the next of these readers
-abbrev pub given : List Reader → List Text → Given
-given readers [] = values []
-given readers (word ∷ rest) = given_by (word_kind word) readers word rest (λ others. given others rest)
 
 -- a word by its kind, where any number of values may come, and what the words after it give
 abbrev pub many_by : Word → Text → List Text → Given → Given
@@ -77,8 +56,8 @@ many_given (word ∷ rest) = many_by (word_kind word) word rest (many_given rest
 pub data Asked : Type 0 where
   -- `run` with its fare file and zone, and the values of its options
   run : Run → Asked
-  -- `check` with its fare file
-  check : Text → Asked
+  -- `check` with its fare file, and the values of its options
+  check : Check → Asked
   -- `statement` with its fare file, zone, account and day, and the value of its option
   statement : Statement → Asked
   -- `replay` with its fare file, zone and journals
@@ -111,11 +90,21 @@ run_asked (all_of parts) = run_of (plain_words parts) (values_of journal_option 
 run_asked help_wanted = help_asked
 run_asked not_taken = usage
 
--- `check FARES`
-abbrev pub check_asked : Given → Asked
-check_asked (values (fares ∷ [])) = check fares
-check_asked help = help_asked
-check_asked _ = usage
+-- a value, and what each option was given
+abbrev pub check_of : List Text → List Text → List Text → List Text → Asked
+check_of (fares ∷ []) l g a = check (check_of_texts (record {
+  fares = fares;
+  lints = is_given l;
+  against = first_given g;
+  after = first_given a;
+}))
+check_of _ _ _ _ = usage
+
+-- `check FARES` and its options
+abbrev pub check_asked : Said → Asked
+check_asked (all_of parts) = check_of (plain_words parts) (values_of lint_option parts) (values_of against_option parts) (values_of after_option parts)
+check_asked help_wanted = help_asked
+check_asked not_taken = usage
 
 -- four values, and what the option was given
 abbrev pub statement_of : List Text → List Text → Asked
@@ -163,10 +152,6 @@ serve_asked (all_of parts) = serve_of (plain_words parts) (values_of port_option
 serve_asked help_wanted = help_asked
 serve_asked not_taken = usage
 
--- what the value of `check` has to be
-abbrev pub check_readers : List Reader
-check_readers = any_text ∷ []
-
 abbrev pub option_asked : Word → Asked
 option_asked call_for_help = help_asked
 option_asked call_for_version = version_asked
@@ -174,7 +159,7 @@ option_asked _ = usage
 
 abbrev pub program_asked : Text → List Text → Asked
 program_asked program rest = if bytes_eq (codes "run") program then run_asked (all_said run_grammar rest)
-    else (if bytes_eq (codes "check") program then check_asked (given check_readers rest)
+    else (if bytes_eq (codes "check") program then check_asked (all_said check_grammar rest)
     else (if bytes_eq (codes "statement") program then statement_asked (all_said statement_grammar rest)
     else (if bytes_eq (codes "replay") program then replay_asked (many_given rest)
     else (if bytes_eq (codes "serve") program then serve_asked (all_said serve_grammar rest)
@@ -186,9 +171,11 @@ abbrev pub words_ask : List Text → Asked
 words_ask (name ∷ program ∷ rest) = program_asked program rest
 words_ask _ = usage
 
--- lanes that have no port are not served, and a run without a journal brings no lines to the disk
+-- lanes that have no port are not served, a run without a journal brings no lines to the disk, and days up to one
+-- are compared with another fare file alone
 abbrev pub allowed : Asked → Asked
 allowed (run r) = if has_journal r then run r else usage
+allowed (check c) = if has_against c then check c else usage
 allowed (serve s) = if has_ports s then serve s else usage
 allowed what = what
 
@@ -208,6 +195,14 @@ run_job w = record {
   journal = option_map (λ s. s.now) w.journal;
   syncs = w.syncs;
   ledger = option_map (λ s. s.now) w.ledger;
+}
+
+abbrev pub check_job : CheckWords → Check
+check_job w = record {
+  fares = w.fares.now;
+  lints = w.lints;
+  against = option_map (λ s. s.now) w.against;
+  after = w.after;
 }
 
 abbrev pub statement_job : StatementWords → Statement
@@ -234,7 +229,7 @@ served_job w = record {
 
 abbrev pub job_asked : Job → Asked
 job_asked (RunJob w) = run (run_job w)
-job_asked (Check fares) = check fares.now
+job_asked (CheckJob w) = check (check_job w)
 job_asked (StatementJob w) = statement (statement_job w)
 job_asked (Replay w) = replay w.fares.now w.zone.now (texts w.files.items)
 job_asked (ServeJob w) = serve (served_job w)
@@ -243,7 +238,12 @@ job_asked (ServeJob w) = serve (served_job w)
 abbrev pub AreRunWords : Run → List Text → Type 0
 AreRunWords r words = (parts : List Part) × (words ≡ codes "run" ∷ words_of_parts parts) × AreRunParts r parts
 
--- the words of `statement` do; a number may be spelled in several ways
+-- the words of `check` do; a number may be spelled in several ways
+abbrev pub AreCheckWords : Check → List Text → Type 0
+AreCheckWords c words = (t : CheckTexts) × (parts : List Part) × (words ≡ codes "check" ∷ words_of_parts parts)
+    × AreCheckParts t parts × HasAfterInRange t × (check_of_texts t ≡ c)
+
+-- the words of `statement` do
 abbrev pub AreStatementWords : Statement → List Text → Type 0
 AreStatementWords s words = (t : StatementTexts) × (parts : List Part) × (words ≡ codes "statement" ∷ words_of_parts parts)
     × AreStatementParts t parts × HasNumbersInRange t × (statement_of_texts t ≡ s)
@@ -256,15 +256,16 @@ AreServeWords s words = (t : ServeTexts) × (parts : List Part) × (words ≡ co
 -- the words that the job was made of
 abbrev pub AreJobWords : Job → List Text → Type 0
 AreJobWords (RunJob w) words = AreRunWords (run_job w) words
-AreJobWords (Check fares) words = words ≡ codes "check" ∷ fares.now ∷ []
+AreJobWords (CheckJob w) words = AreCheckWords (check_job w) words
 AreJobWords (StatementJob w) words = AreStatementWords (statement_job w) words
 AreJobWords (Replay w) words = words ≡ codes "replay" ∷ w.fares.now ∷ w.zone.now ∷ texts w.files.items
 AreJobWords (ServeJob w) words = AreServeWords (served_job w) words
 
--- the numbers of a job are in their ranges, what is synced is a journal, and there is one to be replayed
+-- the numbers of a job are in their ranges, what is synced is a journal, days up to one are compared with another
+-- fare file, and there is a journal to be replayed
 abbrev pub IsJobInRange : Job → Type 0
 IsJobInRange (RunJob w) = has_journal (run_job w) ≡ true
-IsJobInRange (Check fares) = ⊤
+IsJobInRange (CheckJob w) = (has_against (check_job w) ≡ true) × IfSome w.after (λ day. (FIRST_DAY ≤ day) × (day ≤ LAST_DAY))
 IsJobInRange (StatementJob w) = (1 ≤ w.account) × (w.account ≤ MOST_ACCOUNT) × (FIRST_DAY ≤ w.day) × (w.day ≤ LAST_DAY)
 IsJobInRange (Replay w) = texts w.files.items ≢ []
 IsJobInRange (ServeJob w) = (1 ≤ w.port) × (1 ≤ w.lanes) × (w.lanes ≤ MOST_SERVED_LANES) × (last_port w.port w.lanes ≤ MOST_PORT)
@@ -309,11 +310,12 @@ RunIsTaken words result = (name : Text) (r : Run) (parts : List Part) → words 
     → AreRunParts r parts → StandApart parts → HasNoHyphen r.fares → HasNoHyphen r.zone → has_journal r ≡ true
     → IsJobOrMemory (run r) result
 
--- one word with no hyphen before it is the value of `check`
+-- one word with no hyphen before it, and options at most once each, in whatever order, are those of `check`, where
+-- the day is in its range, and comes with another fare file
 abbrev pub CheckIsTaken : List Text → Result Job WordsFault → Type 0
-CheckIsTaken words result = (name fares : Text) → words ≡ name ∷ codes "check" ∷ fares ∷ []
-    → HasNoHyphen fares
-    → IsJobOrMemory (check fares) result
+CheckIsTaken words result = (name : Text) (t : CheckTexts) (parts : List Part) → words ≡ name ∷ codes "check" ∷ words_of_parts parts
+    → AreCheckParts t parts → StandApart parts → HasNoHyphen t.fares → HasAfterInRange t → has_against (check_of_texts t) ≡ true
+    → IsJobOrMemory (check (check_of_texts t)) result
 
 -- two words with no hyphen before them, two numbers in their ranges and perhaps the option, anywhere, are
 -- those of `statement`
@@ -417,16 +419,67 @@ option_row : row (codes "run" ∷ codes "a" ∷ codes "b" ∷ codes "--x" ∷ []
 unfolding chars
 option_row = refl
 
-check_row : row (codes "check" ∷ codes "a" ∷ []) ≡ check (codes "a")
+abbrev plain_check : Check
+plain_check = record { fares = codes "a"; lints = false; against = None; after = None }
+
+abbrev check_words : List Text → List Text
+check_words rest = codes "check" ∷ codes "a" ∷ rest
+
+check_row : row (check_words []) ≡ check plain_check
 unfolding chars
 check_row = refl
 
-check_dashes_row : row (codes "check" ∷ codes "--" ∷ codes "-a" ∷ []) ≡ check (codes "-a")
+check_dashes_row : row (codes "check" ∷ codes "--" ∷ codes "-a" ∷ []) ≡ check (record plain_check { fares = codes "-a" })
 unfolding chars
 check_dashes_row = refl
 
+lint_row : row (check_words (codes "--lint" ∷ [])) ≡ check (record plain_check { lints = true })
+unfolding chars
+lint_row = refl
+
+against_row : row (codes "check" ∷ codes "--against" ∷ codes "b" ∷ codes "a" ∷ []) ≡ check (record plain_check { against = Some (codes "b") })
+unfolding chars
+against_row = refl
+
+-- options before and after the value
+all_check_row : row (codes "check" ∷ codes "--after=019731" ∷ codes "a" ∷ codes "--lint" ∷ codes "--against=-b" ∷ [])
+    ≡ check (record { fares = codes "a"; lints = true; against = Some (codes "-b"); after = Some 19_731 })
+unfolding chars
+all_check_row = refl
+
+-- a day comes with another fare file
+after_row : row (check_words (codes "--after" ∷ codes "19731" ∷ [])) ≡ usage
+unfolding chars
+after_row = refl
+
+after_3_row : row (check_words (codes "--against" ∷ codes "b" ∷ codes "--after" ∷ codes "3" ∷ [])) ≡ usage
+unfolding chars
+after_3_row = refl
+
+after_4_row : row (check_words (codes "--against" ∷ codes "b" ∷ codes "--after" ∷ codes "4" ∷ []))
+    ≡ check (record plain_check { against = Some (codes "b"); after = Some 4 })
+unfolding chars
+after_4_row = refl
+
+after_beyond_row : row (check_words (codes "--against" ∷ codes "b" ∷ codes "--after" ∷ codes "50001" ∷ [])) ≡ usage
+unfolding chars
+after_beyond_row = refl
+
+-- each is given once, and the flag has no value
+lint_twice_row : row (check_words (codes "--lint" ∷ codes "--lint" ∷ [])) ≡ usage
+unfolding chars
+lint_twice_row = refl
+
+lint_value_row : row (check_words (codes "--lint=true" ∷ [])) ≡ usage
+unfolding chars
+lint_value_row = refl
+
+against_twice_row : row (check_words (codes "--against=b" ∷ codes "--against=b" ∷ [])) ≡ usage
+unfolding chars
+against_twice_row = refl
+
 -- a fare file is all that is checked
-check_zone_row : row (codes "check" ∷ codes "a" ∷ codes "b" ∷ []) ≡ usage
+check_zone_row : row (check_words (codes "b" ∷ [])) ≡ usage
 unfolding chars
 check_zone_row = refl
 

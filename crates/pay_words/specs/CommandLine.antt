@@ -16,6 +16,7 @@ use Rattle.pay_words.specs.declared.words.WordsFault.{WordsFault}
 use Rattle.pay_words.specs.declared.words.WordsFault.TheVariants.{Help, Version, Usage, Memory}
 use Rattle.pay_words.specs.declared.limits.TheConstants.{MOST_ACCOUNT, FIRST_DAY, LAST_DAY, MOST_PORT, MOST_SERVED_LANES, MOST_SHARDS, MOST_SESSIONS}
 use Rattle.pay_words.specs.Asked.{version_line}
+use Rattle.pay_words.specs.Check.{Check, CheckTexts, HasAfterInRange, check_of_texts}
 use Rattle.pay_words.specs.Run.{Run}
 use Rattle.pay_words.specs.Serve.{AreInRange, Serve, ServeTexts, numbers_of}
 use Rattle.pay_words.specs.Statement.{HasNumbersInRange, Statement, StatementTexts, statement_of_texts}
@@ -40,6 +41,10 @@ required_option name least most = record (required_number name least most) { lon
 abbrev pub text_option : Text → Rule
 text_option name = record (new_rule name) { long = Some name; value_names = 1 }
 
+-- an option with a number in its range, which may be there
+abbrev pub optional_number : Text → ℕ → ℕ → Rule
+optional_number name least most = record (text_option name) { parser = Some (vp.Unsigned least most) }
+
 -- an option without a value, which may be there
 abbrev pub flag_option : Text → Rule
 flag_option name = record (new_rule name) { long = Some name; action = Some SetTrue }
@@ -52,9 +57,13 @@ abbrev pub run_app : App
 run_app = with_rule (with_rule (with_rule (with_fares_and_zone (new_app (codes "run")))
     (text_option (codes "journal"))) (flag_option (codes "sync"))) (text_option (codes "ledger"))
 
--- `check FARES`
+-- the options of `check` that compare two fare files
+abbrev pub with_against : App → App
+with_against app = with_rule (with_rule app (text_option (codes "against"))) (optional_number (codes "after") FIRST_DAY LAST_DAY)
+
+-- `check FARES [--lint] [--against OLD [--after DAY]]`
 abbrev pub check_app : App
-check_app = with_rule (new_app (codes "check")) (required_word (codes "FARES"))
+check_app = with_against (with_rule (with_rule (new_app (codes "check")) (required_word (codes "FARES"))) (flag_option (codes "lint")))
 
 -- `statement FARES ZONE ACCOUNT DAY [--journal FILE]`
 abbrev pub statement_app : App
@@ -107,14 +116,20 @@ HasRun f r = (first_value f (codes "FARES") ≡ Some r.fares) × (first_value f 
     × (first_value f (codes "journal") ≡ r.journal) × (one_text f (codes "sync") ≡ Some (flag_text r.syncs))
     × (first_value f (codes "ledger") ≡ r.ledger)
 
--- the subcommand that the matches have, with its value
-abbrev pub values_in : Text × List Row → Text × Option Text
-values_in p = (p.0, first_of (codes "FARES") p.1)
+-- these rows have the words that `check` is given
+abbrev pub HaveCheckTexts : List Row → CheckTexts → Type 0
+HaveCheckTexts rows t = (first_of (codes "FARES") rows ≡ Some t.fares) × (one_of (codes "lint") rows ≡ Some (flag_text t.lints))
+    × (first_of (codes "against") rows ≡ t.against) × (one_of (codes "after") rows ≡ t.after)
 
--- the matches are those of `check` with this value
-abbrev pub GivesCheck : ArgMatches → Text → Type 0
-GivesCheck m fares =
-    option_map values_in (subcommand_rows_of m) ≡ Some (codes "check", Some fares)
+-- the matches are those of `check` with these values, and a word in its range for the day
+abbrev pub GivesCheck : ArgMatches → Check → Type 0
+GivesCheck m c = (t : CheckTexts) × (rows : List Row) × (subcommand_rows_of m ≡ Some (codes "check", rows))
+    × HaveCheckTexts rows t × HasAfterInRange t × (check_of_texts t ≡ c)
+
+-- the matches have the words that `check` is given
+abbrev pub HasCheckTexts : Found → CheckTexts → Type 0
+HasCheckTexts f t = (first_value f (codes "FARES") ≡ Some t.fares) × (one_text f (codes "lint") ≡ Some (flag_text t.lints))
+    × (first_value f (codes "against") ≡ t.against) × (one_text f (codes "after") ≡ t.after)
 
 -- these rows have the words that `statement` is given
 abbrev pub HaveStatementTexts : List Row → StatementTexts → Type 0

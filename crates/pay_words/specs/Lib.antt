@@ -1,5 +1,6 @@
 pub mod CommandLine
 pub mod Asked
+pub mod Check
 pub mod OneWord
 pub mod Options
 pub mod Run

@@ -31,6 +31,9 @@ pub data Setting : Type 0 where
   journal_option : Setting
   sync_option : Setting
   ledger_option : Setting
+  lint_option : Setting
+  against_option : Setting
+  after_option : Setting
 
 abbrev pub name_of : Setting → Text
 name_of port_option = codes "port"
@@ -41,6 +44,9 @@ name_of close_option = codes "close"
 name_of journal_option = codes "journal"
 name_of sync_option = codes "sync"
 name_of ledger_option = codes "ledger"
+name_of lint_option = codes "lint"
+name_of against_option = codes "against"
+name_of after_option = codes "after"
 
 abbrev pub is_flag : Setting → Bool
 is_flag port_option = false
@@ -51,6 +57,9 @@ is_flag close_option = false
 is_flag journal_option = false
 is_flag sync_option = true
 is_flag ledger_option = false
+is_flag lint_option = true
+is_flag against_option = false
+is_flag after_option = false
 
 -- the value that a flag is given with
 abbrev pub flag_value : Text
@@ -69,6 +78,9 @@ reader_of close_option = is_day
 reader_of journal_option = any_text
 reader_of sync_option = is_flag_value
 reader_of ledger_option = any_text
+reader_of lint_option = is_flag_value
+reader_of against_option = any_text
+reader_of after_option = is_day
 
 -- what a program takes: values in these places, in order, and these options, in any
 pub record Grammar : Type 0 where
@@ -244,6 +256,7 @@ HasNoHyphen word = slice_index word 0 ≢ 45
 abbrev pub MayStandApart : Setting → Text → Type 0
 MayStandApart journal_option word = HasNoHyphen word
 MayStandApart ledger_option word = HasNoHyphen word
+MayStandApart against_option word = HasNoHyphen word
 MayStandApart _ word = ⊤
 
 -- each value that is the next word after its option may be

@@ -8,8 +8,8 @@ pub const RUN: &str = "Read taps, corrections and closes from standard input, an
 
 /// What `check` does.
 pub const CHECK: &str = "\
-Read a fare file, and print how many places, bands, interchanges and holidays it has,
-or its first fault";
+Read a fare file, and print how many places, bands, interchanges, holidays and editions
+it has, or its first fault; or compare it with another";
 
 /// What `statement` does.
 pub const STATEMENT: &str = "\
@@ -66,6 +66,22 @@ posted, and at the end";
 pub const LEDGER: &str = "\
 The SQLite file that days are closed into. It is made if it is missing";
 
+/// What the option `--lint` is.
+pub const LINT: &str = "\
+Say where a fault lies, and warn of what may be a mistake: keys that nothing
+reads, a peak fare below its off-peak fare, fares of 0, no bands, no holiday
+after the last edition begins. A warning is status 1";
+
+/// What the option `--against` is.
+pub const AGAINST: &str = "\
+Compare with another fare file: OK if each day is priced as by it, else the
+first day and key that are not";
+
+/// What the option `--after` is.
+pub const AFTER: &str = "\
+With --against: OK if all days up to this one are priced alike. A number
+from 4 to 50000";
+
 /// What the option `--port` is.
 pub const PORT: &str = "\
 The port of the first lane, from 1 to 65535. Each further lane has the
@@ -90,7 +106,7 @@ pub const BELOW_PROGRAM: &str = "\
 Words of run (FARES ZONE), of check (FARES), of statement (FARES ZONE ACCOUNT DAY), of replay
 (FARES ZONE FILE..) and of serve (FARES ZONE --port P --lanes L --shards N --sessions K
 --close DAY), with options in any order:
-  FARES    the fare file, a TOML document
+  FARES    the fare file, a TOML document, which may hold editions, fares that hold from a day on
   ZONE     the time zone, a POSIX rule text (a name such as Europe/London is none)
   ACCOUNT  the account, a number from 1 to 4294967295
   DAY      a service day, counted from 1970-01-01: of the week, or the one that is closed
@@ -100,8 +116,9 @@ Words of run (FARES ZONE), of check (FARES), of statement (FARES ZONE ACCOUNT DA
   K        how many connections each lane serves, from 1 to 1000
   FILE     a journal, which run or serve wrote
 
-Further options: --journal FILE and --ledger FILE of run, and --sync with --journal; --journal FILE
-of statement, where it is only read; --journal FOLDER and --ledger FILE of serve.
+Further options: --journal FILE and --ledger FILE of run, and --sync with --journal; --lint and
+--against OLD of check, where OLD is another fare file, and --after DAY with --against; --journal
+FILE of statement, where it is only read; --journal FOLDER and --ledger FILE of serve.
 
 Example: account 7 boards a bus in London on Monday 8 January 2024 at 07:00. The reply names the
 day, counted from 1970-01-01, its price and that of its week, in pence.
@@ -137,9 +154,16 @@ The lines and replies, the fare file and the faults are described in docs/FORMAT
 
 /// What stands below the help of `check`.
 pub const BELOW_CHECK: &str = "\
+A fare file may hold editions, fares that hold from a day on. Where it has n of them the line ends
+with ` editions n`. --after is taken with --against alone.
+
 Example: a fare file of five stations and a bus route, with three bands that cap prices.
   $ farebox check examples/sample.toml
   OK places 6 bands 3 interchanges 1 holidays 1
+
+Example: the same, and an edition with new fares from Tuesday 9 January 2024 on.
+  $ farebox check examples/two.toml
+  OK places 6 bands 3 interchanges 1 holidays 1 editions 1
 
 Statuses:
   0  all right

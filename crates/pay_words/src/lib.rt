@@ -5,4 +5,6 @@ mod help;
 pub mod limits;
 mod words;
 
-pub use words::{Job, ReplayWords, RunWords, ServeWords, StatementWords, WordsFault, read_words};
+pub use words::{
+    CheckWords, Job, ReplayWords, RunWords, ServeWords, StatementWords, WordsFault, read_words,
+};

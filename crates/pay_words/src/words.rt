@@ -5,18 +5,19 @@ ghost use Rattle.clap.specs.Walk.{texts};
 ghost use Rattle.clap.specs.Words.{app_of, first_value, found_of, kind_of, one_text};
 ghost use Rattle.clap.specs.declared.builder.command.Command.TheViews.{out-Command as fields_of};
 ghost use Rattle.pay_words.specs.CommandLine.{GivesCheck, GivesReplay, GivesRun, GivesServe, GivesStatement};
-ghost use Rattle.pay_words.specs.CommandLine.{HasFaresAndZone, HasFiles, HasRun, HasServeTexts, HasStatementTexts};
+ghost use Rattle.pay_words.specs.CommandLine.{HasCheckTexts, HasFaresAndZone, HasFiles, HasRun, HasServeTexts, HasStatementTexts};
 ghost use Rattle.pay_words.specs.CommandLine.{IsFaultOfKind, IsHelpOrMemory, IsVersionOrMemory, flag_text};
 ghost use Rattle.pay_words.specs.CommandLine.{check_app, farebox_app, replay_app, run_app, serve_app, statement_app};
-ghost use Rattle.pay_words.specs.CommandLine.{flag_option, required_number, required_option, required_word};
-ghost use Rattle.pay_words.specs.CommandLine.{required_words, text_option, with_fares_and_zone, with_numbers};
+ghost use Rattle.pay_words.specs.CommandLine.{flag_option, optional_number, required_number, required_option, required_word};
+ghost use Rattle.pay_words.specs.CommandLine.{required_words, text_option, with_against, with_fares_and_zone, with_numbers};
 ghost use Rattle.clap.specs.Words.{shape_of, with_rule, with_subcommand};
 ghost use Rattle.clap.specs.ValueTests.{is_unsigned_in};
 ghost use Rattle.clap.specs.Walk.{rule_of};
 ghost use Rattle.pay_words.specs.Asked.{IsFaultOf, Text, asked, job_asked, AreJobWords, IsJob, IsJobInRange};
 ghost use Rattle.pay_words.specs.Asked.{RunIsTaken, CheckIsTaken, StatementIsTaken, ReplayIsTaken, ServeIsTaken};
-ghost use Rattle.pay_words.specs.Asked.{IsAnswer, IsJobOrMemory, allowed, run_job, served_job, statement_job};
+ghost use Rattle.pay_words.specs.Asked.{IsAnswer, IsJobOrMemory, allowed, check_job, run_job, served_job, statement_job};
 ghost use Rattle.pay_words.specs.OneWord.{is_port};
+ghost use Rattle.pay_words.specs.Check.{Check, CheckTexts, HasAfterInRange, check_of_texts, has_against};
 ghost use Rattle.pay_words.specs.Run.{Run, has_journal};
 ghost use Rattle.pay_words.specs.Serve.{AreInRange, Serve, ServeTexts, has_ports, numbers_of};
 ghost use Rattle.pay_words.specs.Statement.{HasNumbersInRange, Statement, StatementTexts, statement_of_texts};
@@ -42,8 +43,9 @@ const VERSION: &str = "0.1.0";
 pub enum Job<'a> {
     /// `run FARES ZONE` and its options: one session, from standard input to standard output.
     Run(RunWords<'a>),
-    /// `check FARES`: how many of each thing the fare file of this path has.
-    Check { fares: &'a str },
+    /// `check FARES` and its options: how many of each thing a fare file has, or whether it prices days as another
+    /// does.
+    Check(CheckWords<'a>),
     /// `statement FARES ZONE ACCOUNT DAY` and its option: the statement of an account's week, by the lines of
     /// a journal and of standard input.
     Statement(StatementWords<'a>),
@@ -68,6 +70,20 @@ pub struct RunWords<'a> {
     pub syncs: bool,
     /// The path of the SQLite file that days are closed into.
     pub ledger: Option<&'a str>,
+}
+
+/// The values of `check FARES [--lint] [--against OLD [--after DAY]]`.
+#[derive(Clone, Copy)]
+pub struct CheckWords<'a> {
+    /// The path of the fare file.
+    pub fares: &'a str,
+    /// Whether to say where a fault of the file lies, and to warn of what may be a mistake.
+    pub lints: bool,
+    /// The path of another fare file, by which days have to be priced alike.
+    pub against: Option<&'a str>,
+    /// The last service day that has to be priced alike, counted from 1970-01-01: 4 to 50,000. Only where there is
+    /// another fare file.
+    pub after: Option<u32>,
 }
 
 /// The values of `statement FARES ZONE ACCOUNT DAY [--journal FILE]`.
@@ -149,8 +165,8 @@ impl From<AllocError> for WordsFault {
 ///
 /// A word that begins with a hyphen and goes on is an option: help, in the place of a program the
 /// version, one of the options of its program, and no other. The value of an option is the next word, or
-/// stands after an equals sign in the same; `--sync` has none, and is taken with `--journal` alone. Each
-/// is given once, before, between or after the other values.
+/// stands after an equals sign in the same; `--sync` and `--lint` have none. `--sync` is taken with `--journal`
+/// alone, and `--after` with `--against`. Each is given once, before, between or after the other values.
 /// `--` says that each word after it is a value. Numbers are decimal digits, which may have a plus and zeros
 /// before them; one outside its range is refused as `Usage`, and so are lanes with a port above 65,535.
 pub fn read_words<'a>(alloc: Global, words: &'a [&'a str]) -> Result<Job<'a>, WordsFault>
@@ -168,7 +184,8 @@ pub fn read_words<'a>(alloc: Global, words: &'a [&'a str]) -> Result<Job<'a>, Wo
     // `run`, where what is synced is a journal.
     ensures run { RunIsTaken (texts words.entry.now) result }
 
-    // One word with no hyphen before it is the value of `check`.
+    // One word with no hyphen before it, and options at most once each, in any order, are the values of `check`, where
+    // a day comes with another fare file.
     ensures check { CheckIsTaken (texts words.entry.now) result }
 
     // Two words with no hyphen before them, two numbers in their ranges, and perhaps a journal, anywhere, are the
@@ -256,10 +273,23 @@ fn check_command<'a>(alloc: Global) -> Result<Command<'a>, AllocError>
     ensures app { IfOk result (λ command. app_of command ≡ check_app) }
     ensures local { IfOk result (λ command. (fields_of command).has_globals ≡ false) }
 {
-    Command::new(alloc, "check")
+    let command = Command::new(alloc, "check")
         .about(help::CHECK)
         .after_help(help::BELOW_CHECK)
-        .arg(text_word(alloc, "FARES", help::FARES))
+        .arg(text_word(alloc, "FARES", help::FARES))?
+        .arg(flag_option(alloc, "lint", help::LINT))?;
+    with_against(alloc, command)
+}
+
+/// A command with the options of `check` that compare two fare files, after the words that it has.
+fn with_against<'a>(alloc: Global, command: Command<'a>) -> Result<Command<'a>, AllocError>
+    requires { (fields_of command).has_globals ≡ false }
+    ensures app { IfOk result (λ r. app_of r ≡ with_against (app_of command.entry)) }
+    ensures local { IfOk result (λ r. (fields_of r).has_globals ≡ false) }
+{
+    command
+        .arg(text_option(alloc, "against", "OLD", help::AGAINST))?
+        .arg(optional_number(alloc, "after", "DAY", help::AFTER, FIRST_DAY, LAST_DAY))
 }
 
 fn statement_command<'a>(alloc: Global) -> Result<Command<'a>, AllocError>
@@ -338,6 +368,21 @@ fn text_option<'a>(alloc: Global, name: &'a str, value: &'a str, help: &'a str) 
         .help(help)
 }
 
+/// An option with a number in its range, which may be there; help calls the number `value`.
+fn optional_number<'a>(
+    alloc: Global,
+    name: &'a str,
+    value: &'a str,
+    help: &'a str,
+    least: u64,
+    most: u64,
+) -> Arg<'a>
+    ensures rule { rule_of result ≡ optional_number name.entry.now least most }
+    ensures local { result.global ≡ false }
+{
+    text_option(alloc, name, value, help).value_parser(ValueParser::unsigned(least, most))
+}
+
 /// An option without a value, which may be there.
 fn flag_option<'a>(alloc: Global, name: &'a str, help: &'a str) -> Arg<'a>
     ensures rule { rule_of result ≡ flag_option name.entry.now }
@@ -376,7 +421,7 @@ fn number_option<'a>(
 
 fn job_of<'a>(alloc: Global, matches: &ArgMatches<'a>) -> Result<Job<'a>, WordsFault>
     ensures run { (r : Run) → GivesRun matches.now r → IsAnswer (allowed (run_asked r)) result }
-    ensures check { (fares : Text) → GivesCheck matches.now fares → IsJob (check_asked fares) result }
+    ensures check { (c : Check) → GivesCheck matches.now c → IsAnswer (allowed (check_asked c)) result }
     ensures statement { (s : Statement) → GivesStatement matches.now s → IsJob (statement_asked s) result }
     ensures replay { (fares zone : Text) (files : List Text)
         → GivesReplay matches.now fares zone files → IsJobOrMemory (replay_asked fares zone files) result }
@@ -439,13 +484,43 @@ fn has_journal(words: &RunWords<'_>) -> bool
 }
 
 fn check_job<'a>(check: &ArgMatches<'a>) -> Result<Job<'a>, WordsFault>
-    ensures { (fares : Text) → first_value (found_of check.now) (codes "FARES") ≡ Some fares
-        → IsJob (check_asked fares) result }
+    ensures { (t : CheckTexts) → HasCheckTexts (found_of check.now) t → HasAfterInRange t
+        → IsAnswer (allowed (check_asked (check_of_texts t))) result }
 {
-    match check.get_str("FARES") {
-        Some(fares) => Ok(Job::Check { fares }),
+    match check_words(check) {
+        Some(words) => job_with_against(words),
         None => Err(WordsFault::Usage),
     }
+}
+
+fn check_words<'a>(check: &ArgMatches<'a>) -> Option<CheckWords<'a>>
+    ensures { (t : CheckTexts) → HasCheckTexts (found_of check.now) t → HasAfterInRange t
+        → IsSomeAnd result (λ words. check_job words ≡ check_of_texts t) }
+{
+    Some(CheckWords {
+        fares: check.get_str("FARES")?,
+        lints: is_flagged(check, "lint"),
+        against: check.get_str("against"),
+        after: number_of(check, "after"),
+    })
+}
+
+/// The job of `check`, where a day comes with another fare file.
+fn job_with_against(words: CheckWords<'_>) -> Result<Job<'_>, WordsFault>
+    ensures { IsAnswer (allowed (check_asked (check_job words.entry))) result }
+{
+    if has_against(&words) {
+        Ok(Job::Check(words))
+    } else {
+        Err(WordsFault::Usage)
+    }
+}
+
+/// Whether there is another fare file, if days up to one are compared.
+fn has_against(words: &CheckWords<'_>) -> bool
+    ensures { result ≡ has_against (check_job words.now) }
+{
+    words.after.is_none() || words.against.is_some()
 }
 
 fn statement_job<'a>(statement: &ArgMatches<'a>) -> Result<Job<'a>, WordsFault>
@@ -565,7 +640,8 @@ fn count_of(serve: &ArgMatches<'_>, name: &str) -> Option<u8>
 
 /// The number of this name, of those that the matches have.
 fn number_of(matches: &ArgMatches<'_>, name: &str) -> Option<u32>
-    ensures { (word : Text) (least most : ℕ) → one_text (found_of matches.now) name.now ≡ Some word
+    ensures none { one_text (found_of matches.now) name.now ≡ None → result ≡ None }
+    ensures value { (word : Text) (least most : ℕ) → one_text (found_of matches.now) name.now ≡ Some word
         → is_unsigned_in least most word ≡ true → most ≤ MOST_ACCOUNT
         → result ≡ Some (number_of word) }
 {

@@ -1,5 +1,5 @@
 use Rattle.clap.specs.Words.{found_of}
-use Rattle.pay_words.proofs.Results.{check_value, replay_values, run_values, serve_texts, statement_texts}
+use Rattle.pay_words.proofs.Results.{check_texts, replay_values, run_values, serve_texts, statement_texts}
 use Rattle.pay_words.proofs.words.job_of.Goals as goal
 
 pub returns-in-Some-run-default-clause-run : goal.returns-in-Some-run-default-clause-run
@@ -7,8 +7,9 @@ returns-in-Some-run-default-clause-run c = λ r gives.
     c.run_job.ensures r (run_values c.args.matches.now (found_of c.in-Some-run-default.run'.now) r c.in-Some-run-default.ensures.rows gives)
 
 pub returns-in-Some-check-default-clause-check : goal.returns-in-Some-check-default-clause-check
-returns-in-Some-check-default-clause-check c = λ fares gives.
-    c.check_job.ensures fares (check_value c.args.matches.now (found_of c.in-Some-check-default.check.now) fares c.in-Some-check-default.ensures.rows gives)
+returns-in-Some-check-default-clause-check c = λ x gives.
+    let found = found_of c.in-Some-check-default.check.now in
+    rw (← gives.5) (c.check_job.ensures gives.0 (check_texts c.args.matches.now found x c.in-Some-check-default.ensures.rows gives) gives.4)
 
 pub returns-in-Some-statement-default-clause-statement : goal.returns-in-Some-statement-default-clause-statement
 returns-in-Some-statement-default-clause-statement c = λ s gives.
