@@ -201,6 +201,13 @@ impl Tables {
         Some(pair.seconds)
     }
 
+    /// All interchanges, in the order of the file.
+    pub fn interchanges(&self) -> &[Interchange]
+        ensures { result.now ≡ self.now.interchanges }
+    {
+        &self.network.interchanges
+    }
+
     #[tactic(auto, using(crate::proofs::FoundItems::found_is))]
     fn interchange_between(&self, a: u16, b: u16) -> Option<&Interchange>
         ensures value { option_map (λ pair. pair.now) result ≡ find (is_between a b) self.now.interchanges }

@@ -1,0 +1,28 @@
+-- What agreement of two fare files means for an account, and what a file without editions is.
+use Rattle.std.specs.Prelude.{◌≡◌, ℕ, ◌≤◌, Bool}
+use Rattle.std.specs.List.{AllByRecursion}
+use Rattle.pay_day.specs.declared.limits.TheConstants.{FIRST_DAY}
+use Rattle.pay_tables.specs.Words.{FareEditions}
+use Rattle.pay_rules.specs.declared.tap.Touch.{Touch}
+use Rattle.pay_rules.specs.Accepted.{Accepted, touches}
+use Rattle.pay_rules.specs.Journeys.{journeys_of}
+use Rattle.pay_rules.specs.Prices.{prices}
+use Rattle.pay_rules.specs.Lines.{shown, week_lines}
+use Rattle.pay_rules.specs.Quotes.{quote}
+use Rattle.pay_compare.specs.Agreement.{IsKnownPlace}
+
+-- an effective tap of a day up to one, at a place that the old file knows
+abbrev pub IsThrough : FareEditions → ℕ → Touch → Type 0
+IsThrough old last touch = (FIRST_DAY ≤ touch.stamp.day) × (touch.stamp.day ≤ last) × IsKnownPlace old.own touch.place
+
+-- each effective tap of an account is one
+abbrev pub AreThrough : FareEditions → ℕ → Accepted → Type 0
+AreThrough old last accepted = AllByRecursion (IsThrough old last) (touches accepted)
+
+-- An account comes to the same by two files: its journeys, the prices of each day and each week, what it shows, its statements, and what it owes.
+pub record ComesToTheSame (new old : FareEditions) (accepted : Accepted) : Type 0 where
+  pub journeys : journeys_of new (touches accepted) ≡ journeys_of old (touches accepted)
+  pub priced : (again : Bool) (day : ℕ) → FIRST_DAY ≤ day → prices new accepted again day ≡ prices old accepted again day
+  pub shows : (account day : ℕ) → shown new account accepted day ≡ shown old account accepted day
+  pub lines : (week : ℕ) → week_lines new accepted week ≡ week_lines old accepted week
+  pub quoted : (account through : ℕ) → FIRST_DAY ≤ through → quote new account accepted through ≡ quote old account accepted through
