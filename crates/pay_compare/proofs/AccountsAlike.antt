@@ -26,26 +26,26 @@ use Rattle.pay_rules.specs.StandingCredits.{credits}
 use Rattle.pay_rules.specs.Journeys.{journeys_of}
 use Rattle.pay_rules.specs.Prices.{price_of_day, price_of_week}
 use Rattle.pay_compare.specs.Agreement.{IsKnownPlace}
-use Rattle.pay_compare.specs.Laws.{AreThrough, ComesToTheSame}
+use Rattle.pay_compare.specs.Laws.{AreTouchesWithin, ComesToTheSame}
 use Rattle.pay_compare.proofs.Lists.{flat_map_alike, in_order_all, map_alike, numbered_all, passed}
-use Rattle.pay_compare.proofs.LegsAlike.{AreAgreeing, IsJourneyThrough, IsLegThrough, all_alike, all_through, own_station}
+use Rattle.pay_compare.proofs.LegsAlike.{AreAgreeing, IsJourneyWithin, IsLegWithin, all_alike, all_through, own_station}
 use Rattle.pay_compare.proofs.PricesAlike.{covers_alike, day_alike, fare_alike, first_through, of_day, settled, week_alike, within_or_none}
 
 module _ (new old : FareEditions) (last : ℕ) (are : AreAgreeing new old last) where
   -- ---- lines
 
   module _ (day : ℕ) (from : FIRST_DAY ≤ day) (to : day ≤ last) where
-    covered_alike : (band : Option Band) (one : Journey) → IsJourneyThrough old last one → is_covered (on new day) band one ≡ is_covered (on old day) band one
+    covered_alike : (band : Option Band) (one : Journey) → IsJourneyWithin old last one → is_covered (on new day) band one ≡ is_covered (on old day) band one
     covered_alike None one through = refl
     covered_alike (Some band) one through = covers_alike new old last are day from to band one through
 
-    band_alike : (giving : Option ℕ) (one : Journey) → IsJourneyThrough old last one → line_band (on new day) giving one ≡ line_band (on old day) giving one
+    band_alike : (giving : Option ℕ) (one : Journey) → IsJourneyWithin old last one → line_band (on new day) giving one ≡ line_band (on old day) giving one
     band_alike None one through = refl
     band_alike (Some place) one through =
         ap (λ bands. if is_covered (on new day) (slice_get bands place) one then Some place else None) (are.agree.days day from to).bands
         ∙ ap (λ b. if b then Some place else None) (covered_alike (slice_get (on old day).bands place) one through)
 
-    line_alike : (giving : Option ℕ) (one : Journey) → IsJourneyThrough old last one × ((first_tap one).stamp.day ≡ day) → line_of_journey (on new day) giving one ≡ line_of_journey (on old day) giving one
+    line_alike : (giving : Option ℕ) (one : Journey) → IsJourneyWithin old last one × ((first_tap one).stamp.day ≡ day) → line_of_journey (on new day) giving one ≡ line_of_journey (on old day) giving one
     line_alike giving one its =
         ap (with_both (line_band (on new day) giving one)) (fare_alike new old last are day from to one its) ∙ ap (λ band. with_both band (fare (on old day) one)) (band_alike giving one its.0)
       where
@@ -61,60 +61,60 @@ module _ (new old : FareEditions) (last : ℕ) (are : AreAgreeing new old last) 
           band = band;
         }
 
-  lines_on_alike : (list : List Journey) → AllByRecursion (IsJourneyThrough old last) list → (day : ℕ) → lines_on new list day ≡ lines_on old list day
+  lines_on_alike : (list : List Journey) → AllByRecursion (IsJourneyWithin old last) list → (day : ℕ) → lines_on new list day ≡ lines_on old list day
   lines_on_alike list all day =
       within_or_none new old last are list all day (λ from to.
       ap (λ offer. map (line_of_journey (on new day) offer.1) (in_order_by first_tap (journeys_on list day))) (settled new old last are list all day).capped
-      ∙ map_alike (λ one. IsJourneyThrough old last one × ((first_tap one).stamp.day ≡ day)) (line_of_journey (on new day) (capped_price (on old day) (journeys_on list day)).1)
+      ∙ map_alike (λ one. IsJourneyWithin old last one × ((first_tap one).stamp.day ≡ day)) (line_of_journey (on new day) (capped_price (on old day) (journeys_on list day)).1)
       (line_of_journey (on old day) (capped_price (on old day) (journeys_on list day)).1) (line_alike day from to (capped_price (on old day) (journeys_on list day)).1)
       (in_order_by first_tap (journeys_on list day))
-      (in_order_all (λ one. IsJourneyThrough old last one × ((first_tap one).stamp.day ≡ day)) first_tap (journeys_on list day) (of_day new old last are list all day))) (λ none.
+      (in_order_all (λ one. IsJourneyWithin old last one × ((first_tap one).stamp.day ≡ day)) first_tap (journeys_on list day) (of_day new old last are list all day))) (λ none.
       subst (λ its. map (line_of_journey (on new day) (capped_price (on new day) its).1) (in_order_by first_tap its) ≡ map (line_of_journey (on old day) (capped_price (on old day) its).1) (in_order_by first_tap its)) (sym none) refl)
 
-  among_alike : (list : List Journey) → AllByRecursion (IsJourneyThrough old last) list → (one : Journey) → IsJourneyThrough old last one → line_among new list one ≡ line_among old list one
+  among_alike : (list : List Journey) → AllByRecursion (IsJourneyWithin old last) list → (one : Journey) → IsJourneyWithin old last one → line_among new list one ≡ line_among old list one
   among_alike list all one through =
       let tap = first_through old last one through in
       let day = (first_tap one).stamp.day in
       ap (λ offer. line_of_journey (on new day) offer.1 one) (settled new old last are list all day).capped
       ∙ line_alike day tap.0 tap.1 (capped_price (on old day) (journeys_on list day)).1 one (through, refl)
 
-  lines_alike : (list : List Journey) → AllByRecursion (IsJourneyThrough old last) list → (week : ℕ) → lines_of_week new list week ≡ lines_of_week old list week
+  lines_alike : (list : List Journey) → AllByRecursion (IsJourneyWithin old last) list → (week : ℕ) → lines_of_week new list week ≡ lines_of_week old list week
   lines_alike list all week =
-      map_alike (IsJourneyThrough old last) (line_among new list) (line_among old list) (among_alike list all) (in_order_by first_tap (filter (is_within week (sunday week)) list))
-      (in_order_all (IsJourneyThrough old last) first_tap (filter (is_within week (sunday week)) list) (passed (IsJourneyThrough old last) (is_within week (sunday week)) list all))
+      map_alike (IsJourneyWithin old last) (line_among new list) (line_among old list) (among_alike list all) (in_order_by first_tap (filter (is_within week (sunday week)) list))
+      (in_order_all (IsJourneyWithin old last) first_tap (filter (is_within week (sunday week)) list) (passed (IsJourneyWithin old last) (is_within week (sunday week)) list all))
 
   -- ---- what each operator carried
 
   portion_alike : (pence place : ℕ) → IsKnownPlace old.own place → portion new.own place pence ≡ portion old.own place pence
   portion_alike pence place known = ap (λ station. record { operator = operator_of station; pence = pence }) (own_station new old last are place known)
 
-  portions_alike : (one : Journey × ℕ) → IsJourneyThrough old last one.0 → portions new.own one.0 one.1 ≡ portions old.own one.0 one.1
+  portions_alike : (one : Journey × ℕ) → IsJourneyWithin old last one.0 → portions new.own one.0 one.1 ≡ portions old.own one.0 one.1
   portions_alike (journey.Run legs, pence) all =
-      map_alike (λ one. IsLegThrough old last one.1) (leg_portion new.own (length (all_legs legs)) pence) (leg_portion old.own (length (all_legs legs)) pence)
-      (λ one through. portion_alike (part pence (length (all_legs legs)) one.0) one.1.entry.place through.0.2) (enumerate_from 0 (all_legs legs)) (numbered_all (IsLegThrough old last) 0 (all_legs legs) all)
+      map_alike (λ one. IsLegWithin old last one.1) (leg_portion new.own (length (all_legs legs)) pence) (leg_portion old.own (length (all_legs legs)) pence)
+      (λ one through. portion_alike (part pence (length (all_legs legs)) one.0) one.1.entry.place through.0.2) (enumerate_from 0 (all_legs legs)) (numbered_all (IsLegWithin old last) 0 (all_legs legs) all)
   portions_alike (journey.Same leg, pence) all = ap (λ one. one ∷ []) (portion_alike pence leg.entry.place all.0.2)
   portions_alike (journey.Lone tap, pence) all = ap (λ one. one ∷ []) (portion_alike pence tap.place all.2)
   portions_alike (journey.Bus tap pays, pence) all = ap (λ one. one ∷ []) (portion_alike pence tap.place all.2)
 
-  fare_by_alike : (one : Journey) → IsJourneyThrough old last one → with_fare new one ≡ with_fare old one
+  fare_by_alike : (one : Journey) → IsJourneyWithin old last one → with_fare new one ≡ with_fare old one
   fare_by_alike one through =
       let tap = first_through old last one through in
       ap (λ (pence : ℕ). (one, pence)) (fare_alike new old last are (first_tap one).stamp.day tap.0 tap.1 one (through, refl))
 
-  with_fares_all : (list : List Journey) → AllByRecursion (IsJourneyThrough old last) list → AllByRecursion (λ (one : Journey × ℕ). IsJourneyThrough old last one.0) (map (with_fare old) list)
+  with_fares_all : (list : List Journey) → AllByRecursion (IsJourneyWithin old last) list → AllByRecursion (λ (one : Journey × ℕ). IsJourneyWithin old last one.0) (map (with_fare old) list)
   with_fares_all [] all = tt
   with_fares_all (one ∷ list) all = (all.0, with_fares_all list all.1)
 
-  weights_alike : (list : List Journey) → AllByRecursion (IsJourneyThrough old last) list → (through : ℕ) → weights_through new list through ≡ weights_through old list through
+  weights_alike : (list : List Journey) → AllByRecursion (IsJourneyWithin old last) list → (through : ℕ) → weights_through new list through ≡ weights_through old list through
   weights_alike list all through =
       let its = journeys_through list through in
-      let its_all = passed (IsJourneyThrough old last) (is_within (monday through) through) list all in
-      ap (λ those. weights_of (all_portions new.own those)) (map_alike (IsJourneyThrough old last) (with_fare new) (with_fare old) fare_by_alike its its_all)
-      ∙ ap weights_of (flat_map_alike (λ (one : Journey × ℕ). IsJourneyThrough old last one.0) (λ (one : Journey × ℕ). portions new.own one.0 one.1) (λ (one : Journey × ℕ). portions old.own one.0 one.1) portions_alike (map (with_fare old) its) (with_fares_all its its_all))
+      let its_all = passed (IsJourneyWithin old last) (is_within (monday through) through) list all in
+      ap (λ those. weights_of (all_portions new.own those)) (map_alike (IsJourneyWithin old last) (with_fare new) (with_fare old) fare_by_alike its its_all)
+      ∙ ap weights_of (flat_map_alike (λ (one : Journey × ℕ). IsJourneyWithin old last one.0) (λ (one : Journey × ℕ). portions new.own one.0 one.1) (λ (one : Journey × ℕ). portions old.own one.0 one.1) portions_alike (map (with_fare old) its) (with_fares_all its its_all))
 
   -- ---- accounts
 
-  pub comes_to_the_same : (accepted : Accepted) → AreThrough old last accepted → ComesToTheSame new old accepted
+  pub comes_to_the_same : (accepted : Accepted) → AreTouchesWithin old last accepted → ComesToTheSame new old accepted
   comes_to_the_same accepted through = record {
     journeys = same;
     priced = λ again day from.
@@ -132,7 +132,7 @@ module _ (new old : FareEditions) (last : ℕ) (are : AreAgreeing new old last) 
       list : List Journey
       list = journeys_of old (touches accepted)
 
-      all : AllByRecursion (IsJourneyThrough old last) list
+      all : AllByRecursion (IsJourneyWithin old last) list
       all = all_through new old last are (touches accepted) through
 
       same : journeys_of new (touches accepted) ≡ list

@@ -8,7 +8,7 @@ use Rattle.std.proofs.lemmas.Bool.Decides.{Decides-and, Decides-eqb, Decides-or}
 use Rattle.pay_tables.specs.declared.interchange.Interchange.{Interchange}
 use Rattle.pay_tables.specs.FareTables.{seconds_of}
 use Rattle.pay_tables.specs.Words.{FareTables, interchange, is_between}
-use Rattle.pay_compare.specs.Agreement.{IsAlike, IsKnownPlace}
+use Rattle.pay_compare.specs.Agreement.{KeepsInterchange, IsKnownPlace}
 
 or_turned : (p q : Bool) → (p || q) ≡ (q || p)
 or_turned true true = refl
@@ -34,7 +34,7 @@ either_order tables a b = ap seconds_of (found_alike (is_between a b) (is_betwee
 
 -- where a pair is found, each of the pairs that lists are alike
 listed : (new old : FareTables) (a b : ℕ) → IsKnownPlace old a → IsKnownPlace old b
-    → (pairs : List Interchange) → AllByRecursion (λ pair. IsAlike new old pair.a pair.b) pairs → (pair : Interchange) → find (is_between a b) pairs ≡ Some pair
+    → (pairs : List Interchange) → AllByRecursion (λ pair. KeepsInterchange new old pair.a pair.b) pairs → (pair : Interchange) → find (is_between a b) pairs ≡ Some pair
     → interchange new a b ≡ interchange old a b
 listed new old a b known known_too [] all pair found = absurd (none-some pair (found))
 listed new old a b known known_too (one ∷ pairs) all pair found =
@@ -57,7 +57,7 @@ listed new old a b known known_too (one ∷ pairs) all pair found =
         ∙ either_order old one.a one.b
         ∙ sym (ap (λ (n : ℕ). interchange old n b) at.0 ∙ ap (λ (n : ℕ). interchange old one.b n) at.1)
 
-pub alike_everywhere : (new old : FareTables) → All (λ pair. IsAlike new old pair.a pair.b) new.interchanges → All (λ pair. IsAlike new old pair.a pair.b) old.interchanges
+pub alike_everywhere : (new old : FareTables) → All (λ pair. KeepsInterchange new old pair.a pair.b) new.interchanges → All (λ pair. KeepsInterchange new old pair.a pair.b) old.interchanges
     → (a b : ℕ) → IsKnownPlace old a → IsKnownPlace old b → interchange new a b ≡ interchange old a b
 alike_everywhere new old of_new of_old a b known known_too =
     by_new (find (is_between a b) new.interchanges) refl

@@ -20,7 +20,7 @@ use Rattle.pay_rules.specs.RailJourneys.{alone, is_in_time, is_linked, is_same, 
 use Rattle.pay_rules.specs.Hopper.{instants_of, paying_marks}
 use Rattle.pay_rules.specs.Journeys.{boarding, boardings, is_bus, is_rail, journeys_of, rail_journeys}
 use Rattle.pay_compare.specs.Agreement.{AgreeThrough, IsKnownPlace, PriceAlike}
-use Rattle.pay_compare.specs.Laws.{IsThrough}
+use Rattle.pay_compare.specs.Laws.{IsTouchWithin}
 use Rattle.pay_compare.proofs.Lists.{joined, passed}
 
 -- what is so of two fare files that agree through a day
@@ -32,18 +32,18 @@ pub record AreAgreeing (new old : FareEditions) (last : ℕ) : Type 0 where
   pub spans : (zones : ℕ) (stations : List Place) → 1 ≤ length stations → All (IsPlace zones) stations → IsSpan zones (span_of stations)
 
 -- legs, parts and journeys of such taps
-abbrev pub IsLegThrough : FareEditions → ℕ → Leg → Type 0
-IsLegThrough old last leg = IsThrough old last leg.entry × IsThrough old last leg.exit
+abbrev pub IsLegWithin : FareEditions → ℕ → Leg → Type 0
+IsLegWithin old last leg = IsTouchWithin old last leg.entry × IsTouchWithin old last leg.exit
 
-abbrev pub IsPartThrough : FareEditions → ℕ → RailPart → Type 0
-IsPartThrough old last (part.Leg leg) = IsLegThrough old last leg
-IsPartThrough old last (part.Lone tap) = IsThrough old last tap
+abbrev pub IsPartWithin : FareEditions → ℕ → RailPart → Type 0
+IsPartWithin old last (part.Leg leg) = IsLegWithin old last leg
+IsPartWithin old last (part.Lone tap) = IsTouchWithin old last tap
 
-abbrev pub IsJourneyThrough : FareEditions → ℕ → Journey → Type 0
-IsJourneyThrough old last (journey.Run legs) = AllByRecursion (IsLegThrough old last) (all_legs legs)
-IsJourneyThrough old last (journey.Same leg) = IsLegThrough old last leg
-IsJourneyThrough old last (journey.Lone tap) = IsThrough old last tap
-IsJourneyThrough old last (journey.Bus tap pays) = IsThrough old last tap
+abbrev pub IsJourneyWithin : FareEditions → ℕ → Journey → Type 0
+IsJourneyWithin old last (journey.Run legs) = AllByRecursion (IsLegWithin old last) (all_legs legs)
+IsJourneyWithin old last (journey.Same leg) = IsLegWithin old last leg
+IsJourneyWithin old last (journey.Lone tap) = IsTouchWithin old last tap
+IsJourneyWithin old last (journey.Bus tap pays) = IsTouchWithin old last tap
 
 module _ (new old : FareEditions) (last : ℕ) (are : AreAgreeing new old last) where
   -- ---- places
@@ -58,7 +58,7 @@ module _ (new old : FareEditions) (last : ℕ) (are : AreAgreeing new old last) 
 
   -- ---- legs
 
-  allowed_alike : (entry exit : Touch) → IsThrough old last entry → IsThrough old last exit
+  allowed_alike : (entry exit : Touch) → IsTouchWithin old last entry → IsTouchWithin old last exit
       → allowed_seconds_between (on new entry.stamp.day) entry exit ≡ allowed_seconds_between (on old entry.stamp.day) entry exit
   allowed_alike entry exit through through_too =
       ap (λ limit. if entry.place == exit.place then limit else allowed_seconds (on new day) (span_of (station_at (on new day) entry.place ∷ station_at (on new day) exit.place ∷ []))) (ap (λ rules. rules.same_limit) alike.rules)
@@ -76,11 +76,11 @@ module _ (new old : FareEditions) (last : ℕ) (are : AreAgreeing new old last) 
       two : List Place
       two = station_at (on old day) entry.place ∷ station_at (on old day) exit.place ∷ []
 
-  leg_alike : (entry exit : Touch) → IsThrough old last entry → IsThrough old last exit → is_leg new entry exit ≡ is_leg old entry exit
+  leg_alike : (entry exit : Touch) → IsTouchWithin old last entry → IsTouchWithin old last exit → is_leg new entry exit ≡ is_leg old entry exit
   leg_alike entry exit through through_too =
       ap (λ seconds. same_kind entry.kind In && same_kind exit.kind Out && nat_le exit.stamp.utc (entry.stamp.utc + seconds)) (allowed_alike entry exit through through_too)
 
-  pub legs_alike : (taps : List Touch) → AllByRecursion (IsThrough old last) taps → legs new taps ≡ legs old taps
+  pub legs_alike : (taps : List Touch) → AllByRecursion (IsTouchWithin old last) taps → legs new taps ≡ legs old taps
   legs_alike [] all = refl
   legs_alike (tap ∷ []) all = refl
   legs_alike (tap ∷ next ∷ later) all =
@@ -88,28 +88,28 @@ module _ (new old : FareEditions) (last : ℕ) (are : AreAgreeing new old last) 
       ∙ ap (λ parts. if is_leg old tap next then leg tap next ∷ parts else part.Lone tap ∷ legs new (next ∷ later)) (legs_alike later all.1.1)
       ∙ ap (λ parts. if is_leg old tap next then leg tap next ∷ legs old later else part.Lone tap ∷ parts) (legs_alike (next ∷ later) all.1)
 
-  pub legs_through : (taps : List Touch) → AllByRecursion (IsThrough old last) taps → AllByRecursion (IsPartThrough old last) (legs old taps)
+  pub legs_through : (taps : List Touch) → AllByRecursion (IsTouchWithin old last) taps → AllByRecursion (IsPartWithin old last) (legs old taps)
   legs_through [] all = tt
   legs_through (tap ∷ []) all = (all.0, tt)
   legs_through (tap ∷ next ∷ later) all = together_or_not (is_leg old tap next) (legs_through later all.1.1) (legs_through (next ∷ later) all.1)
     where
-      together_or_not : (b : Bool) → AllByRecursion (IsPartThrough old last) (legs old later) → AllByRecursion (IsPartThrough old last) (legs old (next ∷ later))
-          → AllByRecursion (IsPartThrough old last) (if b then leg tap next ∷ legs old later else part.Lone tap ∷ legs old (next ∷ later))
+      together_or_not : (b : Bool) → AllByRecursion (IsPartWithin old last) (legs old later) → AllByRecursion (IsPartWithin old last) (legs old (next ∷ later))
+          → AllByRecursion (IsPartWithin old last) (if b then leg tap next ∷ legs old later else part.Lone tap ∷ legs old (next ∷ later))
       together_or_not true after others = ((all.0, all.1.0), after)
       together_or_not false after others = (all.0, others)
 
   -- ---- journeys by rail
 
-  linked_alike : (one next : Leg) → IsLegThrough old last one → IsLegThrough old last next → is_linked new.own one next ≡ is_linked old.own one next
+  linked_alike : (one next : Leg) → IsLegWithin old last one → IsLegWithin old last next → is_linked new.own one next ≡ is_linked old.own one next
   linked_alike one next through through_too =
       ap (λ seconds. not (is_same one) && not (is_same next) && is_in_time one.exit.stamp.utc next.entry.stamp.utc seconds)
       (are.agree.network.interchanges one.exit.place next.entry.place through.1.2 through_too.0.2)
 
-  last_through : (first : Leg) (others : List Leg) → AllByRecursion (IsLegThrough old last) (first ∷ others) → IsLegThrough old last (last_after first others)
+  last_through : (first : Leg) (others : List Leg) → AllByRecursion (IsLegWithin old last) (first ∷ others) → IsLegWithin old last (last_after first others)
   last_through first [] all = all.0
   last_through first (next ∷ others) all = last_through next others all.1
 
-  run_alike : (run : LinkedLegs) → AllByRecursion (IsLegThrough old last) (all_legs run) → (list : List Journey) → AllByRecursion (IsJourneyThrough old last) list
+  run_alike : (run : LinkedLegs) → AllByRecursion (IsLegWithin old last) (all_legs run) → (list : List Journey) → AllByRecursion (IsJourneyWithin old last) list
       → run_before new.own run list ≡ run_before old.own run list
   run_alike run its [] all = refl
   run_alike run its (journey.Run next ∷ later) all =
@@ -119,52 +119,52 @@ module _ (new old : FareEditions) (last : ℕ) (are : AreAgreeing new old last) 
   run_alike run its (journey.Lone tap ∷ later) all = refl
   run_alike run its (journey.Bus tap pays ∷ later) all = refl
 
-  run_through : (run : LinkedLegs) → AllByRecursion (IsLegThrough old last) (all_legs run) → (list : List Journey) → AllByRecursion (IsJourneyThrough old last) list
-      → AllByRecursion (IsJourneyThrough old last) (run_before old.own run list)
+  run_through : (run : LinkedLegs) → AllByRecursion (IsLegWithin old last) (all_legs run) → (list : List Journey) → AllByRecursion (IsJourneyWithin old last) list
+      → AllByRecursion (IsJourneyWithin old last) (run_before old.own run list)
   run_through run its [] all = (its, tt)
   run_through run its (journey.Run next ∷ later) all = linked_or_not (is_linked old.own (last_leg run) next.first)
     where
-      linked_or_not : (b : Bool) → AllByRecursion (IsJourneyThrough old last) (if b then journey.Run (joined_legs run next) ∷ later else journey.Run run ∷ journey.Run next ∷ later)
-      linked_or_not true = ((its.0, joined (IsLegThrough old last) run.others (all_legs next) its.1 all.0), all.1)
+      linked_or_not : (b : Bool) → AllByRecursion (IsJourneyWithin old last) (if b then journey.Run (joined_legs run next) ∷ later else journey.Run run ∷ journey.Run next ∷ later)
+      linked_or_not true = ((its.0, joined (IsLegWithin old last) run.others (all_legs next) its.1 all.0), all.1)
       linked_or_not false = (its, all)
   run_through run its (journey.Same one ∷ later) all = (its, all)
   run_through run its (journey.Lone tap ∷ later) all = (its, all)
   run_through run its (journey.Bus tap pays ∷ later) all = (its, all)
 
-  pub journeys_alike : (parts : List RailPart) → AllByRecursion (IsPartThrough old last) parts → (journeys new.own parts ≡ journeys old.own parts) × AllByRecursion (IsJourneyThrough old last) (journeys old.own parts)
+  pub journeys_alike : (parts : List RailPart) → AllByRecursion (IsPartWithin old last) parts → (journeys new.own parts ≡ journeys old.own parts) × AllByRecursion (IsJourneyWithin old last) (journeys old.own parts)
   journeys_alike [] all = (refl, tt)
   journeys_alike (part.Lone tap ∷ parts) all =
       let rest = journeys_alike parts all.1 in
       (ap (λ list. journey.Lone tap ∷ list) rest.0, (all.0, rest.1))
   journeys_alike (part.Leg one ∷ parts) all =
       let rest = journeys_alike parts all.1 in
-      let alone_through : AllByRecursion (IsLegThrough old last) (all_legs (alone one)) = (all.0, tt) in (
+      let alone_through : AllByRecursion (IsLegWithin old last) (all_legs (alone one)) = (all.0, tt) in (
         ap (leg_before new.own one) rest.0
             ∙ ap (λ list. if is_same one then journey.Same one ∷ journeys old.own parts else list) (run_alike (alone one) alone_through (journeys old.own parts) rest.1),
         same_or_not (is_same one) rest.1 (run_through (alone one) alone_through (journeys old.own parts) rest.1),
       )
     where
-      same_or_not : (b : Bool) → AllByRecursion (IsJourneyThrough old last) (journeys old.own parts) → AllByRecursion (IsJourneyThrough old last) (run_before old.own (alone one) (journeys old.own parts))
-          → AllByRecursion (IsJourneyThrough old last) (if b then journey.Same one ∷ journeys old.own parts else run_before old.own (alone one) (journeys old.own parts))
+      same_or_not : (b : Bool) → AllByRecursion (IsJourneyWithin old last) (journeys old.own parts) → AllByRecursion (IsJourneyWithin old last) (run_before old.own (alone one) (journeys old.own parts))
+          → AllByRecursion (IsJourneyWithin old last) (if b then journey.Same one ∷ journeys old.own parts else run_before old.own (alone one) (journeys old.own parts))
       same_or_not true later run = (all.0, later)
       same_or_not false later run = run
 
   -- ---- all journeys
 
-  boardings_through : (taps : List Touch) (marks : List Bool) → AllByRecursion (IsThrough old last) taps → AllByRecursion (IsJourneyThrough old last) (map boarding (zip taps marks))
+  boardings_through : (taps : List Touch) (marks : List Bool) → AllByRecursion (IsTouchWithin old last) taps → AllByRecursion (IsJourneyWithin old last) (map boarding (zip taps marks))
   boardings_through [] marks all = tt
   boardings_through (tap ∷ taps) [] all = tt
   boardings_through (tap ∷ taps) (mark ∷ marks) all = (all.0, boardings_through taps marks all.1)
 
-  pub all_alike : (taps : List Touch) → AllByRecursion (IsThrough old last) taps → journeys_of new taps ≡ journeys_of old taps
+  pub all_alike : (taps : List Touch) → AllByRecursion (IsTouchWithin old last) taps → journeys_of new taps ≡ journeys_of old taps
   all_alike taps all =
-      let rail = passed (IsThrough old last) is_rail taps all in
+      let rail = passed (IsTouchWithin old last) is_rail taps all in
       ap (λ list. list ++ boardings new taps) (ap (journeys new.own) (legs_alike (filter is_rail taps) rail) ∙ (journeys_alike (legs old (filter is_rail taps)) (legs_through (filter is_rail taps) rail)).0)
       ∙ ap (λ hopper. rail_journeys old taps ++ map boarding (zip (filter is_bus taps) (paying_marks hopper (instants_of (filter is_bus taps))))) are.agree.network.hopper
 
-  pub all_through : (taps : List Touch) → AllByRecursion (IsThrough old last) taps → AllByRecursion (IsJourneyThrough old last) (journeys_of old taps)
+  pub all_through : (taps : List Touch) → AllByRecursion (IsTouchWithin old last) taps → AllByRecursion (IsJourneyWithin old last) (journeys_of old taps)
   all_through taps all =
-      let rail = passed (IsThrough old last) is_rail taps all in
-      joined (IsJourneyThrough old last) (rail_journeys old taps) (boardings old taps)
+      let rail = passed (IsTouchWithin old last) is_rail taps all in
+      joined (IsJourneyWithin old last) (rail_journeys old taps) (boardings old taps)
       (journeys_alike (legs old (filter is_rail taps)) (legs_through (filter is_rail taps) rail)).1
-      (boardings_through (filter is_bus taps) (paying_marks old.own.rules.hopper (instants_of (filter is_bus taps))) (passed (IsThrough old last) is_bus taps all))
+      (boardings_through (filter is_bus taps) (paying_marks old.own.rules.hopper (instants_of (filter is_bus taps))) (passed (IsTouchWithin old last) is_bus taps all))

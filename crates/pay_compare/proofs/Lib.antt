@@ -6,3 +6,4 @@ pub mod LegsAlike
 pub mod PricesAlike
 pub mod AccountsAlike
 pub mod ByOneEdition
+pub mod Differing

@@ -23,9 +23,9 @@ use Rattle.pay_rules.specs.WeekPrices.{DayJourneys, capped_days, days_outside, m
 use Rattle.pay_rules.specs.Journeys.{is_on}
 use Rattle.pay_rules.specs.Prices.{days_through, journeys_on, price_of_day, price_of_week, with_journeys}
 use Rattle.pay_compare.specs.Agreement.{IsKnownPlace, PriceAlike}
-use Rattle.pay_compare.specs.Laws.{IsThrough}
+use Rattle.pay_compare.specs.Laws.{IsTouchWithin}
 use Rattle.pay_compare.proofs.Lists.{apart, below_or, filter_alike, flat_map_alike, from_first_on, mapped_all, none_pass, passed, sum_alike}
-use Rattle.pay_compare.proofs.LegsAlike.{AreAgreeing, IsJourneyThrough, IsLegThrough, station_alike}
+use Rattle.pay_compare.proofs.LegsAlike.{AreAgreeing, IsJourneyWithin, IsLegWithin, station_alike}
 
 -- ---- offers
 
@@ -52,7 +52,7 @@ nothing_charged cap all out bands none = ap (λ (n : ℕ). lowest (n, None) (off
 
 -- ---- the first tap of a journey
 
-pub first_through : (old : FareEditions) (last : ℕ) (one : Journey) → IsJourneyThrough old last one → IsThrough old last (first_tap one)
+pub first_through : (old : FareEditions) (last : ℕ) (one : Journey) → IsJourneyWithin old last one → IsTouchWithin old last (first_tap one)
 first_through old last (journey.Run legs) through = through.0.0
 first_through old last (journey.Same leg) through = through.0
 first_through old last (journey.Lone tap) through = through
@@ -61,13 +61,13 @@ first_through old last (journey.Bus tap pays) through = through
 module _ (new old : FareEditions) (last : ℕ) (are : AreAgreeing new old last) where
   -- ---- spans
 
-  stations_alike : (day : ℕ) (leg : Leg) → IsLegThrough old last leg → stations_of (on new day) leg ≡ stations_of (on old day) leg
+  stations_alike : (day : ℕ) (leg : Leg) → IsLegWithin old last leg → stations_of (on new day) leg ≡ stations_of (on old day) leg
   stations_alike day leg through =
       ap (λ one. one ∷ station_at (on new day) leg.exit.place ∷ []) (station_alike new old last are day leg.entry.place through.0.2)
       ∙ ap (λ one. station_at (on old day) leg.entry.place ∷ one ∷ []) (station_alike new old last are day leg.exit.place through.1.2)
 
-  pub span_alike : (day : ℕ) (legs : LinkedLegs) → AllByRecursion (IsLegThrough old last) (all_legs legs) → span_of_legs (on new day) legs ≡ span_of_legs (on old day) legs
-  span_alike day legs all = ap span_of (flat_map_alike (IsLegThrough old last) (stations_of (on new day)) (stations_of (on old day)) (stations_alike day) (all_legs legs) all)
+  pub span_alike : (day : ℕ) (legs : LinkedLegs) → AllByRecursion (IsLegWithin old last) (all_legs legs) → span_of_legs (on new day) legs ≡ span_of_legs (on old day) legs
+  span_alike day legs all = ap span_of (flat_map_alike (IsLegWithin old last) (stations_of (on new day)) (stations_of (on old day)) (stations_alike day) (all_legs legs) all)
 
   pub own_span_alike : (day place : ℕ) → IsKnownPlace old.own place → span_of_station (on new day) place ≡ span_of_station (on old day) place
   own_span_alike day place known = ap (λ one. span_of (one ∷ [])) (station_alike new old last are day place known)
@@ -91,7 +91,7 @@ module _ (new old : FareEditions) (last : ℕ) (are : AreAgreeing new old last) 
     alike : PriceAlike (on new day) (on old day) day
     alike = are.agree.days day from to
 
-    single_alike : (legs : LinkedLegs) (peak : Bool) → AllByRecursion (IsLegThrough old last) (all_legs legs)
+    single_alike : (legs : LinkedLegs) (peak : Bool) → AllByRecursion (IsLegWithin old last) (all_legs legs)
         → single_fare (on new day) (span_of_legs (on new day) legs) peak ≡ single_fare (on old day) (span_of_legs (on old day) legs) peak
     single_alike legs peak all =
         ap (λ span. single_fare (on new day) span peak) (span_alike day legs all) ∙ alike.singles (span_of_legs (on old day) legs) peak (span_within day legs)
@@ -101,7 +101,7 @@ module _ (new old : FareEditions) (last : ℕ) (are : AreAgreeing new old last) 
     own_single_alike place peak known =
         ap (λ span. single_fare (on new day) span peak) (own_span_alike day place known) ∙ alike.singles (span_of_station (on old day) place) peak (own_span_within day place)
 
-    excepted_alike : (one : Journey) → IsJourneyThrough old last one → is_excepted (on new day) one ≡ is_excepted (on old day) one
+    excepted_alike : (one : Journey) → IsJourneyWithin old last one → is_excepted (on new day) one ≡ is_excepted (on old day) one
     excepted_alike (journey.Run legs) all =
         ap (λ b. is_evening legs.first.entry.stamp.second && b)
         (ap (λ span. span.from == 1 && nat_lt 1 (low_of (first_station (on new day) legs)) && low_of (last_station (on new day) legs) == 1) (span_alike day legs all)
@@ -109,14 +109,14 @@ module _ (new old : FareEditions) (last : ℕ) (are : AreAgreeing new old last) 
         ∙ ap (λ one. (span_of_legs (on old day) legs).from == 1 && nat_lt 1 (low_of (first_station (on old day) legs)) && low_of one == 1)
         (station_alike new old last are day (last_leg legs).exit.place (ended legs.first legs.others all)))
       where
-        ended : (first : Leg) (others : List Leg) → AllByRecursion (IsLegThrough old last) (first ∷ others) → IsKnownPlace old.own (last_after first others).exit.place
+        ended : (first : Leg) (others : List Leg) → AllByRecursion (IsLegWithin old last) (first ∷ others) → IsKnownPlace old.own (last_after first others).exit.place
         ended first [] its = its.0.1.2
         ended first (next ∷ others) its = ended next others its.1
     excepted_alike (journey.Same leg) all = refl
     excepted_alike (journey.Lone tap) all = refl
     excepted_alike (journey.Bus tap pays) all = refl
 
-    fare_if_alike : (peak : Bool) (one : Journey) → IsJourneyThrough old last one → fare_if (on new day) peak one ≡ fare_if (on old day) peak one
+    fare_if_alike : (peak : Bool) (one : Journey) → IsJourneyWithin old last one → fare_if (on new day) peak one ≡ fare_if (on old day) peak one
     fare_if_alike peak (journey.Run legs) all = single_alike legs peak all
     fare_if_alike peak (journey.Same leg) all =
         ap (λ rules. if nat_le leg.exit.stamp.utc (leg.entry.stamp.utc + rules.same_free) then 0 else single_fare (on new day) (span_of_station (on new day) leg.entry.place) peak) alike.rules
@@ -126,7 +126,7 @@ module _ (new old : FareEditions) (last : ℕ) (are : AreAgreeing new old last) 
 
     -- a journey of the day
     abbrev pub IsOfDay : Journey → Type 0
-    IsOfDay one = IsJourneyThrough old last one × ((first_tap one).stamp.day ≡ day)
+    IsOfDay one = IsJourneyWithin old last one × ((first_tap one).stamp.day ≡ day)
 
     peak_alike : (one : Journey) → IsOfDay one → is_peak (on new day) one ≡ is_peak (on old day) one
     peak_alike one its =
@@ -137,7 +137,7 @@ module _ (new old : FareEditions) (last : ℕ) (are : AreAgreeing new old last) 
     pub fare_alike : (one : Journey) → IsOfDay one → fare (on new day) one ≡ fare (on old day) one
     fare_alike one its = ap (λ peak. fare_if (on new day) peak one) (peak_alike one its) ∙ fare_if_alike (is_peak (on old day) one) one its.0
 
-    pub covers_alike : (band : Band) (one : Journey) → IsJourneyThrough old last one → covers (on new day) band one ≡ covers (on old day) band one
+    pub covers_alike : (band : Band) (one : Journey) → IsJourneyWithin old last one → covers (on new day) band one ≡ covers (on old day) band one
     covers_alike band (journey.Run legs) all = ap (covers_span band.cover) (span_alike day legs all)
     covers_alike band (journey.Same leg) all = ap (covers_span band.cover) (own_span_alike day leg.entry.place all.0.2)
     covers_alike band (journey.Lone tap) all = refl
@@ -176,26 +176,26 @@ module _ (new old : FareEditions) (last : ℕ) (are : AreAgreeing new old last) 
   nothing_settled : (day : ℕ) → IsSettled (day, [])
   nothing_settled day = record { capped = nothing_alike day; outside = λ band. nothing_alike day; maximum = refl }
 
-  pub of_day : (list : List Journey) → AllByRecursion (IsJourneyThrough old last) list → (day : ℕ) → AllByRecursion (λ (one : Journey). IsJourneyThrough old last one × ((first_tap one).stamp.day ≡ day)) (journeys_on list day)
+  pub of_day : (list : List Journey) → AllByRecursion (IsJourneyWithin old last) list → (day : ℕ) → AllByRecursion (λ (one : Journey). IsJourneyWithin old last one × ((first_tap one).stamp.day ≡ day)) (journeys_on list day)
   of_day [] all day = tt
   of_day (one ∷ list) all day = on_or_not ((first_tap one).stamp.day == day) refl (of_day list all.1 day)
     where
-      on_or_not : (b : Bool) → ((first_tap one).stamp.day == day) ≡ b → AllByRecursion (λ (it : Journey). IsJourneyThrough old last it × ((first_tap it).stamp.day ≡ day)) (journeys_on list day)
-          → AllByRecursion (λ (it : Journey). IsJourneyThrough old last it × ((first_tap it).stamp.day ≡ day)) (if b then one ∷ journeys_on list day else journeys_on list day)
+      on_or_not : (b : Bool) → ((first_tap one).stamp.day == day) ≡ b → AllByRecursion (λ (it : Journey). IsJourneyWithin old last it × ((first_tap it).stamp.day ≡ day)) (journeys_on list day)
+          → AllByRecursion (λ (it : Journey). IsJourneyWithin old last it × ((first_tap it).stamp.day ≡ day)) (if b then one ∷ journeys_on list day else journeys_on list day)
       on_or_not true is others = ((all.0, (Decides-eqb (first_tap one).stamp.day day).0 is), others)
       on_or_not false is others = others
 
-  pub none_beyond : (list : List Journey) → AllByRecursion (IsJourneyThrough old last) list → (day : ℕ) → (day < FIRST_DAY) ⊎ (last < day) → journeys_on list day ≡ []
+  pub none_beyond : (list : List Journey) → AllByRecursion (IsJourneyWithin old last) list → (day : ℕ) → (day < FIRST_DAY) ⊎ (last < day) → journeys_on list day ≡ []
   none_beyond list all day beyond =
-      none_pass (IsJourneyThrough old last) (is_on day) (λ one through.
+      none_pass (IsJourneyWithin old last) (is_on day) (λ one through.
       apart (first_tap one).stamp.day day (λ at. other one through at beyond)) list all
     where
-      other : (one : Journey) → IsJourneyThrough old last one → (first_tap one).stamp.day ≡ day → (day < FIRST_DAY) ⊎ (last < day) → ⊥
+      other : (one : Journey) → IsJourneyWithin old last one → (first_tap one).stamp.day ≡ day → (day < FIRST_DAY) ⊎ (last < day) → ⊥
       other one through at (inl before) = omega (arith, before, at, (first_through old last one through).0)
       other one through at (inr after) = omega (arith, after, at, (first_through old last one through).1)
 
   -- a day is within agreement, or has no journeys
-  pub within_or_none : {T : Type 0} (list : List Journey) → AllByRecursion (IsJourneyThrough old last) list → (day : ℕ) → (FIRST_DAY ≤ day → day ≤ last → T) → (journeys_on list day ≡ [] → T) → T
+  pub within_or_none : {T : Type 0} (list : List Journey) → AllByRecursion (IsJourneyWithin old last) list → (day : ℕ) → (FIRST_DAY ≤ day → day ≤ last → T) → (journeys_on list day ≡ [] → T) → T
   within_or_none {T} list all day within none = by (below_or day FIRST_DAY) (below_or last day)
     where
       by : (day < FIRST_DAY) ⊎ (FIRST_DAY ≤ day) → (last < day) ⊎ (day ≤ last) → T
@@ -203,7 +203,7 @@ module _ (new old : FareEditions) (last : ℕ) (are : AreAgreeing new old last) 
       by (inr from) (inl after) = none (none_beyond list all day (inr after))
       by (inr from) (inr to) = within from to
 
-  pub settled : (list : List Journey) → AllByRecursion (IsJourneyThrough old last) list → (day : ℕ) → IsSettled (with_journeys list day)
+  pub settled : (list : List Journey) → AllByRecursion (IsJourneyWithin old last) list → (day : ℕ) → IsSettled (with_journeys list day)
   settled list all day =
       within_or_none list all day (λ from to.
       let its = of_day list all day in
@@ -215,7 +215,7 @@ module _ (new old : FareEditions) (last : ℕ) (are : AreAgreeing new old last) 
         maximum = maximum_alike day from to (journeys_on list day) its;
       }) (λ none. subst (λ (its : List Journey). IsSettled (day, its)) (sym none) (nothing_settled day))
 
-  pub day_alike : (list : List Journey) → AllByRecursion (IsJourneyThrough old last) list → (day : ℕ) → price_of_day new list day ≡ price_of_day old list day
+  pub day_alike : (list : List Journey) → AllByRecursion (IsJourneyWithin old last) list → (day : ℕ) → price_of_day new list day ≡ price_of_day old list day
   day_alike list all day =
       let is = settled list all day in
       ap (λ (offer : Offer). offer.0 + maximum_fares (on new day) (journeys_on list day)) is.capped ∙ ap (λ (n : ℕ). (capped_price (on old day) (journeys_on list day)).0 + n) is.maximum
@@ -248,7 +248,7 @@ module _ (new old : FareEditions) (last : ℕ) (are : AreAgreeing new old last) 
       and_nothing : (n : ℕ) → n ≡ 0 → 0 + n ≡ 0
       and_nothing n is = omega (arith, is)
 
-  pub week_alike : (list : List Journey) → AllByRecursion (IsJourneyThrough old last) list → (through : ℕ) → FIRST_DAY ≤ through → price_of_week new list through ≡ price_of_week old list through
+  pub week_alike : (list : List Journey) → AllByRecursion (IsJourneyWithin old last) list → (through : ℕ) → FIRST_DAY ≤ through → price_of_week new list through ≡ price_of_week old list through
   week_alike list all through from =
       ap (λ (n : ℕ). (charged week_cap (capped_days new days) (λ band. capped_days new (days_outside new band days)) (on new first).bands).0 + n) (maximums_alike days each)
       ∙ ap (λ (offer : Offer). offer.0 + maximum_of_days old days) (by (below_or last first))

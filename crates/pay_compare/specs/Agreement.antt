@@ -6,24 +6,24 @@ use Rattle.pay_tables.specs.declared.limits.TheConstants.{MOST_PLACE}
 use Rattle.pay_tables.specs.declared.zones.Span.{Span}
 use Rattle.pay_tables.specs.Words.{FareEditions, FareTables, IsSpan, on, single_fare, allowed_seconds, is_holiday, interchange}
 
--- whether a place is among tables: no other has a tap that was accepted by them
+-- whether a place is among tables: at no other is a tap accepted by them
 abbrev pub IsKnownPlace : FareTables → ℕ → Type 0
 IsKnownPlace tables number = (number ≤ MOST_PLACE) × IsSome (get tables.places number)
 
--- an interchange is as it was, if it is between two old places
-abbrev pub IsAlike : FareTables → FareTables → ℕ → ℕ → Type 0
-IsAlike new old a b = IsKnownPlace old a → IsKnownPlace old b → interchange new a b ≡ interchange old a b
+-- an interchange between two old places is as it was, or there is none as there was none
+abbrev pub KeepsInterchange : FareTables → FareTables → ℕ → ℕ → Type 0
+KeepsInterchange new old a b = IsKnownPlace old a → IsKnownPlace old b → interchange new a b ≡ interchange old a b
 
--- What all editions share is as it was for all that the old tables know. Zones, stations, routes and their interchanges may come anew: no tap was
--- there, so no price of an old one changes.
-pub record SharesNetwork (new old : FareTables) : Type 0 where
+-- What all editions of a file share, but for the holidays, is as it was for all that the old tables know. Zones, stations, routes and their
+-- interchanges may come anew: no accepted tap was there, so no price changes.
+pub record KeepsNetwork (new old : FareTables) : Type 0 where
   pub zones : old.zones ≤ new.zones
   pub hopper : new.rules.hopper ≡ old.rules.hopper
   pub places : (number : ℕ) → IsKnownPlace old number → get new.places number ≡ get old.places number
-  pub interchanges : (a b : ℕ) → IsAlike new old a b
+  pub interchanges : (a b : ℕ) → KeepsInterchange new old a b
 
--- Tables price a day as old ones do: within the old zones legs may last as long and single fares cost the same, the rules and the bands are the
--- same, and the day is a public holiday by both or by neither.
+-- Tables price a day as old ones do: within the old zones the allowed times and the single fares are the same, so are the rules and the bands, and
+-- the day is a public holiday by both or by neither.
 pub record PriceAlike (new old : FareTables) (day : ℕ) : Type 0 where
   pub minutes : (span : Span) → IsSpan old.zones span → allowed_seconds new span ≡ allowed_seconds old span
   pub rules : new.rules ≡ old.rules
@@ -33,5 +33,5 @@ pub record PriceAlike (new old : FareTables) (day : ℕ) : Type 0 where
 
 -- A fare file prices each day up to one as the old file does.
 pub record AgreeThrough (new old : FareEditions) (last : ℕ) : Type 0 where
-  pub network : SharesNetwork new.own old.own
+  pub network : KeepsNetwork new.own old.own
   pub days : (day : ℕ) → FIRST_DAY ≤ day → day ≤ last → PriceAlike (on new day) (on old day) day

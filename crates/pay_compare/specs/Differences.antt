@@ -16,7 +16,7 @@ PlacesDiffer new old number = IsKnownPlace old number × (get new.places number 
 abbrev pub InterchangesDiffer : FareTables → FareTables → ℕ → ℕ → Type 0
 InterchangesDiffer new old a b = IsKnownPlace old a × IsKnownPlace old b × (interchange new a b ≢ interchange old a b)
 
--- a key that all editions of a file share says otherwise what the old tables say
+-- a key that all editions of a file share differs from what the old tables say
 abbrev pub NetworkDiffers : FareTables → FareTables → Key → Type 0
 NetworkDiffers new old key.Zones = new.zones < old.zones
 NetworkDiffers new old key.Hopper = new.rules.hopper ≢ old.rules.hopper
@@ -37,7 +37,7 @@ RulesDiffer new old _ = ⊥
 abbrev pub from_first : ℕ → Span
 from_first zones = record { from = 1; to = zones }
 
--- legs that span so many of the old zones may not last as long
+-- the allowed time of legs that span so many of the old zones is another
 abbrev pub MinutesDiffer : FareTables → FareTables → ℕ → Type 0
 MinutesDiffer new old zones = (1 ≤ zones) × (zones ≤ old.zones) × (allowed_seconds new (from_first zones) ≢ allowed_seconds old (from_first zones))
 

@@ -12,12 +12,12 @@ use Rattle.pay_rules.specs.Quotes.{quote}
 use Rattle.pay_compare.specs.Agreement.{IsKnownPlace}
 
 -- an effective tap of a day up to one, at a place that the old file knows
-abbrev pub IsThrough : FareEditions → ℕ → Touch → Type 0
-IsThrough old last touch = (FIRST_DAY ≤ touch.stamp.day) × (touch.stamp.day ≤ last) × IsKnownPlace old.own touch.place
+abbrev pub IsTouchWithin : FareEditions → ℕ → Touch → Type 0
+IsTouchWithin old last touch = (FIRST_DAY ≤ touch.stamp.day) × (touch.stamp.day ≤ last) × IsKnownPlace old.own touch.place
 
 -- each effective tap of an account is one
-abbrev pub AreThrough : FareEditions → ℕ → Accepted → Type 0
-AreThrough old last accepted = AllByRecursion (IsThrough old last) (touches accepted)
+abbrev pub AreTouchesWithin : FareEditions → ℕ → Accepted → Type 0
+AreTouchesWithin old last accepted = AllByRecursion (IsTouchWithin old last) (touches accepted)
 
 -- An account comes to the same by two files: its journeys, the prices of each day and each week, what it shows, its statements, and what it owes.
 pub record ComesToTheSame (new old : FareEditions) (accepted : Accepted) : Type 0 where

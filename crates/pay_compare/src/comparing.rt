@@ -1,7 +1,7 @@
 //! The first day on which a fare file prices otherwise than an older one.
 ghost use Rattle.std.specs.Prelude.{◌≡◌, ◌≤◌, ◌<◌, ℕ, IfSome, None};
 ghost use Rattle.pay_day.specs.declared.limits.TheConstants.{FIRST_DAY, LAST_DAY};
-ghost use Rattle.pay_compare.specs.Agreement.{AgreeThrough, PriceAlike, SharesNetwork};
+ghost use Rattle.pay_compare.specs.Agreement.{AgreeThrough, PriceAlike, KeepsNetwork};
 ghost use Rattle.pay_compare.specs.Differences.{DayDiffers, IsDifference};
 ghost use Rattle.pay_tables.specs.Words.{on};
 
@@ -13,8 +13,9 @@ use pay_day::limits::{FIRST_DAY, LAST_DAY};
 use pay_tables::Editions;
 use pay_tables::laws::editions_share;
 
-/// The first day, and its first key, by which a fare file prices otherwise than an older file did, or `None` if it prices
-/// each day from 4 on as that one. New zones, stations, routes and their interchanges are no difference: no tap was there.
+/// The first day that a fare file prices otherwise than an older file did, with a key that differs, or `None` if it prices
+/// each day from 4 to 50,000 as that one. Of the keys those that all editions share come first, with day 4. New zones,
+/// stations, routes and their interchanges are no difference: no accepted tap was there.
 pub fn first_difference(new: &Editions, old: &Editions) -> Option<Difference>
     ensures agree { (last : ℕ) → FIRST_DAY ≤ last → last ≤ LAST_DAY → IfSome result (λ d. last < d.day) → AgreeThrough new.now old.now last }
     ensures differs { IfSome result (λ d. IsDifference new.now old.now d.day d.key) }
@@ -31,7 +32,7 @@ pub fn first_difference(new: &Editions, old: &Editions) -> Option<Difference>
 
 /// The first day that its edition prices otherwise.
 fn first_day_that_differs(new: &Editions, old: &Editions) -> Option<Difference>
-    requires { SharesNetwork new.now.own old.now.own }
+    requires { KeepsNetwork new.now.own old.now.own }
     ensures agree { (last : ℕ) → FIRST_DAY ≤ last → last ≤ LAST_DAY → IfSome result (λ d. last < d.day) → AgreeThrough new.now old.now last }
     ensures differs { IfSome result (λ d. IsDifference new.now old.now d.day d.key) }
     ensures in_range { IfSome result (λ d. (FIRST_DAY ≤ d.day) × (d.day ≤ LAST_DAY)) }

@@ -5,6 +5,6 @@ use crate::key::Key;
 pub struct Difference {
     /// The service day, counted from 1970-01-01. All days before it, from day 4 on, are priced alike.
     pub day: u32,
-    /// The first key, in the order of a fare file, that differs on that day.
+    /// A key that differs on that day.
     pub key: Key,
 }

@@ -7,7 +7,7 @@ use std::fmt::{Display, Formatter, Write};
 pub enum Key {
     /// There are fewer zones.
     Zones,
-    /// How long a leg may last that spans so many zones: 1 to 9.
+    /// The allowed time of legs that span so many zones: 1 to 9.
     Minutes(u8),
     /// The bus fare.
     Bus,
@@ -35,7 +35,7 @@ impl Display for Key {
     fn fmt<W: Write>(&self, f: &mut Formatter<W>) -> fmt::Result {
         match *self {
             Key::Zones => f.write_str("zones"),
-            Key::Minutes(zones) => write!(f, "minutes {zones}"),
+            Key::Minutes(zones) => write!(f, "minutes for {zones} zones"),
             Key::Bus => f.write_str("rules.bus"),
             Key::Maximum => f.write_str("rules.maximum"),
             Key::Hopper => f.write_str("rules.hopper"),

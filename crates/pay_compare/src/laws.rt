@@ -1,12 +1,15 @@
 //! What agreement of fare files means for the accounts. Each law is the contract of a function that does nothing: a
 //! caller whose proof needs a law calls its function.
-ghost use Rattle.std.specs.Prelude.{◌≡◌, ℕ, []};
+ghost use Rattle.std.specs.Prelude.{◌≡◌, ◌≤◌, ℕ, []};
+ghost use Rattle.pay_day.specs.declared.limits.TheConstants.{FIRST_DAY};
 ghost use Rattle.pay_tables.specs.Words.{FareEditions};
 ghost use Rattle.pay_rules.specs.Accepted.{Accepted};
 ghost use Rattle.pay_compare.specs.Agreement.{AgreeThrough};
+ghost use Rattle.pay_compare.specs.Differences.{IsDifference};
 ghost use Rattle.pay_compare.specs.OneEdition.{IsOfOneEdition};
-ghost use Rattle.pay_compare.specs.Laws.{AreThrough, ComesToTheSame};
+ghost use Rattle.pay_compare.specs.Laws.{AreTouchesWithin, ComesToTheSame};
 
+use crate::key::Key;
 use pay_tables::Editions;
 use pay_tables::laws::{each_day, editions_share, spans_within};
 
@@ -14,7 +17,7 @@ use pay_tables::laws::{each_day, editions_share, spans_within};
 /// the old one knows, the account comes to the same by both: its journeys, the price of each day and of each week, what it
 /// shows, its statements and its quotes.
 pub fn agreement(new: &Editions, old: &Editions)
-    ensures { (last : ℕ) (accepted : Accepted) → AgreeThrough new.now old.now last → AreThrough old.now last accepted
+    ensures { (last : ℕ) (accepted : Accepted) → AgreeThrough new.now old.now last → AreTouchesWithin old.now last accepted
         → ComesToTheSame new.now old.now accepted }
 {
     editions_share(new);
@@ -27,4 +30,9 @@ pub fn agreement(new: &Editions, old: &Editions)
 /// what each operator carried.
 pub fn without_editions()
     ensures { (editions : FareEditions) → editions.items ≡ [] → IsOfOneEdition editions }
+{}
+
+/// A difference on a day is one: the two files do not agree through it.
+pub fn difference()
+    ensures { (new old : FareEditions) (day : ℕ) (key : Key) → FIRST_DAY ≤ day → IsDifference new old day key → ¬ AgreeThrough new old day }
 {}

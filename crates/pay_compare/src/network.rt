@@ -2,7 +2,7 @@
 ghost use Rattle.std.specs.Prelude.{◌≡◌, ◌≢◌, ◌↔◌, ℕ, IfSome, IsTrue, None, All, false};
 ghost use Rattle.std.specs.FinMap.{get};
 ghost use Rattle.pay_tables.specs.Words.{interchange};
-ghost use Rattle.pay_compare.specs.Agreement.{IsAlike, IsKnownPlace, SharesNetwork};
+ghost use Rattle.pay_compare.specs.Agreement.{KeepsInterchange, IsKnownPlace, KeepsNetwork};
 ghost use Rattle.pay_compare.specs.Differences.{InterchangesDiffer, NetworkDiffers, PlacesDiffer};
 
 use crate::key::Key;
@@ -10,7 +10,7 @@ use pay_tables::{Interchange, Tables};
 
 /// A key that all editions share and that differs for what the old tables know.
 pub fn network_difference(new: &Tables, old: &Tables) -> Option<Key>
-    ensures none { result ≡ None → SharesNetwork new.now old.now }
+    ensures none { result ≡ None → KeepsNetwork new.now old.now }
     ensures differs { IfSome result (NetworkDiffers new.now old.now) }
 {
     if new.zones() < old.zones() {
@@ -63,7 +63,7 @@ fn difference_among<'a>(
     old: &Tables,
     pairs: &'a [Interchange],
 ) -> Option<&'a Interchange>
-    ensures none { result ≡ None → All (λ pair. IsAlike new.now old.now pair.a pair.b) pairs.now }
+    ensures none { result ≡ None → All (λ pair. KeepsInterchange new.now old.now pair.a pair.b) pairs.now }
     ensures differs { IfSome result (λ pair. InterchangesDiffer new.now old.now pair.now.a pair.now.b) }
 {
     pairs
@@ -72,7 +72,7 @@ fn difference_among<'a>(
 }
 
 fn interchange_differs(new: &Tables, old: &Tables, a: u16, b: u16) -> bool
-    ensures alike { result ≡ false → IsAlike new.now old.now a b }
+    ensures alike { result ≡ false → KeepsInterchange new.now old.now a b }
     ensures differs { IsTrue result → InterchangesDiffer new.now old.now a b }
 {
     let are_old = old.place(a).is_some() && old.place(b).is_some();

@@ -57,7 +57,7 @@ fn same_band(band: &Band, other: &Band) -> bool
     band.cover.same_as(other.cover) && band.day == other.day && band.week == other.week
 }
 
-/// How many zones a leg spans that may last otherwise, the least number of them.
+/// The least number of zones for which legs have another allowed time.
 fn minutes_difference(new: &Tables, old: &Tables) -> Option<u8>
     requires { old.now.zones ≤ new.now.zones }
     ensures none { result ≡ None → (span : Span) → IsSpan old.now.zones span → allowed_seconds new.now span ≡ allowed_seconds old.now span }
