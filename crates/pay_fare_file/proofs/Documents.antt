@@ -1,4 +1,4 @@
--- Only a text that is no document is refused as such.
+-- A document is refused neither as none nor for want of memory.
 use Rattle.std.proofs.Common.{◌≡◌, ℕ, ℤ, ◌+◌, ◌-◌, pos, negsuc, min, Bool, true, false, cond, List, [], Option, Some, None, Result, Ok, Err, refl, sym, ap, ◌∙◌, codes}
 use Rattle.std.specs.Prelude.{ok_or, nat_le, nat_lt, ◌==◌, ◌&&◌}
 use Rattle.toml.specs.Data.{Data, Items, no_items, item, Members, get_member, as_integer, as_table, as_array}
@@ -6,7 +6,7 @@ use Rattle.pay_day.specs.declared.limits.TheConstants.{FIRST_DAY, LAST_DAY}
 use Rattle.pay_money.specs.declared.limits.TheConstants.{OPERATORS}
 use Rattle.pay_tables.specs.declared.limits.TheConstants.{MOST_ZONES, MOST_MINUTES, MOST_FARE, MOST_HOPPER_SECONDS, MOST_SAME_SECONDS, MOST_INTERCHANGE_SECONDS, MOST_PLACE, MOST_HOLIDAYS, MOST_PLACES, MOST_INTERCHANGES, MOST_BANDS, MOST_EDITIONS}
 use Rattle.pay_fare_file.specs.declared.fault.FareFileFault.{FareFileFault}
-use Rattle.pay_fare_file.specs.declared.fault.FareFileFault.TheVariants.{NotToml, MissingKey, WrongType, OutOfRange, Duplicate, UnknownPlace, TooMany, HopperDiffers}
+use Rattle.pay_fare_file.specs.declared.fault.FareFileFault.TheVariants.{NotToml, MissingKey, WrongType, OutOfRange, Duplicate, UnknownPlace, TooMany, HopperDiffers, Memory}
 use Rattle.std.specs.Ordering.{nat_cmp}
 use Rattle.std.specs.FinMap.{FinMap, contains_key, empty}
 use Rattle.pay_tables.specs.declared.band.Band.{Band}
@@ -21,6 +21,7 @@ use Rattle.pay_fare_file.specs.FareFile.{with_each, with_minutes, minutes_items_
 
 abbrev other_fault : FareFileFault → Bool
 other_fault NotToml = false
+other_fault Memory = false
 other_fault _ = true
 
 -- no fault, or another
@@ -232,10 +233,14 @@ fare_file_other ms =
     then_other (own_keys ms) _ (own_keys_other ms) (λ own.
     then_other (editions_at own ms) _ (editions_at_other own ms) (λ items. refl))
 
-refused_as_none : {X : Type 0} (r : Result X FareFileFault) → other r ≡ true → r ≡ Err NotToml → ⊥
-refused_as_none (Ok x) h e = absurd cc
-refused_as_none (Err fault) h e = let same : fault ≡ NotToml = cc in let no : false ≡ true = sym (ap other_fault same) ∙ h in absurd cc
+refused_as : {X : Type 0} (none : FareFileFault) (r : Result X FareFileFault) → other_fault none ≡ false → other r ≡ true → r ≡ Err none → ⊥
+refused_as none (Ok x) n h e = absurd cc
+refused_as none (Err fault) n h e = let same : fault ≡ none = cc in let no : false ≡ true = sym n ∙ sym (ap other_fault same) ∙ h in absurd cc
 
 -- a document is not refused as none
 pub fare_file-never_NotToml : (ms : Members) → fare_file ms ≡ Err NotToml → ⊥
-fare_file-never_NotToml ms = refused_as_none (fare_file ms) (fare_file_other ms)
+fare_file-never_NotToml ms = refused_as NotToml (fare_file ms) refl (fare_file_other ms)
+
+-- nor for want of memory
+pub fare_file-never_Memory : (ms : Members) → fare_file ms ≡ Err Memory → ⊥
+fare_file-never_Memory ms = refused_as Memory (fare_file ms) refl (fare_file_other ms)

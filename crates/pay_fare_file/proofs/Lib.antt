@@ -2,3 +2,4 @@ pub mod Items
 pub mod Documents
 pub mod Ranges
 pub mod Inclusive
+pub mod Forgetting

@@ -25,7 +25,7 @@ use Rattle.pay_tables.specs.Words.{FareEditions, FareTables, is_between, same_co
 use Rattle.pay_fare_file.specs.Keys.{array_at, integer_at, integer_of, items_at, items_len, table_of, table_at}
 
 -- what was said before some items, and what each of them adds to it, in order
-abbrev pub with_each : {X : Type 0} → (X → Data → Result X FareFileFault) → X → Items → Result X FareFileFault
+abbrev pub with_each : {X E : Type 0} → (X → Data → Result X E) → X → Items → Result X E
 with_each with_one before no_items = Ok before
 with_each with_one before (item d ds) = do
   now ← with_one before d

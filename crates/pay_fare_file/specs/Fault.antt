@@ -29,12 +29,12 @@ fault_name Memory = codes "Memory"
 
 infixl 10 ◌>>=◌
 -- what follows a step, unless that step found a fault
-abbrev pub ◌>>=◌ : {A B : Type 0} → Result A FareFileFault → (A → Result B FareFileFault) → Result B FareFileFault
+abbrev pub ◌>>=◌ : {A B E : Type 0} → Result A E → (A → Result B E) → Result B E
 (Ok x) >>= f = f x
 (Err e) >>= f = Err e
 
 -- the answer, as view sees it, is what the definition gives
-abbrev pub Gives : {X Y : Type 0} → (X → Y) → Result X FareFileFault → Result Y FareFileFault → Type 0
+abbrev pub Gives : {X Y E : Type 0} → (X → Y) → Result X E → Result Y E → Type 0
 Gives view answer given = MatchResult answer (λ x. given ≡ Ok (view x)) (λ fault. given ≡ Err fault)
 
 -- the same, or memory ran out

@@ -21,37 +21,37 @@ use Rattle.pay_fare_file.specs.FareFile.{minutes_at, rules_of, singles_at, bands
 -- ---- how the rows are written
 
 -- a key with a number
-abbrev number : List ℕ → ℕ → Members → Members
+abbrev pub number : List ℕ → ℕ → Members → Members
 number key n rest = member key (integer (pos n)) rest
 
-abbrev numbers : List ℕ → Items
+abbrev pub numbers : List ℕ → Items
 numbers [] = no_items
 numbers (n ∷ ns) = item (integer (pos n)) (numbers ns)
 
-abbrev one : Data → Items
+abbrev pub one : Data → Items
 one d = item d no_items
 
-abbrev a_text : Data
+abbrev pub a_text : Data
 a_text = string (codes "x")
 
-abbrev rules : ℕ → ℕ → ℕ → ℕ → ℕ → Members
+abbrev pub rules : ℕ → ℕ → ℕ → ℕ → ℕ → Members
 rules bus maximum hopper same_free same_limit =
     number (codes "bus") bus (number (codes "hopper") hopper (number (codes "maximum") maximum (number (codes "same_free") same_free (number (codes "same_limit") same_limit no_members))))
 
-abbrev fare : ℕ → ℕ → ℕ → ℕ → Data
+abbrev pub fare : ℕ → ℕ → ℕ → ℕ → Data
 fare from to peak off = table (number (codes "from") from (number (codes "off") off (number (codes "peak") peak (number (codes "to") to no_members))))
 
-abbrev station : ℕ → ℕ → ℕ → ℕ → Data
+abbrev pub station : ℕ → ℕ → ℕ → ℕ → Data
 station place low high operator = table (number (codes "high") high (number (codes "low") low (number (codes "operator") operator (number (codes "place") place no_members))))
 
-abbrev route : ℕ → ℕ → Data
+abbrev pub route : ℕ → ℕ → Data
 route place operator = table (number (codes "operator") operator (number (codes "place") place no_members))
 
-abbrev cap : ℕ → ℕ → ℕ → ℕ → Data
+abbrev pub cap : ℕ → ℕ → ℕ → ℕ → Data
 cap from to day week = table (number (codes "day") day (number (codes "from") from (number (codes "to") to (number (codes "week") week no_members))))
 
 -- a file of these keys
-abbrev file : ℕ → List ℕ → Members → Items → Items → List ℕ → Items → Items → Members
+abbrev pub file : ℕ → List ℕ → Members → Items → Items → List ℕ → Items → Items → Members
 file zones minutes r singles bands holidays stations routes =
     member (codes "band") (array bands) (member (codes "holidays") (array (numbers holidays)) (member (codes "minutes") (array (numbers minutes))
     (member (codes "route") (array routes) (member (codes "rules") (table r) (member (codes "single") (array singles) (member (codes "station") (array stations)
@@ -78,16 +78,16 @@ alone tables = record { own = tables; items = [] }
 
 -- ---- the sample, without its interchange
 
-abbrev sample_rules : Members
+abbrev pub sample_rules : Members
 sample_rules = rules 175 860 3_600 120 1_800
 
-abbrev sample_singles : Items
+abbrev pub sample_singles : Items
 sample_singles = item (fare 1 1 280 270) (item (fare 1 2 340 280) (item (fare 1 3 370 300) (item (fare 2 2 200 190) (item (fare 2 3 210 195) (one (fare 3 3 200 180))))))
 
-abbrev sample_bands : Items
+abbrev pub sample_bands : Items
 sample_bands = item (cap 0 0 525 2_470) (item (cap 1 2 890 4_470) (one (cap 1 3 1_050 5_250)))
 
-abbrev sample_stations : Items
+abbrev pub sample_stations : Items
 sample_stations = item (station 10 1 1 1) (item (station 11 1 2 1) (item (station 12 2 2 2) (item (station 13 2 3 2) (one (station 14 3 3 3)))))
 
 abbrev sample_tables : FareTables
@@ -151,7 +151,7 @@ stations_before_routes = refl
 
 -- ---- minutes
 
-abbrev minutes : Items → Members
+abbrev pub minutes : Items → Members
 minutes items = member (codes "minutes") (array items) no_members
 
 no_minutes : minutes_at 2 no_members ≡ Err MissingKey
@@ -203,7 +203,7 @@ order_of_rules = refl
 
 -- ---- single fares of two zones
 
-abbrev singles : Items → Members
+abbrev pub singles : Items → Members
 singles items = member (codes "single") (array items) no_members
 
 in_any_order : singles_at 2 (singles (item (fare 2 2 7 6) (item (fare 1 1 5 4) (one (fare 1 2 9 8))))) ≡ Ok (says 2 2 7 6 ∷ says 1 1 5 4 ∷ says 1 2 9 8 ∷ [])
@@ -243,7 +243,7 @@ off_before_span = refl
 
 -- ---- bands of three zones
 
-abbrev bands : Items → Members
+abbrev pub bands : Items → Members
 bands items = member (codes "band") (array items) no_members
 
 no_bands : bands_at 3 no_members ≡ Ok []

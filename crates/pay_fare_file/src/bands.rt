@@ -1,30 +1,34 @@
 //! The bands: what the covered journeys of a day and of a week cost at most.
-ghost use Rattle.std.specs.Prelude.{◌≡◌, ◌≤◌, [], Err, IfOk, IsOk, codes};
+ghost use Rattle.std.specs.Prelude.{◌≡◌, [], Err, IsOk, codes};
 ghost use Rattle.toml.specs.View.{view, items_view, table_view};
 ghost use Rattle.pay_tables.specs.declared.limits.TheConstants.{MOST_BANDS};
-ghost use Rattle.pay_fare_file.specs.Fault.{GivesUnlessMemory};
 ghost use Rattle.pay_fare_file.specs.Keys.{items_at};
-ghost use Rattle.pay_fare_file.specs.FareFile.{another_band, band_of, bands_at, cover_at, cover_from, greatest_to, has_band, with_each, with_band};
+ghost use Rattle.pay_fare_file.specs.Spots.{TellsUnlessMemory};
+ghost use Rattle.pay_fare_file.specs.FareFile.{cover_from, greatest_to, has_band, with_each};
+ghost use Rattle.pay_fare_file.specs.FaultPlaces.{another_band_told, band_told, bands_told, cover_told, with_band_told};
 
 use crate::fault::FareFileFault;
-use crate::keys::{inner_table, integer_at, items_at, pence_at};
+use crate::key::Key;
+use crate::keys::{inner_table_told, integer_told, items_told, pence_told};
+use crate::misread::Misread;
+use crate::spot::Spot;
 use pay_tables::limits::MOST_BANDS;
 use pay_tables::{Band, Cover, Span};
 use std::alloc::Global;
 use toml::{Table, Value};
 
 /// The bands of a fare file.
-pub fn bands_at(alloc: Global, file: &Table, zones: u8) -> Result<Vec<Band>, FareFileFault>
-    ensures value { GivesUnlessMemory (λ bands. bands.items) result (bands_at zones (table_view file.now)) }
-    ensures memory { result ≡ Err FareFileFault.Memory → IsOk (items_at (codes "band") MOST_BANDS (table_view file.now)) }
+pub fn bands_told(alloc: Global, file: &Table, zones: u8) -> Result<Vec<Band>, Misread<Spot>>
+    ensures value { TellsUnlessMemory (λ bands. bands.items) result (bands_told zones (table_view file.now)) }
+    ensures memory { result ≡ Err Misread.Memory → IsOk (items_at (codes "band") MOST_BANDS (table_view file.now)) }
 {
-    let items = items_at(file, "band", MOST_BANDS)?;
+    let items = items_told(file, Spot::AtKey(Key::Band), MOST_BANDS)?;
     each_band(alloc, items, zones)
 }
 
 /// The bands that the items say.
-fn each_band(alloc: Global, items: &[Value], zones: u8) -> Result<Vec<Band>, FareFileFault>
-    ensures { GivesUnlessMemory (λ bands. bands.items) result (with_each (with_band zones) [] (items_view items.now)) }
+fn each_band(alloc: Global, items: &[Value], zones: u8) -> Result<Vec<Band>, Misread<Spot>>
+    ensures { TellsUnlessMemory (λ bands. bands.items) result (with_each (with_band_told zones) [] (items_view items.now)) }
 {
     let mut bands = Vec::new(alloc);
     for item in items {
@@ -35,33 +39,36 @@ fn each_band(alloc: Global, items: &[Value], zones: u8) -> Result<Vec<Band>, Far
 }
 
 /// The band that an item says, of a cover that has none yet.
-fn another_band(bands: &[Band], item: &Value, zones: u8) -> Result<Band, FareFileFault>
-    ensures { result ≡ another_band zones bands.now (view item.now) }
+fn another_band(bands: &[Band], item: &Value, zones: u8) -> Result<Band, Misread<Spot>>
+    ensures { result ≡ another_band_told zones bands.now (view item.now) }
 {
-    let band = band(item, zones)?;
+    let number = bands.len() + 1;
+    let band = band(item, zones, number)?;
     if has_band(bands, band.cover) {
-        return Err(FareFileFault::Duplicate);
+        return Err(Misread::At(Spot::AtItem(Key::Band, number), FareFileFault::Duplicate));
     }
     Ok(band)
 }
 
-fn band(item: &Value, zones: u8) -> Result<Band, FareFileFault>
-    ensures { result ≡ band_of zones (view item.now) }
+fn band(item: &Value, zones: u8, number: usize) -> Result<Band, Misread<Spot>>
+    ensures { result ≡ band_told zones number (view item.now) }
 {
-    let table = inner_table(item)?;
-    let cover = cover_at(table, zones)?;
-    let day = pence_at(table, "day")?;
-    let week = pence_at(table, "week")?;
+    let table = inner_table_told(item, Spot::AtItem(Key::Band, number))?;
+    let cover = cover(table, zones, number)?;
+    let day = pence_told(table, Spot::InItem(Key::Band, number, Key::Day))?;
+    let week = pence_told(table, Spot::InItem(Key::Band, number, Key::Week))?;
     Ok(Band { cover, day, week })
 }
 
 /// What a band covers, by its first zone and its last.
-fn cover_at(table: &Table, zones: u8) -> Result<Cover, FareFileFault>
-    ensures { result ≡ cover_at zones (table_view table.now) }
+fn cover(table: &Table, zones: u8, number: usize) -> Result<Cover, Misread<Spot>>
+    ensures { result ≡ cover_told zones number (table_view table.now) }
 {
     let zones = u32::from(zones);
-    let from = integer_at(table, "from", 0, zones)?;
-    let to = integer_at(table, "to", from, greatest_to(zones, from))?;
+    let first = Spot::InItem(Key::Band, number, Key::From);
+    let last = Spot::InItem(Key::Band, number, Key::To);
+    let from = integer_told(table, first, 0, zones)?;
+    let to = integer_told(table, last, from, greatest_to(zones, from))?;
     Ok(cover_from(from as u8, to as u8))
 }
 

@@ -1,17 +1,26 @@
 //! The editions: fares that hold from a day on.
-ghost use Rattle.std.specs.Prelude.{◌≡◌, [], Err, IsOk, codes};
+ghost use Rattle.std.specs.Prelude.{◌≡◌, ◌≤◌, [], Err, IfOk, IsOk, codes};
 ghost use Rattle.toml.specs.View.{view, items_view, table_view};
+ghost use Rattle.pay_day.specs.declared.limits.TheConstants.{LAST_DAY};
 ghost use Rattle.pay_tables.specs.declared.limits.TheConstants.{MOST_EDITIONS};
-ghost use Rattle.pay_fare_file.specs.Fault.{GivesUnlessMemory};
-ghost use Rattle.pay_fare_file.specs.Keys.{items_at};
-ghost use Rattle.pay_fare_file.specs.FareFile.{another_edition, edition_of, editions_at, has_edition, tables_of_edition, with_each, with_edition};
+ghost use Rattle.pay_fare_file.specs.declared.key.Key.TheVariants as key;
+ghost use Rattle.pay_fare_file.specs.declared.spot.FaultPlace.TheVariants.{Own, OfEdition};
+ghost use Rattle.pay_fare_file.specs.declared.spot.Spot.TheVariants.{AtItem};
+ghost use Rattle.pay_fare_file.specs.Fault.{Gives};
+ghost use Rattle.pay_fare_file.specs.Keys.{items_at, table_of};
+ghost use Rattle.pay_fare_file.specs.Spots.{TellsUnlessMemory, put_in, told};
+ghost use Rattle.pay_fare_file.specs.FareFile.{has_edition, with_each};
+ghost use Rattle.pay_fare_file.specs.FaultPlaces.{another_edition_told, day_told, edition_told, editions_told, tables_of_edition_told, with_edition_told};
 
-use crate::bands::bands_at;
+use crate::bands::bands_told;
 use crate::fault::FareFileFault;
-use crate::keys::{inner_table, integer_at, items_at, table_at};
-use crate::minutes::minutes_at;
-use crate::rules::rules_of;
-use crate::singles::singles_at;
+use crate::key::Key;
+use crate::keys::{inner_table_told, integer_told, items_told};
+use crate::minutes::minutes_told;
+use crate::misread::Misread;
+use crate::rules::rules_at_told;
+use crate::singles::singles_told;
+use crate::spot::{FaultPlace, Spot};
 use pay_day::limits::{FIRST_DAY, LAST_DAY};
 use pay_tables::limits::MOST_EDITIONS;
 use pay_tables::{Edition, EditionParts, Tables};
@@ -19,17 +28,27 @@ use std::alloc::Global;
 use toml::{Table, Value};
 
 /// The editions of a fare file whose own keys say so much.
-pub fn editions_at(alloc: Global, file: &Table, own: &Tables) -> Result<Vec<Edition>, FareFileFault>
-    ensures value { GivesUnlessMemory (λ editions. editions.items) result (editions_at own.now (table_view file.now)) }
-    ensures memory { result ≡ Err FareFileFault.Memory → IsOk (items_at (codes "edition") MOST_EDITIONS (table_view file.now)) }
+pub fn editions_told(
+    alloc: Global,
+    file: &Table,
+    own: &Tables,
+) -> Result<Vec<Edition>, Misread<FaultPlace>>
+    ensures value { TellsUnlessMemory (λ editions. editions.items) result (editions_told own.now (table_view file.now)) }
+    ensures memory { result ≡ Err Misread.Memory → IsOk (items_at (codes "edition") MOST_EDITIONS (table_view file.now)) }
 {
-    let items = items_at(file, "edition", MOST_EDITIONS)?;
-    each_edition(alloc, items, own)
+    match items_told(file, Spot::AtKey(Key::Edition), MOST_EDITIONS) {
+        Ok(items) => each_edition(alloc, items, own),
+        Err(misread) => Err(misread.in_own()),
+    }
 }
 
 /// The editions that the items say.
-fn each_edition(alloc: Global, items: &[Value], own: &Tables) -> Result<Vec<Edition>, FareFileFault>
-    ensures { GivesUnlessMemory (λ editions. editions.items) result (with_each (with_edition own.now) [] (items_view items.now)) }
+fn each_edition(
+    alloc: Global,
+    items: &[Value],
+    own: &Tables,
+) -> Result<Vec<Edition>, Misread<FaultPlace>>
+    ensures { TellsUnlessMemory (λ editions. editions.items) result (with_each (with_edition_told own.now) [] (items_view items.now)) }
 {
     let mut editions = Vec::new(alloc);
     for item in items {
@@ -45,35 +64,79 @@ fn another_edition(
     editions: &[Edition],
     item: &Value,
     own: &Tables,
-) -> Result<Edition, FareFileFault>
-    ensures { GivesUnlessMemory (λ edition. edition) result (another_edition own.now editions.now (view item.now)) }
+) -> Result<Edition, Misread<FaultPlace>>
+    ensures { TellsUnlessMemory (λ edition. edition) result (another_edition_told own.now editions.now (view item.now)) }
 {
-    let edition = edition(alloc, item, own)?;
+    let number = editions.len() + 1;
+    let edition = edition(alloc, item, own, number)?;
     if has_edition(editions, edition.day) {
-        return Err(FareFileFault::Duplicate);
+        let spot = Spot::InItem(Key::Edition, number, Key::Day);
+        return Err(Misread::At(FaultPlace::Own(spot), FareFileFault::Duplicate));
     }
     Ok(edition)
 }
 
-fn edition(alloc: Global, item: &Value, own: &Tables) -> Result<Edition, FareFileFault>
-    ensures { GivesUnlessMemory (λ edition. edition) result (edition_of own.now (view item.now)) }
+fn edition(
+    alloc: Global,
+    item: &Value,
+    own: &Tables,
+    number: usize,
+) -> Result<Edition, Misread<FaultPlace>>
+    ensures { TellsUnlessMemory (λ edition. edition) result (edition_told own.now number (view item.now)) }
 {
-    let table = inner_table(item)?;
-    let day = integer_at(table, "day", FIRST_DAY + 1, LAST_DAY)?;
-    let tables = tables_of_edition(alloc, table, own)?;
+    let table = edition_table(item, number)?;
+    let day = edition_day(table, number)?;
+    let tables = tables_on(alloc, table, own, day)?;
     Ok(Edition { day, tables })
 }
 
-/// The tables of an edition: it says anew what its keys name, and the rest is the file's own.
-fn tables_of_edition(alloc: Global, table: &Table, own: &Tables) -> Result<Tables, FareFileFault>
-    ensures { GivesUnlessMemory (λ tables. tables) result (tables_of_edition own.now (table_view table.now)) }
+/// The table of an edition.
+fn edition_table(item: &Value, number: usize) -> Result<&Table, Misread<FaultPlace>>
+    ensures { Gives (λ t. table_view t.now) result (told (Own (AtItem key.Edition number)) (table_of (view item.now))) }
 {
-    pay_tables::laws::in_range(own);
+    match inner_table_told(item, Spot::AtItem(Key::Edition, number)) {
+        Ok(table) => Ok(table),
+        Err(misread) => Err(misread.in_own()),
+    }
+}
+
+/// The first day of an edition.
+fn edition_day(table: &Table, number: usize) -> Result<u32, Misread<FaultPlace>>
+    ensures value { result ≡ put_in Own (day_told number (table_view table.now)) }
+    ensures range { IfOk result (λ day. day ≤ LAST_DAY) }
+{
+    let spot = Spot::InItem(Key::Edition, number, Key::Day);
+    match integer_told(table, spot, FIRST_DAY + 1, LAST_DAY) {
+        Ok(day) => Ok(day),
+        Err(misread) => Err(misread.in_own()),
+    }
+}
+
+/// The tables of the edition of a day.
+fn tables_on(
+    alloc: Global,
+    table: &Table,
+    own: &Tables,
+    day: u32,
+) -> Result<Tables, Misread<FaultPlace>>
+    ensures { TellsUnlessMemory (λ tables. tables) result (put_in (OfEdition day) (tables_of_edition_told own.now (table_view table.now))) }
+{
+    match tables_of_edition(alloc, table, own) {
+        Ok(tables) => Ok(tables),
+        Err(misread) => Err(misread.in_edition(day)),
+    }
+}
+
+/// The tables of an edition: it says anew what its keys name, and the rest is the file's own.
+fn tables_of_edition(alloc: Global, table: &Table, own: &Tables) -> Result<Tables, Misread<Spot>>
+    ensures { TellsUnlessMemory (λ tables. tables) result (tables_of_edition_told own.now (table_view table.now)) }
+{
     let zones = own.zones();
-    let minutes = minutes_at(alloc, table, zones)?;
-    let rules = rules_of(table_at(table, "rules")?, Some(own.rules().hopper))?;
-    let singles = singles_at(alloc, table, zones)?;
-    let bands = bands_at(alloc, table, zones)?;
+    let minutes = minutes_told(alloc, table, zones)?;
+    let rules = rules_at_told(table, Some(own.rules().hopper))?;
+    let singles = singles_told(alloc, table, zones)?;
+    let bands = bands_told(alloc, table, zones)?;
+    pay_tables::laws::in_range(own);
     let tables = own.edition(EditionParts {
         minutes,
         rules,

@@ -2,27 +2,31 @@
 ghost use Rattle.std.specs.Prelude.{◌≡◌, ◌≤◌, [], Err, IfOk, IsOk, codes};
 ghost use Rattle.toml.specs.View.{view, items_view, table_view};
 ghost use Rattle.pay_tables.specs.declared.limits.TheConstants.{MOST_INTERCHANGES, MOST_PLACE};
-ghost use Rattle.pay_fare_file.specs.Fault.{GivesUnlessMemory};
 ghost use Rattle.pay_fare_file.specs.Keys.{items_at};
-ghost use Rattle.pay_fare_file.specs.FareFile.{another_at, another_interchange, interchange_of, joins_stations, has_interchange, interchanges_at, is_station_at, with_each, with_interchange};
+ghost use Rattle.pay_fare_file.specs.Spots.{TellsUnlessMemory};
+ghost use Rattle.pay_fare_file.specs.FareFile.{another_at, joins_stations, has_interchange, is_station_at, unless_joined, with_each};
+ghost use Rattle.pay_fare_file.specs.FaultPlaces.{another_interchange_told, interchange_told, interchanges_told, with_interchange_told};
 
 use crate::fault::FareFileFault;
-use crate::keys::{inner_table, integer_at, items_at};
+use crate::key::Key;
+use crate::keys::{inner_table_told, integer_at, integer_told, items_told};
+use crate::misread::{Misread, told};
+use crate::spot::Spot;
 use pay_tables::limits::{MOST_INTERCHANGE_SECONDS, MOST_INTERCHANGES, MOST_PLACE};
 use pay_tables::{Interchange, Place, Places};
 use std::alloc::Global;
 use toml::{Table, Value};
 
 /// The interchanges of a fare file, which are between its stations.
-pub fn interchanges_at(
+pub fn interchanges_told(
     alloc: Global,
     file: &Table,
     places: &Places,
-) -> Result<Vec<Interchange>, FareFileFault>
-    ensures value { GivesUnlessMemory (λ interchanges. interchanges.items) result (interchanges_at places.now (table_view file.now)) }
-    ensures memory { result ≡ Err FareFileFault.Memory → IsOk (items_at (codes "interchange") MOST_INTERCHANGES (table_view file.now)) }
+) -> Result<Vec<Interchange>, Misread<Spot>>
+    ensures value { TellsUnlessMemory (λ interchanges. interchanges.items) result (interchanges_told places.now (table_view file.now)) }
+    ensures memory { result ≡ Err Misread.Memory → IsOk (items_at (codes "interchange") MOST_INTERCHANGES (table_view file.now)) }
 {
-    let items = items_at(file, "interchange", MOST_INTERCHANGES)?;
+    let items = items_told(file, Spot::AtKey(Key::Interchange), MOST_INTERCHANGES)?;
     each_interchange(alloc, items, places)
 }
 
@@ -31,8 +35,8 @@ fn each_interchange(
     alloc: Global,
     items: &[Value],
     places: &Places,
-) -> Result<Vec<Interchange>, FareFileFault>
-    ensures { GivesUnlessMemory (λ interchanges. interchanges.items) result (with_each (with_interchange places.now) [] (items_view items.now)) }
+) -> Result<Vec<Interchange>, Misread<Spot>>
+    ensures { TellsUnlessMemory (λ interchanges. interchanges.items) result (with_each (with_interchange_told places.now) [] (items_view items.now)) }
 {
     let mut interchanges = Vec::new(alloc);
     for item in items {
@@ -47,26 +51,29 @@ fn another_interchange(
     interchanges: &[Interchange],
     item: &Value,
     places: &Places,
-) -> Result<Interchange, FareFileFault>
-    ensures { result ≡ another_interchange places.now interchanges.now (view item.now) }
+) -> Result<Interchange, Misread<Spot>>
+    ensures { result ≡ another_interchange_told places.now interchanges.now (view item.now) }
 {
-    let pair = interchange(item)?;
+    let number = interchanges.len() + 1;
+    let pair = interchange(item, number)?;
+    let spot = Spot::AtItem(Key::Interchange, number);
     if !joins_stations(places, pair) {
-        return Err(FareFileFault::UnknownPlace);
+        return Err(Misread::At(spot, FareFileFault::UnknownPlace));
     }
     if has_interchange(interchanges, pair) {
-        return Err(FareFileFault::Duplicate);
+        return Err(Misread::At(spot, FareFileFault::Duplicate));
     }
     Ok(pair)
 }
 
-fn interchange(item: &Value) -> Result<Interchange, FareFileFault>
-    ensures { result ≡ interchange_of (view item.now) }
+fn interchange(item: &Value, number: usize) -> Result<Interchange, Misread<Spot>>
+    ensures { result ≡ interchange_told number (view item.now) }
 {
-    let table = inner_table(item)?;
-    let a = integer_at(table, "a", 1, MOST_PLACE)?;
-    let b = another_at(table, "b", a)?;
-    let seconds = integer_at(table, "seconds", 1, MOST_INTERCHANGE_SECONDS)?;
+    let at = |key| Spot::InItem(Key::Interchange, number, key);
+    let table = inner_table_told(item, Spot::AtItem(Key::Interchange, number))?;
+    let a = integer_told(table, at(Key::A), 1, MOST_PLACE)?;
+    let b = told(at(Key::B), another_at(table, "b", a))?;
+    let seconds = integer_told(table, at(Key::Seconds), 1, MOST_INTERCHANGE_SECONDS)?;
     Ok(Interchange {
         a: a as u16,
         b: b as u16,

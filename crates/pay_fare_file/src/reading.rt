@@ -1,34 +1,33 @@
 //! The whole file, key by key.
-ghost use Rattle.std.specs.Prelude.{◌≡◌, ◌≢◌, ◌≤◌, IfOk, IfErr, IsOk, None, Ok, Err};
+ghost use Rattle.std.specs.Prelude.{◌≡◌, ◌≢◌, ◌≤◌, ◌↔◌, IfOk, IfErr, IsOk, None, Ok, Err};
 ghost use Rattle.toml.specs.Parse.{parse_document};
 ghost use Rattle.toml.specs.View.{table_view};
 ghost use Rattle.pay_tables.specs.declared.limits.TheConstants.{MOST_ZONES};
-ghost use Rattle.pay_fare_file.specs.Fault.{GivesUnlessMemory};
-ghost use Rattle.pay_fare_file.specs.FareFile.{zones_at, own_keys, fare_file, fare_text};
+ghost use Rattle.pay_fare_file.specs.declared.key.Key.TheVariants as key;
+ghost use Rattle.pay_fare_file.specs.declared.spot.FaultPlace.TheVariants.{Own};
+ghost use Rattle.pay_fare_file.specs.declared.spot.Spot.TheVariants.{AtKey};
+ghost use Rattle.pay_fare_file.specs.Spots.{TellsUnlessMemory, integer_told, put_in};
+ghost use Rattle.pay_fare_file.specs.FareFile.{zones_at, fare_text};
+ghost use Rattle.pay_fare_file.specs.FaultPlaces.{IsFaultPlace, TellsOfText, fare_file_told, own_keys_told};
 
-use crate::bands::bands_at;
-use crate::editions::editions_at;
+use crate::bands::bands_told;
+use crate::editions::editions_told;
 use crate::fault::FareFileFault;
-use crate::holidays::holidays_at;
-use crate::interchanges::interchanges_at;
-use crate::keys::{integer_at, table_at};
-use crate::minutes::minutes_at;
-use crate::places::places_at;
-use crate::rules::rules_of;
-use crate::singles::singles_at;
+use crate::holidays::holidays_told;
+use crate::interchanges::interchanges_told;
+use crate::key::Key;
+use crate::keys::integer_told;
+use crate::lines::no_document;
+use crate::minutes::minutes_told;
+use crate::misread::Misread;
+use crate::places::places_told;
+use crate::rules::rules_at_told;
+use crate::singles::singles_told;
+use crate::spot::{FaultPlace, Spot};
 use pay_tables::limits::MOST_ZONES;
 use pay_tables::{Editions, FareParts, Tables};
-use std::alloc::Global;
+use std::alloc::{AllocError, Global};
 use toml::Table;
-
-/// How many fare zones there are.
-fn zones_at(file: &Table) -> Result<u8, FareFileFault>
-    ensures value { result ≡ zones_at (table_view file.now) }
-    ensures in_range { IfOk result (λ zones. (1 ≤ zones) × (zones ≤ MOST_ZONES)) }
-{
-    let zones = integer_at(file, "zones", 1, MOST_ZONES)?;
-    Ok(zones as u8)
-}
 
 /// Reads the text of a fare file. The first fault is given, in the order of the keys; `Memory`
 /// comes before any that would be found later.
@@ -37,33 +36,75 @@ pub fn read_editions(alloc: Global, text: &str) -> Result<Editions, FareFileFaul
     ensures ok { IfOk result (λ editions. fare_text text.now ≡ Ok editions) }
     ensures refused { IfErr result (λ fault. fault ≢ FareFileFault.Memory → fare_text text.now ≡ Err fault) }
 {
-    let file = toml::table_from_str(alloc, text)?;
-    editions_of(alloc, &file)
+    match read(alloc, text) {
+        Ok(editions) => Ok(editions),
+        Err(misread) => Err(misread.fault()),
+    }
+}
+
+/// Where a text is at fault that `read_editions` refuses: the place of the fault that it gives. There is
+/// none where the text is read.
+pub fn fault_place(alloc: Global, text: &str) -> Result<Option<FaultPlace>, AllocError>
+    ensures place { IfOk result (IsFaultPlace text.now) }
+    ensures none { IfOk result (λ place. (place ≡ None) ↔ IsOk (fare_text text.now)) }
+{
+    find_place(alloc, text)
+}
+
+fn find_place(alloc: Global, text: &str) -> Result<Option<FaultPlace>, AllocError>
+    ensures { IfOk result (IsFaultPlace text.now) }
+{
+    match read(alloc, text) {
+        Ok(_) => Ok(None),
+        Err(Misread::At(place, _)) => Ok(Some(place)),
+        Err(Misread::Memory) => Err(AllocError),
+    }
+}
+
+/// What a text says, or its first fault with its place.
+fn read(alloc: Global, text: &str) -> Result<Editions, Misread<FaultPlace>>
+    ensures { TellsOfText text.now result }
+{
+    match toml::table_from_str(alloc, text) {
+        Ok(file) => editions_of(alloc, &file),
+        Err(error) => Err(no_document(text, error)),
+    }
 }
 
 /// What a document says.
-fn editions_of(alloc: Global, file: &Table) -> Result<Editions, FareFileFault>
-    ensures value { GivesUnlessMemory (λ editions. editions) result (fare_file (table_view file.now)) }
-    ensures memory { result ≡ Err FareFileFault.Memory → IsOk (zones_at (table_view file.now)) }
+fn editions_of(alloc: Global, file: &Table) -> Result<Editions, Misread<FaultPlace>>
+    ensures value { TellsUnlessMemory (λ editions. editions) result (fare_file_told (table_view file.now)) }
+    ensures memory { result ≡ Err Misread.Memory → IsOk (zones_at (table_view file.now)) }
 {
-    let own = own_keys(alloc, file)?;
-    let items = editions_at(alloc, file, &own)?;
+    let own = tables_of_own(alloc, file)?;
+    let items = editions_told(alloc, file, &own)?;
     Ok(Editions::new(own, items))
 }
 
-/// What a document's own keys say.
-fn own_keys(alloc: Global, file: &Table) -> Result<Tables, FareFileFault>
-    ensures value { GivesUnlessMemory (λ tables. tables) result (own_keys (table_view file.now)) }
-    ensures memory { result ≡ Err FareFileFault.Memory → IsOk (zones_at (table_view file.now)) }
+/// The tables of a document's own keys.
+fn tables_of_own(alloc: Global, file: &Table) -> Result<Tables, Misread<FaultPlace>>
+    ensures value { TellsUnlessMemory (λ tables. tables) result (put_in Own (own_keys_told (table_view file.now))) }
+    ensures memory { result ≡ Err Misread.Memory → IsOk (zones_at (table_view file.now)) }
 {
-    let zones = zones_at(file)?;
-    let minutes = minutes_at(alloc, file, zones)?;
-    let rules = rules_of(table_at(file, "rules")?, None)?;
-    let singles = singles_at(alloc, file, zones)?;
-    let bands = bands_at(alloc, file, zones)?;
-    let holidays = holidays_at(alloc, file)?;
-    let places = places_at(alloc, file, zones)?;
-    let interchanges = interchanges_at(alloc, file, &places)?;
+    match own_keys(alloc, file) {
+        Ok(own) => Ok(own),
+        Err(misread) => Err(misread.in_own()),
+    }
+}
+
+/// What a document's own keys say.
+fn own_keys(alloc: Global, file: &Table) -> Result<Tables, Misread<Spot>>
+    ensures value { TellsUnlessMemory (λ tables. tables) result (own_keys_told (table_view file.now)) }
+    ensures memory { result ≡ Err Misread.Memory → IsOk (zones_at (table_view file.now)) }
+{
+    let zones = zones_told(file)?;
+    let minutes = minutes_told(alloc, file, zones)?;
+    let rules = rules_at_told(file, None)?;
+    let singles = singles_told(alloc, file, zones)?;
+    let bands = bands_told(alloc, file, zones)?;
+    let holidays = holidays_told(alloc, file)?;
+    let places = places_told(alloc, file, zones)?;
+    let interchanges = interchanges_told(alloc, file, &places)?;
     let tables = Tables::new(
         alloc,
         FareParts {
@@ -78,4 +119,13 @@ fn own_keys(alloc: Global, file: &Table) -> Result<Tables, FareFileFault>
         },
     )?;
     Ok(tables)
+}
+
+/// How many fare zones there are.
+fn zones_told(file: &Table) -> Result<u8, Misread<Spot>>
+    ensures value { result ≡ integer_told (AtKey key.Zones) 1 MOST_ZONES (table_view file.now) }
+    ensures in_range { IfOk result (λ zones. (1 ≤ zones) × (zones ≤ MOST_ZONES)) }
+{
+    let zones = integer_told(file, Spot::AtKey(Key::Zones), 1, MOST_ZONES)?;
+    Ok(zones as u8)
 }

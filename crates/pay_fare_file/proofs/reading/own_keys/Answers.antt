@@ -2,7 +2,8 @@ use Rattle.std.proofs.Common.{◌≡◌, Ok, rules}
 use Rattle.std.proofs.lemmas.Result.{IfOk-at_ok}
 use Rattle.toml.specs.View.{table_view}
 use Rattle.pay_tables.specs.Words.{IsFareTables, FareTables}
-use Rattle.pay_fare_file.specs.FareFile.{own_keys}
+use Rattle.pay_fare_file.specs.FaultPlaces.{own_keys_told}
+use Rattle.pay_fare_file.proofs.Forgetting.{found, own_keys_untold}
 use Rattle.pay_fare_file.proofs.Ranges.{own_keys_are}
 use Rattle.pay_fare_file.proofs.reading.own_keys.Goals as goal
 
@@ -18,5 +19,6 @@ new-requires c =
       places = c.in_ok-places.places;
       interchanges = c.in_ok-interchanges.interchanges.items;
     } in
-    let given : own_keys (table_view c.args.file.now) ≡ Ok said = search rules in
-    IfOk-at_ok IsFareTables given (own_keys_are (table_view c.args.file.now))
+    let keys = table_view c.args.file.now in
+    let given : own_keys_told keys ≡ Ok said = search rules in
+    IfOk-at_ok IsFareTables (found (own_keys_told keys) (own_keys_untold keys) given) (own_keys_are keys)
