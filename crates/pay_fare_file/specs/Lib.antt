@@ -3,6 +3,8 @@ pub mod Keys
 pub mod Spots
 pub mod FareFile
 pub mod FaultPlaces
+pub mod Warnings
 pub mod Words
 pub mod Rows
 pub mod PlaceRows
+pub mod WarningRows

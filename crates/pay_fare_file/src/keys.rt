@@ -15,7 +15,7 @@ use pay_tables::limits::MOST_FARE;
 use toml::{Table, Value};
 
 /// What stands at a key.
-fn member<'a>(table: &'a Table, key: &str) -> Option<&'a Value>
+pub fn member<'a>(table: &'a Table, key: &str) -> Option<&'a Value>
     ensures { option_map (λ v. view v.now) result ≡ get_member key.now (table_view table.now) }
 {
     table.get(key)

@@ -7,7 +7,7 @@ ghost use Rattle.pay_fare_file.specs.declared.key.Key.TheVariants as key;
 ghost use Rattle.pay_fare_file.specs.declared.spot.FaultPlace.TheVariants.{Own};
 ghost use Rattle.pay_fare_file.specs.declared.spot.Spot.TheVariants.{AtKey};
 ghost use Rattle.pay_fare_file.specs.Spots.{TellsUnlessMemory, integer_told, put_in};
-ghost use Rattle.pay_fare_file.specs.FareFile.{zones_at, fare_text};
+ghost use Rattle.pay_fare_file.specs.FareFile.{zones_at, fare_file, fare_text};
 ghost use Rattle.pay_fare_file.specs.FaultPlaces.{IsFaultPlace, TellsOfText, fare_file_told, own_keys_told};
 
 use crate::bands::bands_told;
@@ -69,6 +69,17 @@ fn read(alloc: Global, text: &str) -> Result<Editions, Misread<FaultPlace>>
         Ok(file) => editions_of(alloc, &file),
         Err(error) => Err(no_document(text, error)),
     }
+}
+
+/// Whether a document is a fare file, or its first fault.
+pub fn check_file(alloc: Global, file: &Table) -> Result<(), FareFileFault>
+    ensures ok { IfOk result (λ _. IsOk (fare_file (table_view file.now))) }
+    ensures refused { IfErr result (λ fault. fault ≢ FareFileFault.Memory → fare_file (table_view file.now) ≡ Err fault) }
+{
+    if let Err(misread) = editions_of(alloc, file) {
+        return Err(misread.fault());
+    }
+    Ok(())
 }
 
 /// What a document says.

@@ -1,0 +1,74 @@
+//! What a fare file says that was hardly meant so.
+use crate::key::Key;
+use crate::spot::Spot;
+use pay_money::Pence;
+use std::fmt;
+
+/// The table of a fare file that a warning is of.
+#[derive(Clone, Copy)]
+pub struct TableAt {
+    /// The first day of the edition that it is in. There is none where it is among the file's own.
+    pub edition: Option<u32>,
+    /// Where it stands there. There is none for the file itself, and for the edition itself.
+    pub spot: Option<Spot>,
+}
+
+/// What there is to say of a table of a fare file that is read.
+#[derive(Drop)]
+pub enum Concern {
+    /// Nothing reads a key of it, by the name that it has in the file.
+    NotRead(String),
+    /// The first price, that of peak, is below the second.
+    PeakBelowOff(Pence, Pence),
+    /// A fare in it is 0.
+    FareOfZero,
+    /// It has no bands.
+    NoBands,
+    /// No holiday comes after the day on which the last edition begins.
+    NoHolidayAfter(u32),
+    /// It has neither editions nor holidays.
+    NoHolidays,
+}
+
+/// A warning. It is printed as `at band 2: key wek is not read`.
+#[derive(Drop)]
+pub struct Warning {
+    pub table: TableAt,
+    pub concern: Concern,
+}
+
+impl fmt::Display for TableAt {
+    fn fmt<W: fmt::Write>(&self, f: &mut fmt::Formatter<W>) -> fmt::Result {
+        match (self.edition, self.spot) {
+            (None, None) => Ok(()),
+            (None, Some(spot)) => write!(f, "at {spot}: "),
+            (Some(day), None) => write!(f, "at the edition of day {day}: "),
+            (Some(day), Some(spot)) => write!(f, "at the edition of day {day}, {spot}: "),
+        }
+    }
+}
+
+impl fmt::Display for Concern {
+    fn fmt<W: fmt::Write>(&self, f: &mut fmt::Formatter<W>) -> fmt::Result {
+        match self {
+            Concern::NotRead(name) => write!(f, "key {name} is not read"),
+            Concern::PeakBelowOff(peak, off) => {
+                let peak = peak.pence();
+                let off = off.pence();
+                write!(f, "peak {peak} is below off {off}")
+            }
+            Concern::FareOfZero => f.write_str("a fare of 0"),
+            Concern::NoBands => f.write_str("no bands"),
+            Concern::NoHolidayAfter(day) => write!(f, "no holiday after day {day}"),
+            Concern::NoHolidays => f.write_str("no holidays"),
+        }
+    }
+}
+
+impl fmt::Display for Warning {
+    fn fmt<W: fmt::Write>(&self, f: &mut fmt::Formatter<W>) -> fmt::Result {
+        let table = self.table;
+        let concern = &self.concern;
+        write!(f, "{table}{concern}")
+    }
+}
