@@ -4,7 +4,9 @@ pub mod Spots
 pub mod FareFile
 pub mod FaultPlaces
 pub mod Warnings
+pub mod Printed
 pub mod Words
 pub mod Rows
 pub mod PlaceRows
 pub mod WarningRows
+pub mod PrintedRows

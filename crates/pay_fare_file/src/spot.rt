@@ -33,6 +33,11 @@ impl Spot {
 }
 
 impl fmt::Display for Spot {
+    ghost use Rattle.std.specs.Prelude.{Some};
+    ghost use Rattle.pay_fare_file.specs.Printed.{spot_text};
+
+    ghost output = { λ spot. Some (spot_text spot) };
+
     fn fmt<W: fmt::Write>(&self, f: &mut fmt::Formatter<W>) -> fmt::Result {
         match self {
             Spot::AtKey(key) => write!(f, "key {key}"),
@@ -55,6 +60,11 @@ pub enum FaultPlace {
 }
 
 impl fmt::Display for FaultPlace {
+    ghost use Rattle.std.specs.Prelude.{Some};
+    ghost use Rattle.pay_fare_file.specs.Printed.{place_text};
+
+    ghost output = { λ place. Some (place_text place) };
+
     fn fmt<W: fmt::Write>(&self, f: &mut fmt::Formatter<W>) -> fmt::Result {
         match self {
             FaultPlace::Line(line) => write!(f, "at line {line}"),

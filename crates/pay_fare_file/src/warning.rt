@@ -1,4 +1,8 @@
 //! What a fare file says that was hardly meant so.
+ghost use Rattle.std.specs.Prelude.{◌≡◌};
+ghost use Rattle.std.specs.List.{list_any};
+ghost use Rattle.pay_fare_file.specs.Printed.{is_control, shown_name};
+
 use crate::key::Key;
 use crate::spot::Spot;
 use pay_money::Pence;
@@ -38,6 +42,11 @@ pub struct Warning {
 }
 
 impl fmt::Display for TableAt {
+    ghost use Rattle.std.specs.Prelude.{Some};
+    ghost use Rattle.pay_fare_file.specs.Printed.{table_text};
+
+    ghost output = { λ table. Some (table_text table) };
+
     fn fmt<W: fmt::Write>(&self, f: &mut fmt::Formatter<W>) -> fmt::Result {
         match (self.edition, self.spot) {
             (None, None) => Ok(()),
@@ -49,9 +58,17 @@ impl fmt::Display for TableAt {
 }
 
 impl fmt::Display for Concern {
+    ghost use Rattle.std.specs.Prelude.{Some};
+    ghost use Rattle.pay_fare_file.specs.Printed.{concern_text};
+
+    ghost output = { λ concern. Some (concern_text concern) };
+
     fn fmt<W: fmt::Write>(&self, f: &mut fmt::Formatter<W>) -> fmt::Result {
         match self {
-            Concern::NotRead(name) => write!(f, "key {name} is not read"),
+            Concern::NotRead(name) => {
+                let name = shown_name(name.as_str());
+                write!(f, "key {name} is not read")
+            }
             Concern::PeakBelowOff(peak, off) => {
                 let peak = peak.pence();
                 let off = off.pence();
@@ -66,9 +83,37 @@ impl fmt::Display for Concern {
 }
 
 impl fmt::Display for Warning {
+    ghost use Rattle.std.specs.Prelude.{Some};
+    ghost use Rattle.pay_fare_file.specs.Printed.{said_text};
+    ghost use Rattle.pay_fare_file.specs.Warnings.{says};
+
+    ghost output = { λ warning. Some (said_text (says warning)) };
+
     fn fmt<W: fmt::Write>(&self, f: &mut fmt::Formatter<W>) -> fmt::Result {
         let table = self.table;
         let concern = &self.concern;
         write!(f, "{table}{concern}")
     }
+}
+
+/// The name of a key, and a sign for one that would break the line: a text in quotes may be a key.
+fn shown_name(name: &str) -> &str
+    ensures { result.now ≡ shown_name name.now }
+{
+    if has_control(name.as_bytes()) {
+        return "?";
+    }
+    name
+}
+
+fn has_control(bytes: &[u8]) -> bool
+    ensures { result ≡ list_any is_control bytes.now }
+{
+    bytes.iter().any(|byte| is_control(*byte))
+}
+
+fn is_control(byte: u8) -> bool
+    ensures { result ≡ is_control byte }
+{
+    byte < 32 || byte == 127
 }

@@ -1,0 +1,14 @@
+use Rattle.std.proofs.Common.{◌≡◌, ℕ, ◌++◌, codes, ap, sym, ◌∙◌, subst, append_assoc}
+use Rattle.std.specs.Fmt.{HasWritten, decimal}
+use Rattle.pay_fare_file.specs.declared.warning.Concern.TheVariants.{PeakBelowOff}
+use Rattle.pay_fare_file.specs.Printed.{concern_text}
+use Rattle.pay_fare_file.proofs.warning.ConcernDisplay.fmt.Goals as goal
+
+-- the two amounts, as they were read, are those of the concern
+below_text : (peak off p o : ℕ) → p ≡ peak → o ≡ off → codes "peak " ++ (decimal p ++ (codes " is below off " ++ decimal o)) ≡ concern_text (PeakBelowOff peak off)
+below_text peak off p o a b = rw (a, b) (ap (λ text. codes "peak " ++ text) (sym (append_assoc (decimal peak) (codes " is below off ") (decimal off))))
+
+pub returns-in-PeakBelowOff-clause-writes : goal.returns-in-PeakBelowOff-clause-writes
+returns-in-PeakBelowOff-clause-writes g c = λ plain ok.
+    let same = below_text c.in-PeakBelowOff.peak c.in-PeakBelowOff.off c.pence-peak.result c.pence-off.result c.pence-peak.ensures c.pence-off.ensures in
+    subst (λ text. HasWritten {W = g.row.W.Denot} g.W.Write.write_str_gives c.args.f.now text c.write-in-PeakBelowOff.new.self) (same ∙ ap concern_text (sym c.in-PeakBelowOff.is)) (c.write-in-PeakBelowOff.ensures.writes plain ok)
