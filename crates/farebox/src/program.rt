@@ -104,7 +104,7 @@ where
 {
     match read_words(rt.alloc(), words) {
         Ok(Job::Run(words)) => run_session(&rt, &words),
-        Ok(Job::Check(words)) => check_fares(&rt, words.fares),
+        Ok(Job::Check(words)) => check_fares(&rt, &words),
         Ok(Job::Statement(words)) => write_statement(&rt, &words),
         Ok(Job::Replay(words)) => replay_journals(&rt, &words),
         Ok(Job::Serve(words)) => serve_sessions(rt, &words),

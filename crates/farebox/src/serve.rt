@@ -4,7 +4,8 @@ ghost use Rattle.pay_jobs.specs.Words.{IsDay};
 ghost use Rattle.pay_words.specs.declared.limits.TheConstants.{MOST_SHARDS};
 
 use pay_files::{
-    JournalFiles, fares_text, open_journals, path_in, refuse_journal, report_line, settle_journals,
+    JournalFiles, fares_text, open_journals, path_in, print_warnings, refuse_journal, report_line,
+    settle_journals,
 };
 use pay_jobs::{
     Disk, FaresAndZone, Fault, FileStore, Keeper, Ledger, Ledgers, NoKeeper, Wary, begin_service,
@@ -41,6 +42,9 @@ where
     requires few { words.now.shards ≤ MOST_SHARDS }
 {
     let fares = fares_text(&rt, words.fares)?;
+    if words.journal.is_some() || words.ledger.is_some() {
+        print_warnings(&rt, fares.as_str())?;
+    }
     match words.journal {
         None => serve_unkept(rt, words, fares.as_str()),
         Some(folder) => {

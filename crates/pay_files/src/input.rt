@@ -1,8 +1,10 @@
 //! Files that are read, and standard input.
 
 use crate::errors::memory_or;
+use pay_fare_file::{FareFileFault, warnings};
 use pay_jobs::Fault;
 use pay_wire::Refusal;
+use std::alloc::AllocError;
 use std::fs;
 use std::io::Eprint;
 use std::process::ExitCode;
@@ -13,6 +15,28 @@ pub fn fares_text<R: Files + AllocGlobal>(rt: &R, path: &str) -> Result<String, 
     match fs::read_to_string(rt, path) {
         Ok(fares) => Ok(fares),
         Err(error) => Err(memory_or(&error, Fault::CannotReadFares)),
+    }
+}
+
+/// The text of the old fare file at this path.
+pub fn old_fares_text<R: Files + AllocGlobal>(rt: &R, path: &str) -> Result<String, Fault> {
+    match fs::read_to_string(rt, path) {
+        Ok(fares) => Ok(fares),
+        Err(error) => Err(memory_or(&error, Fault::CannotReadOldFares)),
+    }
+}
+
+/// Prints the warnings of a fare file to standard error, a line for each. How many there are: none where it is refused.
+pub fn print_warnings<R: Eprint + AllocGlobal>(rt: &R, fares: &str) -> Result<usize, Fault> {
+    match warnings(rt.alloc(), fares) {
+        Ok(warnings) => {
+            for warning in &warnings {
+                let _ = eprintln!(rt; "farebox: warning: {warning}");
+            }
+            Ok(warnings.len())
+        }
+        Err(FareFileFault::Memory) => Err(Fault::from(AllocError)),
+        Err(_) => Ok(0),
     }
 }
 

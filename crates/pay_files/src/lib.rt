@@ -2,6 +2,7 @@
 //! lines come from standard input and go to standard output. And the files of journals, which the job `serve` uses too.
 #![tactic(auto)]
 
+mod check;
 mod errors;
 mod input;
 mod journal;
@@ -9,9 +10,10 @@ mod reporting_keeper;
 mod run;
 mod texts;
 
+pub use check::check_fares;
 pub use errors::memory_or;
-pub use input::{fares_text, report_line};
+pub use input::{fares_text, print_warnings, report_line};
 pub use journal::{JournalFiles, open_journals, path_in, refuse_journal, settle_journals};
 pub use reporting_keeper::ReportingKeeper;
 pub use run::run_session;
-pub use texts::{check_fares, replay_journals, write_statement};
+pub use texts::{replay_journals, write_statement};

@@ -1,6 +1,6 @@
 //! One session, from standard input to standard output.
 
-use crate::input::{fares_text, is_input_a_file};
+use crate::input::{fares_text, is_input_a_file, print_warnings};
 use crate::journal::{JournalFile, open_journal, refuse_journal};
 use pay_jobs::{
     Begun, Book, Disk, Fault, FileStore, Keeper, Ledger, Ledgers, NoKeeper, Ran, Wary, begin,
@@ -10,16 +10,20 @@ use pay_words::RunWords;
 use std::alloc::AllocError;
 use std::fs::File;
 use std::io;
-use std::io::{BufRead, BufReader};
+use std::io::{BufRead, BufReader, Eprint};
 use std::process::ExitCode;
 use std::rt::Files;
 
-/// One session, from standard input to standard output.
-pub fn run_session<R: Files<File = File> + Ledgers + Input + Print + AllocGlobal>(
+/// One session, from standard input to standard output. Where it has files, what there is to say of the fare file comes
+/// first, to standard error.
+pub fn run_session<R: Files<File = File> + Ledgers + Input + Print + Eprint + AllocGlobal>(
     rt: &R,
     words: &RunWords<'_>,
 ) -> Result<ExitCode, Fault> {
     let fares = fares_text(rt, words.fares)?;
+    if words.journal.is_some() || words.ledger.is_some() {
+        print_warnings(rt, fares.as_str())?;
+    }
     let mut input = rt.reader();
     if is_input_a_file(rt) {
         return run_from(rt, words, fares.as_str(), &mut input);

@@ -1,21 +1,15 @@
-//! The jobs that only read: `check`, `statement` and `replay`.
+//! The jobs that only read accounts: `statement` and `replay`.
 ghost use Rattle.pay_jobs.specs.Words.{IsDay};
 
 use crate::input::{fares_text, is_input_a_file, report_line};
 use crate::journal::read_journal;
-use pay_jobs::{Fault, check_text, replay_texts, statement_texts};
+use pay_jobs::{Fault, replay_texts, statement_texts};
 use pay_words::{ReplayWords, StatementWords};
 use std::alloc::AllocError;
 use std::io;
 use std::io::{BufRead, BufReader, Eprint};
 use std::process::ExitCode;
 use std::rt::Files;
-
-/// How many of each thing the fare file at this path has, to standard output.
-pub fn check_fares<R: Files + Print + AllocGlobal>(rt: &R, path: &str) -> Result<ExitCode, Fault> {
-    let fares = fares_text(rt, path)?;
-    ended(check_text(rt.alloc(), fares.as_str(), &mut io::writer(rt)))
-}
 
 /// How the program ends after such a job.
 fn ended(done: Result<(), Fault>) -> Result<ExitCode, Fault> {

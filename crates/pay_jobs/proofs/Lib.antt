@@ -1,4 +1,3 @@
-mod Counting
 pub mod Runs
 pub mod Summaries
 pub mod ToldReplays

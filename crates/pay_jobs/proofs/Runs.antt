@@ -22,7 +22,7 @@ use Rattle.pay_jobs.specs.Run.{Begins, Resumes, IsRefused, IsNotBegun, HasBegun,
 use Rattle.pay_jobs.specs.Texts.{Texts}
 use Rattle.pay_jobs.specs.declared.begun.Begun.{Begun}
 use Rattle.pay_jobs.specs.declared.fault.Fault.{Fault}
-use Rattle.pay_jobs.specs.declared.fault.Fault.TheVariants.{Usage, CannotReadFares, BadZone, CannotListen, Input, Output, CannotUseJournal, JournalLine, JournalLineOf, Journal, LedgerAlone, Refused}
+use Rattle.pay_jobs.specs.declared.fault.Fault.TheVariants.{Usage, CannotReadFares, CannotReadOldFares, BadZone, CannotListen, Input, Output, CannotUseJournal, JournalLine, JournalLineOf, Journal, LedgerAlone, Refused}
 
 -- ---- there is no desk
 
@@ -32,6 +32,7 @@ module _ (texts : Texts) where
   by_refusal (Refused number name) n text told h = h
   by_refusal Usage n text told h = absurd told
   by_refusal CannotReadFares n text told h = absurd told
+  by_refusal CannotReadOldFares n text told h = absurd told
   by_refusal BadZone n text told h = absurd told
   by_refusal CannotListen n text told h = absurd told
   by_refusal Input n text told h = absurd told

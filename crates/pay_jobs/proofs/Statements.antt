@@ -17,7 +17,7 @@ use Rattle.pay_jobs.specs.Texts.{Texts}
 use Rattle.pay_jobs.specs.Run.{Begins, Resumes}
 use Rattle.pay_jobs.specs.Statement.{WeekBreaks, PageFails, IsPage, StatementWritten, StatementRefused}
 use Rattle.pay_jobs.specs.declared.fault.Fault.{Fault}
-use Rattle.pay_jobs.specs.declared.fault.Fault.TheVariants.{Usage, CannotReadFares, BadZone, CannotListen, Input, Output, CannotUseJournal, JournalLine, JournalLineOf, Journal, LedgerAlone, Refused}
+use Rattle.pay_jobs.specs.declared.fault.Fault.TheVariants.{Usage, CannotReadFares, CannotReadOldFares, BadZone, CannotListen, Input, Output, CannotUseJournal, JournalLine, JournalLineOf, Journal, LedgerAlone, Refused}
 use Rattle.pay_run.specs.declared.week.WeekFault.{WeekFault}
 use Rattle.pay_run.specs.declared.week.WeekFault.TheVariants.{Broken, NotAccepted, Memory}
 
@@ -27,6 +27,7 @@ not_told (NotAccepted line why) fault texts reader is breaks = subst (λ f. Page
 not_told Memory (Refused number name) texts reader is breaks = inr (is, breaks)
 not_told Memory Usage texts reader is breaks = absurd is
 not_told Memory CannotReadFares texts reader is breaks = absurd is
+not_told Memory CannotReadOldFares texts reader is breaks = absurd is
 not_told Memory BadZone texts reader is breaks = absurd is
 not_told Memory CannotListen texts reader is breaks = absurd is
 not_told Memory Input texts reader is breaks = absurd is
@@ -87,6 +88,7 @@ no_page Output texts of remaining left held fails = absurd fails
 no_page (Refused number name) texts of remaining left held fails = (fails, refl)
 no_page Usage texts of remaining left held fails = (fails, refl)
 no_page CannotReadFares texts of remaining left held fails = (fails, refl)
+no_page CannotReadOldFares texts of remaining left held fails = (fails, refl)
 no_page BadZone texts of remaining left held fails = (fails, refl)
 no_page CannotListen texts of remaining left held fails = (fails, refl)
 no_page Input texts of remaining left held fails = (fails, refl)

@@ -11,17 +11,9 @@ use Rattle.pay_run.specs.Words.{HasInputFault}
 use Rattle.pay_run.specs.declared.week.WeekFault.{WeekFault}
 use Rattle.pay_run.specs.declared.week.WeekFault.TheVariants.{Broken, NotAccepted, Memory}
 use Rattle.pay_jobs.specs.declared.fault.Fault.{Fault}
-use Rattle.pay_jobs.specs.declared.fault.Fault.TheVariants.{Usage, CannotReadFares, BadZone, CannotListen, Input, Output, CannotUseJournal, JournalLine, JournalLineOf, Journal, LedgerAlone, Refused}
+use Rattle.pay_jobs.specs.declared.fault.Fault.TheVariants.{Usage, CannotReadFares, CannotReadOldFares, BadZone, CannotListen, Input, Output, CannotUseJournal, JournalLine, JournalLineOf, Journal, LedgerAlone, Refused}
 
--- a refused fare file is no fault of a writer
-pub not_output : (fault : Fault) (fares : List ℕ) → IsRefused fault fares → fault ≡ Output → ⊥
-not_output fault fares refused is = none (subst (λ f. IsRefused f fares) is refused)
-  where
-    none : IsRefused Output fares → ⊥
-    none (inl h) = h
-    none (inr h) = h.2
-
--- nor one of a reader, and neither is want of memory
+-- a refused fare file is no fault of a reader, and neither is want of memory
 pub not_input : (fault : Fault) (fares : List ℕ) → IsRefused fault fares → fault ≡ Input → ⊥
 not_input fault fares refused is = none (subst (λ f. IsRefused f fares) is refused)
   where
@@ -55,6 +47,7 @@ module _ {R W : Type 0} (reads : R → ReaderCall → R → Type 0) (writes : W 
   page_cause (Refused number name) texts known fails cause = tt
   page_cause Usage texts known fails cause = tt
   page_cause CannotReadFares texts known fails cause = tt
+  page_cause CannotReadOldFares texts known fails cause = tt
   page_cause BadZone texts known fails cause = tt
   page_cause CannotListen texts known fails cause = tt
   page_cause CannotUseJournal texts known fails cause = tt

@@ -11,7 +11,7 @@ use Rattle.pay_run.specs.Words.{new_machine}
 use Rattle.pay_jobs.specs.Replays.{IsFaultOf, IsStoppedAmong, IsSummed, IsNotSummed, ReplayWritten, ReplayRefused}
 use Rattle.pay_jobs.specs.Run.{Begins, IsRefused}
 use Rattle.pay_jobs.specs.declared.fault.Fault.{Fault}
-use Rattle.pay_jobs.specs.declared.fault.Fault.TheVariants.{Usage, CannotReadFares, BadZone, CannotListen, Input, Output, CannotUseJournal, JournalLine, JournalLineOf, Journal, LedgerAlone, Refused}
+use Rattle.pay_jobs.specs.declared.fault.Fault.TheVariants.{Usage, CannotReadFares, CannotReadOldFares, BadZone, CannotListen, Input, Output, CannotUseJournal, JournalLine, JournalLineOf, Journal, LedgerAlone, Refused}
 
 -- ---- there is no line
 
@@ -21,6 +21,8 @@ unsummed_refused Usage fares zone texts (inl told) = absurd told
 unsummed_refused Usage fares zone texts (inr (of, says, told)) = absurd told
 unsummed_refused CannotReadFares fares zone texts (inl told) = absurd told
 unsummed_refused CannotReadFares fares zone texts (inr (of, says, told)) = absurd told
+unsummed_refused CannotReadOldFares fares zone texts (inl told) = absurd told
+unsummed_refused CannotReadOldFares fares zone texts (inr (of, says, told)) = absurd told
 unsummed_refused BadZone fares zone texts (inl told) = absurd told
 unsummed_refused BadZone fares zone texts (inr (of, says, told)) = absurd told
 unsummed_refused CannotListen fares zone texts (inl told) = absurd told
@@ -60,6 +62,7 @@ unsummed Output fares zone texts held h = absurd h
 unsummed (Refused number name) fares zone texts held h = (h, refl)
 unsummed Usage fares zone texts held h = (h, refl)
 unsummed CannotReadFares fares zone texts held h = (h, refl)
+unsummed CannotReadOldFares fares zone texts held h = (h, refl)
 unsummed BadZone fares zone texts held h = (h, refl)
 unsummed CannotListen fares zone texts held h = (h, refl)
 unsummed Input fares zone texts held h = (h, refl)

@@ -1,5 +1,4 @@
 pub mod Alone
-pub mod Check
 pub mod Faults
 pub mod Replays
 pub mod Run

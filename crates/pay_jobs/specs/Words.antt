@@ -3,7 +3,6 @@ pub use Rattle.pay_jobs.specs.Faults.{status_of, stream_fault, told_of, IsRefusa
 pub use Rattle.pay_jobs.specs.Texts.{Texts, texts}
 pub use Rattle.pay_jobs.specs.Run.{IsRefused, Begins, Resumes, AreRead, HasBegun, AreNotRead, IsNotBegun, RanOver, IsTaken, JobRan, HasRun, IsLeftAlone, HasNotRun}
 pub use Rattle.pay_jobs.specs.Alone.{IsBare, IsFoundBare, IsTakenWith, IsNotTakenAlone, IsNotTakenWith}
-pub use Rattle.pay_jobs.specs.Check.{CheckEnds, CheckFails}
 pub use Rattle.pay_jobs.specs.Statement.{StatementWritten, StatementRefused}
 pub use Rattle.pay_day.specs.Words.{IsDay}
 pub use Rattle.pay_jobs.specs.Replays.{ReplayWritten, ReplayRefused}

@@ -23,6 +23,9 @@ pub enum Fault {
     /// The fare file cannot be read, or is no text.
     #[error("farebox: cannot read fares")]
     CannotReadFares,
+    /// The old fare file, against which another is checked, cannot be read, or is no text.
+    #[error("farebox: cannot read old fares")]
+    CannotReadOldFares,
     /// The zone is no POSIX rule.
     #[error("farebox: bad zone")]
     BadZone,

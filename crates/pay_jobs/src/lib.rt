@@ -1,11 +1,10 @@
 //! The jobs of the program, by the texts of their files, below the reading of words and of files. A session has two steps, [`begin`] and
-//! [`Begun::run`]; between them the caller opens the ledger, in memory or in a file. [`statement_texts`],
-//! [`replay_texts`] and [`check_text`] are the other jobs. Of the job `serve` the first step, [`begin_service`], is here; the second one is
+//! [`Begun::run`]; between them the caller opens the ledger, in memory or in a file. [`statement_texts`] and
+//! [`replay_texts`] are other jobs. Of the job `serve` the first step, [`begin_service`], is here; the second one is
 //! in `pay_serve_job`.
 #![tactic(auto)]
 
 mod begun;
-mod check;
 mod fault;
 mod ledger;
 mod output;
@@ -14,7 +13,6 @@ mod run;
 mod statement;
 
 pub use begun::{Begun, FaresAndZone};
-pub use check::check_text;
 pub use fault::Fault;
 pub use ledger::take_with;
 pub use pay_book::Book;

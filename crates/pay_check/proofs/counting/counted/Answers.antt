@@ -1,7 +1,7 @@
 use Rattle.std.proofs.Common.{◌∙◌, ap}
 use Rattle.pay_tables.specs.Words.{counts}
-use Rattle.pay_jobs.specs.Check.{counts_line}
-use Rattle.pay_jobs.proofs.check.counted.Goals as goal
+use Rattle.pay_check.specs.Counting.{counts_line}
+use Rattle.pay_check.proofs.counting.counted.Goals as goal
 
 pub returns-clause-counted : goal.returns-clause-counted
 returns-clause-counted c = (

@@ -1,5 +1,5 @@
--- How the job check ends, by the text of its fare file.
-use Rattle.std.specs.Prelude.{◌≡◌, ℕ, List, [], ◌∷◌, ◌++◌, ◌==◌, if◌then◌else◌, length, Ok, Option, codes, decimal, refl}
+-- How a check of one fare file ends, by its text.
+use Rattle.std.specs.Prelude.{◌≡◌, ◌≢◌, ℕ, List, [], ◌∷◌, ◌++◌, ◌==◌, if◌then◌else◌, length, Ok, Err, Option, codes, decimal, refl}
 use Rattle.std.specs.Fmt.{digits}
 use Rattle.std.specs.List.{join_with_byte}
 use Rattle.std.specs.Io.KnownBytes.{Appends}
@@ -7,9 +7,10 @@ use Rattle.pay_tables.specs.Words.{FareEditions, counts}
 use Rattle.pay_fare_file.specs.Words.{fare_text}
 use Rattle.pay_tables.specs.declared.counts.Counts.{Counts}
 use Rattle.pay_wire.specs.Words.{AppendsFront}
-use Rattle.pay_jobs.specs.Run.{IsRefused}
-use Rattle.pay_jobs.specs.declared.fault.Fault.{Fault}
-use Rattle.pay_jobs.specs.declared.fault.Fault.TheVariants.{Output, Refused}
+use Rattle.pay_fare_file.specs.declared.fault.FareFileFault.{FareFileFault}
+use Rattle.pay_fare_file.specs.declared.fault.FareFileFault.TheVariants.{Memory}
+use Rattle.pay_check.specs.declared.fault.CheckFault.{CheckFault}
+use Rattle.pay_check.specs.declared.fault.CheckFault.TheVariants.{Output, Refused}
 
 -- how many of each thing a fare file has
 abbrev pub counts_words : Counts → List (List ℕ)
@@ -36,9 +37,18 @@ CheckEnds fares held written = (line : List ℕ) × IsCounted fares line × Appe
 abbrev pub StopsCounting : List ℕ → Option (List ℕ) → Option (List ℕ) → Type 0
 StopsCounting fares held written = (line : List ℕ) × IsCounted fares line × AppendsFront held written line
 
+-- a fare file is refused so, or memory ran out
+abbrev pub IsRefusedBy : FareFileFault → List ℕ → Type 0
+IsRefusedBy why fares = why ≢ Memory → fare_text fares ≡ Err why
+
+-- a fault that is such a refusal
+abbrev pub IsRefused : CheckFault → List ℕ → Type 0
+IsRefused (Refused why) fares = IsRefusedBy why fares
+IsRefused _ fares = ⊥
+
 -- how the job failed, by its fault; a refused fare file writes nothing
-abbrev pub CheckFails : Fault → List ℕ → Option (List ℕ) → Option (List ℕ) → Type 0
-CheckFails (Refused number name) fares held written = IsRefused (Refused number name) fares × (written ≡ held)
+abbrev pub CheckFails : CheckFault → List ℕ → Option (List ℕ) → Option (List ℕ) → Type 0
+CheckFails (Refused why) fares held written = IsRefusedBy why fares × (written ≡ held)
 CheckFails Output fares held written = StopsCounting fares held written
 CheckFails _ fares held written = ⊥
 

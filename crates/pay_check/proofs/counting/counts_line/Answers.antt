@@ -1,6 +1,6 @@
 use Rattle.std.specs.String.{string_bytes}
-use Rattle.pay_jobs.proofs.Counting.{five_and_end}
-use Rattle.pay_jobs.proofs.check.counts_line.Goals as goal
+use Rattle.pay_check.proofs.CountsLine.{five_and_end}
+use Rattle.pay_check.proofs.counting.counts_line.Goals as goal
 
 pub returns : goal.returns
 returns c = five_and_end (string_bytes c.new-line.result) (string_bytes c.put.new.line) (string_bytes c.put-2.new.line) (string_bytes c.put-3.new.line) (string_bytes c.put-4.new.line)

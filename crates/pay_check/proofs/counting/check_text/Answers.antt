@@ -1,9 +1,9 @@
 use Rattle.std.proofs.Common.{◌∙◌, sym, subst}
 use Rattle.std.proofs.lemmas.Result.{err_from_is_err_and}
-use Rattle.pay_jobs.specs.Check.{IsCounted}
-use Rattle.pay_jobs.proofs.Counting.{check_ends, check_fails}
-use Rattle.pay_jobs.proofs.StreamCauses.{not_output, if_output}
-use Rattle.pay_jobs.proofs.check.check_text.Goals as goal
+use Rattle.pay_check.specs.Counting.{IsCounted}
+use Rattle.pay_check.proofs.CountsLine.{check_ends, check_fails}
+use Rattle.pay_check.proofs.CountsLine.{not_output, if_output}
+use Rattle.pay_check.proofs.counting.check_text.Goals as goal
 
 pub returns-clause-ends : goal.returns-clause-ends
 returns-clause-ends g c =

@@ -1,11 +1,10 @@
-//! The job `check`, by the text of its fare file: all that the program does below the reading of files.
+//! How many of each thing a fare file has.
 ghost use Rattle.std.specs.Prelude.{◌≡◌, ◌++◌, ◌∷◌, decimal, IfOk, IfErr, OnOk};
 ghost use Rattle.std.specs.String.{string_bytes};
-ghost use Rattle.pay_jobs.specs.Check.{CheckEnds, CheckFails, IsCounted, counts_line, editions_words};
-ghost use Rattle.pay_jobs.specs.Run.{IsRefused};
+ghost use Rattle.pay_check.specs.Counting.{CheckEnds, CheckFails, IsCounted, IsRefused, counts_line, editions_words};
 ghost use Rattle.pay_wire.specs.Words.{IsFlushed, HasFault};
 
-use crate::fault::Fault;
+use crate::fault::CheckFault;
 use crate::output::write_text;
 use pay_fare_file::read_editions;
 use pay_tables::Counts;
@@ -14,18 +13,22 @@ use std::alloc::{AllocError, Global};
 
 /// Writes how many of each thing the fare file of a text has, and how many editions, as one line, and flushes the
 /// writer.
-pub fn check_text<W: KnownWriter>(alloc: Global, fares: &str, writer: &mut W) -> Result<(), Fault>
+pub fn check_text<W: KnownWriter>(
+    alloc: Global,
+    fares: &str,
+    writer: &mut W,
+) -> Result<(), CheckFault>
     ensures ends { OnOk result (CheckEnds fares.now (W.contents writer.old) (W.contents writer.new)) }
     ensures fails { IfErr result (λ fault. CheckFails fault fares.now (W.contents writer.old) (W.contents writer.new)) }
     ensures flushed { OnOk result (IsFlushed W.MayAnswer writer.new) }
-    ensures cause { IfErr result (λ fault. fault ≡ Fault.Output → HasFault W.MayAnswer writer.new) }
+    ensures cause { IfErr result (λ fault. fault ≡ CheckFault.Output → HasFault W.MayAnswer writer.new) }
 {
     let line = counted(alloc, fares)?;
     write_text(writer, line.as_str().as_bytes())
 }
 
 /// The line of the fare file that a text says.
-fn counted(alloc: Global, fares: &str) -> Result<String, Fault>
+fn counted(alloc: Global, fares: &str) -> Result<String, CheckFault>
     ensures counted { IfOk result (λ line. IsCounted fares.now (string_bytes line)) }
     ensures refused { IfErr result (λ fault. IsRefused fault fares.now) }
 {

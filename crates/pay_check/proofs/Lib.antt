@@ -1,0 +1,2 @@
+pub mod CountsLine
+pub mod AgainstOld
