@@ -12,9 +12,15 @@ from typing import NamedTuple, Optional
 ROOT = os.path.dirname(os.path.dirname(os.path.realpath(__file__)))
 PROGRAM = f"{ROOT}/crates/farebox/out/farebox"
 EXAMPLES = f"{ROOT}/examples"
-FARES = f"{EXAMPLES}/bus.toml"
+BUS = f"{EXAMPLES}/bus.toml"
 SAMPLE = f"{EXAMPLES}/sample.toml"
 TWO = f"{EXAMPLES}/two.toml"
+
+# examples/bus.toml with a band that caps nothing: sessions with files warn of a file without bands.
+FOLDER = tempfile.TemporaryDirectory()
+FARES = f"{FOLDER.name}/bus.toml"
+with open(BUS, "rb") as bus, open(FARES, "wb") as quiet:
+    quiet.write(bus.read().replace(b"holidays =", b"band = [{ from = 0, to = 0, day = 100000, week = 100000 }]\nholidays ="))
 
 LONDON = "GMT0BST,M3.5.0/1,M10.5.0"
 RUN = ["run", FARES, LONDON]

@@ -7,7 +7,7 @@ import random
 
 import loads
 import rules
-from running import A_DAY, FARES, LONDON, MONDAY, RUN, RUN_SAMPLE, SAMPLE, SEVEN, answers, in_lines, play, run, test, written
+from running import A_DAY, BUS, LONDON, MONDAY, RUN, RUN_SAMPLE, SAMPLE, SEVEN, answers, in_lines, play, run, test, written
 from themes.fare_files import counted
 from themes.limits import MOST_BANDS, SPANS, ZONES, zone_of
 from themes.statements import stated
@@ -229,7 +229,7 @@ def drawn_sessions(folder):
             fares = drawn_fares(draw, editions)
             path = written(folder, f"drawn-{seed}-{editions}", rules.fare_file(fares).encode())
             yield f"the fare file of draw {seed} with {editions} editions", path, fares, drawn_taps(draw, fares, 10), 0, range(1, 11), (MONDAY + 6,)
-        for name, path, said in (("with caps", SAMPLE, rules.SAMPLE), ("without caps", FARES, rules.BUS)):
+        for name, path, said in (("with caps", SAMPLE, rules.SAMPLE), ("without caps", BUS, rules.BUS)):
             yield f"a week {name} of draw {seed}", path, said, loads.corrected_week(draw, 10), 26 * seed, range(1, 11), (MONDAY + 2,)
 
 

@@ -56,12 +56,12 @@ def rows_that_are_told(_):
 def sessions_that_go_on(folder):
     """The replies to a session that is killed after the last of them, and to the next one with the same journal and ledger."""
     told, journal, ledger = told_replies(), os.path.join(folder, "taps.txt"), os.path.join(folder, "ledger.db")
-    given = [*RUN, "--journal", journal, "--ledger", ledger]
+    given = [*RUN_SAMPLE, "--journal", journal, "--ledger", ledger]
     with started(given) as ran:
         ran.stdin.write(read(KILLED))
         yield KILLED, End(0, heard(ran.stdout, len(told[KILLED]))), answers(told[KILLED])
     yield GOES_ON, run_file(given, f"{EXAMPLES}/{GOES_ON}"), answers(told[GOES_ON])
-    yield "what they kept", run(["replay", *RUN[1:], journal]), answers(b"OK lines 4 accounts 1 from 1704697200 to 1704702200\n")
+    yield "what they kept", run(["replay", *RUN_SAMPLE[1:], journal]), answers(b"OK lines 4 accounts 1 from 1704697200 to 1704702200\n")
     with contextlib.closing(sqlite3.connect(ledger)) as posted:
         rows = posted.execute("SELECT account, through, version, due, amount FROM postings").fetchall()
     yield "what they posted", answers(repr(rows).encode()), answers(b"[(7, 19730, 2, 175, 175), (7, 19730, 4, 150, -25)]")

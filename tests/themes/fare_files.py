@@ -6,7 +6,7 @@ import threading
 import time
 
 from running import (
-    CHECK, COUNTED, FARES, LONDON, MISSING, ROOT, SEVEN, answers, boardings, closing, edited, fault, play, read, run, run_file, test, written,
+    BUS, CHECK, COUNTED, FARES, LONDON, MISSING, ROOT, SEVEN, answers, boardings, closing, edited, fault, play, read, run, run_file, test, written,
 )
 
 # What is put in the place of what in examples/bus.toml, and how the file is then refused.
@@ -157,7 +157,7 @@ def what_a_file_has(folder):
     path = written(folder, "lines", lines)
     yield "the sample", run(CHECK), answers(COUNTED)
     yield "the sample by its path from here", run(["check", "examples/sample.toml"], cwd=ROOT), answers(COUNTED)
-    yield "a fare file without caps", run(["check", FARES]), counted(6, 0, 1, 1)
+    yield "a fare file without caps", run(["check", BUS]), counted(6, 0, 1, 1)
     yield "lines that are not read", run_file(CHECK, path, leaves=True), answers(COUNTED)._replace(left=lines)
     yield "input closed", run(CHECK, stdin=subprocess.DEVNULL, **closing(0)), answers(COUNTED)
     for old, new, counts in (

@@ -4,7 +4,7 @@ import select
 
 import rules
 from running import (
-    FARES, LONDON, MONDAY, SAMPLE, SEVEN, STATE, End, answers, cut, edited, end_of, in_lines, run, run_file, started, taps_of, test, trickle, written,
+    BUS, LONDON, MONDAY, SAMPLE, SEVEN, STATE, End, answers, cut, edited, end_of, in_lines, run, run_file, started, taps_of, test, trickle, written,
 )
 from themes.caps import BUS_DAY, ZONE_DAY
 from themes.clocks import BY_SECONDS, FAR_EAST, INDIA, MEASURED, SUMMER_DAY
@@ -210,7 +210,7 @@ def statements_by_other_words(folder):
     lines = taps_of(AROUND_TUESDAY)
     yield "clocks that go back within the week", stated(lines, 7, 19731, zone=BACK_ON_TUESDAY), rows_of_statement(*AROUND_TUESDAY_ROWS)
     without = [row.rpartition(",")[0] + ",-" for row in MIXED_ROWS]
-    yield "a week without bands", stated(taps_of(MIXED_WEEK), 7, MONDAY, fares=FARES), rows_of_statement(*without)
+    yield "a week without bands", stated(taps_of(MIXED_WEEK), 7, MONDAY, fares=BUS), rows_of_statement(*without)
     # Four boardings are 525 by either of two bands, of which the first wins.
     same_cap = ZONES_1_TO_2.replace("890", "525")
     for name, bands in (("bus", (BUS_BAND, same_cap)), ("1-2", (same_cap, BUS_BAND))):
