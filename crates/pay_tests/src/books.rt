@@ -1,11 +1,13 @@
 //! Accounts that are kept: taps in whatever order, drawn histories beside accounts that are priced from scratch, and memory
-//! that runs out midway. By the sample fare file.
+//! that runs out midway. By the sample fare file, and histories by drawn ones.
 
 ghost use Rattle.std.specs.Prelude.{◌≡◌, ◌<◌, ◌≤◌};
 ghost use Rattle.std.specs.List.{AllByRecursion};
 ghost use Rattle.pay_book.specs.History.{account_of};
 
 use crate::accounts::{empty_account, shown};
+use crate::dice::Dice;
+use crate::drawn::drawn;
 use crate::given::{MAY_BE_REFUSED, MONDAY, WAS_REFUSED, expect_same, sample, tap_at, tell};
 use crate::shards::{empty_shard, priced, refusal, reply};
 use pay_account::*;
@@ -341,42 +343,6 @@ fn six_in_whatever_order(rt: HostRuntime) {
     }
 }
 
-/// Draws numbers, the same ones from the same seed.
-#[derive(Drop)]
-struct Dice {
-    state: u64,
-}
-
-impl Dice {
-    fn new(seed: u64) -> Dice {
-        let mut dice = Dice {
-            state: seed.wrapping_mul(0x9e37_79b9_7f4a_7c15) | 1,
-        };
-        dice.below(2);
-        dice.below(2);
-        dice
-    }
-
-    /// A number below this one.
-    fn below(&mut self, limit: u64) -> u64
-        requires { 0 < limit }
-        ensures { result < limit }
-    {
-        self.state ^= self.state << 13;
-        self.state ^= self.state >> 7;
-        self.state ^= self.state << 17;
-        self.state.wrapping_mul(0x2545_f491_4f6c_dd1d) / 0x1_0000_0000 % limit
-    }
-
-    /// The same.
-    fn few(&mut self, limit: u32) -> u32
-        requires { 0 < limit }
-        ensures { result < limit }
-    {
-        self.below(u64::from(limit)) as u32
-    }
-}
-
 /// Where touches are made, and boardings, those that make runs more often.
 static PLACES: [(u16, Kind); 16] = [
     (50, Kind::Bus),
@@ -598,18 +564,24 @@ fn expect_history<R: Abort>(
     }
 }
 
-/// Compares these histories, each an account of its own.
-fn expect_histories<R: Abort + AllocGlobal>(rt: &R, first: u32, last: u32) {
-    let mut books: Shard<Book> = empty_shard(rt, sample(rt), 0);
-    let mut accounts: Shard<Account> = empty_shard(rt, sample(rt), 0);
-    for history in first..last {
+/// Compares 125 histories, each an account of its own, by the drawn fare file of this number.
+fn expect_histories<R: Abort + AllocGlobal>(rt: &R, file: u32)
+    requires { file ≤ 1_000 }
+{
+    let mut books: Shard<Book> = empty_shard(rt, drawn(rt, file), 0);
+    let mut accounts: Shard<Account> = empty_shard(rt, drawn(rt, file), 0);
+    let first = file * 125 + 1;
+    for history in first..first + 125 {
         expect_history(rt, &mut books, &mut accounts, history);
     }
 }
 
+// 11,250 histories, of which 10,000 are by fare files with editions.
 #[test]
 fn histories_as_from_scratch(rt: HostRuntime) {
-    expect_histories(&rt, 1, 10_001);
+    for file in 0..90 {
+        expect_histories(&rt, file);
+    }
 }
 
 /// The book of account 7 to which these came, compared with one that has one boarding of the Monday, at 175.

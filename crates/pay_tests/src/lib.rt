@@ -16,6 +16,10 @@ mod days;
 #[cfg(test)]
 mod desks;
 #[cfg(test)]
+mod dice;
+#[cfg(test)]
+mod drawn;
+#[cfg(test)]
 mod fare_files;
 #[cfg(test)]
 mod faults;
