@@ -100,20 +100,18 @@ fn expect_line<R: Abort>(
     );
 }
 
-/// Sends six taps, and compares what is shown of the day. What the bus band leaves outside is shown without a band.
-fn prices_and_shows<R: Abort, F: Fares>(rt: &R, editions: &Editions, account: &mut F)
-    requires seven { F.account account.old ≡ 7 }
-    requires priced_by { F.IsPricedBy editions.now account.old }
-{
+/// Sends six taps to an account, and compares what is shown of the day. What the bus band leaves outside is shown without a band.
+fn prices_and_shows<R: Abort + AllocGlobal, F: Fares>(rt: &R, editions: &Editions) {
+    let mut account: F = empty_account(rt, editions);
     let entry = tap_at(rt, 1, 25_200, 10, Kind::In);
-    expect_price(rt, account, editions, entry, 860);
+    expect_price(rt, &mut account, editions, entry, 860);
     let exit = tap_at(rt, 2, 26_400, 12, Kind::Out);
-    expect_price(rt, account, editions, exit, 340);
-    expect_boarding(rt, account, editions, 3, 28_800, 515);
-    expect_boarding(rt, account, editions, 4, 36_000, 690);
-    expect_boarding(rt, account, editions, 5, 43_200, 865);
-    expect_boarding(rt, account, editions, 6, 50_400, 865);
-    expect_shown(rt, account, editions);
+    expect_price(rt, &mut account, editions, exit, 340);
+    expect_boarding(rt, &mut account, editions, 3, 28_800, 515);
+    expect_boarding(rt, &mut account, editions, 4, 36_000, 690);
+    expect_boarding(rt, &mut account, editions, 5, 43_200, 865);
+    expect_boarding(rt, &mut account, editions, 6, 50_400, 865);
+    expect_shown(rt, &account, editions);
 }
 
 /// Sends a boarding, and compares the price of the day.
@@ -136,10 +134,8 @@ fn expect_boarding<R: Abort, F: Fares>(
 #[test]
 fn prices_taps_and_shows_them(rt: HostRuntime) {
     let editions = sample(&rt);
-    let mut account: Account = empty_account(&rt, &editions);
-    prices_and_shows(&rt, &editions, &mut account);
-    let mut book: Book = empty_account(&rt, &editions);
-    prices_and_shows(&rt, &editions, &mut book);
+    prices_and_shows::<HostRuntime, Account>(&rt, &editions);
+    prices_and_shows::<HostRuntime, Book>(&rt, &editions);
 }
 
 fn expect_shown<R: Abort, F: Fares>(rt: &R, account: &F, editions: &Editions)

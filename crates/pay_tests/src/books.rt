@@ -137,29 +137,24 @@ fn expect_fix<R: Abort + AllocGlobal, F: Fares>(
 
 /// Three boardings, of which a late one makes the next free and the last pay, and a journey from 10 to 12 at 340, which a late
 /// touch in cuts off from its beginning: that is then alone, at 860.
-fn boardings_and_a_ride<R: Abort + AllocGlobal, F: Fares>(
-    rt: &R,
-    editions: &Editions,
-    account: &mut F,
-)
-    requires { F.IsPricedBy editions.now account.old }
-{
+fn boardings_and_a_ride<R: Abort + AllocGlobal, F: Fares>(rt: &R, editions: &Editions) {
+    let mut account: F = empty_account(rt, editions);
     let bus = tap_at(rt, 1, 28_200, 50, Kind::Bus);
-    expect_tap(rt, account, editions, bus, (0, 0), (1, 175));
+    expect_tap(rt, &mut account, editions, bus, (0, 0), (1, 175));
     let free = tap_at(rt, 2, 30_200, 50, Kind::Bus);
-    expect_tap(rt, account, editions, free, (1, 175), (2, 175));
+    expect_tap(rt, &mut account, editions, free, (1, 175), (2, 175));
     let late = tap_at(rt, 3, 25_200, 50, Kind::Bus);
-    expect_tap(rt, account, editions, late, (2, 175), (3, 350));
+    expect_tap(rt, &mut account, editions, late, (2, 175), (3, 350));
     let entry = tap_at(rt, 4, 26_400, 10, Kind::In);
-    expect_tap(rt, account, editions, entry, (3, 350), (4, 1_210));
+    expect_tap(rt, &mut account, editions, entry, (3, 350), (4, 1_210));
     let exit = tap_at(rt, 5, 27_600, 12, Kind::Out);
-    expect_tap(rt, account, editions, exit, (4, 1_210), (4, 690));
+    expect_tap(rt, &mut account, editions, exit, (4, 1_210), (4, 690));
     let again = tap_at(rt, 6, 27_000, 10, Kind::In);
     let filled = What::Fill(again.stamp, 10, Kind::In);
-    expect_tap(rt, account, editions, again, (4, 690), (5, 1_550));
+    expect_tap(rt, &mut account, editions, again, (4, 690), (5, 1_550));
     expect_fix(
         rt,
-        account,
+        &mut account,
         editions,
         1,
         What::Void(1, 6),
@@ -168,7 +163,7 @@ fn boardings_and_a_ride<R: Abort + AllocGlobal, F: Fares>(
     );
     expect_fix(
         rt,
-        account,
+        &mut account,
         editions,
         2,
         What::Void(1, 3),
@@ -177,17 +172,17 @@ fn boardings_and_a_ride<R: Abort + AllocGlobal, F: Fares>(
     );
     expect_fix(
         rt,
-        account,
+        &mut account,
         editions,
         3,
         What::Drop(3, 2),
         (3, 515),
         (4, 690),
     );
-    expect_fix(rt, account, editions, 4, filled, (4, 690), (5, 1_550));
+    expect_fix(rt, &mut account, editions, 4, filled, (4, 690), (5, 1_550));
     expect_fix(
         rt,
-        account,
+        &mut account,
         editions,
         5,
         What::Void(1, 5),
@@ -198,44 +193,55 @@ fn boardings_and_a_ride<R: Abort + AllocGlobal, F: Fares>(
 
 /// A leg from 14 to 11 at 210, which becomes a run over 12 and 10 at 370 by two late taps: it has a leg from 10 to 11, at 280
 /// where it is alone. A tap of it that is taken out and restored changes it and restores it, and another late tap parts it.
-fn a_run<R: Abort + AllocGlobal, F: Fares>(rt: &R, editions: &Editions, account: &mut F)
-    requires { F.IsPricedBy editions.now account.old }
-{
+fn a_run<R: Abort + AllocGlobal, F: Fares>(rt: &R, editions: &Editions) {
+    let mut account: F = empty_account(rt, editions);
     let entry = tap_at(rt, 1, 25_200, 14, Kind::In);
-    expect_tap(rt, account, editions, entry, (0, 0), (1, 860));
+    expect_tap(rt, &mut account, editions, entry, (0, 0), (1, 860));
     let exit = tap_at(rt, 2, 28_200, 11, Kind::Out);
-    expect_tap(rt, account, editions, exit, (1, 860), (1, 210));
+    expect_tap(rt, &mut account, editions, exit, (1, 860), (1, 210));
     let between = tap_at(rt, 3, 26_400, 12, Kind::Out);
-    expect_tap(rt, account, editions, between, (1, 210), (2, 1_070));
+    expect_tap(rt, &mut account, editions, between, (1, 210), (2, 1_070));
     let on = tap_at(rt, 4, 27_600, 10, Kind::In);
     let (whole, cut, no_exit) = ((1, 370), (2, 1_140), (2, 1_070));
-    expect_tap(rt, account, editions, on, no_exit, whole);
-    expect_fix(rt, account, editions, 1, What::Void(1, 3), whole, cut);
-    expect_fix(rt, account, editions, 2, What::Drop(3, 1), cut, whole);
-    expect_fix(rt, account, editions, 3, What::Void(1, 2), whole, no_exit);
-    expect_fix(rt, account, editions, 4, What::Drop(3, 3), no_exit, whole);
+    expect_tap(rt, &mut account, editions, on, no_exit, whole);
+    expect_fix(rt, &mut account, editions, 1, What::Void(1, 3), whole, cut);
+    expect_fix(rt, &mut account, editions, 2, What::Drop(3, 1), cut, whole);
+    expect_fix(
+        rt,
+        &mut account,
+        editions,
+        3,
+        What::Void(1, 2),
+        whole,
+        no_exit,
+    );
+    expect_fix(
+        rt,
+        &mut account,
+        editions,
+        4,
+        What::Drop(3, 3),
+        no_exit,
+        whole,
+    );
     let parting = tap_at(rt, 5, 26_700, 13, Kind::In);
-    expect_tap(rt, account, editions, parting, (1, 370), (3, 1_350));
+    expect_tap(rt, &mut account, editions, parting, (1, 370), (3, 1_350));
 }
 
 #[test]
 fn boardings_by_late_taps(rt: HostRuntime) {
     let editions = sample(&rt);
-    let mut book: Book = empty_account(&rt, &editions);
-    let mut account: Account = empty_account(&rt, &editions);
     tell(&rt, MAY_BE_REFUSED);
-    boardings_and_a_ride(&rt, &editions, &mut book);
-    boardings_and_a_ride(&rt, &editions, &mut account);
+    boardings_and_a_ride::<HostRuntime, Book>(&rt, &editions);
+    boardings_and_a_ride::<HostRuntime, Account>(&rt, &editions);
 }
 
 #[test]
 fn runs_by_late_taps(rt: HostRuntime) {
     let editions = sample(&rt);
-    let mut book: Book = empty_account(&rt, &editions);
-    let mut account: Account = empty_account(&rt, &editions);
     tell(&rt, MAY_BE_REFUSED);
-    a_run(&rt, &editions, &mut book);
-    a_run(&rt, &editions, &mut account);
+    a_run::<HostRuntime, Book>(&rt, &editions);
+    a_run::<HostRuntime, Account>(&rt, &editions);
 }
 
 /// Sends a boarding, of which there is one that pays.

@@ -99,25 +99,29 @@ fn a_desk_without_memory(rt: HostRuntime) {
     }
 }
 
-#[test]
-fn a_desk_answers(rt: HostRuntime) {
-    let mut desk = empty_desk(&rt, sample(&rt));
-    expect_same(&rt, desk.shards(), 1);
-    let bus = tap_at(&rt, 1, 25_200, 50, Kind::Bus);
-    let price = reply(&rt, &mut desk, Asked::Tap(bus));
-    expect_same(&rt, day_price(&price), Some(175));
+/// Puts a boarding to a desk with no accounts, and asks what is due and for the quotes.
+fn expect_answers<R: Abort>(rt: &R, desk: &mut LocalDesk<Book>) {
+    expect_same(rt, desk.shards(), 1);
+    let bus = tap_at(rt, 1, 25_200, 50, Kind::Bus);
+    let price = reply(rt, desk, Asked::Tap(bus));
+    expect_same(rt, day_price(&price), Some(175));
     let asked = Asked::Due {
         account: 7,
         day: MONDAY,
     };
-    let owed = reply(&rt, &mut desk, asked);
-    expect_same(&rt, due(&owed), Some(Pence::new(175)));
+    let owed = reply(rt, desk, asked);
+    expect_same(rt, due(&owed), Some(Pence::new(175)));
     let all = Asked::Quotes {
         day: MONDAY,
         shard: 0,
         of: 1,
     };
-    let batch = reply(&rt, &mut desk, all);
-    expect_same(&rt, quoted(&batch), Some((1, 7)));
-    expect_same(&rt, desk.shard().journal().len(), 3);
+    let batch = reply(rt, desk, all);
+    expect_same(rt, quoted(&batch), Some((1, 7)));
+    expect_same(rt, desk.shard().journal().len(), 3);
+}
+
+#[test]
+fn a_desk_answers(rt: HostRuntime) {
+    expect_answers(&rt, &mut empty_desk(&rt, sample(&rt)));
 }

@@ -111,40 +111,52 @@ fn expect_held<R: Abort>(rt: &R, desk: &KeptDesk<Book, LineKeeper<Torn>>, lines:
     );
 }
 
-#[test]
-fn keeps_each_new_line_once(rt: HostRuntime) {
-    let mut desk = kept_desk(&rt, 999, 0, false);
-    expect_same(&rt, put(&rt, &mut desk, first(&rt)), Ok(true));
-    // A repeat, and a tap of another place under its number.
-    expect_same(&rt, put(&rt, &mut desk, first(&rt)), Ok(true));
+/// Puts a tap to a desk, and compares what comes of it.
+fn expect_put<R: Abort>(
+    rt: &R,
+    desk: &mut KeptDesk<Book, LineKeeper<Torn>>,
+    tap: Tap,
+    wanted: Result<bool, DeskFault>,
+) {
+    expect_same(rt, put(rt, desk, tap), wanted);
+}
+
+/// Puts two taps, and between them a repeat and a tap of another place under its number.
+fn expect_kept_once<R: Abort>(rt: &R, desk: &mut KeptDesk<Book, LineKeeper<Torn>>) {
+    expect_put(rt, desk, first(rt), Ok(true));
+    expect_put(rt, desk, first(rt), Ok(true));
     let other = Tap {
         place: 51,
-        ..first(&rt)
+        ..first(rt)
     };
-    expect_same(&rt, put(&rt, &mut desk, other), Ok(true));
-    expect_same(&rt, put(&rt, &mut desk, second(&rt)), Ok(true));
-    expect_held(&rt, &desk, LINES.as_bytes());
-    expect_same(&rt, desk.is_stuck(), false);
+    expect_put(rt, desk, other, Ok(true));
+    expect_put(rt, desk, second(rt), Ok(true));
+    expect_held(rt, desk, LINES.as_bytes());
+    expect_same(rt, desk.is_stuck(), false);
     // To settle is asked of the writer, which does not.
-    expect_same(&rt, desk.settle().is_err(), true);
-    expect_same(
-        &rt,
-        put(&rt, &mut desk, first(&rt)),
-        Err(DeskFault::NotKept),
-    );
+    expect_same(rt, desk.settle().is_err(), true);
+    expect_put(rt, desk, first(rt), Err(DeskFault::NotKept));
+}
+
+#[test]
+fn keeps_each_new_line_once(rt: HostRuntime) {
+    expect_kept_once(&rt, &mut kept_desk(&rt, 999, 0, false));
+}
+
+/// Puts both taps to a desk whose writer takes so many bytes, and compares what is kept.
+fn expect_torn<R: Abort>(rt: &R, desk: &mut KeptDesk<Book, LineKeeper<Torn>>, room: usize) {
+    let one = put(rt, desk, first(rt));
+    expect_same(rt, one.is_ok(), room >= LINE_BYTES);
+    expect_put(rt, desk, second(rt), Err(DeskFault::NotKept));
+    expect_same(rt, desk.is_stuck(), true);
+    let front = LINES.as_bytes().get(..room).unwrap_or(b"none");
+    expect_held(rt, desk, front);
 }
 
 #[test]
 fn fails_at_each_byte(rt: HostRuntime) {
     for room in 0..2 * LINE_BYTES {
-        let mut desk = kept_desk(&rt, room, 0, false);
-        let one = put(&rt, &mut desk, first(&rt));
-        let two = put(&rt, &mut desk, second(&rt));
-        expect_same(&rt, one.is_ok(), room >= LINE_BYTES);
-        expect_same(&rt, two, Err(DeskFault::NotKept));
-        expect_same(&rt, desk.is_stuck(), true);
-        let front = LINES.as_bytes().get(..room).unwrap_or(b"none");
-        expect_held(&rt, &desk, front);
+        expect_torn(&rt, &mut kept_desk(&rt, room, 0, false), room);
     }
 }
 
@@ -157,7 +169,7 @@ fn settles_before_quotes(rt: HostRuntime) {
     };
     let quotes = Command::of(asked).expect(&rt, "a command");
     let mut desk = kept_desk(&rt, 999, 1, false);
-    expect_same(&rt, put(&rt, &mut desk, first(&rt)), Ok(true));
+    expect_put(&rt, &mut desk, first(&rt), Ok(true));
     expect_same(&rt, desk.put(quotes).is_ok(), true);
     // The second is applied, but no reply to it can be got.
     expect_same(&rt, desk.put(quotes).err(), Some(DeskFault::NotKept));
@@ -167,11 +179,7 @@ fn settles_before_quotes(rt: HostRuntime) {
 #[test]
 fn settles_each_line(rt: HostRuntime) {
     let mut desk = kept_desk(&rt, 999, 1, true);
-    expect_same(&rt, put(&rt, &mut desk, first(&rt)), Ok(true));
-    expect_same(
-        &rt,
-        put(&rt, &mut desk, second(&rt)),
-        Err(DeskFault::NotKept),
-    );
+    expect_put(&rt, &mut desk, first(&rt), Ok(true));
+    expect_put(&rt, &mut desk, second(&rt), Err(DeskFault::NotKept));
     expect_held(&rt, &desk, LINES.as_bytes());
 }

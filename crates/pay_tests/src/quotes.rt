@@ -101,11 +101,9 @@ fn ride<R: Abort, F: Fares>(
 }
 
 /// Compares what is due after the three journeys.
-fn expect_due<R: Abort, F: Fares>(rt: &R, editions: &Editions, account: &F)
-    requires numbered { 1 ≤ F.account account.now }
-    requires priced_by { F.IsPricedBy editions.now account.now }
-{
-    let quote = quoted(account, editions, MONDAY).expect(rt, "memory");
+fn expect_due<R: Abort + AllocGlobal, F: Fares>(rt: &R, editions: &Editions) {
+    let account: F = three_rides(rt, editions);
+    let quote = quoted(&account, editions, MONDAY).expect(rt, "memory");
     expect_same(
         rt,
         (quote.account(), quote.week(), quote.through()),
@@ -118,40 +116,34 @@ fn expect_due<R: Abort, F: Fares>(rt: &R, editions: &Editions, account: &F)
 #[test]
 fn quotes_what_is_due(rt: HostRuntime) {
     let editions = sample(&rt);
-    let account: Account = three_rides(&rt, &editions);
-    expect_due(&rt, &editions, &account);
-    let book: Book = three_rides(&rt, &editions);
-    expect_due(&rt, &editions, &book);
+    expect_due::<HostRuntime, Account>(&rt, &editions);
+    expect_due::<HostRuntime, Book>(&rt, &editions);
 }
 
 /// Compares the journeys of the week after a fourth that is not finished.
-fn expect_listed<R: Abort + AllocGlobal, F: Fares>(rt: &R, editions: &Editions, account: &mut F)
-    requires { F.IsPricedBy editions.now account.old }
-{
+fn expect_listed<R: Abort + AllocGlobal, F: Fares>(rt: &R, editions: &Editions) {
+    let mut account: F = three_rides(rt, editions);
     let lone = tap_at(rt, 7, 43_200, 10, Kind::In);
-    expect_price(rt, account, editions, lone, 1_750);
-    let lines = listed(account, editions, MONDAY).expect(rt, "memory");
+    expect_price(rt, &mut account, editions, lone, 1_750);
+    let lines = listed(&account, editions, MONDAY).expect(rt, "memory");
     expect_statement(rt, lines.as_slice(), BY_RAIL);
 }
 
 #[test]
 fn lists_a_week(rt: HostRuntime) {
     let editions = sample(&rt);
-    let mut account: Account = three_rides(&rt, &editions);
-    expect_listed(&rt, &editions, &mut account);
-    let mut book: Book = three_rides(&rt, &editions);
-    expect_listed(&rt, &editions, &mut book);
+    expect_listed::<HostRuntime, Account>(&rt, &editions);
+    expect_listed::<HostRuntime, Book>(&rt, &editions);
 }
 
 /// Sends a tap and a Void of it, and compares what was accepted.
-fn expect_kept<R: Abort, F: Fares>(rt: &R, editions: &Editions, account: &mut F)
-    requires { F.IsPricedBy editions.now account.old }
-{
+fn expect_kept<R: Abort + AllocGlobal, F: Fares>(rt: &R, editions: &Editions) {
+    let mut account: F = empty_account(rt, editions);
     let tap = tap_at(rt, 1, 25_200, 10, Kind::In);
-    expect_price(rt, account, editions, tap, 860);
+    expect_price(rt, &mut account, editions, tap, 860);
     let void = What::Void(1, 1);
-    expect_fixed(rt, account, editions, 1, void, (MONDAY, 0));
-    let sets = kept(account).expect(rt, "memory");
+    expect_fixed(rt, &mut account, editions, 1, void, (MONDAY, 0));
+    let sets = kept(&account).expect(rt, "memory");
     expect_same(rt, sets.account(), 7);
     expect_same(
         rt,
@@ -164,10 +156,8 @@ fn expect_kept<R: Abort, F: Fares>(rt: &R, editions: &Editions, account: &mut F)
 #[test]
 fn keeps_what_was_accepted(rt: HostRuntime) {
     let editions = sample(&rt);
-    let mut account: Account = empty_account(&rt, &editions);
-    expect_kept(&rt, &editions, &mut account);
-    let mut book: Book = empty_account(&rt, &editions);
-    expect_kept(&rt, &editions, &mut book);
+    expect_kept::<HostRuntime, Account>(&rt, &editions);
+    expect_kept::<HostRuntime, Book>(&rt, &editions);
 }
 
 /// Whether the numbers of a quote of an account, at a version, for the week of the Monday through a day give one.

@@ -101,7 +101,8 @@ fn expect_price<R: Abort, F: Fares>(rt: &R, shard: &mut Shard<F>, asked: Asked, 
 }
 
 /// Sends taps and a correction to a shard without accounts.
-fn expect_answers<R: Abort, F: Fares>(rt: &R, shard: &mut Shard<F>) {
+fn expect_answers<R: Abort + AllocGlobal, F: Fares>(rt: &R) {
+    let shard: &mut Shard<F> = &mut empty_shard(rt, sample(rt), 3);
     let first = tap_at(rt, 1, 25_200, 50, Kind::Bus);
     expect_price(rt, shard, tap_of(8, first), 175);
     let second = tap_at(rt, 1, 25_200, 50, Kind::Bus);
@@ -123,14 +124,13 @@ fn expect_answers<R: Abort, F: Fares>(rt: &R, shard: &mut Shard<F>) {
 
 #[test]
 fn a_shard_answers(rt: HostRuntime) {
-    let mut accounts: Shard<Account> = empty_shard(&rt, sample(&rt), 3);
-    expect_answers(&rt, &mut accounts);
-    let mut books: Shard<Book> = empty_shard(&rt, sample(&rt), 3);
-    expect_answers(&rt, &mut books);
+    expect_answers::<HostRuntime, Account>(&rt);
+    expect_answers::<HostRuntime, Book>(&rt);
 }
 
 /// Sends two taps to a shard without accounts, and compares what it quotes.
-fn expect_quoted<R: Abort, F: Fares>(rt: &R, shard: &mut Shard<F>) {
+fn expect_quoted<R: Abort + AllocGlobal, F: Fares>(rt: &R) {
+    let shard: &mut Shard<F> = &mut empty_shard(rt, sample(rt), 0);
     let first = tap_at(rt, 1, 25_200, 50, Kind::Bus);
     expect_price(rt, shard, tap_of(8, first), 175);
     let second = tap_at(rt, 1, 25_200, 50, Kind::Bus);
@@ -152,10 +152,8 @@ fn expect_quoted<R: Abort, F: Fares>(rt: &R, shard: &mut Shard<F>) {
 
 #[test]
 fn a_shard_quotes(rt: HostRuntime) {
-    let mut accounts: Shard<Account> = empty_shard(&rt, sample(&rt), 0);
-    expect_quoted(&rt, &mut accounts);
-    let mut books: Shard<Book> = empty_shard(&rt, sample(&rt), 0);
-    expect_quoted(&rt, &mut books);
+    expect_quoted::<HostRuntime, Account>(&rt);
+    expect_quoted::<HostRuntime, Book>(&rt);
 }
 
 /// Three journeys by rail: of each tap its number, its second of the Monday, its place and its kind, and the price of the
