@@ -335,7 +335,7 @@ def journals_of_another(folder):
     """A journal of another fare file; faults that come before a bad line; and accounts that are full."""
     bus, rail = "TAP 1 1 7 1704697200 50 BUS", "TAP 1 2 7 1704697200 12 IN"
     for name, old, new, number in (("route", "place = 50", "place = 51", 1), ("station", "place = 12,", "place = 15,", 2)):
-        text = edited(old, new)
+        text = edited(old, new, "sample.toml")
         if name == "station":
             text = text.replace(b"b = 12", b"b = 15")
         other = written(folder, name, text)

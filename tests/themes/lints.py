@@ -107,9 +107,8 @@ def warnings(folder):
     yield "the sample", run(["check", SAMPLE, "--lint"]), answers(COUNTED)
     yield "beside an old file", run(["check", TWO, "--lint", "--against", TWO]), warned(b"OK\n", (NONE_AFTER,))
     line, reply = b"TAP 1 1 7 1704697200 50 BUS\n", b"OK 19730 175 175\n"
-    files = (["--journal", f"{folder}/journal"], ["--ledger", f"{folder}/ledger"])
-    for given in (*files, sum(files, [])):
-        yield f"a session with {given[0]}", run(["run", TWO, LONDON, *given], line), warned(reply, (NONE_AFTER,))._replace(status=0)
+    for given in (["--journal", f"{folder}/journal"], ["--ledger", f"{folder}/ledger"], ["--journal", f"{folder}/kept", "--ledger", f"{folder}/posted"]):
+        yield f"a session with {' '.join(given)}", run(["run", TWO, LONDON, *given], line), warned(reply, (NONE_AFTER,))._replace(status=0)
     yield "a session without files", run(["run", TWO, LONDON], line), answers(reply)
     yield "a statement by a journal", run(["statement", TWO, LONDON, "8", "19730", "--journal", f"{folder}/journal"]), answers(b"day,kind,from,to,start,fare,band\n")
 
