@@ -3,3 +3,4 @@ pub mod Documents
 pub mod Ranges
 pub mod Inclusive
 pub mod Forgetting
+pub mod PutEditions

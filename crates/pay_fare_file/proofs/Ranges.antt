@@ -1,12 +1,12 @@
 -- What a fare file says is in its ranges, and each span has its single fare.
 use Rattle.std.proofs.Common.{◌≡◌, ℕ, ℤ, ◌+◌, ◌-◌, ◌≤◌, ◌<◌, pos, negsuc, zero, suc, min, Bool, true, false, cond, List, [], ◌∷◌, ◌++◌, length, length-append, Option, Some, None, Result, Ok, Err, refl, ap, ◌∙◌, codes, arith, inl, inr}
 use Rattle.std.specs.Prelude.{◌≢◌, ok_or, nat_le, nat_lt, ◌==◌, ◌&&◌, ◌||◌, ◌⊎◌, All, IfOk, IfSome, IsSome}
-use Rattle.std.specs.List.{list_all, list_any, find, range_with_len}
+use Rattle.std.specs.List.{AllByRecursion, list_all, list_any, find, range_with_len}
 use Rattle.std.specs.Ordering.{nat_cmp, eq_by_cmp}
 use Rattle.std.specs.Cmp.{nat_cmp_total}
 use Rattle.std.specs.FinMap.{FinMap, get, empty, contains_key, get-empty, get-insert}
 use Rattle.std.proofs.lemmas.Bool.Decides.{nat_tests}
-use Rattle.std.proofs.lemmas.List.Elements.{All-nil, All-cons, All-append}
+use Rattle.std.proofs.lemmas.List.Elements.{All-nil, All-cons, All-append, All-from_recursion}
 use Rattle.toml.specs.Data.{Data, Items, no_items, item, Members, get_member, as_integer}
 use Rattle.pay_day.specs.declared.limits.TheConstants.{FIRST_DAY, LAST_DAY}
 use Rattle.pay_money.specs.declared.limits.TheConstants.{OPERATORS}
@@ -22,7 +22,8 @@ use Rattle.pay_tables.specs.declared.single.Single.{Single}
 use Rattle.pay_tables.specs.declared.zones.Span.{Span}
 use Rattle.pay_fare_file.specs.Fault.{◌>>=◌}
 use Rattle.pay_fare_file.specs.Keys.{needed, integer_in, integer_of, integer_at, table_of, table_at, array_of, array_at, items_len, items_or_none, items_at}
-use Rattle.pay_tables.specs.Words.{IsSpan, same_span, IsCover, IsBand, AreRules, IsSingle, IsPlace, IsInterchange, FareTables, IsFareTables, AreOfOneFile, IsEdition, IsFareEditions}
+use Rattle.pay_tables.specs.Words.{IsSpan, same_span, IsCover, IsBand, AreRules, IsSingle, IsPlace, IsInterchange, FareTables, IsFareTables, AreFromLast, AreOfOneFile, IsEdition, IsFareEditions}
+use Rattle.pay_fare_file.proofs.PutEditions.{put_all, put_from_last, put_length}
 use Rattle.pay_fare_file.specs.FareFile.{with_each, with_minutes, minutes_items_at, minutes_at, unless_differs, hopper_at, rules_of, single_of, another_single, with_single, singles_at, has_single, has_singles_from, has_each_single, greatest_to, cover_at, band_of, another_band, with_band, has_band, bands_at, holidays_at, station_of, route_of, unless_taken, with_place, with_station, with_route, places_at, another_at, interchange_of, joins_stations, has_interchange, unless_joined, another_interchange, with_interchange, interchanges_at, own_keys, tables_of_edition, edition_of, has_edition, another_edition, with_edition, editions_at, fare_file}
 
 -- ---- steps
@@ -372,20 +373,24 @@ edition_is own is d =
     IfOk_then (AreOfEdition own) (IsEdition own) (tables_of_edition own ms) _ (tables_of_edition_are own is ms) (λ tables t.
     record { day = (omega (arith, r.0), r.1); in_range = t.0; shared = t.1 })))
 
--- few editions of a file, with those that are to come
+-- few editions of a file, from the one that begins last on, with those that are to come
 abbrev AreEditions : FareTables → List Edition → Items → Type 0
-AreEditions own editions ds = All (IsEdition own) editions × (length editions + items_len ds ≤ MOST_EDITIONS)
+AreEditions own editions ds = AllByRecursion (IsEdition own) editions × (length editions + items_len ds ≤ MOST_EDITIONS) × AreFromLast editions
+
+-- an edition of a file, on whose day none of others begins
+abbrev IsNewEdition : FareTables → List Edition → Edition → Type 0
+IsNewEdition own before edition = IsEdition own edition × (has_edition before edition.day ≡ false)
 
 with_edition_keeps : (own : FareTables) → IsFareTables own → (before : List Edition) (d : Data) (ds : Items) → AreEditions own before (item d ds) → IfOk (with_edition own before d) (λ more. AreEditions own more ds)
 with_edition_keeps own is before d ds h =
-    IfOk_then (IsEdition own) (λ more. AreEditions own more ds) (another_edition own before d) _
-    (IfOk_then (IsEdition own) (IsEdition own) (edition_of own d) _ (edition_is own is d) (λ edition e. IfOk_unless (IsEdition own) (has_edition before edition.day) (Ok edition) Duplicate (λ _. e))) (λ edition e.
-    (All-append (IsEdition own) before (edition ∷ []) h.0 (All-cons (IsEdition own) edition [] e (All-nil (IsEdition own))), omega (arith, h.1, length-append before (edition ∷ []))))
+    IfOk_then (IsNewEdition own before) (λ more. AreEditions own more ds) (another_edition own before d) _
+    (IfOk_then (IsEdition own) (IsNewEdition own before) (edition_of own d) _ (edition_is own is d) (λ edition e. IfOk_unless (IsNewEdition own before) (has_edition before edition.day) (Ok edition) Duplicate (λ none. (e, none)))) (λ edition e.
+    (put_all (IsEdition own) edition before e.0 h.0, omega (arith, h.1, put_length edition before), put_from_last edition before e.1 h.2))
 
 editions_are : (own : FareTables) → IsFareTables own → (ms : Members) → IfOk (editions_at own ms) (λ editions. AreEditions own editions no_items)
 editions_are own is ms =
     IfOk_then (λ items. items_len items ≤ MOST_EDITIONS) (λ editions. AreEditions own editions no_items) (items_at (codes "edition") MOST_EDITIONS ms) _ (items_few (codes "edition") MOST_EDITIONS ms) (λ items few.
-    with_each_keeps (AreEditions own) (with_edition own) (with_edition_keeps own is) [] items (All-nil (IsEdition own), omega (arith, few)))
+    with_each_keeps (AreEditions own) (with_edition own) (with_edition_keeps own is) [] items (tt, omega (arith, few), tt))
 
 -- ---- the file
 
@@ -393,4 +398,4 @@ pub fare_file_is : (ms : Members) → IfOk (fare_file ms) IsFareEditions
 fare_file_is ms =
     IfOk_then IsFareTables IsFareEditions (own_keys ms) _ (own_keys_are ms) (λ own is.
     IfOk_then (λ editions. AreEditions own editions no_items) IsFareEditions (editions_at own ms) _ (editions_are own is ms) (λ editions e.
-    record { own = is; each = e.0; few = omega (arith, e.1) }))
+    record { own = is; each = All-from_recursion (IsEdition own) editions e.0; from_last = e.2; few = omega (arith, e.1) }))

@@ -1,5 +1,5 @@
 -- What a fare file says: its own keys in order, then those of its editions, and the first fault.
-use Rattle.std.specs.Prelude.{ℕ, ◌+◌, ◌-◌, ◌==◌, ◌&&◌, min, nat_eq, Bool, true, false, List, [], ◌∷◌, ◌++◌, Option, Some, None, Result, Ok, Err, codes, if◌then◌else◌}
+use Rattle.std.specs.Prelude.{ℕ, ◌+◌, ◌-◌, ◌==◌, ◌&&◌, min, nat_eq, nat_lt, Bool, true, false, List, [], ◌∷◌, ◌++◌, Option, Some, None, Result, Ok, Err, codes, if◌then◌else◌}
 use Rattle.std.specs.List.{list_all, list_any, range_with_len}
 use Rattle.std.specs.Ordering.{nat_cmp}
 use Rattle.std.specs.FinMap.{FinMap, contains_key, empty, get, insert}
@@ -301,10 +301,19 @@ another_edition own before d = do
   edition ← edition_of own d
   if has_edition before edition.day then Err Duplicate else Ok edition
 
+-- whether an edition begins before a day
+abbrev pub begins_before : ℕ → Edition → Bool
+begins_before day edition = nat_lt edition.day day
+
+-- an edition among others, before the first that begins earlier, so that they stand from the one that begins last on
+abbrev pub put_edition : Edition → List Edition → List Edition
+put_edition edition [] = edition ∷ []
+put_edition edition (other ∷ others) = if begins_before edition.day other then edition ∷ other ∷ others else other ∷ put_edition edition others
+
 abbrev pub with_edition : FareTables → List Edition → Data → Result (List Edition) FareFileFault
 with_edition own before d = do
   edition ← another_edition own before d
-  Ok (before ++ edition ∷ [])
+  Ok (put_edition edition before)
 
 -- the editions of a file, whose own keys say so much
 abbrev pub editions_at : FareTables → Members → Result (List Edition) FareFileFault

@@ -27,7 +27,7 @@ use Rattle.pay_fare_file.specs.declared.spot.FaultPlace.TheVariants.{Line, Own, 
 use Rattle.pay_fare_file.specs.Fault.{◌>>=◌}
 use Rattle.pay_fare_file.specs.Keys.{integer_of, table_of, items_len}
 use Rattle.pay_fare_file.specs.Spots.{TellsUnlessMemory, told, put_in, integer_told, table_told, array_told, items_told}
-use Rattle.pay_fare_file.specs.FareFile.{with_each, minutes_items_at, hopper_at, has_single, complete, greatest_to, cover_from, has_band, another_holiday, unless_taken, another_at, joins_stations, unless_joined, has_edition}
+use Rattle.pay_fare_file.specs.FareFile.{with_each, minutes_items_at, hopper_at, has_single, complete, greatest_to, cover_from, has_band, another_holiday, unless_taken, another_at, joins_stations, unless_joined, has_edition, put_edition}
 
 -- one more number of minutes
 abbrev pub with_minutes_told : List ℕ → Data → Result (List ℕ) (Misread Spot)
@@ -231,7 +231,7 @@ another_edition_told own before d = do
 abbrev pub with_edition_told : FareTables → List Edition → Data → Result (List Edition) (Misread FaultPlace)
 with_edition_told own before d = do
   edition ← another_edition_told own before d
-  Ok (before ++ edition ∷ [])
+  Ok (put_edition edition before)
 
 -- the editions
 abbrev pub editions_told : FareTables → Members → Result (List Edition) (Misread FaultPlace)

@@ -615,9 +615,12 @@ editions items = member (codes "edition") (array items) no_members
 no_editions : editions_at own no_members ≡ Ok []
 no_editions = refl
 
--- they stand in any order
+-- they may stand in any order
 later_one_first : editions_at own (editions (item (from_day 19_800 new_rules) (one (from_day 19_731 new_rules)))) ≡ Ok (edition 19_800 ∷ edition 19_731 ∷ [])
 later_one_first = refl
+
+later_one_last : editions_at own (editions (item (from_day 19_731 new_rules) (one (from_day 19_800 new_rules)))) ≡ Ok (edition 19_800 ∷ edition 19_731 ∷ [])
+later_one_last = refl
 
 editions_that_are_no_array : editions_at own (number (codes "edition") 1 no_members) ≡ Err WrongType
 editions_that_are_no_array = refl

@@ -1,5 +1,6 @@
 //! The editions: fares that hold from a day on.
-ghost use Rattle.std.specs.Prelude.{◌≡◌, ◌≤◌, [], Err, IfOk, IsOk, codes};
+ghost use Rattle.std.specs.Prelude.{◌≡◌, ◌≤◌, ◌<◌, [], Err, IfOk, IfSome, IsOk, OnOk, codes, length};
+ghost use Rattle.std.specs.List.{position};
 ghost use Rattle.toml.specs.View.{view, items_view, table_view};
 ghost use Rattle.pay_day.specs.declared.limits.TheConstants.{LAST_DAY};
 ghost use Rattle.pay_tables.specs.declared.limits.TheConstants.{MOST_EDITIONS};
@@ -9,8 +10,8 @@ ghost use Rattle.pay_fare_file.specs.declared.spot.Spot.TheVariants.{AtItem};
 ghost use Rattle.pay_fare_file.specs.Fault.{Gives};
 ghost use Rattle.pay_fare_file.specs.Keys.{items_at, table_of};
 ghost use Rattle.pay_fare_file.specs.Spots.{TellsUnlessMemory, put_in, told};
-ghost use Rattle.pay_fare_file.specs.FareFile.{has_edition, with_each};
-ghost use Rattle.pay_fare_file.specs.FaultPlaces.{another_edition_told, day_told, edition_told, editions_told, tables_of_edition_told, with_edition_told};
+ghost use Rattle.pay_fare_file.specs.FareFile.{begins_before, has_edition, put_edition, with_each};
+ghost use Rattle.pay_fare_file.specs.FaultPlaces.{another_edition_told, bands_told, day_told, edition_told, editions_told, tables_of_edition_told, with_edition_told};
 
 use crate::bands::bands_told;
 use crate::fault::FareFileFault;
@@ -23,8 +24,8 @@ use crate::singles::singles_told;
 use crate::spot::{FaultPlace, Spot};
 use pay_day::limits::{FIRST_DAY, LAST_DAY};
 use pay_tables::limits::MOST_EDITIONS;
-use pay_tables::{Edition, EditionParts, Tables};
-use std::alloc::Global;
+use pay_tables::{Band, Edition, EditionParts, Tables};
+use std::alloc::{AllocError, Global};
 use toml::{Table, Value};
 
 /// The editions of a fare file whose own keys say so much.
@@ -42,7 +43,7 @@ pub fn editions_told(
     }
 }
 
-/// The editions that the items say.
+/// The editions that the items say, from the one that begins last on.
 fn each_edition(
     alloc: Global,
     items: &[Value],
@@ -53,7 +54,7 @@ fn each_edition(
     let mut editions = Vec::new(alloc);
     for item in items {
         let edition = another_edition(alloc, &editions, item, own)?;
-        editions.push(edition)?;
+        put(&mut editions, edition)?;
     }
     Ok(editions)
 }
@@ -135,7 +136,7 @@ fn tables_of_edition(alloc: Global, table: &Table, own: &Tables) -> Result<Table
     let minutes = minutes_told(alloc, table, zones)?;
     let rules = rules_at_told(table, Some(own.rules().hopper))?;
     let singles = singles_told(alloc, table, zones)?;
-    let bands = bands_told(alloc, table, zones)?;
+    let bands = bands_of(alloc, table, own)?;
     pay_tables::laws::in_range(own);
     let tables = own.edition(EditionParts {
         minutes,
@@ -144,6 +145,30 @@ fn tables_of_edition(alloc: Global, table: &Table, own: &Tables) -> Result<Table
         bands,
     })?;
     Ok(tables)
+}
+
+/// The bands of an edition of a file whose own keys say so much: where it has none, there are none.
+fn bands_of(alloc: Global, table: &Table, own: &Tables) -> Result<Vec<Band>, Misread<Spot>>
+    ensures { TellsUnlessMemory (λ bands. bands.items) result (bands_told own.now.zones (table_view table.now)) }
+{
+    bands_told(alloc, table, own.zones())
+}
+
+/// Puts an edition before the first that begins earlier.
+fn put(editions: &mut Vec<Edition>, edition: Edition) -> Result<(), AllocError>
+    ensures { OnOk result (editions.new.items ≡ put_edition edition editions.old.items) }
+{
+    let place = first_before(editions, edition.day).unwrap_or(editions.len());
+    editions.insert(place, edition)?;
+    Ok(())
+}
+
+/// Where the first edition stands that begins before a day.
+fn first_before(editions: &[Edition], day: u32) -> Option<usize>
+    ensures value { result ≡ position (begins_before day) editions.now }
+    ensures within { IfSome result (λ place. place < length editions.now) }
+{
+    editions.iter().position(|edition| edition.day < day)
 }
 
 /// Whether an edition begins on a day.

@@ -1,6 +1,6 @@
 -- Fare editions: which tables hold on a day.
-use Rattle.std.specs.Prelude.{◌≡◌, ℕ, ◌≤◌, ◌<◌, ◌+◌, nat_le, nat_lt, ◌&&◌, Bool, true, List, [], ◌∷◌, length, All, Option, Some, None, if◌then◌else◌, refl}
-use Rattle.std.specs.List.{fold}
+use Rattle.std.specs.Prelude.{◌≡◌, ℕ, ◌≤◌, ◌<◌, nat_le, Bool, List, [], ◌∷◌, length, All, Option, Some, None, ⊤, refl}
+use Rattle.std.specs.List.{AllByRecursion, find}
 use Rattle.pay_day.specs.declared.limits.TheConstants.{FIRST_DAY, LAST_DAY}
 use Rattle.pay_tables.specs.declared.edition.Edition.{Edition}
 use Rattle.pay_tables.specs.declared.limits.TheConstants.{MOST_EDITIONS}
@@ -10,21 +10,16 @@ use Rattle.pay_tables.specs.FareTables.{FareTables, IsFareTables}
 pub record FareEditions : Type 0 where
   -- what its own keys say
   pub own : FareTables
-  -- its editions, in the order of the file
+  -- its editions, from the one that begins last on
   pub items : List Edition
 
--- whether an edition begins later than the one so far, if there is one
-abbrev pub is_later : Option Edition → Edition → Bool
-is_later None edition = true
-is_later (Some last) edition = nat_lt last.day edition.day
-
--- of the editions so far and one more, the one that began last by a day
-abbrev pub later : ℕ → Option Edition → Edition → Option Edition
-later day last edition = if nat_le edition.day day && is_later last edition then Some edition else last
+-- whether an edition has begun by a day
+abbrev pub has_begun : ℕ → Edition → Bool
+has_begun day edition = nat_le edition.day day
 
 -- the edition of a day: of those that have begun by then the one that began last
 abbrev pub edition_on : FareEditions → ℕ → Option Edition
-edition_on editions day = fold (later day) None editions.items
+edition_on editions day = find (has_begun day) editions.items
 
 abbrev pub tables_or_own : FareTables → Option Edition → FareTables
 tables_or_own own None = own
@@ -56,54 +51,48 @@ pub record IsEdition (own : FareTables) (edition : Edition) : Type 0 where
   pub in_range : IsFareTables edition.tables
   pub shared : AreOfOneFile own edition.tables
 
--- each is an edition of the file, and there are few
+-- each begins before those that stand before it, so that no two begin on one day
+abbrev pub AreFromLast : List Edition → Type 0
+AreFromLast [] = ⊤
+AreFromLast (edition ∷ items) = AllByRecursion (λ other. other.day < edition.day) items × AreFromLast items
+
+-- each is an edition of the file, from the one that begins last on, and there are few
 pub record IsFareEditions (editions : FareEditions) : Type 0 where
   pub own : IsFareTables editions.own
   pub each : All (IsEdition editions.own) editions.items
+  pub from_last : AreFromLast editions.items
   pub few : length editions.items ≤ MOST_EDITIONS
 
 -- an edition begins on a day, by the tables of any
 abbrev begins : ℕ → FareTables → Edition
 begins day tables = record { day = day; tables = tables }
 
--- ---- worked rows: own tables, and editions from days 19,731 and 19,800, listed in either order
+-- ---- worked rows: own tables, and editions from days 19,731 and 19,800
 
 module _ (own first second : FareTables) where
-  abbrev rising : FareEditions
-  rising = record { own = own; items = begins 19_731 first ∷ begins 19_800 second ∷ [] }
+  abbrev two : FareEditions
+  two = record { own = own; items = begins 19_800 second ∷ begins 19_731 first ∷ [] }
 
-  abbrev falling : FareEditions
-  falling = record { own = own; items = begins 19_800 second ∷ begins 19_731 first ∷ [] }
-
-  the_day_before : on rising 19_730 ≡ own
+  the_day_before : on two 19_730 ≡ own
   the_day_before = refl
 
-  the_first_day : on rising 19_731 ≡ first
+  the_first_day : on two 19_731 ≡ first
   the_first_day = refl
 
-  the_last_day : on rising 19_799 ≡ first
+  the_last_day : on two 19_799 ≡ first
   the_last_day = refl
 
-  the_next_one : on rising 19_800 ≡ second
+  the_next_one : on two 19_800 ≡ second
   the_next_one = refl
 
-  for_good : on rising 50_004 ≡ second
+  for_good : on two 50_004 ≡ second
   for_good = refl
-
-  the_day_before_any_order : on falling 19_730 ≡ own
-  the_day_before_any_order = refl
-
-  the_last_day_any_order : on falling 19_799 ≡ first
-  the_last_day_any_order = refl
-
-  for_good_any_order : on falling 50_004 ≡ second
-  for_good_any_order = refl
 
   without_editions : on (record { own = own; items = [] }) 19_731 ≡ own
   without_editions = refl
 
-  from_the_first_day_on : first_day rising 19_730 ≡ 4
+  from_the_first_day_on : first_day two 19_730 ≡ 4
   from_the_first_day_on = refl
 
-  from_its_day_on : first_day rising 19_799 ≡ 19_731
+  from_its_day_on : first_day two 19_799 ≡ 19_731
   from_its_day_on = refl

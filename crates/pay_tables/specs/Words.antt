@@ -3,4 +3,4 @@ pub use Rattle.pay_tables.specs.Spans.{low_of, bounds_with, bounds_of, span_of, 
 pub use Rattle.pay_tables.specs.Bands.{same_cover, is_within, covers_span, IsCover, IsBand}
 pub use Rattle.pay_tables.specs.FareTables.{FareTables, AreRules, IsPlace, IsSingle, IsInterchange, IsFareTables, station_at, single_fare, allowed_seconds, is_holiday, is_between, interchange, counts}
 pub use Rattle.pay_tables.specs.Parts.{edition_of, tables_of}
-pub use Rattle.pay_tables.specs.FareEditions.{FareEditions, AreOfOneFile, IsEdition, IsFareEditions, first_day, on}
+pub use Rattle.pay_tables.specs.FareEditions.{FareEditions, AreFromLast, AreOfOneFile, IsEdition, IsFareEditions, first_day, on}

@@ -1,6 +1,6 @@
 ghost use Rattle.std.specs.Prelude.{◌≡◌, ◌≤◌, length, option_map};
 ghost use Rattle.pay_tables.specs.declared.limits.TheConstants.{MOST_EDITIONS};
-ghost use Rattle.pay_tables.specs.FareEditions.{IsFareEditions, edition_on, first_day, later, on};
+ghost use Rattle.pay_tables.specs.FareEditions.{IsFareEditions, edition_on, first_day, on};
 
 use crate::edition::Edition;
 use crate::tables::Tables;
@@ -28,7 +28,7 @@ impl Model for Editions {
 }
 
 impl Editions {
-    /// These tables, until the first of the items begins.
+    /// These tables, until the first edition begins. The items stand from the one that begins last on.
     pub fn new(own: Tables, items: Vec<Edition>) -> Editions
         requires { IsFareEditions (record { own = own; items = items.items }) }
         ensures { result ≡ record { own = own; items = items.items } }
@@ -82,25 +82,6 @@ impl Editions {
     fn edition_on(&self, day: u32) -> Option<&Edition>
         ensures { option_map (λ edition. edition.now) result ≡ edition_on self.now day }
     {
-        let mut last = None;
-        for edition in &self.items {
-            last = later(day, last, edition);
-        }
-        last
-    }
-}
-
-/// Of the editions so far and one more, the one that began last by a day.
-fn later<'a>(day: u32, last: Option<&'a Edition>, edition: &'a Edition) -> Option<&'a Edition>
-    ensures { option_map (λ it. it.now) result ≡ later day (option_map (λ it. it.now) last.entry) edition.now }
-{
-    let is_later = match last {
-        Some(other) => other.day < edition.day,
-        None => true,
-    };
-    if edition.day <= day && is_later {
-        Some(edition)
-    } else {
-        last
+        self.items.iter().find(|edition| edition.day <= day)
     }
 }

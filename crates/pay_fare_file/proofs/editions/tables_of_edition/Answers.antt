@@ -31,14 +31,3 @@ returns c =
     let singles : singles_told own.zones keys ≡ Ok c.in_ok-singles.singles.items = search rules in
     let bands : bands_told own.zones keys ≡ Ok c.in_ok-bands.bands.items = search rules in
     rw (minutes, those, singles, bands) (ap Ok (sym c.in_ok-tables.ensures))
-
-pub returns-in_err-bands : goal.returns-in_err-bands
-returns-in_err-bands c =
-    let own : FareTables = c.args.own.now in
-    let keys = table_view c.args.table.now in
-    let minutes : minutes_told own.zones keys ≡ Ok c.in_ok-minutes.minutes.items = search rules in
-    let those : rules_at_told (Some own.rules.hopper) keys ≡ Ok c.in_ok-rules.rules = search rules in
-    let singles : singles_told own.zones keys ≡ Ok c.in_ok-singles.singles.items = search rules in
-    let no_bands : c.in_err-bands.field-0.0 ≢ Memory → bands_told own.zones keys ≡ Err c.in_err-bands.field-0.0 = subst (λ zones. c.in_err-bands.field-0.0 ≢ Memory → bands_told zones keys ≡ Err c.in_err-bands.field-0.0) c.zones-zones.ensures.value c.in_err-bands.ensures.value in
-    let passed_on = err_from_is_err_and c.from_residual-in_err-bands.result c.from_residual-in_err-bands.ensures.1 in
-    rw (minutes, those, singles) (passed (λ tables. tables) c.from_residual-in_err-bands.result (bands_told own.zones keys) _ passed_on.1 passed_on.2 no_bands)
