@@ -103,8 +103,8 @@ class Kept:
     def rows(self):
         """The rows that the ledger has to have, as `rows_of` reads them."""
         postings = [it for _, those in sorted(self.postings.items()) for it in those]
-        rows = [("ok",), ("farebox", 1)]
-        rows += [(it.account, it.week, it.through, it.version, it.due, it.amount) for it in postings]
+        rows = [("ok",), ("farebox", 2)]
+        rows += [(it.account, it.week, it.through, it.version, it.due, it.amount, it.edition) for it in postings]
         rows += [(it.account, it.version, it.through, operator, pence) for it in postings for operator, pence in it.amounts.items() if pence]
         for number, account in sorted(self.archives.items()):
             rows += [
@@ -214,8 +214,8 @@ def columns_of(fix):
 ASKED = (
     "PRAGMA integrity_check",
     "SELECT name, version FROM meta",
-    "SELECT account, week, through, version, due, amount FROM postings ORDER BY account, week, id",
-    "SELECT account, version, through, operator, shares.amount FROM shares, postings WHERE posting = id ORDER BY account, week, id, operator",
+    "SELECT account, week, through, version, due, amount, edition FROM postings2 ORDER BY account, week, id",
+    "SELECT account, version, through, operator, shares2.amount FROM shares2, postings2 WHERE posting = id ORDER BY account, week, id, operator",
     "SELECT account, reader, seq, utc, day, second, place, kind FROM taps ORDER BY account, reader, seq",
     "SELECT account, staff, seq, what, a, b, c, d, e FROM fixes ORDER BY account, staff, seq",
 )

@@ -8,15 +8,17 @@ import resource
 import shutil
 import sqlite3
 import stat
+import subprocess
 import tempfile
+import time
 
 import loads
 import rules
 from killed import Kept, rows_of
 from preloads import preloaded
 from running import (
-    FARES, LONDON, MISSING, RUN, RUN_SAMPLE, STATE, End, answers, boardings, edited, end_of, fault, heard, in_lines, run, run_file, session, started, test,
-    written,
+    FARES, LONDON, MISSING, PROGRAM, RUN, RUN_SAMPLE, STATE, End, answers, boardings, edited, end_of, fault, heard, in_lines, run, run_file, session, started,
+    test, written,
 )
 from themes.drawn import with_closes
 from themes.journals import CANNOT_USE, JOURNAL_FAULT, bad_line, bytes_of, limited_to, missing, parts_of, replayed
@@ -24,7 +26,7 @@ from themes.statements import rows_of_statement
 
 ALONE, STORE, NO_LEDGER, OTHER_VERSION = fault("ledger without its journal"), fault("43 Store"), fault("40 NotALedger"), fault("41 Version")
 # What each ledger begins with, as rows_of tells it.
-WHOLE = (("ok",), ("farebox", 1))
+WHOLE = (("ok",), ("farebox", 2))
 
 
 def with_ledger(ledger, journal=None, words=RUN, *more):
@@ -54,7 +56,7 @@ FIRST_SESSION = (
     ("CLOSE 19730", "PAY 7 19730 19730 1 860 860 1=860\nDONE 19730 1"),
     ("QUIT", "BYE"),
 )
-FIRST_POSTING, FIRST_SHARE, FIRST_TAP = (7, 19730, 19730, 1, 860, 860), (7, 1, 19730, 1, 860), (7, 1, 1, 1704697200, 19730, 25200, 10, 0)
+FIRST_POSTING, FIRST_SHARE, FIRST_TAP = (7, 19730, 19730, 1, 860, 860, 4), (7, 1, 19730, 1, 860), (7, 1, 1, 1704697200, 19730, 25200, 10, 0)
 ROWS_AFTER_FIRST = rows(FIRST_POSTING, FIRST_SHARE, FIRST_TAP)
 SECOND_SESSION = (
     ("CLOSE 19730", "PAY 7 19730 19730 1 860 860 1=860\nDONE 19730 1"),
@@ -63,7 +65,7 @@ SECOND_SESSION = (
     ("CLOSE 19730", "PAY 7 19730 19730 2 340 -520 1=-520\nDONE 19730 1"),
     ("CLOSE 19730", "PAY 7 19730 19730 2 340 -520 1=-520\nDONE 19730 1"),
 )
-SECOND_POSTING, SECOND_SHARE, SECOND_TAP = (7, 19730, 19730, 2, 340, -520), (7, 2, 19730, 1, -520), (7, 1, 2, 1704699000, 19730, 27000, 12, 1)
+SECOND_POSTING, SECOND_SHARE, SECOND_TAP = (7, 19730, 19730, 2, 340, -520, 4), (7, 2, 19730, 1, -520), (7, 1, 2, 1704699000, 19730, 27000, 12, 1)
 ROWS_AFTER_SECOND = rows(FIRST_POSTING, SECOND_POSTING, FIRST_SHARE, SECOND_SHARE, FIRST_TAP, SECOND_TAP)
 THIRD_SESSION = (
     ("CLOSE 19730", "PAY 7 19730 19730 2 340 -520 1=-520\nDONE 19730 1"),
@@ -76,7 +78,7 @@ THIRD_SESSION = (
     ("CLOSE 19730", "NO 42 StaleQuote"),
 )
 ROWS_AFTER_THIRD = rows(
-    FIRST_POSTING, SECOND_POSTING, (7, 19730, 19731, 6, 475, 135), (8, 19730, 19731, 1, 175, 175),
+    FIRST_POSTING, SECOND_POSTING, (7, 19730, 19731, 6, 475, 135, 4), (8, 19730, 19731, 1, 175, 175, 4),
     FIRST_SHARE, SECOND_SHARE, (7, 6, 19731, 1, -27), (7, 6, 19731, 4, 162), (8, 1, 19731, 4, 175),
     FIRST_TAP, SECOND_TAP, (8, 1, 1, 1704783600, 19731, 25200, 50, 2),
     (7, 3, 1, 2, 19730, 40, 0, 0, 0), (7, 3, 2, 0, 9, 9, 0, 0, 0), (7, 3, 3, 1, 1704718800, 19730, 46800, 50, 2), (7, 3, 4, 3, 3, 2, 0, 0, 0),
@@ -119,7 +121,7 @@ def ledgers_without_a_journal(folder):
     lines, replies = session((
         ("TAP 1 1 7 1704697200 50 BUS", "OK 19730 175 175"), ("CLOSE 19730", "PAY 7 19730 19730 1 175 175 4=175\nDONE 19730 1"),
     ))
-    left = rows((7, 19730, 19730, 1, 175, 175), (7, 1, 19730, 4, 175), (7, 1, 1, 1704697200, 19730, 25200, 50, 2))
+    left = rows((7, 19730, 19730, 1, 175, 175, 4), (7, 1, 19730, 4, 175), (7, 1, 1, 1704697200, 19730, 25200, 50, 2))
     yield "without a journal, a close", closing(path, folder, run(words, lines)), End(0, replies, left=left)
     given = written(folder, "lines", lines)
     for name, journal, text in (
@@ -229,12 +231,112 @@ def refused_ledgers(folder):
     meta = "CREATE VIEW meta AS SELECT 'farebox' AS name, 1 AS version"
     yield "a database with a view in the place of a table", others_database(os.path.join(folder, "view"), meta), NO_LEDGER
     for name, statement, wanted in (
-        ("another version", "UPDATE meta SET version = 2", OTHER_VERSION), ("a version before", "UPDATE meta SET version = 0", OTHER_VERSION),
+        ("another version", "UPDATE meta SET version = 3", OTHER_VERSION), ("a version before", "UPDATE meta SET version = 0", OTHER_VERSION),
+        ("version 1 with the tables of version 2", "UPDATE meta SET version = 1", NO_LEDGER),
         ("another's name", "UPDATE meta SET name = 'fares'", NO_LEDGER), ("no name", "DELETE FROM meta", NO_LEDGER),
         ("a table less", "DROP TABLE fixes", NO_LEDGER), ("another column", "ALTER TABLE taps RENAME COLUMN place TO stop", NO_LEDGER),
     ):
         path, _ = opened_ledger(folder, name.replace(" ", "-").replace("'", ""))
         yield f"a ledger of {name}", others_database(path, statement), wanted
+
+
+# The tables of version 1, and its rows after the first two sessions of above; their numbers are not the first ones.
+VERSION_1 = (
+    "CREATE TABLE meta (name TEXT NOT NULL PRIMARY KEY, version INTEGER NOT NULL) STRICT",
+    "CREATE TABLE postings (id INTEGER PRIMARY KEY AUTOINCREMENT, account INTEGER NOT NULL, week INTEGER NOT NULL, through INTEGER NOT NULL, "
+    "version INTEGER NOT NULL, due INTEGER NOT NULL, amount INTEGER NOT NULL, UNIQUE (account, week, through, version)) STRICT",
+    "CREATE TABLE shares (posting INTEGER NOT NULL REFERENCES postings (id), operator INTEGER NOT NULL, amount INTEGER NOT NULL, "
+    "PRIMARY KEY (posting, operator)) STRICT",
+    "CREATE TABLE taps (account INTEGER NOT NULL, reader INTEGER NOT NULL, seq INTEGER NOT NULL, utc INTEGER NOT NULL, day INTEGER NOT NULL, "
+    "second INTEGER NOT NULL, place INTEGER NOT NULL, kind INTEGER NOT NULL, PRIMARY KEY (account, reader, seq)) STRICT",
+    "CREATE TABLE fixes (account INTEGER NOT NULL, staff INTEGER NOT NULL, seq INTEGER NOT NULL, what INTEGER NOT NULL, a INTEGER NOT NULL, "
+    "b INTEGER NOT NULL, c INTEGER NOT NULL, d INTEGER NOT NULL, e INTEGER NOT NULL, PRIMARY KEY (account, staff, seq)) STRICT",
+    "INSERT INTO meta VALUES ('farebox', 1)",
+    "INSERT INTO postings VALUES (3, 7, 19730, 19730, 1, 860, 860), (5, 7, 19730, 19730, 2, 340, -520)",
+    "INSERT INTO shares VALUES (3, 1, 860), (5, 1, -520)",
+    "INSERT INTO taps VALUES (7, 1, 1, 1704697200, 19730, 25200, 10, 0), (7, 1, 2, 1704699000, 19730, 27000, 12, 1)",
+)
+JOURNAL_OF_VERSION_1 = b"TAP 1 1 7 1704697200 10 IN\nTAP 1 2 7 1704699000 12 OUT\n"
+# What was posted by version 1 names no edition.
+COPIED = ((7, 19730, 19730, 1, 860, 860, 0), (7, 19730, 19730, 2, 340, -520, 0))
+ROWS_COPIED = rows(*COPIED, FIRST_SHARE, SECOND_SHARE, FIRST_TAP, SECOND_TAP)
+
+
+def by_sqlite3(path, *statements):
+    """Has the system's `sqlite3` write a database, or Python's own where there is none that can."""
+    if not shutil.which("sqlite3"):
+        return others_database(path, *statements)
+    subprocess.run(["sqlite3", "-batch", path], input=";\n".join(statements) + ";\n", text=True, check=True)
+    return path
+
+
+@test
+def version_1(folder):
+    """A ledger of version 1 is copied when it is opened: what was posted stands as it stood, and is gone on with. Its own tables stay."""
+    for name, write in (("Python", others_database), ("sqlite3", by_sqlite3)):
+        path, journal = write(os.path.join(folder, name), *VERSION_1), written(folder, f"{name}.lines", JOURNAL_OF_VERSION_1)
+        words = with_ledger(path, journal, RUN_SAMPLE)
+        yield f"a ledger by {name}, no lines", closing(path, folder, run(words)), End(0, left=ROWS_COPIED)
+        lines, replies = session(THIRD_SESSION)
+        left = ROWS_AFTER_THIRD.replace(in_lines(map(repr, (FIRST_POSTING, SECOND_POSTING))), in_lines(map(repr, COPIED)))
+        yield f"a ledger by {name}, a session", closing(path, folder, run(words, lines)), End(0, replies, left=left)
+        with contextlib.closing(sqlite3.connect(path)) as it:
+            found = it.execute("SELECT max(id) FROM postings2").fetchall() + it.execute("SELECT * FROM postings ORDER BY id").fetchall()
+        wanted = [(7,), (3, 7, 19730, 19730, 1, 860, 860), (5, 7, 19730, 19730, 2, 340, -520)]
+        yield f"a ledger by {name}, its own tables then", answers(repr(found).encode()), answers(repr(wanted).encode())
+    # A fault of the journal comes before the ledger is opened, and that of the ledger leaves it as it is.
+    path = others_database(os.path.join(folder, "kept"), *VERSION_1)
+    has = bytes_of(path)
+    yield "a bad line of the journal", run(with_ledger(path, written(folder, "bad.lines", b"fly\n"), RUN_SAMPLE)), bad_line(1, "50 BadLine")
+    yield "a bad line of the journal, the ledger then", answers(bytes_of(path)), answers(has)
+    for name, statement in (("a table of version 2", "CREATE TABLE shares2 (x)"), ("a table less", "DROP TABLE shares"), ("a view in its place", "DROP TABLE fixes; CREATE VIEW fixes AS SELECT 1")):
+        path = others_database(os.path.join(folder, name.replace(" ", "-")), *VERSION_1, statement)
+        has = bytes_of(path)
+        yield f"version 1 and {name}", run(with_ledger(path, written(folder, "own.lines", JOURNAL_OF_VERSION_1), RUN_SAMPLE)), NO_LEDGER
+        yield f"version 1 and {name}, the ledger then", answers(bytes_of(path)), answers(has)
+
+
+# How many accounts with a posting each a ledger of version 1 has whose copy is killed, and how often.
+MANY, KILLS = 2_000, 12
+
+
+def many_of_version_1(path):
+    """A ledger of version 1 of many accounts with a boarding each, and its journal."""
+    numbers = range(1, MANY + 1)
+    with contextlib.closing(sqlite3.connect(path)) as it:
+        it.executescript(";".join(VERSION_1[:6]))
+        it.executemany("INSERT INTO postings VALUES (?, ?, 19730, 19730, 1, 175, 175)", ((number, number) for number in numbers))
+        it.executemany("INSERT INTO shares VALUES (?, 4, 175)", ((number,) for number in numbers))
+        it.executemany("INSERT INTO taps VALUES (?, 1, 1, 1704697200, 19730, 25200, 50, 2)", ((number,) for number in numbers))
+        it.commit()
+    return path, boardings(MANY)[0]
+
+
+def copied_so_far(path):
+    """The version of a ledger, and how many postings and shares version 2 has there, or none where it has no tables."""
+    with contextlib.closing(sqlite3.connect(path)) as it:
+        (version,), = it.execute("SELECT version FROM meta")
+        (tables,), = it.execute("SELECT count(*) FROM sqlite_schema WHERE name IN ('postings2', 'shares2')")
+        counted = [it.execute(f"SELECT count(*), sum(amount) FROM {name}").fetchone() for name in ("postings2", "shares2")] if tables == 2 else tables
+    return version, counted
+
+
+@test
+def killed_copies(folder):
+    """A copy that is killed at a random moment leaves version 1 or all of version 2, and the next start has version 2."""
+    first, lines = many_of_version_1(os.path.join(folder, "first"))
+    whole, draw = [(MANY, 175 * MANY)] * 2, random.Random(1)
+    words = with_ledger(os.path.join(folder, "ledger"), written(folder, "lines", lines))
+    for number in range(KILLS):
+        path = shutil.copyfile(first, os.path.join(folder, "ledger"))
+        missing(folder, "ledger-wal")
+        with subprocess.Popen([PROGRAM, *words], stdin=subprocess.PIPE, stdout=subprocess.DEVNULL) as ran:
+            time.sleep(draw.uniform(0, 0.4))
+            ran.kill()
+        found = copied_so_far(path)
+        yield f"kill {number}", answers(repr(found).encode()), answers(repr((2, whole) if found[0] == 2 else (1, 0)).encode())
+        yield f"kill {number}, the next start", run(words), answers(b"")
+        yield f"kill {number}, all rows then", answers(repr(copied_so_far(path)).encode()), answers(repr((2, whole)).encode())
 
 
 @test
@@ -262,6 +364,20 @@ def databases_of_others(folder):
     with contextlib.closing(sqlite3.connect(path)) as it:
         notes = it.execute("SELECT text FROM notes").fetchall()
     yield "what others have in it", answers(repr(notes).encode()), answers(b"[('as it was',)]")
+
+
+@test
+def owners(folder):
+    """What is made is its owner's alone, also where the mask lets everybody: journal, ledger and the log beside it. What is there keeps its mode."""
+    lines, replies = session(FIRST_SESSION)
+    for name, modes in (("made", b"600 600 600"), ("there", b"640 640 640")):
+        ledger, journal = os.path.join(folder, f"ledger-{name}"), os.path.join(folder, f"journal-{name}")
+        if name == "there":
+            for path in (ledger, journal):
+                os.chmod(written(folder, os.path.basename(path), b""), 0o640)
+        yield f"files that are {name}", run(with_ledger(ledger, journal, RUN_SAMPLE), lines, umask=0), answers(replies)
+        found = " ".join(f"{os.stat(path).st_mode & 0o777:o}" for path in (journal, ledger, f"{ledger}-wal"))
+        yield f"the modes of files that are {name}", answers(found.encode()), answers(modes)
 
 
 @test
@@ -342,7 +458,7 @@ def killed_after_a_close(folder):
         ran.stdin.write(lines)
         yield "a session that is killed", answers(heard(ran.stdout, len(replies))), answers(replies)
         with contextlib.closing(sqlite3.connect(path, timeout=0)) as other, contextlib.suppress(sqlite3.OperationalError):
-            yield "SQLite beside it", answers(repr(other.execute("SELECT * FROM postings").fetchall()).encode()), answers(b"it is locked")
+            yield "SQLite beside it", answers(repr(other.execute("SELECT * FROM postings2").fetchall()).encode()), answers(b"it is locked")
         ran.kill()
         ran.wait()
     yield "the rows by SQLite", answers(rows_of(path)), answers(ROWS_AFTER_SECOND)
@@ -401,7 +517,7 @@ def full_files(folder):
         ran.stdin.close()
         yield "a close without room, and one with room", end_of(ran, output), answers(b"NO 43 Store\n" + paid)
     left = rows(
-        FIRST_POSTING, *((it, 19730, 19730, 1, 175, 175) for it in accounts), FIRST_SHARE, *((it, 1, 19730, 4, 175) for it in accounts),
+        FIRST_POSTING, *((it, 19730, 19730, 1, 175, 175, 4) for it in accounts), FIRST_SHARE, *((it, 1, 19730, 4, 175) for it in accounts),
         FIRST_TAP, *((it, 2, 1, 1704697200, 19730, 25200, 50, 2) for it in accounts),
     )
     yield "with room, the rows then", answers(copied_rows(path, folder)), answers(left)

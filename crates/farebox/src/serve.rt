@@ -4,7 +4,7 @@ ghost use Rattle.pay_jobs.specs.Words.{IsDay};
 ghost use Rattle.pay_words.specs.declared.limits.TheConstants.{MOST_SHARDS};
 
 use pay_files::{
-    JournalFiles, fares_text, open_journals, path_in, print_warnings, refuse_journal, report_line,
+    JournalFiles, fares_text, open_journals, path_in, print_warnings, ready_ledger, report_line,
     settle_journals,
 };
 use pay_jobs::{
@@ -195,7 +195,7 @@ where
     requires day { IsDay given.plan.close }
     requires keepers { length given.keepers.items ≡ given.plan.shards }
 {
-    refuse_journal(&rt, path)?;
+    ready_ledger(&rt, path)?;
     let ledger = rt.ledger(path, Wary)?;
     serve_over(rt, given, ledger)
 }

@@ -32,11 +32,11 @@ pub fits : (editions : FareEditions) → ((journey : Journey) → fare_by editio
 fits editions each p all few =
     omega (arith, fares_beside editions (filter p all), few_fares editions each (filter p all), length-filter_both p (λ journey. not (p journey)) (λ _. refl) all, few)
 
-abbrev parts : ℕ → ℕ → ℕ → ℕ → ℕ → List ℕ → QuoteParts
-parts account week through version due shares = record { account = account; week = week; through = through; version = version; due = due; shares = shares }
+abbrev parts : ℕ → ℕ → ℕ → ℕ → ℕ → ℕ → List ℕ → QuoteParts
+parts account week through version due edition shares = record { account = account; week = week; through = through; version = version; due = due; edition = edition; shares = shares }
 
-pub same_quote : {a b w x v y d e : ℕ} {s t : List ℕ} → (through : ℕ) → a ≡ b → w ≡ x → v ≡ y → d ≡ e → s ≡ t → parts a w through v d s ≡ parts b x through y e t
-same_quote through p q r u z = rw (p, q, r, u, z) refl
+pub same_quote : {a b w x v y d e f g : ℕ} {s t : List ℕ} → (through : ℕ) → a ≡ b → w ≡ x → v ≡ y → d ≡ e → f ≡ g → s ≡ t → parts a w through v d f s ≡ parts b x through y e g t
+same_quote through p q r u h z = rw (p, q, r, u, h, z) refl
 
 -- the price of a day by its edition
 abbrev pub price_of_one : FareEditions → DayJourneys → ℕ

@@ -13,7 +13,7 @@ use crate::journeys::journeys_of;
 use crate::lines::lines_on;
 use crate::places::{is_known, is_known_fix};
 use crate::prices::{price, price_on};
-use crate::quoting::{price_through, quote_of, weights_through};
+use crate::quoting::{edition_day, price_through, quote_of, weights_through};
 use crate::sets::sets_of;
 use crate::week_lines::lines_of_week;
 use pay_day::monday;
@@ -250,6 +250,7 @@ impl Fares for Account {
             through,
             self.version() as u32,
             due,
+            edition_day(editions, week),
             shares(due, &weights),
         ))
     }

@@ -1,5 +1,6 @@
 ghost use Rattle.std.specs.Prelude.{◌≡◌, ◌≤◌, length, map, filter, sum, sum_by, IfOk};
 ghost use Rattle.pay_day.specs.Words.{IsDay};
+ghost use Rattle.pay_tables.specs.Words.{first_day};
 ghost use Rattle.pay_rules.specs.declared.limits.TheConstants.{MOST_TOUCHES};
 ghost use Rattle.pay_rules.specs.JourneyFares.{fare_by};
 ghost use Rattle.pay_money.specs.declared.limits.TheConstants.{MOST_MONEY};
@@ -91,6 +92,15 @@ pub fn weights_through(
     Ok(weights(editions.own(), &list))
 }
 
+/// The first day of the edition by which a week is priced, which its Monday names.
+pub fn edition_day(editions: &Editions, week: u32) -> u32
+    ensures value { result ≡ first_day editions.now week }
+    ensures in_range { IsDay result }
+{
+    pay_tables::laws::last_begun(editions);
+    editions.first_day(week)
+}
+
 /// A quote of numbers that a quote may have.
 pub fn quote_of(
     account: u32,
@@ -98,12 +108,13 @@ pub fn quote_of(
     through: u32,
     version: u32,
     due: Pence,
+    edition: u32,
     shares: [u64; OPERATORS],
 ) -> Quote
-    requires { IsQuote (record { account = account; week = week; through = through; version = version; due = due; shares = shares }) }
-    ensures { result ≡ record { account = account; week = week; through = through; version = version; due = due; shares = shares } }
+    requires { IsQuote (record { account = account; week = week; through = through; version = version; due = due; edition = edition; shares = shares }) }
+    ensures { result ≡ record { account = account; week = week; through = through; version = version; due = due; edition = edition; shares = shares } }
 {
-    match Quote::rebuilt(account, week, through, version, due, shares) {
+    match Quote::rebuilt(account, week, through, version, due, edition, shares) {
         Some(quote) => quote,
         None => unreachable!(),
     }

@@ -66,7 +66,7 @@ IsWhole of put = (length put ≡ of) × AreBrought put
 -- ---- worked rows
 
 quote_of : ℕ → QuoteParts
-quote_of account = record { account = account; week = 19_730; through = 19_733; version = 1; due = 0; shares = [] }
+quote_of account = record { account = account; week = 19_730; through = 19_733; version = 1; due = 0; edition = 4; shares = [] }
 
 -- the accounts of two shards, 2 and 4 of the one and 1 and 5 of the other
 of_two_shards : in_order_by (λ (q : QuoteParts). q.account) (quote_of 2 ∷ quote_of 4 ∷ quote_of 1 ∷ quote_of 5 ∷ []) ≡ quote_of 1 ∷ quote_of 2 ∷ quote_of 4 ∷ quote_of 5 ∷ []

@@ -22,7 +22,7 @@ use Rattle.pay_rules.specs.State.{State, accepted_of}
 use Rattle.pay_postings.specs.Archive.{is_numbered_as, is_fix_numbered_as, archived_beside, archived_tap, archived_fix, archived_each, archived_set, archived_sets}
 use Rattle.pay_postings.specs.Faults.{◌>>=◌}
 use Rattle.pay_postings.specs.Ledger.{LedgerParts}
-use Rattle.pay_postings.specs.Postings.{is_of, later_of, last_of, posting_of, is_stale, is_again, is_as_due, posted_anew, posted_again, posted_after, post, post_each}
+use Rattle.pay_postings.specs.Postings.{is_of, later_of, last_of, posting_of, is_stale, is_again, is_kept, posted_anew, posted_again, posted_after, post, post_each}
 use Rattle.pay_rules.specs.declared.post_fault.PostFault.{PostFault}
 use Rattle.pay_rules.specs.declared.post_fault.PostFault.TheVariants as fault
 use Rattle.pay_shard.specs.Selection.{is_of as is_of_shard, is_quoted, quoted}
@@ -33,12 +33,17 @@ use Rattle.pay_histories.proofs.Growing.{number_total, AreTheirs, HaveGrown}
 
 -- ---- a quote
 
-same_due : (q : QuoteParts) → is_as_due q q ≡ true
-same_due q = and_from _ _ (eq-eqb q.due q.due refl) (itself q.shares)
+-- what was posted for a quote is kept for it
+kept_itself : (q : QuoteParts) → is_kept q q ≡ true
+kept_itself q = and_from _ _ (and_from _ _ (eq-eqb q.due q.due refl) (itself q.shares)) (ap (λ (b : Bool). q.edition == 0 || b) (eq-eqb q.edition q.edition refl) ∙ or_true (q.edition == 0))
   where
     itself : (shares : List ℕ) → lib.Pointwise.pointwise nat_eq shares shares ≡ true
     itself [] = refl
     itself (share ∷ shares) = and_from _ _ (eq-eqb share share refl) (itself shares)
+
+    or_true : (b : Bool) → (b || true) ≡ true
+    or_true true = refl
+    or_true false = refl
 
 -- one quote may follow another of its account and week: it is of no earlier version, and of the same version and day only where it is the same
 pub record MayFollow (quote last : QuoteParts) : Type 0 where
@@ -72,7 +77,7 @@ module _ (P : Posting → Type 0) (quote : QuoteParts) (may_follow : (p : Postin
       by false false earlier through is = absurd (cc)
 
   no_other_due : (list : List Posting) (last : Posting) → AllByRecursion P list → last.quote ≡ quote → Comes {A = Posting × List Posting} (Then (AllByRecursion P)) (IsLate quote.through) (posted_again list quote last)
-  no_other_due list last all same = by (is_as_due quote last.quote) (ap (is_as_due quote) same ∙ same_due quote)
+  no_other_due list last all same = by (is_kept quote last.quote) (ap (is_kept quote) same ∙ kept_itself quote)
     where
       by : (b : Bool) → b ≡ true → Comes {A = Posting × List Posting} (Then (AllByRecursion P)) (IsLate quote.through) (if b then Ok (last, list) else Err fault.QuoteDiffers)
       by true is = all

@@ -7,7 +7,7 @@ use Rattle.pay_rules.specs.SetsParts.{SetsParts}
 use Rattle.pay_postings.specs.Archive.{archived_sets}
 use Rattle.pay_postings.specs.Faults.{◌>>=◌}
 use Rattle.pay_postings.specs.Ledger.{LedgerParts, posted}
-use Rattle.pay_postings.specs.Postings.{last_of, posting_of, is_stale, is_again, is_as_due, posted_anew, posted_again, posted_after, post, post_each}
+use Rattle.pay_postings.specs.Postings.{last_of, posting_of, is_stale, is_again, is_kept, posted_anew, posted_again, posted_after, post, post_each}
 use Rattle.pay_rules.specs.declared.post_fault.PostFault.{PostFault}
 use Rattle.pay_rules.specs.declared.post_fault.PostFault.TheVariants as fault
 
@@ -66,13 +66,13 @@ on_ledger Q ledger quotes sets each =
 
 -- a quote that is posted leaves all postings as they are, or adds its own
 module _ (Q : Posting × List Posting → Type 0) (list : List Posting) (quote : QuoteParts) (kept : (given : Posting) → Q (given, list)) (anew : Q (posting_of list quote, list ++ posting_of list quote ∷ [])) where
-  again : (last : Posting) (as_due : Bool) → Comes Q Any (if as_due then Ok (last, list) else Err fault.QuoteDiffers)
+  again : (last : Posting) (is : Bool) → Comes Q Any (if is then Ok (last, list) else Err fault.QuoteDiffers)
   again last true = kept last
   again last false = tt
 
   beside : (last : Posting) (stale same : Bool) → Comes Q Any (if stale then Err (fault.StaleQuote last.quote.account last.quote.version last.quote.through) else if same then posted_again list quote last else posted_anew list quote)
   beside last true same = tt
-  beside last false true = again last (is_as_due quote last.quote)
+  beside last false true = again last (is_kept quote last.quote)
   beside last false false = anew
 
   after_last : (last : Option Posting) → Comes Q Any (posted_after list quote last)

@@ -19,7 +19,7 @@ use Rattle.pay_rules.specs.Quotes.{quote}
 use Rattle.pay_rules.specs.SetsParts.{sets}
 use Rattle.pay_rules.specs.State.{State, accepted_of}
 use Rattle.pay_postings.specs.Ledger.{LedgerParts}
-use Rattle.pay_postings.specs.Postings.{is_quote_of, is_of, later_of, last_of, posting_of, is_stale, is_again, is_as_due, posted_anew, posted_again, posted_after, post, post_each}
+use Rattle.pay_postings.specs.Postings.{is_quote_of, is_of, later_of, last_of, posting_of, is_stale, is_again, is_kept, posted_anew, posted_again, posted_after, post, post_each}
 use Rattle.pay_rules.specs.declared.post_fault.PostFault.TheVariants as fault
 use Rattle.pay_shard.specs.Selection.{is_of as is_of_shard, is_tap_between, is_fill_between, is_quoted, quoted}
 use Rattle.pay_close.specs.Close.{Books, close, IsLate}
@@ -44,7 +44,7 @@ module _ (P : Posting → Type 0) (quote : QuoteParts) (may_follow : (p : Postin
   anew : (list : List Posting) → IsLastPosted quote (list ++ posting_of list quote ∷ [])
   anew list = (posting_of list quote, added_last quote.account quote.week list (posting_of list quote) true (of_its_own quote), refl)
 
-  same_again : (list : List Posting) (last : Posting) (as_due : Bool) → IsLastPosted quote list → Comes {A = Posting × List Posting} (Then (IsLastPosted quote)) Any (if as_due then Ok (last, list) else Err fault.QuoteDiffers)
+  same_again : (list : List Posting) (last : Posting) (kept : Bool) → IsLastPosted quote list → Comes {A = Posting × List Posting} (Then (IsLastPosted quote)) Any (if kept then Ok (last, list) else Err fault.QuoteDiffers)
   same_again list last true is = is
   same_again list last false is = tt
 
@@ -53,7 +53,7 @@ module _ (P : Posting → Type 0) (quote : QuoteParts) (may_follow : (p : Postin
   beside list last true same e follows a = tt
   beside list last false true e follows a =
       let parts = and_parts (quote.version == last.quote.version) (quote.through == last.quote.through) a in
-      same_again list last (is_as_due quote last.quote) (last, e, follows.same (sym (eqb-true _ _ parts.0)) (sym (eqb-true _ _ parts.1)))
+      same_again list last (is_kept quote last.quote) (last, e, follows.same (sym (eqb-true _ _ parts.0)) (sym (eqb-true _ _ parts.1)))
   beside list last false false e follows a = anew list
 
   after_last : (list : List Posting) (last : Option Posting) → last_of quote.account quote.week list ≡ last → IfFound (λ p. P p × (is_of quote.account quote.week p ≡ true)) last

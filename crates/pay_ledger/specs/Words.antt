@@ -4,7 +4,8 @@ pub use Rattle.pay_ledger.specs.Faults.{open_fault_number, open_fault_name, want
 pub use Rattle.pay_ledger.specs.BadRows.{ReadsAs, IsReadable, IsBad, net_said, IsNetOf, quoted, in_sets, asked, IsAmong, AreReadable, IsReadFrom, WereRead, IsBadAmong, IsJudgedByRows}
 pub use Rattle.pay_ledger.specs.OneReading.{HaveOneAmount, bad_is_not_readable, share_is_bad, reads_one, bad_in_each_order}
 pub use Rattle.pay_ledger.specs.Stores.{AreRowsOf, Stores, IsLedger, row_of_posting, row_of_tap, row_of_fix, with_shares, with_postings, with_taps, with_fixes}
-pub use Rattle.pay_ledger.specs.Opening.{nothing, HasNoView, is_blank, IsWhy, IsReadied, IsWhyNot, IsOpened, MayLeaveOpened, KeepsLedger, BlankBecomesLedger, BlankJustGrows, IsLedgerOrBlank}
+pub use Rattle.pay_ledger.specs.Opening.{nothing, HasNoView, readying_of, IsWhy, IsReadied, IsWhyNot, IsOpened, MayLeaveOpened, KeepsLedger, BlankBecomesLedger, BlankJustGrows, IsLedgerOrBlank}
+pub use Rattle.pay_ledger.specs.Opening.{IsFirstLedger, FirstIsCopied, FirstBecomesLedger}
 unfoldable pub use Rattle.pay_ledger.specs.Steps.{IsOnDisk}
 pub use Rattle.pay_ledger.specs.Steps.{Stays, GoesOn, IsStep, HasGoneOn, HasStopped, RowsGrow, Grows, FindsRows, FindsLedger, ReadsInto, IsRefused, BecomesPosted, Posts, IsAsBefore, MayLeave}
 pub use Rattle.pay_ledger.specs.Bare.{are_none, is_bare, has_bare_rows}

@@ -28,7 +28,7 @@ use Rattle.pay_ledger.specs.OneReading.{HaveOneAmount, share_is_bad, bad_is_not_
 -- 8.60 is due of account 7 for a week through its Tuesday, of which 5.00 fall to operator 1 and 3.60 to operator 3
 abbrev charge : Posting
 charge = record {
-  quote = record { account = 7; week = 19_730; through = 19_731; version = 2; due = 860; shares = 500 ∷ 0 ∷ 360 ∷ replicate 13 0 };
+  quote = record { account = 7; week = 19_730; through = 19_731; version = 2; edition = 4; due = 860; shares = 500 ∷ 0 ∷ 360 ∷ replicate 13 0 };
   amount = pos 860;
   share_amounts = pos 500 ∷ pos 0 ∷ pos 360 ∷ replicate 13 (pos 0);
 }
@@ -42,7 +42,7 @@ credit = record { account = 7; staff = 2; seq = 0; what = Credit (record { day =
 abbrev ledger : LedgerParts
 ledger = record { postings = charge ∷ []; taps = bus ∷ []; fixes = credit ∷ [] }
 
-posting_as_row : row_of_posting (pos 3, charge) ≡ (pos 3, pos 7, record { week = pos 19_730; through = pos 19_731; version = pos 2; due = pos 860; amount = pos 860 })
+posting_as_row : row_of_posting (pos 3, charge) ≡ (pos 3, pos 7, record { week = pos 19_730; through = pos 19_731; version = pos 2; due = pos 860; amount = pos 860; edition = pos 4 })
 posting_as_row = refl
 
 tap_as_row : row_of_tap bus ≡ (pos 7, record { reader = pos 12; seq = pos 4; utc = pos 1_704_700_000; day = pos 19_730; second = pos 28_000; place = pos 31; kind = pos 2 })
@@ -54,7 +54,7 @@ credit_as_row = refl
 -- an operator to which nothing fell has no row
 abbrev rows : LedgerRows
 rows = record {
-  postings = (pos 3, pos 7, record { week = pos 19_730; through = pos 19_731; version = pos 2; due = pos 860; amount = pos 860 }) ∷ [];
+  postings = (pos 3, pos 7, record { week = pos 19_730; through = pos 19_731; version = pos 2; due = pos 860; amount = pos 860; edition = pos 4 }) ∷ [];
   shares = record { posting = pos 3; operator = pos 1; amount = pos 500 } ∷ record { posting = pos 3; operator = pos 3; amount = pos 360 } ∷ [];
   taps = (pos 7, record { reader = pos 12; seq = pos 4; utc = pos 1_704_700_000; day = pos 19_730; second = pos 28_000; place = pos 31; kind = pos 2 }) ∷ [];
   fixes = (pos 7, record { staff = pos 2; seq = pos 0; what = pos 2; a = pos 19_731; b = pos 50; c = pos 0; d = pos 0; e = pos 0 }) ∷ [];
@@ -71,10 +71,10 @@ abbrev stored : ℤ → List ℤ → Row
 stored rowid numbers = Int rowid ∷ map Int numbers
 
 abbrev meta_rows : List Row
-meta_rows = (Int (pos 1) ∷ Text (codes "farebox") ∷ Int (pos 1) ∷ []) ∷ []
+meta_rows = (Int (pos 1) ∷ Text (codes "farebox") ∷ Int (pos 2) ∷ []) ∷ []
 
 abbrev posting_rows : List Row
-posting_rows = (Int (pos 3) ∷ Null ∷ map Int (pos 7 ∷ pos 19_730 ∷ pos 19_731 ∷ pos 2 ∷ pos 860 ∷ pos 860 ∷ [])) ∷ []
+posting_rows = (Int (pos 3) ∷ Null ∷ map Int (pos 7 ∷ pos 19_730 ∷ pos 19_731 ∷ pos 2 ∷ pos 860 ∷ pos 860 ∷ pos 4 ∷ [])) ∷ []
 
 abbrev share_rows : List Row
 share_rows = stored (pos 1) (pos 3 ∷ pos 1 ∷ pos 500 ∷ []) ∷ stored (pos 2) (pos 3 ∷ pos 3 ∷ pos 360 ∷ []) ∷ []
@@ -118,7 +118,7 @@ rows_among_others tree =
     else if tree == 2 then stored (pos 1) (pos 3 ∷ []) ∷ []
     else if tree == 3 then tap_rows
     else if tree == 5 then posting_rows
-    else if tree == 7 then (Int (pos 1) ∷ Text (codes "postings") ∷ Int (pos 3) ∷ []) ∷ []
+    else if tree == 7 then (Int (pos 1) ∷ Text (codes "postings2") ∷ Int (pos 3) ∷ []) ∷ []
     else if tree == 8 then share_rows
     else if tree == 10 then meta_rows
     else []
@@ -186,8 +186,8 @@ short_says_nothing = (one_share_short.shares, IsPermutation-refl one_share_short
 -- all of a posting of account 7 falls to operator 17, whom there is not; the posting of account 8 is good
 abbrev to_operator_17 : LedgerRows
 to_operator_17 = record {
-  postings = (pos 1, pos 7, record { week = pos 19_730; through = pos 19_730; version = pos 2; due = pos 860; amount = pos 860 })
-      ∷ (pos 2, pos 8, record { week = pos 19_730; through = pos 19_730; version = pos 1; due = pos 175; amount = pos 175 }) ∷ [];
+  postings = (pos 1, pos 7, record { week = pos 19_730; through = pos 19_730; version = pos 2; due = pos 860; amount = pos 860; edition = pos 4 })
+      ∷ (pos 2, pos 8, record { week = pos 19_730; through = pos 19_730; version = pos 1; due = pos 175; amount = pos 175; edition = pos 4 }) ∷ [];
   shares = record { posting = pos 1; operator = pos 17; amount = pos 860 } ∷ record { posting = pos 2; operator = pos 4; amount = pos 175 } ∷ [];
   taps = [];
   fixes = [];
@@ -202,7 +202,7 @@ bad_in_whatever_order = share_is_bad to_operator_17 7 refl
 good_beside_it : IsReadable to_operator_17 8
 good_beside_it = (
   record {
-    quote = record { account = 8; week = 19_730; through = 19_730; version = 1; due = 175; shares = 0 ∷ 0 ∷ 0 ∷ 175 ∷ replicate 12 0 };
+    quote = record { account = 8; week = 19_730; through = 19_730; version = 1; edition = 4; due = 175; shares = 0 ∷ 0 ∷ 0 ∷ 175 ∷ replicate 12 0 };
     amount = pos 175;
     share_amounts = pos 0 ∷ pos 0 ∷ pos 0 ∷ pos 175 ∷ replicate 12 (pos 0);
   } ∷ [],
@@ -211,7 +211,7 @@ good_beside_it = (
 
 -- a quote of account 7 by an earlier version, beside a set of account 8
 abbrev earlier : QuoteParts
-earlier = record { account = 7; week = 19_730; through = 19_730; version = 1; due = 860; shares = 860 ∷ replicate 15 0 }
+earlier = record { account = 7; week = 19_730; through = 19_730; version = 1; edition = 4; due = 860; shares = 860 ∷ replicate 15 0 }
 
 both_are_asked : asked (earlier ∷ []) (record { account = 8; taps = []; fixes = [] } ∷ []) ≡ 7 ∷ 8 ∷ []
 both_are_asked = refl

@@ -61,7 +61,9 @@ fn accounts_of<F: Fares>(
 }
 
 impl<S: Alter> Ledger<S> {
-    /// Opens a database as a ledger, which is made where none of its tables is there. A fault gives the connection back.
+    /// Opens a database as a ledger, which is made where none of its tables is there. One of version 1 becomes one of version 2, in one
+    /// transaction: its postings and shares are copied, with their numbers and edition 0, and stay in its own tables, which are not read
+    /// again. A fault gives the connection back.
     pub fn open(
         alloc: Global,
         mut conn: Connection<S>,

@@ -1,40 +1,67 @@
 ghost use Rattle.std.specs.Prelude.{◌≡◌, false};
-ghost use Rattle.pay_records.specs.Words.{LeavesAsBeforeOr, Refuses, Does};
-ghost use Rattle.pay_ledger.specs.Opening.{HasNoView, is_blank, IsReadied, IsWhyNot, IsOpened, MayLeaveOpened, BlankJustGrows};
+ghost use Rattle.pay_records.specs.Words.{LeavesAsBeforeOr, LeavesAsBefore, CommitsNothing, StaysInside, MakesLedger, Upgrades, Refuses, Does};
+ghost use Rattle.pay_ledger.specs.Opening.{HasNoView, readying_of, IsReadied, IsWhyNot, IsOpened, MayLeaveOpened, BlankJustGrows};
 ghost use Rattle.pay_ledger.specs.Steps.{IsStep};
 ghost use Rattle.pay_ledger.specs.Calls.{ChangesNothingIfRefused};
 
 use crate::fault::OpenFault;
-use pay_records::{DatabaseKind, has_view, kind_of, make};
-use sqlite::{Alter, Connection, Transaction};
+use pay_records::{DatabaseKind, has_view, kind_of, make, upgrade};
+use sqlite::{Alter, Connection, Error, Transaction};
 
-/// Whether a ledger is to be made in a database of a kind, or is there; or why it is not opened.
-fn is_blank(kind: DatabaseKind) -> Result<bool, OpenFault>
-    ensures { result ≡ is_blank kind }
+/// What there is to do to a database for it to be a ledger.
+#[derive(Clone, Copy)]
+pub(crate) enum Readying {
+    /// Its tables are made.
+    Make,
+    /// It is one of version 1: what was posted is copied into the tables of version 2.
+    Upgrade,
+    /// Nothing.
+    Keep,
+}
+
+/// What there is to do to a database of a kind, or why it is not opened.
+fn readying_of(kind: DatabaseKind) -> Result<Readying, OpenFault>
+    ensures { result ≡ readying_of kind }
 {
     match kind {
-        DatabaseKind::Blank => Ok(true),
-        DatabaseKind::Ledger => Ok(false),
+        DatabaseKind::Blank => Ok(Readying::Make),
+        DatabaseKind::First => Ok(Readying::Upgrade),
+        DatabaseKind::Ledger => Ok(Readying::Keep),
         DatabaseKind::Version => Err(OpenFault::Version),
         DatabaseKind::Other => Err(OpenFault::NotALedger),
     }
 }
 
-/// Makes the tables, if none is there, in a transaction that is not committed yet.
+/// Does it.
+fn change<S: Alter>(tx: &mut Transaction<'_, S>, readying: Readying) -> Result<(), Error>
+    ensures same_reference { tx.new.conn.ghost_name ≡ tx.old.conn.ghost_name }
+    ensures made { readying ≡ Readying.Make → Does S.Store tx.old.conn.now tx.new.conn.now result MakesLedger }
+    ensures upgraded { readying ≡ Readying.Upgrade → Does S.Store tx.old.conn.now tx.new.conn.now result Upgrades }
+    ensures kept { readying ≡ Readying.Keep → tx.new.conn.now ≡ tx.old.conn.now }
+    ensures inside { StaysInside S.Store tx.old.conn.now tx.new.conn.now result }
+    ensures unchanged { CommitsNothing S.Store tx.old.conn.now tx.new.conn.now }
+    ensures survives { LeavesAsBefore S.Store tx.old.conn.now tx.new.conn.now }
+{
+    match readying {
+        Readying::Make => make(tx),
+        Readying::Upgrade => upgrade(tx),
+        Readying::Keep => Ok(()),
+    }
+}
+
+/// Makes it a ledger, in a transaction that is not committed yet.
 fn ready<S: Alter>(tx: &mut Transaction<'_, S>) -> Result<(), OpenFault>
     ensures step { IsStep S.Store tx.old.conn tx.new.conn result }
     ensures readied { Does S.Store tx.old.conn.now tx.new.conn.now result (λ old new. IsReadied old.now new.now) }
     ensures refused { Refuses S.Store tx.old.conn.now tx.new.conn.now result (λ old _ fault. IsWhyNot fault old.now) }
 {
     let kind = kind_of(tx)?;
-    if !is_blank(kind)? {
-        return Ok(());
-    }
-    make(tx)?;
+    let readying = readying_of(kind)?;
+    change(tx, readying)?;
     Ok(())
 }
 
-/// Makes the tables, if none is there, in one transaction.
+/// Makes the tables, if none is there, or copies those of version 1, in one transaction.
 fn prepare_tables<S: Alter>(conn: &mut Connection<S>) -> Result<(), OpenFault>
     requires { conn.old.in_transaction ≡ false }
     ensures autocommit { conn.new.in_transaction ≡ false }
@@ -51,7 +78,7 @@ fn prepare_tables<S: Alter>(conn: &mut Connection<S>) -> Result<(), OpenFault>
     Ok(())
 }
 
-/// Opens a database as a ledger, which is made in one transaction where there is none.
+/// Opens a database as a ledger, which is made in one transaction where there is none, or where it is one of version 1.
 pub(crate) fn prepare<S: Alter>(conn: &mut Connection<S>) -> Result<(), OpenFault>
     requires { conn.old.in_transaction ≡ false }
     ensures autocommit { conn.new.in_transaction ≡ false }

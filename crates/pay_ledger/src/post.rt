@@ -21,7 +21,7 @@ fn is_quote(quote: &Quote)
     ensures { IsQuote quote.now }
 {
     let _numbers = (quote.account(), quote.week(), quote.through());
-    let _due = (quote.version(), quote.due());
+    let _due = (quote.version(), quote.due(), quote.edition());
     let _shares = quote.shares();
 }
 

@@ -102,6 +102,7 @@ fn add_rows(tx: &mut Transaction<'_, MemStore>, count: u32) -> Result<(), Error>
             version: i64::from(seq),
             due: 0,
             amount: 0,
+            edition: 4,
         };
         let share = ShareRow {
             posting: add_posting(tx, 7, &row)?,

@@ -476,16 +476,16 @@ PAY 9 19730 19730 1 175 175 4=175
 DONE 19730 1
 ";
 
-const PAID_ROWS: &str = "meta farebox 1
-posting 1 9 19730 19730 1 175 175
+const PAID_ROWS: &str = "meta farebox 2
+posting 1 9 19730 19730 1 175 175 4
 share 1 4 175
 tap 9 1 1 1704697200 19730 25200 50 2
 ";
 
 /// And by account 8.
-const BOTH_PAID_ROWS: &str = "meta farebox 1
-posting 1 9 19730 19730 1 175 175
-posting 2 8 19730 19730 1 175 175
+const BOTH_PAID_ROWS: &str = "meta farebox 2
+posting 1 9 19730 19730 1 175 175 4
+posting 2 8 19730 19730 1 175 175 4
 share 1 4 175
 share 2 4 175
 tap 8 1 1 1704697200 19730 25200 50 2

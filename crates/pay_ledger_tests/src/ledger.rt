@@ -33,8 +33,8 @@ pub fn empty_ledger<R: Abort + AllocGlobal>(rt: &R) -> Ledger<MemStore> {
 /// The rows of each of the five tables, a line each.
 static TABLES: [&str; 5] = [
     "SELECT 'meta ' || name || ' ' || version FROM meta ORDER BY name",
-    "SELECT 'posting ' || id || ' ' || account || ' ' || week || ' ' || through || ' ' || version || ' ' || due || ' ' || amount FROM postings ORDER BY id",
-    "SELECT 'share ' || posting || ' ' || operator || ' ' || amount FROM shares ORDER BY posting, operator",
+    "SELECT 'posting ' || id || ' ' || account || ' ' || week || ' ' || through || ' ' || version || ' ' || due || ' ' || amount || ' ' || edition FROM postings2 ORDER BY id",
+    "SELECT 'share ' || posting || ' ' || operator || ' ' || amount FROM shares2 ORDER BY posting, operator",
     "SELECT 'tap ' || account || ' ' || reader || ' ' || seq || ' ' || utc || ' ' || day || ' ' || second || ' ' || place || ' ' || kind FROM taps ORDER BY account, reader, seq",
     "SELECT 'fix ' || account || ' ' || staff || ' ' || seq || ' ' || what || ' ' || a || ' ' || b || ' ' || c || ' ' || d || ' ' || e FROM fixes ORDER BY account, staff, seq",
 ];
@@ -208,9 +208,9 @@ const CHARGED: Told = (7, 1, 860, 860, 860, 0);
 const GIVEN_BACK: Told = (7, 2, 340, -520, -520, 0);
 
 /// All rows after both.
-pub const JOURNEY: &str = "meta farebox 1
-posting 1 7 19730 19730 1 860 860
-posting 2 7 19730 19730 2 340 -520
+pub const JOURNEY: &str = "meta farebox 2
+posting 1 7 19730 19730 1 860 860 4
+posting 2 7 19730 19730 2 340 -520 4
 share 1 1 860
 share 2 1 -520
 tap 7 1 1 1704697200 19730 25200 10 0
@@ -243,11 +243,12 @@ fn charges_and_gives_back(rt: HostRuntime) {
     expect_restored(&rt, &mut ledger, &editions, &[(7, 2, 340)]);
 }
 
-/// A quote of an account through the Monday, of which all is operator 1's.
+/// A quote of an account through the Monday, by the edition of a file's own keys, of which all is operator 1's.
 fn quoted<R: Abort>(rt: &R, account: u32, version: u32, due: u64) -> Quote {
     let mut shares = [0; OPERATORS];
     shares[0] = due;
-    Quote::rebuilt(account, MONDAY, MONDAY, version, Pence::new(due), shares).expect(rt, "a quote")
+    let pence = Pence::new(due);
+    Quote::rebuilt(account, MONDAY, MONDAY, version, pence, 4, shares).expect(rt, "a quote")
 }
 
 /// Refused, since version 2 was posted.
@@ -315,8 +316,8 @@ DONE 19730 1
 ";
 
 /// All rows after them: version 6, of one tap and five corrections.
-const CORRECTED: &str = "meta farebox 1
-posting 1 7 19730 19730 6 0 0
+const CORRECTED: &str = "meta farebox 2
+posting 1 7 19730 19730 6 0 0 4
 tap 7 1 1 1704697200 19730 25200 10 0
 fix 7 3 1 1 1704699000 19730 27000 12 1
 fix 7 3 2 2 19730 100 0 0 0
@@ -365,9 +366,9 @@ const BOARDED: [Told; 2] = [(8, 1, 175, 175, 0, 175), (7, 1, 175, 175, 0, 175)];
 const VOIDED: [Told; 2] = [(8, 2, 0, -175, 0, -175), (7, 1, 175, 175, 0, 175)];
 
 /// All rows after two boardings.
-const BOARDINGS: &str = "meta farebox 1
-posting 1 8 19730 19730 1 175 175
-posting 2 7 19730 19730 1 175 175
+const BOARDINGS: &str = "meta farebox 2
+posting 1 8 19730 19730 1 175 175 4
+posting 2 7 19730 19730 1 175 175 4
 share 1 4 175
 share 2 4 175
 tap 7 1 1 1704697200 19730 25200 50 2
@@ -375,10 +376,10 @@ tap 8 1 1 1704697200 19730 25200 50 2
 ";
 
 /// And once that of account 8 was voided.
-const VOIDED_ROWS: &str = "meta farebox 1
-posting 1 8 19730 19730 1 175 175
-posting 2 7 19730 19730 1 175 175
-posting 3 8 19730 19730 2 0 -175
+const VOIDED_ROWS: &str = "meta farebox 2
+posting 1 8 19730 19730 1 175 175 4
+posting 2 7 19730 19730 1 175 175 4
+posting 3 8 19730 19730 2 0 -175 4
 share 1 4 175
 share 2 4 175
 share 3 4 -175

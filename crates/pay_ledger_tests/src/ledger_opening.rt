@@ -59,24 +59,26 @@ fn opens_ledgers_alone(rt: HostRuntime) {
     expect_closed(&rt, conn, OpenFault::NotALedger, 1);
     for (sql, fault, versions) in [
         ("UPDATE meta SET version = 3", OpenFault::Version, 3),
-        ("UPDATE meta SET name = 'Farebox'", OpenFault::NotALedger, 1),
+        // Version 1 has none of the tables of version 2.
+        ("UPDATE meta SET version = 1", OpenFault::NotALedger, 1),
+        ("UPDATE meta SET name = 'Farebox'", OpenFault::NotALedger, 2),
         (
             "INSERT INTO meta VALUES ('other', 2)",
             OpenFault::NotALedger,
-            3,
+            4,
         ),
         ("DELETE FROM meta", OpenFault::NotALedger, 0),
-        ("DROP TABLE fixes", OpenFault::NotALedger, 1),
+        ("DROP TABLE fixes", OpenFault::NotALedger, 2),
         (
-            "DROP TABLE shares; CREATE VIEW shares AS SELECT id AS posting, 1 AS operator, amount FROM postings",
+            "DROP TABLE shares2; CREATE VIEW shares2 AS SELECT id AS posting, 1 AS operator, amount FROM postings2",
             OpenFault::NotALedger,
-            1,
+            2,
         ),
         // A column is missing.
         (
             "DROP TABLE fixes; CREATE TABLE fixes (account INTEGER NOT NULL, staff INTEGER NOT NULL) STRICT",
             OpenFault::NotALedger,
-            1,
+            2,
         ),
     ] {
         expect_closed(&rt, changed(&rt, sql), fault, versions);
@@ -84,7 +86,7 @@ fn opens_ledgers_alone(rt: HostRuntime) {
 }
 
 /// The rows of an empty ledger.
-const EMPTY: &str = "meta farebox 1\n";
+const EMPTY: &str = "meta farebox 2\n";
 
 /// Opens a database with a table of another kind under a limit on steps, or else where memory may be refused. Where that is refused no
 /// table is made, and it is opened then.
@@ -166,10 +168,10 @@ fn restores_no_bad_tap(rt: HostRuntime) {
 
 /// The rows of a posting that falls to operator 17, whom there is not. It is of a later version than the entry's quote.
 const NO_POSTING: &str =
-    "INSERT INTO postings VALUES (1, 7, 19730, 19730, 2, 860, 860); INSERT INTO shares VALUES (1, 17, 860)";
+    "INSERT INTO postings2 VALUES (1, 7, 19730, 19730, 2, 860, 860, 4); INSERT INTO shares2 VALUES (1, 17, 860)";
 
-const NO_POSTING_ROWS: &str = "meta farebox 1
-posting 1 7 19730 19730 2 860 860
+const NO_POSTING_ROWS: &str = "meta farebox 2
+posting 1 7 19730 19730 2 860 860 4
 share 1 17 860
 ";
 
@@ -183,7 +185,7 @@ fn posts_beside_no_bad_posting(rt: HostRuntime) {
 }
 
 /// The row of a posting whose amount is beyond all sums of money.
-const NO_AMOUNT: &str = "INSERT INTO postings VALUES (1, 7, 19730, 19730, 2, 860, 4000000001)";
+const NO_AMOUNT: &str = "INSERT INTO postings2 VALUES (1, 7, 19730, 19730, 2, 860, 4000000001, 4)";
 
 // A sum looks at the amounts of its own week alone.
 #[test]
@@ -198,18 +200,18 @@ const NOTES: &str = "CREATE TABLE notes (text TEXT); INSERT INTO notes VALUES ('
 
 /// Another's table, whose rows go with the posting that they refer to.
 const MARKS: &str =
-    "CREATE TABLE marks (posting INTEGER REFERENCES postings (id) ON DELETE CASCADE); INSERT INTO marks VALUES (NULL)";
+    "CREATE TABLE marks (posting INTEGER REFERENCES postings2 (id) ON DELETE CASCADE); INSERT INTO marks VALUES (NULL)";
 
 /// Another's key of the ledger's own table: one posting an account.
-const ONE_POSTING: &str = "CREATE UNIQUE INDEX one_posting ON postings (account)";
+const ONE_POSTING: &str = "CREATE UNIQUE INDEX one_posting ON postings2 (account)";
 
 /// The replies where the second close is refused by it.
 const REFUSED: &str =
     "OK 19730 860 860\nPAY 7 19730 19730 1 860 860 1=860\nDONE 19730 1\nOK 19730 340 340\nNO 43 Store\n";
 
 /// The rows after the first close.
-const ENTERED: &str = "meta farebox 1
-posting 1 7 19730 19730 1 860 860
+const ENTERED: &str = "meta farebox 2
+posting 1 7 19730 19730 1 860 860 4
 share 1 1 860
 tap 7 1 1 1704697200 19730 25200 10 0
 ";

@@ -24,3 +24,5 @@ mod records;
 mod sample;
 #[cfg(test)]
 mod unending;
+#[cfg(test)]
+mod upgrading;

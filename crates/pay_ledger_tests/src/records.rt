@@ -35,6 +35,7 @@ const CHARGED: PostingRow = PostingRow {
     version: 1,
     due: 860,
     amount: 860,
+    edition: 4,
 };
 
 /// The second: 340 are due through the Wednesday.
@@ -44,6 +45,7 @@ const GIVEN_BACK: PostingRow = PostingRow {
     version: 2,
     due: 340,
     amount: -520,
+    edition: 4,
 };
 
 /// The only posting of account 8.
@@ -53,6 +55,7 @@ const OTHER: PostingRow = PostingRow {
     version: 1,
     due: 175,
     amount: 175,
+    edition: 4,
 };
 
 /// What of the three postings fell to operator 3.
@@ -151,17 +154,18 @@ fn rows_of_a_ledger(rt: HostRuntime) {
     expect_same(&rt, numbers, (1, 2, 3));
     tx.commit().expect(&rt, "a commit");
     for (sql, wanted) in [
-        ("SELECT version FROM meta WHERE name = 'farebox'", 1),
+        ("SELECT version FROM meta WHERE name = 'farebox'", 2),
+        ("SELECT edition FROM postings2 WHERE id = 3", 4),
         (
-            "SELECT sum(amount) FROM postings WHERE account = 7 AND week = 19730",
+            "SELECT sum(amount) FROM postings2 WHERE account = 7 AND week = 19730",
             340,
         ),
         (
-            "SELECT due FROM postings WHERE id = 3 AND through = 19732 AND version = 2",
+            "SELECT due FROM postings2 WHERE id = 3 AND through = 19732 AND version = 2",
             340,
         ),
-        ("SELECT sum(amount) FROM shares WHERE operator = 3", 515),
-        ("SELECT amount FROM shares WHERE posting = 3", -520),
+        ("SELECT sum(amount) FROM shares2 WHERE operator = 3", 515),
+        ("SELECT amount FROM shares2 WHERE posting = 3", -520),
         (
             "SELECT place FROM taps WHERE account = 7 AND reader = 1 AND seq = 2 AND utc = 1704697200 AND day = 19730 AND second = 25200 AND kind = 0",
             10,
@@ -203,11 +207,11 @@ fn rows_read_back(rt: HostRuntime) {
 /// Another's table of postings, in which an amount is no number.
 fn write_other(tx: &mut Transaction<'_, MemStore>) -> Result<(), Error> {
     tx.execute(
-        "CREATE TABLE postings (id INTEGER PRIMARY KEY, account INTEGER, week INTEGER, through INTEGER, version INTEGER, due INTEGER, amount)",
+        "CREATE TABLE postings2 (id INTEGER PRIMARY KEY, account INTEGER, week INTEGER, through INTEGER, version INTEGER, due INTEGER, amount, edition INTEGER)",
         &[],
     )?;
     tx.execute(
-        "INSERT INTO postings VALUES (1, 7, 19730, 19731, 1, 860, 'much')",
+        "INSERT INTO postings2 VALUES (1, 7, 19730, 19731, 1, 860, 'much', 4)",
         &[],
     )?;
     Ok(())

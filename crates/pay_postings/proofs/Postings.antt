@@ -8,7 +8,7 @@ use Rattle.pay_rules.specs.QuoteParts.{QuoteParts}
 use Rattle.pay_rules.specs.declared.post_fault.PostFault.{PostFault}
 use Rattle.pay_rules.specs.declared.post_fault.PostFault.TheVariants as fault
 use Rattle.pay_postings.specs.Amounts.{added, less, no_amounts}
-use Rattle.pay_postings.specs.Postings.{is_of, with_amount, net, with_shares, shares_posted, later_of, last_of, posting_of, is_stale, is_again, is_as_due, posted_anew, posted_after, post}
+use Rattle.pay_postings.specs.Postings.{is_of, with_amount, net, with_shares, shares_posted, later_of, last_of, posting_of, is_stale, is_again, is_kept, posted_anew, posted_after, post}
 use Rattle.pay_postings.specs.AccountRows.{is_of_account, of_account}
 use Rattle.pay_postings.specs.NewRows.{with_new}
 
@@ -50,7 +50,7 @@ abbrev told : Option Posting → Posting → QuoteParts → Result (Posting × B
 told None further quote = Ok (further, true)
 told (Some last) further quote =
     if is_stale quote last.quote then Err (fault.StaleQuote last.quote.account last.quote.version last.quote.through)
-    else if is_again quote last.quote then if is_as_due quote last.quote then Ok (last, false) else Err fault.QuoteDiffers
+    else if is_again quote last.quote then if is_kept quote last.quote then Ok (last, false) else Err fault.QuoteDiffers
     else Ok (further, true)
 
 abbrev told_of : List Posting → QuoteParts → Result (Posting × Bool) PostFault
@@ -70,7 +70,7 @@ by_tests list quote last false false due = refl
 
 by_last : (list : List Posting) (quote : QuoteParts) (last : Option Posting) → posted_after list quote last ≡ with_told list (told last (posting_of list quote) quote)
 by_last list quote None = refl
-by_last list quote (Some last) = by_tests list quote last (is_stale quote last.quote) (is_again quote last.quote) (is_as_due quote last.quote)
+by_last list quote (Some last) = by_tests list quote last (is_stale quote last.quote) (is_again quote last.quote) (is_kept quote last.quote)
 
 post_told : (list : List Posting) (quote : QuoteParts) → post list quote ≡ with_told list (told_of list quote)
 post_told list quote = by_last list quote (last_of quote.account quote.week list)
@@ -100,7 +100,7 @@ new_is_own : (given : Posting) (is_new : Bool) (last : Option Posting) (further 
 new_is_own given is_new None further quote own e new =
     let same : ◌≡◌ {A = Posting × Bool} (further, true) (given, is_new) = cc in
     ap (λ (p : Posting × Bool). p.0.quote) (sym same) ∙ own
-new_is_own given is_new (Some last) further quote own e new = by (is_stale quote last.quote) (is_again quote last.quote) (is_as_due quote last.quote) e
+new_is_own given is_new (Some last) further quote own e new = by (is_stale quote last.quote) (is_again quote last.quote) (is_kept quote last.quote) e
   where
     by : (stale again due : Bool)
         → ◌≡◌ {A = Result (Posting × Bool) PostFault} (if stale then Err (fault.StaleQuote last.quote.account last.quote.version last.quote.through) else if again then if due then Ok (last, false) else Err fault.QuoteDiffers else Ok (further, true)) (Ok (given, is_new))

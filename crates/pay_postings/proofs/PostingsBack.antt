@@ -11,16 +11,17 @@ use Rattle.pay_day.specs.declared.limits.TheConstants.{FIRST_DAY, LAST_DAY}
 use Rattle.pay_money.specs.declared.limits.TheConstants.{MOST_MONEY}
 use Rattle.pay_rules.specs.declared.limits.TheConstants.{MOST_TAPS, MOST_FIXES}
 use Rattle.pay_rules.specs.declared.posting.Posting.{Posting}
-use Rattle.pay_rules.specs.QuoteParts.{QuoteParts, IsQuote}
+use Rattle.pay_rules.specs.QuoteParts.{QuoteParts, IsEditionDay, IsQuote}
 use Rattle.pay_postings.specs.Amounts.{added, no_amounts}
 use Rattle.pay_postings.specs.Postings.{is_of, with_amount, net, with_shares, shares_posted}
 use Rattle.pay_postings.specs.Paid.{EachStands, IsPaid, ArePaid}
 use Rattle.pay_rows.specs.declared.row.PostingRow.{PostingRow}
 use Rattle.pay_rows.specs.declared.row.ShareRow.{ShareRow}
-use Rattle.pay_set_rows.specs.Ranged.{◌>>=◌, number_back}
-use Rattle.pay_postings.specs.PostingRows.{is_money, is_share_row, is_natural, amounts_of, naturals, quote_from_row, quote_after, is_amount_after, posting_after, week_from_row, posting_from_row, with_rows, postings_from_rows, posting_row, share_row, share_rows_from, share_rows}
+use Rattle.pay_set_rows.specs.Ranged.{◌>>=◌, number_back, ranged}
+use Rattle.pay_postings.specs.PostingRows.{is_money, is_share_row, is_natural, amounts_of, naturals, edition_from_row, quote_from_row, quote_after, is_amount_after, posting_after, week_from_row, posting_from_row, with_rows, postings_from_rows, posting_row, share_row, share_rows_from, share_rows}
 use Rattle.pay_postings.specs.AccountRows.{is_of_account, of_account, rows_of, shares_of, RiseAfter}
 use Rattle.pay_postings.proofs.Reading.{of_its_own, net_more, shares_more, others_net, others_shares, quote_of}
+use Rattle.pay_postings.proofs.Sets.{pos_is}
 use Rattle.pay_postings.proofs.SharesBack.{HasAmounts, all_moved, amounts_back, numbered_rise, all_kept, rise_kept}
 
 -- ---- one posting
@@ -39,14 +40,27 @@ naturals_back shares = ap (λ (b : Bool). if b then Some (map unsigned_abs (map 
 monday_is_day : (week through : ℕ) → week ≡ monday through → IsDay through → IsDay week
 monday_is_day week through e is = (omega (arith, e, is.0, is.1), omega (arith, e, is.0, is.1))
 
+edition_back : (p : Posting) → IsEditionDay p.quote.edition → edition_from_row (posting_row p) ≡ Some p.quote.edition
+edition_back p is = ap (λ (b : Bool). if b then Some 0 else ranged FIRST_DAY LAST_DAY (pos n)) (pos_is n 0) ∙ by (0 == n) refl
+  where
+    n : ℕ
+    n = p.quote.edition
+
+    by : (b : Bool) → (0 == n) ≡ b → (if b then Some 0 else ranged FIRST_DAY LAST_DAY (pos n)) ≡ Some n
+    by true e = ap Some (eqb-true 0 n e)
+    by false e =
+        let day = is (λ zero. let same : (0 == n) ≡ true = eq-eqb 0 n (sym zero) in absurd (cc)) in
+        number_back FIRST_DAY LAST_DAY n day.0 day.1
+
 quote_back : (p : Posting) → IsQuote p.quote → quote_from_row p.quote.account p.quote.week (posting_row p) p.quote.shares ≡ Some p.quote
 quote_back p is =
     let q = p.quote in
     let through = number_back FIRST_DAY LAST_DAY q.through is.of_week.through_day.0 is.of_week.through_day.1 in
     let version = number_back 0 (MOST_TAPS + MOST_FIXES) q.version (omega arith) is.at_version in
     let due = number_back 0 MOST_MONEY q.due (omega arith) is.in_range in
-    let parts : quote_from_row q.account q.week (posting_row p) q.shares ≡ quote_of q.account q.week q.shares q.through q.version q.due =
-    λ i. through i >>= (λ t. version i >>= (λ v. due i >>= (λ d. quote_of q.account q.week q.shares t v d))) in
+    let edition = edition_back p is.of_edition in
+    let parts : quote_from_row q.account q.week (posting_row p) q.shares ≡ quote_of q.account q.week q.shares q.through q.version q.due q.edition =
+    λ i. through i >>= (λ t. version i >>= (λ v. due i >>= (λ d. edition i >>= (λ n. quote_of q.account q.week q.shares t v d n)))) in
     parts ∙ ap (λ (b : Bool). if b then Some q else None) (and_from _ _ (and_from _ _ (le-leb 1 q.account is.of_account) (eq-eqb q.week (monday q.through) is.of_week.its_monday)) (eq-eqb (sum q.shares) q.due is.shared))
 
 posting_back : (shares : List ShareRow) (before : List Posting) (id : ℤ) (p : Posting) → IsQuote p.quote → amounts_of shares id ≡ p.share_amounts

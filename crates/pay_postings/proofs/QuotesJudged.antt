@@ -1,9 +1,8 @@
 -- Quotes are judged by what was posted last, and by the quotes before them.
-use Rattle.std.proofs.Common.{◌≡◌, ℕ, ◌+◌, ◌<◌, ◌≤◌, Bool, true, false, if◌then◌else◌, List, [], ◌∷◌, ◌++◌, length, take, drop, get_or, Option, Some, None, Result, Ok, Err, IsOk, MatchResult, is_ok, eqb-true, refl, sym, ap, ◌∙◌, subst, arith}
-use Rattle.std.specs.Prelude.{fold, max, nat_lt, ◌==◌, ◌&&◌, IfSome}
-use Rattle.std.specs.Option.{option_map, option_or}
-use Rattle.std.specs.Cmp.Lexicographic.{same_text}
-use Rattle.std.proofs.lemmas.Bool.{and_parts, ne_eqb}
+use Rattle.std.proofs.Common.{◌≡◌, ℕ, ◌+◌, ◌<◌, ◌≤◌, Bool, true, false, if◌then◌else◌, List, [], ◌∷◌, ◌++◌, length, take, drop, get_or, Option, Some, None, Result, Ok, Err, IsOk, MatchResult, is_ok, refl, sym, ap, ◌∙◌, subst, arith}
+use Rattle.std.specs.Prelude.{fold, max, nat_lt, not, ◌==◌, ◌&&◌}
+use Rattle.std.specs.Option.{option_map}
+use Rattle.std.proofs.lemmas.Bool.{ne_eqb}
 use Rattle.std.proofs.lemmas.Bool.Decides.{nat_tests}
 use Rattle.std.proofs.lemmas.List.{take_more, take-append-drop}
 use Rattle.pay_rules.specs.declared.posting.Posting.{Posting}
@@ -12,10 +11,10 @@ use Rattle.pay_rules.specs.declared.post_fault.PostFault.{PostFault}
 use Rattle.pay_rules.specs.declared.post_fault.PostFault.TheVariants as fault
 use Rattle.pay_postings.specs.Faults.{◌>>=◌}
 use Rattle.pay_postings.specs.Answers.{IsJudged}
-use Rattle.pay_postings.specs.Postings.{is_quote_of, is_of, later_of, last_of, posting_of, is_stale, is_again, is_as_due, posted_anew, posted_after, post, post_each, later_quote_of, last_quote_of}
+use Rattle.pay_postings.specs.Postings.{is_quote_of, last_of, posting_of, is_stale, is_again, is_kept, posted_anew, posted_after, post, post_each}
 use Rattle.pay_postings.specs.Ledger.{LedgerParts}
 use Rattle.pay_postings.specs.AccountRows.{of_account}
-use Rattle.pay_postings.specs.Judged.{is_further, last_quoted, IsWhy, IsNext, AreUpTo}
+use Rattle.pay_postings.specs.Judged.{is_further, quoted_then, last_quoted, IsWhy, IsNext, AreUpTo}
 use Rattle.pay_postings.proofs.Postings.{last_own}
 use Rattle.pay_postings.proofs.Settling.{last_more, named}
 use Rattle.pay_postings.proofs.Archiving.{all_more, each_so}
@@ -26,78 +25,82 @@ use Rattle.pay_postings.proofs.Loops.{next_left}
 abbrev quote_of : Posting → QuoteParts
 quote_of p = p.quote
 
-still_of : (account week : ℕ) (list : List Posting) (o : Option Posting) → IfSome o (λ p. is_of account week p ≡ true) → IfSome (fold (later_of account week) o list) (λ p. is_of account week p ≡ true)
-still_of account week [] o is = is
-still_of account week (p ∷ list) o is = still_of account week list (later_of account week o p) (by (is_of account week p) refl)
-  where
-    by : (b : Bool) → is_of account week p ≡ b → IfSome (if b then Some p else o) (λ p. is_of account week p ≡ true)
-    by true e = e
-    by false e = is
-
-last_is_of : (account week : ℕ) (list : List Posting) (last : Posting) → last_of account week list ≡ Some last → is_of account week last ≡ true
-last_is_of account week list last e = subst (λ (o : Option Posting). IfSome o (λ p. is_of account week p ≡ true)) e (still_of account week list None tt)
-
--- what is kept for a quote is of that very quote
-same_quote : (quote : QuoteParts) (last : Posting) → is_of quote.account quote.week last ≡ true → is_again quote last.quote ≡ true → is_as_due quote last.quote ≡ true → last.quote ≡ quote
-same_quote quote last of again as_due =
-    let names = named quote.account quote.week last.quote of in
-    let versions = and_parts _ _ again in
-    let dues = and_parts _ _ as_due in
-    let account : last.quote.account ≡ quote.account = names.0 in
-    let week : last.quote.week ≡ quote.week = names.1 in
-    let through : last.quote.through ≡ quote.through = sym (eqb-true _ _ versions.1) in
-    let version : last.quote.version ≡ quote.version = sym (eqb-true _ _ versions.0) in
-    let due : last.quote.due ≡ quote.due = sym (eqb-true _ _ dues.0) in
-    let shares : last.quote.shares ≡ quote.shares = sym (same_text _ _ (sym dues.1)) in
-    λ i. record { account = account i; week = week i; through = through i; version = version i; due = due i; shares = shares i }
-
 abbrev Answer : Type 0
 Answer = Result (Posting × List Posting) PostFault
+
+-- a quote of another account or week becomes the last of none
+passes : (account week : ℕ) (quote : QuoteParts) (o : Option QuoteParts) → is_quote_of account week quote ≡ false → quoted_then account week o quote ≡ o
+passes account week quote None e = ap (λ (b : Bool). if b then Some quote else None) e
+passes account week quote (Some last) e = ap (λ (b : Bool). if b && not (is_again quote last) then Some quote else Some last) e
 
 module _ (account week : ℕ) (list : List Posting) (quote : QuoteParts) where
   abbrev last_there : Option QuoteParts
   last_there = option_map quote_of (last_of account week list)
 
-  -- once the quote is posted it is the last of its account and week
+  -- once the quote is posted, what was posted last for an account and a week
   abbrev IsLast : List Posting → Type 0
-  IsLast after = option_map quote_of (last_of account week after) ≡ later_quote_of account week last_there quote
+  IsLast after = option_map quote_of (last_of account week after) ≡ quoted_then account week last_there quote
 
-  last_anew : IsLast (list ++ posting_of list quote ∷ [])
-  last_anew = ap (option_map quote_of) (last_more account week list (posting_of list quote)) ∙ by (is_quote_of account week quote)
-    where
-      by : (b : Bool) → option_map quote_of (if b then Some (posting_of list quote) else last_of account week list) ≡ (if b then Some quote else last_there)
-      by true = refl
-      by false = refl
+  abbrev new_list : List Posting
+  new_list = list ++ posting_of list quote ∷ []
 
-  last_kept : (last : Posting) → last_of quote.account quote.week list ≡ Some last → last.quote ≡ quote → IsLast list
-  last_kept last found same = by (is_quote_of account week quote) refl
+  -- of its own account and week it is what it is beside
+  moved : is_quote_of account week quote ≡ true → last_of account week list ≡ last_of quote.account quote.week list
+  moved e =
+      let names = named account week quote e in
+      let its_account : account ≡ quote.account = sym names.0 in
+      let its_week : week ≡ quote.week = sym names.1 in
+      λ i. last_of (its_account i) (its_week i) list
+
+  becomes_beside : (o : Option Posting) → last_of quote.account quote.week list ≡ o → is_quote_of account week quote ≡ true → quoted_then account week (option_map quote_of o) quote ≡ Some quote → quoted_then account week last_there quote ≡ Some quote
+  becomes_beside o found e is = ap (λ (p : Option Posting). quoted_then account week (option_map quote_of p) quote) (moved e ∙ found) ∙ is
+
+  -- a further posting is the last of its own account and week
+  last_anew : (b : Bool) → is_quote_of account week quote ≡ b → (b ≡ true → quoted_then account week last_there quote ≡ Some quote) → IsLast new_list
+  last_anew true e is =
+      ap (option_map quote_of) (last_more account week list (posting_of list quote) ∙ ap (λ (b : Bool). if b then Some (posting_of list quote) else last_of account week list) e) ∙ sym (is refl)
+  last_anew false e is =
+      ap (option_map quote_of) (last_more account week list (posting_of list quote) ∙ ap (λ (b : Bool). if b then Some (posting_of list quote) else last_of account week list) e) ∙ sym (passes account week quote last_there e)
+
+  anew_beside_none : last_of quote.account quote.week list ≡ None → IsLast new_list
+  anew_beside_none found =
+      last_anew (is_quote_of account week quote) refl
+      (λ e. becomes_beside None found e (ap (λ (b : Bool). if b then Some quote else None) e))
+
+  anew_beside : (last : Posting) → last_of quote.account quote.week list ≡ Some last → is_again quote last.quote ≡ false → IsLast new_list
+  anew_beside last found again =
+      last_anew (is_quote_of account week quote) refl
+      (λ e.
+      let is : quoted_then account week (Some last.quote) quote ≡ Some quote = λ i. if e i && not (again i) then Some quote else Some last.quote in
+      becomes_beside (Some last) found e is)
+
+  -- and one that is kept stays the last, whatever its edition is
+  last_kept : (last : Posting) → last_of quote.account quote.week list ≡ Some last → is_again quote last.quote ≡ true → IsLast list
+  last_kept last found again = by (is_quote_of account week quote) refl
     where
-      by : (b : Bool) → is_quote_of account week quote ≡ b → last_there ≡ (if b then Some quote else last_there)
+      by : (b : Bool) → is_quote_of account week quote ≡ b → IsLast list
       by true e =
-          let names = named account week quote e in
-          let its_account : quote.account ≡ account = names.0 in
-          let its_week : quote.week ≡ week = names.1 in
-          let moved : last_of quote.account quote.week list ≡ last_of account week list = λ i. last_of (its_account i) (its_week i) list in
-          ap (option_map quote_of) (sym moved ∙ found) ∙ ap (λ (q : QuoteParts). Some q) same
-      by false e = refl
+          let there : last_of account week list ≡ Some last = moved e ∙ found in
+          let is : quoted_then account week (Some last.quote) quote ≡ Some last.quote = λ i. if e i && not (again i) then Some quote else Some last.quote in
+          ap (option_map quote_of) there ∙ sym is ∙ ap (λ (p : Option Posting). quoted_then account week (option_map quote_of p) quote) (sym there)
+      by false e = sym (passes account week quote last_there e)
 
   last_answered : (after : List Posting) (given there : Posting) (l : List Posting) → IsLast l → ◌≡◌ {A = Answer} (Ok (there, l)) (Ok (given, after)) → IsLast after
   last_answered after given there l is e =
       let same : ◌≡◌ {A = Posting × List Posting} (there, l) (given, after) = cc in
       subst IsLast (ap (λ (p : Posting × List Posting). p.1) same) is
 
-  last_by_tests : (after : List Posting) (given last : Posting) → last_of quote.account quote.week list ≡ Some last → (stale again as_due : Bool) → is_again quote last.quote ≡ again → is_as_due quote last.quote ≡ as_due
-      → ◌≡◌ {A = Answer} (if stale then Err (fault.StaleQuote last.quote.account last.quote.version last.quote.through) else if again then if as_due then Ok (last, list) else Err fault.QuoteDiffers else posted_anew list quote) (Ok (given, after))
+  last_by_tests : (after : List Posting) (given last : Posting) → last_of quote.account quote.week list ≡ Some last → (stale again kept : Bool) → is_again quote last.quote ≡ again
+      → ◌≡◌ {A = Answer} (if stale then Err (fault.StaleQuote last.quote.account last.quote.version last.quote.through) else if again then if kept then Ok (last, list) else Err fault.QuoteDiffers else posted_anew list quote) (Ok (given, after))
       → IsLast after
-  last_by_tests after given last found true again as_due a d e = absurd (cc)
-  last_by_tests after given last found false true true a d e =
-      last_answered after given last list (last_kept last found (same_quote quote last (last_is_of quote.account quote.week list last found) a d)) e
-  last_by_tests after given last found false true false a d e = absurd (cc)
-  last_by_tests after given last found false false as_due a d e = last_answered after given (posting_of list quote) (list ++ posting_of list quote ∷ []) last_anew e
+  last_by_tests after given last found true again kept a e = absurd (cc)
+  last_by_tests after given last found false true true a e = last_answered after given last list (last_kept last found a) e
+  last_by_tests after given last found false true false a e = absurd (cc)
+  last_by_tests after given last found false false kept a e = last_answered after given (posting_of list quote) new_list (anew_beside last found a) e
 
   last_by : (after : List Posting) (given : Posting) (o : Option Posting) → last_of quote.account quote.week list ≡ o → posted_after list quote o ≡ Ok (given, after) → IsLast after
-  last_by after given None found e = last_answered after given (posting_of list quote) (list ++ posting_of list quote ∷ []) last_anew e
-  last_by after given (Some last) found e = last_by_tests after given last found (is_stale quote last.quote) (is_again quote last.quote) (is_as_due quote last.quote) refl refl e
+  last_by after given None found e = last_answered after given (posting_of list quote) new_list (anew_beside_none found) e
+  last_by after given (Some last) found e = last_by_tests after given last found (is_stale quote last.quote) (is_again quote last.quote) (is_kept quote last.quote) refl e
 
   last_after : (after : List Posting) (given : Posting) → post list quote ≡ Ok (given, after) → IsLast after
   last_after after given e = last_by after given (last_of quote.account quote.week list) refl e
@@ -121,27 +124,11 @@ ends_first account week last (Ok first) quotes ends = ends_with account week las
 ends_first account week last (Err why) quotes ends = tt
 
 each_ends : (account week : ℕ) (last : Option QuoteParts) (list : List Posting) (quotes : List QuoteParts) → option_map quote_of (last_of account week list) ≡ last
-    → EndsAt account week (fold (later_quote_of account week) last quotes) (post_each list quotes)
+    → EndsAt account week (fold (quoted_then account week) last quotes) (post_each list quotes)
 each_ends account week last list [] is = is
 each_ends account week last list (quote ∷ quotes) is =
-    ends_first account week (fold (later_quote_of account week) (later_quote_of account week last quote) quotes) (post list quote) quotes
-    (λ after given e. each_ends account week (later_quote_of account week last quote) after quotes (last_after account week list quote after given e ∙ ap (λ (o : Option QuoteParts). later_quote_of account week o quote) is))
-
-or_some : (o p : Option QuoteParts) (quote : QuoteParts) → option_or (option_or o (Some quote)) p ≡ option_or o (Some quote)
-or_some None p quote = refl
-or_some (Some q) p quote = refl
-
-fold_by : (account week : ℕ) (o : Option QuoteParts) (quote : QuoteParts) (quotes : List QuoteParts) (b : Bool)
-    → fold (later_quote_of account week) (Some quote) quotes ≡ option_or (fold (later_quote_of account week) None quotes) (Some quote)
-    → fold (later_quote_of account week) o quotes ≡ option_or (fold (later_quote_of account week) None quotes) o
-    → fold (later_quote_of account week) (if b then Some quote else o) quotes ≡ option_or (fold (later_quote_of account week) (if b then Some quote else None) quotes) o
-fold_by account week o quote quotes true some more =
-    some ∙ sym (ap (λ (p : Option QuoteParts). option_or p o) some ∙ or_some (fold (later_quote_of account week) None quotes) o quote)
-fold_by account week o quote quotes false some more = more
-
-fold_or : (account week : ℕ) (o : Option QuoteParts) (quotes : List QuoteParts) → fold (later_quote_of account week) o quotes ≡ option_or (fold (later_quote_of account week) None quotes) o
-fold_or account week o [] = refl
-fold_or account week o (quote ∷ quotes) = fold_by account week o quote quotes (is_quote_of account week quote) (fold_or account week (Some quote) quotes) (fold_or account week o quotes)
+    ends_first account week (fold (quoted_then account week) (quoted_then account week last quote) quotes) (post list quote) quotes
+    (λ after given e. each_ends account week (quoted_then account week last quote) after quotes (last_after account week list quote after given e ∙ ap (λ (o : Option QuoteParts). quoted_then account week o quote) is))
 
 -- ---- quotes after others
 
@@ -185,17 +172,17 @@ abbrev JudgedAs : Result Bool PostFault → Answer → Type 0
 JudgedAs (Ok is) answer = IsOk answer
 JudgedAs (Err why) answer = IsWhy answer why
 
-judged_by : (list : List Posting) (quote : QuoteParts) (last : Posting) (stale again as_due : Bool)
-    → JudgedAs (if stale then Err (fault.StaleQuote last.quote.account last.quote.version last.quote.through) else if again then if as_due then Ok false else Err fault.QuoteDiffers else Ok true)
-    (if stale then Err (fault.StaleQuote last.quote.account last.quote.version last.quote.through) else if again then if as_due then Ok (last, list) else Err fault.QuoteDiffers else posted_anew list quote)
-judged_by list quote last true again as_due = (refl, λ e. cc, λ e. cc)
+judged_by : (list : List Posting) (quote : QuoteParts) (last : Posting) (stale again kept : Bool)
+    → JudgedAs (if stale then Err (fault.StaleQuote last.quote.account last.quote.version last.quote.through) else if again then if kept then Ok false else Err fault.QuoteDiffers else Ok true)
+    (if stale then Err (fault.StaleQuote last.quote.account last.quote.version last.quote.through) else if again then if kept then Ok (last, list) else Err fault.QuoteDiffers else posted_anew list quote)
+judged_by list quote last true again kept = (refl, λ e. cc, λ e. cc)
 judged_by list quote last false true true = refl
 judged_by list quote last false true false = (refl, λ e. cc, λ e. cc)
-judged_by list quote last false false as_due = refl
+judged_by list quote last false false kept = refl
 
 judged_after : (list : List Posting) (quote : QuoteParts) (o : Option Posting) → JudgedAs (is_further quote (option_map quote_of o)) (posted_after list quote o)
 judged_after list quote None = refl
-judged_after list quote (Some last) = judged_by list quote last (is_stale quote last.quote) (is_again quote last.quote) (is_as_due quote last.quote)
+judged_after list quote (Some last) = judged_by list quote last (is_stale quote last.quote) (is_again quote last.quote) (is_kept quote last.quote)
 
 ok_through : (before : List Posting) (r : Answer) → IsOk r → IsOk ((r >>= and_others []) >>= given_front before)
 ok_through before (Ok f) is = refl
@@ -213,12 +200,12 @@ module _ (list : List Posting) (before later : List QuoteParts) (quote : QuotePa
 module _ (list rows : List Posting) (before later : List QuoteParts) (quote : QuoteParts) (own : rows ≡ of_account quote.account list) where
   last_is : (g : List Posting × List Posting) → post_each list before ≡ Ok g → last_quoted rows before quote.account quote.week ≡ option_map quote_of (last_of quote.account quote.week g.1)
   last_is g e =
-      let ends : EndsAt quote.account quote.week (fold (later_quote_of quote.account quote.week) (option_map quote_of (last_of quote.account quote.week list)) before) (Ok g) =
-      subst (EndsAt quote.account quote.week (fold (later_quote_of quote.account quote.week) (option_map quote_of (last_of quote.account quote.week list)) before)) e
+      let ends : EndsAt quote.account quote.week (fold (quoted_then quote.account quote.week) (option_map quote_of (last_of quote.account quote.week list)) before) (Ok g) =
+      subst (EndsAt quote.account quote.week (fold (quoted_then quote.account quote.week) (option_map quote_of (last_of quote.account quote.week list)) before)) e
       (each_ends quote.account quote.week (option_map quote_of (last_of quote.account quote.week list)) list before refl) in
-      ap (λ (l : List Posting). option_or (last_quote_of quote.account quote.week before) (option_map quote_of (last_of quote.account quote.week l))) own
-      ∙ ap (λ (o : Option Posting). option_or (last_quote_of quote.account quote.week before) (option_map quote_of o)) (last_own quote.account quote.week list)
-      ∙ sym (fold_or quote.account quote.week (option_map quote_of (last_of quote.account quote.week list)) before) ∙ sym ends
+      ap (λ (l : List Posting). fold (quoted_then quote.account quote.week) (option_map quote_of (last_of quote.account quote.week l)) before) own
+      ∙ ap (λ (o : Option Posting). fold (quoted_then quote.account quote.week) (option_map quote_of o) before) (last_own quote.account quote.week list)
+      ∙ sym ends
 
   judged_by_front : (front : Answers) → post_each list before ≡ front → (o : Result Bool PostFault) → o ≡ is_further quote (last_quoted rows before quote.account quote.week)
       → IsOk front → MatchResult o (λ _. IsOk (post_each list (before ++ quote ∷ []))) (IsWhy (post_each list (before ++ quote ∷ later)))
@@ -233,16 +220,16 @@ module _ (list rows : List Posting) (before later : List QuoteParts) (quote : Qu
 
 -- ---- quotes of accounts below one are none of it
 
-none_below : (account week highest : ℕ) (quotes : List QuoteParts) → AreUpTo highest quotes → highest < account → last_quote_of account week quotes ≡ None
-none_below account week highest [] up below = refl
-none_below account week highest (quote ∷ quotes) up below =
+none_below : (account week highest : ℕ) (o : Option QuoteParts) (quotes : List QuoteParts) → AreUpTo highest quotes → highest < account → fold (quoted_then account week) o quotes ≡ o
+none_below account week highest o [] up below = refl
+none_below account week highest o (quote ∷ quotes) up below =
     let least : quote.account ≤ highest = up.0 in
     let off : is_quote_of account week quote ≡ false = ap (λ (c : Bool). c && quote.week == week) (ne_eqb quote.account account (λ same. absurd (omega (arith, least, below, same)))) in
-    ap (λ (b : Bool). fold (later_quote_of account week) (if b then Some quote else None) quotes) off ∙ none_below account week highest quotes up.1 below
+    ap (λ (p : Option QuoteParts). fold (quoted_then account week) p quotes) (passes account week quote o off) ∙ none_below account week highest o quotes up.1 below
 
 -- so no quote has to be looked for there
 pub last_above : (list : List Posting) (quotes : List QuoteParts) (account week highest : ℕ) → AreUpTo highest quotes → highest < account → last_quoted list [] account week ≡ last_quoted list quotes account week
-last_above list quotes account week highest up below = ap (λ (o : Option QuoteParts). option_or o (option_map quote_of (last_of account week list))) (sym (none_below account week highest quotes up below))
+last_above list quotes account week highest up below = sym (none_below account week highest (option_map quote_of (last_of account week list)) quotes up below)
 
 -- ---- never a bad archive
 
@@ -252,16 +239,16 @@ module _ (list : List Posting) (quote : QuoteParts) (last : Posting) (found : la
   there : post list quote ≡ posted_after list quote (Some last)
   there = ap (posted_after list quote) found
 
-  kept_by : (stale again as_due : Bool)
-      → ◌≡◌ {A = Result Bool PostFault} (if stale then Err (fault.StaleQuote last.quote.account last.quote.version last.quote.through) else if again then if as_due then Ok false else Err fault.QuoteDiffers else Ok true) (Ok false)
-      → ◌≡◌ {A = Answer} (if stale then Err (fault.StaleQuote last.quote.account last.quote.version last.quote.through) else if again then if as_due then Ok (last, list) else Err fault.QuoteDiffers else posted_anew list quote) (Ok (last, list))
-  kept_by true again as_due e = absurd (cc)
+  kept_by : (stale again kept : Bool)
+      → ◌≡◌ {A = Result Bool PostFault} (if stale then Err (fault.StaleQuote last.quote.account last.quote.version last.quote.through) else if again then if kept then Ok false else Err fault.QuoteDiffers else Ok true) (Ok false)
+      → ◌≡◌ {A = Answer} (if stale then Err (fault.StaleQuote last.quote.account last.quote.version last.quote.through) else if again then if kept then Ok (last, list) else Err fault.QuoteDiffers else posted_anew list quote) (Ok (last, list))
+  kept_by true again kept e = absurd (cc)
   kept_by false true true e = refl
   kept_by false true false e = absurd (cc)
-  kept_by false false as_due e = absurd (let same : ◌≡◌ {A = Bool} true false = cc in cc)
+  kept_by false false kept e = absurd (let same : ◌≡◌ {A = Bool} true false = cc in cc)
 
   pub kept_beside : is_further quote (Some last.quote) ≡ Ok false → post list quote ≡ Ok (last, list)
-  kept_beside e = there ∙ kept_by (is_stale quote last.quote) (is_again quote last.quote) (is_as_due quote last.quote) e
+  kept_beside e = there ∙ kept_by (is_stale quote last.quote) (is_again quote last.quote) (is_kept quote last.quote) e
 
   refused_so : (why : PostFault) → IsWhy (post list quote) why → IsJudged (Err why) list quote
   refused_so fault.BadArchive is = is.0

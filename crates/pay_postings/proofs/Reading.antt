@@ -16,7 +16,7 @@ use Rattle.pay_postings.specs.Paid.{EachStands, IsRead, AreRead}
 use Rattle.pay_rows.specs.declared.row.PostingRow.{PostingRow}
 use Rattle.pay_rows.specs.declared.row.ShareRow.{ShareRow}
 use Rattle.pay_set_rows.specs.Ranged.{◌>>=◌, ranged}
-use Rattle.pay_postings.specs.PostingRows.{is_natural, quote_from_row, quote_after, is_amount_after, posting_after, week_from_row, amounts_of, posting_from_row}
+use Rattle.pay_postings.specs.PostingRows.{is_natural, edition_from_row, quote_from_row, quote_after, is_amount_after, posting_after, week_from_row, amounts_of, posting_from_row}
 
 -- ---- what stands after postings
 
@@ -55,23 +55,24 @@ pub record QuotesRow (account week : ℕ) (shares : List ℕ) (quote : QuotePart
   pub of_shares : quote.shares ≡ shares
 
 -- a quote with some parts, if it may have them
-abbrev pub quote_of : ℕ → ℕ → List ℕ → ℕ → ℕ → ℕ → Option QuoteParts
-quote_of account week shares through version due =
-    if nat_le 1 account && week == monday through && sum shares == due then Some (record { account = account; week = week; through = through; version = version; due = due; shares = shares }) else None
+abbrev pub quote_of : ℕ → ℕ → List ℕ → ℕ → ℕ → ℕ → ℕ → Option QuoteParts
+quote_of account week shares through version due edition =
+    if nat_le 1 account && week == monday through && sum shares == due then Some (record { account = account; week = week; through = through; version = version; due = due; edition = edition; shares = shares }) else None
 
-quotes_parts : (account week : ℕ) (shares : List ℕ) (quote : QuoteParts) (through version due : Option ℕ)
-    → (through >>= (λ t. version >>= (λ v. due >>= (λ d. quote_of account week shares t v d)))) ≡ Some quote → QuotesRow account week shares quote
-quotes_parts account week shares quote (Some t) (Some v) (Some d) e =
-    let q : QuoteParts = record { account = account; week = week; through = t; version = v; due = d; shares = shares } in
+quotes_parts : (account week : ℕ) (shares : List ℕ) (quote : QuoteParts) (through version due edition : Option ℕ)
+    → (through >>= (λ t. version >>= (λ v. due >>= (λ d. edition >>= (λ n. quote_of account week shares t v d n))))) ≡ Some quote → QuotesRow account week shares quote
+quotes_parts account week shares quote (Some t) (Some v) (Some d) (Some n) e =
+    let q : QuoteParts = record { account = account; week = week; through = t; version = v; due = d; edition = n; shares = shares } in
     let all = if_some (nat_le 1 account && week == monday t && sum shares == d) q quote e in
     record { of_account = sym (ap (λ (o : QuoteParts). o.account) all.1); of_week = sym (ap (λ (o : QuoteParts). o.week) all.1); of_shares = sym (ap (λ (o : QuoteParts). o.shares) all.1) }
-quotes_parts account week shares quote (Some t) (Some v) None e = absurd cc
-quotes_parts account week shares quote (Some t) None due e = absurd cc
-quotes_parts account week shares quote None version due e = absurd cc
+quotes_parts account week shares quote (Some t) (Some v) (Some d) None e = absurd cc
+quotes_parts account week shares quote (Some t) (Some v) None edition e = absurd cc
+quotes_parts account week shares quote (Some t) None due edition e = absurd cc
+quotes_parts account week shares quote None version due edition e = absurd cc
 
 quotes_row : (account week : ℕ) (row : PostingRow) (shares : List ℕ) (quote : QuoteParts) → quote_from_row account week row shares ≡ Some quote → QuotesRow account week shares quote
 quotes_row account week row shares quote e =
-    quotes_parts account week shares quote (ranged FIRST_DAY LAST_DAY row.through) (ranged 0 (MOST_TAPS + MOST_FIXES) row.version) (ranged 0 MOST_MONEY row.due) e
+    quotes_parts account week shares quote (ranged FIRST_DAY LAST_DAY row.through) (ranged 0 (MOST_TAPS + MOST_FIXES) row.version) (ranged 0 MOST_MONEY row.due) (edition_from_row row) e
 
 natural_itself : (amount : ℤ) → is_natural amount ≡ true → pos (unsigned_abs amount) ≡ amount
 natural_itself (pos n) is = refl

@@ -18,7 +18,7 @@ use Rattle.pay_rules.specs.declared.post_fault.PostFault.{PostFault}
 use Rattle.pay_rules.specs.declared.post_fault.PostFault.TheVariants as fault
 use Rattle.pay_postings.specs.Faults.{◌>>=◌}
 use Rattle.pay_postings.specs.Amounts.{total, no_amounts, added, less, IsMoney}
-use Rattle.pay_postings.specs.Postings.{is_quote_of, is_of, with_amount, net, with_shares, shares_posted, later_of, last_of, posting_of, is_stale, is_again, is_as_due, posted_anew, posted_again, posted_after, post, post_each, later_quote_of, last_quote_of}
+use Rattle.pay_postings.specs.Postings.{is_quote_of, is_of, with_amount, net, with_shares, shares_posted, later_of, last_of, posting_of, is_stale, is_again, is_kept, posted_anew, posted_again, posted_after, post, post_each, later_quote_of, last_quote_of}
 use Rattle.pay_postings.specs.Paid.{EachStands, IsPaid, ArePaid, IsRead, AreRead}
 use Rattle.pay_postings.specs.Archive.{archived_sets}
 use Rattle.pay_postings.specs.Ledger.{LedgerParts, posted}
@@ -187,9 +187,9 @@ read_more list quote read is =
     let long : length (shares_posted quote.account quote.week list) ≡ length quote.shares = read_long (last_of quote.account quote.week list) (net quote.account quote.week list) (shares_posted quote.account quote.week list) (settled_all IsRead quote.account quote.week list read) ∙ sym is.operators in
     each_more IsRead [] list (posting_of list quote) read (record { quote = is; money = subst IsMoney (sym (due_anew list quote)) is.in_range; shared = shares_anew list quote long })
 
-again : (list : List Posting) (quote : QuoteParts) (last : Posting) → ArePaid list → last_of quote.account quote.week list ≡ Some last → is_as_due quote last.quote ≡ true → Comes list quote list
+again : (list : List Posting) (quote : QuoteParts) (last : Posting) → ArePaid list → last_of quote.account quote.week list ≡ Some last → is_kept quote last.quote ≡ true → Comes list quote list
 again list quote last kept is same =
-    let parts = and_parts _ _ same in
+    let parts = and_parts _ _ (and_parts _ _ same).0 in
     let settled : IsPaid last (net quote.account quote.week list) (shares_posted quote.account quote.week list) =
     subst (λ (o : Option Posting). Settled IsPaid o (net quote.account quote.week list) (shares_posted quote.account quote.week list)) is (settled_all IsPaid quote.account quote.week list kept) in
     let as_due : quote.due ≡ last.quote.due = eqb-true _ _ parts.0 in
@@ -207,7 +207,7 @@ given_as list after given quote there l comes e =
     let same : ◌≡◌ {A = Posting × List Posting} (there, l) (given, after) = cc in
     subst (Comes list quote) (ap (λ (p : Posting × List Posting). p.1) same) comes
 
-by_due : (list after : List Posting) (given : Posting) (quote : QuoteParts) (last : Posting) (same : Bool) → is_as_due quote last.quote ≡ same → ArePaid list → last_of quote.account quote.week list ≡ Some last
+by_due : (list after : List Posting) (given : Posting) (quote : QuoteParts) (last : Posting) (same : Bool) → is_kept quote last.quote ≡ same → ArePaid list → last_of quote.account quote.week list ≡ Some last
     → ◌≡◌ {A = Result (Posting × List Posting) PostFault} (if same then Ok (last, list) else Err fault.QuoteDiffers) (Ok (given, after)) → Comes list quote after
 by_due list after given quote last true s kept is e = given_as list after given quote last list (again list quote last kept is s) e
 by_due list after given quote last false s kept is e = absurd (cc)
@@ -215,7 +215,7 @@ by_due list after given quote last false s kept is e = absurd (cc)
 by_version : (list after : List Posting) (given : Posting) (quote : QuoteParts) (last : Posting) (stale same : Bool) → ArePaid list → IsQuote quote → last_of quote.account quote.week list ≡ Some last
     → ◌≡◌ {A = Result (Posting × List Posting) PostFault} (if stale then Err (fault.StaleQuote last.quote.account last.quote.version last.quote.through) else if same then posted_again list quote last else posted_anew list quote) (Ok (given, after)) → Comes list quote after
 by_version list after given quote last true same kept is found e = absurd (cc)
-by_version list after given quote last false true kept is found e = by_due list after given quote last (is_as_due quote last.quote) refl kept found e
+by_version list after given quote last false true kept is found e = by_due list after given quote last (is_kept quote last.quote) refl kept found e
 by_version list after given quote last false false kept is found e = given_as list after given quote (posting_of list quote) (list ++ posting_of list quote ∷ []) (anew list quote kept is) e
 
 by_last : (list after : List Posting) (given : Posting) (quote : QuoteParts) (last : Option Posting) → ArePaid list → IsQuote quote → last_of quote.account quote.week list ≡ last → posted_after list quote last ≡ Ok (given, after) → Comes list quote after

@@ -33,15 +33,15 @@ RiseAfter number (id ∷ ids) = (number <ℤ id) × RiseAfter id ids
 
 -- ---- worked rows
 
--- a posting of a week, all of which falls to operator 2
+-- a posting of a week by the edition from day 4 on, all of which falls to operator 2
 charged : ℕ → ℕ → Posting
 charged account due = record {
-  quote = record { account = account; week = 19_730; through = 19_731; version = 3; due = due; shares = 0 ∷ due ∷ replicate 14 0 };
+  quote = record { account = account; week = 19_730; through = 19_731; version = 3; due = due; edition = 4; shares = 0 ∷ due ∷ replicate 14 0 };
   amount = pos due;
   share_amounts = pos 0 ∷ pos due ∷ replicate 14 (pos 0);
 }
 
-row_of_one_account : rows_of 7 (pos 2 ∷ pos 5 ∷ []) (charged 8 175 ∷ charged 7 340 ∷ []) ≡ (pos 5, record { week = pos 19_730; through = pos 19_731; version = pos 3; due = pos 340; amount = pos 340 }) ∷ []
+row_of_one_account : rows_of 7 (pos 2 ∷ pos 5 ∷ []) (charged 8 175 ∷ charged 7 340 ∷ []) ≡ (pos 5, record { week = pos 19_730; through = pos 19_731; version = pos 3; due = pos 340; amount = pos 340; edition = pos 4 }) ∷ []
 unfolding charged
 row_of_one_account = refl
 

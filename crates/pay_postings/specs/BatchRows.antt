@@ -9,9 +9,9 @@ use Rattle.pay_postings.specs.Ledger.{LedgerParts, posted}
 use Rattle.pay_set_rows.specs.SetRows.{tap_row}
 use Rattle.pay_postings.specs.Batches.{archived_of, with_batch}
 
--- a quote of an account, of which all falls to operator 1
+-- a quote of an account by the edition from day 4 on, of which all falls to operator 1
 quoted : ℕ → ℕ → ℕ → QuoteParts
-quoted account version due = record { account = account; week = 19_730; through = 19_730; version = version; due = due; shares = due ∷ replicate 15 0 }
+quoted account version due = record { account = account; week = 19_730; through = 19_730; version = version; due = due; edition = 4; shares = due ∷ replicate 15 0 }
 
 to_operator_1 : QuoteParts → ℤ → Posting
 to_operator_1 quote amount = record { quote = quote; amount = amount; share_amounts = amount ∷ replicate 15 (pos 0) }

@@ -1,5 +1,5 @@
 -- Judging quotes and sets by what is there, before any room is made for what they add.
-use Rattle.std.specs.Prelude.{◌≡◌, ◌≢◌, ℕ, ◌+◌, ◌≤◌, not, ◌||◌, Bool, true, false, if◌then◌else◌, List, [], take, find, flat_map, Option, Some, None, Result, Ok, Err, IsOk, MatchResult}
+use Rattle.std.specs.Prelude.{◌≡◌, ◌≢◌, ℕ, ◌+◌, ◌≤◌, not, ◌||◌, ◌&&◌, Bool, true, false, if◌then◌else◌, List, [], take, find, flat_map, fold, Option, Some, None, Result, Ok, Err, IsOk, MatchResult}
 use Rattle.std.specs.List.{AllByRecursion, list_any}
 use Rattle.std.specs.Option.{option_map, option_or}
 use Rattle.pay_rules.specs.declared.tap.Tap.{Tap}
@@ -11,7 +11,7 @@ use Rattle.pay_rows.specs.declared.row.TapRow.{TapRow}
 use Rattle.pay_rows.specs.declared.row.FixRow.{FixRow}
 use Rattle.pay_rules.specs.declared.post_fault.PostFault.{PostFault}
 use Rattle.pay_rules.specs.declared.post_fault.PostFault.TheVariants.{BadArchive, StaleQuote, QuoteDiffers, ArchiveConflict, Memory}
-use Rattle.pay_postings.specs.Postings.{last_of, is_stale, is_again, is_as_due, post_each, last_quote_of}
+use Rattle.pay_postings.specs.Postings.{is_quote_of, last_of, is_stale, is_again, is_kept, post_each}
 use Rattle.pay_postings.specs.Archive.{is_numbered_as, is_fix_numbered_as, archived_sets}
 use Rattle.pay_postings.specs.Ledger.{LedgerParts}
 use Rattle.pay_set_rows.specs.SetRows.{tap_row, fix_row}
@@ -26,12 +26,21 @@ abbrev pub is_further : QuoteParts → Option QuoteParts → Result Bool PostFau
 is_further quote None = Ok true
 is_further quote (Some last) =
     if is_stale quote last then Err (StaleQuote last.account last.version last.through)
-    else if is_again quote last then if is_as_due quote last then Ok false else Err QuoteDiffers
+    else if is_again quote last then if is_kept quote last then Ok false else Err QuoteDiffers
     else Ok true
 
--- the quote that was posted last for an account and a week once others were posted: the last of these, or else that of the last posting
+-- whether a quote becomes the one that was posted last for an account and a week, beside that which was: not where it is of the same version and day
+abbrev pub becomes_last : ℕ → ℕ → QuoteParts → Option QuoteParts → Bool
+becomes_last account week quote None = is_quote_of account week quote
+becomes_last account week quote (Some last) = is_quote_of account week quote && not (is_again quote last)
+
+-- the one that was posted last, once a quote was posted
+abbrev pub quoted_then : ℕ → ℕ → Option QuoteParts → QuoteParts → Option QuoteParts
+quoted_then account week last quote = if becomes_last account week quote last then Some quote else last
+
+-- the quote that was posted last for an account and a week once others were posted: what is kept for one of these counts, and not the quote itself
 abbrev pub last_quoted : List Posting → List QuoteParts → ℕ → ℕ → Option QuoteParts
-last_quoted list quotes account week = option_or (last_quote_of account week quotes) (option_map (λ (p : Posting). p.quote) (last_of account week list))
+last_quoted list quotes account week = fold (quoted_then account week) (option_map (λ (p : Posting). p.quote) (last_of account week list)) quotes
 
 -- ---- sets
 

@@ -46,13 +46,18 @@ is_natural amount = int_le (pos 0) amount
 abbrev pub naturals : List ℤ → Option (List ℕ)
 naturals amounts = if list_all is_natural amounts then Some (map unsigned_abs amounts) else None
 
+-- the first day of the edition of a row, which is a service day, or 0
+abbrev pub edition_from_row : PostingRow → Option ℕ
+edition_from_row row = if int_eq row.edition (pos 0) then Some 0 else ranged FIRST_DAY LAST_DAY row.edition
+
 -- The quote of a row, by its week and the shares that were posted up to it: each number is in its range, the day is of the week, and the shares are all that is due.
 abbrev pub quote_from_row : ℕ → ℕ → PostingRow → List ℕ → Option QuoteParts
 quote_from_row account week row shares = do
   through ← ranged FIRST_DAY LAST_DAY row.through
   version ← ranged 0 (MOST_TAPS + MOST_FIXES) row.version
   due ← ranged 0 MOST_MONEY row.due
-  if nat_le 1 account && week == monday through && sum shares == due then Some (record { account = account; week = week; through = through; version = version; due = due; shares = shares }) else None
+  edition ← edition_from_row row
+  if nat_le 1 account && week == monday through && sum shares == due then Some (record { account = account; week = week; through = through; version = version; due = due; edition = edition; shares = shares }) else None
 
 -- the quote of a row, by its week and what of its posting fell to each operator, after the postings before it
 abbrev pub quote_after : ℕ → ℕ → List Posting → List ℤ → PostingRow → Option QuoteParts
@@ -91,7 +96,7 @@ postings_from_rows account rows shares = if list_all is_share_row shares then wi
 
 -- a posting as a row
 abbrev pub posting_row : Posting → PostingRow
-posting_row p = record { week = pos p.quote.week; through = pos p.quote.through; version = pos p.quote.version; due = pos p.quote.due; amount = p.amount }
+posting_row p = record { week = pos p.quote.week; through = pos p.quote.through; version = pos p.quote.version; due = pos p.quote.due; amount = p.amount; edition = pos p.quote.edition }
 
 -- the amount of an operator as a row, and no row for 0
 abbrev pub share_row : ℤ → ℕ → ℤ → List ShareRow
@@ -109,31 +114,32 @@ share_rows id p = share_rows_from id 1 p.share_amounts
 -- ---- worked rows
 
 unfoldable pub charge_row : PostingRow
-charge_row = record { week = pos 19_730; through = pos 19_730; version = pos 1; due = pos 860; amount = pos 860 }
+charge_row = record { week = pos 19_730; through = pos 19_730; version = pos 1; due = pos 860; amount = pos 860; edition = pos 0 }
 
 unfoldable pub refund_row : PostingRow
-refund_row = record { week = pos 19_730; through = pos 19_730; version = pos 2; due = pos 340; amount = negsuc 519 }
+refund_row = record { week = pos 19_730; through = pos 19_730; version = pos 2; due = pos 340; amount = negsuc 519; edition = pos 4 }
 
 a_share : ℤ → ℤ → ℤ → ShareRow
 a_share id operator amount = record { posting = id; operator = operator; amount = amount }
 
-of_operator_1 : ℕ → ℕ → ℤ → Posting
-of_operator_1 version due amount = record {
-  quote = record { account = 7; week = 19_730; through = 19_730; version = version; due = due; shares = due ∷ replicate 15 0 };
+of_operator_1 : ℕ → ℕ → ℤ → ℕ → Posting
+of_operator_1 version due amount edition = record {
+  quote = record { account = 7; week = 19_730; through = 19_730; version = version; due = due; edition = edition; shares = due ∷ replicate 15 0 };
   amount = amount;
   share_amounts = amount ∷ replicate 15 (pos 0);
 }
 
+-- the first was copied, and its edition is not known
 charge_and_refund : postings_from_rows 7 ((pos 1, charge_row) ∷ (pos 4, refund_row) ∷ []) (a_share (pos 4) (pos 1) (negsuc 519) ∷ a_share (pos 1) (pos 1) (pos 860) ∷ [])
-    ≡ Some (of_operator_1 1 860 (pos 860) ∷ of_operator_1 2 340 (negsuc 519) ∷ [])
+    ≡ Some (of_operator_1 1 860 (pos 860) 0 ∷ of_operator_1 2 340 (negsuc 519) 4 ∷ [])
 unfolding charge_row refund_row a_share of_operator_1
 charge_and_refund = refl
 
-row_of_refund : posting_row (of_operator_1 2 340 (negsuc 519)) ≡ refund_row
+row_of_refund : posting_row (of_operator_1 2 340 (negsuc 519) 4) ≡ refund_row
 unfolding refund_row of_operator_1
 row_of_refund = refl
 
-share_of_refund : share_rows (pos 4) (of_operator_1 2 340 (negsuc 519)) ≡ a_share (pos 4) (pos 1) (negsuc 519) ∷ []
+share_of_refund : share_rows (pos 4) (of_operator_1 2 340 (negsuc 519) 4) ≡ a_share (pos 4) (pos 1) (negsuc 519) ∷ []
 unfolding a_share of_operator_1
 share_of_refund = refl
 
@@ -141,6 +147,19 @@ share_of_refund = refl
 share_missing : postings_from_rows 7 ((pos 1, charge_row) ∷ (pos 4, refund_row) ∷ []) (a_share (pos 1) (pos 1) (pos 860) ∷ []) ≡ None
 unfolding charge_row refund_row a_share
 share_missing = refl
+
+-- days 3 and 50,001 are no service days, and -1 is no day
+edition_too_early : edition_from_row (record charge_row { edition = pos 3 }) ≡ None
+unfolding charge_row
+edition_too_early = refl
+
+edition_too_late : edition_from_row (record charge_row { edition = pos 50_001 }) ≡ None
+unfolding charge_row
+edition_too_late = refl
+
+edition_below_zero : postings_from_rows 7 ((pos 1, record charge_row { edition = negsuc 0 }) ∷ []) (a_share (pos 1) (pos 1) (pos 860) ∷ []) ≡ None
+unfolding charge_row a_share
+edition_below_zero = refl
 
 no_operator : postings_from_rows 7 [] (a_share (pos 1) (pos 17) (pos 0) ∷ []) ≡ None
 unfolding a_share

@@ -61,13 +61,21 @@ is_again quote posted = quote.version == posted.version && quote.through == post
 abbrev pub is_as_due : QuoteParts → QuoteParts → Bool
 is_as_due quote posted = quote.due == posted.due && pointwise nat_eq quote.shares posted.shares
 
+-- whether it is of the edition of what was posted, as far as that is known: 0 stands for one that is not
+abbrev pub is_of_edition : QuoteParts → QuoteParts → Bool
+is_of_edition quote posted = posted.edition == 0 || quote.edition == posted.edition
+
+-- whether what was posted is kept for it
+abbrev pub is_kept : QuoteParts → QuoteParts → Bool
+is_kept quote posted = is_as_due quote posted && is_of_edition quote posted
+
 -- a further posting stands at the end
 abbrev pub posted_anew : List Posting → QuoteParts → Result (Posting × List Posting) PostFault
 posted_anew list quote = Ok (posting_of list quote, list ++ posting_of list quote ∷ [])
 
--- what was posted for the same version and day is kept, where as much was due
+-- what was posted for the same version and day is kept as it stands, where as much was due and no other edition is known
 abbrev pub posted_again : List Posting → QuoteParts → Posting → Result (Posting × List Posting) PostFault
-posted_again list quote last = if is_as_due quote last.quote then Ok (last, list) else Err QuoteDiffers
+posted_again list quote last = if is_kept quote last.quote then Ok (last, list) else Err QuoteDiffers
 
 -- a quote beside the last posting of its account and week
 abbrev pub posted_after : List Posting → QuoteParts → Option Posting → Result (Posting × List Posting) PostFault
@@ -77,7 +85,8 @@ posted_after list quote (Some last) =
     else if is_again quote last.quote then posted_again list quote last
     else posted_anew list quote
 
--- A quote posted: its posting, and all postings then. An old quote is refused, and so is one of the same version and day by which something else was due.
+-- A quote posted: its posting, and all postings then. An old quote is refused, and so is one of the same version and day by which something else was due,
+-- or that is of another edition.
 abbrev pub post : List Posting → QuoteParts → Result (Posting × List Posting) PostFault
 post list quote = posted_after list quote (last_of quote.account quote.week list)
 

@@ -8,9 +8,13 @@ use Rattle.pay_rules.specs.declared.post_fault.PostFault.TheVariants.{StaleQuote
 use Rattle.pay_postings.specs.Postings.{net, shares_posted, last_of, post, post_each, last_quote_of}
 use Rattle.pay_postings.specs.Archive.{archived_tap, archived_each}
 
--- a quote of account 7, of which all falls to operator 1
+-- a quote of account 7 by an edition, of which all falls to operator 1
+abbrev by_edition : ℕ → ℕ → ℕ → ℕ → ℕ → QuoteParts
+by_edition edition week through version due = record { account = 7; week = week; through = through; version = version; due = due; edition = edition; shares = due ∷ replicate 15 0 }
+
+-- by that of the file's own keys, which holds from day 4 on
 abbrev quoted : ℕ → ℕ → ℕ → ℕ → QuoteParts
-quoted week through version due = record { account = 7; week = week; through = through; version = version; due = due; shares = due ∷ replicate 15 0 }
+quoted = by_edition 4
 
 abbrev to_operator_1 : QuoteParts → ℤ → Posting
 to_operator_1 quote amount = record { quote = quote; amount = amount; share_amounts = amount ∷ replicate 15 (pos 0) }
@@ -67,8 +71,46 @@ other_due : post (charge ∷ refund ∷ []) (quoted 19_730 19_730 2 341) ≡ Err
 other_due = refl
 
 -- or the same for another operator
-other_operator : post (charge ∷ refund ∷ []) (record { account = 7; week = 19_730; through = 19_730; version = 2; due = 340; shares = 0 ∷ 340 ∷ replicate 14 0 }) ≡ Err QuoteDiffers
+other_operator : post (charge ∷ refund ∷ []) (record { account = 7; week = 19_730; through = 19_730; version = 2; due = 340; edition = 4; shares = 0 ∷ 340 ∷ replicate 14 0 }) ≡ Err QuoteDiffers
 other_operator = refl
+
+-- or by another edition
+other_edition : post (charge ∷ refund ∷ []) (by_edition 19_731 19_730 19_730 2 340) ≡ Err QuoteDiffers
+other_edition = refl
+
+-- what was copied from version 1 of the ledger names no edition
+abbrev copied_charge : Posting
+copied_charge = to_operator_1 (by_edition 0 19_730 19_730 1 860) (pos 860)
+
+abbrev copied_refund : Posting
+copied_refund = to_operator_1 (by_edition 0 19_730 19_730 2 340) (negsuc 519)
+
+-- so it is kept for the same quote, whatever its edition is, and is given as it stands
+copied_again : post (copied_charge ∷ copied_refund ∷ []) with_exit ≡ Ok (copied_refund, copied_charge ∷ copied_refund ∷ [])
+copied_again = refl
+
+copied_by_another : post (copied_charge ∷ copied_refund ∷ []) (by_edition 19_728 19_730 19_730 2 340) ≡ Ok (copied_refund, copied_charge ∷ copied_refund ∷ [])
+copied_by_another = refl
+
+-- but not where something else would be due
+copied_other_due : post (copied_charge ∷ copied_refund ∷ []) (quoted 19_730 19_730 2 341) ≡ Err QuoteDiffers
+copied_other_due = refl
+
+-- and a new version settles it: with a Credit of 40, this much is given back
+after_credit : QuoteParts
+after_credit = quoted 19_730 19_730 3 300
+
+credited : post (copied_charge ∷ copied_refund ∷ []) after_credit ≡ Ok (to_operator_1 after_credit (negsuc 39), copied_charge ∷ copied_refund ∷ to_operator_1 after_credit (negsuc 39) ∷ [])
+unfolding after_credit
+credited = refl
+
+what_is_left_then : net 7 19_730 (copied_charge ∷ copied_refund ∷ to_operator_1 after_credit (negsuc 39) ∷ []) ≡ pos 300
+unfolding after_credit
+what_is_left_then = refl
+
+-- a posting that is kept stays the last, so the edition of a quote before one does not count
+kept_counts : post_each (copied_charge ∷ copied_refund ∷ []) (with_exit ∷ by_edition 19_728 19_730 19_730 2 340 ∷ []) ≡ Ok (copied_refund ∷ copied_refund ∷ [], copied_charge ∷ copied_refund ∷ [])
+kept_counts = refl
 
 -- another week has postings of its own
 next_week : QuoteParts

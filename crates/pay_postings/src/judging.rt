@@ -8,23 +8,45 @@ ghost use Rattle.pay_rules.specs.Fixes.{number as fix_number};
 ghost use Rattle.pay_rules.specs.SetsParts.{AreNumbered, AreTapsOf, AreFixesOf, SetsParts};
 ghost use Rattle.pay_postings.specs.Archive.{is_numbered_as, is_fix_numbered_as};
 ghost use Rattle.pay_postings.specs.Archived.{parts};
-ghost use Rattle.pay_postings.specs.Postings.{last_quote_of};
-ghost use Rattle.pay_postings.specs.Judged.{is_further, last_quoted, is_tap_refused, is_fix_refused, is_set_refused, IsConflictIf};
+ghost use Rattle.pay_postings.specs.Postings.{is_quote_of};
+ghost use Rattle.pay_postings.specs.Judged.{is_further, becomes_last, last_quoted, is_tap_refused, is_fix_refused, is_set_refused, IsConflictIf};
 
 use crate::archived::Archived;
 use crate::new_rows::{fix_there, is_fix_row, is_tap_row, tap_there};
-use crate::posted::{Posted, is_further};
+use crate::posted::{Posted, is_again, is_further};
 use pay_rows::{FixRow, TapRow};
 use pay_rules::{Fix, PostFault, Quote, Sets, Tap};
 use pay_set_rows::{fix_row, tap_row};
 
-/// The last of quotes that is of an account and a week.
-fn last_quote_of(quotes: &[Quote], account: u32, week: u32) -> Option<&Quote>
-    ensures { option_map (λ q. q.now) result ≡ last_quote_of account week quotes.now }
+/// Whether a quote is of an account and a week.
+fn is_quote_of(quote: &Quote, account: u32, week: u32) -> bool
+    ensures { result ≡ is_quote_of account week quote.now }
 {
-    let mut last = None;
+    quote.account() == account && quote.week() == week
+}
+
+/// Whether a quote becomes the one that was posted last for an account and a week, beside that which was.
+fn becomes_last(quote: &Quote, account: u32, week: u32, last: Option<&Quote>) -> bool
+    ensures { result ≡ becomes_last account week quote.now (option_map (λ q. q.now) last.entry) }
+{
+    match last {
+        Some(posted) => is_quote_of(quote, account, week) && !is_again(quote, posted),
+        None => is_quote_of(quote, account, week),
+    }
+}
+
+/// The quote that was posted last for an account and a week, once others were posted after it.
+fn last_quoted<'a>(
+    posted: &'a Posted,
+    quotes: &'a [Quote],
+    account: u32,
+    week: u32,
+) -> Option<&'a Quote>
+    ensures { option_map (λ q. q.now) result ≡ last_quoted posted.now quotes.now account week }
+{
+    let mut last = posted.last_quote(account, week);
     for quote in quotes {
-        if quote.account() == account && quote.week() == week {
+        if becomes_last(quote, account, week, last) {
             last = Some(quote);
         }
     }
@@ -40,10 +62,7 @@ pub(crate) fn judge_quote(
 ) -> Result<bool, PostFault>
     ensures { result ≡ is_further quote.now (last_quoted posted.now before.now quote.now.account quote.now.week) }
 {
-    if let Some(last) = last_quote_of(before, quote.account(), quote.week()) {
-        return is_further(quote, last);
-    }
-    match posted.last_quote(quote.account(), quote.week()) {
+    match last_quoted(posted, before, quote.account(), quote.week()) {
         Some(last) => is_further(quote, last),
         None => Ok(true),
     }

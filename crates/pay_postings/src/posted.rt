@@ -2,7 +2,7 @@ ghost use Rattle.std.specs.Prelude.{◌≡◌, ◌≤◌, pos, [], ◌∷◌, �
 ghost use Rattle.std.specs.Option.{option_map};
 ghost use Rattle.pay_money.specs.declared.limits.TheConstants.{MOST_MONEY};
 ghost use Rattle.pay_postings.specs.Amounts.{IsMoney, less};
-ghost use Rattle.pay_postings.specs.Postings.{is_of, is_stale, is_again, is_as_due, net, with_amount, shares_posted, last_of, posting_of};
+ghost use Rattle.pay_postings.specs.Postings.{is_of, is_stale, is_again, is_as_due, is_of_edition, is_kept, net, with_amount, shares_posted, last_of, posting_of};
 ghost use Rattle.pay_postings.specs.Paid.{AreRead};
 ghost use Rattle.pay_postings.specs.Answers.{IsPosted, IsJudged};
 ghost use Rattle.pay_postings.specs.Judged.{is_further};
@@ -99,7 +99,7 @@ fn is_stale(quote: &Quote, posted: &Quote) -> bool
 }
 
 /// Whether it is of the same version and through the same day.
-fn is_again(quote: &Quote, posted: &Quote) -> bool
+pub(crate) fn is_again(quote: &Quote, posted: &Quote) -> bool
     ensures { result ≡ is_again quote.now posted.now }
 {
     quote.version() == posted.version() && quote.through() == posted.through()
@@ -110,6 +110,21 @@ fn is_as_due(quote: &Quote, posted: &Quote) -> bool
     ensures { result ≡ is_as_due quote.now posted.now }
 {
     quote.due() == posted.due() && quote.shares() == posted.shares()
+}
+
+/// Whether it is of the edition of what was posted, as far as that is known: a posting that was copied from version 1 of the
+/// ledger names none.
+fn is_of_edition(quote: &Quote, posted: &Quote) -> bool
+    ensures { result ≡ is_of_edition quote.now posted.now }
+{
+    posted.edition() == 0 || quote.edition() == posted.edition()
+}
+
+/// Whether what was posted is kept for it.
+fn is_kept(quote: &Quote, posted: &Quote) -> bool
+    ensures { result ≡ is_kept quote.now posted.now }
+{
+    is_as_due(quote, posted) && is_of_edition(quote, posted)
 }
 
 /// Whether a quote is posted anew beside the one that was posted last for its account and week, or what was posted for that is
@@ -127,7 +142,7 @@ pub(crate) fn is_further(quote: &Quote, last: &Quote) -> Result<bool, PostFault>
     if !is_again(quote, last) {
         return Ok(true);
     }
-    if is_as_due(quote, last) {
+    if is_kept(quote, last) {
         Ok(false)
     } else {
         Err(PostFault::QuoteDiffers)
@@ -214,7 +229,7 @@ impl Posted {
         ensures read { IfOk result (λ p. AreRead (self.now ++ p ∷ [])) }
     {
         let _ = &self.postings;
-        let _ranges = (quote.version(), quote.through());
+        let _ranges = (quote.version(), quote.through(), quote.edition());
         let net = self.net(quote.account(), quote.week());
         let posted = self.shares(quote.account(), quote.week());
         Ok(Posting {
@@ -235,8 +250,8 @@ impl Posted {
     }
 
     /// Posts a quote: its posting is what is due less what was posted for its account and week, and each
-    /// operator's share likewise. One that was posted before adds nothing, and its posting is given again.
-    /// Where it is refused, all postings are as before.
+    /// operator's share likewise. One that was posted before adds nothing, and its posting is given again as it stands, also
+    /// where that names no edition. Where it is refused, all postings are as before.
     pub fn post(&mut self, quote: &Quote) -> Result<Posting, PostFault>
         ensures { IsPosted result self.old self.new quote.now }
     {

@@ -2,11 +2,11 @@ ghost use Rattle.std.specs.Prelude.{◌≡◌, ◌≤◌, ◌++◌, ◌∷◌, [
 ghost use Rattle.std.specs.List.{list_all};
 ghost use Rattle.std.specs.Option.{option_map};
 ghost use Rattle.pay_money.specs.declared.limits.TheConstants.{MOST_MONEY, OPERATORS};
-ghost use Rattle.pay_rules.specs.QuoteParts.{IsQuote};
+ghost use Rattle.pay_rules.specs.QuoteParts.{IsEditionDay, IsQuote};
 ghost use Rattle.pay_set_rows.specs.Readings.{IsReadAs};
 ghost use Rattle.pay_postings.specs.Amounts.{IsMoney, added};
 ghost use Rattle.pay_postings.specs.Paid.{AreRead};
-ghost use Rattle.pay_postings.specs.PostingRows.{is_money, is_share_row, is_natural, is_share_of, amount_of, amounts_of, naturals, quote_from_row, quote_after, is_amount_after, posting_after, week_from_row, posting_from_row, postings_from_rows, posting_row, share_rows, share_rows_from, share_row};
+ghost use Rattle.pay_postings.specs.PostingRows.{is_money, is_share_row, is_natural, is_share_of, amount_of, amounts_of, naturals, edition_from_row, quote_from_row, quote_after, is_amount_after, posting_after, week_from_row, posting_from_row, postings_from_rows, posting_row, share_rows, share_rows_from, share_row};
 ghost use Rattle.pay_postings.specs.NetRows.{with_amount_of, net_from_rows};
 
 use crate::posted::Posted;
@@ -129,6 +129,17 @@ fn naturals(amounts: &[i64; OPERATORS]) -> Option<[u64; OPERATORS]>
     }
 }
 
+/// The first day of the edition of a row: a service day, or 0.
+fn edition_from_row(row: &PostingRow) -> Option<u32>
+    ensures value { result ≡ edition_from_row row.now }
+    ensures in_range { IfSome result IsEditionDay }
+{
+    if row.edition == 0 {
+        return Some(0);
+    }
+    Some(ranged(row.edition, u64::from(FIRST_DAY), u64::from(LAST_DAY))? as u32)
+}
+
 /// The quote of a row, by its week and the shares that were posted up to it.
 fn quote_from_row(
     account: u32,
@@ -142,12 +153,14 @@ fn quote_from_row(
     let through = ranged(row.through, u64::from(FIRST_DAY), u64::from(LAST_DAY))?;
     let version = ranged(row.version, 0, (MOST_TAPS + MOST_FIXES) as u64)?;
     let due = ranged(row.due, 0, MOST_MONEY)?;
+    let edition = edition_from_row(row)?;
     Quote::rebuilt(
         account,
         week,
         through as u32,
         version as u32,
         Pence::new(due),
+        edition,
         shares,
     )
 }
@@ -259,7 +272,10 @@ fn with_amount_of(week: u32, so_far: i64, row: &PostingRow) -> Option<i64>
     if row.week != i64::from(week) {
         return Some(so_far);
     }
-    if is_money(row.amount) && is_money(so_far + row.amount) {
+    if !is_money(row.amount) {
+        return None;
+    }
+    if is_money(so_far + row.amount) {
         Some(so_far + row.amount)
     } else {
         None
@@ -289,6 +305,7 @@ pub fn posting_row(posting: &Posting) -> PostingRow
         version: i64::from(posting.quote.version()),
         due: posting.quote.due().pence() as i64,
         amount: posting.amount,
+        edition: i64::from(posting.quote.edition()),
     }
 }
 

@@ -34,17 +34,17 @@ pub record AddsRow (schema : Schema) (old new : Database) (table : Table) (row :
 abbrev pub task_of : Option ℕ → Schema → Table → Row → Task
 task_of limit schema table params = record { limit = limit; keys = Enforced; schema = schema; table = table; params = params }
 
-concluded : (task : Task) (mode : Mode) (w : Written) (tally : Tally) (new : Database) → Concludes task mode None w (Ok (tally, new)) → new ≡ record { schema = task.schema; trees = w.trees }
+pub concluded : (task : Task) (mode : Mode) (w : Written) (tally : Tally) (new : Database) → Concludes task mode None w (Ok (tally, new)) → new ≡ record { schema = task.schema; trees = w.trees }
 concluded task mode w tally new h = ap (λ (p : Tally × Database). p.1) (same_value (went (went h).2).2)
 
 -- one row, at the next rowid
 abbrev one_row : Trees → Table → Row → Edit
 one_row db table source = edit_of db table [] Chosen 0 (source ∷ [])
 
-uncounted_counts : (task : Task) (db next : Trees) (counter : Option Row) (top : ℤ) → task.table.is_counted ≡ false → Counts task db counter top (Ok next) → next ≡ db
+pub uncounted_counts : (task : Task) (db next : Trees) (counter : Option Row) (top : ℤ) → task.table.is_counted ≡ false → Counts task db counter top (Ok next) → next ≡ db
 uncounted_counts task db next counter top uncounted h = same_value (rw uncounted at h)
 
-chosen : (table : Table) (top : ℤ) → table.is_counted ≡ false → rowids_for table top ≡ Chosen
+pub chosen : (table : Table) (top : ℤ) → table.is_counted ≡ false → rowids_for table top ≡ Chosen
 chosen table top uncounted = rw uncounted
 
 module _ (schema : Schema) (table : Table) (uncounted : table.is_counted ≡ false)

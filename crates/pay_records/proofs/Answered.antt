@@ -55,7 +55,7 @@ passing {X} tree test env db row pass agrees list is =
         ∙ elim (pass x) as (λ b. cond b ((env ++ row x ∷ []) ∷ []) [] ++ map (λ x. env ++ row x ∷ []) (filter pass xs) ≡ map (λ x. env ++ row x ∷ []) (cond b (x ∷ filter pass xs) (filter pass xs))) [ true ↦ refl | false ↦ refl ]
 
 -- rows of whole numbers, each with its rowid
-numbered : {X : Type 0} (numbers : X → List ℤ) (low : ℤ) (rows : List Row) (list : List X) → RiseFrom low rows → map (drop 1) rows ≡ map (λ x. map Int (numbers x)) list
+pub numbered : {X : Type 0} (numbers : X → List ℤ) (low : ℤ) (rows : List Row) (list : List X) → RiseFrom low rows → map (drop 1) rows ≡ map (λ x. map Int (numbers x)) list
     → (ids : List (ℤ × X)) × (rows ≡ map (λ (p : ℤ × X). Int p.0 ∷ map Int (numbers p.1)) ids) × (map (λ (p : ℤ × X). p.1) ids ≡ list)
 numbered numbers low [] [] up is = ([], refl, refl)
 numbered numbers low [] (x ∷ xs) up is = absurd (cc)
@@ -115,7 +115,7 @@ told_in_some_order shown tell of tells found old new rows h =
 pub each_shown : {X : Type 0} (shown : X → List ℤ) (P : Row → Type 0) → ((x : X) → P (map Int (shown x))) → (found : List X) (old new : State) (rows : List Row) → Shows shown found old new rows → AllByRecursion P rows
 each_shown shown P each found old new rows h = recursion_from_All P rows (All-permutation P _ rows h.same (All-from_recursion P _ (all-map P (λ x. map Int (shown x)) each found)))
 
-every : {X : Type 0} (xs : List X) → filter (λ _. true) xs ≡ xs
+pub every : {X : Type 0} (xs : List X) → filter (λ _. true) xs ≡ xs
 every [] = refl
 every (x ∷ xs) = ap (λ l. x ∷ l) (every xs)
 
@@ -202,7 +202,7 @@ module _ {Y : Type 0} (row : Y → Row) (id : Y → ℤ) (id_is : (y : Y) → co
       let first : low <ℤ id y = subst (λ n. low <ℤ n) (sym same) up.2 in
       ((first, all_weaker (λ z. up.0 <ℤ id z) (λ z. low <ℤ id z) (λ z more. let here = up.2 in omega (arith, ints)) ys rest.0), (subst (λ n. AllByRecursion (λ z. n <ℤ id z) ys) (sym same) rest.0, rest.1))
 
-  in_order : (tree : ℕ) (test project : List Term) (params : Row) (db : Trees) (pass : Y → Bool) → ((y : Y) → list_all (holds (params ∷ row y ∷ [])) test ≡ pass y) → (list : List Y) → db tree ≡ map row list
+  pub in_order : (tree : ℕ) (test project : List Term) (params : Row) (db : Trees) (pass : Y → Bool) → ((y : Y) → list_all (holds (params ∷ row y ∷ [])) test ≡ pass y) → (list : List Y) → db tree ≡ map row list
       → RiseFrom (pos 0) (map row list) → (rows : List Row) → IsAnswer (simple (inner tree end) test project by_rowid) db params rows → rows ≡ map (λ y. eval_all project (params ∷ row y ∷ [])) (filter pass list)
   in_order tree test project params db pass agrees list is up rows answer =
       let q = simple (inner tree end) test project by_rowid in
@@ -323,7 +323,7 @@ all_fixes_shown old new rows h l held =
 -- ---- postings
 
 abbrev pub posting_shown : ℤ × ℤ × PostingRow → List ℤ
-posting_shown p = p.0 ∷ p.2.week ∷ p.2.through ∷ p.2.version ∷ p.2.due ∷ p.2.amount ∷ []
+posting_shown p = p.0 ∷ p.2.week ∷ p.2.through ∷ p.2.version ∷ p.2.due ∷ p.2.amount ∷ p.2.edition ∷ []
 
 pub postings_shown_in : (schema : Schema) (tree : ℕ) (names : List (List ℕ)) → IsQuery schema select_postings (postings_query tree) names → (account : ℤ) (old new : State) (rows : List Row) → old.now.schema ≡ schema
     → Shown select_postings (Int account ∷ []) old new rows → (all : List (ℤ × ℤ × PostingRow)) → old.now.trees tree ≡ map posting_row all → RiseFrom (pos 0) (old.now.trees tree)

@@ -1,5 +1,5 @@
 -- A schema that gets one table more has those that it had, and that one.
-use Rattle.std.proofs.Common.{◌≡◌, ◌≢◌, ◌≤◌, ℕ, suc, ◌+◌, ◌^◌, max, fold, Bool, true, false, cond, List, [], ◌∷◌, ◌++◌, length, find, Some, None, refl, ap, ◌∙◌, arith}
+use Rattle.std.proofs.Common.{◌≡◌, ◌≢◌, ◌≤◌, ℕ, suc, ◌+◌, ◌^◌, max, fold, Bool, true, false, cond, List, [], ◌∷◌, ◌++◌, length, find, Some, None, refl, sym, ap, subst, ◌∙◌, arith}
 use Rattle.std.specs.Prelude.{◌==◌, nat_lt}
 use Rattle.std.specs.List.{position_from}
 use Rattle.std.specs.Option.{option_or}
@@ -58,6 +58,15 @@ has_still schema more place wanted has =
       stored = has.stored;
       only = found_still (λ t. t.tree == place.table.tree) schema.tables ys (alike wanted place.table) has.only;
     }
+
+-- and so has one with more after them
+pub has_longer : (schema larger : Schema) (more : List Table) → larger.tables ≡ schema.tables ++ more → (place : Place) (wanted : Table) → HasTable schema place wanted → HasTable larger place wanted
+has_longer schema larger more is place wanted has = record {
+  named = subst (λ ts. position_from (λ t. same_name t.name wanted.name) 0 ts ≡ Some place.at) (sym is) (position_still (λ t. same_name t.name wanted.name) schema.tables more 0 place.at has.named);
+  placed = got_still schema.tables more larger.tables place.at (alike wanted place.table) is has.placed;
+  stored = has.stored;
+  only = subst (λ ts. find (λ t. t.tree == place.table.tree) ts ≡ Some (alike wanted place.table)) (sym is) (found_still (λ t. t.tree == place.table.tree) schema.tables more (alike wanted place.table) has.only);
+}
 
 pub has_new : (schema : Schema) (wanted : Table) → wanted.computed ≡ [] → table_named schema wanted.name ≡ None → same_name wanted.name wanted.name ≡ true → nat_lt (next_tree schema) (2 ^ 31) ≡ true
     → HasTable (created schema wanted) (record { at = length schema.tables; table = record wanted { tree = next_tree schema } }) wanted

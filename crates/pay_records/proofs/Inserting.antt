@@ -72,20 +72,20 @@ pub meta_read : IsInsert insert_meta meta meta_terms 3 []
 unfolding everything
 meta_read = record { parsed = _; read = refl; columns = _; rows = _; statement = refl; formats = refl; stored = λ schema table. refl }
 
-unfoldable pub posting_read : (shown : List Shown) × IsInsert insert_posting postings posting_terms 8 shown
+unfoldable pub posting_read : (shown : List Shown) × IsInsert insert_posting postings posting_terms 9 shown
 unfolding everything
 posting_read = (_, record { parsed = _; read = refl; columns = _; rows = _; statement = refl; formats = refl; stored = λ schema table. refl })
 
 -- what RETURNING asks for is the number
-number_shown : ShowsNumber posting_read.0 × (small posting_read.1.parsed.names + 0 ≡ 6)
+number_shown : ShowsNumber posting_read.0 × (small posting_read.1.parsed.names + 0 ≡ 7)
 unfolding everything posting_read
 number_shown = (record { one = _; number = _; alone = refl; is_one = refl; is_number = refl }, refl)
 
 pub insert_posting_is : (schema : Schema) (place : Place) → HasTable schema place postings
-    → (command_of (understood schema insert_posting) ≡ Insert place.at (Values posting_terms 8)) × (returning_of (understood schema insert_posting) ≡ Some returned) × (formats_of (understood schema insert_posting) ≡ [])
+    → (command_of (understood schema insert_posting) ≡ Insert place.at (Values posting_terms 9)) × (returning_of (understood schema insert_posting) ≡ Some returned) × (formats_of (understood schema insert_posting) ≡ [])
 insert_posting_is schema place has =
     let shown = posting_read.0 in
     let it = posting_read.1 in
-    let shows_it : shows schema (small it.parsed.names + 0) (codes "postings") shown ≡ Ok (Some returned) = ap (λ base. shows schema base (codes "postings") shown) number_shown.1 ∙ shows_is schema place has shown number_shown.0 in
-    let known = known_insert schema place postings has refl insert_posting posting_terms 8 shown it (Some returned) shows_it in
+    let shows_it : shows schema (small it.parsed.names + 0) (codes "postings2") shown ≡ Ok (Some returned) = ap (λ base. shows schema base (codes "postings2") shown) number_shown.1 ∙ shows_is schema place has shown number_shown.0 in
+    let known = known_insert schema place postings has refl insert_posting posting_terms 9 shown it (Some returned) shows_it in
     (ap command_of known, ap returning_of known, ap formats_of known)

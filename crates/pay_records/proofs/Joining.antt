@@ -49,13 +49,13 @@ abbrev qualified : Name → Name → Expr
 qualified table name = roll-Expr (Expr-F.Column (Some table) name)
 
 abbrev of_posting : Expr
-of_posting = roll-Expr (Expr-F.Binary binary.Eq (qualified (codes "shares") (codes "posting")) (qualified (codes "postings") (codes "id")))
+of_posting = roll-Expr (Expr-F.Binary binary.Eq (qualified (codes "shares2") (codes "posting")) (qualified (codes "postings2") (codes "id")))
 
 abbrev shown : List Shown
-shown = bare (codes "posting") ∷ bare (codes "operator") ∷ roll-Shown (Shown-F.One (qualified (codes "shares") (codes "amount")) None (codes "shares.amount")) ∷ []
+shown = bare (codes "posting") ∷ bare (codes "operator") ∷ roll-Shown (Shown-F.One (qualified (codes "shares2") (codes "amount")) None (codes "shares2.amount")) ∷ []
 
 abbrev from : List Source
-from = source (codes "postings") None ∷ source (codes "shares") (Some of_posting) ∷ []
+from = source (codes "postings2") None ∷ source (codes "shares2") (Some of_posting) ∷ []
 
 abbrev of_account : Option Expr
 of_account = Some (is_first_given (codes "account"))
@@ -63,7 +63,7 @@ of_account = Some (is_first_given (codes "account"))
 abbrev shares_written : Written
 shares_written = select_of shown from of_account []
 
-shares_parsed : first select_shares ≡ Ok (parsed_as shares_written (codes "?1" ∷ []) 116)
+shares_parsed : first select_shares ≡ Ok (parsed_as shares_written (codes "?1" ∷ []) 121)
 unfolding first everything
 shares_parsed = refl
 
@@ -75,10 +75,10 @@ module _ (schema : Schema) (p s : Place) (has : HasTable schema p postings) (has
   share_table = alike shares s.table
 
   abbrev left : Bound
-  left = record { name = codes "postings"; table = p.at; slot = 1; shared = [] }
+  left = record { name = codes "postings2"; table = p.at; slot = 1; shared = [] }
 
   abbrev right : Bound
-  right = record { name = codes "shares"; table = s.at; slot = 2; shared = [] }
+  right = record { name = codes "shares2"; table = s.at; slot = 2; shared = [] }
 
   abbrev both : List Bound
   both = left ∷ right ∷ []
@@ -114,20 +114,20 @@ module _ (schema : Schema) (p s : Place) (has : HasTable schema p postings) (has
         (only_right None (codes "operator") (Column 2 s.at 1) (hit_missing schema p.at posting_table has.placed left (codes "operator") refl refl refl) (hit_here schema s.at share_table has_shares.placed right None (codes "operator") 1 refl refl refl refl)) refl
 
     -- a name that is written with its table
-    amount_is : Resolves scope (Some (codes "shares")) (codes "amount") (codes "amount") (col 2 3) (share_column 2 (codes "amount"))
+    amount_is : Resolves scope (Some (codes "shares2")) (codes "amount") (codes "amount") (col 2 3) (share_column 2 (codes "amount"))
     unfolding same_name
-    amount_is = column_resolves schema (record { tables = both; shown = columns }) may_aggregate s.at share_table has_shares.placed (Some (codes "shares")) (codes "amount") 2 2 (number (codes "amount"))
-        (only_right (Some (codes "shares")) (codes "amount") (Column 2 s.at 2) (hit_other schema left (Some (codes "shares")) (codes "amount") refl) (hit_here schema s.at share_table has_shares.placed right (Some (codes "shares")) (codes "amount") 2 refl refl refl refl)) refl
+    amount_is = column_resolves schema (record { tables = both; shown = columns }) may_aggregate s.at share_table has_shares.placed (Some (codes "shares2")) (codes "amount") 2 2 (number (codes "amount"))
+        (only_right (Some (codes "shares2")) (codes "amount") (Column 2 s.at 2) (hit_other schema left (Some (codes "shares2")) (codes "amount") refl) (hit_here schema s.at share_table has_shares.placed right (Some (codes "shares2")) (codes "amount") 2 refl refl refl refl)) refl
 
-    of_share : Resolves scope (Some (codes "shares")) (codes "posting") (codes "posting") (col 2 1) (share_column 0 (codes "posting"))
+    of_share : Resolves scope (Some (codes "shares2")) (codes "posting") (codes "posting") (col 2 1) (share_column 0 (codes "posting"))
     unfolding same_name
-    of_share = column_resolves schema (record { tables = both; shown = columns }) may_aggregate s.at share_table has_shares.placed (Some (codes "shares")) (codes "posting") 2 0 (number (codes "posting"))
-        (only_right (Some (codes "shares")) (codes "posting") (Column 2 s.at 0) (hit_other schema left (Some (codes "shares")) (codes "posting") refl) (hit_here schema s.at share_table has_shares.placed right (Some (codes "shares")) (codes "posting") 0 refl refl refl refl)) refl
+    of_share = column_resolves schema (record { tables = both; shown = columns }) may_aggregate s.at share_table has_shares.placed (Some (codes "shares2")) (codes "posting") 2 0 (number (codes "posting"))
+        (only_right (Some (codes "shares2")) (codes "posting") (Column 2 s.at 0) (hit_other schema left (Some (codes "shares2")) (codes "posting") refl) (hit_here schema s.at share_table has_shares.placed right (Some (codes "shares2")) (codes "posting") 0 refl refl refl refl)) refl
 
-    id_is : Resolves scope (Some (codes "postings")) (codes "id") (codes "id") (col 1 0) nothing
+    id_is : Resolves scope (Some (codes "postings2")) (codes "id") (codes "id") (col 1 0) nothing
     unfolding same_name
-    id_is = column_resolves schema (record { tables = both; shown = columns }) may_aggregate p.at posting_table has.placed (Some (codes "postings")) (codes "id") 1 0 (record (number (codes "id")) { not_null = false })
-        (only_left (Some (codes "postings")) (codes "id") (Column 1 p.at 0) (hit_here schema p.at posting_table has.placed left (Some (codes "postings")) (codes "id") 0 refl refl refl refl) (hit_other schema right (Some (codes "postings")) (codes "id") refl)) refl
+    id_is = column_resolves schema (record { tables = both; shown = columns }) may_aggregate p.at posting_table has.placed (Some (codes "postings2")) (codes "id") 1 0 (record (number (codes "id")) { not_null = false })
+        (only_left (Some (codes "postings2")) (codes "id") (Column 1 p.at 0) (hit_here schema p.at posting_table has.placed left (Some (codes "postings2")) (codes "id") 0 refl refl refl refl) (hit_other schema right (Some (codes "postings2")) (codes "id") refl)) refl
 
     account_is : Resolves scope None (codes "account") (codes "account") (col 1 2) (declared posting_table 1 (number (codes "account")))
     unfolding same_name is_among
@@ -147,9 +147,9 @@ module _ (schema : Schema) (p s : Place) (has : HasTable schema p postings) (has
         → lower scope of_posting (state 3 budget last) ≡ Ok (op2 (Compare Eq Binary) (col 2 1) (col 1 0), state 3 (budget - 1 - 1 - 1) nothing)
     unfolding lower_to chosen first_found
     on_is budget last one two three =
-        let first = column_lowers (lower_to 698) scope (qualified (codes "shares") (codes "posting")) (Some (codes "shares")) (codes "posting") of_share.found (col 2 1) (share_column 0 (codes "posting")) (column_is _ _) of_share.finds of_share.means 3 (budget - 1) nothing two in
-        let second = column_lowers (lower_to 698) scope (qualified (codes "postings") (codes "id")) (Some (codes "postings")) (codes "id") id_is.found (col 1 0) nothing (column_is _ _) id_is.finds id_is.means 3 (budget - 1 - 1) (share_column 0 (codes "posting")) three in
-        equal_lowers (lower_to 699) scope of_posting (qualified (codes "shares") (codes "posting")) (qualified (codes "postings") (codes "id")) (out-roll-Expr _) (col 2 1) (col 1 0) (share_column 0 (codes "posting")) nothing 3 budget last one first second refl same_posting
+        let first = column_lowers (lower_to 698) scope (qualified (codes "shares2") (codes "posting")) (Some (codes "shares2")) (codes "posting") of_share.found (col 2 1) (share_column 0 (codes "posting")) (column_is _ _) of_share.finds of_share.means 3 (budget - 1) nothing two in
+        let second = column_lowers (lower_to 698) scope (qualified (codes "postings2") (codes "id")) (Some (codes "postings2")) (codes "id") id_is.found (col 1 0) nothing (column_is _ _) id_is.finds id_is.means 3 (budget - 1 - 1) (share_column 0 (codes "posting")) three in
+        equal_lowers (lower_to 699) scope of_posting (qualified (codes "shares2") (codes "posting")) (qualified (codes "postings2") (codes "id")) (out-roll-Expr _) (col 2 1) (col 1 0) (share_column 0 (codes "posting")) nothing 3 budget last one first second refl same_posting
 
     joins_are : (budget : ℕ) (last : Carried) → nat_lt 1 budget ≡ true → nat_lt 1 (budget - 1) ≡ true → nat_lt 1 (budget - 1 - 1) ≡ true
         → joins lower scope both from (state 3 budget last)
@@ -168,10 +168,10 @@ module _ (schema : Schema) (p s : Place) (has : HasTable schema p postings) (has
       record { expression = bare_column (codes "operator"); table = None; name = codes "operator"; text = codes "operator"; written = bare_is _; is = column_is _ _; resolves = operator_is [] true; bare = refl },
       (
         record {
-          expression = qualified (codes "shares") (codes "amount");
-          table = Some (codes "shares");
+          expression = qualified (codes "shares2") (codes "amount");
+          table = Some (codes "shares2");
           name = codes "amount";
-          text = codes "shares.amount";
+          text = codes "shares2.amount";
           written = out-roll-Shown _;
           is = column_is _ _;
           resolves = amount_is [] true;
@@ -201,4 +201,4 @@ module _ (schema : Schema) (p s : Place) (has : HasTable schema p postings) (has
       read_is schema shares_written core [] (select_is _ _ _ _) (draft, shares_names, map (λ o. o.carried.collation) outputs) all_named named_it shares_accepted
 
   pub select_shares_is : IsQuery schema select_shares (shares_query p.table.tree s.table.tree) shares_names
-  select_shares_is = is_query schema select_shares shares_written (codes "?1" ∷ []) 116 (shares_query p.table.tree s.table.tree) shares_names shares_parsed shares_read
+  select_shares_is = is_query schema select_shares shares_written (codes "?1" ∷ []) 121 (shares_query p.table.tree s.table.tree) shares_names shares_parsed shares_read

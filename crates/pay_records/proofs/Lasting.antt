@@ -20,19 +20,19 @@ use Rattle.pay_records.proofs.Placed.{each_both}
 use Rattle.pay_records.proofs.Standing.{not_first, not_rest, none_found}
 
 module _ {X : Type 0} (test : X → Bool) where
-  nowhere : (xs : List X) (from : ℕ) → position_from test from xs ≡ None → find test xs ≡ None
+  pub nowhere : (xs : List X) (from : ℕ) → position_from test from xs ≡ None → find test xs ≡ None
   nowhere [] from h = refl
   nowhere (x ∷ xs) from h = (elim (test x) as (λ b. cond b (Some from) (position_from test (from + 1) xs) ≡ None → cond b (Some x) (find test xs) ≡ None) [
     | true ↦ λ here. absurd (cc)
     | false ↦ λ later. nowhere xs (from + 1) later
   ]) h
 
-  each_fails : (xs : List X) → find test xs ≡ None → AllByRecursion (λ x. test x ≡ false) xs
+  pub each_fails : (xs : List X) → find test xs ≡ None → AllByRecursion (λ x. test x ≡ false) xs
   each_fails [] h = tt
   each_fails (x ∷ xs) h = (not_first test (test x) (find test xs) x h, each_fails xs (not_rest test (test x) (find test xs) x h))
 
   -- what passes another test that none of the first passes is found after them
-  found_after : (other : X → Bool) (xs ys : List X) (x : X) → find test (xs ++ ys) ≡ Some x → other x ≡ true → find other xs ≡ None → find test xs ≡ None
+  pub found_after : (other : X → Bool) (xs ys : List X) (x : X) → find test (xs ++ ys) ≡ Some x → other x ≡ true → find other xs ≡ None → find test xs ≡ None
   found_after other xs ys x is passes none = go (find test xs) refl
     where
       go : (o : Option X) → find test xs ≡ o → find test xs ≡ None
@@ -43,13 +43,13 @@ module _ {X : Type 0} (test : X → Bool) where
           let fails = subst (λ z. other z ≡ false) same (none_found other test xs y none e) in
           absurd (cc)
 
-all_front : {X : Type 0} (P : X → Type 0) (xs ys : List X) → AllByRecursion P (xs ++ ys) → AllByRecursion P xs
+pub all_front : {X : Type 0} (P : X → Type 0) (xs ys : List X) → AllByRecursion P (xs ++ ys) → AllByRecursion P xs
 all_front P [] ys h = tt
 all_front P (x ∷ xs) ys h = (h.0, all_front P xs ys h.1)
 
 -- ---- the tables that were there are the first
 
-abbrev Extends : Schema → Schema → Type 0
+abbrev pub Extends : Schema → Schema → Type 0
 Extends old new = (more : List Table) × (new.tables ≡ old.tables ++ more)
 
 extends_then : (a b c : Schema) → Extends a b → Extends b c → Extends a c
@@ -72,7 +72,7 @@ tables_extend (t ∷ tables) schema =
 rows_within : (old new : Schema) (a b : Trees) → Extends old new → KeepsRows new.tables a b → KeepsRows old.tables a b
 rows_within old new a b more unchanged = rows_fewer old.tables more.0 a b (subst (λ ts. KeepsRows ts a b) more.1 unchanged)
 
-extended : (old new : Database) (tables : List Table) → Grows old new tables → Extends old.schema new.schema
+pub extended : (old new : Database) (tables : List Table) → Grows old new tables → Extends old.schema new.schema
 extended old new tables grows = let it = tables_extend tables old.schema in (it.0, ap (λ (s : Schema). s.tables) grows.schema_is ∙ it.1)
 
 -- one after another

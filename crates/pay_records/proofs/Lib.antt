@@ -30,3 +30,6 @@ mod Unchanged
 mod Made
 mod Views
 mod Wholes
+mod Copying
+mod Copies
+mod Upgraded

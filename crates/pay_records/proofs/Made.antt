@@ -13,7 +13,7 @@ use Rattle.sqlite.specs.Rowids.TheVariants.{Chosen}
 use Rattle.sqlite.specs.Edit.{with_rowid}
 use Rattle.sqlite.specs.declared.types.Value.TheVariants.{Null, Text}
 use Rattle.pay_records.specs.Places.{Place, Places, HasTable, HasLedgerTables, IsCounter, refers_to, alike, trees_of}
-use Rattle.pay_records.specs.Free.{CountsBeside, AreThere, Stands, HasFirst, IsFree, tree_of, ledger_tables}
+use Rattle.pay_records.specs.Free.{CountsBeside, AreThere, Stands, HasFirst, IsFree, tree_of, ledger_tables, new_tables}
 use Rattle.pay_records.proofs.Growing.{found_still}
 use Rattle.pay_records.proofs.Lasting.{grows_then, grows_on, grown_alone, grown_counted}
 use Rattle.pay_records.proofs.Standing.{IsBeside, IsNext, all_unused, there, stands_with, counted_already, lacks_none, still, counted_later, needs_none, needs_one, stands_counted, found_named, low_at}
@@ -42,10 +42,10 @@ abbrev pub create_meta : List ℕ
 create_meta = codes "CREATE TABLE meta (name TEXT NOT NULL PRIMARY KEY, version INTEGER NOT NULL) STRICT"
 
 abbrev pub create_postings : List ℕ
-create_postings = codes "CREATE TABLE postings (id INTEGER PRIMARY KEY AUTOINCREMENT, account INTEGER NOT NULL, week INTEGER NOT NULL, through INTEGER NOT NULL, version INTEGER NOT NULL, due INTEGER NOT NULL, amount INTEGER NOT NULL, UNIQUE (account, week, through, version)) STRICT"
+create_postings = codes "CREATE TABLE postings2 (id INTEGER PRIMARY KEY AUTOINCREMENT, account INTEGER NOT NULL, week INTEGER NOT NULL, through INTEGER NOT NULL, version INTEGER NOT NULL, due INTEGER NOT NULL, amount INTEGER NOT NULL, edition INTEGER NOT NULL, UNIQUE (account, week, through, version)) STRICT"
 
 abbrev pub create_shares : List ℕ
-create_shares = codes "CREATE TABLE shares (posting INTEGER NOT NULL REFERENCES postings (id), operator INTEGER NOT NULL, amount INTEGER NOT NULL, PRIMARY KEY (posting, operator)) STRICT"
+create_shares = codes "CREATE TABLE shares2 (posting INTEGER NOT NULL REFERENCES postings2 (id), operator INTEGER NOT NULL, amount INTEGER NOT NULL, PRIMARY KEY (posting, operator)) STRICT"
 
 abbrev pub create_taps : List ℕ
 create_taps = codes "CREATE TABLE taps (account INTEGER NOT NULL, reader INTEGER NOT NULL, seq INTEGER NOT NULL, utc INTEGER NOT NULL, day INTEGER NOT NULL, second INTEGER NOT NULL, place INTEGER NOT NULL, kind INTEGER NOT NULL, PRIMARY KEY (account, reader, seq)) STRICT"
@@ -163,41 +163,72 @@ unfolding same_name
 fixes_next = record { uncomputed = refl; itself = refl; other = refl; unnamed = refl; beside = tt }
 
 -- shares refer to postings, and not to the table that counts
+shares_refer : (schema : Schema) (q : Place) → HasTable schema q postings → (c : Table) → (q.table.tree == c.tree) ≡ false → list_all (λ ref. not (refers_to (created schema shares) c.tree ref)) shares.references ≡ true
+shares_refer schema q has c other =
+    let found : find (λ t. same_name t.name (codes "postings2")) (created schema shares).tables ≡ Some (alike postings q.table) =
+    found_still (λ t. same_name t.name (codes "postings2")) schema.tables (record shares { tree = next_tree schema } ∷ []) (alike postings q.table) (found_named (λ t. same_name t.name (codes "postings2")) schema.tables q.at (alike postings q.table) has.named has.placed) in
+    and_from _ true (ap (λ o. not (unwrap_or (option_map (λ t. t.tree == c.tree) o) false)) found ∙ ap not other) refl
+
 shares_own : (schema : Schema) (db : Trees) (places : List Place) → AreThere schema db places (meta ∷ postings ∷ []) → (c : Table) → CountsBeside schema (map tree_of places) (Some c)
     → list_all (λ ref. not (refers_to (created schema shares) c.tree ref)) shares.references ≡ true
 shares_own schema db [] h c counts = absurd h
 shares_own schema db (p ∷ []) h c counts = absurd h.2
-shares_own schema db (p ∷ q ∷ []) h c counts =
-    let has = h.2.0 in
-    let found : find (λ t. same_name t.name (codes "postings")) (created schema shares).tables ≡ Some (alike postings q.table) =
-    found_still (λ t. same_name t.name (codes "postings")) schema.tables (record shares { tree = next_tree schema } ∷ []) (alike postings q.table) (found_named (λ t. same_name t.name (codes "postings")) schema.tables q.at (alike postings q.table) has.named has.placed) in
-    let other : (q.table.tree == c.tree) ≡ false = (or_parts (q.table.tree == c.tree) _ (or_parts (p.table.tree == c.tree) _ counts.0).1).0 in
-    and_from _ true (ap (λ o. not (unwrap_or (option_map (λ t. t.tree == c.tree) o) false)) found ∙ ap not other) refl
+shares_own schema db (p ∷ q ∷ []) h c counts = shares_refer schema q h.2.0 c (or_parts (q.table.tree == c.tree) _ (or_parts (p.table.tree == c.tree) _ counts.0).1).0
 shares_own schema db (p ∷ q ∷ r ∷ places) h c counts = absurd h.2.2
 
-makes_by : (old new : State) (first end : ℕ) → (HasFirst first old.now.schema old.now.trees → HasFirst end new.now.schema new.now.trees × Grows old.now new.now (between first end)) → GoesOn old new → Makes old new first end
-makes_by old new first end it on = record { tables = λ stands. (it stands).0; grows = λ stands. (it stands).1; on = on }
+-- and so they do where a ledger of version 1 gets them
+shares_added_own : (schema : Schema) (db : Trees) (places : List Place) → AreThere schema db places (postings ∷ []) → (c : Table) → CountsBeside schema (map tree_of places) (Some c)
+    → list_all (λ ref. not (refers_to (created schema shares) c.tree ref)) shares.references ≡ true
+shares_added_own schema db [] h c counts = absurd h
+shares_added_own schema db (q ∷ []) h c counts = shares_refer schema q h.0 c (or_parts (q.table.tree == c.tree) _ counts.0).0
+shares_added_own schema db (q ∷ r ∷ places) h c counts = absurd h.2
 
-pub meta_made : (old new : State) (r : Result ℕ Error) → ExecutesInside 0 create_meta [] old new r → IsTrue old.in_transaction → OnOk r (Makes old new 0 1)
+makes_by : (all : List Table) (old new : State) (first end : ℕ) → (HasFirst all first old.now.schema old.now.trees → HasFirst all end new.now.schema new.now.trees × Grows old.now new.now (between all first end)) → GoesOn old new
+    → Makes all old new first end
+makes_by all old new first end it on = record { tables = λ stands. (it stands).0; grows = λ stands. (it stands).1; on = on }
+
+pub meta_made : (old new : State) (r : Result ℕ Error) → ExecutesInside 0 create_meta [] old new r → IsTrue old.in_transaction → OnOk r (Makes ledger_tables old new 0 1)
 meta_made old new (Err e) h inside = tt
-meta_made old new (Ok count) h inside = makes_by old new 0 1 (λ stands. uncounted_made create_meta meta meta_defined [] (postings ∷ shares ∷ taps ∷ fixes ∷ []) meta_next old new count h.0 stands (λ c e. refl) refl) (went_on old new h.1 inside)
+meta_made old new (Ok count) h inside = makes_by ledger_tables old new 0 1 (λ stands. uncounted_made create_meta meta meta_defined [] (postings ∷ shares ∷ taps ∷ fixes ∷ []) meta_next old new count h.0 stands (λ c e. refl) refl) (went_on old new h.1 inside)
 
-pub postings_made : (old new : State) (r : Result ℕ Error) → ExecutesInside 0 create_postings [] old new r → IsTrue old.in_transaction → OnOk r (Makes old new 1 2)
+pub postings_made : (old new : State) (r : Result ℕ Error) → ExecutesInside 0 create_postings [] old new r → IsTrue old.in_transaction → OnOk r (Makes ledger_tables old new 1 2)
 postings_made old new (Err e) h inside = tt
-postings_made old new (Ok count) h inside = makes_by old new 1 2 (λ stands. counted_made create_postings postings postings_defined (meta ∷ []) (shares ∷ taps ∷ fixes ∷ []) postings_next old new count h.0 stands (λ c e. refl) refl counters_beside) (went_on old new h.1 inside)
+postings_made old new (Ok count) h inside = makes_by ledger_tables old new 1 2 (λ stands. counted_made create_postings postings postings_defined (meta ∷ []) (shares ∷ taps ∷ fixes ∷ []) postings_next old new count h.0 stands (λ c e. refl) refl counters_beside) (went_on old new h.1 inside)
 
-pub shares_made : (old new : State) (r : Result ℕ Error) → ExecutesInside 0 create_shares [] old new r → IsTrue old.in_transaction → OnOk r (Makes old new 2 3)
+pub shares_made : (old new : State) (r : Result ℕ Error) → ExecutesInside 0 create_shares [] old new r → IsTrue old.in_transaction → OnOk r (Makes ledger_tables old new 2 3)
 shares_made old new (Err e) h inside = tt
-shares_made old new (Ok count) h inside = makes_by old new 2 3 (λ stands. uncounted_made create_shares shares shares_defined (meta ∷ postings ∷ []) (taps ∷ fixes ∷ []) shares_next old new count h.0 stands
+shares_made old new (Ok count) h inside = makes_by ledger_tables old new 2 3 (λ stands. uncounted_made create_shares shares shares_defined (meta ∷ postings ∷ []) (taps ∷ fixes ∷ []) shares_next old new count h.0 stands
     (λ c e. shares_own old.now.schema old.now.trees stands.places stands.are c (subst (CountsBeside old.now.schema (map tree_of stands.places)) e stands.counter)) refl) (went_on old new h.1 inside)
 
-pub taps_made : (old new : State) (r : Result ℕ Error) → ExecutesInside 0 create_taps [] old new r → IsTrue old.in_transaction → OnOk r (Makes old new 3 4)
-taps_made old new (Err e) h inside = tt
-taps_made old new (Ok count) h inside = makes_by old new 3 4 (λ stands. uncounted_made create_taps taps taps_defined (meta ∷ postings ∷ shares ∷ []) (fixes ∷ []) taps_next old new count h.0 stands (λ c e. refl) refl) (went_on old new h.1 inside)
+-- the two that version 1 does not have, where it stands
+postings_added_next : IsNext postings (shares ∷ [])
+unfolding same_name
+postings_added_next = record { uncomputed = refl; itself = refl; other = refl; unnamed = refl; beside = ((refl, λ tree. refl), tt) }
 
-pub fixes_made : (old new : State) (r : Result ℕ Error) → ExecutesInside 0 create_fixes [] old new r → IsTrue old.in_transaction → OnOk r (Makes old new 4 5)
+counters_beside_shares : AllByRecursion (IsBeside sequence_table) (shares ∷ [])
+unfolding same_name
+counters_beside_shares = ((refl, λ tree. refl), tt)
+
+shares_added_next : IsNext shares []
+unfolding same_name
+shares_added_next = record { uncomputed = refl; itself = refl; other = refl; unnamed = refl; beside = tt }
+
+pub postings_added : (old new : State) (r : Result ℕ Error) → ExecutesInside 0 create_postings [] old new r → IsTrue old.in_transaction → OnOk r (Makes new_tables old new 0 1)
+postings_added old new (Err e) h inside = tt
+postings_added old new (Ok count) h inside = makes_by new_tables old new 0 1 (λ stands. counted_made create_postings postings postings_defined [] (shares ∷ []) postings_added_next old new count h.0 stands (λ c e. refl) refl counters_beside_shares) (went_on old new h.1 inside)
+
+pub shares_added : (old new : State) (r : Result ℕ Error) → ExecutesInside 0 create_shares [] old new r → IsTrue old.in_transaction → OnOk r (Makes new_tables old new 1 2)
+shares_added old new (Err e) h inside = tt
+shares_added old new (Ok count) h inside = makes_by new_tables old new 1 2 (λ stands. uncounted_made create_shares shares shares_defined (postings ∷ []) [] shares_added_next old new count h.0 stands
+    (λ c e. shares_added_own old.now.schema old.now.trees stands.places stands.are c (subst (CountsBeside old.now.schema (map tree_of stands.places)) e stands.counter)) refl) (went_on old new h.1 inside)
+
+pub taps_made : (old new : State) (r : Result ℕ Error) → ExecutesInside 0 create_taps [] old new r → IsTrue old.in_transaction → OnOk r (Makes ledger_tables old new 3 4)
+taps_made old new (Err e) h inside = tt
+taps_made old new (Ok count) h inside = makes_by ledger_tables old new 3 4 (λ stands. uncounted_made create_taps taps taps_defined (meta ∷ postings ∷ shares ∷ []) (fixes ∷ []) taps_next old new count h.0 stands (λ c e. refl) refl) (went_on old new h.1 inside)
+
+pub fixes_made : (old new : State) (r : Result ℕ Error) → ExecutesInside 0 create_fixes [] old new r → IsTrue old.in_transaction → OnOk r (Makes ledger_tables old new 4 5)
 fixes_made old new (Err e) h inside = tt
-fixes_made old new (Ok count) h inside = makes_by old new 4 5 (λ stands. uncounted_made create_fixes fixes fixes_defined (meta ∷ postings ∷ shares ∷ taps ∷ []) [] fixes_next old new count h.0 stands (λ c e. refl) refl) (went_on old new h.1 inside)
+fixes_made old new (Ok count) h inside = makes_by ledger_tables old new 4 5 (λ stands. uncounted_made create_fixes fixes fixes_defined (meta ∷ postings ∷ shares ∷ taps ∷ []) [] fixes_next old new count h.0 stands (λ c e. refl) refl) (went_on old new h.1 inside)
 
 -- all five are those of a ledger
 ledger_there : (schema : Schema) (db : Trees) (places : List Place) → AreThere schema db places ledger_tables → CountsBeside schema (map tree_of places) (sequence schema)
@@ -221,7 +252,7 @@ meta_source = Null ∷ meta_columns
 
 meta_row : (t : Table) (rows : List Row) → drop 1 (with_rowid Chosen rows (cast_row (alike meta t) meta_source)) ≡ meta_columns
 meta_row t rows =
-    let cast : cast_row (alike meta t) meta_source ≡ meta_source = ap₂ (λ x xs. x ∷ xs) cast_null (ap (λ x. Text (codes "farebox") ∷ x ∷ []) (cast_int (pos 1))) in
+    let cast : cast_row (alike meta t) meta_source ≡ meta_source = ap₂ (λ x xs. x ∷ xs) cast_null (ap (λ x. Text (codes "farebox") ∷ x ∷ []) (cast_int (pos 2))) in
     ap (λ r. drop 1 (with_rowid Chosen rows r)) cast
 
 only : (row : Row) (rows : List Row) → rows ≡ [] → put_row row rows ≡ row ∷ []
@@ -259,7 +290,7 @@ meta_beside old new count h p has = let it = row_added p meta insert_meta meta_t
 pub meta_added : (old new : State) (r : Result ℕ Error) → ExecutesInside 0 insert_meta [] old new r → IsTrue old.in_transaction → OnOk r (Begins old new)
 meta_added old new (Err e) h inside = tt
 meta_added old new (Ok count) h inside =
-    let ledger : HasFirst 5 old.now.schema old.now.trees → HoldsRows new.now no_rows = λ stands.
+    let ledger : HasFirst ledger_tables 5 old.now.schema old.now.trees → HoldsRows new.now no_rows = λ stands.
     let at = ledger_there old.now.schema old.now.trees stands.places stands.are stands.counter in
     let it = meta_added_in at.0 old new at.1 count at.2 h.0 in
     held_from old.now new.now no_rows at.0 at.1 it.0 it.1 in
@@ -269,27 +300,30 @@ meta_added old new (Ok count) h inside =
 pub on_then : (a b c : State) → GoesOn a b → GoesOn b c → GoesOn a c
 on_then a b c p q = record { before = p.before; after = q.after; was_open = p.was_open; is_open = q.is_open; committed = q.committed ∙ p.committed }
 
-makes_then : (a b c : State) (first second third : ℕ) → ((schema : Schema) → with_tables (between second third) (with_tables (between first second) schema) ≡ with_tables (between first third) schema)
-    → Makes a b first second → Makes b c second third → Makes a c first third
-makes_then a b c first second third joined p q = record {
+makes_then : (all : List Table) (a b c : State) (first second third : ℕ) → ((schema : Schema) → with_tables (between all second third) (with_tables (between all first second) schema) ≡ with_tables (between all first third) schema)
+    → Makes all a b first second → Makes all b c second third → Makes all a c first third
+makes_then all a b c first second third joined p q = record {
   tables = λ tables. q.tables (p.tables tables);
-  grows = λ tables. grows_then a.now b.now c.now (between first second) (between second third) (between first third) joined (p.grows tables) (q.grows (p.tables tables));
+  grows = λ tables. grows_then a.now b.now c.now (between all first second) (between all second third) (between all first third) joined (p.grows tables) (q.grows (p.tables tables));
   on = on_then a b c p.on q.on;
 }
 
-pub first_made : (a b c d : State) → Makes a b 0 1 → Makes b c 1 2 → Makes c d 2 3 → Makes a d 0 3
-first_made a b c d p q r = makes_then a c d 0 2 3 (λ schema. refl) (makes_then a b c 0 1 2 (λ schema. refl) p q) r
+pub first_made : (a b c d : State) → Makes ledger_tables a b 0 1 → Makes ledger_tables b c 1 2 → Makes ledger_tables c d 2 3 → Makes ledger_tables a d 0 3
+first_made a b c d p q r = makes_then ledger_tables a c d 0 2 3 (λ schema. refl) (makes_then ledger_tables a b c 0 1 2 (λ schema. refl) p q) r
 
-pub ledger_made : (a b c d e : State) → Makes a b 0 3 → Makes b c 3 4 → Makes c d 4 5 → Begins d e → MakesLedger a e
+pub new_made : (a b c : State) → Makes new_tables a b 0 1 → Makes new_tables b c 1 2 → Makes new_tables a c 0 2
+new_made a b c p q = makes_then new_tables a b c 0 1 2 (λ schema. refl) p q
+
+pub ledger_made : (a b c d e : State) → Makes ledger_tables a b 0 3 → Makes ledger_tables b c 3 4 → Makes ledger_tables c d 4 5 → Begins d e → MakesLedger a e
 unfolding same_name
 ledger_made a b c d e p q r s =
-    let all = makes_then a c d 0 4 5 (λ schema. refl) (makes_then a b c 0 3 4 (λ schema. refl) p q) r in
+    let all = makes_then ledger_tables a c d 0 4 5 (λ schema. refl) (makes_then ledger_tables a b c 0 3 4 (λ schema. refl) p q) r in
     let grows : IsFree a.now → Grows a.now e.now ledger_tables = λ free.
-    let stands = all.tables free in
+    let stands = all.tables free.ledger in
     let at = ledger_there d.now.schema d.now.trees stands.places stands.are stands.counter in
     let beside = s.beside at.0.meta at.1.has_meta in
-    grows_on a.now d.now e.now ledger_tables at.0.meta meta (all.grows free) free.unused.0.no_table refl at.1.has_meta beside.0 beside.1 in
-    record { ledger = λ free. s.ledger (all.tables free); grows = grows; on = on_then a d e all.on s.on }
+    grows_on a.now d.now e.now ledger_tables at.0.meta meta (all.grows free.ledger) free.ledger.unused.0.no_table refl at.1.has_meta beside.0 beside.1 in
+    record { ledger = λ free. s.ledger (all.tables free.ledger); grows = grows; on = on_then a d e all.on s.on }
 
 pub kept_then : (a b c : State) → KeepsCommit a b → KeepsCommit b c → KeepsCommit a c
 kept_then a b c p q = record { was_open = λ live. p.was_open (q.was_open live); committed = λ live. q.committed live ∙ p.committed (q.was_open live) }

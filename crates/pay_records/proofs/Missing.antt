@@ -1,5 +1,5 @@
 -- That none of the tables of a ledger is there, as the queries of presence tell it.
-use Rattle.std.proofs.Common.{◌≡◌, ℕ, true, List, [], ◌∷◌, map, codes, None, Ok, Err, refl}
+use Rattle.std.proofs.Common.{◌≡◌, ℕ, true, List, [], ◌∷◌, map, codes, None, Ok, Err, refl, ap, ap₂, ◌∙◌}
 use Rattle.sqlite_tied.specs.Compute.{everything}
 use Rattle.sqlite_ast.specs.declared.Core.{Core, out-Core}
 use Rattle.sqlite_ast.specs.declared.Select.{Select as Written}
@@ -17,10 +17,12 @@ use Rattle.sqlite_resolve.specs.Compile.{compiled, first, planned, timed, meanin
 use Rattle.sqlite_resolve.proofs.ProgramLemmas.{single_named}
 use Rattle.pay_records.specs.Free.{IsUnused, IsFree}
 use Rattle.pay_records.specs.Tables.{shares_columns, taps_columns, fixes_columns}
-use Rattle.pay_records.specs.Kinds.{is_there, tables_in}
+use Rattle.pay_records.specs.Kinds.{is_there, shared_in, first_in, second_in, tables_in}
+use Rattle.pay_records.specs.declared.kind.Presence.{Presence}
+use Rattle.pay_records.specs.declared.kind.Presences.{Presences}
 use Rattle.pay_records.specs.declared.kind.Presence.TheVariants.{Missing}
 use Rattle.pay_records.proofs.Selecting.{bare, source, source_is, core_of, core_is, select_is, no_limit, parsed_as}
-use Rattle.pay_records.proofs.Presences.{all_of, posting_names, meta_parsed, postings_parsed, shares_parsed, taps_parsed, fixes_parsed}
+use Rattle.pay_records.proofs.Presences.{all_of, posting_names, first_names, meta_parsed, first_postings_parsed, first_shares_parsed, postings_parsed, shares_parsed, taps_parsed, fixes_parsed}
 use Rattle.pay_records.proofs.Queries.{meta_names}
 
 module _ (schema : Schema) (name : Name) (unused : IsUnused schema name) (names : List Name) where
@@ -78,11 +80,19 @@ meta_unlisted : if_select (compiled listing_schema (codes "SELECT name, version 
 unfolding listing_schema everything
 meta_unlisted = refl
 
-postings_unlisted : if_select (compiled listing_schema (codes "SELECT id, account, week, through, version, due, amount FROM postings")) ≡ Err NoSuchTable
+first_postings_unlisted : if_select (compiled listing_schema (codes "SELECT id, account, week, through, version, due, amount FROM postings")) ≡ Err NoSuchTable
+unfolding listing_schema everything
+first_postings_unlisted = refl
+
+first_shares_unlisted : if_select (compiled listing_schema (codes "SELECT posting, operator, amount FROM shares")) ≡ Err NoSuchTable
+unfolding listing_schema everything
+first_shares_unlisted = refl
+
+postings_unlisted : if_select (compiled listing_schema (codes "SELECT id, account, week, through, version, due, amount, edition FROM postings2")) ≡ Err NoSuchTable
 unfolding listing_schema everything
 postings_unlisted = refl
 
-shares_unlisted : if_select (compiled listing_schema (codes "SELECT posting, operator, amount FROM shares")) ≡ Err NoSuchTable
+shares_unlisted : if_select (compiled listing_schema (codes "SELECT posting, operator, amount FROM shares2")) ≡ Err NoSuchTable
 unfolding listing_schema everything
 shares_unlisted = refl
 
@@ -94,14 +104,33 @@ fixes_unlisted : if_select (compiled listing_schema (codes "SELECT account, staf
 unfolding listing_schema everything
 fixes_unlisted = refl
 
-pub tables_missing : (db : Database) → IsFree db → tables_in db.schema ≡ Missing
+abbrev pub those : Presence → Presence → Presence → Presences
+those shared first second = record { shared = shared; first = first; second = second }
+
+pub second_missing : (schema : Schema) → IsUnused schema (codes "postings2") → IsUnused schema (codes "shares2") → second_in schema ≡ Missing
+second_missing schema postings shares = simp (
+  is_missing schema (codes "postings2") postings posting_names _ 79 postings_parsed postings_unlisted,
+  is_missing schema (codes "shares2") shares shares_columns _ 45 shares_parsed shares_unlisted,
+)
+
+first_missing : (schema : Schema) → IsUnused schema (codes "postings") → IsUnused schema (codes "shares") → first_in schema ≡ Missing
+first_missing schema postings shares = simp (
+  is_missing schema (codes "postings") postings first_names _ 69 first_postings_parsed first_postings_unlisted,
+  is_missing schema (codes "shares") shares shares_columns _ 44 first_shares_parsed first_shares_unlisted,
+)
+
+shared_missing : (schema : Schema) → IsUnused schema (codes "meta") → IsUnused schema (codes "taps") → IsUnused schema (codes "fixes") → shared_in schema ≡ Missing
+shared_missing schema meta taps fixes = simp (
+  is_missing schema (codes "meta") meta meta_names _ 30 meta_parsed meta_unlisted,
+  is_missing schema (codes "taps") taps taps_columns _ 68 taps_parsed taps_unlisted,
+  is_missing schema (codes "fixes") fixes fixes_columns _ 58 fixes_parsed fixes_unlisted,
+)
+
+pub tables_missing : (db : Database) → IsFree db → tables_in db.schema ≡ those Missing Missing Missing
 tables_missing db free =
     let schema = db.schema in
-    let u = free.unused in
-    simp (
-      is_missing schema (codes "meta") u.0 meta_names _ 30 meta_parsed meta_unlisted,
-      is_missing schema (codes "postings") u.1.0 posting_names _ 69 postings_parsed postings_unlisted,
-      is_missing schema (codes "shares") u.1.1.0 shares_columns _ 44 shares_parsed shares_unlisted,
-      is_missing schema (codes "taps") u.1.1.1.0 taps_columns _ 68 taps_parsed taps_unlisted,
-      is_missing schema (codes "fixes") u.1.1.1.1.0 fixes_columns _ 58 fixes_parsed fixes_unlisted,
-    )
+    let u = free.ledger.unused in
+    let shared = shared_missing schema u.0 u.1.1.1.0 u.1.1.1.1.0 in
+    let first = first_missing schema free.no_postings free.no_shares in
+    let second = second_missing schema u.1.0 u.1.1.0 in
+    ap (λ p. those p (first_in schema) (second_in schema)) shared ∙ ap₂ (those Missing) first second

@@ -16,6 +16,7 @@ use Rattle.sqlite.specs.Table.{Table}
 use Rattle.sqlite.specs.Effect.{Database}
 use Rattle.pay_records.specs.Places.{Place, Places, HasTable, HasLedgerTables, alike, refers_to, is_unreferred}
 use Rattle.pay_records.specs.Rows.{LedgerRows, HoldsRows, HoldsAt}
+use Rattle.pay_records.specs.FirstVersion.{HasFirstTables, IsUpgradable, HoldsFirstAt, HoldsFirst}
 
 pub each_at : {X : Type 0} (P : X → Type 0) (xs : List X) (i : ℕ) (x : X) → slice_get xs i ≡ Some x → AllByRecursion P xs → P x
 each_at P [] i x is all = absurd (let e = is in cc)
@@ -79,6 +80,10 @@ sets_off_nothing schema tree unreferred olds news = each schema.tables unreferre
 pub opened : (db : Database) (rows : LedgerRows) → HoldsRows db rows → (p : Places) × HasLedgerTables db.schema p × HoldsAt p db.trees rows
 unfolding HoldsRows
 opened db rows held = held
+
+pub opened_first : (db : Database) (rows : LedgerRows) → HoldsFirst db rows → (p : Places) × HasFirstTables db.schema p × IsUpgradable db.schema p × HoldsFirstAt p db.trees rows
+unfolding HoldsFirst
+opened_first db rows held = held
 
 -- where the schema stays, what stands at the places makes a ledger again
 pub held_from : (old new : Database) (rows : LedgerRows) (p : Places) → HasLedgerTables old.schema p → new.schema ≡ old.schema → HoldsAt p new.trees rows → HoldsRows new rows

@@ -101,18 +101,18 @@ posting_beside schema p old new c source written named it = record {
 
 -- what the statement does under any schema that has the tables
 posted : (schema : Schema) (p : Places) → HasLedgerTables schema p → (limit : Option ℕ) (db : Trees) (said : List ℕ) (tally : Tally) (new : Database) (account : ℤ) (row : PostingRow)
-    → Does limit the_mode (map Int (posting_numbers account row)) (record { schema = schema; trees = db }) said (Some returned) (Insert p.postings.at (Values posting_terms 8)) (Ok (tally, new))
+    → Does limit the_mode (map Int (posting_numbers account row)) (record { schema = schema; trees = db }) said (Some returned) (Insert p.postings.at (Values posting_terms 9)) (Ok (tally, new))
     → (id : ℤ) × (tally.shown ≡ (Int id ∷ []) ∷ []) × OthersStay (record { schema = schema; trees = db }) new p × ((l : LedgerRows) → HoldsAt p db l → HoldsAt p new.trees (with_posting id account row l))
 posted schema p has limit db said tally new account row does =
     let params = map Int (posting_numbers account row) in
     let table = alike postings p.postings.table in
     let tree = p.postings.table.tree in
     let done = went (rw has.has_postings.placed at does) in
-    let counter = counter_there schema table refl limit params (Values posting_terms 8) db done.0 done.1 in
+    let counter = counter_there schema table refl limit params (Values posting_terms 9) db done.0 done.1 in
     let c = counter.0 in
     let counts = subst (λ o. IfSome o (IsCounter schema p)) counter.1 has.counter in
     let beside = none_of (trees_of p) c.tree counts.0 in
-    let it = inserted_counted schema c (λ olds row. sets_off_nothing schema c.tree counts.1 olds (row ∷ [])) table p.postings.at has.has_postings.placed refl beside.1.0 counter.1 params refl posting_terms 8 (Null ∷ Null ∷ params) refl limit db done.0 done.1 in
+    let it = inserted_counted schema c (λ olds row. sets_off_nothing schema c.tree counts.1 olds (row ∷ [])) table p.postings.at has.has_postings.placed refl beside.1.0 counter.1 params refl posting_terms 9 (Null ∷ Null ∷ params) refl limit db done.0 done.1 in
     let beyond = posting_after schema p.postings.table c db done.0.trees account row done.0.rows it in
     let task = task_of limit schema table params in
     let end = concluded_showing task the_mode returned done.0 tally new done.2 in
@@ -157,7 +157,7 @@ module _ (old new : State) (inside : IsTrue old.in_transaction) where
       let schema = old.now.schema in
       let params = map Int (posting_numbers account row) in
       let known = insert_posting_is schema p.postings has.has_postings in
-      let w = shows_as insert_posting params old new returned (Insert p.postings.at (Values posting_terms 8)) known.0 known.1 known.2 shown h in
+      let w = shows_as insert_posting params old new returned (Insert p.postings.at (Values posting_terms 9)) known.0 known.1 known.2 shown h in
       let shows = w.1 in
       let it = posted schema p has old.step_limit old.now.trees (statement_of insert_posting (understood schema insert_posting)) shows.writes.tally new.now account row shows.writes.changed in
       let first : Some shown ≡ Some (Int it.0 ∷ []) = sym w.2 ∙ ap (λ rows. slice_get rows 0) (shows.shown ∙ it.1) in

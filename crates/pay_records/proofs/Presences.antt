@@ -13,9 +13,9 @@ use Rattle.sqlite_resolve.specs.Body.{tests}
 use Rattle.sqlite_resolve.specs.Order.{sorts}
 use Rattle.sqlite_resolve.specs.Select.{ungrouped}
 use Rattle.sqlite_resolve.specs.Compile.{first}
-use Rattle.pay_records.specs.Tables.{meta, postings, postings_columns, shares, shares_columns, taps, taps_columns, fixes, fixes_columns}
-use Rattle.pay_records.specs.Places.{Place, Places, HasTable, HasLedgerTables, alike}
-use Rattle.pay_records.specs.Kinds.{is_there, tables_in, presence_of}
+use Rattle.pay_records.specs.Tables.{meta, postings, postings_columns, first_postings, first_columns, shares, shares_columns, first_shares, taps, taps_columns, fixes, fixes_columns}
+use Rattle.pay_records.specs.Places.{Place, HasTable, alike}
+use Rattle.pay_records.specs.Kinds.{is_there, shared_in, first_in, second_in, presence_of}
 use Rattle.pay_records.specs.declared.kind.Presence.TheVariants.{There}
 use Rattle.pay_records.proofs.Selecting.{bare, source, select_of, parsed_as, understood_is, classes_are, outputs_in, draft, reads_one}
 use Rattle.pay_records.proofs.Resolving.{is_enough}
@@ -36,15 +36,26 @@ module _ (schema : Schema) (place : Place) (wanted : Table) (has : HasTable sche
 abbrev pub posting_names : List Name
 posting_names = codes "id" ∷ postings_columns
 
+abbrev pub first_names : List Name
+first_names = codes "id" ∷ first_columns
+
 pub meta_parsed : first (codes "SELECT name, version FROM meta") ≡ Ok (parsed_as (all_of meta_names (codes "meta")) [] 30)
 unfolding first everything
 meta_parsed = refl
 
-pub postings_parsed : first (codes "SELECT id, account, week, through, version, due, amount FROM postings") ≡ Ok (parsed_as (all_of posting_names (codes "postings")) [] 69)
+pub first_postings_parsed : first (codes "SELECT id, account, week, through, version, due, amount FROM postings") ≡ Ok (parsed_as (all_of first_names (codes "postings")) [] 69)
+unfolding first everything
+first_postings_parsed = refl
+
+pub first_shares_parsed : first (codes "SELECT posting, operator, amount FROM shares") ≡ Ok (parsed_as (all_of shares_columns (codes "shares")) [] 44)
+unfolding first everything
+first_shares_parsed = refl
+
+pub postings_parsed : first (codes "SELECT id, account, week, through, version, due, amount, edition FROM postings2") ≡ Ok (parsed_as (all_of posting_names (codes "postings2")) [] 79)
 unfolding first everything
 postings_parsed = refl
 
-pub shares_parsed : first (codes "SELECT posting, operator, amount FROM shares") ≡ Ok (parsed_as (all_of shares_columns (codes "shares")) [] 44)
+pub shares_parsed : first (codes "SELECT posting, operator, amount FROM shares2") ≡ Ok (parsed_as (all_of shares_columns (codes "shares2")) [] 45)
 unfolding first everything
 shares_parsed = refl
 
@@ -61,13 +72,21 @@ module _ (schema : Schema) (place : Place) where
   unfolding same_name ungrouped
   meta_there has = told_there schema place meta has meta_names _ refl refl (simp (ungrouped, classes_are schema place meta has)) _ 30 meta_parsed
 
-  postings_there : HasTable schema place postings → is_there schema (codes "SELECT id, account, week, through, version, due, amount FROM postings") ≡ There
+  first_postings_there : HasTable schema place first_postings → is_there schema (codes "SELECT id, account, week, through, version, due, amount FROM postings") ≡ There
   unfolding same_name ungrouped
-  postings_there has = told_there schema place postings has posting_names _ refl refl (simp (ungrouped, classes_are schema place postings has)) _ 69 postings_parsed
+  first_postings_there has = told_there schema place first_postings has first_names _ refl refl (simp (ungrouped, classes_are schema place first_postings has)) _ 69 first_postings_parsed
 
-  shares_there : HasTable schema place shares → is_there schema (codes "SELECT posting, operator, amount FROM shares") ≡ There
+  first_shares_there : HasTable schema place first_shares → is_there schema (codes "SELECT posting, operator, amount FROM shares") ≡ There
   unfolding same_name ungrouped
-  shares_there has = told_there schema place shares has shares_columns _ refl refl (simp (ungrouped, classes_are schema place shares has)) _ 44 shares_parsed
+  first_shares_there has = told_there schema place first_shares has shares_columns _ refl refl (simp (ungrouped, classes_are schema place first_shares has)) _ 44 first_shares_parsed
+
+  postings_there : HasTable schema place postings → is_there schema (codes "SELECT id, account, week, through, version, due, amount, edition FROM postings2") ≡ There
+  unfolding same_name ungrouped
+  postings_there has = told_there schema place postings has posting_names _ refl refl (simp (ungrouped, classes_are schema place postings has)) _ 79 postings_parsed
+
+  shares_there : HasTable schema place shares → is_there schema (codes "SELECT posting, operator, amount FROM shares2") ≡ There
+  unfolding same_name ungrouped
+  shares_there has = told_there schema place shares has shares_columns _ refl refl (simp (ungrouped, classes_are schema place shares has)) _ 45 shares_parsed
 
   taps_there : HasTable schema place taps → is_there schema (codes "SELECT account, reader, seq, utc, day, second, place, kind FROM taps") ≡ There
   unfolding same_name ungrouped
@@ -77,6 +96,11 @@ module _ (schema : Schema) (place : Place) where
   unfolding same_name ungrouped
   fixes_there has = told_there schema place fixes has fixes_columns _ refl refl (simp (ungrouped, classes_are schema place fixes has)) _ 58 fixes_parsed
 
-pub tables_there : (schema : Schema) (p : Places) → HasLedgerTables schema p → tables_in schema ≡ There
-tables_there schema p has =
-    simp (meta_there schema p.meta has.has_meta, postings_there schema p.postings has.has_postings, shares_there schema p.shares has.has_shares, taps_there schema p.taps has.has_taps, fixes_there schema p.fixes has.has_fixes)
+pub shared_there : (schema : Schema) (m t f : Place) → HasTable schema m meta → HasTable schema t taps → HasTable schema f fixes → shared_in schema ≡ There
+shared_there schema m t f has_meta has_taps has_fixes = simp (meta_there schema m has_meta, taps_there schema t has_taps, fixes_there schema f has_fixes)
+
+pub first_there : (schema : Schema) (p s : Place) → HasTable schema p first_postings → HasTable schema s first_shares → first_in schema ≡ There
+first_there schema p s has_postings has_shares = simp (first_postings_there schema p has_postings, first_shares_there schema s has_shares)
+
+pub second_there : (schema : Schema) (p s : Place) → HasTable schema p postings → HasTable schema s shares → second_in schema ≡ There
+second_there schema p s has_postings has_shares = simp (postings_there schema p has_postings, shares_there schema s has_shares)

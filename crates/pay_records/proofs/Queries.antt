@@ -145,12 +145,12 @@ module _ (schema : Schema) (place : Place) (has : HasTable schema place fixes) w
   select_fixes_is = is_query schema select_fixes fixes_written parameter 83 (fixes_query place.table.tree) fixes_names fixes_parsed fixes_read
 
 abbrev pub postings_names : List Name
-postings_names = codes "id" ∷ codes "week" ∷ codes "through" ∷ codes "version" ∷ codes "due" ∷ codes "amount" ∷ []
+postings_names = codes "id" ∷ codes "week" ∷ codes "through" ∷ codes "version" ∷ codes "due" ∷ codes "amount" ∷ codes "edition" ∷ []
 
 abbrev postings_written : Written
-postings_written = select_of (map bare postings_names) (source (codes "postings") None ∷ []) of_account (by_column (codes "id") ∷ [])
+postings_written = select_of (map bare postings_names) (source (codes "postings2") None ∷ []) of_account (by_column (codes "id") ∷ [])
 
-postings_parsed : first select_postings ≡ Ok (parsed_as postings_written parameter 91)
+postings_parsed : first select_postings ≡ Ok (parsed_as postings_written parameter 101)
 unfolding first everything
 postings_parsed = refl
 
@@ -160,9 +160,9 @@ module _ (schema : Schema) (place : Place) (has : HasTable schema place postings
 
   postings_read : read schema postings_written ≡ Ok (Select (record { lets = []; body = postings_query place.table.tree }) postings_names)
   unfolding ungrouped same_name chosen alone first_found
-  postings_read = reads_one schema place postings has postings_names _ refl refl of_account (by_column (codes "id") ∷ []) (is_given 2 ∷ []) by_rowid 99991 99990 _ _
-      (given_tests schema place postings has _ false (codes "account") 1 _ refl refl refl refl refl 99994 _ refl refl refl)
-      (column_sorts schema place postings has _ false (codes "id") 0 _ refl refl refl 99991 _ refl) postings_accepted
+  postings_read = reads_one schema place postings has postings_names _ refl refl of_account (by_column (codes "id") ∷ []) (is_given 2 ∷ []) by_rowid 99990 99989 _ _
+      (given_tests schema place postings has _ false (codes "account") 1 _ refl refl refl refl refl 99993 _ refl refl refl)
+      (column_sorts schema place postings has _ false (codes "id") 0 _ refl refl refl 99990 _ refl) postings_accepted
 
   pub select_postings_is : IsQuery schema select_postings (postings_query place.table.tree) postings_names
-  select_postings_is = is_query schema select_postings postings_written parameter 91 (postings_query place.table.tree) postings_names postings_parsed postings_read
+  select_postings_is = is_query schema select_postings postings_written parameter 101 (postings_query place.table.tree) postings_names postings_parsed postings_read

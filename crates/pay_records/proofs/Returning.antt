@@ -33,12 +33,12 @@ module _ (schema : Schema) (t : Table) where
   here = alike postings t
 
   abbrev seen : Context
-  seen = nested (with_given schema here 6) (given_level schema (codes "postings") (no_name ∷ id_name here ∷ [])) (given_level schema (codes "postings") [])
+  seen = nested (with_given schema here 7) (given_level schema (codes "postings2") (no_name ∷ id_name here ∷ [])) (given_level schema (codes "postings2") [])
 
-  found_there : slice_get (with_given schema here 6).tables (length schema.tables) ≡ Some (given here 6)
-  found_there = got_last schema.tables (given here 6)
+  found_there : slice_get (with_given schema here 7).tables (length schema.tables) ≡ Some (given here 7)
+  found_there = got_last schema.tables (given here 7)
 
-  number_is : (e : Expr) → out-Expr e ≡ Expr-F.Column None (codes "id") → lower seen e (fresh 1 max_budget) ≡ Ok (col 0 8, record (fresh 1 99999) { last = record { collation = Some Binary; is_written = false } })
+  number_is : (e : Expr) → out-Expr e ≡ Expr-F.Column None (codes "id") → lower seen e (fresh 1 max_budget) ≡ Ok (col 0 9, record (fresh 1 99999) { last = record { collation = Some Binary; is_written = false } })
   unfolding lower_to node spend begin opened column find in_level only hit is_among column_in same_name term_of column_at finish passes given
   number_is e is = simp (lower_to, node, spend, begin, opened, is, column, find, in_level, only, hit, is_among, column_in, found_there, term_of, column_at, passes)
 
@@ -46,10 +46,10 @@ module _ (schema : Schema) (t : Table) where
   unfolding heading declared find in_level only hit is_among column_in same_name given
   heading_is e is = simp (heading, is, find, in_level, only, hit, is_among, column_in, declared, found_there)
 
-  returned_is : (all : List Shown) (it : ShowsNumber all) → returned_in schema here 6 (it.one ∷ []) ≡ Ok (codes "id" ∷ [], NewValues (col 0 8 ∷ []))
+  returned_is : (all : List Shown) (it : ShowsNumber all) → returned_in schema here 7 (it.one ∷ []) ≡ Ok (codes "id" ∷ [], NewValues (col 0 9 ∷ []))
   unfolding returned_in outputs shown is_column is_all_of
   returned_is all it = simp (returned_in, is_all_of, outputs, shown, it.is_one, number_is it.number it.is_number, heading_is it.number it.is_number, is_column, it.is_number)
 
-pub shows_is : (schema : Schema) (place : Place) → HasTable schema place postings → (all : List Shown) → ShowsNumber all → shows schema 6 (codes "postings") all ≡ Ok (Some returned)
+pub shows_is : (schema : Schema) (place : Place) → HasTable schema place postings → (all : List Shown) → ShowsNumber all → shows schema 7 (codes "postings2") all ≡ Ok (Some returned)
 unfolding shows source_of values
 shows_is schema place has all it = simp (shows, it.alone, has.named, has.placed, returned_is schema place.table all it, source_of, values)

@@ -116,7 +116,7 @@ module _ (schema : Schema) (counters : Table) (still : (olds : List Row) (row : 
   each_same P db next same [] = tt
   each_same P db next same (t ∷ ts) = (λ _. ap (λ (d : Trees). d t.tree) same, each_same P db next same ts)
 
-  counts_leave : (limit : Option ℕ) (table : Table) (params : Row) (db next : Trees) (counter : Option Row) (top : ℤ) → sequence schema ≡ Some counters → Counts (task_of limit schema table params) db counter top (Ok next)
+  pub counts_leave : (limit : Option ℕ) (table : Table) (params : Row) (db next : Trees) (counter : Option Row) (top : ℤ) → sequence schema ≡ Some counters → Counts (task_of limit schema table params) db counter top (Ok next)
       → AllByRecursion (λ t. t.tree ≢ counters.tree → next t.tree ≡ db t.tree) schema.tables
   counts_leave limit table params db next counter top named h =
       let task = task_of limit schema table params in

@@ -59,10 +59,10 @@ module _ (old new : State) (given : Row) (rows held : List Row) where
       let h = postings_shown account old new held (shown_rows select_postings (Int account ∷ []) is) l holds in
       (told ∙ told_in_order posting_shown (λ r. (whole_in (column r 0), posting_at 1 r)) (λ (p : ℤ × ℤ × PostingRow). (p.0, p.2)) (λ x. refl) _ old new held h, h.unchanged)
 
-  pub postings_whole : (account : ℤ) → IsShown select_postings (Int account ∷ []) → (l : LedgerRows) → HoldsRows old.now l → AllByRecursion (λ r. IsWhole (column r 0) × AreWhole 1 5 r) held
+  pub postings_whole : (account : ℤ) → IsShown select_postings (Int account ∷ []) → (l : LedgerRows) → HoldsRows old.now l → AllByRecursion (λ r. IsWhole (column r 0) × AreWhole 1 6 r) held
   postings_whole account is l holds =
       let h = postings_shown account old new held (shown_rows select_postings (Int account ∷ []) is) l holds in
-      each_in_order posting_shown (λ r. IsWhole (column r 0) × AreWhole 1 5 r) (λ x. ((_, refl), ((_, refl), ((_, refl), ((_, refl), ((_, refl), ((_, refl), tt))))))) _ old new held h
+      each_in_order posting_shown (λ r. IsWhole (column r 0) × AreWhole 1 6 r) (λ x. ((_, refl), ((_, refl), ((_, refl), ((_, refl), ((_, refl), ((_, refl), ((_, refl), tt)))))))) _ old new held h
 
   pub shares_told : (account : ℤ) (list : List ShareRow) → IsShown select_shares (Int account ∷ []) → list ≡ map (share_at 0) held → Finds old new (λ l. IsPermutation (shares_of account l) list)
   shares_told account list is told l holds =

@@ -13,10 +13,10 @@ use Rattle.sqlite.proofs.Callers.{IsPlain, command_of}
 use Rattle.pay_records.proofs.Selects.{simple}
 
 abbrev pub select_postings : List ℕ
-select_postings = codes "SELECT id, week, through, version, due, amount FROM postings WHERE account = ?1 ORDER BY id"
+select_postings = codes "SELECT id, week, through, version, due, amount, edition FROM postings2 WHERE account = ?1 ORDER BY id"
 
 abbrev pub select_shares : List ℕ
-select_shares = codes "SELECT posting, operator, shares.amount FROM postings JOIN shares ON shares.posting = postings.id WHERE account = ?1"
+select_shares = codes "SELECT posting, operator, shares2.amount FROM postings2 JOIN shares2 ON shares2.posting = postings2.id WHERE account = ?1"
 
 abbrev pub select_taps : List ℕ
 select_taps = codes "SELECT reader, seq, utc, day, second, place, kind FROM taps WHERE account = ?1 ORDER BY rowid"
@@ -42,7 +42,7 @@ by_rowid = (col 1 0, record { collation = Binary; descending = false }) ∷ []
 
 -- over the tables of these trees
 abbrev pub postings_query : ℕ → Query
-postings_query tree = simple (inner tree end) (is_given 2 ∷ []) (col 1 0 ∷ col 1 3 ∷ col 1 4 ∷ col 1 5 ∷ col 1 6 ∷ col 1 7 ∷ []) by_rowid
+postings_query tree = simple (inner tree end) (is_given 2 ∷ []) (col 1 0 ∷ col 1 3 ∷ col 1 4 ∷ col 1 5 ∷ col 1 6 ∷ col 1 7 ∷ col 1 8 ∷ []) by_rowid
 
 abbrev pub shares_query : ℕ → ℕ → Query
 shares_query postings shares = simple (inner postings (inner shares end)) (op2 (Compare Eq Binary) (col 2 1) (col 1 0) ∷ is_given 2 ∷ []) (col 2 1 ∷ col 2 2 ∷ col 2 3 ∷ []) []

@@ -37,7 +37,7 @@ use Rattle.sqlite_resolve.specs.declared.state.Carried.{Carried}
 use Rattle.sqlite_resolve.specs.Lowering.{fresh, max_budget, nothing, take_slot, alone as alone_in, chosen}
 use Rattle.sqlite_resolve.specs.Scope.{Name, Context, only, hit, is_among, declared, alias_of, is_rowid, column_in}
 use Rattle.sqlite_resolve.specs.Terms.{number}
-use Rattle.sqlite_resolve.specs.Body.{body, bounds, result, outputs, outputs_from, matching, joins, tests, bound, table_in, join, shared, inner_join}
+use Rattle.sqlite_resolve.specs.Body.{body, bounds, result, outputs, outputs_from, shown as shown_one, matching, joins, tests, bound, table_in, join, shared, inner_join}
 use Rattle.sqlite_resolve.specs.Order.{keys, sorts}
 use Rattle.sqlite_resolve.specs.Expr.{lower, lower_to}
 use Rattle.sqlite_resolve.specs.Select.{inside, parts, having, assembled, ungrouped, named, paging, constant_or}
@@ -179,7 +179,7 @@ module _ (schema : Schema) (place : Place) (wanted : Table) (has : HasTable sche
   abbrev here : Table
   here = alike wanted place.table
 
-  abbrev there : Bound
+  abbrev pub there : Bound
   there = record { name = wanted.name; table = place.at; slot = 1; shared = [] }
 
   pub bounds_are : (budget : ℕ) → bounds schema (source wanted.name None ∷ []) (fresh 1 budget) ≡ Ok (there ∷ [], state 2 budget nothing)
@@ -191,7 +191,7 @@ module _ (schema : Schema) (place : Place) (wanted : Table) (has : HasTable sche
   only_is name k named = simp (only, hit, is_among, column_in_is schema place.at here has.placed there name k refl named)
 
   module _ (shown : List Output) (may_aggregate : Bool) where
-    abbrev scope : Context
+    abbrev pub scope : Context
     scope = inside schema (record { tables = there ∷ []; shown = shown }) may_aggregate
 
     resolves_here : (name : Name) (k : ℕ) (c : Column') → column_named here name ≡ Some k → slice_get here.columns k ≡ Some c → Resolves scope None name c.name (col 1 (place_of here k)) (declared here k c)
@@ -232,6 +232,11 @@ module _ (schema : Schema) (place : Place) (wanted : Table) (has : HasTable sche
         → outputs_from lower scope (there ∷ []) [] (map bare names) (state 2 budget last) ≡ Ok (one_by_one [] os, state 2 (left_after budget os) (last_of last os))
     row_is names os h budget last enough = outputs_are scope (there ∷ []) (map bare names) os (are_shown names os h) [] 2 budget last enough
 
+    -- and so they are after others
+    pub row_after : (done : List Output) (names : List Name) (os : List Output) → outputs_in here names ≡ Some os → (budget : ℕ) (last : Carried) → is_enough budget os ≡ true
+        → outputs_from lower scope (there ∷ []) done (map bare names) (state 2 budget last) ≡ Ok (one_by_one done os, state 2 (left_after budget os) (last_of last os))
+    row_after done names os h budget last enough = outputs_are scope (there ∷ []) (map bare names) os (are_shown names os h) done 2 budget last enough
+
     pub join_is : (budget : ℕ) (last : Carried) → joins lower scope (there ∷ []) (source wanted.name None ∷ []) (state 2 budget last) ≡ Ok (record { steps = Inner place.table.tree ∷ []; filter = [] }, state 2 budget last)
     unfolding joins join shared inner_join tests
     join_is budget last = simp (joins, source_is, join, has.placed, shared, inner_join, tests)
@@ -267,6 +272,41 @@ module _ (schema : Schema) (place : Place) (wanted : Table) (has : HasTable sche
 
   pub classes_are : table_classes schema [] place.table.tree ≡ Some (row_classes here)
   classes_are = simp (lt-leb (2 ^ 31) place.table.tree (ltb-true place.table.tree (2 ^ 31) has.stored), has.only)
+
+  -- ---- a query of all its rows, for whatever columns it shows
+
+  pub query_of_all : (ss : List Shown) (columns : List Output) (one : ℕ) (carried : Carried) (order : List Sort) (sorted : List (Term × Key)) (four : ℕ) (fourth : Carried)
+      → outputs_from lower (scope [] true) (there ∷ []) [] ss (state 2 100000 nothing) ≡ Ok (columns, state 2 one carried)
+      → sorts lower (scope columns false) columns order (state 2 one carried) ≡ Ok (sorted, state 2 four fourth)
+      → query schema (select_of ss (source wanted.name None ∷ []) None order)
+      ≡ Ok ((ungrouped (Inner place.table.tree ∷ []) [] columns false sorted no_limit (number 0), map (λ o. o.name) columns, map (λ o. o.carried.collation) columns), [])
+  unfolding tests
+  query_of_all ss columns one carried order sorted four fourth shows s =
+      let core = core_of ss (source wanted.name None ∷ []) None in
+      let all_named : are_named (out-Core core).from ≡ true = simp (core_is, source_is) in
+      let named_it = named_is schema core ss (source wanted.name None ∷ []) None (core_is _ _ _) order (there ∷ []) columns (record { steps = Inner place.table.tree ∷ []; filter = [] }) [] sorted 2 one one one four carried carried carried fourth
+      (bounds_are 100000) shows (join_is columns false one carried) refl s in
+      query_is schema (select_of ss (source wanted.name None ∷ []) None order) core order (select_is _ _ _ _)
+      (ungrouped (Inner place.table.tree ∷ []) [] columns false sorted no_limit (number 0), map (λ o. o.name) columns, map (λ o. o.carried.collation) columns) all_named named_it
+
+  -- of columns by their names
+  pub query_of_names : (names : List Name) (os : List Output) → outputs_in here names ≡ Some os → is_enough 100000 os ≡ true → (order : List Sort) (sorted : List (Term × Key)) (four : ℕ) (fourth : Carried)
+      → sorts lower (scope (one_by_one [] os) false) (one_by_one [] os) order (state 2 (left_after 100000 os) (last_of nothing os)) ≡ Ok (sorted, state 2 four fourth)
+      → query schema (select_of (map bare names) (source wanted.name None ∷ []) None order)
+      ≡ Ok ((ungrouped (Inner place.table.tree ∷ []) [] (one_by_one [] os) false sorted no_limit (number 0), map (λ o. o.name) (one_by_one [] os), map (λ o. o.carried.collation) (one_by_one [] os)), [])
+  query_of_names names os are enough order sorted four fourth s =
+      query_of_all (map bare names) (one_by_one [] os) (left_after 100000 os) (last_of nothing os) order sorted four fourth (row_is [] true names os are 100000 nothing enough) s
+
+  -- and of these after a value
+  pub query_after : (head : Shown) (first : Output) → ((cx : Context) → shown_one lower cx (there ∷ []) [] head (state 2 100000 nothing) ≡ Ok (first ∷ [], state 2 99999 nothing))
+      → (names : List Name) (os : List Output) → outputs_in here names ≡ Some os → is_enough 99999 os ≡ true → (order : List Sort) (sorted : List (Term × Key)) (four : ℕ) (fourth : Carried)
+      → sorts lower (scope (one_by_one (first ∷ []) os) false) (one_by_one (first ∷ []) os) order (state 2 (left_after 99999 os) (last_of nothing os)) ≡ Ok (sorted, state 2 four fourth)
+      → query schema (select_of (head ∷ map bare names) (source wanted.name None ∷ []) None order)
+      ≡ Ok ((ungrouped (Inner place.table.tree ∷ []) [] (one_by_one (first ∷ []) os) false sorted no_limit (number 0), map (λ o. o.name) (one_by_one (first ∷ []) os), map (λ o. o.carried.collation) (one_by_one (first ∷ []) os)), [])
+  query_after head first begins names os are enough order sorted four fourth s =
+      let shows : outputs_from lower (scope [] true) (there ∷ []) [] (head ∷ map bare names) (state 2 100000 nothing) ≡ Ok (one_by_one (first ∷ []) os, state 2 (left_after 99999 os) (last_of nothing os)) =
+      simp (begins (scope [] true)) (row_after [] true (first ∷ []) names os are 99999 nothing enough) in
+      query_of_all (head ∷ map bare names) (one_by_one (first ∷ []) os) (left_after 99999 os) (last_of nothing os) order sorted four fourth shows s
 
   -- ---- the whole, for names whose columns these are
 

@@ -97,7 +97,7 @@ other_number a b h = ne_eqb b a (λ same. eqb-false a b h (sym same))
 
 -- ---- the table that counts
 
-counter_at : (schema : Schema) (c : Table) → sequence schema ≡ Some c → (at : ℕ) × (table_named schema counter_name ≡ Some at) × (slice_get schema.tables at ≡ Some c)
+pub counter_at : (schema : Schema) (c : Table) → sequence schema ≡ Some c → (at : ℕ) × (table_named schema counter_name ≡ Some at) × (slice_get schema.tables at ≡ Some c)
 counter_at schema c h = go (table_named schema counter_name) refl h
   where
     go : (o : Option ℕ) → table_named schema counter_name ≡ o → option_and_then (slice_get schema.tables) o ≡ Some c → (at : ℕ) × (table_named schema counter_name ≡ Some at) × (slice_get schema.tables at ≡ Some c)

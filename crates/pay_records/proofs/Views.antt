@@ -15,6 +15,7 @@ neither a b first second = ap (λ c. c || b) first ∙ second
 
 pub free_has_no_view : (db : Database) → IsFree db → has_view db.schema ≡ false
 free_has_no_view db free =
-    let u = free.unused in
+    let u = free.ledger.unused in
     let no = unused_is_no_view db.schema in
-    neither _ _ (no _ u.0) (neither _ _ (no _ u.1.0) (neither _ _ (no _ u.1.1.0) (neither _ _ (no _ u.1.1.1.0) (no _ u.1.1.1.1.0))))
+    neither _ _ (neither _ _ (no _ u.0) (neither _ _ (no _ u.1.1.1.0) (no _ u.1.1.1.1.0)))
+    (neither _ _ (neither _ _ (no _ free.no_postings) (no _ free.no_shares)) (neither _ _ (no _ u.1.0) (no _ u.1.1.0)))

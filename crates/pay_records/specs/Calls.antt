@@ -7,7 +7,7 @@ use Rattle.sqlite.specs.Schema.{Schema}
 use Rattle.sqlite.specs.State.{State, HasCleanDisk, KeepsCommit, IsUnchanged, Survives}
 use Rattle.pay_records.specs.Free.{IsFree}
 use Rattle.pay_records.specs.Rows.{LedgerRows, HoldsRows}
-use Rattle.pay_records.specs.Found.{Finds}
+use Rattle.pay_records.specs.Found.{Finds, FindsFirst}
 use Rattle.pay_records.specs.Steps.{Changes}
 use Rattle.pay_records.specs.declared.fault.ReadFault.{ReadFault}
 use Rattle.pay_records.specs.declared.fault.ReadFault.TheVariants.{BadArchive}
@@ -81,6 +81,10 @@ module _ {S : Type 0} (store : Ghosts S) (old new : Held S) where
     -- where the database is a ledger, what is answered is so of its rows, and nothing changes
     abbrev pub FindsInRows : (LedgerRows → A → Type 0) → Type 0
     FindsInRows Found = Answers (λ old new it. Finds old new (λ rows. Found rows it))
+
+    -- and where it is a ledger of version 1, of the rows of that
+    abbrev pub FindsInFirst : (LedgerRows → A → Type 0) → Type 0
+    FindsInFirst Found = Answers (λ old new it. FindsFirst old new (λ rows. Found rows it))
 
     -- the rows of a ledger become others
     abbrev pub ChangesRows : (LedgerRows → LedgerRows) → Type 0

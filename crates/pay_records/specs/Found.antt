@@ -7,10 +7,15 @@ use Rattle.pay_rows.specs.declared.row.ShareRow.{ShareRow}
 use Rattle.pay_rows.specs.declared.row.TapRow.{TapRow}
 use Rattle.pay_rows.specs.declared.row.FixRow.{FixRow}
 use Rattle.pay_records.specs.Rows.{LedgerRows, HoldsRows}
+use Rattle.pay_records.specs.FirstVersion.{HoldsFirst}
 
 -- where the database is a ledger, this is so of its rows, and nothing changes
 abbrev pub Finds : State → State → (LedgerRows → Type 0) → Type 0
 Finds old new Found = (rows : LedgerRows) → HoldsRows old.now rows → Found rows × IsUnchanged old new
+
+-- where it is a ledger of version 1, this is so of its rows, and nothing changes
+abbrev pub FindsFirst : State → State → (LedgerRows → Type 0) → Type 0
+FindsFirst old new Found = (rows : LedgerRows) → HoldsFirst old.now rows → Found rows × IsUnchanged old new
 
 -- the postings of an account, each beside its number
 abbrev pub postings_of : ℤ → LedgerRows → List (ℤ × PostingRow)

@@ -2,6 +2,8 @@ pub mod Tables
 pub mod Places
 pub mod Rows
 pub mod Free
+pub mod FirstVersion
+pub mod Copied
 pub mod Steps
 pub mod Told
 pub mod Found

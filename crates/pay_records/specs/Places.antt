@@ -88,7 +88,7 @@ ledger_has = record {
 
 -- another's table, whose rows go with the posting that they refer to
 abbrev pub notes : Table
-notes = record (keyed (codes "notes") (codes "posting" ∷ []) [] (record { columns = 1 ∷ []; parent = codes "postings"; parent_columns = codes "id" ∷ []; on_delete = Cascade; on_update = NoAction; is_deferred = false } ∷ [])) {
+notes = record (keyed (codes "notes") (codes "posting" ∷ []) [] (record { columns = 1 ∷ []; parent = codes "postings2"; parent_columns = codes "id" ∷ []; on_delete = Cascade; on_update = NoAction; is_deferred = false } ∷ [])) {
   uniques = [];
   orders = [];
 }

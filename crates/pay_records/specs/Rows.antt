@@ -17,9 +17,12 @@ pub record LedgerRows : Type 0 where
   pub taps : List (ℤ × TapRow)
   pub fixes : List (ℤ × FixRow)
 
--- the columns of a table after its rowid
+-- the columns of a table after its rowid: those of `meta` by the version
+abbrev pub versioned : ℤ → Row
+versioned version = Text (codes "farebox") ∷ Int version ∷ []
+
 abbrev pub meta_columns : Row
-meta_columns = Text (codes "farebox") ∷ Int (pos 1) ∷ []
+meta_columns = versioned (pos 2)
 
 abbrev pub share_numbers : ShareRow → List ℤ
 share_numbers s = s.posting ∷ s.operator ∷ s.amount ∷ []
@@ -31,7 +34,7 @@ abbrev pub fix_numbers : ℤ × FixRow → List ℤ
 fix_numbers (account, f) = account ∷ f.staff ∷ f.seq ∷ f.what ∷ f.a ∷ f.b ∷ f.c ∷ f.d ∷ f.e ∷ []
 
 abbrev pub posting_numbers : ℤ → PostingRow → List ℤ
-posting_numbers account p = account ∷ p.week ∷ p.through ∷ p.version ∷ p.due ∷ p.amount ∷ []
+posting_numbers account p = account ∷ p.week ∷ p.through ∷ p.version ∷ p.due ∷ p.amount ∷ p.edition ∷ []
 
 -- the number of a posting is its rowid, and its column of that name is empty
 abbrev pub posting_row : ℤ × ℤ × PostingRow → Row

@@ -47,9 +47,9 @@ pub record Grows (old new : Database) (tables : List Table) : Type 0 where
   pub schema_is : new.schema ≡ with_tables tables old.schema
   pub rows : KeepsRows old.schema.tables old.trees new.trees
 
--- those of a ledger's tables from one number up to another
-abbrev pub between : ℕ → ℕ → List Table
-between before after = drop before (take after ledger_tables)
+-- those of the tables from one number up to another
+abbrev pub between : List Table → ℕ → ℕ → List Table
+between all before after = drop before (take after all)
 
 -- it changes the rows of a ledger so, and nothing beside them
 pub record Changes (old new : State) (change : LedgerRows → LedgerRows) : Type 0 where
@@ -57,15 +57,15 @@ pub record Changes (old new : State) (change : LedgerRows → LedgerRows) : Type
   pub others : KeepsOthers old.now new.now
   pub on : GoesOn old new
 
--- of the first tables of a ledger, so many, it makes more of them, and creates just those
-pub record Makes (old new : State) (before after : ℕ) : Type 0 where
-  pub tables : HasFirst before old.now.schema old.now.trees → HasFirst after new.now.schema new.now.trees
-  pub grows : HasFirst before old.now.schema old.now.trees → Grows old.now new.now (between before after)
+-- where so many of these tables are there it makes more of them, and creates just those
+pub record Makes (all : List Table) (old new : State) (before after : ℕ) : Type 0 where
+  pub tables : HasFirst all before old.now.schema old.now.trees → HasFirst all after new.now.schema new.now.trees
+  pub grows : HasFirst all before old.now.schema old.now.trees → Grows old.now new.now (between all before after)
   pub on : GoesOn old new
 
 -- of all five it makes a ledger without rows, and beside the rows of meta all stays
 pub record Begins (old new : State) : Type 0 where
-  pub ledger : HasFirst 5 old.now.schema old.now.trees → HoldsRows new.now no_rows
+  pub ledger : HasFirst ledger_tables 5 old.now.schema old.now.trees → HoldsRows new.now no_rows
   pub beside : (p : Place) → HasTable old.now.schema p meta → (new.now.schema ≡ old.now.schema) × AllByRecursion (λ t. t.tree ≢ p.table.tree → new.now.trees t.tree ≡ old.now.trees t.tree) old.now.schema.tables
   pub on : GoesOn old new
 

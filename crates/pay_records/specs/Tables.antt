@@ -1,4 +1,4 @@
--- The tables of the ledger as the database understands them.
+-- The tables of the ledger as the database understands them: version 2's, and those of version 1 that it has in the place of two of them.
 use Rattle.sqlite.specs.Collation.TheVariants.{Binary}
 use Rattle.std.specs.Prelude.{true, false, [], ◌∷◌, map, Some, None, codes, List, ℕ}
 use Rattle.sqlite.specs.declared.types.Value.TheVariants.{Null}
@@ -36,16 +36,27 @@ keyed name columns key references = record {
 abbrev pub meta : Table
 meta = record (keyed (codes "meta") [] (1 ∷ []) []) { columns = record (number (codes "name")) { kind = Text } ∷ number (codes "version") ∷ [] }
 
-abbrev pub postings_columns : List (List ℕ)
-postings_columns = codes "account" ∷ codes "week" ∷ codes "through" ∷ codes "version" ∷ codes "due" ∷ codes "amount" ∷ []
-
-abbrev pub postings : Table
-postings = record (keyed (codes "postings") [] (2 ∷ 3 ∷ 4 ∷ 5 ∷ []) []) {
-  columns = record (number (codes "id")) { not_null = false } ∷ map number postings_columns;
+-- Postings by a name, with these columns after the number. Of an account, a week, a day and a version there is one.
+abbrev pub posting_table : List ℕ → List (List ℕ) → Table
+posting_table name columns = record (keyed name [] (2 ∷ 3 ∷ 4 ∷ 5 ∷ []) []) {
+  columns = record (number (codes "id")) { not_null = false } ∷ map number columns;
   key = Some 0;
   primary = 0 ∷ [];
   is_counted = true;
 }
+
+abbrev pub postings_columns : List (List ℕ)
+postings_columns = codes "account" ∷ codes "week" ∷ codes "through" ∷ codes "version" ∷ codes "due" ∷ codes "amount" ∷ codes "edition" ∷ []
+
+abbrev pub postings : Table
+postings = posting_table (codes "postings2") postings_columns
+
+-- those of version 1, which have no edition
+abbrev pub first_columns : List (List ℕ)
+first_columns = codes "account" ∷ codes "week" ∷ codes "through" ∷ codes "version" ∷ codes "due" ∷ codes "amount" ∷ []
+
+abbrev pub first_postings : Table
+first_postings = posting_table (codes "postings") first_columns
 
 abbrev pub sequence_table : Table
 sequence_table = record (keyed (codes "sqlite_sequence") [] [] []) {
@@ -57,9 +68,17 @@ sequence_table = record (keyed (codes "sqlite_sequence") [] [] []) {
 abbrev pub shares_columns : List (List ℕ)
 shares_columns = codes "posting" ∷ codes "operator" ∷ codes "amount" ∷ []
 
+-- shares by a name, of the postings by another
+abbrev pub share_table : List ℕ → List ℕ → Table
+share_table name postings = keyed name shares_columns (1 ∷ 2 ∷ [])
+    (record { columns = 1 ∷ []; parent = postings; parent_columns = codes "id" ∷ []; on_delete = NoAction; on_update = NoAction; is_deferred = false } ∷ [])
+
 abbrev pub shares : Table
-shares = keyed (codes "shares") shares_columns (1 ∷ 2 ∷ [])
-    (record { columns = 1 ∷ []; parent = codes "postings"; parent_columns = codes "id" ∷ []; on_delete = NoAction; on_update = NoAction; is_deferred = false } ∷ [])
+shares = share_table (codes "shares2") (codes "postings2")
+
+-- those of version 1
+abbrev pub first_shares : Table
+first_shares = share_table (codes "shares") (codes "postings")
 
 abbrev pub taps_columns : List (List ℕ)
 taps_columns = codes "account" ∷ codes "reader" ∷ codes "seq" ∷ codes "utc" ∷ codes "day" ∷ codes "second" ∷ codes "place" ∷ codes "kind" ∷ []

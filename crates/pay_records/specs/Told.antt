@@ -38,6 +38,7 @@ posting_at from row = record {
   version = whole_in (column row (from + 2));
   due = whole_in (column row (from + 3));
   amount = whole_in (column row (from + 4));
+  edition = whole_in (column row (from + 5));
 }
 
 abbrev pub share_at : ℕ → Row → ShareRow

@@ -1,6 +1,7 @@
-//! The five tables of the ledger in a database: making them, adding rows and reading them.
+//! The five tables of the ledger in a database: making them, also of those of version 1, adding rows and reading them.
 #![tactic(auto)]
 
+mod copy;
 mod fault;
 mod kind;
 mod read;
@@ -8,6 +9,7 @@ mod tables;
 mod told;
 mod write;
 
+pub use copy::upgrade;
 pub use fault::ReadFault;
 pub use kind::{DatabaseKind, has_view, kind_of};
 pub use read::{all_fixes, all_taps, fixes_of, postings_of, shares_of, taps_of};

@@ -42,7 +42,7 @@ pub fn postings_of<S: Alter>(
 {
     let rows = query(
         tx,
-        "SELECT id, week, through, version, due, amount FROM postings WHERE account = ?1 ORDER BY id",
+        "SELECT id, week, through, version, due, amount, edition FROM postings2 WHERE account = ?1 ORDER BY id",
         params![account],
     )?;
     all_beside(alloc, &rows)
@@ -63,7 +63,7 @@ pub fn shares_of<S: Alter>(
 {
     let rows = query(
         tx,
-        "SELECT posting, operator, shares.amount FROM postings JOIN shares ON shares.posting = postings.id WHERE account = ?1",
+        "SELECT posting, operator, shares2.amount FROM postings2 JOIN shares2 ON shares2.posting = postings2.id WHERE account = ?1",
         params![account],
     )?;
     all(alloc, &rows)

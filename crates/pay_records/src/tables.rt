@@ -1,12 +1,13 @@
 ghost use Rattle.std.specs.Prelude.{◌≡◌};
 ghost use Rattle.pay_records.specs.Steps.{Makes, Begins, MakesLedger};
+ghost use Rattle.pay_records.specs.Free.{ledger_tables, new_tables};
 ghost use Rattle.pay_records.specs.Calls.{LeavesAsBefore, CommitsNothing, Does};
 
 use sqlite::{Alter, Error, Transaction};
 
 fn make_meta<S: Alter>(tx: &mut Transaction<'_, S>) -> Result<usize, Error>
     ensures same_reference { tx.new.conn.ghost_name ≡ tx.old.conn.ghost_name }
-    ensures made { Does S.Store tx.old.conn.now tx.new.conn.now result (λ old new. Makes old new 0 1) }
+    ensures made { Does S.Store tx.old.conn.now tx.new.conn.now result (λ old new. Makes ledger_tables old new 0 1) }
     ensures unchanged { CommitsNothing S.Store tx.old.conn.now tx.new.conn.now }
     ensures survives { LeavesAsBefore S.Store tx.old.conn.now tx.new.conn.now }
 {
@@ -16,33 +17,35 @@ fn make_meta<S: Alter>(tx: &mut Transaction<'_, S>) -> Result<usize, Error>
     )
 }
 
-fn make_postings<S: Alter>(tx: &mut Transaction<'_, S>) -> Result<usize, Error>
+pub(crate) fn make_postings<S: Alter>(tx: &mut Transaction<'_, S>) -> Result<usize, Error>
     ensures same_reference { tx.new.conn.ghost_name ≡ tx.old.conn.ghost_name }
-    ensures made { Does S.Store tx.old.conn.now tx.new.conn.now result (λ old new. Makes old new 1 2) }
+    ensures made { Does S.Store tx.old.conn.now tx.new.conn.now result (λ old new. Makes ledger_tables old new 1 2) }
+    ensures added { Does S.Store tx.old.conn.now tx.new.conn.now result (λ old new. Makes new_tables old new 0 1) }
     ensures unchanged { CommitsNothing S.Store tx.old.conn.now tx.new.conn.now }
     ensures survives { LeavesAsBefore S.Store tx.old.conn.now tx.new.conn.now }
 {
     tx.execute(
-        "CREATE TABLE postings (id INTEGER PRIMARY KEY AUTOINCREMENT, account INTEGER NOT NULL, week INTEGER NOT NULL, through INTEGER NOT NULL, version INTEGER NOT NULL, due INTEGER NOT NULL, amount INTEGER NOT NULL, UNIQUE (account, week, through, version)) STRICT",
+        "CREATE TABLE postings2 (id INTEGER PRIMARY KEY AUTOINCREMENT, account INTEGER NOT NULL, week INTEGER NOT NULL, through INTEGER NOT NULL, version INTEGER NOT NULL, due INTEGER NOT NULL, amount INTEGER NOT NULL, edition INTEGER NOT NULL, UNIQUE (account, week, through, version)) STRICT",
         &[],
     )
 }
 
-fn make_shares<S: Alter>(tx: &mut Transaction<'_, S>) -> Result<usize, Error>
+pub(crate) fn make_shares<S: Alter>(tx: &mut Transaction<'_, S>) -> Result<usize, Error>
     ensures same_reference { tx.new.conn.ghost_name ≡ tx.old.conn.ghost_name }
-    ensures made { Does S.Store tx.old.conn.now tx.new.conn.now result (λ old new. Makes old new 2 3) }
+    ensures made { Does S.Store tx.old.conn.now tx.new.conn.now result (λ old new. Makes ledger_tables old new 2 3) }
+    ensures added { Does S.Store tx.old.conn.now tx.new.conn.now result (λ old new. Makes new_tables old new 1 2) }
     ensures unchanged { CommitsNothing S.Store tx.old.conn.now tx.new.conn.now }
     ensures survives { LeavesAsBefore S.Store tx.old.conn.now tx.new.conn.now }
 {
     tx.execute(
-        "CREATE TABLE shares (posting INTEGER NOT NULL REFERENCES postings (id), operator INTEGER NOT NULL, amount INTEGER NOT NULL, PRIMARY KEY (posting, operator)) STRICT",
+        "CREATE TABLE shares2 (posting INTEGER NOT NULL REFERENCES postings2 (id), operator INTEGER NOT NULL, amount INTEGER NOT NULL, PRIMARY KEY (posting, operator)) STRICT",
         &[],
     )
 }
 
 fn make_taps<S: Alter>(tx: &mut Transaction<'_, S>) -> Result<usize, Error>
     ensures same_reference { tx.new.conn.ghost_name ≡ tx.old.conn.ghost_name }
-    ensures made { Does S.Store tx.old.conn.now tx.new.conn.now result (λ old new. Makes old new 3 4) }
+    ensures made { Does S.Store tx.old.conn.now tx.new.conn.now result (λ old new. Makes ledger_tables old new 3 4) }
     ensures unchanged { CommitsNothing S.Store tx.old.conn.now tx.new.conn.now }
     ensures survives { LeavesAsBefore S.Store tx.old.conn.now tx.new.conn.now }
 {
@@ -54,7 +57,7 @@ fn make_taps<S: Alter>(tx: &mut Transaction<'_, S>) -> Result<usize, Error>
 
 fn make_fixes<S: Alter>(tx: &mut Transaction<'_, S>) -> Result<usize, Error>
     ensures same_reference { tx.new.conn.ghost_name ≡ tx.old.conn.ghost_name }
-    ensures made { Does S.Store tx.old.conn.now tx.new.conn.now result (λ old new. Makes old new 4 5) }
+    ensures made { Does S.Store tx.old.conn.now tx.new.conn.now result (λ old new. Makes ledger_tables old new 4 5) }
     ensures unchanged { CommitsNothing S.Store tx.old.conn.now tx.new.conn.now }
     ensures survives { LeavesAsBefore S.Store tx.old.conn.now tx.new.conn.now }
 {
@@ -71,14 +74,14 @@ fn add_meta<S: Alter>(tx: &mut Transaction<'_, S>) -> Result<usize, Error>
     ensures survives { LeavesAsBefore S.Store tx.old.conn.now tx.new.conn.now }
 {
     tx.execute(
-        "INSERT INTO meta (name, version) VALUES ('farebox', 1)",
+        "INSERT INTO meta (name, version) VALUES ('farebox', 2)",
         &[],
     )
 }
 
 fn make_first<S: Alter>(tx: &mut Transaction<'_, S>) -> Result<(), Error>
     ensures same_reference { tx.new.conn.ghost_name ≡ tx.old.conn.ghost_name }
-    ensures made { Does S.Store tx.old.conn.now tx.new.conn.now result (λ old new. Makes old new 0 3) }
+    ensures made { Does S.Store tx.old.conn.now tx.new.conn.now result (λ old new. Makes ledger_tables old new 0 3) }
     ensures unchanged { CommitsNothing S.Store tx.old.conn.now tx.new.conn.now }
     ensures survives { LeavesAsBefore S.Store tx.old.conn.now tx.new.conn.now }
 {

@@ -37,11 +37,11 @@ pub(crate) trait Told: Sized {
         ensures bad { IfErr result (IsBadUnless (AreWhole from width row.now)) };
 }
 
-/// Week, through, version, due and amount.
+/// Week, through, version, due, amount and edition.
 impl Told for PostingRow {
     ghost use Rattle.pay_records.specs.Told.{posting_at};
 
-    ghost width = { 5 };
+    ghost width = { 6 };
 
     ghost told_at = { posting_at };
 
@@ -52,6 +52,7 @@ impl Told for PostingRow {
             version: whole(row, from + 2)?,
             due: whole(row, from + 3)?,
             amount: whole(row, from + 4)?,
+            edition: whole(row, from + 5)?,
         })
     }
 }

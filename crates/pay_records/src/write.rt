@@ -27,14 +27,15 @@ pub fn add_posting<S: Alter>(
     ensures survives { LeavesAsBefore S.Store tx.old.conn.now tx.new.conn.now }
 {
     let shown = tx.query_row(
-        "INSERT INTO postings (account, week, through, version, due, amount) VALUES (?1, ?2, ?3, ?4, ?5, ?6) RETURNING id",
+        "INSERT INTO postings2 (account, week, through, version, due, amount, edition) VALUES (?1, ?2, ?3, ?4, ?5, ?6, ?7) RETURNING id",
         params![
             account,
             row.week,
             row.through,
             row.version,
             row.due,
-            row.amount
+            row.amount,
+            row.edition
         ],
     )?;
     number_at(&shown, 0)
@@ -49,7 +50,7 @@ pub fn add_share<S: Alter>(tx: &mut Transaction<'_, S>, row: &ShareRow) -> Resul
     ensures survives { LeavesAsBefore S.Store tx.old.conn.now tx.new.conn.now }
 {
     tx.execute(
-        "INSERT INTO shares (posting, operator, amount) VALUES (?1, ?2, ?3)",
+        "INSERT INTO shares2 (posting, operator, amount) VALUES (?1, ?2, ?3)",
         params![row.posting, row.operator, row.amount],
     )
 }

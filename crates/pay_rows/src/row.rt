@@ -11,6 +11,8 @@ pub struct PostingRow {
     pub due: i64,
     /// What was charged, in pence: below 0 what was given back.
     pub amount: i64,
+    /// The first day of the fare edition of its week's Monday: 0 where the row was copied from version 1.
+    pub edition: i64,
 }
 
 /// What of a posting fell to an operator.

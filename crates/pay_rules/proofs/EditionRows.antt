@@ -19,7 +19,8 @@ use Rattle.pay_rules.specs.declared.shown.LineKind.TheVariants as kind
 use Rattle.pay_rules.specs.Journeys.{journeys_of}
 use Rattle.pay_rules.specs.Prices.{price_of_week, prices_of_touches}
 use Rattle.pay_rules.specs.Lines.{lines_on, lines_of_week}
-use Rattle.pay_rules.specs.Quotes.{weights_through}
+use Rattle.pay_rules.specs.Accepted.{Accepted}
+use Rattle.pay_rules.specs.Quotes.{quote, weights_through}
 
 abbrev single : ℕ → ℕ → ℕ → ℕ → Single
 single from to peak off = record { span = record { from = from; to = to }; peak = peak; off = off }
@@ -322,3 +323,12 @@ carried_over_the_change : Carries (touch 1 1_704_774_000 19_730 15_600 14 In ∷
     ∷ touch 3 1_704_775_799 19_731 17_399 10 In ∷ touch 4 1_704_776_400 19_731 18_000 11 Out ∷ touch 5 1_704_790_800 19_731 32_400 12 In ∷ [])
     19_731 (first_four 150 900 150 0)
 carried_over_the_change places s = simp (s.at_10, s.at_11, s.at_12, s.at_14)
+
+-- ---- the edition of a quote is that of its week's Monday
+
+-- of the week over the change it is that of the file's own keys, through whatever day
+edition_over_the_change : (account : ℕ) (accepted : Accepted) → (quote two account accepted 19_733).edition ≡ 4
+edition_over_the_change account accepted = refl
+
+edition_of_the_next_week : (account : ℕ) (accepted : Accepted) → (quote two account accepted 19_737).edition ≡ 19_731
+edition_of_the_next_week account accepted = refl

@@ -1,7 +1,7 @@
 -- What is owed of a week through one of its days, and what of it each operator gets.
 use Rattle.std.specs.Prelude.{ℕ, List, map}
 use Rattle.pay_day.specs.Words.{monday}
-use Rattle.pay_tables.specs.Words.{FareEditions}
+use Rattle.pay_tables.specs.Words.{FareEditions, first_day}
 use Rattle.pay_rules.specs.StandingCredits.{credits}
 use Rattle.pay_rules.specs.declared.journey.Journey.{Journey}
 use Rattle.pay_rules.specs.JourneyFares.{fare_by}
@@ -29,7 +29,7 @@ carried editions accepted through = weights_through editions (journeys_of editio
 abbrev pub due_through : FareEditions → Accepted → ℕ → ℕ
 due_through editions accepted through = due (price_of_week editions (journeys_of editions (touches accepted)) through) (credits accepted.fixes (monday through) through)
 
--- what is owed of a week through one of its days: its parts are shared among the operators by what each carried
+-- what is owed of a week through one of its days, by the edition of its Monday: its parts are shared among the operators by what each carried
 abbrev pub quote : FareEditions → ℕ → Accepted → ℕ → QuoteParts
 quote editions account accepted through = record {
   account = account;
@@ -37,5 +37,6 @@ quote editions account accepted through = record {
   through = through;
   version = version accepted;
   due = due_through editions accepted through;
+  edition = first_day editions (monday through);
   shares = shares (due_through editions accepted through) (carried editions accepted through);
 }

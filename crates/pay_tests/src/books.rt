@@ -149,12 +149,23 @@ fn boardings_and_a_ride<R: Abort + AllocGlobal, F: Fares>(rt: &R, editions: &Edi
     expect_tap(rt, &mut account, editions, entry, (3, 350), (4, 1_210));
     let exit = tap_at(rt, 5, 27_600, 12, Kind::Out);
     expect_tap(rt, &mut account, editions, exit, (4, 1_210), (4, 690));
+    corrections_of_a_ride(rt, &mut account, editions);
+}
+
+/// The touch in comes again, and is taken out; the late boarding likewise, and is let in again; and a touch in is filled in.
+fn corrections_of_a_ride<R: Abort + AllocGlobal, F: Fares>(
+    rt: &R,
+    account: &mut F,
+    editions: &Editions,
+)
+    requires { F.IsPricedBy editions.now account.old }
+{
     let again = tap_at(rt, 6, 27_000, 10, Kind::In);
     let filled = What::Fill(again.stamp, 10, Kind::In);
-    expect_tap(rt, &mut account, editions, again, (4, 690), (5, 1_550));
+    expect_tap(rt, account, editions, again, (4, 690), (5, 1_550));
     expect_fix(
         rt,
-        &mut account,
+        account,
         editions,
         1,
         What::Void(1, 6),
@@ -163,7 +174,7 @@ fn boardings_and_a_ride<R: Abort + AllocGlobal, F: Fares>(rt: &R, editions: &Edi
     );
     expect_fix(
         rt,
-        &mut account,
+        account,
         editions,
         2,
         What::Void(1, 3),
@@ -172,17 +183,17 @@ fn boardings_and_a_ride<R: Abort + AllocGlobal, F: Fares>(rt: &R, editions: &Edi
     );
     expect_fix(
         rt,
-        &mut account,
+        account,
         editions,
         3,
         What::Drop(3, 2),
         (3, 515),
         (4, 690),
     );
-    expect_fix(rt, &mut account, editions, 4, filled, (4, 690), (5, 1_550));
+    expect_fix(rt, account, editions, 4, filled, (4, 690), (5, 1_550));
     expect_fix(
         rt,
-        &mut account,
+        account,
         editions,
         5,
         What::Void(1, 5),

@@ -100,6 +100,38 @@ fn reads_holidays_and_interchanges(rt: HostRuntime) {
     assert!(rt; pair.is_between(12, 10) && !pair.is_between(10, 13));
 }
 
+/// A file of one zone, with other fares from a Tuesday on.
+const TWO_FARES: &str = "zones = 1
+minutes = [90]
+single = [{ from = 1, to = 1, peak = 280, off = 270 }]
+rules = { bus = 175, maximum = 860, hopper = 3600, same_free = 120, same_limit = 1800 }
+[[edition]]
+day = 19731
+minutes = [90]
+single = [{ from = 1, to = 1, peak = 290, off = 280 }]
+rules = { bus = 180, maximum = 900, hopper = 3600, same_free = 120, same_limit = 1800 }
+";
+
+#[test]
+fn reads_editions(rt: HostRuntime) {
+    let editions = read_editions(rt.alloc(), TWO_FARES).expect(&rt, "a file");
+    let first_days = [
+        editions.first_day(19_730),
+        editions.first_day(19_731),
+        editions.first_day(19_800),
+    ];
+    expect_same(
+        &rt,
+        (editions.items(), first_days),
+        (1, [4, 19_731, 19_731]),
+    );
+    let bus = [
+        editions.on(19_730).rules().bus,
+        editions.on(19_731).rules().bus,
+    ];
+    expect_same(&rt, bus, [Pence::new(175), Pence::new(180)]);
+}
+
 /// What comes of a fare file.
 fn fault_of(alloc: Global, text: &str) -> Option<FareFileFault> {
     read_editions(alloc, text).err()

@@ -15,6 +15,7 @@ const CHARGED: PostingRow = PostingRow {
     version: 1,
     due: 860,
     amount: 860,
+    edition: 4,
 };
 
 /// The second: 340 are due through the Wednesday.
@@ -24,6 +25,7 @@ const GIVEN_BACK: PostingRow = PostingRow {
     version: 2,
     due: 340,
     amount: -520,
+    edition: 4,
 };
 
 /// The two postings: of the first 593 are operator 1's and 267 operator 2's, and then all is operator 1's.
@@ -85,31 +87,37 @@ fn postings_there_and_back(rt: HostRuntime) {
     expect_same(&rt, back.as_slice(), postings.as_slice());
 }
 
-/// A row of a posting by its week, day, due and amount; the row of its share of operator 2, or what stands there; and
+/// A row of a posting by its week, day, due, amount and edition; the row of its share of operator 2, or what stands there; and
 /// how many postings are read of them.
 type Case = (
-    (i64, i64, i64, i64),
+    (i64, i64, i64, i64, i64),
     (i64, i64, i64),
     Result<usize, PostFault>,
 );
 
 const BAD: Result<usize, PostFault> = Err(PostFault::BadArchive);
 
-static CASES: [Case; 10] = [
-    ((19_730, 19_731, 860, 860), (11, 2, 267), Ok(1)),
+static CASES: [Case; 15] = [
+    ((19_730, 19_731, 860, 860, 4), (11, 2, 267), Ok(1)),
     // Operators 17 and 0, and the share of another posting.
-    ((19_730, 19_731, 860, 860), (11, 17, 267), BAD),
-    ((19_730, 19_731, 860, 860), (11, 0, 267), BAD),
-    ((19_730, 19_731, 860, 860), (12, 2, 267), BAD),
+    ((19_730, 19_731, 860, 860, 4), (11, 17, 267), BAD),
+    ((19_730, 19_731, 860, 860, 4), (11, 0, 267), BAD),
+    ((19_730, 19_731, 860, 860, 4), (12, 2, 267), BAD),
     // Too much, either way.
-    ((19_730, 19_731, 860, 4_000_000_001), (11, 2, 267), BAD),
-    ((19_730, 19_731, 860, -4_000_000_001), (11, 2, 267), BAD),
-    ((19_730, 19_731, 860, 860), (11, 2, 4_000_000_001), BAD),
+    ((19_730, 19_731, 860, 4_000_000_001, 4), (11, 2, 267), BAD),
+    ((19_730, 19_731, 860, -4_000_000_001, 4), (11, 2, 267), BAD),
+    ((19_730, 19_731, 860, 860, 4), (11, 2, 4_000_000_001), BAD),
     // No sum of the shares.
-    ((19_730, 19_731, 861, 860), (11, 2, 267), BAD),
+    ((19_730, 19_731, 861, 860, 4), (11, 2, 267), BAD),
     // The last service day and the day after it, both of the week of day 49,998.
-    ((49_998, 50_000, 860, 860), (11, 2, 267), Ok(1)),
-    ((49_998, 50_001, 860, 860), (11, 2, 267), BAD),
+    ((49_998, 50_000, 860, 860, 4), (11, 2, 267), Ok(1)),
+    ((49_998, 50_001, 860, 860, 4), (11, 2, 267), BAD),
+    // What was copied names no edition; the first day of one is a service day.
+    ((19_730, 19_731, 860, 860, 0), (11, 2, 267), Ok(1)),
+    ((19_730, 19_731, 860, 860, 50_000), (11, 2, 267), Ok(1)),
+    ((19_730, 19_731, 860, 860, 3), (11, 2, 267), BAD),
+    ((19_730, 19_731, 860, 860, 50_001), (11, 2, 267), BAD),
+    ((19_730, 19_731, 860, 860, -1), (11, 2, 267), BAD),
 ];
 
 /// Reads the row of a case, beside 593 for operator 1.
@@ -120,6 +128,7 @@ fn expect_read<R: Abort + AllocGlobal>(rt: &R, case: &Case) {
         version: 1,
         due: case.0.2,
         amount: case.0.3,
+        edition: case.0.4,
     };
     let share = ShareRow {
         posting: case.1.0,

@@ -19,10 +19,16 @@ type Charged = (i64, i64, i64);
 /// What posting it gives, and then how many postings there are, and what they come to for its account and week.
 type Outcome = (Result<Charged, PostFault>, usize, i64);
 
-/// A quote of these numbers.
-pub fn quote<R: Abort>(rt: &R, of: Named, due: Due) -> Quote {
+/// A quote of these numbers, by the edition that begins on this day.
+fn quote_by<R: Abort>(rt: &R, edition: u32, of: Named, due: Due) -> Quote {
     let shares = first_four(due.1, due.2, 0, 0);
-    Quote::rebuilt(of.0, of.1, of.2, of.3, Pence::new(due.0), shares).expect(rt, "a quote")
+    let pence = Pence::new(due.0);
+    Quote::rebuilt(of.0, of.1, of.2, of.3, pence, edition, shares).expect(rt, "a quote")
+}
+
+/// A quote of these numbers, by the edition of a file's own keys.
+pub fn quote<R: Abort>(rt: &R, of: Named, due: Due) -> Quote {
+    quote_by(rt, 4, of, due)
 }
 
 /// Posts a quote, and asks again if memory runs out once.
@@ -38,9 +44,14 @@ fn charged(postings: &mut Posted, quote: &Quote) -> Result<Charged, PostFault> {
     ))
 }
 
-/// Posts the quote of a row, and compares what comes of it.
-fn expect_posted<R: Abort>(rt: &R, postings: &mut Posted, row: &(Named, Due, Outcome)) {
-    let given = charged(postings, &quote(rt, row.0, row.1));
+/// Posts the quote of a row by an edition, and compares what comes of it.
+fn expect_posted<R: Abort>(
+    rt: &R,
+    postings: &mut Posted,
+    edition: u32,
+    row: &(Named, Due, Outcome),
+) {
+    let given = charged(postings, &quote_by(rt, edition, row.0, row.1));
     let net = postings.net(row.0.0, row.0.1);
     expect_same(rt, (given, postings.as_slice().len(), net), row.2);
 }
@@ -121,9 +132,87 @@ static ROWS: [(Named, Due, Outcome); 11] = [
 fn posts_quotes(rt: HostRuntime) {
     let mut postings = Posted::new(rt.alloc());
     for row in &ROWS {
-        expect_posted(&rt, &mut postings, row);
+        expect_posted(&rt, &mut postings, 4, row);
     }
     expect_same(&rt, postings.shares(7, MONDAY), first_four(40, 300, 0, 0));
     expect_same(&rt, postings.shares(9, MONDAY), first_four(0, 0, 0, 0));
     expect_same(&rt, postings.into_postings().as_slice().len(), 6);
+}
+
+/// Quotes of account 7 for the Monday in the order in which they are posted: the first day of the edition of each, 0 where it was
+/// copied.
+static BY_EDITION: [(u32, (Named, Due, Outcome)); 7] = [
+    // Charged and given back by version 1 of the ledger.
+    (
+        0,
+        (
+            (7, MONDAY, MONDAY, 1),
+            (860, 860, 0),
+            (Ok((860, 860, 0)), 1, 860),
+        ),
+    ),
+    (
+        0,
+        (
+            (7, MONDAY, MONDAY, 2),
+            (340, 340, 0),
+            (Ok((-520, -520, 0)), 2, 340),
+        ),
+    ),
+    // The same again by an edition, and with another due.
+    (
+        4,
+        (
+            (7, MONDAY, MONDAY, 2),
+            (340, 340, 0),
+            (Ok((-520, -520, 0)), 2, 340),
+        ),
+    ),
+    (
+        4,
+        (
+            (7, MONDAY, MONDAY, 2),
+            (341, 341, 0),
+            (Err(PostFault::QuoteDiffers), 2, 340),
+        ),
+    ),
+    // A Credit of 40; then the same by another edition, and once more as it was.
+    (
+        4,
+        (
+            (7, MONDAY, MONDAY, 3),
+            (300, 300, 0),
+            (Ok((-40, -40, 0)), 3, 300),
+        ),
+    ),
+    (
+        19_731,
+        (
+            (7, MONDAY, MONDAY, 3),
+            (300, 300, 0),
+            (Err(PostFault::QuoteDiffers), 3, 300),
+        ),
+    ),
+    (
+        4,
+        (
+            (7, MONDAY, MONDAY, 3),
+            (300, 300, 0),
+            (Ok((-40, -40, 0)), 3, 300),
+        ),
+    ),
+];
+
+#[test]
+fn posts_by_edition(rt: HostRuntime) {
+    let mut postings = Posted::new(rt.alloc());
+    for (edition, row) in &BY_EDITION {
+        expect_posted(&rt, &mut postings, *edition, row);
+    }
+    let mut editions = [1; 3];
+    for place in 0..3 {
+        let posting = postings.as_slice().get(place).expect(&rt, "a posting");
+        editions[place] = posting.quote.edition();
+    }
+    expect_same(&rt, editions, [0, 0, 4]);
 }

@@ -110,6 +110,7 @@ fn expect_due<R: Abort + AllocGlobal, F: Fares>(rt: &R, editions: &Editions) {
         (7, MONDAY, MONDAY),
     );
     expect_same(rt, (quote.version(), quote.due()), (6, Pence::new(890)));
+    expect_same(rt, quote.edition(), 4);
     expect_same(rt, *quote.shares(), first_four(593, 297, 0, 0));
 }
 
@@ -168,7 +169,14 @@ fn is_rebuilt(
     due: u64,
     shares: [u64; OPERATORS],
 ) -> bool {
-    Quote::rebuilt(account, MONDAY, through, version, Pence::new(due), shares).is_some()
+    let pence = Pence::new(due);
+    Quote::rebuilt(account, MONDAY, through, version, pence, 4, shares).is_some()
+}
+
+/// Whether they do with this first day of an edition.
+fn is_rebuilt_by(edition: u32) -> bool {
+    let shared = first_four(593, 297, 0, 0);
+    Quote::rebuilt(7, MONDAY, MONDAY, 6, Pence::new(890), edition, shared).is_some()
 }
 
 #[test]
@@ -193,4 +201,16 @@ fn rebuilds_quotes(rt: HostRuntime) {
         found,
         [true, true, false, false, false, false, false, false, false],
     );
+}
+
+#[test]
+fn rebuilds_by_edition(rt: HostRuntime) {
+    let found = [
+        is_rebuilt_by(0),
+        is_rebuilt_by(4),
+        is_rebuilt_by(50_000),
+        is_rebuilt_by(3),
+        is_rebuilt_by(50_001),
+    ];
+    expect_same(&rt, found, [true, true, true, false, false]);
 }

@@ -3,7 +3,8 @@ use Rattle.sqlite.specs.State.{HasCleanDisk, Survives}
 use Rattle.sqlite.specs.Held.{state}
 use Rattle.sqlite.proofs.StateLemmas.{survives_then}
 use Rattle.sqlite.proofs.Callers.{survives_begin}
-use Rattle.pay_ledger.specs.Opening.{BlankJustGrows, MayLeaveOpened}
+use Rattle.pay_ledger.specs.Opening.{BlankJustGrows, IsOpened, MayLeaveOpened}
+use Rattle.pay_ledger.proofs.Readied.{opened_of}
 use Rattle.pay_ledger.proofs.opening.prepare_tables.Goals as goal
 
 pub returns-in_err-commit-clause-survives : goal.returns-in_err-commit-clause-survives
@@ -15,9 +16,10 @@ returns-in_err-commit-clause-survives g c =
     let ledger = λ (clean : HasCleanDisk (state g.S.Store last)). rw begun at ((c.in_ok-ready.ensures.readied clean).ledger) in
     let blank = λ (clean : HasCleanDisk (state g.S.Store last)). rw begun at ((c.in_ok-ready.ensures.readied clean).blank) in
     let grows = λ (clean : HasCleanDisk (state g.S.Store last)). rw begun at ((c.in_ok-ready.ensures.readied clean).grows) in
+    let copied = λ (clean : HasCleanDisk (state g.S.Store last)). rw begun at ((c.in_ok-ready.ensures.readied clean).copied) in
     let inside = c.in_ok-ready.ensures.step.goes_on.stays.survives in
     let whole = survives_then (state g.S.Store old) (state g.S.Store last) (state g.S.Store c.commit.new.self.0) _ _ P (λ _ db none. absurd none)
-    (λ clean db is. ((state g.S.Store last).now, is, ledger (omega (arith, c.commit.ensures.survives.clean)), blank (omega (arith, c.commit.ensures.survives.clean)), grows (omega (arith, c.commit.ensures.survives.clean))))
+    (λ clean db is. ((state g.S.Store last).now, is, ledger (omega (arith, c.commit.ensures.survives.clean)), blank (omega (arith, c.commit.ensures.survives.clean)), grows (omega (arith, c.commit.ensures.survives.clean)), copied (omega (arith, c.commit.ensures.survives.clean))))
     (survives_begin g.S.Store old (state g.S.Store last) _ (rw begun at inside)) c.commit.ensures.survives in
     let same : c.commit.new.self.0 ≡ c.conn-2-1.given.0 = search rules in
     subst (λ h. Survives (state g.S.Store old) (state g.S.Store h) P) same whole
@@ -31,9 +33,10 @@ returns-clause-survives g c =
     let ledger = λ (clean : HasCleanDisk (state g.S.Store last)). rw begun at ((c.in_ok-ready.ensures.readied clean).ledger) in
     let blank = λ (clean : HasCleanDisk (state g.S.Store last)). rw begun at ((c.in_ok-ready.ensures.readied clean).blank) in
     let grows = λ (clean : HasCleanDisk (state g.S.Store last)). rw begun at ((c.in_ok-ready.ensures.readied clean).grows) in
+    let copied = λ (clean : HasCleanDisk (state g.S.Store last)). rw begun at ((c.in_ok-ready.ensures.readied clean).copied) in
     let inside = c.in_ok-ready.ensures.step.goes_on.stays.survives in
     let whole = survives_then (state g.S.Store old) (state g.S.Store last) (state g.S.Store c.commit.new.self.0) _ _ P (λ _ db none. absurd none)
-    (λ clean db is. ((state g.S.Store last).now, is, ledger (omega (arith, c.commit.ensures.survives.clean)), blank (omega (arith, c.commit.ensures.survives.clean)), grows (omega (arith, c.commit.ensures.survives.clean))))
+    (λ clean db is. ((state g.S.Store last).now, is, ledger (omega (arith, c.commit.ensures.survives.clean)), blank (omega (arith, c.commit.ensures.survives.clean)), grows (omega (arith, c.commit.ensures.survives.clean)), copied (omega (arith, c.commit.ensures.survives.clean))))
     (survives_begin g.S.Store old (state g.S.Store last) _ (rw begun at inside)) c.commit.ensures.survives in
     let same : c.commit.new.self.0 ≡ c.conn-2-1.given.0 = search rules in
     subst (λ h. Survives (state g.S.Store old) (state g.S.Store h) P) same whole
@@ -49,3 +52,14 @@ returns-clause-grows g c =
     subst (BlankJustGrows (state g.S.Store old).now) (sym done.1.now_is) (grows (omega (arith, clean, c.commit.ensures.survives.clean))) in
     let same : c.commit.new.self.0 ≡ c.conn-2-1.given.0 = search rules in
     subst (λ h. HasCleanDisk (state g.S.Store h) → BlankJustGrows (state g.S.Store old).now (state g.S.Store h).now) same whole
+
+pub returns-clause-opened : goal.returns-clause-opened
+returns-clause-opened g c =
+    let old = c.args.conn.now in
+    let last = c.ready.new.tx.conn.now in
+    let begun = c.transaction-tx.ensures.begun in
+    let readied = λ (clean : HasCleanDisk (state g.S.Store last)). rw begun at (c.in_ok-ready.ensures.readied clean) in
+    let whole : HasCleanDisk (state g.S.Store c.commit.new.self.0) → IsOpened (state g.S.Store old) (state g.S.Store c.commit.new.self.0) = λ clean.
+    opened_of (state g.S.Store old) (state g.S.Store last) (state g.S.Store c.commit.new.self.0) (readied (omega (arith, clean, c.commit.ensures.survives.clean))) (c.in_ok-commit.ensures.ok clean).1 in
+    let same : c.commit.new.self.0 ≡ c.conn-2-1.given.0 = search rules in
+    subst (λ h. HasCleanDisk (state g.S.Store h) → IsOpened (state g.S.Store old) (state g.S.Store h)) same whole

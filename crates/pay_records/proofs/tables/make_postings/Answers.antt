@@ -3,7 +3,7 @@ use Rattle.std.proofs.lemmas.Bool.{cases_Bool}
 use Rattle.sqlite.specs.Held.{state}
 use Rattle.sqlite.specs.State.{KeepsCommit}
 use Rattle.pay_records.proofs.Unchanged.{kept_inside, kept_same}
-use Rattle.pay_records.proofs.Made.{postings_made}
+use Rattle.pay_records.proofs.Made.{postings_made, postings_added}
 use Rattle.pay_records.proofs.tables.make_postings.Goals as goal
 
 pub returns-clause-made : goal.returns-clause-made
@@ -11,6 +11,14 @@ returns-clause-made g c clean =
     let old = state g.S.Store c.args.tx.now.conn.now in
     elim (cases_Bool old.in_transaction) [
       | inl inside ↦ postings_made old (state g.S.Store c.execute.new.self.conn.now) c.execute.result (c.execute.ensures.runs clean inside) inside
+      | inr ended ↦ let refused = (c.execute.ensures.ended ended).0 in rw refused tt
+    ]
+
+pub returns-clause-added : goal.returns-clause-added
+returns-clause-added g c clean =
+    let old = state g.S.Store c.args.tx.now.conn.now in
+    elim (cases_Bool old.in_transaction) [
+      | inl inside ↦ postings_added old (state g.S.Store c.execute.new.self.conn.now) c.execute.result (c.execute.ensures.runs clean inside) inside
       | inr ended ↦ let refused = (c.execute.ensures.ended ended).0 in rw refused tt
     ]
 

@@ -1,5 +1,6 @@
 use Rattle.std.proofs.Common.{◌≡◌, ℕ, sum_by, ap, ◌∙◌, rules, arith}
 use Rattle.pay_day.specs.Words.{monday}
+use Rattle.pay_tables.specs.Words.{first_day}
 use Rattle.pay_rules.specs.JourneyFares.{fare_by}
 use Rattle.pay_rules.specs.WeekPrices.{due}
 use Rattle.pay_rules.specs.StandingCredits.{credits}
@@ -25,6 +26,7 @@ quote_of-requires c = record {
         c.in_ok-weights.ensures.in_range,
         ap (λ list. sum_by (fare_by c.args.editions.now) (journeys_through list c.args.through)) c.deref-2.ensures.value,
       );
+  of_edition = λ known. c.edition_day.ensures.in_range;
   operators = search rules;
   shared = c.shares.ensures.together;
 }
@@ -42,7 +44,8 @@ returns c =
     c.credits.ensures.value ∙ ap (λ week. credits c.self.inside.fixes week through) c.monday-week.ensures.value ∙ ap (λ a. credits a.1.fixes (monday through) through) c.self.view_is in
     let due_is : c.due-due.result ≡ due_through editions now through =
     c.due-due.ensures ∙ ap (λ n. due n c.credits.result) price ∙ ap (due (price_of_week editions (journeys_of editions (touches now)) through)) given in
+    let edition : c.edition_day.result ≡ first_day editions (monday through) = c.edition_day.ensures.value ∙ ap (first_day editions) c.monday-week.ensures.value in
     let carried : c.in_ok-weights.weights ≡ weights_through editions (journeys_of editions (touches now)) through = c.in_ok-weights.ensures.value ∙ ap (λ list. weights_through editions list through) all in
     c.quote_of.ensures
-    ∙ same_quote through (ap (λ a. a.0) c.self.view_is) c.monday-week.ensures.value c.version.ensures.value due_is
+    ∙ same_quote through (ap (λ a. a.0) c.self.view_is) c.monday-week.ensures.value c.version.ensures.value due_is edition
     (c.shares.ensures.value ∙ ap (λ n. shares n c.in_ok-weights.weights) due_is ∙ ap (shares (due_through editions now through)) carried)

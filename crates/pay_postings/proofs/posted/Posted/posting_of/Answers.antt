@@ -1,6 +1,6 @@
 use Rattle.std.proofs.Common.{◌++◌, ◌∷◌, [], rules, sym, ap, subst, ◌∙◌, arith, length}
 use Rattle.std.specs.Prelude.{sum}
-use Rattle.pay_rules.specs.QuoteParts.{IsQuote}
+use Rattle.pay_rules.specs.QuoteParts.{IsEditionDay, IsQuote}
 use Rattle.pay_postings.specs.Paid.{AreRead}
 use Rattle.pay_postings.proofs.Settling.{read_more}
 use Rattle.pay_postings.proofs.posted.Posted.posting_of.Goals as goal
@@ -13,6 +13,7 @@ returns-clause-read c =
       of_week = record { through_day = search rules; its_monday = search rules };
       at_version = search rules;
       in_range = omega (arith, c.due.ensures.value, c.due.ensures.in_range);
+      of_edition = subst IsEditionDay c.edition.ensures.value c.edition.ensures.in_range;
       operators = sym (ap length c.shares.ensures.value) ∙ c.shares.ensures.operators;
       shared = sym (ap sum c.shares.ensures.value) ∙ c.shares.ensures.all;
     } in
