@@ -395,6 +395,9 @@ REFUSED_EDITIONS = """
     edition = [{ day = 5, M, rules = {} }] => MissingKey
     edition = [{ day = 5, M, rules = { bus = '1' } }] => WrongType
     edition = [{ day = 5, M, rules = { bus = 100001 } }] => OutOfRange
+    edition = [{ day = 5, M, rules = { bus = 1 } }] => MissingKey
+    edition = [{ day = 5, M, rules = { bus = 1, maximum = '1' } }] => WrongType
+    edition = [{ day = 5, M, rules = { bus = 1, maximum = 100001 } }] => OutOfRange
     edition = [{ day = 5, M, rules = { bus = 1, maximum = -1 } }] => OutOfRange
     edition = [{ day = 5, M, rules = { bus = 1, maximum = 1 } }] => MissingKey
     edition = [{ day = 5, M, rules = { bus = 1, maximum = 1, hopper = '3600' } }] => WrongType
@@ -404,14 +407,44 @@ REFUSED_EDITIONS = """
     edition = [{ day = 5, M, rules = { bus = 1, maximum = 1, hopper = 3599 } }] => HopperDiffers
     edition = [{ day = 5, M, rules = { bus = 1, maximum = 1, hopper = 3601, same_free = 'x' } }] => HopperDiffers
     edition = [{ day = 5, M, rules = { bus = 1, maximum = 1, hopper = 3600, same_free = 'x' } }] => WrongType
+    edition = [{ day = 5, M, rules = { bus = 1, maximum = 1, hopper = 3600 } }] => MissingKey
+    edition = [{ day = 5, M, rules = { bus = 1, maximum = 1, hopper = 3600, same_free = 7201 } }] => OutOfRange
+    edition = [{ day = 5, M, rules = { bus = 1, maximum = 1, hopper = 3600, same_free = 9 } }] => MissingKey
+    edition = [{ day = 5, M, rules = { bus = 1, maximum = 1, hopper = 3600, same_free = 9, same_limit = '9' } }] => WrongType
+    edition = [{ day = 5, M, rules = { bus = 1, maximum = 1, hopper = 3600, same_free = 9, same_limit = 7201 } }] => OutOfRange
     edition = [{ day = 5, M, rules = { bus = 1, maximum = 1, hopper = 3600, same_free = 9, same_limit = 8 } }] => OutOfRange
     edition = [{ day = 5, M, R }] => MissingKey
     edition = [{ day = 5, M, R, single = 1 }] => WrongType
     edition = [{ day = 5, M, R, single = [] }] => MissingKey
+    edition = [{ day = 5, M, R, single = [1] }] => WrongType
+    edition = [{ day = 5, M, R, single = [{}] }] => MissingKey
+    edition = [{ day = 5, M, R, single = [{ from = '1' }] }] => WrongType
     edition = [{ day = 5, M, R, single = [{ from = 4 }] }] => OutOfRange
+    edition = [{ day = 5, M, R, single = [{ from = 1 }] }] => MissingKey
+    edition = [{ day = 5, M, R, single = [{ from = 1, to = '1' }] }] => WrongType
+    edition = [{ day = 5, M, R, single = [{ from = 2, to = 1 }] }] => OutOfRange
+    edition = [{ day = 5, M, R, single = [{ from = 1, to = 4 }] }] => OutOfRange
+    edition = [{ day = 5, M, R, single = [{ from = 1, to = 1 }] }] => MissingKey
+    edition = [{ day = 5, M, R, single = [{ from = 1, to = 1, peak = '1' }] }] => WrongType
+    edition = [{ day = 5, M, R, single = [{ from = 1, to = 1, peak = 100001 }] }] => OutOfRange
+    edition = [{ day = 5, M, R, single = [{ from = 1, to = 1, peak = 1 }] }] => MissingKey
+    edition = [{ day = 5, M, R, single = [{ from = 1, to = 1, peak = 1, off = '1' }] }] => WrongType
+    edition = [{ day = 5, M, R, single = [{ from = 1, to = 1, peak = 1, off = -1 }] }] => OutOfRange
     edition = [{ day = 5, M, R, single = [{ from = 1, to = 1, peak = 1, off = 1 }, { from = 1, to = 1, peak = 1, off = 1 }] }] => Duplicate
     edition = [{ day = 5, M, R, S, band = 1 }] => WrongType
+    edition = [{ day = 5, M, R, S, band = [1] }] => WrongType
+    edition = [{ day = 5, M, R, S, band = [{}] }] => MissingKey
+    edition = [{ day = 5, M, R, S, band = [{ from = '1' }] }] => WrongType
     edition = [{ day = 5, M, R, S, band = [{ from = 4 }] }] => OutOfRange
+    edition = [{ day = 5, M, R, S, band = [{ from = 1 }] }] => MissingKey
+    edition = [{ day = 5, M, R, S, band = [{ from = 1, to = '1' }] }] => WrongType
+    edition = [{ day = 5, M, R, S, band = [{ from = 0, to = 1 }] }] => OutOfRange
+    edition = [{ day = 5, M, R, S, band = [{ from = 1, to = 1 }] }] => MissingKey
+    edition = [{ day = 5, M, R, S, band = [{ from = 1, to = 1, day = '1' }] }] => WrongType
+    edition = [{ day = 5, M, R, S, band = [{ from = 1, to = 1, day = 100001 }] }] => OutOfRange
+    edition = [{ day = 5, M, R, S, band = [{ from = 1, to = 1, day = 1 }] }] => MissingKey
+    edition = [{ day = 5, M, R, S, band = [{ from = 1, to = 1, day = 1, week = '1' }] }] => WrongType
+    edition = [{ day = 5, M, R, S, band = [{ from = 1, to = 1, day = 1, week = -1 }] }] => OutOfRange
     edition = [{ day = 5, M, R, S, band = [{ from = 0, to = 0, day = 1, week = 1 }, { from = 0, to = 0, day = 1, week = 1 }] }] => Duplicate
     // Of two faults the first key's, whatever their order in the file.
     edition = [{ M, rules = 1, day = 4 }] => OutOfRange

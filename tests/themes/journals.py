@@ -254,16 +254,19 @@ def cut_journals(folder):
 
 @test
 def rests(folder):
-    """What stands after a last newline is no line, whatever it is; but what has no newline, and is longer than a line, is no journal."""
+    """What stands after a last newline is no line, whatever it is; but what has no newline, and is no beginning of a line that is kept, is no
+    journal."""
     lines, replies = boardings(2)
     again = replies.replace(b"OK", b"AGAIN")
-    for rest in (b"TAP 1 1 9 1704697200 50 BUS", b"QUIT", b"\0", b"\r", b"\xff" * 128, b"TAP 1 1 1 1704697201 50 BUS", b" " * 129, b"\0" * 4_096):
+    cut = (b"TAP 1 1 9 1704697200 50 BUS", b"TAP 1 1 1 1704697201 50 BUS", b"T", b"FIX", b"FIX 3 1 7 CRED", b"TAP " + b"9" * 124, b"\0", b"\0" * 128)
+    others = (b"QUIT", b"DUE 7 19730", b"\r", b"t", b"TAPE 7", b"hello", b"T\0", b"\0T", b"\xff" * 128, b"TAP " + b"9" * 125, b" " * 129, b"\0" * 129, b"\0" * 4_096)
+    for rest in (*cut, *others):
         for before, came in ((lines, again), (b"", replies)):
             path = written(folder, "journal", before + rest)
             wanted = counted(before.count(b"\n"), before.count(b"\n"), *[SEVEN if before else 0] * 2, len(rest))
             yield f"{rest[:30]!r} after {len(before)} bytes, replayed", replayed(path), wanted
             # Where nothing is new, what stands after the last newline stays.
-            wanted = End(0, came, left=lines + (rest if before else b"")) if before or len(rest) <= 128 else CANNOT_USE._replace(left=rest)
+            wanted = End(0, came, left=lines + (rest if before else b"")) if before or rest in cut else CANNOT_USE._replace(left=rest)
             yield f"{len(rest)} bytes, {rest[:30]!r}, after {len(before)} bytes", kept(path, lines), wanted
     # Of several files all rests count, and none is joined with the file after it.
     one, two = written(folder, "one", lines + b"TAP 1 1 3 17046"), written(folder, "two", b"97200 50 BUS")

@@ -8,6 +8,10 @@ LAST_BANDS = "  { from = 0, to = 0, day = 540, week = 2500 },\n  { from = 1, to 
 WARNINGS = (
     ("band = [", "bands = [", ("key bands is not read", "no bands")),
     ("day = 525, week = 2470 }", "day = 525, week = 2470, wek = 1 }", ("at band 1: key wek is not read",)),
+    ("day = 525, week = 2470 }", "day = 525, week = 247 }", ("at band 1: week 247 is below day 525",)),
+    ("day = 525, week = 2470 }", "day = 525, week = 525 }", ()),
+    ("day = 890, week = 4470 }", "day = 0, week = 4470 }", ("at band 2: a cap of 0",)),
+    ("day = 890, week = 4470 }", "day = 890, week = 0, x = 1 }", ("at band 2: key x is not read", "at band 2: week 0 is below day 890", "at band 2: a cap of 0")),
     ("[rules]", "[rules]\nmaxmum = 1", ("at key rules: key maxmum is not read",)),
     ("operator = 4 }", 'operator = 4, name = "50" }', ("at route 1: key name is not read",)),
     ("peak = 280, off = 270", "peak = 270, off = 280", ("at single 1: peak 270 is below off 280",)),
@@ -24,6 +28,7 @@ WARNINGS_OF_TWO = (
     ("holidays = [19723]", "holidays = [19723, 19731]", (NONE_AFTER,)),
     (f"band = [\n{LAST_BANDS}]\n", "", ("at the edition of day 19731: no bands", NONE_AFTER)),
     ("day = 19731", "day = 19731\nrulez = 1", ("at the edition of day 19731: key rulez is not read", NONE_AFTER)),
+    ("week = 4500", "week = 450", ("at the edition of day 19731, band 2: week 450 is below day 900", NONE_AFTER)),
     ("peak = 380, off = 310", "peak = 300, off = 310", ("at the edition of day 19731, single 3: peak 300 is below off 310", NONE_AFTER)),
 )
 # What is put in the place of what in examples/two.toml, how the file is then refused, and where its fault lies.
@@ -106,6 +111,8 @@ def warnings(folder):
             yield f"{name} with {new!r}, without --lint", run(["check", path]), answers(counted(path))
     yield "the sample", run(["check", SAMPLE, "--lint"]), answers(COUNTED)
     yield "beside an old file", run(["check", TWO, "--lint", "--against", TWO]), warned(b"OK\n", (NONE_AFTER,))
+    came = run(["check", TWO, "--against", SAMPLE, "--lint"])
+    yield "beside an old file of other fares", came, other(19731, "rules.bus")._replace(errors=other(19731, "rules.bus").errors + warned(b"", (NONE_AFTER,)).errors)
     line, reply = b"TAP 1 1 7 1704697200 50 BUS\n", b"OK 19730 175 175\n"
     for given in (["--journal", f"{folder}/journal"], ["--ledger", f"{folder}/ledger"], ["--journal", f"{folder}/kept", "--ledger", f"{folder}/posted"]):
         yield f"a session with {' '.join(given)}", run(["run", TWO, LONDON, *given], line), warned(reply, (NONE_AFTER,))._replace(status=0)
@@ -120,6 +127,12 @@ def places_of_faults(folder):
         path = written(folder, f"{number}.toml", edited(old, new, "two.toml"))
         yield f"two.toml with {new!r}", run(["check", path, "--lint"]), fault(line)
         yield f"two.toml with {new!r}, without --lint", run(["check", path]), fault(line.split(" at ")[0])
+    text = read("two.toml").decode()
+    twice = written(folder, "twice.toml", (text + text[text.index("[[edition]]"):]).encode())
+    yield "a second edition of the day", run(["check", twice, "--lint"]), fault("14 Duplicate at edition 2, key day")
+    for name, text, line in (("the first line", "zones\n", 1), ("the third line", "a = 1\nb = 2\nc\nd = 4\n", 3), ("the last line", "a = 1\nb", 2)):
+        path = written(folder, "none.toml", text.encode())
+        yield f"no TOML at {name}", run(["check", path, "--lint"]), fault(f"10 NotToml at line {line}")
 
 
 @test
@@ -131,6 +144,16 @@ def against_an_old_file(folder):
         yield f"the sample with {new!r}, after that day", run(["check", path, "--against", SAMPLE, "--after", f"{day}"]), other(day, key)
         before = other(day, key) if day == 4 else answers(b"OK\n")
         yield f"the sample with {new!r}, after the day before", run(["check", path, "--against", SAMPLE, "--after", f"{max(day - 1, 4)}"]), before
+    # Of several keys that differ, those that all editions share come first.
+    text = read("sample.toml").decode()
+    for name, keys, key in (
+        ("the bus fare and the Hopper time", ("bus = 175", "hopper = 3600"), "rules.hopper"),
+        ("the bus fare and an interchange", ("bus = 175", "seconds = 1200"), "interchange 10 12"),
+    ):
+        changed = text
+        for it in keys:
+            changed = changed.replace(it, f"{it[:-1]}{int(it[-1]) + 1}")
+        yield name, run(["check", written(folder, "both.toml", changed.encode()), "--against", SAMPLE]), other(4, key)
     for number, (old, new) in enumerate(SAME):
         path = written(folder, f"same-{number}.toml", edited(old, new, "sample.toml"))
         yield f"the sample with {new!r}", run(["check", path, "--against", SAMPLE]), answers(b"OK\n")

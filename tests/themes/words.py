@@ -94,12 +94,13 @@ Arguments:
 
 Options:
       --lint           Say where a fault lies, and warn of what may be a mistake: keys that nothing
-                       reads, a peak fare below its off-peak fare, fares of 0, no bands, no holiday
-                       after the last edition begins. A warning is status 1
+                       reads, a peak fare below its off-peak fare, a week cap below its day cap,
+                       fares and caps of 0, no bands, no holiday after the last edition begins. A
+                       warning is status 1
       --against <OLD>  Compare with another fare file: OK if each day is priced as by it, else the
                        first day and key that are not
-      --after <DAY>    With --against: OK if all days up to this one are priced alike. A number
-                       from 4 to 50000
+      --after <DAY>    With --against: OK if all days up to this one are priced alike. Take the
+                       last day that has a tap: today, if a service runs. A number from 4 to 50000
   -h, --help           Print help
 
 A fare file may hold editions, fares that hold from a day on. Where it has n of them the line ends

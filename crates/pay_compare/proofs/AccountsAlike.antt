@@ -5,7 +5,7 @@ use Rattle.pay_day.specs.Words.{monday, sunday}
 use Rattle.pay_day.specs.declared.limits.TheConstants.{FIRST_DAY}
 use Rattle.pay_money.specs.Words.{part, shares}
 use Rattle.pay_tables.specs.declared.band.Band.{Band}
-use Rattle.pay_tables.specs.Words.{FareEditions, on}
+use Rattle.pay_tables.specs.Words.{FareEditions, first_day, on}
 use Rattle.pay_rules.specs.declared.journey.Journey.{Journey}
 use Rattle.pay_rules.specs.declared.journey.Journey.TheVariants as journey
 use Rattle.pay_rules.specs.declared.shown.Line.{Line}
@@ -26,7 +26,7 @@ use Rattle.pay_rules.specs.StandingCredits.{credits}
 use Rattle.pay_rules.specs.Journeys.{journeys_of}
 use Rattle.pay_rules.specs.Prices.{price_of_day, price_of_week}
 use Rattle.pay_compare.specs.Agreement.{IsKnownPlace}
-use Rattle.pay_compare.specs.Laws.{AreTouchesWithin, ComesToTheSame}
+use Rattle.pay_compare.specs.Laws.{AreTouchesWithin, ComesToTheSame, with_edition}
 use Rattle.pay_compare.proofs.Lists.{flat_map_alike, in_order_all, map_alike, numbered_all, passed}
 use Rattle.pay_compare.proofs.LegsAlike.{AreAgreeing, IsJourneyWithin, IsLegWithin, all_alike, all_through, own_station}
 use Rattle.pay_compare.proofs.PricesAlike.{covers_alike, day_alike, fare_alike, first_through, of_day, settled, week_alike, within_or_none}
@@ -139,7 +139,7 @@ module _ (new old : FareEditions) (last : ℕ) (are : AreAgreeing new old last) 
       same = all_alike new old last are (touches accepted) through
 
       quoted : (account day : ℕ) → price_of_week new (journeys_of new (touches accepted)) day ≡ price_of_week old list day → weights_through new (journeys_of new (touches accepted)) day ≡ weights_through old list day
-          → quote new account accepted day ≡ quote old account accepted day
+          → quote new account accepted day ≡ with_edition (first_day new (monday day)) (quote old account accepted day)
       quoted account day price carried =
           ap (λ (n : ℕ). parts n (weights_through new (journeys_of new (touches accepted)) day)) price ∙ ap (parts (price_of_week old list day)) carried
         where
@@ -150,5 +150,6 @@ module _ (new old : FareEditions) (last : ℕ) (are : AreAgreeing new old last) 
             through = day;
             version = version accepted;
             due = due cost (credits accepted.fixes (monday day) day);
+            edition = first_day new (monday day);
             shares = shares (due cost (credits accepted.fixes (monday day) day)) weights;
           }

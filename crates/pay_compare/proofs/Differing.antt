@@ -25,7 +25,7 @@ network new old key.Holidays differs keeps = differs
 rules : (new old : Rules) (it : Key) → RulesDiffer new old it → new ≡ old → ⊥
 rules new old key.Bus differs same = differs (ap (λ (r : Rules). r.bus) same)
 rules new old key.Maximum differs same = differs (ap (λ (r : Rules). r.maximum) same)
-rules new old key.Hopper differs same = differs (ap (λ (r : Rules). r.hopper) same)
+rules new old key.Hopper differs same = differs
 rules new old key.SameFree differs same = differs (ap (λ (r : Rules). r.same_free) same)
 rules new old key.SameLimit differs same = differs (ap (λ (r : Rules). r.same_limit) same)
 rules new old key.Zones differs same = differs
@@ -52,4 +52,4 @@ of_day new old day (key.Interchange a b) differs alike = rules new.rules old.rul
 
 pub none_agree : (new old : FareEditions) (day : ℕ) (it : Key) → FIRST_DAY ≤ day → IsDifference new old day it → AgreeThrough new old day → ⊥
 none_agree new old day it from (inl differs) agree = network new.own old.own it differs agree.network
-none_agree new old day it from (inr differs) agree = of_day (on new day) (on old day) day it differs (agree.days day from (omega arith))
+none_agree new old day it from (inr (keeps, differs)) agree = of_day (on new day) (on old day) day it differs (agree.days day from (omega arith))

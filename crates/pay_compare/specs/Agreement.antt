@@ -22,6 +22,11 @@ pub record KeepsNetwork (new old : FareTables) : Type 0 where
   pub places : (number : ℕ) → IsKnownPlace old number → get new.places number ≡ get old.places number
   pub interchanges : (a b : ℕ) → KeepsInterchange new old a b
 
+-- the single fares of the spans that begin at a zone, within the old zones, are as they were
+abbrev pub SinglesAlikeFrom : FareTables → FareTables → ℕ → Type 0
+SinglesAlikeFrom new old from =
+    (to : ℕ) (peak : Bool) → from ≤ to → to ≤ old.zones → single_fare new (record { from = from; to = to }) peak ≡ single_fare old (record { from = from; to = to }) peak
+
 -- Tables price a day as old ones do: within the old zones the allowed times and the single fares are the same, so are the rules and the bands, and
 -- the day is a public holiday by both or by neither.
 pub record PriceAlike (new old : FareTables) (day : ℕ) : Type 0 where

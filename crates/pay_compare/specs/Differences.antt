@@ -4,7 +4,7 @@ use Rattle.std.specs.FinMap.{get}
 use Rattle.pay_tables.specs.declared.rules.Rules.{Rules}
 use Rattle.pay_tables.specs.declared.zones.Span.{Span}
 use Rattle.pay_tables.specs.Words.{FareEditions, FareTables, IsSpan, on, single_fare, allowed_seconds, is_holiday, interchange}
-use Rattle.pay_compare.specs.Agreement.{IsKnownPlace}
+use Rattle.pay_compare.specs.Agreement.{IsKnownPlace, KeepsNetwork}
 use Rattle.pay_compare.specs.declared.key.Key.{Key}
 use Rattle.pay_compare.specs.declared.key.Key.TheVariants as key
 
@@ -24,11 +24,10 @@ NetworkDiffers new old (key.Place number) = PlacesDiffer new old number
 NetworkDiffers new old (key.Interchange a b) = InterchangesDiffer new old a b
 NetworkDiffers new old _ = ⊥
 
--- rules differ by a key of theirs
+-- rules differ by a key of theirs, but for the Hopper time, which all editions share
 abbrev pub RulesDiffer : Rules → Rules → Key → Type 0
 RulesDiffer new old key.Bus = new.bus ≢ old.bus
 RulesDiffer new old key.Maximum = new.maximum ≢ old.maximum
-RulesDiffer new old key.Hopper = new.hopper ≢ old.hopper
 RulesDiffer new old key.SameFree = new.same_free ≢ old.same_free
 RulesDiffer new old key.SameLimit = new.same_limit ≢ old.same_limit
 RulesDiffer new old _ = ⊥
@@ -53,6 +52,6 @@ DayDiffers new old day key.Band = new.bands ≢ old.bands
 DayDiffers new old day key.Holidays = is_holiday new day ≢ is_holiday old day
 DayDiffers new old day key = RulesDiffer new.rules old.rules key
 
--- A file prices a day otherwise than an old file by a key: one that all days share, or one of the day's edition.
+-- A file prices a day otherwise than an old file by a key: one that all days share; or, where all these are as they were, one of the day's edition.
 abbrev pub IsDifference : FareEditions → FareEditions → ℕ → Key → Type 0
-IsDifference new old day key = NetworkDiffers new.own old.own key ⊎ DayDiffers (on new day) (on old day) day key
+IsDifference new old day key = NetworkDiffers new.own old.own key ⊎ (KeepsNetwork new.own old.own × DayDiffers (on new day) (on old day) day key)

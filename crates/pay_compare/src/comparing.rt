@@ -45,9 +45,9 @@ fn first_day_that_differs(new: &Editions, old: &Editions) -> Option<Difference>
     None
 }
 
-/// The first key by which the editions of a day price it otherwise.
+/// A key by which the editions of a day price it otherwise.
 fn difference_on(new: &Editions, old: &Editions, day: u32) -> Option<Key>
-    requires { old.now.own.zones ≤ new.now.own.zones }
+    requires { KeepsNetwork new.now.own old.now.own }
     ensures none { result ≡ None → PriceAlike (on new.now day) (on old.now day) day }
     ensures differs { IfSome result (DayDiffers (on new.now day) (on old.now day) day) }
 {

@@ -15,7 +15,7 @@ use pay_tables::laws::{each_day, editions_share, spans_within};
 
 /// Where a fare file agrees with an old one on each day up to the last of an account's effective taps, all at places that
 /// the old one knows, the account comes to the same by both: its journeys, the price of each day and of each week, what it
-/// shows, its statements and its quotes.
+/// shows, its statements and its quotes, but for the edition that these name where editions begin on other days.
 pub fn agreement(new: &Editions, old: &Editions)
     ensures { (last : ℕ) (accepted : Accepted) → AgreeThrough new.now old.now last → AreTouchesWithin old.now last accepted
         → ComesToTheSame new.now old.now accepted }

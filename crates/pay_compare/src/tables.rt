@@ -4,16 +4,17 @@ ghost use Rattle.std.specs.List.{list_all, zip};
 ghost use Rattle.pay_tables.specs.declared.zones.Span.{Span};
 ghost use Rattle.pay_tables.specs.declared.rules.Rules.{Rules};
 ghost use Rattle.pay_tables.specs.Words.{IsSpan, allowed_seconds, single_fare};
-ghost use Rattle.pay_compare.specs.Agreement.{PriceAlike};
+ghost use Rattle.pay_compare.specs.Agreement.{PriceAlike, SinglesAlikeFrom};
 ghost use Rattle.pay_compare.specs.Bands.{same_band};
 ghost use Rattle.pay_compare.specs.Differences.{DayDiffers, MinutesDiffer, RulesDiffer, SinglesDiffer};
 
 use crate::key::Key;
 use pay_tables::{Band, Rules, Span, Tables};
 
-/// The first key by which tables price a day otherwise than old ones do.
+/// A key by which tables price a day otherwise than old ones of the same Hopper time do.
 pub fn day_difference(new: &Tables, old: &Tables, day: u32) -> Option<Key>
-    requires { old.now.zones ≤ new.now.zones }
+    requires zones { old.now.zones ≤ new.now.zones }
+    requires hopper { new.now.rules.hopper ≡ old.now.rules.hopper }
     ensures none { result ≡ None → PriceAlike new.now old.now day }
     ensures differs { IfSome result (DayDiffers new.now old.now day) }
 {
@@ -57,7 +58,7 @@ fn same_band(band: &Band, other: &Band) -> bool
     band.cover.same_as(other.cover) && band.day == other.day && band.week == other.week
 }
 
-/// The least number of zones for which legs have another allowed time.
+/// A number of zones for which legs have another allowed time.
 fn minutes_difference(new: &Tables, old: &Tables) -> Option<u8>
     requires { old.now.zones ≤ new.now.zones }
     ensures none { result ≡ None → (span : Span) → IsSpan old.now.zones span → allowed_seconds new.now span ≡ allowed_seconds old.now span }
@@ -72,7 +73,9 @@ fn minutes_difference(new: &Tables, old: &Tables) -> Option<u8>
     None
 }
 
+/// A key by which rules of the same Hopper time differ.
 fn rules_difference(new: Rules, old: Rules) -> Option<Key>
+    requires { new.hopper ≡ old.hopper }
     ensures none { result ≡ None → new ≡ old }
     ensures differs { IfSome result (RulesDiffer new old) }
 {
@@ -81,9 +84,6 @@ fn rules_difference(new: Rules, old: Rules) -> Option<Key>
     }
     if new.maximum != old.maximum {
         return Some(Key::Maximum);
-    }
-    if new.hopper != old.hopper {
-        return Some(Key::Hopper);
     }
     if new.same_free != old.same_free {
         return Some(Key::SameFree);
@@ -94,7 +94,7 @@ fn rules_difference(new: Rules, old: Rules) -> Option<Key>
     None
 }
 
-/// The first span within the old zones whose single fares differ.
+/// A span within the old zones whose single fares differ.
 fn single_difference(new: &Tables, old: &Tables) -> Option<Span>
     requires { old.now.zones ≤ new.now.zones }
     ensures none { result ≡ None → (span : Span) (peak : Bool) → IsSpan old.now.zones span → single_fare new.now span peak ≡ single_fare old.now span peak }
@@ -112,8 +112,7 @@ fn single_difference(new: &Tables, old: &Tables) -> Option<Span>
 fn single_difference_from(new: &Tables, old: &Tables, from: u8) -> Option<Span>
     requires zones { old.now.zones ≤ new.now.zones }
     requires first { 1 ≤ from }
-    ensures none { result ≡ None → (to : ℕ) (peak : Bool) → from ≤ to → to ≤ old.now.zones
-        → single_fare new.now (record { from = from; to = to }) peak ≡ single_fare old.now (record { from = from; to = to }) peak }
+    ensures none { result ≡ None → SinglesAlikeFrom new.now old.now from }
     ensures differs { IfSome result (SinglesDiffer new.now old.now) }
 {
     for to in from..=old.zones() {

@@ -3,10 +3,8 @@ pub mod Keys
 pub mod Spots
 pub mod FareFile
 pub mod FaultPlaces
-pub mod Warnings
 pub mod Printed
 pub mod Words
 pub mod Rows
 pub mod PlaceRows
-pub mod WarningRows
 pub mod PrintedRows

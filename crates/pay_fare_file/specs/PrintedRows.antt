@@ -1,11 +1,10 @@
 -- What is printed, in full.
-use Rattle.std.specs.Prelude.{◌≡◌, [], ◌∷◌, Some, None, codes, refl}
+use Rattle.std.specs.Prelude.{◌≡◌, codes, refl}
 use Rattle.std.specs.Fmt.{digits}
 use Rattle.pay_fare_file.specs.declared.key.Key.TheVariants as key
 use Rattle.pay_fare_file.specs.declared.spot.Spot.TheVariants.{AtKey, InRules, AtItem, InItem}
 use Rattle.pay_fare_file.specs.declared.spot.FaultPlace.TheVariants.{Line, Own, OfEdition}
-use Rattle.pay_fare_file.specs.Printed.{place_text, said_text}
-use Rattle.pay_fare_file.specs.Warnings.{not_read, peak_below_off, fare_of_zero, no_bands, no_holiday_after, no_holidays, whole, at_spot}
+use Rattle.pay_fare_file.specs.Printed.{place_text}
 
 a_line : place_text (Line 12) ≡ codes "at line 12"
 unfolding digits
@@ -36,45 +35,3 @@ rule_of_an_edition = refl
 day_of_an_edition : place_text (Own (InItem key.Edition 2 key.Day)) ≡ codes "at edition 2, key day"
 unfolding digits
 day_of_an_edition = refl
-
-bands : said_text (not_read (whole None) (codes "bands")) ≡ codes "key bands is not read"
-bands = refl
-
-wek : said_text (not_read (at_spot None (AtItem key.Band 2)) (codes "wek")) ≡ codes "at band 2: key wek is not read"
-unfolding digits
-wek = refl
-
--- a newline in a key, and Delete
-two_lines : said_text (not_read (whole None) (97 ∷ 10 ∷ 98 ∷ [])) ≡ codes "key ? is not read"
-two_lines = refl
-
-delete : said_text (not_read (whole None) (127 ∷ [])) ≡ codes "key ? is not read"
-delete = refl
-
-rulez : said_text (not_read (whole (Some 19_731)) (codes "rulez")) ≡ codes "at the edition of day 19731: key rulez is not read"
-unfolding digits
-rulez = refl
-
-maxmum : said_text (not_read (at_spot None (AtKey key.Rules)) (codes "maxmum")) ≡ codes "at key rules: key maxmum is not read"
-maxmum = refl
-
-cheap_peak : said_text (peak_below_off (at_spot (Some 19_731) (AtItem key.Single 3)) 200 210) ≡ codes "at the edition of day 19731, single 3: peak 200 is below off 210"
-unfolding digits
-cheap_peak = refl
-
-free_buses : said_text (fare_of_zero (at_spot None (AtKey key.Rules))) ≡ codes "at key rules: a fare of 0"
-free_buses = refl
-
-edition_without_bands : said_text (no_bands (whole (Some 19_731))) ≡ codes "at the edition of day 19731: no bands"
-unfolding digits
-edition_without_bands = refl
-
-file_without_bands : said_text (no_bands (whole None)) ≡ codes "no bands"
-file_without_bands = refl
-
-none_later : said_text (no_holiday_after (whole None) 19_731) ≡ codes "no holiday after day 19731"
-unfolding digits
-none_later = refl
-
-none_at_all : said_text (no_holidays (whole None)) ≡ codes "no holidays"
-none_at_all = refl

@@ -3,7 +3,6 @@
 
 mod bands;
 mod editions;
-mod fares;
 mod fault;
 mod holidays;
 mod interchanges;
@@ -11,24 +10,18 @@ mod key;
 mod keys;
 pub mod laws;
 mod lines;
-mod lint;
 mod minutes;
 mod misread;
 mod places;
-mod read_keys;
 mod reading;
 mod routes;
 mod rules;
-mod said_tables;
 mod singles;
 mod spot;
 mod stations;
-mod unread;
-mod warning;
 
 pub use fault::FareFileFault;
 pub use key::Key;
-pub use lint::warnings;
-pub use reading::{fault_place, read_editions};
+pub use keys::{integer, integer_at, member};
+pub use reading::{check_file, fault_place, read_editions};
 pub use spot::{FaultPlace, Spot};
-pub use warning::{Concern, TableAt, Warning};

@@ -1,8 +1,9 @@
 //! Files that are read, and standard input.
 
 use crate::errors::memory_or;
-use pay_fare_file::{FareFileFault, warnings};
+use pay_fare_file::FareFileFault;
 use pay_jobs::Fault;
+use pay_warnings::warnings;
 use pay_wire::Refusal;
 use std::alloc::AllocError;
 use std::fs;

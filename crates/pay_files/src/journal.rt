@@ -1,7 +1,7 @@
 //! The files of journals.
-ghost use Rattle.std.specs.Prelude.{◌≡◌, ◌<◌, ◌≤◌, ◌↔◌, ◌+◌, true, length, IfOk, OnOk};
+ghost use Rattle.std.specs.Prelude.{◌≡◌, ◌≤◌, ◌↔◌, ◌+◌, true, false, length, IfOk, OnOk};
 ghost use Rattle.pay_session.specs.Words.{rest_of};
-ghost use Rattle.pay_wire.specs.declared.limits.TheConstants.{MOST_LINE_BYTES};
+ghost use Rattle.pay_files.specs.Journals.{are_zeros, is_cut_line, may_begin};
 ghost use Rattle.pay_words.specs.declared.limits.TheConstants.{MOST_SHARDS};
 
 use crate::errors::memory_or;
@@ -13,10 +13,14 @@ use pay_words::limits::MOST_SHARDS;
 use std::alloc::{AllocError, Global};
 use std::fs::{File, Files, OpenOptions};
 use std::io::{Eprint, ErrorKind, Read};
+use std::os::unix::fs::OpenOptionsExt;
 use std::{fs, io};
 
 /// How many journals a folder has: one for each shard that a service may have.
 const JOURNALS: u8 = MOST_SHARDS as u8;
+
+/// Who may read and write a file that is made here: accounts and charges are nobody else's.
+const OWNER_ALONE: u32 = 0o600;
 
 /// The journals in a folder, by their numbers.
 #[derive(Drop)]
@@ -156,9 +160,9 @@ fn all_settled<R: Files<File = File> + AllocGlobal>(
     Ok(())
 }
 
-/// Refuses a ledger whose file, or the log beside it, is a journal that is open: here, or in another session. Each would write over the
-/// other.
-pub fn refuse_journal<R: Files<File = File> + AllocGlobal>(
+/// Makes the file of a ledger where there is none, so that its owner alone may read and write it, as then the log beside it. Refused is a
+/// ledger whose file, or the log, is a journal that is open: here, or in another session. Each would write over the other.
+pub fn ready_ledger<R: Files<File = File> + AllocGlobal>(
     rt: &R,
     ledger: &str,
 ) -> Result<(), Fault> {
@@ -166,6 +170,20 @@ pub fn refuse_journal<R: Files<File = File> + AllocGlobal>(
     if is_open(rt, ledger) || is_open(rt, log.as_str()) {
         return Err(Fault::from(OpenFault::Store));
     }
+    match make_new(rt, ledger) {
+        Err(error) if error.kind() == ErrorKind::OutOfMemory => Err(Fault::from(AllocError)),
+        // Why it is not there is reported where it is opened.
+        _ => Ok(()),
+    }
+}
+
+/// Makes the file at a path, at which nothing stands.
+fn make_new<R: Files<File = File>>(rt: &R, path: &str) -> io::Result<()> {
+    OpenOptions::new()
+        .write(true)
+        .create_new(true)
+        .mode(OWNER_ALONE)
+        .open(rt, path)?;
     Ok(())
 }
 
@@ -238,11 +256,33 @@ fn opened<R: Files<File = File> + AllocGlobal>(rt: &R, path: &str) -> io::Result
     Ok((past, file))
 }
 
-/// Whether a text is no journal: it has no newline, and more bytes than a line that was cut. A file of another must not be cut to nothing.
+/// Whether a text is no journal: it has no newline, and is no cut line of one. A file of another must not be cut to nothing.
 fn is_of_another(past: &[u8]) -> bool
-    ensures { (result ≡ true) ↔ ((length (rest_of past.now) ≡ length past.now) × (MOST_LINE_BYTES < length past.now)) }
+    ensures { (result ≡ true) ↔ ((length (rest_of past.now) ≡ length past.now) × (is_cut_line past.now ≡ false)) }
 {
-    whole_bytes(past) == 0 && past.len() > MOST_LINE_BYTES
+    whole_bytes(past) == 0 && !is_cut_line(past)
+}
+
+/// Whether a text may be what is left of a line that was kept: no more than a line may have, and a beginning of it. After a crash some
+/// systems leave zero bytes in its place.
+fn is_cut_line(rest: &[u8]) -> bool
+    ensures { result ≡ is_cut_line rest.now }
+{
+    rest.len() <= MOST_LINE_BYTES
+        && (may_begin(rest, b"TAP ") || may_begin(rest, b"FIX ") || are_zeros(rest))
+}
+
+/// Whether a text begins with a word, or is cut within it.
+fn may_begin(rest: &[u8], word: &[u8]) -> bool
+    ensures { result ≡ may_begin word.now rest.now }
+{
+    rest.starts_with(word) || word.starts_with(rest)
+}
+
+fn are_zeros(bytes: &[u8]) -> bool
+    ensures { result ≡ are_zeros bytes.now }
+{
+    bytes.iter().all(|byte| *byte == 0)
 }
 
 /// Opens the file at a path, or makes it. What is there is opened as it is: a system may refuse to make what another's file is.
@@ -258,6 +298,7 @@ fn open<R: Files<File = File>>(rt: &R, path: &str, makes: bool) -> io::Result<Fi
         .read(true)
         .append(true)
         .create(makes)
+        .mode(OWNER_ALONE)
         .open(rt, path)
 }
 

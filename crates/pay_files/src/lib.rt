@@ -13,7 +13,7 @@ mod texts;
 pub use check::check_fares;
 pub use errors::memory_or;
 pub use input::{fares_text, print_warnings, report_line};
-pub use journal::{JournalFiles, open_journals, path_in, refuse_journal, settle_journals};
+pub use journal::{JournalFiles, open_journals, path_in, ready_ledger, settle_journals};
 pub use reporting_keeper::ReportingKeeper;
 pub use run::run_session;
 pub use texts::{replay_journals, write_statement};

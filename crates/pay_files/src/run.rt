@@ -1,7 +1,7 @@
 //! One session, from standard input to standard output.
 
 use crate::input::{fares_text, is_input_a_file, print_warnings};
-use crate::journal::{JournalFile, open_journal, refuse_journal};
+use crate::journal::{JournalFile, open_journal, ready_ledger};
 use pay_jobs::{
     Begun, Book, Disk, Fault, FileStore, Keeper, Ledger, Ledgers, NoKeeper, Ran, Wary, begin,
     new_ledger, told,
@@ -91,7 +91,7 @@ fn run_in_file<R: Files<File = File> + Ledgers + Print + AllocGlobal, K: Keeper,
     keeper: K,
     reader: &mut I,
 ) -> Result<ExitCode, Fault> {
-    refuse_journal(rt, path)?;
+    ready_ledger(rt, path)?;
     let ledger = rt.ledger(path, Wary)?;
     run_over(rt, begun, keeper, ledger, reader)
 }

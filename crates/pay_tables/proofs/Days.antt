@@ -3,6 +3,7 @@ use Rattle.std.proofs.Common.{◌≡◌, ℕ, ◌≤◌, ◌<◌, Bool, true, fa
 use Rattle.std.specs.Prelude.{nat_le}
 use Rattle.std.specs.List.{AllByRecursion, find}
 use Rattle.std.proofs.lemmas.List.Elements.{All-head, All-tail, All-from_recursion}
+use Rattle.pay_day.specs.Words.{IsDay}
 use Rattle.pay_day.specs.declared.limits.TheConstants.{FIRST_DAY}
 use Rattle.pay_tables.specs.declared.edition.Edition.{Edition}
 use Rattle.pay_tables.specs.FareTables.{FareTables, IsFareTables}
@@ -33,6 +34,15 @@ in_range_of own is (Some edition) h = h.in_range
 -- the numbers of the tables of each day are in their ranges
 pub each_in_range : (editions : FareEditions) → IsFareEditions editions → (day : ℕ) → IsFareTables (on editions day)
 each_in_range editions h day = in_range_of editions.own h.own (edition_on editions day) (found (IsEdition editions.own) day editions.items h.each)
+
+-- ---- its first day is a service day
+
+begins_in_range : (own : FareTables) (o : Option Edition) → IfSome o (IsEdition own) → IsDay (begins_on o)
+begins_in_range own None h = (omega arith, omega arith)
+begins_in_range own (Some edition) h = (omega (arith, h.day.0), h.day.1)
+
+pub first_in_range : (editions : FareEditions) → IsFareEditions editions → (day : ℕ) → IsDay (first_day editions day)
+first_in_range editions h day = begins_in_range editions.own (edition_on editions day) (found (IsEdition editions.own) day editions.items h.each)
 
 -- ---- which began last
 

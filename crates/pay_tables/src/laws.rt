@@ -1,6 +1,7 @@
 //! What is true of the tables of every fare file. Each law is the contract of a function that changes
 //! nothing: a caller whose proof needs a law calls its function.
 ghost use Rattle.std.specs.Prelude.{◌≤◌, ℕ, Bool, List, All, length};
+ghost use Rattle.pay_day.specs.Words.{IsDay};
 ghost use Rattle.pay_day.specs.declared.limits.TheConstants.{FIRST_DAY};
 ghost use Rattle.pay_tables.specs.declared.limits.TheConstants.{MOST_FARE, MOST_ZONES};
 ghost use Rattle.pay_tables.specs.declared.place.Place.{Place};
@@ -50,8 +51,9 @@ pub fn editions_share(editions: &Editions)
     editions.of_one_file();
 }
 
-/// The edition of a day is that which began last: no other began between its first day and that day.
+/// The edition of a day is that which began last: no other began between its first day, which is a service day, and that day.
 pub fn last_begun(editions: &Editions)
+    ensures in_range { (day : ℕ) → IsDay (first_day editions.now day) }
     ensures by_then { (day : ℕ) → FIRST_DAY ≤ day → first_day editions.now day ≤ day }
     ensures none_between { (day : ℕ) → All (λ edition. edition.day ≤ day → edition.day ≤ first_day editions.now day) editions.now.items }
 {

@@ -69,8 +69,9 @@ The SQLite file that days are closed into. It is made if it is missing";
 /// What the option `--lint` is.
 pub const LINT: &str = "\
 Say where a fault lies, and warn of what may be a mistake: keys that nothing
-reads, a peak fare below its off-peak fare, fares of 0, no bands, no holiday
-after the last edition begins. A warning is status 1";
+reads, a peak fare below its off-peak fare, a week cap below its day cap,
+fares and caps of 0, no bands, no holiday after the last edition begins. A
+warning is status 1";
 
 /// What the option `--against` is.
 pub const AGAINST: &str = "\
@@ -79,8 +80,8 @@ first day and key that are not";
 
 /// What the option `--after` is.
 pub const AFTER: &str = "\
-With --against: OK if all days up to this one are priced alike. A number
-from 4 to 50000";
+With --against: OK if all days up to this one are priced alike. Take the
+last day that has a tap: today, if a service runs. A number from 4 to 50000";
 
 /// What the option `--port` is.
 pub const PORT: &str = "\

@@ -1,0 +1,5 @@
+pub mod Warnings
+pub mod Printed
+pub mod Words
+pub mod Rows
+pub mod PrintedRows

@@ -1,0 +1,48 @@
+//! The keys of a table that nothing reads.
+ghost use Rattle.std.specs.Prelude.{◌≡◌, IfOk, [], ◌∷◌, string_bytes};
+ghost use Rattle.toml.specs.View.{table_view};
+ghost use Rattle.pay_warnings.specs.Warnings.{Adds, says_of, unread, unread_key};
+
+use crate::read_keys::is_among;
+use crate::warning::{Concern, TableAt, Warning};
+use pay_fare_file::Key;
+use std::alloc::AllocError;
+use toml::Table;
+
+/// Adds what there is to say of a table.
+pub fn add(warnings: &mut Vec<Warning>, table: TableAt, concern: Concern) -> Result<(), AllocError>
+    ensures { IfOk result (λ _. Adds (says_of table concern ∷ []) warnings.old warnings.new) }
+{
+    warnings.push(Warning { table, concern })?;
+    Ok(())
+}
+
+/// Adds each key of a table that is not among those that are read.
+pub fn add_unread(
+    warnings: &mut Vec<Warning>,
+    at: TableAt,
+    known: &[Key],
+    table: &Table,
+) -> Result<(), AllocError>
+    ensures { IfOk result (λ _. Adds (unread at known.now (table_view table.now)) warnings.old warnings.new) }
+{
+    for (name, _value) in table.iter() {
+        add_key(warnings, at, known, name)?;
+    }
+    Ok(())
+}
+
+fn add_key(
+    warnings: &mut Vec<Warning>,
+    at: TableAt,
+    known: &[Key],
+    name: &String,
+) -> Result<(), AllocError>
+    ensures { IfOk result (λ _. Adds (unread_key at known.now (string_bytes name.now)) warnings.old warnings.new) }
+{
+    if is_among(known, name.as_str()) {
+        return Ok(());
+    }
+    let name = name.clone()?;
+    add(warnings, at, Concern::NotRead(name))
+}
