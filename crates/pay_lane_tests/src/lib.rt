@@ -1,4 +1,4 @@
-//! The tests of lanes and workers, and of offices and desks. They show what no clause says: that what is sent is answered, whatever
+//! The tests of mailboxes, of lanes and workers, and of offices and desks. They show what no clause says: that what is sent is answered, whatever
 //! the threads do.
 #![tactic(auto)]
 
@@ -10,6 +10,8 @@ mod ending;
 mod gates;
 #[cfg(test)]
 mod given;
+#[cfg(test)]
+mod mailboxes;
 #[cfg(test)]
 mod memory;
 #[cfg(test)]

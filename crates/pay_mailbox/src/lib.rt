@@ -10,6 +10,3 @@ mod senders;
 pub use ends::{Inbox, Outbox};
 pub use mailbox::{Mailbox, Receiver, Sender};
 pub use senders::Senders;
-
-#[cfg(test)]
-mod tests;

@@ -2,7 +2,7 @@
 ghost use Rattle.std.specs.Prelude.{◌≡◌, length, IfOk};
 ghost use Rattle.pay_mailbox.specs.Parts.{HasAll};
 
-use super::*;
+use pay_mailbox::{Inbox, Outbox, Senders};
 use std::alloc::{AllocError, Global};
 use std::process::Abort;
 use std::snapshot::Snapshot;
