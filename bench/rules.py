@@ -125,6 +125,8 @@ class Posting(NamedTuple):
     shares: dict
     amount: int
     amounts: dict
+    # The first day of the edition of the week's Monday, and 0 where that is not known.
+    edition: int
 
 
 class Account(NamedTuple):
@@ -173,6 +175,11 @@ def on(fares, day):
     """What holds on a day: the edition that began last by then, or the file's own keys."""
     begun = [first for first in fares.editions if first <= day]
     return fares.editions[max(begun)] if begun else fares
+
+
+def first_day(fares, day):
+    """The day on which that edition began: 4 where none has."""
+    return max((first for first in fares.editions if first <= day), default=4)
 
 
 def span(fares, places):
@@ -438,14 +445,16 @@ def posting(fares, number, account, through, before):
     """What is due of an account's week through a day as a posting after those of that account and week; or why it is refused."""
     week, version = monday(through), len(account.taps) + len(account.fixes)
     due, shares = owed(fares, account, through)
+    edition = first_day(fares, week)
     if before:
         last = before[-1]
         if version < last.version or through < last.through:
             return "42 StaleQuote"
         if (version, through) == (last.version, last.through):
-            return last if (due, shares) == (last.due, last.shares) else "47 QuoteDiffers"
+            is_same = (due, shares) == (last.due, last.shares) and last.edition in (0, edition)
+            return last if is_same else "47 QuoteDiffers"
     amounts = {operator: pence - sum(it.amounts[operator] for it in before) for operator, pence in shares.items()}
-    return Posting(number, week, through, version, due, shares, due - sum(it.amount for it in before), amounts)
+    return Posting(number, week, through, version, due, shares, due - sum(it.amount for it in before), amounts, edition)
 
 
 def closed(fares, accounts, ledger, day):

@@ -63,5 +63,5 @@ def sessions_that_go_on(folder):
     yield GOES_ON, run_file(given, f"{EXAMPLES}/{GOES_ON}"), answers(told[GOES_ON])
     yield "what they kept", run(["replay", *RUN_SAMPLE[1:], journal]), answers(b"OK lines 4 accounts 1 from 1704697200 to 1704702200\n")
     with contextlib.closing(sqlite3.connect(ledger)) as posted:
-        rows = posted.execute("SELECT account, through, version, due, amount FROM postings").fetchall()
+        rows = posted.execute("SELECT account, through, version, due, amount FROM postings2").fetchall()
     yield "what they posted", answers(repr(rows).encode()), answers(b"[(7, 19730, 2, 175, 175), (7, 19730, 4, 150, -25)]")

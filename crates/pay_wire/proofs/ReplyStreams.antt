@@ -17,7 +17,7 @@ use Rattle.pay_rules.specs.KindWords.{word_of_kind}
 use Rattle.pay_wire.specs.declared.reply.SpelledReply.{SpelledReply}
 use Rattle.pay_wire.specs.declared.reply.SpelledReply.TheVariants as replies
 use Rattle.pay_wire.specs.Fields.{words}
-use Rattle.pay_wire.specs.Replies.{refusal_number, refusal_name, line_of_words, words_of_journey, words_of_shares, words_of_quote, words_of_due, words_of_posting, words_of_reply, postings_of_reply, text_of_postings, journeys_of_reply, text_of_journeys, ending_of_reply, spelling_of_reply, journey_as_read, posting_as_read, reply_as_read, IsReplyJourney, IsReplyNumbers, IsReplyQuote, IsReplyPosting, IsReply}
+use Rattle.pay_wire.specs.Replies.{refusal_number, refusal_name, line_of_words, words_of_journey, words_of_shares, words_of_quote, words_of_due, words_of_posting, words_of_reply, postings_of_reply, text_of_postings, journeys_of_reply, text_of_journeys, ending_of_reply, spelling_of_reply, journey_as_read, quote_as_read, posting_as_read, reply_as_read, IsReplyJourney, IsReplyNumbers, IsReplyQuote, IsReplyPosting, IsReply}
 use Rattle.pay_rules.specs.declared.shown.Line.{Line}
 use Rattle.pay_rules.specs.declared.shown.LineKind.{LineKind}
 use Rattle.pay_rules.specs.declared.shown.LineKind.TheVariants as kind
@@ -178,9 +178,10 @@ same_fields a b d e x y w z p q r s = rw (p, q, r, s) refl
 one_priced : (p q : Priced) → p.again ≡ q.again → p.day ≡ q.day → p.day_price ≡ q.day_price → p.week_price ≡ q.week_price → p ≡ q
 one_priced p q a d e f = same_fields p.again q.again p.day q.day p.day_price q.day_price p.week_price q.week_price a d e f
 
+-- a quote as who reads its line knows it
 abbrev quote : ℕ → ℕ → ℕ → ℕ → ℕ → List ℕ → QuoteParts
 quote account week through version due shares =
-    record { account = account; week = week; through = through; version = version; due = due; shares = shares }
+    record { account = account; week = week; through = through; version = version; due = due; edition = 0; shares = shares }
 
 same_quote : (a b w x t u v y d e : ℕ) (xs ys : List ℕ) → a ≡ b → w ≡ x → t ≡ u → v ≡ y → d ≡ e → xs ≡ ys → quote a w t v d xs ≡ quote b x u y e ys
 same_quote a b w x t u v y d e xs ys f g h k l m = rw (f, g, h, k, l, m) refl
@@ -203,7 +204,7 @@ one_quote p q ws vs f g e =
       d.1,
     )
 
-one_due : (p q : QuoteParts) → IsReplyQuote p → IsReplyQuote q → words_of_due p ≡ words_of_due q → p ≡ q
+one_due : (p q : QuoteParts) → IsReplyQuote p → IsReplyQuote q → words_of_due p ≡ words_of_due q → quote_as_read p ≡ quote_as_read q
 one_due p q f g e =
     let h = one_quote p q (words_of_shares 1 (map decimal p.shares)) (words_of_shares 1 (map decimal q.shares)) f.numbers g.numbers (heads _ _ _ _ e).1 in
     h.0 p.shares q.shares (one_from_share_words decimals p.shares q.shares f.operators g.operators f.shares g.shares h.1)
@@ -211,6 +212,7 @@ one_due p q f g e =
 -- what the line that each reply has tells of two replies that have the same
 abbrev Alike : SpelledReply → SpelledReply → Type 0
 Alike (replies.Shown s) (replies.Shown t) = (s.account ≡ t.account) × (s.day ≡ t.day) × (length s.lines ≡ length t.lines) × (s.day_price ≡ t.day_price)
+Alike (replies.Due p) (replies.Due q) = quote_as_read p ≡ quote_as_read q
 Alike (replies.Closed c) (replies.Closed d) = c.day ≡ d.day
 Alike a b = a ≡ b
 
@@ -246,7 +248,7 @@ one_from_words (replies.Shown s) (replies.No t) f g e = absurd cc
 one_from_words (replies.Shown s) replies.Bye f g e = absurd cc
 one_from_words (replies.Due p) (replies.Priced q) f g e = not_priced q.again 68 _ (sym (heads _ _ _ _ e).0) (λ h. absurd (omega (arith, h))) (λ h. absurd (omega (arith, h)))
 one_from_words (replies.Due p) (replies.Shown t) f g e = absurd cc
-one_from_words (replies.Due p) (replies.Due q) f g e = ap (λ (t : QuoteParts). replies.Due t) (one_due p q f g e)
+one_from_words (replies.Due p) (replies.Due q) f g e = one_due p q f g e
 one_from_words (replies.Due p) (replies.Closed d) f g e = absurd cc
 one_from_words (replies.Due p) (replies.No s) f g e = absurd cc
 one_from_words (replies.Due p) replies.Bye f g e = absurd cc
@@ -476,7 +478,7 @@ alike_as_read (replies.Priced p) (replies.No s) x y f g same postings e = absurd
 alike_as_read (replies.Priced p) replies.Bye x y f g same postings e = absurd cc
 alike_as_read (replies.Due p) (replies.Shown t) x y f g same postings e = absurd cc
 alike_as_read (replies.Due p) (replies.Priced q) x y f g same postings e = absurd cc
-alike_as_read (replies.Due p) (replies.Due q) x y f g same postings e = (same, e)
+alike_as_read (replies.Due p) (replies.Due q) x y f g same postings e = (ap (λ (t : QuoteParts). replies.Due t) same, e)
 alike_as_read (replies.Due p) (replies.Closed d) x y f g same postings e = absurd cc
 alike_as_read (replies.Due p) (replies.No s) x y f g same postings e = absurd cc
 alike_as_read (replies.Due p) replies.Bye x y f g same postings e = absurd cc

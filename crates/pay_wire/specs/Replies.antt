@@ -158,10 +158,14 @@ spelling_of_reply reply = text_of_postings (postings_of_reply reply) ++ ending_o
 abbrev pub journey_as_read : Line → Line
 journey_as_read l = record { day = 0; kind = l.kind; from = l.from; to = l.to; utc = l.utc; second = 0; fare = l.fare; band = None }
 
--- a posting as who reads its line knows it: the shares of what is due stand nowhere
+-- a quote as who reads its line knows it: its edition stands nowhere
+abbrev pub quote_as_read : QuoteParts → QuoteParts
+quote_as_read q = record { account = q.account; week = q.week; through = q.through; version = q.version; due = q.due; edition = 0; shares = q.shares }
+
+-- a posting as who reads its line knows it: nor do the shares of what is due
 abbrev pub posting_as_read : Posting → Posting
 posting_as_read p = record {
-  quote = record { account = p.quote.account; week = p.quote.week; through = p.quote.through; version = p.quote.version; due = p.quote.due; shares = [] };
+  quote = record { account = p.quote.account; week = p.quote.week; through = p.quote.through; version = p.quote.version; due = p.quote.due; edition = 0; shares = [] };
   amount = p.amount;
   share_amounts = p.share_amounts;
 }
@@ -169,6 +173,7 @@ posting_as_read p = record {
 -- a reply as who reads its lines knows it
 abbrev pub reply_as_read : SpelledReply → SpelledReply
 reply_as_read (replies.Shown s) = replies.Shown (record { account = s.account; day = s.day; lines = map journey_as_read s.lines; day_price = s.day_price })
+reply_as_read (replies.Due q) = replies.Due (quote_as_read q)
 reply_as_read (replies.Closed c) = replies.Closed (record { day = c.day; postings = map posting_as_read c.postings })
 reply_as_read reply = reply
 
@@ -176,7 +181,7 @@ reply_as_read reply = reply
 abbrev pub IsReplyJourney : Line → Type 0
 IsReplyJourney l = (l.from < 2 ^ 16) × (l.to < 2 ^ 16) × (l.utc < 2 ^ 64) × (l.fare < 2 ^ 64)
 
--- the numbers of a quote, its shares apart, are those of its types
+-- the numbers of a quote, its edition and its shares apart, are those of its types
 pub record IsReplyNumbers (quote : QuoteParts) : Type 0 where
   pub account : quote.account < 2 ^ 32
   pub week : quote.week < 2 ^ 32
@@ -229,10 +234,10 @@ empty_day : spelling_of_reply (replies.Shown (record { account = 7; day = 19_730
 unfolding digits
 empty_day = refl
 
--- what account 7 owes for a week through one of its days, at a version
+-- what account 7 owes for a week through one of its days, at a version, by the edition from day 4 on
 abbrev quoted : ℕ → ℕ → ℕ → ℕ → List ℕ → SpelledReply
 quoted week through version due shares =
-    replies.Due (record { account = 7; week = week; through = through; version = version; due = due; shares = shares })
+    replies.Due (record { account = 7; week = week; through = through; version = version; due = due; edition = 4; shares = shares })
 
 due_to_one_operator : spelling_of_reply (quoted 19_723 19_729 2 280 (280 ∷ replicate 15 0)) ≡ codes "DUE 7 19723 19729 2 280 1=280\n"
 unfolding digits
@@ -258,10 +263,10 @@ nothing_due : spelling_of_reply (quoted 19_730 19_730 0 0 (replicate 16 0)) ≡ 
 unfolding digits
 nothing_due = refl
 
--- what was posted for a quote of account 7
+-- what was posted for a quote of account 7, by that edition
 abbrev posted : ℕ → ℕ → ℕ → ℤ → List ℤ → Posting
 posted through version due amount share_amounts = record {
-  quote = record { account = 7; week = 19_730; through = through; version = version; due = due; shares = 0 ∷ 0 ∷ 0 ∷ due ∷ replicate 12 0 };
+  quote = record { account = 7; week = 19_730; through = through; version = version; due = due; edition = 4; shares = 0 ∷ 0 ∷ 0 ∷ due ∷ replicate 12 0 };
   amount = amount;
   share_amounts = share_amounts;
 }

@@ -53,7 +53,7 @@ pub fn each_is_a_line()
     ensures quit { IsLine (codes "QUIT") }
 {}
 
-/// Replies that follow one another are told apart, so a stream of replies is read in one way.
+/// Replies that follow one another are told apart, as far as their lines tell them, so a stream of replies is read in one way.
 pub fn one_reply()
     ensures first { (a b : SpelledReply) (x y : List ℕ) → IsReply a → IsReply b
         → spelling_of_reply a ++ x ≡ spelling_of_reply b ++ y → (reply_as_read a ≡ reply_as_read b) × (x ≡ y) }
