@@ -47,7 +47,7 @@ fn check<R: Files + Print + AllocGlobal>(
     }
 }
 
-/// Reports why the job failed; and where the fare file is at fault, or what there is to say of it, if that is asked for.
+/// Reports why the job failed; and where the fare file is at fault, or its warnings where it differs, if that is asked for.
 fn report<R: Eprint + AllocGlobal>(
     rt: &R,
     words: &CheckWords<'_>,
@@ -63,10 +63,10 @@ fn report<R: Eprint + AllocGlobal>(
         Some(place) => eprintln!(rt; "farebox: {fault} {place}"),
         None => eprintln!(rt; "farebox: {fault}"),
     };
-    if words.lints {
-        print_warnings(rt, fares)?;
+    match fault {
+        CheckFault::OtherFares { .. } if words.lints => warn(rt, fares),
+        _ => Ok(ExitCode::FAILURE),
     }
-    Ok(ExitCode::FAILURE)
 }
 
 /// Prints the warnings of a fare file. The status that the program then ends with.

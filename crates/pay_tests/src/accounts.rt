@@ -6,7 +6,7 @@ use crate::given::{MONDAY, expect_same, sample, tap_at};
 use pay_account::*;
 use pay_book::Book;
 use pay_money::Pence;
-use pay_rules::{Credit, Fix, Kind, Tap, What};
+use pay_rules::{Credit, Fix, Kind, Quote, Tap, What};
 use pay_tables::Editions;
 use std::alloc::AllocError;
 use std::process::Abort;
@@ -181,10 +181,21 @@ pub fn expect_fixed<R: Abort, F: Fares>(
     expect_same(rt, fixed(account, editions, &fix), Ok(priced));
 }
 
-/// Account 7 after six items: a forgotten touch out is filled in, money is given back, the Fill is withdrawn, and the tap
-/// taken out, and then one that there is not.
-fn corrected<R: Abort + AllocGlobal, F: Fares>(rt: &R, editions: &Editions) -> F {
-    let mut account = F::new(rt.alloc(), 7);
+/// What is due of account 7 through the Monday.
+fn quoted<F: Fares>(account: &F, editions: &Editions) -> Result<Quote, AllocError>
+    requires seven { F.account account.now ≡ 7 }
+    requires priced_by { F.IsPricedBy editions.now account.now }
+{
+    match account.quote(editions, MONDAY) {
+        Err(AllocError) => account.quote(editions, MONDAY),
+        quoted => quoted,
+    }
+}
+
+/// Sends six items to an account, and compares what is due then: a forgotten touch out is filled in, money is given back, the
+/// Fill is withdrawn, and the tap taken out, and then one that there is not.
+fn takes_corrections<R: Abort + AllocGlobal, F: Fares>(rt: &R, editions: &Editions) {
+    let mut account: F = empty_account(rt, editions);
     let entry = tap_at(rt, 1, 25_200, 10, Kind::In);
     let out = What::Fill(tap_at(rt, 2, 27_000, 12, Kind::Out).stamp, 12, Kind::Out);
     let credit = What::Credit(Credit::from_parts(MONDAY, 100).expect(rt, "a credit"));
@@ -201,14 +212,17 @@ fn corrected<R: Abort + AllocGlobal, F: Fares>(rt: &R, editions: &Editions) -> F
     );
     expect_fixed(rt, &mut account, editions, 4, What::Void(1, 1), (MONDAY, 0));
     expect_fixed(rt, &mut account, editions, 5, What::Void(9, 9), (0, 0));
-    account
+    let quote = quoted(&account, editions).expect(rt, "memory");
+    expect_same(
+        rt,
+        (quote.account(), quote.version(), quote.due()),
+        (7, 6, Pence::new(0)),
+    );
 }
 
 #[test]
 fn corrections(rt: HostRuntime) {
     let editions = sample(&rt);
-    let account: Account = corrected(&rt, &editions);
-    expect_same(&rt, account.version(), 6);
-    let book: Book = corrected(&rt, &editions);
-    expect_same(&rt, book.number(), 7);
+    takes_corrections::<HostRuntime, Account>(&rt, &editions);
+    takes_corrections::<HostRuntime, Book>(&rt, &editions);
 }

@@ -255,39 +255,6 @@ fn runs_by_late_taps(rt: HostRuntime) {
     a_run::<HostRuntime, Account>(&rt, &editions);
 }
 
-/// Sends a boarding, of which there is one that pays.
-fn expect_boarding<R: Abort, F: Fares>(
-    rt: &R,
-    account: &mut F,
-    editions: &Editions,
-    number: (u32, u32),
-    again: bool,
-)
-    requires { F.IsPricedBy editions.now account.old }
-    ensures same_account { F.account account.new ≡ F.account account.old }
-    ensures priced_by { F.IsPricedBy editions.now account.new }
-{
-    let tap = Tap {
-        account: account.number(),
-        ..tap_at(rt, number.0, number.1, 50, Kind::Bus)
-    };
-    let result = account.tap(editions, tap).expect(rt, "a price");
-    expect_same(rt, result, told(again, 175));
-}
-
-// A first boarding has none to read, one after it reads the last that paid, and a repeat reads none.
-#[test]
-fn reads_few_taps(rt: HostRuntime) {
-    let editions = sample(&rt);
-    let mut book: Book = empty_account(&rt, &editions);
-    expect_boarding(&rt, &mut book, &editions, (1, 25_200), false);
-    expect_same(&rt, book.steps(), 0);
-    expect_boarding(&rt, &mut book, &editions, (2, 25_800), false);
-    expect_same(&rt, book.steps(), 1);
-    expect_boarding(&rt, &mut book, &editions, (1, 25_200), true);
-    expect_same(&rt, book.steps(), 0);
-}
-
 /// Six taps of the Monday: of each its second, its place and its kind. Their numbers are their places, from 1.
 static SIX: [(u32, u16, Kind); 6] = [
     (25_200, 50, Kind::Bus),
@@ -345,9 +312,9 @@ fn last_told<R: Abort, F: Fares>(
 }
 
 /// Compares what is told last, if the six come to account 7 in this order.
-fn expect_order<R: Abort + AllocGlobal>(rt: &R, editions: &Editions, order: [usize; 6]) {
-    let mut book: Book = empty_account(rt, editions);
-    let last = last_told(rt, &mut book, editions, &order);
+fn expect_order<R: Abort + AllocGlobal, F: Fares>(rt: &R, editions: &Editions, order: [usize; 6]) {
+    let mut account: F = empty_account(rt, editions);
+    let last = last_told(rt, &mut account, editions, &order);
     expect_same(rt, (order, last), (order, told(false, 690)));
 }
 
@@ -356,7 +323,7 @@ fn expect_order<R: Abort + AllocGlobal>(rt: &R, editions: &Editions, order: [usi
 fn six_in_whatever_order(rt: HostRuntime) {
     let editions = sample(&rt);
     for number in 0..720 {
-        expect_order(&rt, &editions, order(number));
+        expect_order::<HostRuntime, Book>(&rt, &editions, order(number));
     }
 }
 

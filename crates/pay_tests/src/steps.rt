@@ -106,55 +106,66 @@ fn rides<R: Abort + AllocGlobal>(rt: &R, count: u32) -> Vec<Asked> {
     all
 }
 
-/// Sends one more, for which so many taps are read at least, and so many at most.
-fn expect_read<R: Abort>(
+/// Sends each of these, for which so many taps are read at least, and so many at most.
+fn expect_each_read<R: Abort>(
     rt: &R,
     book: &mut Book,
     editions: &Editions,
-    asked: Asked,
-    least: u64,
-    most: u64,
+    late: &[(Asked, u64, u64)],
 )
     requires { IsConsistent editions.now book.old }
     ensures { IsConsistent editions.now book.new }
 {
-    take_all(rt, book, editions, &[asked]);
-    let read = book.steps();
-    expect_same(rt, (read, least <= read, read <= most), (read, true, true));
+    for one in late {
+        expect_same(rt, is_taken(book, editions, &one.0), true);
+        let read = book.steps();
+        let (least, most) = (one.1, one.2);
+        expect_same(rt, (read, least <= read, read <= most), (read, true, true));
+    }
+}
+
+/// Sends all to an account that has none, and then each of those that come late.
+fn expect_read<R: Abort + AllocGlobal>(rt: &R, all: &[Asked], late: &[(Asked, u64, u64)]) {
+    let editions = sample(rt);
+    let mut book: Book = empty_account(rt, &editions);
+    take_all(rt, &mut book, &editions, all);
+    expect_each_read(rt, &mut book, &editions, late);
+}
+
+// A first boarding has none to read, one after it reads the last that paid, and a repeat reads none.
+#[test]
+fn few_where_there_are_few(rt: HostRuntime) {
+    let first = tap(&rt, 1, SEVEN, 50, Kind::Bus);
+    let second = tap(&rt, 2, SEVEN + 600, 50, Kind::Bus);
+    let again = tap(&rt, 1, SEVEN, 50, Kind::Bus);
+    expect_read(&rt, &[], &[(first, 0, 0), (second, 1, 1), (again, 0, 0)]);
 }
 
 // The tap is 2,000 seconds after one and before another, and after that is one with none shortly before it.
 #[test]
 fn one_among_sixteen_thousand_boardings(rt: HostRuntime) {
-    let editions = sample(&rt);
-    let mut book: Book = empty_account(&rt, &editions);
-    take_all(&rt, &mut book, &editions, &boardings(&rt, 16_000, 4_000));
+    let all = boardings(&rt, 16_000, 4_000);
     let late = tap(&rt, 16_000, SEVEN + 4_000 * 8_000 + 2_000, 50, Kind::Bus);
-    expect_read(&rt, &mut book, &editions, late, 1, 64 + 4 * 3);
+    expect_read(&rt, &all, &[(late, 1, 64 + 4 * 3)]);
 }
 
 // The tap ends a leg earlier, so that it parts one journey of two taps into one of two and one of one.
 #[test]
 fn one_among_eight_thousand_rides(rt: HostRuntime) {
-    let editions = sample(&rt);
-    let mut book: Book = empty_account(&rt, &editions);
-    take_all(&rt, &mut book, &editions, &rides(&rt, 8_000));
+    let all = rides(&rt, 8_000);
     let late = tap(&rt, 16_000, SEVEN + 7_200 * 4_000 + 600, 11, Kind::Out);
-    expect_read(&rt, &mut book, &editions, late, 1, 64 + 4 * 5);
     let void = fix(1, What::Void(1, 16_000));
-    expect_read(&rt, &mut book, &editions, void, 1, 64 + 4 * 5);
+    expect_read(&rt, &all, &[(late, 1, 64 + 4 * 5), (void, 1, 64 + 4 * 5)]);
 }
 
 // With the tap before all of them each boarding pays that was free, and is free that paid, so that each is read.
 #[test]
 fn one_before_all_that_there_may_be(rt: HostRuntime) {
-    let editions = sample(&rt);
-    let mut book: Book = empty_account(&rt, &editions);
-    take_all(&rt, &mut book, &editions, &boardings(&rt, 16_383, 3_000));
+    let all = boardings(&rt, 16_383, 3_000);
     let late = tap(&rt, 16_383, SEVEN - 1_000, 50, Kind::Bus);
-    expect_read(&rt, &mut book, &editions, late, 16_383, 64 + 4 * 16_383);
     let again = tap(&rt, 16_383, SEVEN - 1_000, 50, Kind::Bus);
-    expect_read(&rt, &mut book, &editions, again, 0, 64);
+    let (least, most) = (16_383, 64 + 4 * 16_383);
+    expect_read(&rt, &all, &[(late, least, most), (again, 0, 64)]);
 }
 
 /// A Credit of one pound.
@@ -166,8 +177,6 @@ fn pound<R: Abort>(rt: &R) -> Asked {
 // A Credit disturbs none of them.
 #[test]
 fn one_credit_beside_a_thousand_boardings(rt: HostRuntime) {
-    let editions = sample(&rt);
-    let mut book: Book = empty_account(&rt, &editions);
-    take_all(&rt, &mut book, &editions, &boardings(&rt, 1_000, 3_000));
-    expect_read(&rt, &mut book, &editions, pound(&rt), 0, 64);
+    let all = boardings(&rt, 1_000, 3_000);
+    expect_read(&rt, &all, &[(pound(&rt), 0, 64)]);
 }
