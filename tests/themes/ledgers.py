@@ -144,51 +144,72 @@ def ledgers_without_a_journal(folder):
     yield "a ledger and its journal", run(with_ledger(path, journal), lines), answers(replies)
 
 
-def replies_of(path, journal, pairs, words=RUN):
-    """What a session over these files comes to, and what it has to come to."""
-    lines, replies = session(pairs)
-    return run(with_ledger(path, journal, words), lines), answers(replies)
+def lacks(line):
+    """The fault of a ledger that archives this, and its journal does not give it back."""
+    return fault(f"in the ledger and not in the journal: {line}")
+
+
+# Corrections of each form, of which the ledger archives each. The touch in is taken out in the end, and nothing is due.
+EACH_FORM = (
+    ("TAP 1 1 7 1704697200 10 IN", "OK 19730 860 860"), ("FIX 3 1 7 FILL 1704699000 12 OUT", "OK 19730 340 340"),
+    ("FIX 3 2 7 CREDIT 19730 100", "OK 19730 340 340"), ("FIX 3 3 7 DROP 3 1", "OK 19730 860 860"), ("FIX 3 4 7 VOID 1 1", "OK 19730 0 0"),
+    ("TAP 1 1 8 1704697200 50 BUS", "OK 19730 175 175"), ("TAP 1 1 9 1704697200 50 BUS", "OK 19730 175 175"),
+    ("CLOSE 19730", "PAY 7 19730 19730 5 0 0\nPAY 8 19730 19730 1 175 175 4=175\nPAY 9 19730 19730 1 175 175 4=175\nDONE 19730 3"),
+)
 
 
 @test
 def journals_of_another(folder):
-    """A ledger beside a journal that is not its own, or has lost lines: a close that contradicts what was posted is refused, and posts nothing."""
+    """A ledger beside a journal that is not its own, has lost lines, or is read by another zone or fare file: nothing is read or written."""
     path = os.path.join(folder, "ledger")
     journal = os.path.join(folder, "journal")
-    yield "the ledger's own", *replies_of(path, journal, (
-        ("TAP 1 1 7 1704697200 50 BUS", "OK 19730 175 175"), ("TAP 1 2 7 1704704400 50 BUS", "OK 19730 350 350"),
-        ("CLOSE 19730", "PAY 7 19730 19730 2 350 350 4=350\nDONE 19730 1"),
-    ))
+    first, second = "TAP 1 1 7 1704697200 50 BUS", "TAP 1 2 7 1704704400 50 BUS"
+    lines, replies = session(((first, "OK 19730 175 175"), (second, "OK 19730 350 350"), ("CLOSE 19730", "PAY 7 19730 19730 2 350 350 4=350\nDONE 19730 1")))
+    yield "the ledger's own", run(with_ledger(path, journal), lines), answers(replies)
     left = copied_rows(path, folder)
-    other = "TAP 1 1 7 1704697200 10 IN"
-    for name, text, pairs in (
-        ("another tap of that number", other, (
-            ("TAP 1 2 7 1704704400 50 BUS", "OK 19730 1035 1035"), ("CLOSE 19730", "NO 47 QuoteDiffers"),
-            ("TAP 1 3 7 1704711600 50 BUS", "OK 19730 1210 1210"), ("CLOSE 19730", "NO 46 ArchiveConflict"), ("CLOSE 19731", "NO 46 ArchiveConflict"),
-            ("DUE 7 19730", "DUE 7 19730 19730 3 1210 1=860 4=350"),
-        )),
-        ("a line less", "TAP 1 1 7 1704697200 50 BUS", (
-            ("CLOSE 19730", "NO 42 StaleQuote"), ("CLOSE 19731", "NO 42 StaleQuote"), ("TAP 1 1 8 1704697200 50 BUS", "OK 19730 175 175"),
-            ("CLOSE 19730", "NO 42 StaleQuote"),
-        )),
-        ("another line in its place", "TAP 1 1 7 1704697200 50 BUS", (
-            ("TAP 1 3 7 1704697201 50 BUS", "OK 19730 175 175"), ("CLOSE 19730", "NO 47 QuoteDiffers"),
-        )),
-    ):
-        yield f"{name}, closed", *replies_of(path, written(folder, "other", in_lines([text])), pairs)
-        yield f"{name}, the ledger then", answers(copied_rows(path, folder)), answers(left)
-    # Once the line that was lost is there again, the close is as it was.
-    yield "a line less, which is sent again", *replies_of(path, written(folder, "other", b"TAP 1 2 7 1704704400 50 BUS\n"), (
-        ("CLOSE 19730", "NO 42 StaleQuote"), ("TAP 1 1 7 1704697200 50 BUS", "OK 19730 350 350"),
-        ("CLOSE 19730", "PAY 7 19730 19730 2 350 350 4=350\nDONE 19730 1"),
-    ))
-    yield "a line less, which is sent again, the ledger then", answers(copied_rows(path, folder)), answers(left)
-    # With another fare file the same taps cost something else: as 350 were charged for two boardings, the caps of a day change nothing.
+    lacks_first, lacks_second = lacks(f"{first}, on day 19730 at second 25200"), lacks(f"{second}, on day 19730 at second 32400")
     dearer = written(folder, "dearer", bytes_of(FARES).replace(b"bus = 175", b"bus = 176"))
-    yield "another fare file", *replies_of(path, journal, (
-        ("CLOSE 19730", "NO 47 QuoteDiffers"), ("TAP 1 3 7 1704711600 50 BUS", "OK 19730 528 528"),
-        ("CLOSE 19730", "PAY 7 19730 19730 3 528 178 4=178\nDONE 19730 1"),
-    ), ["run", dearer, LONDON])
+    otherwise = fault("account 7 was posted otherwise for week 19730 through 19730")
+    for name, text, words, wanted in (
+        ("another tap of that number", (first.replace("50 BUS", "10 IN"), second), RUN, lacks_first),
+        ("the other line alone", (second,), RUN, lacks_first),
+        ("a line less", (first,), RUN, lacks_second),
+        ("another line in its place", (first, "TAP 1 3 7 1704697201 50 BUS"), RUN, lacks_second),
+        ("lines of another account", ("TAP 1 1 8 1704697200 50 BUS",), RUN, lacks_first),
+        ("another zone", (first, second), [*RUN[:2], "CET-1"], lacks_first),
+        ("another fare file", (first, second), ["run", dearer, LONDON], otherwise),
+    ):
+        given, other = written(folder, "lines", b"TAP 1 9 7 1704697300 50 BUS\nCLOSE 19730\n"), written(folder, "other", in_lines(text))
+        yield name, run_file(with_ledger(path, other, words), given, leaves=True), wanted._replace(left=bytes_of(given))
+        yield f"{name}, the journal then", answers(bytes_of(other)), answers(in_lines(text))
+        yield f"{name}, the ledger then", answers(copied_rows(path, folder)), answers(left)
+    # A line that was lost is sent again to a session without the ledger.
+    other = written(folder, "other", in_lines([second]))
+    yield "a line that was lost", run([*RUN, "--journal", other], in_lines([first])), answers(b"OK 19730 350 350\n")
+    lines, replies = session((("CLOSE 19730", "PAY 7 19730 19730 2 350 350 4=350\nDONE 19730 1"),))
+    yield "a line that was lost and sent again", run(with_ledger(path, other), lines), answers(replies)
+    yield "a line that was lost and sent again, the ledger then", answers(copied_rows(path, folder)), answers(left)
+    # What was posted for a version that the account has not, and what another sum was due for.
+    for name, change in (("a later version", "version = 3"), ("another sum", "due = 351, amount = 351")):
+        changed = others_database(shutil.copy(path, os.path.join(folder, "changed")), f"UPDATE postings2 SET {change}", "UPDATE shares2 SET amount = 351" if "351" in change else "SELECT 1")
+        yield f"a posting of {name}", run(with_ledger(changed, journal), lines), otherwise
+
+
+@test
+def lost_lines(folder):
+    """A ledger beside a journal that has lost one line: the first account that differs is named by it."""
+    path, journal = os.path.join(folder, "ledger"), os.path.join(folder, "journal")
+    lines, replies = session(EACH_FORM)
+    yield "the ledger's own", run(with_ledger(path, journal, RUN_SAMPLE), lines), answers(replies)
+    kept = [line for line, _ in EACH_FORM[:-1]]
+    for number, line in enumerate(kept):
+        at = {0: ", on day 19730 at second 25200", 1: ", on day 19730 at second 27000", 5: ", on day 19730 at second 25200", 6: ", on day 19730 at second 25200"}.get(number, "")
+        other = written(folder, "other", in_lines(kept[:number] + kept[number + 1:]))
+        yield f"without {line}", run(with_ledger(path, other, RUN_SAMPLE)), lacks(line + at)
+    other = written(folder, "other", in_lines(kept[:5]))
+    yield "without two accounts", run(with_ledger(path, other, RUN_SAMPLE)), lacks(f"{kept[5]}, on day 19730 at second 25200")
+    other = written(folder, "other", in_lines([kept[6], *kept[:6]]))
+    yield "all lines in another order", run(with_ledger(path, other, RUN_SAMPLE)), answers(b"")
 
 
 @test

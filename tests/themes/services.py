@@ -16,7 +16,7 @@ from running import (
     MISSING, MONDAY, RUN_SAMPLE, SAMPLE, SEVEN, STATE, End, answers, end_of, fault, heard, in_lines, run, session, started, test, written,
 )
 from themes.journals import CANNOT_USE, bad_line, bytes_of, limited_to, naming, replayed, with_journal
-from themes.ledgers import ALONE, ROWS_AFTER_FIRST, ROWS_AFTER_SECOND, STORE, opened_ledger, refused_ledgers, rows, with_ledger
+from themes.ledgers import ALONE, ROWS_AFTER_FIRST, ROWS_AFTER_SECOND, STORE, lacks, opened_ledger, refused_ledgers, rows, with_ledger
 from themes.serve import (
     WEEK_DAYS, boarding, closed, connected, ended, free_ports, listening, paid, serving, side_by_side, talk, talk_ahead, words_of,
 )
@@ -479,6 +479,13 @@ def ledgers_of_services(folder):
     both = written(folder, "both", b"".join(bytes_of(path_of(journals, number)) or b"" for number in FROM_EACH))
     lines, replies = session((("CLOSE 19731", "PAY 7 19730 19731 2 340 0\nDONE 19731 1"), ("DUE 7 19731", "DUE 7 19730 19731 2 340 1=340")))
     yield "a session after them", run(with_ledger(ledger, both, RUN_SAMPLE), lines), answers(replies)
+    # A journal that is lost: its line is named, no port is taken, and nothing is posted.
+    posted = rows_of(ledger)
+    os.remove(path_of(journals, 0))
+    for shards in (1, 2, 16):
+        came = run([*words_of(port, 1, shards, fares=SAMPLE), *with_both(journals, ledger)])
+        yield f"a journal that is lost, {shards} shards", came, lacks(f"{TAP_OUT.strip()}, on day 19730 at second 27000")
+    yield "a journal that is lost, the rows", answers(rows_of(ledger)), answers(posted)
 
 
 @test

@@ -27,14 +27,15 @@ use Rattle.pay_rules.specs.declared.post_fault.PostFault.{PostFault}
 use Rattle.pay_rules.specs.declared.post_fault.PostFault.TheVariants as fault
 use Rattle.pay_shard.specs.Selection.{is_of as is_of_shard, is_quoted, quoted}
 use Rattle.pay_close.specs.Close.{Books, close, IsLate}
+use Rattle.pay_histories.specs.From.{IsOfOwn}
 use Rattle.pay_histories.proofs.Answering.{Comes, comes_then, Then, first_then}
 use Rattle.pay_histories.proofs.Entries.{entry_is_there, all_of, all_mapped, all_filtered, all_weaker, all_with, IfFound, found_among}
-use Rattle.pay_histories.proofs.Growing.{number_total, AreTheirs, HaveGrown}
+use Rattle.pay_histories.proofs.Growing.{number_total, HaveGrown}
 
 -- ---- a quote
 
 -- what was posted for a quote is kept for it
-kept_itself : (q : QuoteParts) → is_kept q q ≡ true
+pub kept_itself : (q : QuoteParts) → is_kept q q ≡ true
 kept_itself q = and_from _ _ (and_from _ _ (eq-eqb q.due q.due refl) (itself q.shares)) (ap (λ (b : Bool). q.edition == 0 || b) (eq-eqb q.edition q.edition refl) ∙ or_true (q.edition == 0))
   where
     itself : (shares : List ℕ) → lib.Pointwise.pointwise nat_eq shares shares ≡ true
@@ -45,10 +46,10 @@ kept_itself q = and_from _ _ (and_from _ _ (eq-eqb q.due q.due refl) (itself q.s
     or_true true = refl
     or_true false = refl
 
--- one quote may follow another of its account and week: it is of no earlier version, and of the same version and day only where it is the same
+-- one quote may follow another of its account and week: it is of no earlier version, and what was posted for the same version and day is kept for it
 pub record MayFollow (quote last : QuoteParts) : Type 0 where
   pub no_earlier : last.version ≤ quote.version
-  pub same : last.version ≡ quote.version → last.through ≡ quote.through → last ≡ quote
+  pub kept : last.version ≡ quote.version → last.through ≡ quote.through → is_kept quote last ≡ true
   pub of_week : monday last.through ≡ monday quote.through
 
 module _ (P : Posting → Type 0) (account week : ℕ) where
@@ -76,8 +77,8 @@ module _ (P : Posting → Type 0) (quote : QuoteParts) (may_follow : (p : Postin
       by false true earlier through is = ltb-true _ _ through
       by false false earlier through is = absurd (cc)
 
-  no_other_due : (list : List Posting) (last : Posting) → AllByRecursion P list → last.quote ≡ quote → Comes {A = Posting × List Posting} (Then (AllByRecursion P)) (IsLate quote.through) (posted_again list quote last)
-  no_other_due list last all same = by (is_kept quote last.quote) (ap (is_kept quote) same ∙ kept_itself quote)
+  no_other_due : (list : List Posting) (last : Posting) → AllByRecursion P list → is_kept quote last.quote ≡ true → Comes {A = Posting × List Posting} (Then (AllByRecursion P)) (IsLate quote.through) (posted_again list quote last)
+  no_other_due list last all kept = by (is_kept quote last.quote) kept
     where
       by : (b : Bool) → b ≡ true → Comes {A = Posting × List Posting} (Then (AllByRecursion P)) (IsLate quote.through) (if b then Ok (last, list) else Err fault.QuoteDiffers)
       by true is = all
@@ -88,7 +89,7 @@ module _ (P : Posting → Type 0) (quote : QuoteParts) (may_follow : (p : Postin
   beside list last true again all follows s a = late last.quote follows s
   beside list last false true all follows s a =
       let parts = and_parts _ _ a in
-      no_other_due list last all (follows.same (sym (eqb-true _ _ parts.0)) (sym (eqb-true _ _ parts.1)))
+      no_other_due list last all (follows.kept (sym (eqb-true _ _ parts.0)) (sym (eqb-true _ _ parts.1)))
   beside list last false false all follows s a = all_with P list (posting_of list quote) all (anew list)
 
   after_last : (list : List Posting) (last : Option Posting) → AllByRecursion P list → IfFound (λ p. P p × (is_of quote.account quote.week p ≡ true)) last → Comes {A = Posting × List Posting} (Then (AllByRecursion P)) (IsLate quote.through) (posted_after list quote last)
@@ -125,10 +126,14 @@ some_same {X} x y e = ap (λ (o : Option X). unwrap_or o x) e
 
 -- ---- what was posted and archived, beside what accounts have accepted
 
--- a posting's quote is of what its account has accepted now, or of an earlier version
+-- a posting is of the version that its account has now, and is kept for the quote of what that has accepted
+abbrev pub IsKeptNow : FareEditions → State → Posting → Type 0
+IsKeptNow editions state p =
+    (p.quote.version ≡ version (accepted_of state p.quote.account)) × (is_kept (quote editions p.quote.account (accepted_of state p.quote.account) p.quote.through) p.quote ≡ true)
+
+-- so it is of a posting, or it is of an earlier version
 abbrev pub IsQuoted : FareEditions → State → Posting → Type 0
-IsQuoted editions state p =
-    (p.quote.week ≡ monday p.quote.through) × ((p.quote ≡ quote editions p.quote.account (accepted_of state p.quote.account) p.quote.through) ⊎ (p.quote.version < version (accepted_of state p.quote.account)))
+IsQuoted editions state p = (p.quote.week ≡ monday p.quote.through) × (IsKeptNow editions state p ⊎ (p.quote.version < version (accepted_of state p.quote.account)))
 
 -- an archived tap is one that its account has accepted, and an archived correction too
 abbrev pub IsAcceptedTap : State → Tap → Type 0
@@ -144,7 +149,7 @@ abbrev pub AreAccepted : State → Archives → Type 0
 AreAccepted state archive = AllByRecursion (IsAcceptedTap state) archive.0 × AllByRecursion (IsAcceptedFix state) archive.1
 
 pub record Agree (editions : FareEditions) (state : State) (ledger : LedgerParts) : Type 0 where
-  pub theirs : (account : ℕ) → AreTheirs account (accepted_of state account)
+  pub theirs : IsOfOwn state
   pub quoted : AllByRecursion (IsQuoted editions state) ledger.postings
   pub accepted : AreAccepted state (ledger.taps, ledger.fixes)
 
@@ -155,11 +160,11 @@ still_quoted editions before now grown p is = (
   is.0,
   elim (grown p.quote.account).counted [
     | inl same ↦ elim is.1 [
-      | inl as_quoted ↦ inl (as_quoted ∙ ap (λ a. quote editions p.quote.account a p.quote.through) same)
+      | inl kept ↦ inl (kept.0 ∙ ap version same, ap (λ a. is_kept (quote editions p.quote.account a p.quote.through) p.quote) (sym same) ∙ kept.1)
       | inr earlier ↦ inr (omega (arith, earlier, ap version same))
     ]
     | inr more ↦ elim is.1 [
-      | inl as_quoted ↦ let of_version : p.quote.version ≡ version (accepted_of before p.quote.account) = ap (λ (q : QuoteParts). q.version) as_quoted in inr (omega (arith, more, of_version))
+      | inl kept ↦ inr (omega (arith, more, kept.0))
       | inr earlier ↦ inr (omega (arith, more, earlier))
     ]
   ],
@@ -201,10 +206,9 @@ module _ (editions : FareEditions) (state : State) (day : ℕ) where
       let in_week : p.quote.week ≡ monday day = eqb-true p.quote.week (monday day) parts.1 in
       let as_many : version (accepted_of state p.quote.account) ≡ version (accepted_of state account) = ap (λ a. version (accepted_of state a)) own in
       elim is.1 [
-        | inl as_quoted ↦
-            let of_version : p.quote.version ≡ version (accepted_of state p.quote.account) = ap (λ (q : QuoteParts). q.version) as_quoted in
-            record { no_earlier = omega (arith, of_version, as_many); same = λ v through. as_quoted ∙ (λ i. quote editions (own i) (accepted_of state (own i)) (through i)); of_week = sym is.0 ∙ in_week }
-        | inr earlier ↦ record { no_earlier = omega (arith, earlier, as_many); same = λ v through. absurd (omega (arith, earlier, as_many, v)); of_week = sym is.0 ∙ in_week }
+        | inl now ↦
+            record { no_earlier = omega (arith, now.0, as_many); kept = λ v through. (λ i. is_kept (quote editions (sym own i) (accepted_of state (sym own i)) (sym through i)) p.quote) ∙ now.1; of_week = sym is.0 ∙ in_week }
+        | inr earlier ↦ record { no_earlier = omega (arith, earlier, as_many); kept = λ v through. absurd (omega (arith, earlier, as_many, v)); of_week = sym is.0 ∙ in_week }
       ]
 
   abbrev pub AllQuoted : List Posting → Type 0
@@ -213,13 +217,13 @@ module _ (editions : FareEditions) (state : State) (day : ℕ) where
   pub one_quoted : (list : List Posting) (e : ℕ × Accepted) → IsTheirs e → AllQuoted list → Comes {A = Posting × List Posting} (Then AllQuoted) (IsLate day) (post list (quote_of e))
   one_quoted list e is all =
       subst (λ a. Comes {A = Posting × List Posting} (Then AllQuoted) (IsLate day) (post list (quote editions e.0 a day))) is
-      (one_posted (IsQuoted editions state) (quote editions e.0 (accepted_of state e.0) day) (follows e.0) (λ before. (refl, inl refl)) list all)
+      (one_posted (IsQuoted editions state) (quote editions e.0 (accepted_of state e.0) day) (follows e.0) (λ before. (refl, inl (refl, kept_itself (quote editions e.0 (accepted_of state e.0) day)))) list all)
 
   each_quoted : (list : List Posting) (es : List (ℕ × Accepted)) → AllByRecursion IsTheirs es → AllQuoted list → Comes {A = List Posting × List Posting} (Then AllQuoted) (IsLate day) (post_each list (map quote_of es))
   each_quoted list [] are all = all
   each_quoted list (e ∷ es) are all = first_then (Then AllQuoted) AllQuoted (IsLate day) list (quote_of e) (map quote_of es) (one_quoted list e are.0 all) (λ first now. each_quoted first.1 es are.1 now)
 
-  module _ (theirs : (account : ℕ) → AreTheirs account (accepted_of state account)) where
+  module _ (theirs : IsOfOwn state) where
     same_taps : (tap other : Tap) → IsAcceptedTap state tap → IsAcceptedTap state other → is_numbered_as tap other ≡ true → same_tap other tap ≡ true
     same_taps tap other is there e =
         let parts = and_parts _ _ e in

@@ -26,11 +26,11 @@ use Rattle.pay_close.specs.Close.{Books, close, IsLate}
 use Rattle.pay_histories.proofs.Answering.{Comes, Then, first_then, Any, any_refusal, on_ledger, once_posted}
 use Rattle.pay_histories.proofs.Entries.{IfFound}
 use Rattle.pay_histories.proofs.Growing.{one_account}
-use Rattle.pay_histories.proofs.Agreeing.{MayFollow, last_is_one, IsQuoted, Agree, IsTheirs, quote_of, sets_of, all_theirs, follows, AllQuoted, one_quoted}
+use Rattle.pay_histories.proofs.Agreeing.{kept_itself, MayFollow, last_is_one, IsQuoted, Agree, IsTheirs, quote_of, sets_of, all_theirs, follows, AllQuoted, one_quoted}
 
--- the last posting of a quote's account and week is of that very quote
+-- the last posting of a quote's account and week is kept for that very quote
 abbrev pub IsLastPosted : QuoteParts → List Posting → Type 0
-IsLastPosted quote list = (last : Posting) × (last_of quote.account quote.week list ≡ Some last) × (last.quote ≡ quote)
+IsLastPosted quote list = (last : Posting) × (last_of quote.account quote.week list ≡ Some last) × (is_kept quote last.quote ≡ true)
 
 of_its_own : (quote : QuoteParts) → is_quote_of quote.account quote.week quote ≡ true
 of_its_own quote = and_from _ _ (eq-eqb quote.account quote.account refl) (eq-eqb quote.week quote.week refl)
@@ -42,7 +42,7 @@ added_last account week list p is e = fold-append (later_of account week) None l
 
 module _ (P : Posting → Type 0) (quote : QuoteParts) (may_follow : (p : Posting) → P p → is_of quote.account quote.week p ≡ true → MayFollow quote p.quote) where
   anew : (list : List Posting) → IsLastPosted quote (list ++ posting_of list quote ∷ [])
-  anew list = (posting_of list quote, added_last quote.account quote.week list (posting_of list quote) true (of_its_own quote), refl)
+  anew list = (posting_of list quote, added_last quote.account quote.week list (posting_of list quote) true (of_its_own quote), kept_itself quote)
 
   same_again : (list : List Posting) (last : Posting) (kept : Bool) → IsLastPosted quote list → Comes {A = Posting × List Posting} (Then (IsLastPosted quote)) Any (if kept then Ok (last, list) else Err fault.QuoteDiffers)
   same_again list last true is = is
@@ -53,7 +53,7 @@ module _ (P : Posting → Type 0) (quote : QuoteParts) (may_follow : (p : Postin
   beside list last true same e follows a = tt
   beside list last false true e follows a =
       let parts = and_parts (quote.version == last.quote.version) (quote.through == last.quote.through) a in
-      same_again list last (is_kept quote last.quote) (last, e, follows.same (sym (eqb-true _ _ parts.0)) (sym (eqb-true _ _ parts.1)))
+      same_again list last (is_kept quote last.quote) (last, e, follows.kept (sym (eqb-true _ _ parts.0)) (sym (eqb-true _ _ parts.1)))
   beside list last false false e follows a = anew list
 
   after_last : (list : List Posting) (last : Option Posting) → last_of quote.account quote.week list ≡ last → IfFound (λ p. P p × (is_of quote.account quote.week p ≡ true)) last
@@ -70,7 +70,7 @@ still_last : (quote other : QuoteParts) (list : List Posting) → (is_quote_of q
 still_last quote other list same is = once_posted (Then (IsLastPosted quote)) list other (λ given. is) (by (is_quote_of quote.account quote.week other) refl)
   where
     by : (b : Bool) → is_quote_of quote.account quote.week other ≡ b → IsLastPosted quote (list ++ posting_of list other ∷ [])
-    by true e = (posting_of list other, added_last quote.account quote.week list (posting_of list other) true e, same e)
+    by true e = (posting_of list other, added_last quote.account quote.week list (posting_of list other) true e, ap (is_kept quote) (same e) ∙ kept_itself quote)
     by false e = (is.0, added_last quote.account quote.week list (posting_of list other) false e ∙ is.1, is.2)
 
 -- ---- all of a close

@@ -1,5 +1,5 @@
 -- The entries of a map, and what is true of each of a list.
-use Rattle.std.proofs.Common.{◌≡◌, inl, inr, ◌⊎◌, Bool, true, false, cond, ◌&&◌, T, List, [], ◌∷◌, ◌++◌, map, filter, find, Option, Some, None, Ordering, Less, Equal, Greater, is_eq, refl, sym, ap, ◌∙◌, subst}
+use Rattle.std.proofs.Common.{◌≡◌, inl, inr, ◌⊎◌, ℕ, zero, suc, Bool, true, false, cond, ◌&&◌, T, List, [], ◌∷◌, ◌++◌, map, filter, find, slice_get, Option, Some, None, Ordering, Less, Equal, Greater, is_eq, refl, sym, ap, ◌∙◌, subst}
 use Rattle.std.specs.Prelude.{⊤}
 use Rattle.std.specs.Cmp.{IsTotalOrder}
 use Rattle.std.specs.FinMap.{FinMap, get, entries, values, is_sorted, entries_sorted, get-entries}
@@ -8,6 +8,7 @@ use Rattle.std.specs.FinMap.Entries.{below_all}
 use Rattle.std.specs.List.{AllByRecursion}
 use Rattle.std.specs.Ordering.{eq_by_cmp, is_lt}
 use Rattle.std.proofs.lemmas.Cmp.{tied_itself, eq_by_cmp_equiv}
+use Rattle.std.proofs.lemmas.Option.{none-some, same_Some}
 use Rattle.pay_rules.specs.InTurn.{IsIn}
 
 both : (a b : Bool) → T (a && b) → T a × T b
@@ -62,6 +63,12 @@ module _ {K X : Type 0} (R : K → K → Ordering) where
   -- what a map has at a key is one of its values
   pub value_is_there : (m : FinMap R X) (k : K) (x : X) → get m k ≡ Some x → IsIn (values m) x
   value_is_there m k x e = found_value k x (entries m) (sym (get-entries m k) ∙ e)
+
+-- what a list has at a place is one of it
+pub at_place : {X : Type 0} (list : List X) (place : ℕ) (x : X) → slice_get list place ≡ Some x → IsIn list x
+at_place [] place x e = absurd (none-some x e)
+at_place (y ∷ list) zero x e = inl (same_Some y x e)
+at_place (y ∷ list) (suc place) x e = inr (at_place list place x e)
 
 -- ---- each of a list
 

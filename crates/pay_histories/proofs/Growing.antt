@@ -29,11 +29,13 @@ use Rattle.pay_rules.specs.Prices.{prices}
 use Rattle.pay_rules.specs.FixResults.{prices_on, fix_added, fix_result, after_fix}
 use Rattle.pay_rules.specs.TapResults.{tap_added, tap_result, after_tap}
 use Rattle.pay_rules.specs.State.{State, accepted_of}
+use Rattle.pay_restore.specs.Words.{tap_account, fix_account}
 use Rattle.pay_shard.specs.declared.asked.Asked.{Asked}
 use Rattle.pay_shard.specs.declared.asked.Asked.TheVariants as asked
 use Rattle.pay_shard.specs.declared.item.Item.{Item}
 use Rattle.pay_shard.specs.Machine.{step_tap_result, step_fix_result, step, marked_step, item_step}
 use Rattle.pay_shard.specs.State.{kept}
+use Rattle.pay_histories.specs.From.{AreOf, AreTheirs}
 
 pub number_total : IsTotalOrder number_cmp
 number_total = then_total (on_total (λ n. n.0) nat_cmp_total) (on_total (λ n. n.1) nat_cmp_total)
@@ -55,10 +57,6 @@ one_account p q e = nat_cmp-IsAntisymmetric p q (equal (nat_cmp p q) e)
 -- ---- a set
 
 module _ {X : Type 0} (number : X → ℕ × ℕ) (account : X → ℕ) where
-  -- each stands at its own number, and is of the account
-  abbrev pub AreOf : ℕ → ByNumber X → Type 0
-  AreOf q set = (n : ℕ × ℕ) (x : X) → get set n ≡ Some x → (number x ≡ n) × (account x ≡ q)
-
   -- what stands in a set stands in another too
   abbrev pub IsPart : ByNumber X → ByNumber X → Type 0
   IsPart small large = (n : ℕ × ℕ) (x : X) → get small n ≡ Some x → get large n ≡ Some x
@@ -82,11 +80,11 @@ module _ {X : Type 0} (number : X → ℕ × ℕ) (account : X → ℕ) where
       (ap number (sym one) ∙ sym (is refl), ap account (sym one) ∙ own)
   either_of q false there x y n is own old e = old e
 
-  of_more : (q : ℕ) (set : ByNumber X) (x : X) → account x ≡ q → AreOf q set → AreOf q (insert set (number x) x)
+  of_more : (q : ℕ) (set : ByNumber X) (x : X) → account x ≡ q → AreOf number account q set → AreOf number account q (insert set (number x) x)
   of_more q set x own old n y e =
       either_of q (eq_by_cmp number_cmp n (number x)) (get set n) x y n (same_number n (number x)) own (old n y) (sym (get-insert number_total set (number x) x n) ∙ e)
 
-  of_none : (q : ℕ) → AreOf q empty
+  of_none : (q : ℕ) → AreOf number account q empty
   of_none q n x e = absurd (none-some x (sym (get-empty number_cmp n) ∙ e))
 
   -- what is added is new
@@ -99,17 +97,6 @@ module _ {X : Type 0} (number : X → ℕ × ℕ) (account : X → ℕ) where
       by false e = absurd (cc)
 
 -- ---- an account
-
-abbrev pub tap_account : Tap → ℕ
-tap_account tap = tap.account
-
-abbrev pub fix_account : Fix → ℕ
-fix_account fix = fix.account
-
--- all that was accepted is of the account, each at its own number
-pub record AreTheirs (account : ℕ) (accepted : Accepted) : Type 0 where
-  pub taps : AreOf tap_number tap_account account accepted.taps
-  pub fixes : AreOf fix_number fix_account account accepted.fixes
 
 pub nothing_is_theirs : (account : ℕ) → AreTheirs account nothing
 nothing_is_theirs account = record { taps = of_none tap_number tap_account account; fixes = of_none fix_number fix_account account }

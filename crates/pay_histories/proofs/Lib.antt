@@ -5,6 +5,7 @@ pub mod Agreeing
 pub mod Settling
 pub mod Closing
 pub mod Histories
+pub mod Beginning
 pub mod Archivable
 pub mod Archiving
 pub mod Restoring

@@ -17,6 +17,7 @@ use Rattle.pay_rules.specs.declared.post_fault.PostFault.{PostFault}
 use Rattle.pay_restore.specs.Words.{tap_account, fix_account, IsArchivedTap, IsArchivedFix, IsArchive, IsSetOf, AreRestored, ArchivedIsRestored, RestoredIsAsBefore}
 use Rattle.pay_shard.specs.Selection.{is_quoted, quoted}
 use Rattle.pay_close.specs.Close.{Books, new_books, batch_of_all, close, ledger_after, IsLate, Event, Answered, Closed, after, after_all, history, accepted_after}
+use Rattle.pay_histories.specs.From.{AreOf}
 use Rattle.pay_histories.specs.Restores.{AreCommands, AreRestoredFrom}
 use Rattle.pay_histories.proofs.Agreeing.{Agree, IsAcceptedTap, IsAcceptedFix, quote_of, sets_of, close_agrees}
 use Rattle.pay_histories.proofs.Answering.{Comes, comes_weaker, of_answer, Then, Any}
@@ -24,7 +25,6 @@ use Rattle.pay_histories.proofs.Archivable.{AreArchivable, always_archivable}
 use Rattle.pay_histories.proofs.Archiving.{AreAmong, are_together, of_archive, IsApart, sets_apart, HasSet, HasSets, sets_there}
 use Rattle.pay_histories.proofs.Closing.{is_in_batch}
 use Rattle.pay_histories.proofs.Entries.{value_is_there, one_of_all, is_mapped, all_weaker}
-use Rattle.pay_histories.proofs.Growing.{AreOf}
 use Rattle.pay_histories.proofs.Histories.{always_agree}
 
 -- ---- no two of one number

@@ -9,14 +9,18 @@ use Rattle.pay_rules.specs.declared.tap.Tap.{Tap}
 use Rattle.pay_rules.specs.Accepted.{Accepted}
 use Rattle.pay_rules.specs.Quotes.{quote}
 use Rattle.pay_rules.specs.SetsParts.{sets}
+use Rattle.pay_postings.specs.Agreement.{AgreesWith}
 use Rattle.pay_postings.specs.Ledger.{posted}
+use Rattle.pay_postings.specs.Paid.{ArePaid}
 use Rattle.pay_rules.specs.declared.post_fault.PostFault.TheVariants.{StaleQuote}
 use Rattle.pay_shard.specs.BatchParts.{batch_of}
 use Rattle.pay_shard.specs.Selection.{is_of, is_quoted}
 use Rattle.pay_shard.specs.declared.asked.Asked.TheVariants as asked
 use Rattle.pay_close.specs.Close.{new_books, batch_of_all, close, IsLate}
+use Rattle.pay_histories.specs.From.{IsOfOwn}
 use Rattle.pay_histories.specs.Restores.{IsCommand, AreRestoredFrom}
 use Rattle.pay_histories.proofs.Closing.{nothing_there}
+use Rattle.pay_histories.proofs.Histories.{always_agree}
 
 abbrev chosen : ℕ → List (ℕ × Accepted) → List (ℕ × Accepted)
 chosen day es = filter (λ (e : ℕ × Accepted). is_of 0 1 e.0 && is_quoted day (sets e.0 e.1)) es
@@ -27,6 +31,10 @@ no_entries = nothing_there (entries empty) (sym (len-entries empty) ∙ len-empt
 -- where no account has accepted anything, any day is closed without a posting
 first_close : (editions : FareEditions) (day : ℕ) → close editions new_books day ≡ Ok ([], new_books.ledger)
 first_close editions day = ap (λ (es : List (ℕ × Accepted)). posted new_books.ledger (batch_of editions day (chosen day es)).quotes (batch_of editions day (chosen day es)).sets) no_entries
+
+-- there each account has just its own, and the ledger agrees with it
+new_books_agree : (editions : FareEditions) → IsOfOwn new_books.state × AgreesWith editions new_books.state new_books.ledger × ArePaid new_books.ledger.postings
+new_books_agree editions = ((always_agree editions []).theirs, record { postings = tt; taps = tt; fixes = tt }, tt)
 
 -- one account with a tap of that week is quoted, and its sets are archived
 one_account_quoted : (editions : FareEditions) (accepted : Accepted) (day : ℕ) → is_quoted day (sets 7 accepted) ≡ true

@@ -1,9 +1,11 @@
 -- As much is posted for an account and a week as its last posting's quote says.
-use Rattle.std.proofs.Common.{◌≡◌, ℕ, ◌+◌, Bool, true, false, if◌then◌else◌, List, [], ◌∷◌, ◌++◌, length, map, Option, Some, None, eqb-true, refl, sym, ap, ◌∙◌, subst, arith}
-use Rattle.std.specs.Prelude.{ℤ, pos, ◌+ℤ◌, ◌-ℤ◌, fold, sum}
+use Rattle.std.proofs.Common.{◌≡◌, ℕ, ◌+◌, Bool, true, false, if◌then◌else◌, List, [], ◌∷◌, ◌++◌, length, map, Option, Some, None, eqb-true, refl, sym, ap, ◌∙◌, subst, arith, append_assoc}
+use Rattle.std.specs.Prelude.{ℤ, pos, ◌+ℤ◌, ◌-ℤ◌, ◌==◌, fold, sum}
+use Rattle.std.specs.Cmp.Lexicographic.{same_text}
 use Rattle.std.specs.List.{AllByRecursion}
 use Rattle.std.proofs.lemmas.Bool.{and_parts}
 use Rattle.std.proofs.lemmas.Int.{ints}
+use Rattle.std.proofs.lemmas.List.{append-nil}
 use Rattle.std.proofs.lemmas.List.Sums.{fold-append, sum_by-cons}
 use Rattle.pay_money.specs.declared.limits.TheConstants.{OPERATORS}
 use Rattle.pay_rules.specs.declared.posting.Posting.{Posting}
@@ -13,7 +15,8 @@ use Rattle.pay_rules.specs.Quotes.{quote}
 use Rattle.pay_tables.specs.Words.{FareEditions}
 use Rattle.pay_postings.specs.Ledger.{LedgerParts}
 use Rattle.pay_postings.specs.Amounts.{total, no_amounts, added, less}
-use Rattle.pay_postings.specs.Postings.{is_quote_of, is_of, with_amount, net, with_shares, shares_posted, later_of, last_of, posting_of, post, post_each}
+use Rattle.pay_postings.specs.Postings.{is_quote_of, is_of, with_amount, net, with_shares, shares_posted, later_of, last_of, posting_of, is_kept, post, post_each}
+use Rattle.pay_postings.specs.Paid.{EachStands, IsPaid, ArePaid}
 use Rattle.pay_shard.specs.Selection.{quoted}
 use Rattle.pay_close.specs.Close.{Books, batch_of_all, close}
 use Rattle.pay_histories.proofs.Answering.{Comes, Then, first_then, Any, on_ledger, once_posted}
@@ -91,6 +94,54 @@ settled_anew list quote is settled account week =
           due = (λ i. amount +ℤ (pos quote.due -ℤ net (of_account i) (of_week i) list)) ∙ there amount quote.due;
           shared = (λ i. added so_far (less quote.shares (shares_posted (of_account i) (of_week i) list))) ∙ what_is_left so_far quote.shares many;
         }
+
+-- what is as due by a quote that was posted is so by any for which that is kept
+pub due_if_kept : (quote last : QuoteParts) (amount : ℤ) (shares : List ℤ) → is_kept quote last ≡ true → IsAsDue last amount shares → IsAsDue quote amount shares
+due_if_kept quote last amount shares kept is =
+    let parts = and_parts _ _ (and_parts _ _ kept).0 in
+    let as_due : quote.due ≡ last.due = eqb-true _ _ parts.0 in
+    let as_shared : quote.shares ≡ last.shares = same_text _ _ (sym parts.1) in
+    record {
+      is = record { operators = ap length as_shared ∙ is.is.operators; together = ap sum as_shared ∙ is.is.together ∙ sym as_due };
+      due = is.due ∙ ap pos (sym as_due);
+      shared = is.shared ∙ ap (map pos) (sym as_shared);
+    }
+
+-- ---- postings that were posted one after another
+
+-- a posting by which as much is posted as its quote says settles its own account and week, and leaves the others as they are
+settled_with : (list : List Posting) (p : Posting) → IsAsDue p.quote (net p.quote.account p.quote.week (list ++ p ∷ [])) (shares_posted p.quote.account p.quote.week (list ++ p ∷ [])) → IsSettled list → IsSettled (list ++ p ∷ [])
+settled_with list p is settled account week = by (is_of account week p) refl
+  where
+    by : (b : Bool) → is_of account week p ≡ b → AsLast (last_of account week (list ++ p ∷ [])) (net account week (list ++ p ∷ [])) (shares_posted account week (list ++ p ∷ []))
+    by false e =
+        let last : last_of account week (list ++ p ∷ []) ≡ last_of account week list = fold-append (later_of account week) None list (p ∷ []) ∙ ap (λ (b : Bool). if b then Some p else last_of account week list) e in
+        let amount : net account week (list ++ p ∷ []) ≡ net account week list = fold-append (with_amount account week) (pos 0) list (p ∷ []) ∙ ap (λ (b : Bool). if b then net account week list +ℤ p.amount else net account week list) e in
+        let shares : shares_posted account week (list ++ p ∷ []) ≡ shares_posted account week list = fold-append (with_shares account week) no_amounts list (p ∷ []) ∙ ap (λ (b : Bool). if b then added (shares_posted account week list) p.share_amounts else shares_posted account week list) e in
+        subst (λ (o : Option Posting). AsLast o (net account week (list ++ p ∷ [])) (shares_posted account week (list ++ p ∷ []))) (sym last)
+        (subst (λ (n : ℤ). AsLast (last_of account week list) n (shares_posted account week (list ++ p ∷ []))) (sym amount)
+        (subst (λ (s : List ℤ). AsLast (last_of account week list) (net account week list) s) (sym shares) (settled account week)))
+    by true e =
+        let parts = and_parts (p.quote.account == account) (p.quote.week == week) e in
+        let of_account : p.quote.account ≡ account = eqb-true _ _ parts.0 in
+        let of_week : p.quote.week ≡ week = eqb-true _ _ parts.1 in
+        let last : last_of account week (list ++ p ∷ []) ≡ Some p = fold-append (later_of account week) None list (p ∷ []) ∙ ap (λ (b : Bool). if b then Some p else last_of account week list) e in
+        subst (λ (o : Option Posting). AsLast o (net account week (list ++ p ∷ [])) (shares_posted account week (list ++ p ∷ []))) (sym last)
+        (subst (λ (a : ℕ). IsAsDue p.quote (net a week (list ++ p ∷ [])) (shares_posted a week (list ++ p ∷ []))) of_account
+        (subst (λ (w : ℕ). IsAsDue p.quote (net p.quote.account w (list ++ p ∷ [])) (shares_posted p.quote.account w (list ++ p ∷ []))) of_week is))
+
+as_paid : (p : Posting) (amount : ℤ) (shares : List ℤ) → IsPaid p amount shares → IsAsDue p.quote amount shares
+as_paid p amount shares paid = record { is = record { operators = paid.quote.operators; together = paid.quote.shared }; due = paid.due; shared = paid.shared }
+
+settled_on : (before list : List Posting) → IsSettled before → EachStands IsPaid before list → IsSettled (before ++ list)
+settled_on before [] settled each = subst IsSettled (sym (append-nil before)) settled
+settled_on before (p ∷ list) settled each =
+    let one = as_paid p (net p.quote.account p.quote.week (before ++ p ∷ [])) (shares_posted p.quote.account p.quote.week (before ++ p ∷ [])) each.0 in
+    subst IsSettled (append_assoc before (p ∷ []) list) (settled_on (before ++ p ∷ []) list (settled_with before p one settled) each.1)
+
+-- such postings are settled
+pub settled_if_paid : (list : List Posting) → ArePaid list → IsSettled list
+settled_if_paid list paid = settled_on [] list (λ account week. (refl, refl)) paid
 
 -- ---- a quote, and several
 

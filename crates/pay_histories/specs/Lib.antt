@@ -1,2 +1,3 @@
 pub mod Payments
+pub mod From
 pub mod Restores

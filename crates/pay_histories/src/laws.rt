@@ -6,9 +6,11 @@ ghost use Rattle.pay_tables.specs.Words.{FareEditions};
 ghost use Rattle.pay_rules.specs.declared.post_fault.PostFault.{PostFault};
 ghost use Rattle.pay_rules.specs.declared.post_fault.PostFault.TheVariants as fault;
 ghost use Rattle.pay_postings.specs.Words.{total, net, shares_posted, ArePaid};
+ghost use Rattle.pay_shard.specs.declared.item.Item.{Item};
 ghost use Rattle.pay_shard.specs.Words.{replay};
 ghost use Rattle.pay_close.specs.Close.{new_books, close, IsLate, Event, history, postings_after, answered, AreQuotes};
 ghost use Rattle.pay_histories.specs.Payments.{NetIsDueByLast, SharesAreByLast, ClosedNetIsDue, ClosedSharesAreDue};
+ghost use Rattle.pay_histories.specs.From.{IsOfOwn, RefusedLateFrom, ClosedNetIsDueFrom, ClosedSharesAreDueFrom, RefusedLateFromJournal};
 ghost use Rattle.pay_histories.specs.Restores.{IsPlaced, IsCommand, ArchiveIsRestored, ClosedIsRestored};
 
 use pay_shard::Command;
@@ -42,6 +44,34 @@ pub fn closed_days(editions: &Editions)
     ensures by_operator { ClosedSharesAreDue editions.now }
 {
     pay_account::laws::quotes(editions);
+}
+
+/// Where a ledger agrees with what accounts have accepted, whatever is answered and closed after that, a close is refused for nothing
+/// but its day: for no other due and no other content. And once a day is closed, each account that the close selects was charged,
+/// less what it was given back, just what is due through that day by all that it has accepted; and each operator got its share.
+pub fn closes_agree_from(editions: &Editions)
+    ensures late { RefusedLateFrom editions.now }
+
+    // For what was charged, the postings of that ledger have to be such as were posted one after another.
+    ensures net { ClosedNetIsDueFrom editions.now }
+    ensures by_operator { ClosedSharesAreDueFrom editions.now }
+{
+    pay_account::laws::quotes(editions);
+    pay_set_rows::laws::same_row();
+}
+
+/// What accounts have accepted by a journal from its beginning stands at its own numbers, and is of its account: so closes_agree_from
+/// holds from there.
+pub fn own_numbers()
+    ensures { (editions : FareEditions) (items : List Item) → IsOfOwn (replay editions empty items) }
+{}
+
+/// Where a ledger agrees with what a journal gives back from its beginning, whatever is answered and closed after that, a close is
+/// refused for nothing but its day.
+pub fn closes_agree_from_journal()
+    ensures { (editions : FareEditions) → RefusedLateFromJournal editions }
+{
+    pay_set_rows::laws::same_row();
 }
 
 /// A close changes nothing of what accounts have accepted: the state after any history is that of a machine which answered its

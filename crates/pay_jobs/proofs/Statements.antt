@@ -1,5 +1,5 @@
 -- How the job statement ends where there is no page, and how where there is one, by how it was written.
-use Rattle.std.proofs.Common.{◌≡◌, ◌∙◌, inl, inr, ℕ, List, [], Option, None, IfSome, Result, Ok, Err, OnOk, OnErr, IfErr, refl, sym, subst, ap}
+use Rattle.std.proofs.Common.{◌≡◌, ◌∙◌, inl, inr, ℕ, List, [], Option, None, Result, Ok, Err, OnOk, OnErr, IfErr, refl, sym, subst, ap}
 use Rattle.std.proofs.lemmas.Option.{IfSome_then}
 use Rattle.std.specs.Io.KnownBytes.{Appends}
 use Rattle.jiff.specs.Placed.{IsPosixZone}
@@ -17,7 +17,7 @@ use Rattle.pay_jobs.specs.Texts.{Texts}
 use Rattle.pay_jobs.specs.Run.{Begins, Resumes}
 use Rattle.pay_jobs.specs.Statement.{WeekBreaks, PageFails, IsPage, StatementWritten, StatementRefused}
 use Rattle.pay_jobs.specs.declared.fault.Fault.{Fault}
-use Rattle.pay_jobs.specs.declared.fault.Fault.TheVariants.{Usage, CannotReadFares, CannotReadOldFares, BadZone, CannotListen, Input, Output, CannotUseJournal, JournalLine, JournalLineOf, Journal, LedgerAlone, Refused}
+use Rattle.pay_jobs.specs.declared.fault.Fault.TheVariants.{Usage, CannotReadFares, CannotReadOldFares, BadZone, CannotListen, Input, Output, CannotUseJournal, JournalLine, JournalLineOf, Journal, LedgerAlone, Lacks, PostedOtherwise, Refused}
 use Rattle.pay_run.specs.declared.week.WeekFault.{WeekFault}
 use Rattle.pay_run.specs.declared.week.WeekFault.TheVariants.{Broken, NotAccepted, Memory}
 
@@ -37,6 +37,8 @@ not_told Memory (JournalLine line why) texts reader is breaks = absurd is
 not_told Memory (JournalLineOf journal line why) texts reader is breaks = absurd is
 not_told Memory Journal texts reader is breaks = absurd is
 not_told Memory LedgerAlone texts reader is breaks = absurd is
+not_told Memory (Lacks what) texts reader is breaks = absurd is
+not_told Memory (PostedOtherwise account week through) texts reader is breaks = absurd is
 
 -- the texts by which a page is made: a fare file and a zone that are read
 module _ (texts : Texts) (zone : TimeZone) (editions : FareEditions) (says : fare_text texts.fares ≡ Ok editions) (rule : IsPosixZone texts.zone (plain_zone zone)) (reader : Option (List ℕ) × Option (List ℕ)) where
@@ -97,6 +99,8 @@ no_page (JournalLine line why) texts of remaining left held fails = (fails, refl
 no_page (JournalLineOf journal line why) texts of remaining left held fails = (fails, refl)
 no_page Journal texts of remaining left held fails = (fails, refl)
 no_page LedgerAlone texts of remaining left held fails = (fails, refl)
+no_page (Lacks what) texts of remaining left held fails = (fails, refl)
+no_page (PostedOtherwise account week through) texts of remaining left held fails = (fails, refl)
 
 pub page_written : {T E : Type 0} (r : Result T E) (texts : Texts) (of : ℕ × ℕ) (text : List ℕ) (remaining left held written : Option (List ℕ)) → IsPage texts of (remaining, left) text
     → OnOk r (Appends held written text) → OnOk r (StatementWritten texts of (remaining, held) (left, written))

@@ -11,7 +11,7 @@ use Rattle.pay_run.specs.Words.{HasInputFault}
 use Rattle.pay_run.specs.declared.week.WeekFault.{WeekFault}
 use Rattle.pay_run.specs.declared.week.WeekFault.TheVariants.{Broken, NotAccepted, Memory}
 use Rattle.pay_jobs.specs.declared.fault.Fault.{Fault}
-use Rattle.pay_jobs.specs.declared.fault.Fault.TheVariants.{Usage, CannotReadFares, CannotReadOldFares, BadZone, CannotListen, Input, Output, CannotUseJournal, JournalLine, JournalLineOf, Journal, LedgerAlone, Refused}
+use Rattle.pay_jobs.specs.declared.fault.Fault.TheVariants.{Usage, CannotReadFares, CannotReadOldFares, BadZone, CannotListen, Input, Output, CannotUseJournal, JournalLine, JournalLineOf, Journal, LedgerAlone, Lacks, PostedOtherwise, Refused}
 
 -- a refused fare file is no fault of a reader, and neither is want of memory
 pub not_input : (fault : Fault) (fares : List ℕ) → IsRefused fault fares → fault ≡ Input → ⊥
@@ -55,6 +55,8 @@ module _ {R W : Type 0} (reads : R → ReaderCall → R → Type 0) (writes : W 
   page_cause (JournalLineOf journal line why) texts known fails cause = tt
   page_cause Journal texts known fails cause = tt
   page_cause LedgerAlone texts known fails cause = tt
+  page_cause (Lacks what) texts known fails cause = tt
+  page_cause (PostedOtherwise account week through) texts known fails cause = tt
 
   -- and where a page is not written the writer failed
   pub text_cause : {T : Type 0} (r : Result T Fault) → IfErr r (λ fault. fault ≡ Output) → OnErr r (HasFault writes writer) → IfErr r (λ fault. HasCause reads writes fault before reader writer)

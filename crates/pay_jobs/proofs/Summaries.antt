@@ -1,5 +1,5 @@
 -- What is told of journals, by what stands at each place of them.
-use Rattle.std.proofs.Common.{◌≡◌, ◌≤◌, ◌<◌, ◌∙◌, ℕ, zero, suc, ◌+◌, List, [], ◌∷◌, ◌++◌, length, take, drop, Option, Some, None, refl, sym, ap, subst, arith, append-nil, zero-add}
+use Rattle.std.proofs.Common.{◌≡◌, ◌≤◌, ◌∙◌, ℕ, zero, suc, ◌+◌, List, [], ◌∷◌, ◌++◌, length, take, drop, Option, Some, None, sym, ap, subst, arith, append-nil, zero-add}
 use Rattle.std.specs.Prelude.{fold, flat_map, slice_get}
 use Rattle.std.proofs.lemmas.Grind.{flat_map-append, fold-append}
 use Rattle.std.proofs.lemmas.List.{length-take-le}
@@ -7,7 +7,6 @@ use Rattle.std.proofs.lemmas.Option.{slice_get_within}
 use Rattle.jiff.specs.declared.tz.timezone.TimeZone.{TimeZone}
 use Rattle.pay_tables.specs.Words.{FareEditions}
 use Rattle.pay_session.specs.Words.{line_requests, rest_of}
-use Rattle.pay_session.specs.declared.request.Request.{Request}
 use Rattle.pay_jobs.specs.Replays.{IsStoppedAt, IsStoppedAmong, all_requests, rests}
 use Rattle.pay_jobs.specs.declared.fault.Fault.{Fault}
 
@@ -52,14 +51,14 @@ requests_more texts n text e =
     ap all_requests (taken_more texts n text e) ∙ flat_map-append line_requests (take n texts) (text ∷ []) ∙ ap (λ l. all_requests (take n texts) ++ l) (append-nil (line_requests text))
 
 -- the texts before one, that one, and the others
-pub stopped_among : (zone : TimeZone) (editions : FareEditions) (texts : List (List ℕ)) (n : ℕ) (text : List ℕ) (fault : Fault) → slice_get texts n ≡ Some text → IsStoppedAt zone editions (all_requests (take n texts)) text (n + 1) fault
-    → IsStoppedAmong zone editions texts fault
-stopped_among zone editions texts n text fault e stops = record {
+pub stopped_among : (zone : TimeZone) (editions : FareEditions) (texts : List (List ℕ)) (n first : ℕ) (text : List ℕ) (fault : Fault) → slice_get texts n ≡ Some text → IsStoppedAt zone editions (all_requests (take n texts)) text (n + first) fault
+    → IsStoppedAmong zone editions texts first fault
+stopped_among zone editions texts n first text fault e stops = record {
   front = take n texts;
   text = text;
   others = drop (suc n) texts;
   parts = split_at texts n text e;
-  stops = subst (λ m. IsStoppedAt zone editions (all_requests (take n texts)) text (m + 1) fault) (sym (length-take-le n texts (within texts n text e))) stops;
+  stops = subst (λ m. IsStoppedAt zone editions (all_requests (take n texts)) text (m + first) fault) (sym (length-take-le n texts (within texts n text e))) stops;
 }
   where
     split_at : (xs : List (List ℕ)) (n : ℕ) (x : List ℕ) → slice_get xs n ≡ Some x → xs ≡ take n xs ++ x ∷ drop (suc n) xs

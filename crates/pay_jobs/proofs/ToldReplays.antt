@@ -11,7 +11,7 @@ use Rattle.pay_run.specs.Words.{new_machine}
 use Rattle.pay_jobs.specs.Replays.{IsFaultOf, IsStoppedAmong, IsSummed, IsNotSummed, ReplayWritten, ReplayRefused}
 use Rattle.pay_jobs.specs.Run.{Begins, IsRefused}
 use Rattle.pay_jobs.specs.declared.fault.Fault.{Fault}
-use Rattle.pay_jobs.specs.declared.fault.Fault.TheVariants.{Usage, CannotReadFares, CannotReadOldFares, BadZone, CannotListen, Input, Output, CannotUseJournal, JournalLine, JournalLineOf, Journal, LedgerAlone, Refused}
+use Rattle.pay_jobs.specs.declared.fault.Fault.TheVariants.{Usage, CannotReadFares, CannotReadOldFares, BadZone, CannotListen, Input, Output, CannotUseJournal, JournalLine, JournalLineOf, Journal, LedgerAlone, Lacks, PostedOtherwise, Refused}
 
 -- ---- there is no line
 
@@ -40,18 +40,22 @@ unsummed_refused (JournalLineOf journal line why) fares zone texts (inr (of, say
 unsummed_refused Journal fares zone texts (inl told) = absurd told
 unsummed_refused Journal fares zone texts (inr (of, says, told)) = absurd told
 unsummed_refused LedgerAlone fares zone texts (inl told) = absurd told
+unsummed_refused (Lacks what) fares zone texts (inl told) = absurd told
+unsummed_refused (PostedOtherwise account week through) fares zone texts (inl told) = absurd told
 unsummed_refused LedgerAlone fares zone texts (inr (of, says, told)) = absurd told
+unsummed_refused (Lacks what) fares zone texts (inr (of, says, told)) = absurd told
+unsummed_refused (PostedOtherwise account week through) fares zone texts (inr (of, says, told)) = absurd told
 
 pub unsummed_memory : (fault : Fault) (fares zone : List ℕ) (texts : List (List ℕ)) → IsWantOfMemory fault → IsNotSummed fares zone texts fault
 unsummed_memory fault fares zone texts h = unsummed_refused fault fares zone texts (inl h)
 
 stopped_by : (why : ReplayFault) (fault : Fault) (number : ℕ) (fares zone_text : List ℕ) (texts : List (List ℕ)) (zone : TimeZone) (editions : FareEditions) → IsFaultOf number why fault → Begins fares zone_text None (new_machine zone editions None)
-    → IsStoppedAmong zone editions texts fault → IsNotSummed fares zone_text texts fault
+    → IsStoppedAmong zone editions texts 1 fault → IsNotSummed fares zone_text texts fault
 stopped_by (replaying.Line line why) fault number fares zone_text texts zone editions is begins stopped =
-    subst (λ f. IsStoppedAmong zone editions texts f → IsNotSummed fares zone_text texts f) (sym is) (λ s. (new_machine zone editions None, begins, s)) stopped
+    subst (λ f. IsStoppedAmong zone editions texts 1 f → IsNotSummed fares zone_text texts f) (sym is) (λ s. (new_machine zone editions None, begins, s)) stopped
 stopped_by replaying.Memory fault number fares zone_text texts zone editions is begins stopped = unsummed_memory fault fares zone_text texts is
 
-pub unsummed_stopped : (fault : Fault) (fares zone_text : List ℕ) (texts : List (List ℕ)) (zone : TimeZone) (editions : FareEditions) → Begins fares zone_text None (new_machine zone editions None) → IsStoppedAmong zone editions texts fault
+pub unsummed_stopped : (fault : Fault) (fares zone_text : List ℕ) (texts : List (List ℕ)) (zone : TimeZone) (editions : FareEditions) → Begins fares zone_text None (new_machine zone editions None) → IsStoppedAmong zone editions texts 1 fault
     → IsNotSummed fares zone_text texts fault
 unsummed_stopped fault fares zone_text texts zone editions begins stopped = stopped_by stopped.stops.1.0 fault _ fares zone_text texts zone editions stopped.stops.1.1 begins stopped
 
@@ -71,6 +75,8 @@ unsummed (JournalLine line why) fares zone texts held h = (h, refl)
 unsummed (JournalLineOf journal line why) fares zone texts held h = (h, refl)
 unsummed Journal fares zone texts held h = (h, refl)
 unsummed LedgerAlone fares zone texts held h = (h, refl)
+unsummed (Lacks what) fares zone texts held h = (h, refl)
+unsummed (PostedOtherwise account week through) fares zone texts held h = (h, refl)
 
 pub not_output : (fault : Fault) (fares zone : List ℕ) (texts : List (List ℕ)) → IsNotSummed fares zone texts fault → fault ≡ Output → ⊥
 not_output fault fares zone texts h is = subst (IsNotSummed fares zone texts) is h

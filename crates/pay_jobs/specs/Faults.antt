@@ -1,12 +1,10 @@
 -- How a program ends where it fails: its status, and the refusal that a fault is.
 use Rattle.std.specs.Prelude.{◌≡◌, ℕ, Bool, true, false, List, Result, Ok, Err, codes, ⊤}
 use Rattle.pay_jobs.specs.declared.fault.Fault.{Fault}
-use Rattle.pay_jobs.specs.declared.fault.Fault.TheVariants.{Usage, CannotListen, Input, Output, JournalLine, JournalLineOf, Journal, Refused}
+use Rattle.pay_jobs.specs.declared.fault.Fault.TheVariants.{Usage, Input, Output, JournalLine, Journal, Refused}
 use Rattle.pay_rules.specs.declared.post_fault.PostFault.TheVariants as post_fault
-use Rattle.pay_ledger.specs.Words.{open_fault_number, open_fault_name}
 use Rattle.pay_ledger.specs.declared.fault.LedgerFault.{LedgerFault}
 use Rattle.pay_ledger.specs.declared.fault.LedgerFault.TheVariants as ledger_fault
-use Rattle.pay_ledger.specs.declared.fault.OpenFault.{OpenFault}
 use Rattle.pay_wire.specs.Words.{WriterCall}
 use Rattle.pay_session.specs.Words.{ReaderCall, IsBroken}
 use Rattle.pay_journal.specs.declared.replaying.ReplayFault.{ReplayFault}

@@ -1,5 +1,5 @@
 -- How the job replay ends, by the texts of its fare file, of its zone, and of its journals.
-use Rattle.std.specs.Prelude.{◌≡◌, ℕ, ◌+◌, zero, suc, min, max, List, [], ◌∷◌, ◌++◌, map, length, fold, codes, decimal, Option, None, Some, unwrap_or, refl}
+use Rattle.std.specs.Prelude.{◌≡◌, ℕ, ◌+◌, zero, suc, min, max, List, [], ◌∷◌, ◌++◌, length, fold, codes, decimal, Option, None, Some, unwrap_or, refl}
 use Rattle.std.specs.Fmt.{digits}
 use Rattle.std.specs.List.{flat_map}
 use Rattle.std.specs.Ordering.{nat_cmp}
@@ -113,17 +113,17 @@ abbrev pub IsStoppedAt : TimeZone → FareEditions → List Request → List ℕ
 IsStoppedAt zone editions before text number fault =
     AreAllPriced (outcome [] (new_machine zone editions None) before).replies × ((why : ReplayFault) × IsFaultOf number why fault × IsNotReplayed (machine_of zone editions before None) (line_requests text) why)
 
--- The lines of the journals before one are accepted, and this one is not.
-pub record IsStoppedAmong (zone : TimeZone) (editions : FareEditions) (texts : List (List ℕ)) (fault : Fault) : Type 0 where
+-- The lines of the journals before one are accepted, and this one is not. They are told by their numbers, from the first one's on.
+pub record IsStoppedAmong (zone : TimeZone) (editions : FareEditions) (texts : List (List ℕ)) (first : ℕ) (fault : Fault) : Type 0 where
   pub front : List (List ℕ)
   pub text : List ℕ
   pub others : List (List ℕ)
   pub parts : texts ≡ front ++ text ∷ others
-  pub stops : IsStoppedAt zone editions (all_requests front) text (length front + 1) fault
+  pub stops : IsStoppedAt zone editions (all_requests front) text (length front + first) fault
 
 -- a fare file and a zone are read, and a line of a journal is refused so, where all before it are accepted
 abbrev pub IsNotAcceptedOf : (fares zone : List ℕ) (texts : List (List ℕ)) → Fault → Type 0
-IsNotAcceptedOf fares zone texts fault = (machine : Machine) × Begins fares zone None machine × IsStoppedAmong machine.zone machine.editions texts fault
+IsNotAcceptedOf fares zone texts fault = (machine : Machine) × Begins fares zone None machine × IsStoppedAmong machine.zone machine.editions texts 1 fault
 
 -- why nothing is told
 abbrev pub IsNotSummed : (fares zone : List ℕ) (texts : List (List ℕ)) → Fault → Type 0

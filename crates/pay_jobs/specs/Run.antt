@@ -1,5 +1,5 @@
 -- How the job run ends: by the texts of its fare file, its zone and its journal, over the ledger that was opened for it.
-use Rattle.std.specs.Prelude.{◌≡◌, ◌⊎◌, ℕ, true, List, [], Result, Ok, Err, Option, None, Some, IfSome}
+use Rattle.std.specs.Prelude.{◌≡◌, ◌⊎◌, ℕ, List, Result, Ok, Err, Option, None, IfSome}
 use Rattle.std.specs.Arc.{arc_value}
 use Rattle.std.specs.FinMap as map
 use Rattle.jiff.specs.Placed.{IsPosixZone}
@@ -12,12 +12,11 @@ use Rattle.pay_tables.specs.Words.{FareEditions}
 use Rattle.pay_fare_file.specs.Words.{fare_text, fault_number, fault_name}
 use Rattle.pay_fare_file.specs.declared.fault.FareFileFault.{FareFileFault}
 use Rattle.pay_jobs.specs.Faults.{IsRefusal, IsWantOfMemory}
-use Rattle.pay_postings.specs.Words.{LedgerParts}
-use Rattle.pay_ledger.specs.Words.{is_bare}
+use Rattle.pay_postings.specs.Words.{LedgerParts, AgreesWith}
 use Rattle.pay_session.specs.Words.{line_requests}
 use Rattle.pay_wire.specs.declared.refusal.Refusal.{Refusal}
 use Rattle.pay_run.specs.Words.{Machine, GivesBack, Before, After, Known, EndsRun, FailsRun, StopsAt, IsReplayOf}
-use Rattle.pay_jobs.specs.Alone.{IsNotTakenAlone}
+use Rattle.pay_jobs.specs.Taken.{IsNotTakenWith}
 use Rattle.pay_jobs.specs.Texts.{Texts}
 use Rattle.pay_jobs.specs.declared.begun.Begun.{Begun}
 use Rattle.pay_jobs.specs.declared.begun.FaresAndZone.{FaresAndZone}
@@ -82,34 +81,28 @@ IsNotBegun texts _ = ⊥
 -- ---- the second step: a session is held
 
 module _ {K L R W : Type 0} (known : Known K L R W) (texts : Texts) where
-  -- The session of such a machine, over the ledger that was found: it ended by itself, or not.
+  -- The session of such a machine, over the ledger that was found, which agrees with what the journal gives back: it ended by itself, or not.
   pub record RanOver (found : Option LedgerParts) (before : Before K L R W) (after : After L R W) (ended : Result Done SessionFault) : Type 0 where
     pub machine : Machine
     pub resumes : Resumes texts found machine
+    pub agrees : IfSome (known.remaining before.reader) (λ _. IfSome found (AgreesWith machine.editions machine.accounts))
     pub ends : EndsRun known machine before after ended
     pub fails : FailsRun known machine before after ended
 
-  -- Of a ledger that was taken: its disk had returned what was written, and where the journal has no line, nothing was archived.
-  pub record IsTaken (opened : L) : Type 0 where
-    pub sound : known.IsSound opened
-    pub bare : line_requests texts.past ≡ [] → (found : LedgerParts) → known.IsFound opened (Some found) → is_bare found ≡ true
-
   -- A session was held over a ledger that was opened, whatever this was found to be.
   pub record JobRan (before : Before K L R W) (after : After L R W) (ended : Result Done SessionFault) : Type 0 where
-    pub taken : known.IsSound after.ledger → IfSome (known.remaining before.reader) (λ _. IsTaken before.ledger)
+    pub sound : known.IsSound after.ledger → IfSome (known.remaining before.reader) (λ _. known.IsSound before.ledger)
     pub over : known.IsSound after.ledger → (found : Option LedgerParts) → known.IsFound before.ledger found → RanOver found before after ended
 
 -- That is so for the texts by which it had begun.
 abbrev pub HasRun : {K L R W : Type 0} → Known K L R W → Begun → Before K L R W → After L R W → Result Done SessionFault → Type 0
 HasRun known begun before after ended = (texts : Texts) → HasBegun texts begun → JobRan known texts before after ended
 
--- From the ledger that was opened to what it is then: the journal has no line, and the ledger is not taken without. It archives something,
--- or what it archives was not read.
-pub record IsLeftAlone {S : Type 0} (store : Ghosts S) (texts : Texts) (opened last : Held S) (fault : Fault) : Type 0 where
-  pub no_lines : line_requests texts.past ≡ []
+-- From the ledger that was opened to what it is then: it is not taken with what the journal gives back.
+pub record IsNotRun {S : Type 0} (store : Ghosts S) (opened last : Held S) (fault : Fault) : Type 0 where
   pub clean : HasCleanDisk (state store last) → HasCleanDisk (state store opened)
-  pub why : IsNotTakenAlone store opened last fault
+  pub why : IsNotTakenWith store opened last fault
 
 -- why no session was held over the ledger, for the texts by which it had begun
 abbrev pub HasNotRun : {S : Type 0} → Ghosts S → Begun → Held S → Held S → Fault → Type 0
-HasNotRun store begun opened last fault = (texts : Texts) → HasBegun texts begun → IsLeftAlone store texts opened last fault
+HasNotRun store begun opened last fault = (texts : Texts) → HasBegun texts begun → IsNotRun store opened last fault

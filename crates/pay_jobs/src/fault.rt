@@ -4,6 +4,7 @@ ghost use Rattle.pay_jobs.specs.Faults.{IsRefusal, IsWantOfMemory, IsUnread, IsR
 ghost use Rattle.pay_fare_file.specs.Words.{fault_number, fault_name};
 ghost use Rattle.pay_ledger.specs.Words.{open_fault_number, open_fault_name};
 
+use crate::lacked::Lacked;
 use pay_fare_file::FareFileFault;
 use pay_journal::ReplayFault;
 use pay_ledger::{LedgerFault, OpenFault};
@@ -60,6 +61,16 @@ pub enum Fault {
     /// A ledger archives something, and its journal has no line.
     #[error("farebox: ledger without its journal")]
     LedgerAlone,
+    /// A ledger archives this, and its journal does not give it back.
+    #[error("farebox: in the ledger and not in the journal: {0}")]
+    Lacks(Lacked),
+    /// What was posted for this account is not what is due by its journal and this fare file.
+    #[error("farebox: account {account} was posted otherwise for week {week} through {through}")]
+    PostedOtherwise {
+        account: u32,
+        week: u32,
+        through: u32,
+    },
     /// A refusal, by its number and its name.
     #[error("farebox: {number} {name}")]
     Refused {

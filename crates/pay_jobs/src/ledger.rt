@@ -1,23 +1,47 @@
-//! Whether a ledger is taken with what journals have.
+//! Whether a ledger is taken with what journals give back.
 ghost use Rattle.std.specs.Prelude.{IfErr, OnOk};
-ghost use Rattle.pay_jobs.specs.Alone.{IsTakenWith, IsNotTakenWith};
+ghost use Rattle.pay_jobs.specs.Taken.{IsOfDifference, IsTakenWith, IsNotTakenWith};
 
 use crate::fault::Fault;
+use crate::lacked::{lacked_fix, lacked_tap};
+use pay_audit::{Difference, first_difference};
+use pay_book::Book;
 use pay_ledger::Ledger;
+use pay_shard::Shard;
 use sqlite::Alter;
+use std::alloc::Global;
 
-/// Takes a ledger with journals that have a whole line, or have none. One that archives something needs the journal of what it
-/// archives, and is not taken without.
-pub fn take_with<S: Alter>(ledger: &mut Ledger<S>, has_line: bool) -> Result<(), Fault>
-    ensures taken { OnOk result (IsTakenWith S.Store ledger.old ledger.new has_line) }
-    ensures refused { IfErr result (IsNotTakenWith S.Store ledger.old ledger.new has_line) }
+/// What does not agree, as it is told: a ledger without any line of its journal, or the first thing.
+fn differs(account: u32, difference: Difference, has_line: bool) -> Fault
+    ensures { IsOfDifference result }
 {
-    if has_line {
-        return Ok(());
+    match difference {
+        Difference::Tap(_) | Difference::Fix(_) if !has_line => Fault::LedgerAlone,
+        Difference::Tap(tap) => Fault::Lacks(lacked_tap(&tap)),
+        Difference::Fix(fix) => Fault::Lacks(lacked_fix(&fix)),
+        Difference::Posting { week, through } => Fault::PostedOtherwise {
+            account,
+            week,
+            through,
+        },
     }
-    match ledger.archives_nothing() {
-        Ok(true) => Ok(()),
-        Ok(false) => Err(Fault::LedgerAlone),
+}
+
+/// Takes a ledger with the accounts that its journals give back, if it agrees with these: all that it archives they have accepted,
+/// with the same content and stamped alike, and what was posted for the version that an account has is what it owes.
+pub fn take_with<S: Alter>(
+    alloc: Global,
+    ledger: &mut Ledger<S>,
+    shard: &Shard<Book>,
+) -> Result<(), Fault>
+    ensures taken { OnOk result (IsTakenWith S.Store ledger.old ledger.new shard.now) }
+    ensures refused { IfErr result (IsNotTakenWith S.Store ledger.old ledger.new) }
+{
+    match first_difference(alloc, shard, ledger) {
+        Ok(None) => Ok(()),
+        Ok(Some((account, difference))) => {
+            Err(differs(account, difference, shard.journal().len() > 0))
+        }
         Err(fault) => Err(Fault::from(fault)),
     }
 }

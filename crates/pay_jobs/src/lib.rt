@@ -6,6 +6,7 @@
 
 mod begun;
 mod fault;
+mod lacked;
 mod ledger;
 mod output;
 mod replays;
@@ -14,6 +15,7 @@ mod statement;
 
 pub use begun::{Begun, FaresAndZone};
 pub use fault::Fault;
+pub use lacked::Lacked;
 pub use ledger::take_with;
 pub use pay_book::Book;
 pub use pay_journal::{Keeper, LineKeeper, NoKeeper, NotKept, whole_bytes};
@@ -21,7 +23,7 @@ pub use pay_ledger::Ledger;
 pub use pay_ledger_files::{Ledgers, new_ledger};
 pub use pay_run::Ran;
 pub use pay_shard::Command;
-pub use replays::replay_texts;
+pub use replays::{replay_texts, replayed_texts};
 pub use run::{begin, begin_service, told};
 pub use sqlite::{FileStore, Wary};
 pub use sqlite_disk::Disk;

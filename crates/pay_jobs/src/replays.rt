@@ -1,5 +1,6 @@
 //! The job `replay`, by the texts of its fare file, its zone and its journals: all that the program does below the reading of files.
 ghost use Rattle.std.specs.Prelude.{◌≡◌, ◌<◌, ◌≤◌, ◌+◌, ◌^◌, ◌++◌, List, [], None, Some, fold, map as each, max, length, decimal, slice_get, IfOk, IfErr, OnOk};
+ghost use Rattle.std.specs.Arc.{arc_value};
 ghost use Rattle.std.specs.BTreeSet.{insert_key};
 ghost use Rattle.std.specs.List.{flat_map};
 ghost use Rattle.std.specs.Ordering.{nat_cmp};
@@ -20,9 +21,11 @@ use pay_journal::ReplayFault;
 use pay_rules::What;
 use pay_run::{new_desk, replay_more, replayed_lines};
 use pay_shard::{Asked, Command, Journal, LocalDesk};
+use pay_tables::Editions;
 use pay_wire::KnownWriter;
 use std::alloc::{AllocError, Global};
 use std::collections::BTreeSet;
+use std::sync::Arc;
 
 /// What is told of journals.
 #[derive(Clone, Copy)]
@@ -65,13 +68,32 @@ fn summed(alloc: Global, fares: &str, zone: &str, texts: &[Vec<u8>]) -> Result<S
 {
     let editions = read_fares(alloc, fares)?;
     let zone = read_zone(zone)?;
-    let mut desk = new_desk(alloc, editions);
-    let rest = replay_each(&mut desk, &zone, texts)?;
+    let replayed = replayed_texts(alloc, editions, &zone, texts, 1)?;
+    let (desk, rest) = replayed;
     // What was replayed is what the journal has.
     replayed_lines(&desk);
     let summary = summed_up(alloc, desk.shard().journal(), rest)?;
     let line = summary_line(alloc, summary)?;
     Ok(line)
+}
+
+/// A desk that has what journals give back, one after the other, and how many bytes stand after their last newlines. They are told by
+/// their numbers, from the first one's on.
+pub fn replayed_texts(
+    alloc: Global,
+    editions: Arc<Editions>,
+    zone: &TimeZone<'_>,
+    texts: &[Vec<u8>],
+    first: u64,
+) -> Result<(LocalDesk<Book>, u128), Fault>
+    requires { first ≤ 1 }
+    ensures replayed { IfOk result (λ it. HasReplayed zone.now (arc_value editions) it.0 (all_requests (each (λ text. text.items) texts.now))) }
+    ensures rest { IfOk result (λ it. it.1 ≡ rests (each (λ text. text.items) texts.now)) }
+    ensures stopped { IfErr result (IsStoppedAmong zone.now (arc_value editions) (each (λ text. text.items) texts.now) first) }
+{
+    let mut desk = new_desk(alloc, editions);
+    let rest = replay_each(&mut desk, zone, texts, first)?;
+    Ok((desk, rest))
 }
 
 /// Replays one journal over what a desk has. The answer is how many bytes stand after its last newline.
@@ -106,15 +128,17 @@ fn replay_each(
     desk: &mut LocalDesk<Book>,
     zone: &TimeZone<'_>,
     texts: &[Vec<u8>],
+    first: u64,
 ) -> Result<u128, Fault>
+    requires { first ≤ 1 }
     ensures rest { IfOk result (λ rest. rest ≡ rests (each (λ text. text.items) texts.now)) }
     ensures replayed { OnOk result ((editions : FareEditions) → HasReplayed zone.now editions desk.old [] → HasReplayed zone.now editions desk.new (all_requests (each (λ text. text.items) texts.now))) }
-    ensures stopped { IfErr result (λ fault. (editions : FareEditions) → HasReplayed zone.now editions desk.old [] → IsStoppedAmong zone.now editions (each (λ text. text.items) texts.now) fault) }
+    ensures stopped { IfErr result (λ fault. (editions : FareEditions) → HasReplayed zone.now editions desk.old [] → IsStoppedAmong zone.now editions (each (λ text. text.items) texts.now) first fault) }
 {
     let mut rest = 0u128;
     for place in 0..texts.len() {
         let text = text_at(texts, place);
-        let left = replay_text(desk, zone, text, place as u64 + 1)?;
+        let left = replay_text(desk, zone, text, place as u64 + first)?;
         rest = with_more(rest, left);
     }
     Ok(rest)

@@ -57,8 +57,8 @@ impl Begun {
     }
 
     /// The second step: answers the lines of a reader, beginning with what the journal gives back, and closes days into the ledger that was
-    /// opened. The keeper keeps lines after the whole ones of the journal. A ledger that archives something needs its journal: beside one
-    /// without a line it gives `LedgerAlone`, and nothing is read or written. What came of the session is [told](told).
+    /// opened. The keeper keeps lines after the whole ones of the journal. A ledger that does not agree with what the journal gives back is
+    /// not [taken](take_with), and nothing is read or written. What came of the session is [told](told).
     pub fn run<K: Keeper, S: Alter, R: KnownReader, W: KnownWriter>(
         self,
         alloc: Global,
@@ -78,9 +78,9 @@ impl Begun {
         let Begun {
             zone,
             desk,
-            replayed,
+            replayed: _,
         } = self;
-        take_with(ledger, replayed.lines > 0)?;
+        take_with(alloc, ledger, desk.shard())?;
         Ok(run_lines(alloc, reader, writer, &zone, desk, keeper, ledger))
     }
 

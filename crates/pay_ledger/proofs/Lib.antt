@@ -6,6 +6,6 @@ mod Gathered
 mod Batched
 mod Looking
 mod Asked
-mod Bare
 mod Lasting
 mod Readied
+mod Passed

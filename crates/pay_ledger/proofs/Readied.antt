@@ -2,7 +2,7 @@
 use Rattle.std.proofs.Common.{◌≡◌, inl, inr, false, [], Result, Ok, Err, IsErrAnd, IfErr, refl, sym, subst, ◌∙◌}
 use Rattle.sqlite.specs.Effect.{Database}
 use Rattle.sqlite.specs.State.{State, IsUnchanged, Shows}
-use Rattle.pay_records.specs.Words.{IsFree, IsOfKind, Finds, FindsFirst, Grows, MakesLedger, Upgrades, Places, HasFirstTables, IsUpgradable, GrowsBeside, without_editions, ledger_tables}
+use Rattle.pay_records.specs.Words.{IsFree, IsOfKind, Finds, FindsFirst, Grows, MakesLedger, Upgrades, HasFirstTables, IsUpgradable, GrowsBeside, without_editions, ledger_tables}
 unfoldable use Rattle.pay_records.specs.Words.{HoldsRows, HoldsFirst}
 use Rattle.pay_records.specs.declared.kind.DatabaseKind.{DatabaseKind}
 use Rattle.pay_records.specs.declared.kind.DatabaseKind.TheVariants as kind

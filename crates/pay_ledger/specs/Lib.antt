@@ -4,7 +4,7 @@ pub mod OneReading
 pub mod Stores
 pub mod Opening
 pub mod Steps
-pub mod Bare
+pub mod Examined
 pub mod Calls
 pub mod WorkedRows
 pub mod Words

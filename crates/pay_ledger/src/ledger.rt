@@ -1,4 +1,4 @@
-ghost use Rattle.std.specs.Prelude.{◌≡◌, ◌≢◌, false, List, Some, map as each, IfOk, IfErr};
+ghost use Rattle.std.specs.Prelude.{◌≡◌, ◌≢◌, false, List, Some, map as each, IfNone, IfOk, IfErr};
 ghost use Rattle.std.specs.List.{IsDistinct};
 ghost use Rattle.std.specs.List.Sorted.{IsStrictlySortedBy};
 ghost use Rattle.std.specs.Ordering.{nat_cmp, eq_by_cmp};
@@ -10,11 +10,12 @@ ghost use Rattle.pay_restore.specs.Words.{restored};
 ghost use Rattle.pay_records.specs.Words.{OnCleanDisk, LeavesAsBeforeOr, LeavesAsBefore, Answers, IsFree};
 ghost use Rattle.pay_ledger.specs.Opening.{HasNoView, IsWhy, IsOpened, BlankJustGrows, MayLeaveOpened};
 ghost use Rattle.pay_ledger.specs.Steps.{IsOnDisk, Posts, MayLeave};
-ghost use Rattle.pay_ledger.specs.Bare.{is_bare, has_bare_rows};
+ghost use Rattle.pay_ledger.specs.Examined.{AllPass, AllPassRows};
 ghost use Rattle.pay_ledger.specs.BadRows.{ReadsAs, net_said, asked};
-ghost use Rattle.pay_ledger.specs.Calls.{ChangesNothing, ChangesNothingIfRefused, AnswersOfLedger, AnswersOfRows, AnswersOfReadable, FailsByStoreAlone, FailsByStoreAloneOfRows, RefusesAsDefined, RefusesOpenAlone, RefusesBadRows, RefusesBadAmounts, RefusesBadRowsFirst, AreAccountsOf, RestoresRows, RestoresLedger};
+ghost use Rattle.pay_ledger.specs.Calls.{ChangesNothing, ChangesNothingIfRefused, AnswersOfLedger, AnswersOfRows, AnswersOfReadable, FailsByStoreAlone, RefusesAsDefined, RefusesOpenAlone, RefusesBadRows, RefusesBadAmounts, RefusesBadRowsFirst, AreAccountsOf, RestoresRows, RestoresLedger};
 
 use crate::crashes::settled;
+use crate::examining::{Examiner, examine};
 use crate::fault::{LedgerFault, OpenFault};
 use crate::lookup::{Archive, archive_of, net_of, of_week, posted_of};
 use crate::opening::prepare;
@@ -151,16 +152,19 @@ impl<S: Alter> Ledger<S> {
         accounts_of(self.alloc, editions, &archive)
     }
 
-    /// Whether nothing is archived, so that there is no account to restore. The rows of the whole archive are read.
-    pub fn archives_nothing(&mut self) -> Result<bool, LedgerFault>
-        ensures told { AnswersOfLedger S.Store self.old self.new result (λ ledger none. none ≡ is_bare ledger) }
-        ensures rows { AnswersOfRows S.Store self.old self.new result (λ rows none. none ≡ has_bare_rows rows) }
-        ensures never_bad { FailsByStoreAloneOfRows S.Store self.old self.new result }
+    /// Has what there is of each account examined, in ascending order, up to one of which something is found. `BadArchive` where a
+    /// row has no number of an account, or where one is no posting.
+    pub fn examine<Found: Drop, E: Examiner<Found>>(
+        &mut self,
+        examiner: &E,
+    ) -> Result<Option<(u32, Found)>, LedgerFault>
+        ensures told { AnswersOfLedger S.Store self.old self.new result (λ ledger found. IfNone found (AllPass (E.Passes examiner.now) ledger)) }
+        ensures read { AnswersOfRows S.Store self.old self.new result (λ rows found. IfNone found (AllPassRows (E.Passes examiner.now) rows)) }
         ensures unchanged { ChangesNothing S.Store self.old self.new }
         ensures survives { LeavesAsBefore S.Store self.old self.new }
     {
-        let archive = archive_of(self.alloc, &mut self.conn)?;
-        Ok(archive.is_bare())
+        pay_postings::laws::postings_back();
+        examine(self.alloc, &mut self.conn, examiner)
     }
 
     /// The connection.

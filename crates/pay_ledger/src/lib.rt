@@ -2,6 +2,7 @@
 #![tactic(auto)]
 
 mod crashes;
+mod examining;
 mod fault;
 mod ledger;
 mod lookup;
@@ -10,5 +11,6 @@ mod post;
 mod read;
 mod write;
 
+pub use examining::Examiner;
 pub use fault::{LedgerFault, OpenFault};
 pub use ledger::Ledger;

@@ -2,7 +2,6 @@ ghost use Rattle.std.specs.Prelude.{◌≡◌, ◌++◌, ◌∷◌, [], Some, fa
 ghost use Rattle.pay_postings.specs.Words.{postings_of, net_from_rows};
 ghost use Rattle.pay_records.specs.Words.{LeavesAsBefore};
 ghost use Rattle.pay_ledger.specs.BadRows.{ReadsAs, net_said, IsNetOf};
-ghost use Rattle.pay_ledger.specs.Bare.{are_none};
 ghost use Rattle.pay_ledger.specs.Steps.{IsStep};
 ghost use Rattle.pay_ledger.specs.Calls.{ChangesNothing, AnswersOfRows, FailsByStoreAloneOfRows, RefusesBadRows, RefusesBadAmounts};
 
@@ -112,15 +111,6 @@ pub(crate) fn of_week(
 pub(crate) struct Archive {
     pub(crate) taps: Vec<(i64, TapRow)>,
     pub(crate) fixes: Vec<(i64, FixRow)>,
-}
-
-impl Archive {
-    /// Neither a tap nor a correction is archived.
-    pub(crate) fn is_bare(&self) -> bool
-        ensures { result ≡ are_none self.now.taps.items self.now.fixes.items }
-    {
-        self.taps.is_empty() && self.fixes.is_empty()
-    }
 }
 
 fn read_archive<S: Alter>(

@@ -3,7 +3,9 @@
 ghost use Rattle.std.specs.Prelude.{◌≡◌};
 
 use crate::accounts::expect_price;
-use crate::given::{MAY_BE_REFUSED, MAY_NOT_BE, WAS_REFUSED, expect_same, sample, tap_at, tell};
+use crate::given::{
+    MAY_BE_REFUSED, MAY_NOT_BE, MONDAY, WAS_REFUSED, expect_same, sample, tap_at, tell,
+};
 use crate::ledger::{
     JOURNEY, NO_MEMORY, empty_ledger, expect_by_store, expect_posted, expect_restored, expect_rows,
     opened, owed,
@@ -271,12 +273,12 @@ fn opens_a_file_by_its_path(rt: HostRuntime) {
     let _ = fs::remove_file(&rt, OTHER);
     let _ = fs::remove_file(&rt, OTHER_LOG);
     let mut ledger = rt.ledger(OTHER, Wary).expect(&rt, "a new file");
-    expect_same(&rt, ledger.archives_nothing(), Ok(true));
+    expect_same(&rt, ledger.net(7, MONDAY), Ok(0));
     expect_run(&rt, &mut ledger, LINES, 4, REPLIES);
     expect_same(&rt, rt.ledger(OTHER, Wary).err(), Some(OpenFault::Store));
     drop(ledger);
     let mut again = rt.ledger(OTHER, Wary).expect(&rt, "the file again");
-    expect_same(&rt, again.archives_nothing(), Ok(false));
+    expect_same(&rt, again.net(7, MONDAY), Ok(340));
     let closed = expect_rows(&rt, again, JOURNEY).into_connection().close();
     closed.expect(&rt, "the file once more");
     let no_database = fs::write(&rt, OTHER, b"no database".as_slice());

@@ -12,6 +12,7 @@ pub mod NewRows
 pub mod Archived
 pub mod Batches
 pub mod Judged
+pub mod Agreement
 pub mod Laws
 mod WorkedRows
 mod BatchRows

@@ -14,5 +14,5 @@ mod posting_rows;
 pub use accounts::LedgerAccounts;
 pub use archived::Archived;
 pub use batch::PostingBatch;
-pub use posted::Posted;
+pub use posted::{Posted, is_kept};
 pub use posting_rows::{net_from_rows, posting_row, postings_from_rows, share_rows};

@@ -120,8 +120,8 @@ fn is_of_edition(quote: &Quote, posted: &Quote) -> bool
     posted.edition() == 0 || quote.edition() == posted.edition()
 }
 
-/// Whether what was posted is kept for it.
-fn is_kept(quote: &Quote, posted: &Quote) -> bool
+/// Whether what was posted for the same version and day is kept for a quote.
+pub fn is_kept(quote: &Quote, posted: &Quote) -> bool
     ensures { result ≡ is_kept quote.now posted.now }
 {
     is_as_due(quote, posted) && is_of_edition(quote, posted)

@@ -19,7 +19,7 @@ use Rattle.sqlite.specs.Order.{Row, value_cmp, column}
 use Rattle.std.specs.Prelude.{nat_le}
 use Rattle.sqlite.specs.Schema.{Schema}
 use Rattle.sqlite.specs.Tree.{Trees}
-use Rattle.sqlite.specs.Term.{Term, Env}
+use Rattle.sqlite.specs.Term.{Term, Env, col}
 use Rattle.sqlite.specs.Query.{Query, IsAnswer, output, output_cmp, inner, end, matches}
 use Rattle.sqlite_sql.specs.Ops.{binary, is_true, from_truth}
 use Rattle.sqlite_sql.specs.declared.ops.CompareOp.TheVariants.{Eq}
@@ -35,9 +35,9 @@ use Rattle.pay_rows.specs.declared.row.ShareRow.{ShareRow}
 use Rattle.pay_rows.specs.declared.row.TapRow.{TapRow}
 use Rattle.pay_rows.specs.declared.row.FixRow.{FixRow}
 use Rattle.pay_records.specs.Rows.{LedgerRows, HoldsRows, RiseFrom, AreNumbers, share_numbers, tap_numbers, fix_numbers, posting_row}
-use Rattle.pay_records.specs.Found.{shares_of}
-use Rattle.pay_records.proofs.SelectTexts.{IsQuery, is_given, by_rowid, select_postings, select_shares, select_taps, select_fixes, select_all_taps, select_all_fixes, postings_query, shares_query, taps_query, fixes_query, all_taps_query, all_fixes_query}
-use Rattle.pay_records.proofs.Queries.{select_postings_is, select_taps_is, select_fixes_is, select_all_taps_is, select_all_fixes_is}
+use Rattle.pay_records.specs.Found.{shares_of, posted_accounts, tapped_accounts, fixed_accounts}
+use Rattle.pay_records.proofs.SelectTexts.{IsQuery, is_given, by_rowid, select_postings, select_shares, select_taps, select_fixes, select_all_taps, select_all_fixes, select_posted_accounts, select_tapped_accounts, select_fixed_accounts, posted_accounts_query, accounts_query, postings_query, shares_query, taps_query, fixes_query, all_taps_query, all_fixes_query}
+use Rattle.pay_records.proofs.Queries.{select_postings_is, select_taps_is, select_fixes_is, select_all_taps_is, select_all_fixes_is, select_posted_accounts_is, select_tapped_accounts_is, select_fixed_accounts_is}
 use Rattle.pay_records.proofs.Joining.{select_shares_is}
 use Rattle.pay_records.proofs.Placed.{opened}
 use Rattle.pay_records.proofs.Selects.{simple, simply, answers}
@@ -341,3 +341,49 @@ pub postings_shown : (account : ℤ) (old new : State) (rows : List Row) → Sho
 postings_shown account old new rows h l held =
     let at = opened old.now l held in
     postings_shown_in old.now.schema at.0.postings.table.tree _ (select_postings_is old.now.schema at.0.postings at.1.has_postings) account old new rows refl h l.postings at.2.postings at.2.postings_rise
+
+-- ---- the accounts of all rows
+
+abbrev pub one_number : ℤ → List ℤ
+one_number n = n ∷ []
+
+module _ {X : Type 0} (numbers : X → List ℤ) (account : X → ℤ) (first : (id : ℤ) (x : X) (params : Row) → eval_all (col 1 1 ∷ []) (params ∷ (Int id ∷ map Int (numbers x)) ∷ []) ≡ map Int (one_number (account x))) where
+  accounts_shown_in : (schema : Schema) (tree : ℕ) (text : List ℕ) (names : List (List ℕ)) → IsQuery schema text (accounts_query tree) names → (old new : State) (rows : List Row) → old.now.schema ≡ schema
+      → Shown text [] old new rows → (all : List X) → AreNumbers (old.now.trees tree) (map numbers all) → ShowsInOrder one_number (map account all) old new rows
+  accounts_shown_in schema tree text names query old new rows has h all are =
+      let it = shown_by_query schema text (accounts_query tree) names query [] old new rows has h in
+      record {
+        are = shows_in_order numbers (λ x. one_number (account x)) (λ _. true) tree [] (accounts_query tree).project [] (λ id x. refl) (λ id x. first id x []) (overlay old.now.trees []) all
+            (over old.now.trees tree (map numbers all) are) rows it.0
+            ∙ ap (map (λ x. map Int (one_number (account x)))) (every all)
+            ∙ sym (map-map (λ n. map Int (one_number n)) account all);
+        unchanged = it.1;
+      }
+
+pub tapped_accounts_shown : (old new : State) (rows : List Row) → Shown select_tapped_accounts [] old new rows → (l : LedgerRows) → HoldsRows old.now l → ShowsInOrder one_number (tapped_accounts l) old new rows
+tapped_accounts_shown old new rows h l held =
+    let at = opened old.now l held in
+    accounts_shown_in tap_numbers (λ (t : ℤ × TapRow). t.0) (λ id t params. refl) old.now.schema at.0.taps.table.tree select_tapped_accounts _ (select_tapped_accounts_is old.now.schema at.0.taps at.1.has_taps) old new rows refl h l.taps at.2.taps
+
+pub fixed_accounts_shown : (old new : State) (rows : List Row) → Shown select_fixed_accounts [] old new rows → (l : LedgerRows) → HoldsRows old.now l → ShowsInOrder one_number (fixed_accounts l) old new rows
+fixed_accounts_shown old new rows h l held =
+    let at = opened old.now l held in
+    accounts_shown_in fix_numbers (λ (f : ℤ × FixRow). f.0) (λ id f params. refl) old.now.schema at.0.fixes.table.tree select_fixed_accounts _ (select_fixed_accounts_is old.now.schema at.0.fixes at.1.has_fixes) old new rows refl h l.fixes at.2.fixes
+
+posted_accounts_shown_in : (schema : Schema) (tree : ℕ) (names : List (List ℕ)) → IsQuery schema select_posted_accounts (posted_accounts_query tree) names → (old new : State) (rows : List Row) → old.now.schema ≡ schema
+    → Shown select_posted_accounts [] old new rows → (all : List (ℤ × ℤ × PostingRow)) → old.now.trees tree ≡ map posting_row all → RiseFrom (pos 0) (old.now.trees tree)
+    → ShowsInOrder one_number (map (λ (p : ℤ × ℤ × PostingRow). p.1) all) old new rows
+posted_accounts_shown_in schema tree names query old new rows has h all are rise =
+    let it = shown_by_query schema select_posted_accounts (posted_accounts_query tree) names query [] old new rows has h in
+    record {
+      are = in_order posting_row (λ (p : ℤ × ℤ × PostingRow). p.0) (λ p. refl) tree [] (posted_accounts_query tree).project [] (overlay old.now.trees [])
+          (λ _. true) (λ p. refl) all (overlay_is old.now.trees tree ∙ are) (subst (RiseFrom (pos 0)) are rise) rows it.0
+          ∙ ap (map (λ (p : ℤ × ℤ × PostingRow). map Int (one_number p.1))) (every all)
+          ∙ sym (map-map (λ n. map Int (one_number n)) (λ (p : ℤ × ℤ × PostingRow). p.1) all);
+      unchanged = it.1;
+    }
+
+pub posted_accounts_shown : (old new : State) (rows : List Row) → Shown select_posted_accounts [] old new rows → (l : LedgerRows) → HoldsRows old.now l → ShowsInOrder one_number (posted_accounts l) old new rows
+posted_accounts_shown old new rows h l held =
+    let at = opened old.now l held in
+    posted_accounts_shown_in old.now.schema at.0.postings.table.tree _ (select_posted_accounts_is old.now.schema at.0.postings at.1.has_postings) old new rows refl h l.postings at.2.postings at.2.postings_rise

@@ -17,7 +17,7 @@ use Rattle.sqlite_resolve.specs.Body.{tests}
 use Rattle.sqlite_resolve.specs.Order.{sorts}
 use Rattle.pay_records.specs.Tables.{meta, taps, taps_columns, fixes, fixes_columns, postings}
 use Rattle.pay_records.specs.Places.{Place, HasTable}
-use Rattle.pay_records.proofs.SelectTexts.{select_meta, select_all_taps, select_all_fixes, select_taps, select_fixes, select_postings, IsQuery, is_given, by_rowid, meta_query, all_taps_query, all_fixes_query, taps_query, fixes_query, postings_query}
+use Rattle.pay_records.proofs.SelectTexts.{select_meta, select_posted_accounts, select_tapped_accounts, select_fixed_accounts, select_all_taps, select_all_fixes, select_taps, select_fixes, select_postings, IsQuery, is_given, by_rowid, meta_query, posted_accounts_query, accounts_query, all_taps_query, all_fixes_query, taps_query, fixes_query, postings_query}
 use Rattle.pay_records.proofs.Selecting.{bare, source, by_column, select_of, parsed_as, understood_is, classes_are, reads_one, rowid_sorts, column_sorts, given_tests, is_first_given}
 
 pub is_query : (schema : Schema) (text : List ℕ) (s : Written) (names : List Name) (size : ℕ) (q : Query) (shown : List (List ℕ)) → first text ≡ Ok (parsed_as s names size)
@@ -166,3 +166,65 @@ module _ (schema : Schema) (place : Place) (has : HasTable schema place postings
 
   pub select_postings_is : IsQuery schema select_postings (postings_query place.table.tree) postings_names
   select_postings_is = is_query schema select_postings postings_written parameter 101 (postings_query place.table.tree) postings_names postings_parsed postings_read
+
+-- ---- the accounts of all rows
+
+abbrev pub account_name : List Name
+account_name = codes "account" ∷ []
+
+abbrev posted_accounts_written : Written
+posted_accounts_written = select_of (map bare account_name) (source (codes "postings2") None ∷ []) None (by_column (codes "id") ∷ [])
+
+posted_accounts_parsed : first select_posted_accounts ≡ Ok (parsed_as posted_accounts_written [] 41)
+unfolding first everything
+posted_accounts_parsed = refl
+
+module _ (schema : Schema) (place : Place) (has : HasTable schema place postings) where
+  posted_accounts_accepted : accepts_program schema [] (posted_accounts_query place.table.tree) [] ≡ true
+  posted_accounts_accepted = simp (classes_are schema place postings has)
+
+  posted_accounts_read : read schema posted_accounts_written ≡ Ok (Select (record { lets = []; body = posted_accounts_query place.table.tree }) account_name)
+  unfolding ungrouped same_name tests sorts alone
+  posted_accounts_read = reads_one schema place postings has account_name _ refl refl None (by_column (codes "id") ∷ []) [] by_rowid 99999 99998 _ _ refl
+      (column_sorts schema place postings has _ false (codes "id") 0 _ refl refl refl 99999 _ refl) posted_accounts_accepted
+
+  pub select_posted_accounts_is : IsQuery schema select_posted_accounts (posted_accounts_query place.table.tree) account_name
+  select_posted_accounts_is = is_query schema select_posted_accounts posted_accounts_written [] 41 (posted_accounts_query place.table.tree) account_name posted_accounts_parsed posted_accounts_read
+
+abbrev tapped_accounts_written : Written
+tapped_accounts_written = select_of (map bare account_name) (source (codes "taps") None ∷ []) None (by_column (codes "rowid") ∷ [])
+
+tapped_accounts_parsed : first select_tapped_accounts ≡ Ok (parsed_as tapped_accounts_written [] 39)
+unfolding first everything
+tapped_accounts_parsed = refl
+
+module _ (schema : Schema) (place : Place) (has : HasTable schema place taps) where
+  tapped_accounts_accepted : accepts_program schema [] (accounts_query place.table.tree) [] ≡ true
+  tapped_accounts_accepted = simp (classes_are schema place taps has)
+
+  tapped_accounts_read : read schema tapped_accounts_written ≡ Ok (Select (record { lets = []; body = accounts_query place.table.tree }) account_name)
+  unfolding ungrouped same_name tests is_rowid
+  tapped_accounts_read = reads_one schema place taps has account_name _ refl refl None (by_column (codes "rowid") ∷ []) [] by_rowid 99999 99998 _ _ refl
+      (rowid_sorts schema place taps has _ false (codes "rowid") refl refl refl 99999 _ refl) tapped_accounts_accepted
+
+  pub select_tapped_accounts_is : IsQuery schema select_tapped_accounts (accounts_query place.table.tree) account_name
+  select_tapped_accounts_is = is_query schema select_tapped_accounts tapped_accounts_written [] 39 (accounts_query place.table.tree) account_name tapped_accounts_parsed tapped_accounts_read
+
+abbrev fixed_accounts_written : Written
+fixed_accounts_written = select_of (map bare account_name) (source (codes "fixes") None ∷ []) None (by_column (codes "rowid") ∷ [])
+
+fixed_accounts_parsed : first select_fixed_accounts ≡ Ok (parsed_as fixed_accounts_written [] 40)
+unfolding first everything
+fixed_accounts_parsed = refl
+
+module _ (schema : Schema) (place : Place) (has : HasTable schema place fixes) where
+  fixed_accounts_accepted : accepts_program schema [] (accounts_query place.table.tree) [] ≡ true
+  fixed_accounts_accepted = simp (classes_are schema place fixes has)
+
+  fixed_accounts_read : read schema fixed_accounts_written ≡ Ok (Select (record { lets = []; body = accounts_query place.table.tree }) account_name)
+  unfolding ungrouped same_name tests is_rowid
+  fixed_accounts_read = reads_one schema place fixes has account_name _ refl refl None (by_column (codes "rowid") ∷ []) [] by_rowid 99999 99998 _ _ refl
+      (rowid_sorts schema place fixes has _ false (codes "rowid") refl refl refl 99999 _ refl) fixed_accounts_accepted
+
+  pub select_fixed_accounts_is : IsQuery schema select_fixed_accounts (accounts_query place.table.tree) account_name
+  select_fixed_accounts_is = is_query schema select_fixed_accounts fixed_accounts_written [] 40 (accounts_query place.table.tree) account_name fixed_accounts_parsed fixed_accounts_read

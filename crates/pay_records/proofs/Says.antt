@@ -11,10 +11,10 @@ use Rattle.pay_rows.specs.declared.row.FixRow.{FixRow}
 use Rattle.pay_records.specs.Rows.{LedgerRows, HoldsRows, share_numbers, tap_numbers, fix_numbers}
 use Rattle.pay_records.specs.declared.fault.ReadFault.{ReadFault}
 use Rattle.pay_records.specs.declared.fault.ReadFault.TheVariants.{BadArchive, Memory}
-use Rattle.pay_records.specs.Told.{IsWhole, AreWhole, whole_in, IsBadUnless, posting_at, share_at, tap_at, fix_at}
-use Rattle.pay_records.specs.Found.{Finds, postings_of, shares_of, taps_of, fixes_of}
-use Rattle.pay_records.proofs.SelectTexts.{select_postings, select_shares, select_taps, select_fixes, select_all_taps, select_all_fixes}
-use Rattle.pay_records.proofs.Answered.{told_in_some_order, told_in_order, each_shown, each_in_order, tap_shown, fix_shown, posting_shown, taps_shown, fixes_shown, all_taps_shown, all_fixes_shown, shares_shown, postings_shown}
+use Rattle.pay_records.specs.Told.{IsWhole, AreWhole, whole_in, IsBadUnless, number_at, posting_at, share_at, tap_at, fix_at}
+use Rattle.pay_records.specs.Found.{Finds, postings_of, shares_of, taps_of, fixes_of, posted_accounts, tapped_accounts, fixed_accounts}
+use Rattle.pay_records.proofs.SelectTexts.{select_postings, select_shares, select_taps, select_fixes, select_all_taps, select_all_fixes, select_posted_accounts, select_tapped_accounts, select_fixed_accounts}
+use Rattle.pay_records.proofs.Answered.{told_in_some_order, told_in_order, each_shown, each_in_order, tap_shown, fix_shown, posting_shown, taps_shown, fixes_shown, all_taps_shown, all_fixes_shown, shares_shown, postings_shown, one_number, posted_accounts_shown, tapped_accounts_shown, fixed_accounts_shown}
 
 -- columns that are whole numbers are not told to be bad
 pub never_told_bad : {A : Type 0} (r : Result A ReadFault) (Whole : Type 0) → IfErr r (λ fault. fault ≢ Memory → IsBadUnless Whole fault) → r ≡ Err BadArchive → Whole → ⊥
@@ -94,3 +94,33 @@ module _ (old new : State) (given : Row) (rows held : List Row) where
   all_fixes_whole is l holds =
       let h = all_fixes_shown old new held (shown_rows select_all_fixes [] is) l holds in
       each_in_order fix_numbers (λ r. IsWhole (column r 0) × AreWhole 1 8 r) (λ x. ((_, refl), ((_, refl), ((_, refl), ((_, refl), ((_, refl), ((_, refl), ((_, refl), ((_, refl), ((_, refl), tt)))))))))) _ old new held h
+
+  pub posted_accounts_told : (list : List ℤ) → IsShown select_posted_accounts [] → list ≡ map (number_at 0) held → Finds old new (λ l. list ≡ posted_accounts l)
+  posted_accounts_told list is told l holds =
+      let h = posted_accounts_shown old new held (shown_rows select_posted_accounts [] is) l holds in
+      (told ∙ told_in_order one_number (number_at 0) (λ (n : ℤ). n) (λ x. refl) _ old new held h ∙ itself (posted_accounts l), h.unchanged)
+
+  pub posted_accounts_whole : IsShown select_posted_accounts [] → (l : LedgerRows) → HoldsRows old.now l → AllByRecursion (AreWhole 0 1) held
+  posted_accounts_whole is l holds =
+      let h = posted_accounts_shown old new held (shown_rows select_posted_accounts [] is) l holds in
+      each_in_order one_number (AreWhole 0 1) (λ x. ((_, refl), tt)) _ old new held h
+
+  pub tapped_accounts_told : (list : List ℤ) → IsShown select_tapped_accounts [] → list ≡ map (number_at 0) held → Finds old new (λ l. list ≡ tapped_accounts l)
+  tapped_accounts_told list is told l holds =
+      let h = tapped_accounts_shown old new held (shown_rows select_tapped_accounts [] is) l holds in
+      (told ∙ told_in_order one_number (number_at 0) (λ (n : ℤ). n) (λ x. refl) _ old new held h ∙ itself (tapped_accounts l), h.unchanged)
+
+  pub tapped_accounts_whole : IsShown select_tapped_accounts [] → (l : LedgerRows) → HoldsRows old.now l → AllByRecursion (AreWhole 0 1) held
+  tapped_accounts_whole is l holds =
+      let h = tapped_accounts_shown old new held (shown_rows select_tapped_accounts [] is) l holds in
+      each_in_order one_number (AreWhole 0 1) (λ x. ((_, refl), tt)) _ old new held h
+
+  pub fixed_accounts_told : (list : List ℤ) → IsShown select_fixed_accounts [] → list ≡ map (number_at 0) held → Finds old new (λ l. list ≡ fixed_accounts l)
+  fixed_accounts_told list is told l holds =
+      let h = fixed_accounts_shown old new held (shown_rows select_fixed_accounts [] is) l holds in
+      (told ∙ told_in_order one_number (number_at 0) (λ (n : ℤ). n) (λ x. refl) _ old new held h ∙ itself (fixed_accounts l), h.unchanged)
+
+  pub fixed_accounts_whole : IsShown select_fixed_accounts [] → (l : LedgerRows) → HoldsRows old.now l → AllByRecursion (AreWhole 0 1) held
+  fixed_accounts_whole is l holds =
+      let h = fixed_accounts_shown old new held (shown_rows select_fixed_accounts [] is) l holds in
+      each_in_order one_number (AreWhole 0 1) (λ x. ((_, refl), tt)) _ old new held h

@@ -30,6 +30,15 @@ select_all_taps = codes "SELECT account, reader, seq, utc, day, second, place, k
 abbrev pub select_all_fixes : List ℕ
 select_all_fixes = codes "SELECT account, staff, seq, what, a, b, c, d, e FROM fixes ORDER BY rowid"
 
+abbrev pub select_posted_accounts : List ℕ
+select_posted_accounts = codes "SELECT account FROM postings2 ORDER BY id"
+
+abbrev pub select_tapped_accounts : List ℕ
+select_tapped_accounts = codes "SELECT account FROM taps ORDER BY rowid"
+
+abbrev pub select_fixed_accounts : List ℕ
+select_fixed_accounts = codes "SELECT account FROM fixes ORDER BY rowid"
+
 abbrev pub select_meta : List ℕ
 select_meta = codes "SELECT name, version FROM meta"
 
@@ -58,6 +67,13 @@ all_taps_query tree = simple (inner tree end) [] (col 1 1 ∷ col 1 2 ∷ col 1 
 
 abbrev pub all_fixes_query : ℕ → Query
 all_fixes_query tree = simple (inner tree end) [] (col 1 1 ∷ col 1 2 ∷ col 1 3 ∷ col 1 4 ∷ col 1 5 ∷ col 1 6 ∷ col 1 7 ∷ col 1 8 ∷ col 1 9 ∷ []) by_rowid
+
+-- the account is the second column of a row of `postings2`, and the first one of the others, after the rowid
+abbrev pub posted_accounts_query : ℕ → Query
+posted_accounts_query tree = simple (inner tree end) [] (col 1 2 ∷ []) by_rowid
+
+abbrev pub accounts_query : ℕ → Query
+accounts_query tree = simple (inner tree end) [] (col 1 1 ∷ []) by_rowid
 
 abbrev pub meta_query : ℕ → Query
 meta_query tree = simple (inner tree end) [] (col 1 1 ∷ col 1 2 ∷ []) []

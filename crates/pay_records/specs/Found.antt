@@ -32,3 +32,13 @@ taps_of account l = map (λ (t : ℤ × TapRow). t.1) (filter (λ (t : ℤ × Ta
 -- and its corrections
 abbrev pub fixes_of : ℤ → LedgerRows → List FixRow
 fixes_of account l = map (λ (f : ℤ × FixRow). f.1) (filter (λ (f : ℤ × FixRow). int_eq f.0 account) l.fixes)
+
+-- the account of each posting, of each archived tap and of each correction
+abbrev pub posted_accounts : LedgerRows → List ℤ
+posted_accounts l = map (λ (p : ℤ × ℤ × PostingRow). p.1) l.postings
+
+abbrev pub tapped_accounts : LedgerRows → List ℤ
+tapped_accounts l = map (λ (t : ℤ × TapRow). t.0) l.taps
+
+abbrev pub fixed_accounts : LedgerRows → List ℤ
+fixed_accounts l = map (λ (f : ℤ × FixRow). f.0) l.fixes

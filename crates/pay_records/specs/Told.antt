@@ -31,6 +31,9 @@ whole_in (Real x) = pos 0
 whole_in (Text t) = pos 0
 whole_in (Blob b) = pos 0
 
+abbrev pub number_at : ℕ → Row → ℤ
+number_at from row = whole_in (column row from)
+
 abbrev pub posting_at : ℕ → Row → PostingRow
 posting_at from row = record {
   week = whole_in (column row from);

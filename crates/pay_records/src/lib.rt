@@ -12,6 +12,9 @@ mod write;
 pub use copy::upgrade;
 pub use fault::ReadFault;
 pub use kind::{DatabaseKind, has_view, kind_of};
-pub use read::{all_fixes, all_taps, fixes_of, postings_of, shares_of, taps_of};
+pub use read::{
+    all_fixes, all_taps, fixed_accounts, fixes_of, posted_accounts, postings_of, shares_of,
+    tapped_accounts, taps_of,
+};
 pub use tables::make;
 pub use write::{add_fix, add_posting, add_share, add_tap};

@@ -1,7 +1,7 @@
 ghost use Rattle.std.specs.Prelude.{◌≡◌, IsPermutation, IsOkUnless};
 ghost use Rattle.sqlite.specs.Values.{bound};
 ghost use Rattle.sqlite.specs.State.{Shown};
-ghost use Rattle.pay_records.specs.Found.{postings_of, shares_of, taps_of, fixes_of};
+ghost use Rattle.pay_records.specs.Found.{postings_of, shares_of, taps_of, fixes_of, posted_accounts, tapped_accounts, fixed_accounts};
 ghost use Rattle.pay_records.specs.Calls.{LeavesAsBefore, CommitsNothingInside, StaysInsideOrOut, Answers, FindsInRows, NeverBadOfRows};
 
 use crate::fault::ReadFault;
@@ -149,4 +149,52 @@ pub fn all_fixes<S: Alter>(
         &[],
     )?;
     all_beside(alloc, &rows)
+}
+
+/// The account of each posting, in the order in which they were posted.
+pub fn posted_accounts<S: Alter>(
+    alloc: Global,
+    tx: &mut Transaction<'_, S>,
+) -> Result<Vec<i64>, ReadFault>
+    ensures same_reference { tx.new.conn.ghost_name ≡ tx.old.conn.ghost_name }
+    ensures found { FindsInRows S.Store tx.old.conn.now tx.new.conn.now result (λ rows list. list.items ≡ posted_accounts rows) }
+    ensures never_bad { NeverBadOfRows S.Store tx.old.conn.now tx.new.conn.now result }
+    ensures inside { StaysInsideOrOut S.Store tx.old.conn.now tx.new.conn.now result }
+    ensures unchanged { CommitsNothingInside S.Store tx.old.conn.now tx.new.conn.now }
+    ensures survives { LeavesAsBefore S.Store tx.old.conn.now tx.new.conn.now }
+{
+    let rows = query(tx, "SELECT account FROM postings2 ORDER BY id", &[])?;
+    all(alloc, &rows)
+}
+
+/// The account of each archived tap, in the order in which they were archived.
+pub fn tapped_accounts<S: Alter>(
+    alloc: Global,
+    tx: &mut Transaction<'_, S>,
+) -> Result<Vec<i64>, ReadFault>
+    ensures same_reference { tx.new.conn.ghost_name ≡ tx.old.conn.ghost_name }
+    ensures found { FindsInRows S.Store tx.old.conn.now tx.new.conn.now result (λ rows list. list.items ≡ tapped_accounts rows) }
+    ensures never_bad { NeverBadOfRows S.Store tx.old.conn.now tx.new.conn.now result }
+    ensures inside { StaysInsideOrOut S.Store tx.old.conn.now tx.new.conn.now result }
+    ensures unchanged { CommitsNothingInside S.Store tx.old.conn.now tx.new.conn.now }
+    ensures survives { LeavesAsBefore S.Store tx.old.conn.now tx.new.conn.now }
+{
+    let rows = query(tx, "SELECT account FROM taps ORDER BY rowid", &[])?;
+    all(alloc, &rows)
+}
+
+/// The account of each archived correction, in the order in which they were archived.
+pub fn fixed_accounts<S: Alter>(
+    alloc: Global,
+    tx: &mut Transaction<'_, S>,
+) -> Result<Vec<i64>, ReadFault>
+    ensures same_reference { tx.new.conn.ghost_name ≡ tx.old.conn.ghost_name }
+    ensures found { FindsInRows S.Store tx.old.conn.now tx.new.conn.now result (λ rows list. list.items ≡ fixed_accounts rows) }
+    ensures never_bad { NeverBadOfRows S.Store tx.old.conn.now tx.new.conn.now result }
+    ensures inside { StaysInsideOrOut S.Store tx.old.conn.now tx.new.conn.now result }
+    ensures unchanged { CommitsNothingInside S.Store tx.old.conn.now tx.new.conn.now }
+    ensures survives { LeavesAsBefore S.Store tx.old.conn.now tx.new.conn.now }
+{
+    let rows = query(tx, "SELECT account FROM fixes ORDER BY rowid", &[])?;
+    all(alloc, &rows)
 }

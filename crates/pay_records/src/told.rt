@@ -117,6 +117,19 @@ impl Told for FixRow {
     }
 }
 
+/// One number.
+impl Told for i64 {
+    ghost use Rattle.pay_records.specs.Told.{number_at};
+
+    ghost width = { 1 };
+
+    ghost told_at = { number_at };
+
+    fn told(row: &Row, from: usize) -> Result<i64, ReadFault> {
+        whole(row, from)
+    }
+}
+
 /// The number or the account that stands before it, and it.
 pub(crate) fn beside<T: Told>(row: &Row) -> Result<(i64, T), ReadFault>
     ensures told { IfOk result (λ it. (it.0 ≡ whole_in (column row.now 0)) × (it.1 ≡ T.told_at 1 row.now)) }

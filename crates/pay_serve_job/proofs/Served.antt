@@ -1,5 +1,5 @@
 -- How a service ended, from what `serve` says of it.
-use Rattle.std.proofs.Common.{◌≡◌, inl, inr, ℕ, Bool, true, false, List, Option, Result, Ok, Err, refl, sym, subst, arith}
+use Rattle.std.proofs.Common.{◌≡◌, inl, inr, ℕ, Bool, List, Option, Result, Ok, Err, refl, sym, subst, arith}
 use Rattle.sqlite.specs.Held.{Held, state}
 use Rattle.sqlite.specs.State.{State, Survives}
 use Rattle.sqlite.specs.Store.{Ghosts}
@@ -11,8 +11,9 @@ use Rattle.pay_serve.specs.Words.{GateParts, HoldsPassed}
 use Rattle.pay_serve.specs.Words.{Closing, Terms, IsServed}
 use Rattle.pay_serve.specs.declared.fault.ServeFault.{ServeFault}
 use Rattle.pay_records.specs.Words.{LeavesAsBefore}
-use Rattle.pay_jobs.specs.Words.{IsTakenWith, IsNotTakenWith}
-use Rattle.pay_serve_job.specs.Service.{have_line, FailsToServe, IsNotHere, IsServeFault, IsServedAloneOrNot, IsServedOrNot}
+use Rattle.jiff.specs.declared.tz.timezone.TimeZone.{TimeZone}
+use Rattle.pay_tables.specs.Words.{FareEditions}
+use Rattle.pay_serve_job.specs.Service.{IsTakenBy, IsNotTakenBy, FailsToServe, IsNotHere, IsServeFault, IsServedAloneOrNot, IsServedOrNot}
 use Rattle.pay_jobs.specs.declared.fault.Fault.{Fault}
 
 -- ---- a ledger and its journals
@@ -21,15 +22,17 @@ survives_same : (s : State) → Survives s s (λ _. ⊥)
 survives_same s = record { clean = omega arith; shield = λ h. h; counts = omega arith; limit = refl; closes = λ clean live. inl live; crash = λ clean db left. inl left }
 
 module _ {S : Type 0} (store : Ghosts S) (old new : Held S) where
-  -- what is taken is as it was,
-  taken_stays : (has_line : Bool) → IsTakenWith store old new has_line → LeavesAsBefore store old new
-  taken_stays true taken = subst (λ h. LeavesAsBefore store old h) (sym taken) (survives_same (state store old))
-  taken_stays false taken = taken.survives
+  stays_same : new ≡ old → LeavesAsBefore store old new
+  stays_same same = subst (λ h. LeavesAsBefore store old h) (sym same) (survives_same (state store old))
 
-  -- and so is what is not
-  pub refused_stays : (has_line : Bool) (fault : Fault) → IsNotTakenWith store old new has_line fault → LeavesAsBefore store old new
-  refused_stays true fault not_taken = absurd not_taken
-  refused_stays false fault not_taken = not_taken.survives
+  module _ (editions : FareEditions) (zone : TimeZone) (texts : List (List ℕ)) where
+    -- what is taken is as it was, and so is what is not
+    taken_stays : IsTakenBy store editions zone texts old new → LeavesAsBefore store old new
+    taken_stays it = it.taken.survives
+
+    pub refused_stays : (fault : Fault) → IsNotTakenBy store editions zone texts old new fault → LeavesAsBefore store old new
+    refused_stays fault (inl not_taken) = not_taken.survives
+    refused_stays fault (inr (same, why)) = stays_same same
 
 -- what is so of the ledgers that a till lent before and after is so of these, which they are
 pub of_lent : {T H : Type 0} (lent : T → H) (P : H → H → Type 0) (old last : H) (before after : T) → old ≡ lent before → last ≡ lent after → P (lent before) (lent after) → P old last
@@ -45,30 +48,30 @@ if_untouched same (inr none) = inr (none.0, same none.1)
 
 module _ {K S : Type 0} (keeper : Keeping K) (store : Ghosts S) (terms : Terms) where
   -- the ledger was not taken with the journals
-  pub not_taken : (old new : Held S) (held : Option (List ℕ)) (fault : Fault) (has_line : Bool) → has_line ≡ have_line terms.texts → IsNotTakenWith store old new has_line fault
+  pub not_taken : (old new : Held S) (held : Option (List ℕ)) (fault : Fault) → IsNotTakenBy store terms.fares terms.zone terms.texts old new fault
       → IsServedOrNot keeper store terms (old, held) (new, held) (Err fault)
-  not_taken old new held fault has_line is why = inr (refl, refl, refused_stays store old new has_line fault why)
+  not_taken old new held fault why = inr (refl, refl, refused_stays store old new terms.fares terms.zone terms.texts fault why)
 
-  pub why_not : (old new : Held S) (fault : Fault) (has_line : Bool) → has_line ≡ have_line terms.texts → IsNotTakenWith store old new has_line fault → FailsToServe store terms old fault
-  why_not old new fault has_line is why = inl (new, subst (λ b. IsNotTakenWith store old new b fault) is why)
+  pub why_not : (old new : Held S) (fault : Fault) → IsNotTakenBy store terms.fares terms.zone terms.texts old new fault → FailsToServe store terms old fault
+  why_not old new fault why = inl (new, why)
 
-  pub served_well : (old begun new : Held S) (held written : Option (List ℕ)) (closed : Bool) (Untouched : Type 0) (has_line : Bool)
-      → has_line ≡ have_line terms.texts → IsTakenWith store old begun has_line
+  pub served_well : (old begun new : Held S) (held written : Option (List ℕ)) (closed : Bool) (Untouched : Type 0)
+      → IsTakenBy store terms.fares terms.zone terms.texts old begun
       → IsServed (HoldsPassed keeper.holds keeper.HasFailed keeper.IsSettled) terms (λ of put answer. Closes (state store begun) (state store new) of put answer) (held, written) (Ok closed) Untouched
       → IsServedOrNot keeper store terms (old, held) (new, written) (Ok closed)
-  served_well old begun new held written closed Untouched has_line is taken (inl by) =
-      inl (record { begun = begun; taken = subst (IsTakenWith store old begun) is taken; ended = Ok closed; served = by; told = refl })
-  served_well old begun new held written closed Untouched has_line is taken (inr (failed, same)) = absurd (cc)
+  served_well old begun new held written closed Untouched taken (inl by) =
+      inl (record { begun = begun; taken = taken; ended = Ok closed; served = by; told = refl })
+  served_well old begun new held written closed Untouched taken (inr (failed, same)) = absurd (cc)
 
-  pub served_badly : (old begun new : Held S) (held written : Option (List ℕ)) (why : ServeFault) (fault : Fault) (Untouched : Type 0) (has_line : Bool)
-      → (Untouched → (new ≡ begun) × (written ≡ held)) → has_line ≡ have_line terms.texts → IsTakenWith store old begun has_line → IsServeFault why fault
+  pub served_badly : (old begun new : Held S) (held written : Option (List ℕ)) (why : ServeFault) (fault : Fault) (Untouched : Type 0)
+      → (Untouched → (new ≡ begun) × (written ≡ held)) → IsTakenBy store terms.fares terms.zone terms.texts old begun → IsServeFault why fault
       → IsServed (HoldsPassed keeper.holds keeper.HasFailed keeper.IsSettled) terms (λ of put answer. Closes (state store begun) (state store new) of put answer) (held, written) (Err why) Untouched
       → IsServedOrNot keeper store terms (old, held) (new, written) (Err fault)
-  served_badly old begun new held written why fault Untouched has_line stays is taken told (inl by) =
-      inl (record { begun = begun; taken = subst (IsTakenWith store old begun) is taken; ended = Err why; served = by; told = told })
-  served_badly old begun new held written why fault Untouched has_line stays is taken told (inr (failed, same)) =
+  served_badly old begun new held written why fault Untouched stays taken told (inl by) =
+      inl (record { begun = begun; taken = taken; ended = Err why; served = by; told = told })
+  served_badly old begun new held written why fault Untouched stays taken told (inr (failed, same)) =
       let as_before = stays same in
-      inr (refl, as_before.1, subst (λ h. LeavesAsBefore store old h) (sym as_before.0) (taken_stays store old begun has_line taken))
+      inr (refl, as_before.1, subst (λ h. LeavesAsBefore store old h) (sym as_before.0) (taken_stays store old begun terms.fares terms.zone terms.texts taken))
 
 -- ---- without a ledger
 

@@ -1,10 +1,12 @@
 -- How the job serve ends, by its fare file, its zone and its journals, and by the ledger that is opened for it.
-use Rattle.std.specs.Prelude.{◌≡◌, ◌⊎◌, ℕ, Bool, true, false, List, [], ◌∷◌, Option, Result, Ok, Err, IsErr, codes, refl, ⊤}
-use Rattle.std.specs.List.{list_any}
+use Rattle.std.specs.Prelude.{◌≡◌, ◌⊎◌, ℕ, Bool, List, [], Option, Result, Ok, Err, IsErr, codes, ⊤}
+use Rattle.jiff.specs.declared.tz.timezone.TimeZone.{TimeZone}
 use Rattle.sqlite.specs.Held.{Held, state}
 use Rattle.sqlite.specs.Store.{Ghosts}
 use Rattle.pay_records.specs.Words.{LeavesAsBefore}
-use Rattle.pay_session.specs.Words.{has_newline}
+use Rattle.pay_tables.specs.Words.{FareEditions}
+use Rattle.pay_shard.specs.Words.{LocalParts}
+use Rattle.pay_run.specs.Words.{HasReplayed}
 use Rattle.pay_journal.specs.declared.keeper.Keeper.{Ghosts as Keeping}
 use Rattle.pay_serve.specs.Words.{HoldsPassed}
 use Rattle.pay_wire.specs.Words.{WriterCall, HasFault}
@@ -16,12 +18,9 @@ use Rattle.pay_serve.specs.declared.fault.ServeFault.{ServeFault}
 use Rattle.pay_serve.specs.declared.fault.ServeFault.TheVariants as serving
 use Rattle.pay_serve.specs.declared.plan.Plan.{Plan}
 use Rattle.pay_jobs.specs.Words.{IsTakenWith, IsNotTakenWith, IsRefusal, IsWantOfMemory}
+use Rattle.pay_jobs.specs.Replays.{IsStoppedAmong, all_requests}
 use Rattle.pay_jobs.specs.declared.fault.Fault.{Fault}
-use Rattle.pay_jobs.specs.declared.fault.Fault.TheVariants.{BadZone, CannotListen, Output, JournalLineOf, Journal, LedgerAlone, Refused}
-
--- whether one of these journals has a whole line
-abbrev pub have_line : List (List ℕ) → Bool
-have_line = list_any has_newline
+use Rattle.pay_jobs.specs.declared.fault.Fault.TheVariants.{CannotListen, Output, JournalLineOf, Journal, LedgerAlone, Lacks, PostedOtherwise, Refused}
 
 -- what ended a service
 abbrev pub IsServeFault : ServeFault → Fault → Type 0
@@ -39,12 +38,24 @@ IsToldAs (Ok closed) (Ok told) = told ≡ closed
 IsToldAs (Err why) (Err fault) = IsServeFault why fault
 IsToldAs _ _ = ⊥
 
+-- By a fare file, a zone and the texts of journals; from what a connection holds before a call to what it holds after it.
+module _ {S : Type 0} (store : Ghosts S) (editions : FareEditions) (zone : TimeZone) (texts : List (List ℕ)) (old new : Held S) where
+  -- the ledger there was taken with the accounts that the journals give back
+  pub record IsTakenBy : Type 0 where
+    pub desk : LocalParts
+    pub replayed : HasReplayed zone editions desk (all_requests texts)
+    pub taken : IsTakenWith store old new desk.shard
+
+  -- or it was not, or not looked at, since a line of a journal is not accepted, or memory was wanting
+  abbrev pub IsNotTakenBy : Fault → Type 0
+  IsNotTakenBy fault = IsNotTakenWith store old new fault ⊎ ((new ≡ old) × (IsStoppedAmong zone editions texts 0 fault ⊎ IsWantOfMemory fault))
+
 -- With what keepers hold, and of what. Before and after are a ledger, and what the writer holds.
 module _ {K S : Type 0} (keeper : Keeping K) (store : Ghosts S) where
   -- The ledger was taken with the journals, all connections were served by these terms, and the day was closed into it, or not, as is told.
   pub record IsServedInto (terms : Terms) (before after : Held S × Option (List ℕ)) (result : Result Bool Fault) : Type 0 where
     pub begun : Held S
-    pub taken : IsTakenWith store before.0 begun (have_line terms.texts)
+    pub taken : IsTakenBy store terms.fares terms.zone terms.texts before.0 begun
     pub ended : Result Bool ServeFault
     pub served : IsServedBy (HoldsPassed keeper.holds keeper.HasFailed keeper.IsSettled) terms (λ of put answer. Closes (state store begun) (state store after.0) of put answer) before.1 after.1 ended
     pub told : IsToldAs ended result
@@ -57,7 +68,7 @@ module _ {K S : Type 0} (keeper : Keeping K) (store : Ghosts S) where
 -- came of it.
 abbrev pub FailsToServe : {S : Type 0} → Ghosts S → Terms → Held S → Fault → Type 0
 FailsToServe {S} store terms opened fault =
-    ((read : Held S) × IsNotTakenWith store opened read (have_line terms.texts) fault) ⊎ ((why : ServeFault) × IsServeFault why fault × IsStopped terms why)
+    ((read : Held S) × IsNotTakenBy store terms.fares terms.zone terms.texts opened read fault) ⊎ ((why : ServeFault) × IsServeFault why fault × IsStopped terms why)
 
 -- ---- without a ledger
 
@@ -91,13 +102,6 @@ HasServiceCause writes Fails plan (Refused number name) writer = number ≡ 32 �
 HasServiceCause writes Fails plan CannotListen writer = ⊤
 HasServiceCause writes Fails plan (JournalLineOf journal line why) writer = ⊤
 HasServiceCause writes Fails plan LedgerAlone writer = ⊤
+HasServiceCause writes Fails plan (Lacks what) writer = ⊤
+HasServiceCause writes Fails plan (PostedOtherwise account week through) writer = ⊤
 HasServiceCause writes Fails plan _ writer = ⊥
-
--- ---- worked rows
-
--- what stands before a newline is a line, and what stands alone is none
-cut_line : have_line ([] ∷ codes "TAP 1 1 7 170" ∷ []) ≡ false
-cut_line = refl
-
-line_in_second : have_line ([] ∷ codes "TAP 1\nTAP" ∷ []) ≡ true
-line_in_second = refl

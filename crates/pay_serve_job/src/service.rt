@@ -1,29 +1,31 @@
 //! The job `serve`, over a ledger, and without one.
 ghost use Rattle.std.specs.Prelude.{◌≡◌, length, map, vec_items, IfErr, OnOk};
+ghost use Rattle.std.specs.Arc.{arc_value};
 ghost use Rattle.sqlite.specs.Held.{state};
 ghost use Rattle.pay_wire.specs.Words.{IsFlushed};
 ghost use Rattle.pay_day.specs.Words.{IsDay};
 ghost use Rattle.pay_close.specs.Closes.{Closes};
 ghost use Rattle.pay_journal.specs.Words.{CanFail};
 ghost use Rattle.pay_serve.specs.Words.{HoldsPassed};
-ghost use Rattle.pay_session.specs.Words.{has_newline};
 ghost use Rattle.pay_serve.specs.Words.{IsOutOfPlan, IsServeCause, IsServed, IsStopped, terms_of};
-ghost use Rattle.pay_serve_job.specs.Service.{have_line, FailsAlone, FailsToServe, HasServiceCause, IsServedAloneOrNot, IsServedOrNot};
+ghost use Rattle.pay_serve_job.specs.Service.{IsTakenBy, IsNotTakenBy, FailsAlone, FailsToServe, HasServiceCause, IsServedAloneOrNot, IsServedOrNot};
 
 use crate::fault::fault_of;
+use jiff::tz::TimeZone;
 use pay_book::Book;
 use pay_close::LedgerTill;
-use pay_jobs::{Fault, take_with};
-use pay_journal::{Keeper, whole_bytes};
+use pay_jobs::{Fault, replayed_texts, take_with};
+use pay_journal::Keeper;
 use pay_ledger::Ledger;
 use pay_serve::{Given, Plan, ServeFault, listen};
+use pay_tables::Editions;
 use pay_till::NoTill;
 use pay_wire::KnownWriter;
 use sqlite::Alter;
 use std::alloc::Global;
 use std::io::Eprint;
 use std::net::{Net, TcpListener, TcpStream};
-use std::sync::Wait;
+use std::sync::{Arc, Wait};
 use std::thread::Threads;
 
 /// Says on standard error where it listens.
@@ -37,23 +39,20 @@ fn tell_ports<R: Eprint>(rt: &R, plan: &Plan) {
     };
 }
 
-/// Whether a text has a whole line.
-fn has_line(text: &[u8]) -> bool
-    ensures { result ≡ has_newline text.now }
+/// Takes a ledger with the accounts that the journals of a service give back. These are let go again before the service begins.
+fn take_given<S: Alter>(
+    alloc: Global,
+    editions: &Arc<Editions>,
+    zone: &TimeZone<'_>,
+    texts: &[Vec<u8>],
+    ledger: &mut Ledger<S>,
+) -> Result<(), Fault>
+    ensures taken { OnOk result (IsTakenBy S.Store (arc_value editions.now) zone.now (map vec_items texts.now) ledger.old ledger.new) }
+    ensures refused { IfErr result (IsNotTakenBy S.Store (arc_value editions.now) zone.now (map vec_items texts.now) ledger.old ledger.new) }
 {
-    whole_bytes(text) > 0
-}
-
-/// Whether one of these texts has.
-fn has_one_line(texts: &[Vec<u8>]) -> bool
-    ensures { result ≡ have_line (map vec_items texts.now) }
-{
-    for place in 0..texts.len() {
-        if has_line(texts[place].as_slice()) {
-            return true;
-        }
-    }
-    false
+    let editions = Arc::clone(editions)?;
+    let replayed = replayed_texts(alloc, editions, zone, texts, 0)?;
+    take_with(alloc, ledger, replayed.0.shard())
 }
 
 /// Serves the connections of what is given, and closes its day into a ledger that was taken.
@@ -86,8 +85,8 @@ where
 
 /// Serves the connections of a plan by a fare file and the clock of a zone, and closes the plan's day into a ledger when all have ended.
 /// Whether the day was closed; if not, its refusal is written. The lines of journals, which are given by their numbers from 0 on, are
-/// taken again before the first connection; and each shard has a keeper of what it newly accepts. A ledger that archives something needs
-/// its journals: where none of them has a whole line, it gives `LedgerAlone`, and no port is taken.
+/// taken again before the first connection; and each shard has a keeper of what it newly accepts. A ledger that does not agree with what
+/// the journals give back is not [taken](take_with), and then no port is.
 pub fn serve<R, K, S: Alter, W: KnownWriter>(
     rt: R,
     alloc: Global,
@@ -112,7 +111,7 @@ where
     ensures within { OnOk result (IsOutOfPlan given.entry.plan → ⊥) }
     ensures cause { IfErr result (λ fault. HasServiceCause W.MayAnswer (CanFail K.HasFailed) given.entry.plan fault writer.new) }
 {
-    take_with(ledger, has_one_line(given.texts))?;
+    take_given(alloc, &given.editions, &given.zone, given.texts, ledger)?;
     let listeners = match listen(&rt, alloc, &given.plan) {
         Ok(listeners) => listeners,
         Err(why) => return Err(fault_of(why)),

@@ -29,7 +29,7 @@ pub returns-in_err-left-clause-stopped : goal.returns-in_err-left-clause-stopped
 returns-in_err-left-clause-stopped c =
     let texts = map (λ text. text.items) c.args.texts.now in
     let p = err_from_is_err_and c.from_residual.result c.from_residual.ensures.1 in
-    rw (p.1, p.2) (λ editions h. stopped_among c.args.zone.now editions texts c.loop-place.place c.text_at-text.result.now _ c.text_at-text.ensures (c.in_err-left.ensures.stopped editions _ (c.loop-place.invariant.replayed editions h)))
+    rw (p.1, p.2) (λ editions h. stopped_among c.args.zone.now editions texts c.loop-place.place c.args.first c.text_at-text.result.now _ c.text_at-text.ensures (c.in_err-left.ensures.stopped editions _ (c.loop-place.invariant.replayed editions h)))
 
 pub returns-clause-replayed : goal.returns-clause-replayed
 returns-clause-replayed c editions h =

@@ -1,4 +1,4 @@
-use Rattle.std.proofs.Common.{◌≡◌, ◌≤◌, ◌*◌, ◌-◌, ◌^◌, [], map, take}
+use Rattle.std.proofs.Common.{◌≡◌, ◌≤◌, ◌*◌, [], map, take}
 use Rattle.pay_tables.specs.Words.{FareEditions}
 use Rattle.pay_run.specs.Words.{HasReplayed}
 use Rattle.pay_jobs.specs.Replays.{all_requests, rests}

@@ -1,4 +1,4 @@
-use Rattle.std.proofs.Common.{◌∙◌, [], None, ap, refl, subst}
+use Rattle.std.proofs.Common.{◌∙◌, None, ap, refl}
 use Rattle.std.proofs.lemmas.Result.{err_from_is_err_and}
 use Rattle.std.specs.Arc.{arc_value}
 use Rattle.pay_shard.specs.Words.{ShardParts}
@@ -18,12 +18,11 @@ returns-in_err-zone-clause-fails c =
     let e = c.in_err-zone.ensures in
     rw (p.1, p.2, e.bad) (arc_value c.in_ok-editions.editions, c.in_ok-editions.ensures.ok, e.none)
 
-pub returns-in_err-rest-clause-fails : goal.returns-in_err-rest-clause-fails
-returns-in_err-rest-clause-fails c =
-    let begun = c.new_desk-desk.ensures in
-    let p = err_from_is_err_and c.from_residual-in_err-rest.result c.from_residual-in_err-rest.ensures.1 in
+pub returns-in_err-replayed-clause-fails : goal.returns-in_err-replayed-clause-fails
+returns-in_err-replayed-clause-fails c =
+    let p = err_from_is_err_and c.from_residual-in_err-replayed.result c.from_residual-in_err-replayed.ensures.1 in
     rw (p.1, p.2) (unsummed_stopped _ _ _ _ c.in_ok-zone.zone (arc_value c.in_ok-editions.editions) (record { says = c.in_ok-editions.ensures.ok; rule = c.in_ok-zone.ensures.ok; new = refl; posted = refl })
-    (c.in_err-rest.ensures.stopped (arc_value c.in_ok-editions.editions) (begun.none c.in_ok-zone.zone)))
+    c.in_err-replayed.ensures.stopped)
 
 pub returns-in_err-summary-clause-fails : goal.returns-in_err-summary-clause-fails
 returns-in_err-summary-clause-fails c =
@@ -37,14 +36,13 @@ returns-in_err-line-clause-fails c =
 
 pub returns-clause-summed : goal.returns-clause-summed
 returns-clause-summed c =
-    let begun = c.new_desk-desk.ensures in
     let zone = c.in_ok-zone.zone in
     let editions = arc_value c.in_ok-editions.editions in
-    let has = c.in_ok-rest.ensures.replayed editions (begun.none zone) in
+    let has = c.in_ok-replayed.ensures.replayed in
     let journal = c.journal.ensures.value ∙ ap (λ (s : ShardParts). s.journal) c.shard.ensures.value in
     record {
       machine = new_machine zone editions None;
       begins = record { says = c.in_ok-editions.ensures.ok; rule = c.in_ok-zone.ensures.ok; new = refl; posted = refl };
       accepted = (c.replayed_lines.ensures.accepted zone editions _ has).accepted;
-      says = c.in_ok-line.ensures ∙ ap summary_line (c.in_ok-summary.ensures ∙ ap (λ l. summary_of l c.in_ok-rest.rest) (ap commands_in journal ∙ c.replayed_lines.ensures.commands zone editions _ has) ∙ ap (summary_of _) c.in_ok-rest.ensures.rest);
+      says = c.in_ok-line.ensures ∙ ap summary_line (c.in_ok-summary.ensures ∙ ap (λ l. summary_of l c.in_ok-replayed.replayed.1) (ap commands_in journal ∙ c.replayed_lines.ensures.commands zone editions _ has) ∙ ap (summary_of _) c.in_ok-replayed.ensures.rest);
     }

@@ -1,4 +1,4 @@
-use Rattle.std.proofs.Common.{◌≡◌, ◌≤◌, [], length, take, None}
+use Rattle.std.proofs.Common.{◌≡◌, [], take, None}
 use Rattle.std.specs.Prelude.{fold, flat_map, max}
 use Rattle.std.specs.BTreeSet.{insert_key}
 use Rattle.std.specs.Ordering.{nat_cmp}

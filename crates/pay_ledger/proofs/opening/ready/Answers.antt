@@ -1,4 +1,4 @@
-use Rattle.std.proofs.Common.{ap, sym, subst, rules}
+use Rattle.std.proofs.Common.{ap, sym, subst}
 use Rattle.sqlite.specs.Held.{state}
 use Rattle.pay_ledger.specs.declared.fault.OpenFault.TheVariants.{Store}
 use Rattle.pay_ledger.specs.Faults.{open_fault_of_read}

@@ -1,4 +1,4 @@
-use Rattle.std.proofs.Common.{ap, inr, refl}
+use Rattle.std.proofs.Common.{ap}
 use Rattle.pay_serve.specs.Words.{terms_of}
 use Rattle.pay_serve_job.proofs.Served.{alone_well, alone_badly}
 use Rattle.pay_serve_job.proofs.service.serve_without_ledger.Goals as goal

@@ -1,0 +1,3 @@
+mod Lists
+mod Accounts
+mod SameRows

@@ -1,0 +1,33 @@
+-- The accounts of a ledger, and what is so of each that was looked at.
+use Rattle.std.specs.Prelude.{◌≡◌, ◌≤◌, ℕ, ℤ, pos, List, map, ◌++◌}
+use Rattle.std.specs.List.{AllByRecursion}
+use Rattle.pay_rules.specs.declared.posting.Posting.{Posting}
+use Rattle.pay_rules.specs.declared.tap.Tap.{Tap}
+use Rattle.pay_rules.specs.declared.fix.Fix.{Fix}
+use Rattle.pay_postings.specs.Words.{LedgerParts, ArchivedParts, archived_of}
+use Rattle.pay_records.specs.Words.{LedgerRows}
+use Rattle.pay_records.specs.Found.{posted_accounts, tapped_accounts, fixed_accounts}
+use Rattle.pay_ledger.specs.BadRows.{IsReadFrom}
+
+-- the accounts of all postings, archived taps and archived corrections, by the rows
+abbrev pub accounts : LedgerRows → List ℤ
+accounts rows = (posted_accounts rows ++ tapped_accounts rows) ++ fixed_accounts rows
+
+module _ (Passes : ℕ → ArchivedParts → Type 0) where
+  -- an account passes by what its rows say
+  abbrev pub PassesRows : LedgerRows → ℤ → Type 0
+  PassesRows rows number = (account : ℕ) × (number ≡ pos account) × (1 ≤ account) × (read : ArchivedParts) × IsReadFrom rows account read × Passes account read
+
+  -- and so does each that the rows have
+  abbrev pub AllPassRows : LedgerRows → Type 0
+  AllPassRows rows = AllByRecursion (PassesRows rows) (accounts rows)
+
+  -- an account of a ledger passes by what the ledger has of it
+  abbrev pub PassesIn : LedgerParts → ℕ → Type 0
+  PassesIn ledger account = (1 ≤ account) × Passes account (archived_of account ledger)
+
+  -- Each account that a ledger has anything of passes.
+  pub record AllPass (ledger : LedgerParts) : Type 0 where
+    pub posted : AllByRecursion (λ (p : Posting). PassesIn ledger p.quote.account) ledger.postings
+    pub tapped : AllByRecursion (λ (tap : Tap). PassesIn ledger tap.account) ledger.taps
+    pub fixed : AllByRecursion (λ (fix : Fix). PassesIn ledger fix.account) ledger.fixes
