@@ -22,11 +22,14 @@ struct Beside<'a, F: Fares> {
 }
 
 impl<'a, F: Fares> Examiner<Difference> for Beside<'a, F> {
+    ghost use Rattle.std.specs.Prelude.{⊤};
     ghost use Rattle.pay_rules.specs.State.{accepted_of};
     ghost use Rattle.pay_shard.specs.ShardParts.{state_now};
     ghost use Rattle.pay_postings.specs.Words.{AccountAgrees};
 
     ghost Passes = { λ it account archived. AccountAgrees it.shard.now.editions account (accepted_of (state_now it.shard.now) account) archived };
+
+    ghost Finds = { λ _ _ _ _. ⊤ };
 
     fn examine(&self, account: u32, archived: &Archived) -> Result<Option<Difference>, PostFault> {
         let editions = self.shard.editions();

@@ -9,3 +9,4 @@ mod Asked
 mod Lasting
 mod Readied
 mod Passed
+mod Finding

@@ -1,6 +1,6 @@
--- The accounts of a ledger, and what is so of each that was looked at.
+-- The accounts of a ledger, what is so of each that was looked at, and what of one of which something was found.
 use Rattle.std.specs.Prelude.{◌≡◌, ◌≤◌, ℕ, ℤ, pos, List, map, ◌++◌}
-use Rattle.std.specs.List.{AllByRecursion}
+use Rattle.std.specs.List.{AllByRecursion, Contains}
 use Rattle.pay_rules.specs.declared.posting.Posting.{Posting}
 use Rattle.pay_rules.specs.declared.tap.Tap.{Tap}
 use Rattle.pay_rules.specs.declared.fix.Fix.{Fix}
@@ -12,6 +12,10 @@ use Rattle.pay_ledger.specs.BadRows.{IsReadFrom}
 -- the accounts of all postings, archived taps and archived corrections, by the rows
 abbrev pub accounts : LedgerRows → List ℤ
 accounts rows = (posted_accounts rows ++ tapped_accounts rows) ++ fixed_accounts rows
+
+-- and by what a ledger has
+abbrev pub accounts_in : LedgerParts → List ℕ
+accounts_in ledger = (map (λ (p : Posting). p.quote.account) ledger.postings ++ map (λ (tap : Tap). tap.account) ledger.taps) ++ map (λ (fix : Fix). fix.account) ledger.fixes
 
 module _ (Passes : ℕ → ArchivedParts → Type 0) where
   -- an account passes by what its rows say
@@ -31,3 +35,20 @@ module _ (Passes : ℕ → ArchivedParts → Type 0) where
     pub posted : AllByRecursion (λ (p : Posting). PassesIn ledger p.quote.account) ledger.postings
     pub tapped : AllByRecursion (λ (tap : Tap). PassesIn ledger tap.account) ledger.taps
     pub fixed : AllByRecursion (λ (fix : Fix). PassesIn ledger fix.account) ledger.fixes
+
+module _ {Found : Type 0} (Finds : ℕ → ArchivedParts → Found → Type 0) where
+  -- of an account, by what its rows say, this was found
+  abbrev pub IsFoundOfRows : LedgerRows → ℕ × Found → Type 0
+  IsFoundOfRows rows it = (1 ≤ it.0) × (read : ArchivedParts) × IsReadFrom rows it.0 read × Finds it.0 read it.1
+
+  -- the account is one of these
+  abbrev pub IsFoundAmong : List ℤ → LedgerRows → ℕ × Found → Type 0
+  IsFoundAmong numbers rows it = Contains numbers (pos it.0) × IsFoundOfRows rows it
+
+  -- or one that the rows have
+  abbrev pub IsFoundInRows : LedgerRows → ℕ × Found → Type 0
+  IsFoundInRows rows it = IsFoundAmong (accounts rows) rows it
+
+  -- or one that a ledger has anything of, by what it has of it
+  abbrev pub IsFoundIn : LedgerParts → ℕ × Found → Type 0
+  IsFoundIn ledger it = Contains (accounts_in ledger) it.0 × (1 ≤ it.0) × Finds it.0 (archived_of it.0 ledger) it.1

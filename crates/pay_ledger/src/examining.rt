@@ -1,9 +1,9 @@
 //! Looking at what a ledger has of each account.
-ghost use Rattle.std.specs.Prelude.{◌≡◌, ◌≤◌, ◌++◌, pos, false, IfNone, IfOk, IsPermutation};
+ghost use Rattle.std.specs.Prelude.{◌≡◌, ◌≤◌, ◌++◌, pos, false, IfNone, IfSome, IfOk, IsPermutation};
 ghost use Rattle.std.specs.List.{AllByRecursion};
 ghost use Rattle.pay_postings.specs.Words.{parts};
 ghost use Rattle.pay_records.specs.Words.{LeavesAsBefore};
-ghost use Rattle.pay_ledger.specs.Examined.{accounts, PassesRows, AllPassRows};
+ghost use Rattle.pay_ledger.specs.Examined.{accounts, PassesRows, AllPassRows, IsFoundOfRows, IsFoundAmong, IsFoundInRows};
 ghost use Rattle.pay_ledger.specs.Steps.{IsStep};
 ghost use Rattle.pay_ledger.specs.Calls.{ChangesNothing, AnswersOfRows, FindsInHeldRows};
 
@@ -23,10 +23,14 @@ pub trait Examiner<Found: Drop> {
     /// What is so of an account that passes, and of what the ledger has of it.
     ghost Passes: { Self → ℕ → ArchivedParts → Type 0 };
 
+    /// What is so of an account of which this is found, and of what the ledger has of it.
+    ghost Finds: { Self → ℕ → ArchivedParts → Found → Type 0 };
+
     /// What it finds.
     fn examine(&self, account: u32, archived: &Archived) -> Result<Option<Found>, PostFault>
         requires { 1 ≤ account }
-        ensures { IfOk result (λ found. IfNone found (Passes self.now account (parts archived.now))) };
+        ensures passes { IfOk result (λ found. IfNone found (Passes self.now account (parts archived.now))) }
+        ensures finds { IfOk result (λ found. IfSome found (Finds self.now account (parts archived.now))) };
 }
 
 /// All these numbers in ascending order. An `Err` is out of memory.
@@ -74,6 +78,7 @@ fn examine_one<S: Alter, Found: Drop, E: Examiner<Found>>(
 ) -> Result<Option<(u32, Found)>, LedgerFault>
     ensures step { IsStep S.Store tx.old.conn tx.new.conn result }
     ensures found { FindsInHeldRows S.Store tx.old.conn.now tx.new.conn.now result (λ rows found. IfNone found (PassesRows (E.Passes examiner.now) rows number)) }
+    ensures finds { FindsInHeldRows S.Store tx.old.conn.now tx.new.conn.now result (λ rows found. IfSome found (λ it. (number ≡ pos it.0) × IsFoundOfRows (E.Finds examiner.now) rows it)) }
 {
     let account = account_of(number)?;
     let archived = read_account(alloc, tx, account)?;
@@ -92,6 +97,7 @@ fn examine_each<S: Alter, Found: Drop, E: Examiner<Found>>(
 ) -> Result<Option<(u32, Found)>, LedgerFault>
     ensures step { IsStep S.Store tx.old.conn tx.new.conn result }
     ensures found { FindsInHeldRows S.Store tx.old.conn.now tx.new.conn.now result (λ rows found. IfNone found (AllByRecursion (PassesRows (E.Passes examiner.now) rows) numbers.now)) }
+    ensures finds { FindsInHeldRows S.Store tx.old.conn.now tx.new.conn.now result (λ rows found. IfSome found (IsFoundAmong (E.Finds examiner.now) numbers.now rows)) }
 {
     let mut last = None;
     for number in numbers {
@@ -114,6 +120,7 @@ fn examine_in<S: Alter, Found: Drop, E: Examiner<Found>>(
 ) -> Result<Option<(u32, Found)>, LedgerFault>
     ensures step { IsStep S.Store tx.old.conn tx.new.conn result }
     ensures found { FindsInHeldRows S.Store tx.old.conn.now tx.new.conn.now result (λ rows found. IfNone found (AllPassRows (E.Passes examiner.now) rows)) }
+    ensures finds { FindsInHeldRows S.Store tx.old.conn.now tx.new.conn.now result (λ rows found. IfSome found (IsFoundInRows (E.Finds examiner.now) rows)) }
 {
     let numbers = all_accounts(alloc, tx)?;
     examine_each(alloc, tx, &numbers, examiner)
@@ -128,6 +135,7 @@ pub(crate) fn examine<S: Alter, Found: Drop, E: Examiner<Found>>(
     requires { conn.old.in_transaction ≡ false }
     ensures autocommit { conn.new.in_transaction ≡ false }
     ensures found { AnswersOfRows S.Store conn.old conn.new result (λ rows found. IfNone found (AllPassRows (E.Passes examiner.now) rows)) }
+    ensures finds { AnswersOfRows S.Store conn.old conn.new result (λ rows found. IfSome found (IsFoundInRows (E.Finds examiner.now) rows)) }
     ensures unchanged { ChangesNothing S.Store conn.old conn.new }
     ensures survives { LeavesAsBefore S.Store conn.old conn.new }
 {

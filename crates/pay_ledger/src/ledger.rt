@@ -1,4 +1,4 @@
-ghost use Rattle.std.specs.Prelude.{◌≡◌, ◌≢◌, false, List, Some, map as each, IfNone, IfOk, IfErr};
+ghost use Rattle.std.specs.Prelude.{◌≡◌, ◌≢◌, false, List, Some, map as each, IfNone, IfSome, IfOk, IfErr};
 ghost use Rattle.std.specs.List.{IsDistinct};
 ghost use Rattle.std.specs.List.Sorted.{IsStrictlySortedBy};
 ghost use Rattle.std.specs.Ordering.{nat_cmp, eq_by_cmp};
@@ -10,7 +10,7 @@ ghost use Rattle.pay_restore.specs.Words.{restored};
 ghost use Rattle.pay_records.specs.Words.{OnCleanDisk, LeavesAsBeforeOr, LeavesAsBefore, Answers, IsFree};
 ghost use Rattle.pay_ledger.specs.Opening.{HasNoView, IsWhy, IsOpened, BlankJustGrows, MayLeaveOpened};
 ghost use Rattle.pay_ledger.specs.Steps.{IsOnDisk, Posts, MayLeave};
-ghost use Rattle.pay_ledger.specs.Examined.{AllPass, AllPassRows};
+ghost use Rattle.pay_ledger.specs.Examined.{AllPass, AllPassRows, IsFoundIn, IsFoundInRows};
 ghost use Rattle.pay_ledger.specs.BadRows.{ReadsAs, net_said, asked};
 ghost use Rattle.pay_ledger.specs.Calls.{ChangesNothing, ChangesNothingIfRefused, AnswersOfLedger, AnswersOfRows, AnswersOfReadable, FailsByStoreAlone, RefusesAsDefined, RefusesOpenAlone, RefusesBadRows, RefusesBadAmounts, RefusesBadRowsFirst, AreAccountsOf, RestoresRows, RestoresLedger};
 
@@ -159,7 +159,9 @@ impl<S: Alter> Ledger<S> {
         examiner: &E,
     ) -> Result<Option<(u32, Found)>, LedgerFault>
         ensures told { AnswersOfLedger S.Store self.old self.new result (λ ledger found. IfNone found (AllPass (E.Passes examiner.now) ledger)) }
+        ensures finds { AnswersOfLedger S.Store self.old self.new result (λ ledger found. IfSome found (IsFoundIn (E.Finds examiner.now) ledger)) }
         ensures read { AnswersOfRows S.Store self.old self.new result (λ rows found. IfNone found (AllPassRows (E.Passes examiner.now) rows)) }
+        ensures found_read { AnswersOfRows S.Store self.old self.new result (λ rows found. IfSome found (IsFoundInRows (E.Finds examiner.now) rows)) }
         ensures unchanged { ChangesNothing S.Store self.old self.new }
         ensures survives { LeavesAsBefore S.Store self.old self.new }
     {
