@@ -1,5 +1,5 @@
 -- Accounts beside what a ledger has of them.
-use Rattle.std.proofs.Common.{◌≡◌, ◌∙◌, ℕ, ◌+◌, ◌==◌, true, if◌then◌else◌, nat_lt, List, filter, length, Option, Some, None, IfNone, eq-eqb, sym, ap, ap₂, subst}
+use Rattle.std.proofs.Common.{◌≡◌, ◌∙◌, ℕ, ◌+◌, ◌==◌, true, if◌then◌else◌, nat_lt, List, [], filter, length, Option, Some, None, IfNone, IfSome, eq-eqb, sym, ap, ap₂, subst, arith}
 use Rattle.std.specs.FinMap.{entries, values, len-entries}
 use Rattle.std.specs.List.{AllByRecursion}
 use Rattle.std.proofs.lemmas.List.{length-map}
@@ -16,6 +16,9 @@ use Rattle.pay_rules.specs.State.{State, accepted_of}
 use Rattle.pay_set_rows.specs.SetRows.{tap_row, fix_row}
 use Rattle.pay_postings.specs.Words.{LedgerParts, ArchivedParts, of_account, is_kept, is_quoted_so, is_posted_so, IsRowOf, AccountAgrees, AgreesWith}
 use Rattle.pay_ledger.specs.Words.{PassesIn, AllPass}
+use Rattle.pay_audit.specs.declared.difference.Difference.{Difference}
+use Rattle.pay_audit.specs.declared.difference.Difference.TheVariants.{Tap as OfTap, Fix as OfFix, Posting as OfPosting}
+use Rattle.pay_audit.specs.Differs.{IsOtherItem, IsPostedOtherwise, Differs}
 use Rattle.pay_audit.proofs.Lists.{all_of_map, each_own}
 
 -- what was posted for the version that an account has is kept for its quote, or not
@@ -43,6 +46,21 @@ module _ (editions : FareEditions) (account : ℕ) (accepted : Accepted) where
     taps = subst (λ (s : SetsParts). AllByRecursion (IsRowOf tap_row s.taps) archived.taps) is (subst (λ (o : Option X). IfNone o (AllByRecursion (IsRowOf tap_row its.taps) archived.taps)) none taps);
     fixes = subst (λ (s : SetsParts). AllByRecursion (IsRowOf fix_row s.fixes) archived.fixes) is (subst (λ (o : Option X). IfNone o (AllByRecursion (IsRowOf fix_row its.fixes) archived.fixes)) none fixes);
   }
+
+  -- what is none of its sets differs, and what differs of its postings alone
+  pub item_differs : (its : SetsParts) (archived : ArchivedParts) (item : Difference) → its ≡ sets account accepted → IsOtherItem its archived item → Differs editions account accepted archived item
+  item_differs its archived (OfTap tap) is other = subst (λ (s : SetsParts). IsOtherItem s archived (OfTap tap)) is other
+  item_differs its archived (OfFix fix) is other = subst (λ (s : SetsParts). IsOtherItem s archived (OfFix fix)) is other
+  item_differs its archived (OfPosting week through) is other = absurd other
+
+  one_differs : (archived : ArchivedParts) (postings : List Posting) (it : Difference) → postings ≡ archived.postings → Differs editions account accepted (record { postings = postings; taps = []; fixes = [] }) it → Differs editions account accepted archived it
+  one_differs archived postings (OfTap tap) are other = absurd (let none = other.1.1 in omega (arith, none))
+  one_differs archived postings (OfFix fix) are other = absurd (let none = other.1.1 in omega (arith, none))
+  one_differs archived postings (OfPosting week through) are other = subst (λ (l : List Posting). IsPostedOtherwise editions account accepted l week through) are other
+
+  pub postings_differ : (archived : ArchivedParts) (postings : List Posting) (found : Option Difference) → postings ≡ archived.postings → IfSome found (Differs editions account accepted (record { postings = postings; taps = []; fixes = [] })) → IfSome found (Differs editions account accepted archived)
+  postings_differ archived postings None are differs = tt
+  postings_differ archived postings (Some it) are differs = one_differs archived postings it are differs
 
 -- a ledger agrees where each of its accounts does
 module _ (editions : FareEditions) (state : State) (ledger : LedgerParts) where

@@ -1,3 +1,4 @@
 mod Lists
 mod Accounts
+mod Sought
 mod SameRows

@@ -1,9 +1,10 @@
 //! The accounts of a shard beside those of a ledger.
-ghost use Rattle.std.specs.Prelude.{◌≡◌, ◌≤◌, IfNone, IfOk};
+ghost use Rattle.std.specs.Prelude.{◌≡◌, ◌≤◌, IfNone, IfSome, IfOk};
 ghost use Rattle.pay_postings.specs.Words.{AgreesWith};
 ghost use Rattle.pay_records.specs.Words.{LeavesAsBefore};
 ghost use Rattle.pay_shard.specs.ShardParts.{state_now};
 ghost use Rattle.pay_ledger.specs.Words.{AnswersOfLedger, ChangesNothing};
+ghost use Rattle.pay_audit.specs.Differs.{DiffersIn};
 
 use crate::comparing::difference;
 use crate::difference::Difference;
@@ -22,14 +23,14 @@ struct Beside<'a, F: Fares> {
 }
 
 impl<'a, F: Fares> Examiner<Difference> for Beside<'a, F> {
-    ghost use Rattle.std.specs.Prelude.{⊤};
     ghost use Rattle.pay_rules.specs.State.{accepted_of};
     ghost use Rattle.pay_shard.specs.ShardParts.{state_now};
     ghost use Rattle.pay_postings.specs.Words.{AccountAgrees};
+    ghost use Rattle.pay_audit.specs.Differs.{Differs};
 
     ghost Passes = { λ it account archived. AccountAgrees it.shard.now.editions account (accepted_of (state_now it.shard.now) account) archived };
 
-    ghost Finds = { λ _ _ _ _. ⊤ };
+    ghost Finds = { λ it account archived found. Differs it.shard.now.editions account (accepted_of (state_now it.shard.now) account) archived found };
 
     fn examine(&self, account: u32, archived: &Archived) -> Result<Option<Difference>, PostFault> {
         let editions = self.shard.editions();
@@ -49,6 +50,7 @@ pub fn first_difference<F: Fares, S: Alter>(
     ledger: &mut Ledger<S>,
 ) -> Result<Option<(u32, Difference)>, LedgerFault>
     ensures agree { AnswersOfLedger S.Store ledger.old ledger.new result (λ it found. IfNone found (AgreesWith shard.now.editions (state_now shard.now) it)) }
+    ensures differs { AnswersOfLedger S.Store ledger.old ledger.new result (λ it found. IfSome found (DiffersIn shard.now.editions (state_now shard.now) it)) }
     ensures unchanged { ChangesNothing S.Store ledger.old ledger.new }
     ensures survives { LeavesAsBefore S.Store ledger.old ledger.new }
 {

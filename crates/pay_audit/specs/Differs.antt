@@ -1,0 +1,88 @@
+-- What a ledger has of an account, and what the account has accepted does not give.
+use Rattle.std.specs.Prelude.{◌≡◌, ◌<◌, ℕ, ◌==◌, nat_lt, pos, Bool, if◌then◌else◌, false, List, [], ◌∷◌, Option, Some, slice_get, slice_index_or, refl}
+use Rattle.std.specs.List.{Contains}
+use Rattle.std.proofs.Common.{zero, suc, ap, ap₂, ◌∙◌, arith}
+use Rattle.std.proofs.lemmas.Bool.{ne_eqb, le-ltb}
+use Rattle.std.proofs.lemmas.Int.{ints}
+use Rattle.pay_tables.specs.Words.{FareEditions}
+use Rattle.pay_rows.specs.declared.row.TapRow.{TapRow}
+use Rattle.pay_rules.specs.declared.tap.Kind.TheVariants.{Bus}
+use Rattle.pay_rules.specs.declared.tap.Tap.{Tap}
+use Rattle.pay_rules.specs.declared.posting.Posting.{Posting}
+use Rattle.pay_rules.specs.Accepted.{Accepted, version}
+use Rattle.pay_rules.specs.Quotes.{quote}
+use Rattle.pay_rules.specs.SetsParts.{SetsParts, sets}
+use Rattle.pay_rules.specs.State.{State, accepted_of}
+use Rattle.pay_set_rows.specs.SetRows.{tap_row, tap_from_row, fix_row, fix_from_row}
+use Rattle.pay_postings.specs.Words.{LedgerParts, ArchivedParts, is_kept, is_posted_so, IsRowOf}
+use Rattle.pay_ledger.specs.Words.{IsFoundIn}
+use Rattle.pay_audit.specs.declared.difference.Difference.{Difference}
+use Rattle.pay_audit.specs.declared.difference.Difference.TheVariants.{Tap as OfTap, Fix as OfFix, Posting as OfPosting}
+
+-- one of these rows, read as this, is that of none of these
+abbrev pub IsOther : {X Row : Type 0} → (X → Row) → (Row → Option X) → List X → List Row → X → Type 0
+IsOther {X} {Row} row_of from_row list rows it = (row : Row) × Contains rows row × (from_row row ≡ Some it) × (IsRowOf row_of list row → ⊥)
+
+-- an archived tap or correction is none of these sets
+abbrev pub IsOtherItem : SetsParts → ArchivedParts → Difference → Type 0
+IsOtherItem its archived (OfTap tap) = IsOther tap_row (tap_from_row its.account) its.taps archived.taps tap
+IsOtherItem its archived (OfFix fix) = IsOther fix_row (fix_from_row its.account) its.fixes archived.fixes fix
+IsOtherItem its archived (OfPosting week through) = ⊥
+
+-- Beside what an account has accepted.
+module _ (editions : FareEditions) (account : ℕ) (accepted : Accepted) where
+  -- one of these postings, of this week through this day, is not so
+  abbrev pub IsPostedOtherwise : List Posting → ℕ → ℕ → Type 0
+  IsPostedOtherwise postings week through =
+      (posting : Posting) × Contains postings posting × (posting.quote.week ≡ week) × (posting.quote.through ≡ through) × (is_posted_so editions account accepted posting ≡ false)
+
+  -- this of what is archived and posted does not agree
+  abbrev pub Differs : ArchivedParts → Difference → Type 0
+  Differs archived (OfPosting week through) = IsPostedOtherwise archived.postings week through
+  Differs archived item = IsOtherItem (sets account accepted) archived item
+
+-- this of what a ledger has of an account does not agree with what the account has accepted
+abbrev pub DiffersIn : FareEditions → State → LedgerParts → ℕ × Difference → Type 0
+DiffersIn editions state ledger it = IsFoundIn (λ account. Differs editions account (accepted_of state account)) ledger it
+
+-- ---- worked rows: account 7 boarded a bus at 07:46:40, and is archived so
+
+bus : Tap
+bus = record { account = 7; reader = 12; seq = 4; place = 31; kind = Bus; stamp = record { utc = 1_704_700_000; day = 19_730; second = 28_000 } }
+
+-- the same number a second later
+later_bus : Tap
+later_bus = record { account = 7; reader = 12; seq = 4; place = 31; kind = Bus; stamp = record { utc = 1_704_700_001; day = 19_730; second = 28_001 } }
+
+-- the account has accepted nothing
+not_accepted : IsOther tap_row (tap_from_row 7) [] (tap_row bus ∷ []) bus
+unfolding bus
+not_accepted = (tap_row bus, (0, omega arith, refl), refl, λ there. let none = there.2 in cc)
+
+-- or it has accepted another of the number
+otherwise_accepted : IsOther tap_row (tap_from_row 7) (later_bus ∷ []) (tap_row bus ∷ []) bus
+unfolding bus later_bus
+otherwise_accepted = (tap_row bus, (0, omega arith, refl), refl, λ there. other there.0 there.1 there.2 there.3)
+  where
+    other : (at : ℕ) (tap : Tap) → slice_get (later_bus ∷ []) at ≡ Some tap → tap_row tap ≡ tap_row bus → ⊥
+    other zero tap is same =
+        let it : later_bus ≡ tap = cc in
+        let second : pos 28_001 ≡ pos 28_000 = ap (λ (row : TapRow). row.second) (ap tap_row it ∙ same) in
+        omega (arith, ints, second)
+    other (suc at) tap is same = cc
+
+-- what it has accepted just so is no difference
+accepted_so : IsOther tap_row (tap_from_row 7) (bus ∷ []) (tap_row bus ∷ []) bus → ⊥
+accepted_so other = other.3 (0, bus, refl, one other.0 other.1.0 other.1.1 other.1.2)
+  where
+    one : (row : TapRow) (at : ℕ) → at < 1 → slice_index_or (tap_row bus ∷ []) at row ≡ row → tap_row bus ≡ row
+    one row zero below is = is
+    one row (suc at) below is = absurd (omega (arith, below))
+
+later_is_not : (version posted : ℕ) (kept : Bool) → version < posted → (if posted == version then kept else nat_lt posted version) ≡ false
+later_is_not version posted kept less =
+    ap₂ (λ (same earlier : Bool). if same then kept else earlier) (ne_eqb posted version (λ same. omega (arith, less, same))) (le-ltb posted version (omega (arith, less)))
+
+-- a posting of a version that the account does not have yet is not so, whatever is due
+of_later_version : (editions : FareEditions) (account : ℕ) (accepted : Accepted) (posting : Posting) → version accepted < posting.quote.version → IsPostedOtherwise editions account accepted (posting ∷ []) posting.quote.week posting.quote.through
+of_later_version editions account accepted posting less = (posting, (0, omega arith, refl), refl, refl, later_is_not (version accepted) posting.quote.version (is_kept (quote editions account accepted posting.quote.through) posting.quote) less)
