@@ -14,8 +14,8 @@ use Rattle.pay_rules.specs.Quotes.{quote}
 use Rattle.pay_rules.specs.SetsParts.{SetsParts, sets}
 use Rattle.pay_rules.specs.State.{State, accepted_of}
 use Rattle.pay_set_rows.specs.SetRows.{tap_row, tap_from_row, fix_row, fix_from_row}
-use Rattle.pay_postings.specs.Words.{LedgerParts, ArchivedParts, is_kept, is_posted_so, IsRowOf}
-use Rattle.pay_ledger.specs.Words.{IsFoundIn}
+use Rattle.pay_postings.specs.Words.{LedgerParts, ArchivedParts, is_kept, is_posted_so, IsRowOf, AccountAgrees}
+use Rattle.pay_ledger.specs.Words.{PassBefore, IsFoundIn}
 use Rattle.pay_audit.specs.declared.difference.Difference.{Difference}
 use Rattle.pay_audit.specs.declared.difference.Difference.TheVariants.{Tap as OfTap, Fix as OfFix, Posting as OfPosting}
 
@@ -44,6 +44,10 @@ module _ (editions : FareEditions) (account : ℕ) (accepted : Accepted) where
 -- this of what a ledger has of an account does not agree with what the account has accepted
 abbrev pub DiffersIn : FareEditions → State → LedgerParts → ℕ × Difference → Type 0
 DiffersIn editions state ledger it = IsFoundIn (λ account. Differs editions account (accepted_of state account)) ledger it
+
+-- what it has of accounts of smaller numbers than this does
+abbrev pub AgreeBefore : FareEditions → State → LedgerParts → ℕ → Type 0
+AgreeBefore editions state ledger account = PassBefore (λ other. AccountAgrees editions other (accepted_of state other)) ledger account
 
 -- ---- worked rows: account 7 boarded a bus at 07:46:40, and is archived so
 

@@ -4,7 +4,7 @@ ghost use Rattle.pay_postings.specs.Words.{AgreesWith};
 ghost use Rattle.pay_records.specs.Words.{LeavesAsBefore};
 ghost use Rattle.pay_shard.specs.ShardParts.{state_now};
 ghost use Rattle.pay_ledger.specs.Words.{AnswersOfLedger, ChangesNothing};
-ghost use Rattle.pay_audit.specs.Differs.{DiffersIn};
+ghost use Rattle.pay_audit.specs.Differs.{DiffersIn, AgreeBefore};
 
 use crate::comparing::difference;
 use crate::difference::Difference;
@@ -51,6 +51,7 @@ pub fn first_difference<F: Fares, S: Alter>(
 ) -> Result<Option<(u32, Difference)>, LedgerFault>
     ensures agree { AnswersOfLedger S.Store ledger.old ledger.new result (λ it found. IfNone found (AgreesWith shard.now.editions (state_now shard.now) it)) }
     ensures differs { AnswersOfLedger S.Store ledger.old ledger.new result (λ it found. IfSome found (DiffersIn shard.now.editions (state_now shard.now) it)) }
+    ensures first { AnswersOfLedger S.Store ledger.old ledger.new result (λ it found. IfSome found (λ of. AgreeBefore shard.now.editions (state_now shard.now) it of.0)) }
     ensures unchanged { ChangesNothing S.Store ledger.old ledger.new }
     ensures survives { LeavesAsBefore S.Store ledger.old ledger.new }
 {

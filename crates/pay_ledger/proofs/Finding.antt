@@ -1,8 +1,16 @@
--- What is found of an account, and of which account.
-use Rattle.std.proofs.Common.{◌≡◌, ◌<◌, ℕ, ℤ, pos, List, [], ◌∷◌, ◌++◌, length, map, Option, Some, None, IfSome, IsPermutation, refl, sym, ap, ap₂, subst, ◌∙◌, arith}
-use Rattle.std.specs.List.{Contains, zip}
-use Rattle.std.proofs.lemmas.List.{get_or-map, map-append, length-map}
-use Rattle.std.proofs.lemmas.List.Sorted.{Contains-permutation, IsPermutation-sym}
+-- What is found of an account, of which account, and what passes before it.
+use Rattle.std.proofs.Common.{◌≡◌, ◌≤◌, ◌<◌, ◌<ℤ◌, ℕ, inl, inr, Less, Equal, take, get_or, ℤ, pos, List, [], ◌∷◌, ◌++◌, length, map, Option, Some, None, IfSome, IsPermutation, refl, sym, ap, ap₂, subst, ◌∙◌, arith}
+use Rattle.std.specs.List.{All, AllByRecursion, Contains, zip}
+use Rattle.std.specs.List.Sorted.{IsSorted}
+use Rattle.std.specs.Ordering.{int_cmp, ordering_index}
+use Rattle.std.proofs.lemmas.Bool.{cases_lt}
+use Rattle.std.proofs.lemmas.Cmp.{int_cmp_total, tied_itself}
+use Rattle.std.proofs.lemmas.Int.{ints}
+use Rattle.std.proofs.lemmas.List.{get_or-map, get_or-take, get_or_default, map-append, length-map, length-take}
+use Rattle.std.proofs.lemmas.List.Elements.{All-get_or, All-from_recursion, recursion_from_All}
+use Rattle.std.proofs.lemmas.List.Sorted.{All-permutation, Contains-permutation, IsPermutation-sym, searchable_from_sorted}
+use Rattle.sqlite_keyed.proofs.ListLemmas.{all_weaker}
+use Rattle.sqlite_keyed.proofs.KeyedLemmas.{Less-from_lt}
 use Rattle.sqlite.specs.State.{State}
 use Rattle.sqlite.specs.Effect.{Database}
 use Rattle.pay_rows.specs.declared.row.PostingRow.{PostingRow}
@@ -16,7 +24,8 @@ use Rattle.pay_postings.specs.Laws.{PostingsAreReadBack}
 use Rattle.pay_records.specs.Words.{LedgerRows, HoldsRows}
 use Rattle.pay_ledger.specs.Steps.{FindsRows}
 use Rattle.pay_ledger.specs.Stores.{IsLedger, AreRowsOf, row_of_posting, row_of_tap, row_of_fix}
-use Rattle.pay_ledger.specs.Examined.{accounts, accounts_in, IsFoundAmong, IsFoundInRows, IsFoundIn}
+use Rattle.pay_ledger.specs.Examined.{accounts, accounts_in, PassesRows, PassRowsBefore, PassUpTo, PassesIn, PassBefore, IsFoundAmong, IsFoundInRows, IsFoundIn}
+use Rattle.pay_ledger.proofs.Passed.{all_of_map, passes_in}
 use Rattle.pay_ledger.proofs.Reading.{read_of_ledger}
 
 -- ---- the accounts of a ledger are those of its rows
@@ -80,3 +89,45 @@ module _ {Found : Type 0} (Finds : ℕ → ArchivedParts → Found → Type 0) w
     is.1.0,
     subst (λ read. Finds it.0 read it.1) (read_of_ledger back db ledger k it.0 is.1.1 is.1.2) is.1.3,
   )
+
+-- ---- what passes before it
+
+-- in ascending order all that are smaller than a number stand before it
+smaller : (P : ℤ → Type 0) (list : List ℤ) (q : ℤ) (k : ℕ) → IsSorted int_cmp list → k < length list → get_or list k q ≡ q → AllByRecursion P (take k list) → All (λ n. n <ℤ q → P n) list
+smaller P list q k up below is all = λ j d here less.
+    elim (cases_lt j k) [
+      | inl before ↦ subst P (get_or-take k list j d before) (All-get_or P (take k list) j d (omega (arith, length-take k list)) (All-from_recursion P (take k list) all))
+      | inr after ↦
+          absurd
+          (let rises : ordering_index (int_cmp (get_or list k d) q) ≤ ordering_index (int_cmp (get_or list j d) q) = searchable_from_sorted int_cmp_total (λ n. n) list q up k j d after here in
+          let its : int_cmp (get_or list k d) q ≡ Equal = ap (λ n. int_cmp n q) (get_or_default list k d q below ∙ is) ∙ tied_itself int_cmp_total q in
+          let low : int_cmp (get_or list j d) q ≡ Less = Less-from_lt (get_or list j d) q less in
+          let fell : 1 ≤ 0 = subst (λ r. 1 ≤ ordering_index r) low (subst (λ r. ordering_index r ≤ ordering_index (int_cmp (get_or list j d) q)) its rises) in
+          omega (arith, fell))
+    ]
+
+module _ (Passes : ℕ → ArchivedParts → Type 0) where
+  -- of all numbers in ascending order
+  pub first_of_all : {X : Type 0} (a b c : State) (list other : List ℤ) (found : Option (ℕ × X)) → other ≡ list → IsSorted int_cmp list → FindsRows a b (λ rows. IsPermutation (accounts rows) list)
+      → FindsRows b c (λ rows. IfSome found (λ it. PassUpTo Passes other rows it.0)) → FindsRows a c (λ rows. IfSome found (λ it. PassRowsBefore Passes rows it.0))
+  first_of_all a b c list other None same up first second rows k =
+      let one = first rows k in
+      let two = second rows (subst (λ db. HoldsRows db rows) (sym one.1) k) in
+      (tt, two.1 ∙ one.1)
+  first_of_all a b c list other (Some it) same up first second rows k =
+      let one = first rows k in
+      let two = second rows (subst (λ db. HoldsRows db rows) (sym one.1) k) in
+      let upto : PassUpTo Passes list rows it.0 = subst (λ l. PassUpTo Passes l rows it.0) same two.0 in
+      let Before : ℤ → Type 0 = λ number. number <ℤ pos it.0 → PassesRows Passes rows number in (
+        recursion_from_All Before (accounts rows) (All-permutation Before list (accounts rows) (IsPermutation-sym (accounts rows) list one.0) (smaller (PassesRows Passes rows) list (pos it.0) upto.0 up upto.1 upto.2 upto.3)),
+        two.1 ∙ one.1,
+      )
+
+  -- of a ledger
+  pub first_in_ledger : {X : Type 0} → PostingsAreReadBack → (db : Database) (ledger : LedgerParts) (k : IsLedger db ledger) (found : Option (ℕ × X)) → IfSome found (λ it. PassRowsBefore Passes k.stores.rows it.0)
+      → IfSome found (λ it. PassBefore Passes ledger it.0)
+  first_in_ledger back db ledger k None is = tt
+  first_in_ledger back db ledger k (Some it) is =
+      let Before : ℤ → Type 0 = λ number. number <ℤ pos it.0 → PassesRows Passes k.stores.rows number in
+      all_weaker (λ other. Before (pos other)) (λ other. other < it.0 → PassesIn Passes ledger other) (λ other h less. passes_in Passes back db ledger k other (h (omega (arith, ints)))) (accounts_in ledger)
+      (all_of_map Before pos (accounts_in ledger) (subst (AllByRecursion Before) (accounts_alike ledger k.stores.rows k.stores.are) is))

@@ -46,7 +46,7 @@ module _ {X : Type 0} (P : X → Type 0) where
   all_second [] ys all = all
   all_second (x ∷ xs) ys all = all_second xs ys all.1
 
-  all_of_map : {A : Type 0} (f : A → X) (xs : List A) → AllByRecursion P (map f xs) → AllByRecursion (λ a. P (f a)) xs
+  pub all_of_map : {A : Type 0} (f : A → X) (xs : List A) → AllByRecursion P (map f xs) → AllByRecursion (λ a. P (f a)) xs
   all_of_map f [] all = tt
   all_of_map f (x ∷ xs) all = (all.0, all_of_map f xs all.1)
 
@@ -115,7 +115,7 @@ module _ (Passes : ℕ → ArchivedParts → Type 0) where
   same_number a b e = cc
 
   module _ (back : PostingsAreReadBack) (db : Database) (ledger : LedgerParts) (k : IsLedger db ledger) where
-    passes_in : (account : ℕ) → PassesRows Passes k.stores.rows (pos account) → PassesIn Passes ledger account
+    pub passes_in : (account : ℕ) → PassesRows Passes k.stores.rows (pos account) → PassesIn Passes ledger account
     passes_in account it =
         let own : account ≡ it.0 = same_number account it.0 it.1 in
         subst (PassesIn Passes ledger) (sym own) (it.2, subst (Passes it.0) (read_of_ledger back db ledger k it.0 it.3 it.4) it.5)

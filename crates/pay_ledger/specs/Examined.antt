@@ -1,5 +1,5 @@
 -- The accounts of a ledger, what is so of each that was looked at, and what of one of which something was found.
-use Rattle.std.specs.Prelude.{◌≡◌, ◌≤◌, ℕ, ℤ, pos, List, map, ◌++◌}
+use Rattle.std.specs.Prelude.{◌≡◌, ◌≤◌, ◌<◌, ℕ, ◌<ℤ◌, ℤ, pos, List, map, length, take, slice_index_or, ◌++◌}
 use Rattle.std.specs.List.{AllByRecursion, Contains}
 use Rattle.pay_rules.specs.declared.posting.Posting.{Posting}
 use Rattle.pay_rules.specs.declared.tap.Tap.{Tap}
@@ -26,6 +26,14 @@ module _ (Passes : ℕ → ArchivedParts → Type 0) where
   abbrev pub AllPassRows : LedgerRows → Type 0
   AllPassRows rows = AllByRecursion (PassesRows rows) (accounts rows)
 
+  -- so do those of smaller numbers than an account's
+  abbrev pub PassRowsBefore : LedgerRows → ℕ → Type 0
+  PassRowsBefore rows account = AllByRecursion (λ number. number <ℤ pos account → PassesRows rows number) (accounts rows)
+
+  -- or those that stand before it in a list
+  abbrev pub PassUpTo : List ℤ → LedgerRows → ℕ → Type 0
+  PassUpTo numbers rows account = (at : ℕ) × (at < length numbers) × (slice_index_or numbers at (pos account) ≡ pos account) × AllByRecursion (PassesRows rows) (take at numbers)
+
   -- an account of a ledger passes by what the ledger has of it
   abbrev pub PassesIn : LedgerParts → ℕ → Type 0
   PassesIn ledger account = (1 ≤ account) × Passes account (archived_of account ledger)
@@ -35,6 +43,10 @@ module _ (Passes : ℕ → ArchivedParts → Type 0) where
     pub posted : AllByRecursion (λ (p : Posting). PassesIn ledger p.quote.account) ledger.postings
     pub tapped : AllByRecursion (λ (tap : Tap). PassesIn ledger tap.account) ledger.taps
     pub fixed : AllByRecursion (λ (fix : Fix). PassesIn ledger fix.account) ledger.fixes
+
+  -- and so do those of smaller numbers than an account's
+  abbrev pub PassBefore : LedgerParts → ℕ → Type 0
+  PassBefore ledger account = AllByRecursion (λ other. other < account → PassesIn ledger other) (accounts_in ledger)
 
 module _ {Found : Type 0} (Finds : ℕ → ArchivedParts → Found → Type 0) where
   -- of an account, by what its rows say, this was found

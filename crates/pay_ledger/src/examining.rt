@@ -1,9 +1,11 @@
 //! Looking at what a ledger has of each account.
 ghost use Rattle.std.specs.Prelude.{◌≡◌, ◌≤◌, ◌++◌, pos, false, IfNone, IfSome, IfOk, IsPermutation};
 ghost use Rattle.std.specs.List.{AllByRecursion};
+ghost use Rattle.std.specs.List.Sorted.{IsSorted};
+ghost use Rattle.std.specs.Ordering.{int_cmp};
 ghost use Rattle.pay_postings.specs.Words.{parts};
 ghost use Rattle.pay_records.specs.Words.{LeavesAsBefore};
-ghost use Rattle.pay_ledger.specs.Examined.{accounts, PassesRows, AllPassRows, IsFoundOfRows, IsFoundAmong, IsFoundInRows};
+ghost use Rattle.pay_ledger.specs.Examined.{accounts, PassesRows, AllPassRows, PassRowsBefore, PassUpTo, IsFoundOfRows, IsFoundAmong, IsFoundInRows};
 ghost use Rattle.pay_ledger.specs.Steps.{IsStep};
 ghost use Rattle.pay_ledger.specs.Calls.{ChangesNothing, AnswersOfRows, FindsInHeldRows};
 
@@ -35,7 +37,8 @@ pub trait Examiner<Found: Drop> {
 
 /// All these numbers in ascending order. An `Err` is out of memory.
 fn in_order(posted: Vec<i64>, tapped: &[i64], fixed: &[i64]) -> Result<Vec<i64>, AllocError>
-    ensures { IfOk result (λ list. IsPermutation ((posted.items ++ tapped.now) ++ fixed.now) list.items) }
+    ensures same { IfOk result (λ list. IsPermutation ((posted.items ++ tapped.now) ++ fixed.now) list.items) }
+    ensures ascending { IfOk result (λ list. IsSorted int_cmp list.items) }
 {
     let mut list = posted;
     list.extend_from_slice(tapped)?;
@@ -51,6 +54,7 @@ fn all_accounts<S: Alter>(
 ) -> Result<Vec<i64>, LedgerFault>
     ensures step { IsStep S.Store tx.old.conn tx.new.conn result }
     ensures found { FindsInHeldRows S.Store tx.old.conn.now tx.new.conn.now result (λ rows list. IsPermutation (accounts rows) list.items) }
+    ensures ascending { IfOk result (λ list. IsSorted int_cmp list.items) }
 {
     let posted = posted_accounts(alloc, tx)?;
     let tapped = tapped_accounts(alloc, tx)?;
@@ -98,6 +102,7 @@ fn examine_each<S: Alter, Found: Drop, E: Examiner<Found>>(
     ensures step { IsStep S.Store tx.old.conn tx.new.conn result }
     ensures found { FindsInHeldRows S.Store tx.old.conn.now tx.new.conn.now result (λ rows found. IfNone found (AllByRecursion (PassesRows (E.Passes examiner.now) rows) numbers.now)) }
     ensures finds { FindsInHeldRows S.Store tx.old.conn.now tx.new.conn.now result (λ rows found. IfSome found (IsFoundAmong (E.Finds examiner.now) numbers.now rows)) }
+    ensures up_to { FindsInHeldRows S.Store tx.old.conn.now tx.new.conn.now result (λ rows found. IfSome found (λ it. PassUpTo (E.Passes examiner.now) numbers.now rows it.0)) }
 {
     let mut last = None;
     for number in numbers {
@@ -121,6 +126,7 @@ fn examine_in<S: Alter, Found: Drop, E: Examiner<Found>>(
     ensures step { IsStep S.Store tx.old.conn tx.new.conn result }
     ensures found { FindsInHeldRows S.Store tx.old.conn.now tx.new.conn.now result (λ rows found. IfNone found (AllPassRows (E.Passes examiner.now) rows)) }
     ensures finds { FindsInHeldRows S.Store tx.old.conn.now tx.new.conn.now result (λ rows found. IfSome found (IsFoundInRows (E.Finds examiner.now) rows)) }
+    ensures first { FindsInHeldRows S.Store tx.old.conn.now tx.new.conn.now result (λ rows found. IfSome found (λ it. PassRowsBefore (E.Passes examiner.now) rows it.0)) }
 {
     let numbers = all_accounts(alloc, tx)?;
     examine_each(alloc, tx, &numbers, examiner)
@@ -136,6 +142,7 @@ pub(crate) fn examine<S: Alter, Found: Drop, E: Examiner<Found>>(
     ensures autocommit { conn.new.in_transaction ≡ false }
     ensures found { AnswersOfRows S.Store conn.old conn.new result (λ rows found. IfNone found (AllPassRows (E.Passes examiner.now) rows)) }
     ensures finds { AnswersOfRows S.Store conn.old conn.new result (λ rows found. IfSome found (IsFoundInRows (E.Finds examiner.now) rows)) }
+    ensures first { AnswersOfRows S.Store conn.old conn.new result (λ rows found. IfSome found (λ it. PassRowsBefore (E.Passes examiner.now) rows it.0)) }
     ensures unchanged { ChangesNothing S.Store conn.old conn.new }
     ensures survives { LeavesAsBefore S.Store conn.old conn.new }
 {

@@ -10,7 +10,7 @@ ghost use Rattle.pay_restore.specs.Words.{restored};
 ghost use Rattle.pay_records.specs.Words.{OnCleanDisk, LeavesAsBeforeOr, LeavesAsBefore, Answers, IsFree};
 ghost use Rattle.pay_ledger.specs.Opening.{HasNoView, IsWhy, IsOpened, BlankJustGrows, MayLeaveOpened};
 ghost use Rattle.pay_ledger.specs.Steps.{IsOnDisk, Posts, MayLeave};
-ghost use Rattle.pay_ledger.specs.Examined.{AllPass, AllPassRows, IsFoundIn, IsFoundInRows};
+ghost use Rattle.pay_ledger.specs.Examined.{AllPass, AllPassRows, PassBefore, PassRowsBefore, IsFoundIn, IsFoundInRows};
 ghost use Rattle.pay_ledger.specs.BadRows.{ReadsAs, net_said, asked};
 ghost use Rattle.pay_ledger.specs.Calls.{ChangesNothing, ChangesNothingIfRefused, AnswersOfLedger, AnswersOfRows, AnswersOfReadable, FailsByStoreAlone, RefusesAsDefined, RefusesOpenAlone, RefusesBadRows, RefusesBadAmounts, RefusesBadRowsFirst, AreAccountsOf, RestoresRows, RestoresLedger};
 
@@ -160,8 +160,10 @@ impl<S: Alter> Ledger<S> {
     ) -> Result<Option<(u32, Found)>, LedgerFault>
         ensures told { AnswersOfLedger S.Store self.old self.new result (λ ledger found. IfNone found (AllPass (E.Passes examiner.now) ledger)) }
         ensures finds { AnswersOfLedger S.Store self.old self.new result (λ ledger found. IfSome found (IsFoundIn (E.Finds examiner.now) ledger)) }
+        ensures first { AnswersOfLedger S.Store self.old self.new result (λ ledger found. IfSome found (λ it. PassBefore (E.Passes examiner.now) ledger it.0)) }
         ensures read { AnswersOfRows S.Store self.old self.new result (λ rows found. IfNone found (AllPassRows (E.Passes examiner.now) rows)) }
         ensures found_read { AnswersOfRows S.Store self.old self.new result (λ rows found. IfSome found (IsFoundInRows (E.Finds examiner.now) rows)) }
+        ensures first_read { AnswersOfRows S.Store self.old self.new result (λ rows found. IfSome found (λ it. PassRowsBefore (E.Passes examiner.now) rows it.0)) }
         ensures unchanged { ChangesNothing S.Store self.old self.new }
         ensures survives { LeavesAsBefore S.Store self.old self.new }
     {

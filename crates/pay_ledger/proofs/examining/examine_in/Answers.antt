@@ -2,7 +2,7 @@ use Rattle.std.proofs.lemmas.Result.{IfOk-weaker}
 use Rattle.sqlite.specs.Held.{state}
 use Rattle.pay_ledger.proofs.Along.{was, and_so}
 use Rattle.pay_ledger.proofs.Passed.{all_found}
-use Rattle.pay_ledger.proofs.Finding.{of_all}
+use Rattle.pay_ledger.proofs.Finding.{of_all, first_of_all}
 use Rattle.pay_ledger.proofs.examining.examine_in.Goals as goal
 
 pub returns-clause-step : goal.returns-clause-step
@@ -17,3 +17,8 @@ pub returns-clause-finds : goal.returns-clause-finds
 returns-clause-finds g c clean =
     IfOk-weaker c.examine_each.result _ _ (λ found each. of_all (g.E.Examiner.Finds c.args.examiner.now) (state g.S.Store c.args.tx.now.conn.now) (state g.S.Store c.all_accounts.new.tx.conn.now) (state g.S.Store c.examine_each.new.tx.conn.now) _ _ found c.deref.ensures.value
     (c.in_ok-numbers.ensures.found (was g.S.Store c.examine_each.ensures.step clean)) each) (c.examine_each.ensures.finds clean)
+
+pub returns-clause-first : goal.returns-clause-first
+returns-clause-first g c clean =
+    IfOk-weaker c.examine_each.result _ _ (λ found each. first_of_all (g.E.Examiner.Passes c.args.examiner.now) (state g.S.Store c.args.tx.now.conn.now) (state g.S.Store c.all_accounts.new.tx.conn.now) (state g.S.Store c.examine_each.new.tx.conn.now) _ _ found c.deref.ensures.value
+    c.in_ok-numbers.ensures.ascending (c.in_ok-numbers.ensures.found (was g.S.Store c.examine_each.ensures.step clean)) each) (c.examine_each.ensures.up_to clean)
