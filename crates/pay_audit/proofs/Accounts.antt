@@ -1,5 +1,5 @@
 -- Accounts beside what a ledger has of them.
-use Rattle.std.proofs.Common.{◌≡◌, ◌∙◌, ℕ, ◌+◌, ◌==◌, true, if◌then◌else◌, nat_lt, List, [], filter, length, Option, Some, None, IfNone, IfSome, eq-eqb, sym, ap, ap₂, subst, arith}
+use Rattle.std.proofs.Common.{◌≡◌, ◌∙◌, ℕ, ◌+◌, ◌==◌, true, if◌then◌else◌, nat_lt, List, [], filter, length, Option, Some, None, IfNone, IfSome, eq-eqb, sym, ap, ap₂, subst}
 use Rattle.std.specs.FinMap.{entries, values, len-entries}
 use Rattle.std.specs.List.{AllByRecursion}
 use Rattle.std.proofs.lemmas.List.{length-map}
@@ -53,14 +53,22 @@ module _ (editions : FareEditions) (account : ℕ) (accepted : Accepted) where
   item_differs its archived (OfFix fix) is other = subst (λ (s : SetsParts). IsOtherItem s archived (OfFix fix)) is other
   item_differs its archived (OfPosting week through) is other = absurd other
 
-  one_differs : (archived : ArchivedParts) (postings : List Posting) (it : Difference) → postings ≡ archived.postings → Differs editions account accepted (record { postings = postings; taps = []; fixes = [] }) it → Differs editions account accepted archived it
-  one_differs archived postings (OfTap tap) are other = absurd (let none = other.1.1 in omega (arith, none))
-  one_differs archived postings (OfFix fix) are other = absurd (let none = other.1.1 in omega (arith, none))
-  one_differs archived postings (OfPosting week through) are other = subst (λ (l : List Posting). IsPostedOtherwise editions account accepted l week through) are other
+  one_differs : (archived : ArchivedParts) (postings : List Posting) (it : Difference) → postings ≡ archived.postings
+      → AllByRecursion (IsRowOf tap_row (values accepted.taps)) archived.taps → AllByRecursion (IsRowOf fix_row (values accepted.fixes)) archived.fixes
+      → Differs editions account accepted (record { postings = postings; taps = []; fixes = [] }) it → Differs editions account accepted archived it
+  one_differs archived postings (OfTap tap) are taps fixes other = absurd (let none = other.1.1 in cc)
+  one_differs archived postings (OfFix fix) are taps fixes other = absurd (let none = other.1.1.1 in cc)
+  one_differs archived postings (OfPosting week through) are taps fixes other = (taps, fixes, subst (λ (l : List Posting). IsPostedOtherwise editions account accepted l week through) are other.2)
 
-  pub postings_differ : (archived : ArchivedParts) (postings : List Posting) (found : Option Difference) → postings ≡ archived.postings → IfSome found (Differs editions account accepted (record { postings = postings; taps = []; fixes = [] })) → IfSome found (Differs editions account accepted archived)
-  postings_differ archived postings None are differs = tt
-  postings_differ archived postings (Some it) are differs = one_differs archived postings it are differs
+  pub postings_differ : {X : Type 0} (item : Option X) (found : Option Difference) (its : SetsParts) (archived : ArchivedParts) (postings : List Posting) → its ≡ sets account accepted → postings ≡ archived.postings → item ≡ None
+      → IfNone item (AllByRecursion (IsRowOf tap_row its.taps) archived.taps) → IfNone item (AllByRecursion (IsRowOf fix_row its.fixes) archived.fixes)
+      → IfSome found (Differs editions account accepted (record { postings = postings; taps = []; fixes = [] })) → IfSome found (Differs editions account accepted archived)
+  postings_differ item None its archived postings is are none taps fixes differs = tt
+  postings_differ {X} item (Some it) its archived postings is are none taps fixes differs =
+      one_differs archived postings it are
+      (subst (λ (s : SetsParts). AllByRecursion (IsRowOf tap_row s.taps) archived.taps) is (subst (λ (o : Option X). IfNone o (AllByRecursion (IsRowOf tap_row its.taps) archived.taps)) none taps))
+      (subst (λ (s : SetsParts). AllByRecursion (IsRowOf fix_row s.fixes) archived.fixes) is (subst (λ (o : Option X). IfNone o (AllByRecursion (IsRowOf fix_row its.fixes) archived.fixes)) none fixes))
+      differs
 
 -- a ledger agrees where each of its accounts does
 module _ (editions : FareEditions) (state : State) (ledger : LedgerParts) where

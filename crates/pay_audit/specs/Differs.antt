@@ -1,8 +1,9 @@
 -- What a ledger has of an account, and what the account has accepted does not give.
-use Rattle.std.specs.Prelude.{◌≡◌, ◌<◌, ℕ, ◌==◌, nat_lt, pos, Bool, if◌then◌else◌, false, List, [], ◌∷◌, Option, Some, slice_get, slice_index_or, refl}
-use Rattle.std.specs.List.{Contains}
-use Rattle.std.proofs.Common.{zero, suc, ap, ap₂, ◌∙◌, arith}
-use Rattle.std.proofs.lemmas.Bool.{ne_eqb, le-ltb}
+use Rattle.std.specs.Prelude.{◌≡◌, ◌<◌, ℕ, ◌==◌, nat_lt, pos, Bool, if◌then◌else◌, true, false, take, List, [], ◌∷◌, Option, Some, slice_get, refl}
+use Rattle.std.specs.FinMap.{values}
+use Rattle.std.specs.List.{AllByRecursion}
+use Rattle.std.proofs.Common.{zero, suc, sym, ap, ap₂, ◌∙◌, arith}
+use Rattle.std.proofs.lemmas.Bool.{ne_eqb, le-ltb, true≢false}
 use Rattle.std.proofs.lemmas.Int.{ints}
 use Rattle.pay_tables.specs.Words.{FareEditions}
 use Rattle.pay_rows.specs.declared.row.TapRow.{TapRow}
@@ -19,26 +20,31 @@ use Rattle.pay_ledger.specs.Words.{PassBefore, IsFoundIn}
 use Rattle.pay_audit.specs.declared.difference.Difference.{Difference}
 use Rattle.pay_audit.specs.declared.difference.Difference.TheVariants.{Tap as OfTap, Fix as OfFix, Posting as OfPosting}
 
--- one of these rows, read as this, is that of none of these
-abbrev pub IsOther : {X Row : Type 0} → (X → Row) → (Row → Option X) → List X → List Row → X → Type 0
-IsOther {X} {Row} row_of from_row list rows it = (row : Row) × Contains rows row × (from_row row ≡ Some it) × (IsRowOf row_of list row → ⊥)
+-- the first of a list of which this is not so is this
+abbrev pub IsFirstNot : {X : Type 0} → (X → Type 0) → List X → X → Type 0
+IsFirstNot IsSo list x = (at : ℕ) × (slice_get list at ≡ Some x) × AllByRecursion IsSo (take at list) × (IsSo x → ⊥)
 
--- an archived tap or correction is none of these sets
+-- the first of these rows that is that of none of these is read as this
+abbrev pub IsOther : {X Row : Type 0} → (X → Row) → (Row → Option X) → List X → List Row → X → Type 0
+IsOther {X} {Row} row_of from_row list rows it = (row : Row) × IsFirstNot (IsRowOf row_of list) rows row × (from_row row ≡ Some it)
+
+-- it is an archived tap that is none of these sets, or else such a correction
 abbrev pub IsOtherItem : SetsParts → ArchivedParts → Difference → Type 0
 IsOtherItem its archived (OfTap tap) = IsOther tap_row (tap_from_row its.account) its.taps archived.taps tap
-IsOtherItem its archived (OfFix fix) = IsOther fix_row (fix_from_row its.account) its.fixes archived.fixes fix
+IsOtherItem its archived (OfFix fix) = AllByRecursion (IsRowOf tap_row its.taps) archived.taps × IsOther fix_row (fix_from_row its.account) its.fixes archived.fixes fix
 IsOtherItem its archived (OfPosting week through) = ⊥
 
 -- Beside what an account has accepted.
 module _ (editions : FareEditions) (account : ℕ) (accepted : Accepted) where
-  -- one of these postings, of this week through this day, is not so
+  -- the first of these postings that is not so is of this week through this day
   abbrev pub IsPostedOtherwise : List Posting → ℕ → ℕ → Type 0
   IsPostedOtherwise postings week through =
-      (posting : Posting) × Contains postings posting × (posting.quote.week ≡ week) × (posting.quote.through ≡ through) × (is_posted_so editions account accepted posting ≡ false)
+      (posting : Posting) × IsFirstNot (λ p. is_posted_so editions account accepted p ≡ true) postings posting × (posting.quote.week ≡ week) × (posting.quote.through ≡ through)
 
-  -- this of what is archived and posted does not agree
+  -- This of what is archived and posted does not agree: a tap, or where all taps do a correction, or where all these do a posting.
   abbrev pub Differs : ArchivedParts → Difference → Type 0
-  Differs archived (OfPosting week through) = IsPostedOtherwise archived.postings week through
+  Differs archived (OfPosting week through) =
+      AllByRecursion (IsRowOf tap_row (values accepted.taps)) archived.taps × AllByRecursion (IsRowOf fix_row (values accepted.fixes)) archived.fixes × IsPostedOtherwise archived.postings week through
   Differs archived item = IsOtherItem (sets account accepted) archived item
 
 -- this of what a ledger has of an account does not agree with what the account has accepted
@@ -61,12 +67,12 @@ later_bus = record { account = 7; reader = 12; seq = 4; place = 31; kind = Bus; 
 -- the account has accepted nothing
 not_accepted : IsOther tap_row (tap_from_row 7) [] (tap_row bus ∷ []) bus
 unfolding bus
-not_accepted = (tap_row bus, (0, omega arith, refl), refl, λ there. let none = there.2 in cc)
+not_accepted = (tap_row bus, (0, refl, tt, λ there. let none = there.2 in cc), refl)
 
 -- or it has accepted another of the number
 otherwise_accepted : IsOther tap_row (tap_from_row 7) (later_bus ∷ []) (tap_row bus ∷ []) bus
 unfolding bus later_bus
-otherwise_accepted = (tap_row bus, (0, omega arith, refl), refl, λ there. other there.0 there.1 there.2 there.3)
+otherwise_accepted = (tap_row bus, (0, refl, tt, λ there. other there.0 there.1 there.2 there.3), refl)
   where
     other : (at : ℕ) (tap : Tap) → slice_get (later_bus ∷ []) at ≡ Some tap → tap_row tap ≡ tap_row bus → ⊥
     other zero tap is same =
@@ -77,11 +83,11 @@ otherwise_accepted = (tap_row bus, (0, omega arith, refl), refl, λ there. other
 
 -- what it has accepted just so is no difference
 accepted_so : IsOther tap_row (tap_from_row 7) (bus ∷ []) (tap_row bus ∷ []) bus → ⊥
-accepted_so other = other.3 (0, bus, refl, one other.0 other.1.0 other.1.1 other.1.2)
+accepted_so other = other.1.3 (0, bus, refl, one other.0 other.1.0 other.1.1)
   where
-    one : (row : TapRow) (at : ℕ) → at < 1 → slice_index_or (tap_row bus ∷ []) at row ≡ row → tap_row bus ≡ row
-    one row zero below is = is
-    one row (suc at) below is = absurd (omega (arith, below))
+    one : (row : TapRow) (at : ℕ) → slice_get (tap_row bus ∷ []) at ≡ Some row → tap_row bus ≡ row
+    one row zero is = cc
+    one row (suc at) is = absurd (cc)
 
 later_is_not : (version posted : ℕ) (kept : Bool) → version < posted → (if posted == version then kept else nat_lt posted version) ≡ false
 later_is_not version posted kept less =
@@ -89,4 +95,6 @@ later_is_not version posted kept less =
 
 -- a posting of a version that the account does not have yet is not so, whatever is due
 of_later_version : (editions : FareEditions) (account : ℕ) (accepted : Accepted) (posting : Posting) → version accepted < posting.quote.version → IsPostedOtherwise editions account accepted (posting ∷ []) posting.quote.week posting.quote.through
-of_later_version editions account accepted posting less = (posting, (0, omega arith, refl), refl, refl, later_is_not (version accepted) posting.quote.version (is_kept (quote editions account accepted posting.quote.through) posting.quote) less)
+of_later_version editions account accepted posting less =
+    let is = later_is_not (version accepted) posting.quote.version (is_kept (quote editions account accepted posting.quote.through) posting.quote) less in
+    (posting, (0, refl, tt, λ so. true≢false (sym so ∙ is)), refl, refl)

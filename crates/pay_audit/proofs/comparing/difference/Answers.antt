@@ -21,4 +21,5 @@ returns-in-Some-clause-differs g c =
 
 pub returns-clause-differs : goal.returns-clause-differs
 returns-clause-differs g c =
-    postings_differ c.args.editions.now (g.F.Fares.account c.args.account.now) (g.F.Fares.accepted c.args.account.now) (parts c.args.archived.now) _ c.in_ok-other_posting-in-None.field-0 c.as_slice.ensures.value c.in_ok-other_posting-in-None.ensures.differs
+    postings_differ c.args.editions.now (g.F.Fares.account c.args.account.now) (g.F.Fares.accepted c.args.account.now) _ c.in_ok-other_posting-in-None.field-0 c.in_ok-sets.sets (parts c.args.archived.now) _ c.in_ok-sets.ensures c.as_slice.ensures.value c.in-None.is
+    c.in_ok-other.ensures.taps c.in_ok-other.ensures.fixes c.in_ok-other_posting-in-None.ensures.differs
