@@ -3,7 +3,7 @@ use Rattle.std.proofs.Common.{◌≡◌, ◌∙◌, ℕ, ◌+◌, ◌==◌, true
 use Rattle.std.specs.FinMap.{entries, values, len-entries}
 use Rattle.std.specs.List.{AllByRecursion}
 use Rattle.std.proofs.lemmas.List.{length-map}
-use Rattle.sqlite_keyed.proofs.ListLemmas.{all_weaker}
+use Rattle.sqlite_keyed.proofs.ListLemmas.{all_weaker, all-slice_get}
 use Rattle.pay_day.specs.Words.{monday}
 use Rattle.pay_tables.specs.Words.{FareEditions}
 use Rattle.pay_rules.specs.declared.tap.Tap.{Tap}
@@ -14,12 +14,12 @@ use Rattle.pay_rules.specs.QuoteParts.{QuoteParts}
 use Rattle.pay_rules.specs.SetsParts.{SetsParts, sets}
 use Rattle.pay_rules.specs.State.{State, accepted_of}
 use Rattle.pay_set_rows.specs.SetRows.{tap_row, fix_row}
-use Rattle.pay_postings.specs.Words.{LedgerParts, ArchivedParts, of_account, is_kept, is_quoted_so, is_posted_so, IsRowOf, AccountAgrees, AgreesWith}
+use Rattle.pay_postings.specs.Words.{LedgerParts, ArchivedParts, archived_of, taps_of, fixes_of, of_account, is_kept, is_quoted_so, is_posted_so, IsRowOf, AccountAgrees, AgreesWith}
 use Rattle.pay_ledger.specs.Words.{PassesIn, AllPass}
 use Rattle.pay_audit.specs.declared.difference.Difference.{Difference}
 use Rattle.pay_audit.specs.declared.difference.Difference.TheVariants.{Tap as OfTap, Fix as OfFix, Posting as OfPosting}
-use Rattle.pay_audit.specs.Differs.{IsOtherItem, IsPostedOtherwise, Differs}
-use Rattle.pay_audit.proofs.Lists.{all_of_map, each_own}
+use Rattle.pay_audit.specs.Differs.{IsFirstNot, IsOtherItem, IsPostedOtherwise, Differs, DiffersIn}
+use Rattle.pay_audit.proofs.Lists.{all_of_map, each_own, own_filtered, all_to_map}
 
 -- what was posted for the version that an account has is kept for its quote, or not
 pub quoted_so : (version : ℕ) (quote posted : QuoteParts) → posted.version ≡ version → is_kept quote posted ≡ is_quoted_so version quote posted
@@ -90,3 +90,24 @@ module _ (editions : FareEditions) (state : State) (ledger : LedgerParts) where
   pub none_differs : {X : Type 0} (found : Option X) → IfNone found (AllPass Agrees ledger) → IfNone found (AgreesWith editions state ledger)
   none_differs None pass = all_agree pass
   none_differs (Some x) pass = tt
+
+  -- what differs does not agree
+  not_all : {X : Type 0} (P : X → Type 0) (xs : List X) (x : X) → IsFirstNot P xs x → AllByRecursion P xs → ⊥
+  not_all P xs x first all = first.3 (all-slice_get P xs first.0 x first.1 all)
+
+  module _ (account : ℕ) (agree : AgreesWith editions state ledger) where
+    one_agrees_not : (it : Difference) → Differs editions account (accepted_of state account) (archived_of account ledger) it → ⊥
+    one_agrees_not (OfTap tap) other =
+        not_all (IsRowOf tap_row (values (accepted_of state account).taps)) (archived_of account ledger).taps other.0 other.1
+        (all_to_map tap_row (IsRowOf tap_row (values (accepted_of state account).taps)) (taps_of account ledger.taps) (own_filtered (λ (t : Tap). t.account) (λ a t. IsRowOf tap_row (values (accepted_of state a).taps) (tap_row t)) account ledger.taps agree.taps))
+    one_agrees_not (OfFix fix) other =
+        not_all (IsRowOf fix_row (values (accepted_of state account).fixes)) (archived_of account ledger).fixes other.1.0 other.1.1
+        (all_to_map fix_row (IsRowOf fix_row (values (accepted_of state account).fixes)) (fixes_of account ledger.fixes) (own_filtered (λ (f : Fix). f.account) (λ a f. IsRowOf fix_row (values (accepted_of state a).fixes) (fix_row f)) account ledger.fixes agree.fixes))
+    one_agrees_not (OfPosting week through) other =
+        not_all (λ p. is_posted_so editions account (accepted_of state account) p ≡ true) (of_account account ledger.postings) other.2.0 other.2.1
+        (all_weaker (IsSo editions account (accepted_of state account)) (λ p. is_posted_so editions account (accepted_of state account) p ≡ true) (λ p so. so.0) (of_account account ledger.postings)
+        (own_filtered (λ (p : Posting). p.quote.account) (λ a. IsSo editions a (accepted_of state a)) account ledger.postings agree.postings))
+
+  pub agrees_not : (found : Option (ℕ × Difference)) → IfSome found (DiffersIn editions state ledger) → IfSome found (λ _. AgreesWith editions state ledger → ⊥)
+  agrees_not None differs = tt
+  agrees_not (Some it) differs = λ agree. one_agrees_not it.0 agree it.1 differs.2

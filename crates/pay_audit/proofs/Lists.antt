@@ -1,5 +1,5 @@
 -- What is so of all of a list.
-use Rattle.std.proofs.Common.{◌≡◌, ℕ, zero, suc, ◌+◌, ◌<◌, Bool, true, false, cond, ◌==◌, List, [], ◌∷◌, map, filter, take, get_or, slice_get, length, Some, eq-eqb, refl, sym, ap, subst, arith}
+use Rattle.std.proofs.Common.{◌≡◌, ℕ, zero, suc, ◌+◌, ◌<◌, Bool, true, false, cond, ◌==◌, List, [], ◌∷◌, map, filter, take, get_or, slice_get, length, Some, eq-eqb, eqb-true, refl, sym, ap, subst, arith}
 use Rattle.std.specs.List.{AllByRecursion}
 use Rattle.std.proofs.lemmas.List.{take_more}
 use Rattle.sqlite_keyed.proofs.ListLemmas.{all-append, all_weaker}
@@ -39,3 +39,17 @@ pub found_at : {X : Type 0} (xs : List X) (i : ℕ) (x : X) → i < length xs �
 found_at [] i x below is = absurd (omega (arith, below))
 found_at (y ∷ xs) zero x below is = ap Some (sym is)
 found_at (y ∷ xs) (suc i) x below is = found_at xs i x (omega (arith, below)) is
+
+-- of what has an account's number, where all is so by its own
+pub own_filtered : {X : Type 0} (account_of : X → ℕ) (P : ℕ → X → Type 0) (account : ℕ) (xs : List X) → AllByRecursion (λ x. P (account_of x) x) xs → AllByRecursion (P account) (filter (λ x. account_of x == account) xs)
+own_filtered account_of P account [] all = tt
+own_filtered account_of P account (x ∷ xs) all = by (account_of x == account) refl (own_filtered account_of P account xs all.1)
+  where
+    by : (b : Bool) → (account_of x == account) ≡ b → AllByRecursion (P account) (filter (λ y. account_of y == account) xs)
+        → AllByRecursion (P account) (cond b (x ∷ filter (λ y. account_of y == account) xs) (filter (λ y. account_of y == account) xs))
+    by true same rest = (subst (λ a. P a x) (eqb-true (account_of x) account same) all.0, rest)
+    by false same rest = rest
+
+pub all_to_map : {X Y : Type 0} (f : X → Y) (P : Y → Type 0) (xs : List X) → AllByRecursion (λ x. P (f x)) xs → AllByRecursion P (map f xs)
+all_to_map f P [] all = tt
+all_to_map f P (x ∷ xs) all = (all.0, all_to_map f P xs all.1)

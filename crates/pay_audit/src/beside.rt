@@ -50,6 +50,7 @@ pub fn first_difference<F: Fares, S: Alter>(
     ledger: &mut Ledger<S>,
 ) -> Result<Option<(u32, Difference)>, LedgerFault>
     ensures agree { AnswersOfLedger S.Store ledger.old ledger.new result (λ it found. IfNone found (AgreesWith shard.now.editions (state_now shard.now) it)) }
+    ensures agree_not { AnswersOfLedger S.Store ledger.old ledger.new result (λ it found. IfSome found (λ _. AgreesWith shard.now.editions (state_now shard.now) it → ⊥)) }
     ensures differs { AnswersOfLedger S.Store ledger.old ledger.new result (λ it found. IfSome found (DiffersIn shard.now.editions (state_now shard.now) it)) }
     ensures first { AnswersOfLedger S.Store ledger.old ledger.new result (λ it found. IfSome found (λ of. AgreeBefore shard.now.editions (state_now shard.now) it of.0)) }
     ensures unchanged { ChangesNothing S.Store ledger.old ledger.new }
