@@ -133,7 +133,7 @@ module _ {K S R W : Type 0} (store : Ghosts S) (keeper : Keeping K) (remaining :
   job_ran before after taken ended ran texts has = job before after taken ended ran texts has
 
 -- the ledger was not taken with what the journal gives back
-pub job_not_ran : {S : Type 0} (store : Ghosts S) (begun : Begun) (opened last : Held S) (fault : Fault) → IsNotTakenWith store opened last fault → HasNotRun store begun opened last fault
+pub job_not_ran : {S : Type 0} (store : Ghosts S) (begun : Begun) (opened last : Held S) (fault : Fault) → IsNotTakenWith store opened last begun.desk.shard fault → HasNotRun store begun opened last fault
 job_not_ran store begun opened last fault why texts has = record { clean = was_clean store opened last why.survives; why = why }
 
 -- without a ledger

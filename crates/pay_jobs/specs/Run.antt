@@ -13,6 +13,7 @@ use Rattle.pay_fare_file.specs.Words.{fare_text, fault_number, fault_name}
 use Rattle.pay_fare_file.specs.declared.fault.FareFileFault.{FareFileFault}
 use Rattle.pay_jobs.specs.Faults.{IsRefusal, IsWantOfMemory}
 use Rattle.pay_postings.specs.Words.{LedgerParts, AgreesWith}
+use Rattle.pay_shard.specs.Words.{ShardParts}
 use Rattle.pay_session.specs.Words.{line_requests}
 use Rattle.pay_wire.specs.declared.refusal.Refusal.{Refusal}
 use Rattle.pay_run.specs.Words.{Machine, GivesBack, Before, After, Known, EndsRun, FailsRun, StopsAt, IsReplayOf}
@@ -99,10 +100,10 @@ abbrev pub HasRun : {K L R W : Type 0} → Known K L R W → Begun → Before K 
 HasRun known begun before after ended = (texts : Texts) → HasBegun texts begun → JobRan known texts before after ended
 
 -- From the ledger that was opened to what it is then: it is not taken with what the journal gives back.
-pub record IsNotRun {S : Type 0} (store : Ghosts S) (opened last : Held S) (fault : Fault) : Type 0 where
+pub record IsNotRun {S : Type 0} (store : Ghosts S) (shard : ShardParts) (opened last : Held S) (fault : Fault) : Type 0 where
   pub clean : HasCleanDisk (state store last) → HasCleanDisk (state store opened)
-  pub why : IsNotTakenWith store opened last fault
+  pub why : IsNotTakenWith store opened last shard fault
 
 -- why no session was held over the ledger, for the texts by which it had begun
 abbrev pub HasNotRun : {S : Type 0} → Ghosts S → Begun → Held S → Held S → Fault → Type 0
-HasNotRun store begun opened last fault = (texts : Texts) → HasBegun texts begun → IsNotRun store opened last fault
+HasNotRun store begun opened last fault = (texts : Texts) → HasBegun texts begun → IsNotRun store begun.desk.shard opened last fault

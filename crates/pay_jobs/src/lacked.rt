@@ -1,4 +1,8 @@
 //! What a ledger archives and no journal gives back, as it is told.
+ghost use Rattle.std.specs.Prelude.{◌≡◌};
+ghost use Rattle.pay_wire.specs.Spellings.{spelling_of_kind};
+ghost use Rattle.pay_jobs.specs.Taken.{IsLackedTap, IsLackedFix};
+
 use pay_rules::{Fix, Kind, Tap, What};
 use thiserror::Error;
 
@@ -54,7 +58,9 @@ pub enum Lacked {
 }
 
 /// The word of a kind.
-fn kind_word(kind: Kind) -> &'static str {
+fn kind_word(kind: Kind) -> &'static str
+    ensures { result.now ≡ spelling_of_kind kind }
+{
     match kind {
         Kind::In => "IN",
         Kind::Out => "OUT",
@@ -63,7 +69,9 @@ fn kind_word(kind: Kind) -> &'static str {
 }
 
 /// A tap.
-pub(crate) fn lacked_tap(tap: &Tap) -> Lacked {
+pub(crate) fn lacked_tap(tap: &Tap) -> Lacked
+    ensures { IsLackedTap result tap.now }
+{
     Lacked::Tap {
         reader: tap.reader,
         seq: tap.seq,
@@ -77,7 +85,9 @@ pub(crate) fn lacked_tap(tap: &Tap) -> Lacked {
 }
 
 /// A correction.
-pub(crate) fn lacked_fix(fix: &Fix) -> Lacked {
+pub(crate) fn lacked_fix(fix: &Fix) -> Lacked
+    ensures { IsLackedFix result fix.now }
+{
     let (staff, seq, account) = (fix.staff, fix.seq, fix.account);
     match fix.what {
         What::Void(reader, tap) => Lacked::Void {

@@ -1,6 +1,6 @@
 //! Whether a ledger is taken with what journals give back.
 ghost use Rattle.std.specs.Prelude.{IfErr, OnOk};
-ghost use Rattle.pay_jobs.specs.Taken.{IsOfDifference, IsTakenWith, IsNotTakenWith};
+ghost use Rattle.pay_jobs.specs.Taken.{IsOfDifference, IsDifferenceTold, IsTakenWith, IsNotTakenWith};
 
 use crate::fault::Fault;
 use crate::lacked::{lacked_fix, lacked_tap};
@@ -13,7 +13,8 @@ use std::alloc::Global;
 
 /// What does not agree, as it is told: a ledger without any line of its journal, or the first thing.
 fn differs(account: u32, difference: Difference, has_line: bool) -> Fault
-    ensures { IsOfDifference result }
+    ensures of_difference { IsOfDifference result }
+    ensures told { IsDifferenceTold account difference has_line result }
 {
     match difference {
         Difference::Tap(_) | Difference::Fix(_) if !has_line => Fault::LedgerAlone,
@@ -35,7 +36,7 @@ pub fn take_with<S: Alter>(
     shard: &Shard<Book>,
 ) -> Result<(), Fault>
     ensures taken { OnOk result (IsTakenWith S.Store ledger.old ledger.new shard.now) }
-    ensures refused { IfErr result (IsNotTakenWith S.Store ledger.old ledger.new) }
+    ensures refused { IfErr result (IsNotTakenWith S.Store ledger.old ledger.new shard.now) }
 {
     match first_difference(alloc, shard, ledger) {
         Ok(None) => Ok(()),

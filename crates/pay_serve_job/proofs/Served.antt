@@ -31,7 +31,7 @@ module _ {S : Type 0} (store : Ghosts S) (old new : Held S) where
     taken_stays it = it.taken.survives
 
     pub refused_stays : (fault : Fault) → IsNotTakenBy store editions zone texts old new fault → LeavesAsBefore store old new
-    refused_stays fault (inl not_taken) = not_taken.survives
+    refused_stays fault (inl not_taken) = not_taken.2.survives
     refused_stays fault (inr (same, why)) = stays_same same
 
 -- what is so of the ledgers that a till lent before and after is so of these, which they are

@@ -46,9 +46,13 @@ module _ {S : Type 0} (store : Ghosts S) (editions : FareEditions) (zone : TimeZ
     pub replayed : HasReplayed zone editions desk (all_requests texts)
     pub taken : IsTakenWith store old new desk.shard
 
+  -- it was not taken with these
+  abbrev pub IsNotTakenBeside : Fault → Type 0
+  IsNotTakenBeside fault = (desk : LocalParts) × HasReplayed zone editions desk (all_requests texts) × IsNotTakenWith store old new desk.shard fault
+
   -- or it was not, or not looked at, since a line of a journal is not accepted, or memory was wanting
   abbrev pub IsNotTakenBy : Fault → Type 0
-  IsNotTakenBy fault = IsNotTakenWith store old new fault ⊎ ((new ≡ old) × (IsStoppedAmong zone editions texts 0 fault ⊎ IsWantOfMemory fault))
+  IsNotTakenBy fault = IsNotTakenBeside fault ⊎ ((new ≡ old) × (IsStoppedAmong zone editions texts 0 fault ⊎ IsWantOfMemory fault))
 
 -- With what keepers hold, and of what. Before and after are a ledger, and what the writer holds.
 module _ {K S : Type 0} (keeper : Keeping K) (store : Ghosts S) where

@@ -1,10 +1,10 @@
 use Rattle.std.proofs.Common.{rules, ◌≡◌, map, vec_items, inl, inr, refl, subst}
-use Rattle.std.proofs.lemmas.Result.{err_from_is_err_and, on_ok_weaker}
+use Rattle.std.proofs.lemmas.Result.{err_from_is_err_and, on_ok_weaker, IfErr-weaker}
 use Rattle.std.specs.Arc.{arc_value}
 use Rattle.pay_tables.specs.Words.{FareEditions}
 use Rattle.pay_shard.specs.Words.{ShardParts}
 use Rattle.pay_run.specs.Words.{HasReplayed}
-use Rattle.pay_jobs.specs.Words.{IsTakenWith}
+use Rattle.pay_jobs.specs.Words.{IsTakenWith, IsNotTakenWith}
 use Rattle.pay_jobs.specs.Replays.{IsStoppedAmong, all_requests}
 use Rattle.pay_serve_job.proofs.service.take_given.Goals as goal
 
@@ -27,3 +27,12 @@ returns-clause-taken g c =
       replayed = subst (λ (e : FareEditions). HasReplayed c.args.zone.now e c.in_ok-replayed.replayed.0 (all_requests (map vec_items c.args.texts.now))) same c.in_ok-replayed.ensures.replayed;
       taken = subst (λ (s : ShardParts). IsTakenWith g.S.Store c.args.ledger.now c.take_with.new.ledger s) c.shard.ensures.value taken;
     }) c.take_with.ensures.taken
+
+pub returns-clause-refused : goal.returns-clause-refused
+returns-clause-refused g c =
+    let same : arc_value c.in_ok-editions.editions ≡ arc_value c.args.editions.now = search rules in
+    IfErr-weaker c.take_with.result _ _ (λ fault why. inl (
+      c.in_ok-replayed.replayed.0,
+      subst (λ (e : FareEditions). HasReplayed c.args.zone.now e c.in_ok-replayed.replayed.0 (all_requests (map vec_items c.args.texts.now))) same c.in_ok-replayed.ensures.replayed,
+      subst (λ (s : ShardParts). IsNotTakenWith g.S.Store c.args.ledger.now c.take_with.new.ledger s fault) c.shard.ensures.value why,
+    )) c.take_with.ensures.refused
