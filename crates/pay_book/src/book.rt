@@ -19,7 +19,7 @@ use pay_rules::{
     Addition, Fares, Fix, FixFault, Lines, Priced, Quote, Sets, Shown, Tap, TapFault, What,
 };
 use pay_tables::Editions;
-use pay_taps::Steps;
+use pay_taps::{Steps, Timeline};
 use std::alloc::{AllocError, Global};
 use std::marker::Model;
 
@@ -58,6 +58,20 @@ impl Book {
         ensures { result ≡ self.now.steps }
     {
         self.steps.count()
+    }
+
+    /// The effective taps by rail, in order.
+    pub fn by_rail(&self) -> &Timeline
+        ensures { result.now.touches ≡ self.now.rail }
+    {
+        &self.held.rail
+    }
+
+    /// The effective taps on buses, in order.
+    pub fn on_buses(&self) -> &Timeline
+        ensures { result.now.touches ≡ self.now.buses }
+    {
+        &self.held.buses
     }
 
     /// The prices of a day and its week.
