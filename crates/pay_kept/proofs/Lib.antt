@@ -1,0 +1,4 @@
+mod Lists
+mod OnlyAsked
+mod Alike
+mod Texts
