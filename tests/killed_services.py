@@ -86,7 +86,7 @@ class ServedStory(Story):
 
     def texts(self):
         """The bytes of the journals, by their names."""
-        return {name: bytes_of(os.path.join(self.folder, name)) for name in sorted(os.listdir(self.folder))}
+        return {name: bytes_of(os.path.join(self.folder, name)) for name in sorted(os.listdir(self.folder)) if name.endswith(".lines")}
 
     def lines(self):
         """All whole lines of the journals, in one order."""

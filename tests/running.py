@@ -134,6 +134,18 @@ def written(folder, name, content):
     return path
 
 
+def text_beside(words, ledger=False):
+    """What a session with these words keeps beside its journal, once one of them had a ledger, or without."""
+    with open(words[1], "rb") as fares:
+        return f"# zone {words[2]}\n# {'with' if ledger else 'without'} a ledger\n".encode() + fares.read()
+
+
+def keep_beside(journal, words, ledger=False):
+    """Puts that beside a journal."""
+    with open(f"{journal}.fares", "wb") as it:
+        it.write(text_beside(words, ledger))
+
+
 def read(name):
     with open(f"{EXAMPLES}/{name}", "rb") as it:
         return it.read()

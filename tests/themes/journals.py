@@ -14,8 +14,8 @@ import rules
 from killed import SessionStory
 from preloads import preloaded
 from running import (
-    FARES, LONDON, MISSING, MONDAY, RUN, RUN_SAMPLE, SAMPLE, SEVEN, STATE, End, answers, boardings, edited, end_of, fault, heard, in_lines, run,
-    run_file, session, started, test, written,
+    FARES, LONDON, MISSING, MONDAY, RUN, RUN_SAMPLE, SAMPLE, SEVEN, STATE, End, answers, boardings, edited, end_of, fault, heard, in_lines,
+    keep_beside, run, run_file, session, started, test, written,
 )
 from themes.drawn import by_rules, drawn_dues, with_closes
 from themes.statements import A_BOARDING, rows_of_statement
@@ -149,7 +149,7 @@ def lines_by_options(folder):
     ):
         missing(folder, "kept")
         yield f"the words {given}", leaving(path, run(given, lines, cwd=folder)), End(0, replies, left=lines)
-    yield "the files there", answers(" ".join(sorted(os.listdir(folder))).encode()), answers(b"kept")
+    yield "the files there", answers(" ".join(sorted(os.listdir(folder))).encode()), answers(b"kept kept.fares")
 
 
 @test
@@ -408,6 +408,7 @@ def limited_to(room, most=None):
 @test
 def full_files(folder):
     """A journal that has room for so many bytes: from the first line on that it has no room for none is taken, and the next session takes them."""
+    keep_beside(os.path.join(folder, "journal"), RUN)
     for room in range(len(FULL_KEPT) + 1):
         count = FULL_KEPT[:room].count(b"\n")
         status, errors = (0, b"") if room == len(FULL_KEPT) else (1, JOURNAL_FAULT.errors)
@@ -422,6 +423,7 @@ def full_files(folder):
 @test
 def journal_before_streams(folder):
     """Where the journal and a stream fail, the journal is told."""
+    keep_beside(os.path.join(folder, "journal"), RUN)
     for name, words in (("a session", with_journal(missing(folder))), ("a session with --sync", with_journal(missing(folder), RUN, "--sync"))):
         with open("/dev/full", "wb") as full:
             came = run(words, CUT_LINES[0], stdout=full, **limited_to(0))
@@ -432,6 +434,7 @@ def journal_before_streams(folder):
 def disks_that_fail(folder):
     """A disk does not say that it has what it was given, from the first time on or the second: a line and the end fail by that."""
     library = preloaded(folder)
+    keep_beside(os.path.join(folder, "journal"), RUN)
 
     def settling(count):
         return {"env": {"LD_PRELOAD": library, "SETTLED": str(count)}}
@@ -558,6 +561,7 @@ def names_on_the_disk(folder):
     os.symlink("there/file", os.path.join(folder, "link"))
     for name, count in (("made", 1), ("link", 2)):
         path = os.path.join(folder, name)
+        keep_beside(os.path.join(folder, "there", "file") if count == 2 else path, RUN)
         for named, at in itertools.product(range(count), range(2)):
             came = leaving(path, run_file(with_journal(path), given, **naming(library, named)))
             yield f"{name}, {named} folders named, start {at}", came, CANNOT_USE._replace(left=b"")

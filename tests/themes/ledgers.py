@@ -104,7 +104,7 @@ def sessions_that_go_on(folder):
             lines, replies = session(pairs)
             yield f"{name}, session {number}", closing(path, folder, run(words, lines)), End(0, replies, left=left)
     there = " ".join(sorted(it for it in os.listdir(folder) if it != "copied"))
-    yield "the files there", answers(there.encode()), answers(b"journal0 journal1 ledger0 ledger0-wal ledger1 ledger1-wal")
+    yield "the files there", answers(there.encode()), answers(b"journal0 journal0.fares journal1 journal1.fares ledger0 ledger0-wal ledger1 ledger1-wal")
 
 
 @test

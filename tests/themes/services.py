@@ -13,7 +13,8 @@ from killed import Kept, rows_of
 from killed_services import ServedStory
 from preloads import preloaded
 from running import (
-    MISSING, MONDAY, RUN_SAMPLE, SAMPLE, SEVEN, STATE, End, answers, end_of, fault, heard, in_lines, run, session, started, test, written,
+    FARES, LONDON, MISSING, MONDAY, RUN, RUN_SAMPLE, SAMPLE, SEVEN, STATE, End, answers, end_of, fault, heard, in_lines, run, session, started, test,
+    text_beside, written,
 )
 from themes.journals import CANNOT_USE, bad_line, bytes_of, limited_to, naming, replayed, with_journal
 from themes.ledgers import ALONE, ROWS_AFTER_FIRST, ROWS_AFTER_SECOND, STORE, lacks, opened_ledger, refused_ledgers, rows, with_ledger
@@ -38,7 +39,7 @@ def path_of(journals, number):
 
 def texts_of(journals):
     """What the journals of a folder have, each after its name."""
-    names = sorted(os.listdir(journals), key=lambda name: int(name.split(".")[0]))
+    names = sorted((name for name in os.listdir(journals) if name.endswith(".lines")), key=lambda name: int(name.split(".")[0]))
     return b"".join(b"== %s\n%s" % (name.encode(), bytes_of(os.path.join(journals, name))) for name in names)
 
 
@@ -122,9 +123,10 @@ def written_of_close(accounts):
 def services_that_go_on(folder):
     """Services one after another with one folder, each with other numbers of lanes and of shards."""
     journals = new_folder(folder)
+    more = with_new_ledger(journals)
     for number, service in enumerate(SERVICES, 1):
         count = len(service.lanes)
-        with serving(count, service.shards, 1, more=with_new_ledger(journals)) as (ran, port, said):
+        with serving(count, service.shards, 1, more=more) as (ran, port, said):
             for lane, pairs in enumerate(service.lanes):
                 replies = talk(port + lane, "".join(line for line, _ in pairs).encode() + b"QUIT\n")
                 yield f"service {number}, lane {lane}", answers(replies), answers(in_lines(reply for _, reply in pairs) + b"BYE\n")
@@ -212,12 +214,13 @@ def cut_lines(folder):
         for at in range(3):
             written(journals, f"{at}.lines", (boarding(7 + at) + rest).encode())
         before = texts(boarding(7) + rest, boarding(8) + rest, boarding(9) + rest)
-        with serving(1, 2, 1, more=with_new_ledger(journals)) as (ran, port, said):
+        more = with_new_ledger(journals)
+        with serving(1, 2, 1, more=more) as (ran, port, said):
             replies = talk(port, (boarding(7) + boarding(8) + boarding(9) + "DUE 12 19730\nQUIT\n").encode())
             yield f"{rest[:20]!r} after lines", answers(replies), answers(b"AGAIN 19730 175 175\n" * 3 + b"DUE 12 19730 19730 0 0\nBYE\n")
             wanted = closed(port, 1, (paid(7) + paid(8) + paid(9) + done(3)).encode())._replace(left=before)
             yield f"{rest[:20]!r}, and no new line", leaving(journals, ended(ran, said)), wanted
-        with serving(1, 2, 1, more=with_new_ledger(journals)) as (ran, port, said):
+        with serving(1, 2, 1, more=more) as (ran, port, said):
             replies = talk(port, (boarding(11) + boarding(9) + "QUIT\n").encode())
             yield f"{rest[:20]!r}, a new line", answers(replies), answers(b"OK 19730 175 175\nAGAIN 19730 175 175\nBYE\n")
             # Account 11 is in shard 1, and the third journal is no shard's.
@@ -366,6 +369,77 @@ def sixteen_journals(folder):
 
 
 @test
+def fares_beside_journals(folder):
+    """What is kept beside the journals of a service; with another zone or other fares no port is taken, no ledger made, and all stays."""
+    journals = new_folder(folder)
+    beside, ledger = os.path.join(journals, "all.fares"), os.path.join(folder, "ledger")
+    dearer = written(folder, "dearer.toml", bytes_of(FARES).replace(b"bus = 175", b"bus = 176"))
+    with serving(1, 2, 1, more=with_journals(journals)) as (ran, port, said):
+        yield "what is kept once it listens", answers(bytes_of(beside)), answers(text_beside(RUN))
+        yield "lines of both shards", answers(talk(port, f"{boarding(7)}{boarding(8)}QUIT\n".encode())), answers(in_lines((BOARDED, BOARDED, "BYE")))
+        yield "the service", leaving(journals, ended(ran, said)), not_closed(port, 1)._replace(left=texts(boarding(8), boarding(7)))
+    yield "what is kept", answers(bytes_of(beside)), answers(text_beside(RUN))
+    for name, fares, zone, wanted in (
+        ("another zone", FARES, "UTC0", "another zone than the journal's"), ("other fares", dearer, LONDON, "other fares than the journal's on day 4: rules.bus; account 7 travelled on day 19730"),
+    ):
+        for more in (with_journals(journals), with_both(journals, ledger)):
+            for shards in (1, 2, 16):
+                came = run([*words_of(free_ports(1), 1, shards, fares=fares, zone=zone), *more])
+                yield f"{name}, {shards} shards, {more[2:]}", leaving(journals, came), fault(wanted)._replace(left=texts(boarding(8), boarding(7)))
+    yield "no ledger is made", answers(bytes_of(ledger)), answers(None)
+    yield "what is kept then", answers(bytes_of(beside)), answers(text_beside(RUN))
+    written(journals, "3.lines", b"fly\n")
+    came = run([*words_of(free_ports(1), 1, 2, fares=dearer), *with_journals(journals)])
+    yield "a bad line comes first", came, bad_line(1, "50 BadLine", path_of(journals, 3))
+    written(journals, "3.lines", b"")
+    os.remove(beside)
+    os.mkdir(f"{beside}.tmp")
+    told = f"farebox: cannot keep fares in {beside}\nfarebox: journal fault\n".encode()
+    for more in (with_journals(journals), with_both(journals, ledger)):
+        came = leaving(journals, run([*words_of(free_ports(1), 1, 2, fares=dearer), *more]))
+        yield f"what cannot be kept, {more[2:]}", came, End(1, b"", told, texts(boarding(8), boarding(7)))
+    os.rmdir(f"{beside}.tmp")
+    with serving(1, 2, 1, fares=dearer, more=with_journals(journals)) as (ran, port, said):
+        yield "what is kept once it is removed", answers(bytes_of(beside)), answers(text_beside(["serve", dearer, LONDON]))
+        yield "a line by it", answers(talk(port, f"{boarding(10)}QUIT\n".encode())), answers(b"OK 19730 176 176\nBYE\n")
+
+
+@test
+def fares_once_compared(folder):
+    """What is kept stays where the ledger does not agree with the journals, or a port is another's; then it is another."""
+    journals = new_folder(folder)
+    beside, ledger = os.path.join(journals, "all.fares"), os.path.join(folder, "ledger")
+    more = with_both(journals, ledger)
+    with serving(1, 2, 1, more=more) as (ran, port, said):
+        yield "lines", answers(talk(port, f"{boarding(7)}QUIT\n".encode())), answers(in_lines((BOARDED, "BYE")))
+        yield "the close", ended(ran, said), closed(port, 1, (paid(7) + done(1)).encode())
+    os.remove(beside)
+    dearer = written(folder, "dearer.toml", bytes_of(FARES).replace(b"bus = 175", b"bus = 176"))
+    came = run([*words_of(free_ports(1), 1, 2, fares=dearer), *more])
+    yield "fares that the ledger does not agree with", came, fault("account 7 was posted otherwise for week 19730 through 19730")
+    yield "nothing is kept of them", answers(bytes_of(beside)), answers(None)
+    with serving(1, 2, 1, more=more) as (ran, port, said):
+        yield "what is kept of those that it does", answers(bytes_of(beside)), answers(text_beside(RUN, True))
+
+
+@test
+def new_ledgers(folder):
+    """Once a service with a ledger has had the journals, one that is new is refused, and is not made."""
+    journals = new_folder(folder)
+    ledger, mistyped = os.path.join(folder, "ledger"), os.path.join(folder, "legder")
+    with serving(1, 2, 1, more=with_both(journals, ledger)) as (ran, port, said):
+        yield "lines", answers(talk(port, f"{boarding(7)}QUIT\n".encode())), answers(in_lines((BOARDED, "BYE")))
+        yield "the close", ended(ran, said), closed(port, 1, (paid(7) + done(1)).encode())
+    yield "what is kept", answers(bytes_of(os.path.join(journals, "all.fares"))), answers(text_beside(RUN, True))
+    came = run([*words_of(free_ports(1), 1, 2), *with_both(journals, mistyped)])
+    yield "a mistyped one", came, fault("a new ledger beside a journal that had one")
+    yield "it is not made", answers(bytes_of(mistyped)), answers(None)
+    with serving(1, 1, 1, more=with_both(journals, ledger)) as (ran, port, said):
+        talk(port, b"QUIT\n")
+        yield "its own", ended(ran, said), closed(port, 1, (paid(7) + done(1)).encode())
+
+
+@test
 def links_to_journals(folder):
     """Journals of a service that are links, to files and to none, which are made where the links lead."""
     journals, there = new_folder(folder), new_folder(folder, "there")
@@ -392,6 +466,7 @@ def names_on_the_disk(folder):
     with serving(1, 1, 1) as (ran, port, said):
         for name, count in (("files", 1), ("a link", 2)):
             journals = new_folder(folder, name.replace(" ", "-"))
+            written(journals, "all.fares", text_beside(RUN))
             if count == 2:
                 os.symlink("../made", path_of(journals, 9))
             for named, at in itertools.product(range(count), range(2)):
@@ -425,6 +500,7 @@ def full_journals(folder):
     for name, has_ledger, refused in (("", False, b"NO 34 NotHere\n"), (", over a ledger", True, b"NO 44 DeskFault\n")):
         journals = new_folder(folder, "closed" if has_ledger else "journals")
         more = with_both(journals, made_ledger(folder)) if has_ledger else with_journals(journals)
+        written(journals, "all.fares", text_beside(RUN, has_ledger))
         full = f"farebox: cannot keep lines in {path_of(journals, 0)}\n".encode()
         with serving(1, 2, 1, more=more, **limited_to(room)) as (ran, port, said), connected(port) as peer:
             peer.sendall(before.encode())
@@ -439,7 +515,7 @@ def full_journals(folder):
             wanted = fault("journal fault", refused)
             wanted = wanted._replace(errors=listening(port, 1) + full + wanted.errors, left=left)
             yield f"how it ends{name}", leaving(journals, ended(ran, said)), wanted
-        with serving(1, 2, 1, more=with_new_ledger(journals)) as (ran, port, said):
+        with serving(1, 2, 1, more=more if has_ledger else with_new_ledger(journals)) as (ran, port, said):
             replies = talk(port, (before + after).encode())
             wanted = 3 * "AGAIN 19730 175 175\n" + "OK 19730 175 175\nDUE 11 19730 19730 1 175 4=175\nAGAIN 19730 175 175\nBYE\n"
             yield f"the same lines in the next service{name}", answers(replies), answers(wanted.encode())

@@ -4,14 +4,14 @@ ghost use Rattle.pay_jobs.specs.Words.{IsDay};
 ghost use Rattle.pay_words.specs.declared.limits.TheConstants.{MOST_SHARDS};
 
 use pay_files::{
-    JournalFiles, fares_text, open_journals, path_in, print_warnings, ready_ledger, report_line,
-    settle_journals,
+    JournalFiles, KeptFares, fares_text, kept_in, open_journals, path_in, print_warnings,
+    ready_ledger, report_line, settle_journals,
 };
 use pay_jobs::{
     Disk, FaresAndZone, Fault, FileStore, Keeper, Ledger, Ledgers, NoKeeper, Wary, begin_service,
-    new_ledger,
+    compare_texts, new_ledger,
 };
-use pay_serve_job::{Given, Plan, serve, serve_without_ledger};
+use pay_serve_job::{Given, Plan, serve, serve_without_ledger, take_given};
 use pay_wire::Refusal;
 use pay_words::ServeWords;
 use std::alloc::{AllocError, Global};
@@ -105,7 +105,7 @@ where
     }
 }
 
-/// A service with journals, over a ledger in a file. Without one the day is not closed, as for a session.
+/// A service with journals. The line of one that is not accepted is reported by the path of its file.
 fn serve_kept<R>(
     rt: R,
     words: &ServeWords<'_>,
@@ -128,12 +128,58 @@ where
     requires day { IsDay words.now.close }
     requires keepers { length journals.keepers.items ≡ words.now.shards }
 {
+    match serve_beside(rt, words, fares, folder, journals) {
+        Err(Fault::JournalLineOf { journal, line, why }) => {
+            report_in(&rt, folder, journal, line, why)
+        }
+        closed => status_of(closed),
+    }
+}
+
+/// A service with journals, over a ledger in a file, if the accounts come to the same by what is kept beside the journals. Whether the
+/// day was closed. Without a ledger it is not, as for a session.
+fn serve_beside<R>(
+    rt: R,
+    words: &ServeWords<'_>,
+    fares: &str,
+    folder: &str,
+    journals: JournalFiles<R>,
+) -> Result<bool, Fault>
+where
+    R: Net<Listener = TcpListener, Stream = TcpStream>
+        + Threads
+        + Wait
+        + Files<File = File>
+        + Ledgers
+        + Print
+        + Eprint
+        + AllocGlobal
+        + Copy
+        + Send
+        + 'static,
+    requires day { IsDay words.now.close }
+    requires keepers { length journals.keepers.items ≡ words.now.shards }
+{
     let JournalFiles {
         texts,
         keepers,
         others: _held,
     } = journals;
     let FaresAndZone { editions, zone } = begin_service(rt.alloc(), fares, words.zone)?;
+    let kept = kept_in(&rt, folder, words.zone, words.ledger.is_some(), fares)?;
+    if let Some(other) = kept.other() {
+        compare_texts(
+            rt.alloc(),
+            &editions,
+            &zone,
+            words.zone,
+            texts.as_slice(),
+            other,
+        )?;
+    }
+    if let Some(ledger) = words.ledger {
+        kept.refuse_new_ledger(&rt, ledger)?;
+    }
     let given = Given {
         editions,
         zone,
@@ -141,16 +187,52 @@ where
         texts: texts.as_slice(),
         keepers,
     };
-    let closed = match words.ledger {
-        None => serve_alone(rt, folder, given),
-        Some(path) => serve_in_file(rt, path, given),
-    };
-    match closed {
-        Err(Fault::JournalLineOf { journal, line, why }) => {
-            report_in(&rt, folder, journal, line, why)
+    match words.ledger {
+        None => {
+            kept.keep(&rt)?;
+            serve_alone(rt, folder, given)
         }
-        closed => status_of(closed),
+        Some(path) => serve_kept_in_file(rt, path, given, &kept),
     }
+}
+
+/// A service with journals over the ledger in the file at a path. What is to be kept beside the journals is kept once the ledger agrees
+/// with them.
+fn serve_kept_in_file<R, K>(
+    rt: R,
+    path: &str,
+    given: Given<'_, K>,
+    kept: &KeptFares,
+) -> Result<bool, Fault>
+where
+    R: Net<Listener = TcpListener, Stream = TcpStream>
+        + Threads
+        + Wait
+        + Files<File = File>
+        + Ledgers
+        + Print
+        + Eprint
+        + AllocGlobal
+        + Copy
+        + Send
+        + 'static,
+    K: Keeper + Send + 'static,
+    requires day { IsDay given.plan.close }
+    requires keepers { length given.keepers.items ≡ given.plan.shards }
+{
+    ready_ledger(&rt, path)?;
+    let mut ledger = rt.ledger(path, Wary)?;
+    if !kept.is_there() {
+        take_given(
+            rt.alloc(),
+            &given.editions,
+            &given.zone,
+            given.texts,
+            &mut ledger,
+        )?;
+        kept.keep(&rt)?;
+    }
+    serve_over(rt, given, ledger)
 }
 
 /// A service without a ledger. Whether the day was closed, which it is not. What was kept is brought to the disk, as before a close.

@@ -20,7 +20,7 @@ use std::{fs, io};
 const JOURNALS: u8 = MOST_SHARDS as u8;
 
 /// Who may read and write a file that is made here: accounts and charges are nobody else's.
-const OWNER_ALONE: u32 = 0o600;
+pub(crate) const OWNER_ALONE: u32 = 0o600;
 
 /// The journals in a folder, by their numbers.
 #[derive(Drop)]
@@ -177,6 +177,15 @@ pub fn ready_ledger<R: Files<File = File> + AllocGlobal>(
     }
 }
 
+/// Whether the file of a ledger is one that a database is made in anew, whatever the log beside it has: it is missing, or has a byte at
+/// most.
+pub(crate) fn is_new_ledger<R: Files>(rt: &R, ledger: &str) -> bool {
+    match fs::metadata(rt, ledger) {
+        Ok(file) => file.len() <= 1,
+        Err(error) => error.kind() == ErrorKind::NotFound,
+    }
+}
+
 /// Makes the file at a path, at which nothing stands.
 fn make_new<R: Files<File = File>>(rt: &R, path: &str) -> io::Result<()> {
     OpenOptions::new()
@@ -236,7 +245,7 @@ fn opened_alone<R: Files<File = File> + AllocGlobal>(
     path: &str,
 ) -> io::Result<(Vec<u8>, File)> {
     let journal = opened(rt, path)?;
-    settle_names(rt, folder_of(path))?;
+    settle_folder_of(rt, path)?;
     Ok(journal)
 }
 
@@ -306,7 +315,7 @@ fn open<R: Files<File = File>>(rt: &R, path: &str, makes: bool) -> io::Result<Fi
 fn settle_target<R: Files<File = File> + AllocGlobal>(rt: &R, path: &str) -> io::Result<()> {
     if fs::symlink_metadata(rt, path)?.is_symlink() {
         let file = fs::canonicalize(rt, path)?;
-        settle_names(rt, folder_of(file.as_str()))?;
+        settle_folder_of(rt, file.as_str())?;
     }
     Ok(())
 }
@@ -315,6 +324,11 @@ fn settle_target<R: Files<File = File> + AllocGlobal>(rt: &R, path: &str) -> io:
 /// before it did this, so each does it.
 fn settle_names<R: Files<File = File>>(rt: &R, folder: &str) -> io::Result<()> {
     fs::open(rt, folder)?.sync_all()
+}
+
+/// Has the name of the file at a path on the disk.
+pub(crate) fn settle_folder_of<R: Files<File = File>>(rt: &R, path: &str) -> io::Result<()> {
+    settle_names(rt, folder_of(path))
 }
 
 /// The folder of the file at a path.

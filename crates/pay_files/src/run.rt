@@ -2,6 +2,7 @@
 
 use crate::input::{fares_text, is_input_a_file, print_warnings};
 use crate::journal::{JournalFile, open_journal, ready_ledger};
+use crate::kept::{fares_before, file_of, kept_beside};
 use pay_jobs::{
     Begun, Book, Disk, Fault, FileStore, Keeper, Ledger, Ledgers, NoKeeper, Ran, Wary, begin,
     new_ledger, told,
@@ -16,10 +17,10 @@ use std::rt::Files;
 
 /// One session, from standard input to standard output. Where it has files, what there is to say of the fare file comes
 /// first, to standard error.
-pub fn run_session<R: Files<File = File> + Ledgers + Input + Print + Eprint + AllocGlobal>(
-    rt: &R,
-    words: &RunWords<'_>,
-) -> Result<ExitCode, Fault> {
+pub fn run_session<R>(rt: &R, words: &RunWords<'_>) -> Result<ExitCode, Fault>
+where
+    R: Files<File = File> + Ledgers + Input + Print + Eprint + AllocGlobal + Copy,
+{
     let fares = fares_text(rt, words.fares)?;
     if words.journal.is_some() || words.ledger.is_some() {
         print_warnings(rt, fares.as_str())?;
@@ -33,17 +34,20 @@ pub fn run_session<R: Files<File = File> + Ledgers + Input + Print + Eprint + Al
 }
 
 /// One session from a reader, with its journal, or without one.
-fn run_from<R: Files<File = File> + Ledgers + Print + AllocGlobal, I: BufRead>(
+fn run_from<R, I: BufRead>(
     rt: &R,
     words: &RunWords<'_>,
     fares: &str,
     reader: &mut I,
-) -> Result<ExitCode, Fault> {
+) -> Result<ExitCode, Fault>
+where
+    R: Files<File = File> + Ledgers + Print + Eprint + AllocGlobal + Copy,
+{
     match words.journal {
         None => run_unkept(rt, words, fares, reader),
         Some(path) => {
             let journal = open_journal(rt, path)?;
-            run_kept(rt, words, fares, journal, reader)
+            run_kept(rt, words, fares, path, journal, reader)
         }
     }
 }
@@ -65,18 +69,31 @@ fn run_unkept<R: Files<File = File> + Ledgers + Print + AllocGlobal, I: BufRead>
     }
 }
 
-/// One session with a journal, over a ledger in a file. Without one nothing is closed: what is posted would not be there for the next
+/// One session with a journal, over a ledger in a file, if the accounts come to the same by what is kept beside the journal. Without a
+/// ledger nothing is closed: what is posted would not be there for the next
 /// session, which has the accounts that the journal gives back, and each close would charge the whole week again.
-fn run_kept<R: Files<File = File> + Ledgers + Print + AllocGlobal, I: BufRead>(
+fn run_kept<R, I: BufRead>(
     rt: &R,
     words: &RunWords<'_>,
     fares: &str,
+    path: &str,
     journal: JournalFile,
     reader: &mut I,
-) -> Result<ExitCode, Fault> {
+) -> Result<ExitCode, Fault>
+where
+    R: Files<File = File> + Ledgers + Print + Eprint + AllocGlobal + Copy,
+{
     let JournalFile { past, file } = journal;
     let begun = begin(rt.alloc(), fares, words.zone, past.as_slice())?;
-    let keeper = begun.keeper(file, words.syncs);
+    let path = file_of(rt, path)?;
+    let kept = kept_beside(rt, path.as_str(), words.zone, words.ledger.is_some(), fares)?;
+    if let Some(other) = kept.other() {
+        begun.compare(rt.alloc(), words.zone, other)?;
+    }
+    if let Some(ledger) = words.ledger {
+        kept.refuse_new_ledger(rt, ledger)?;
+    }
+    let keeper = fares_before(*rt, begun.keeper(file, words.syncs), kept)?;
     match words.ledger {
         None => end(Ok(begun.run_without_ledger(keeper, reader, &mut io::writer(rt)))),
         Some(path) => run_in_file(rt, path, begun, keeper, reader),

@@ -11,7 +11,7 @@ use Rattle.pay_run.specs.Words.{new_machine}
 use Rattle.pay_jobs.specs.Replays.{IsFaultOf, IsStoppedAmong, IsSummed, IsNotSummed, ReplayWritten, ReplayRefused}
 use Rattle.pay_jobs.specs.Run.{Begins, IsRefused}
 use Rattle.pay_jobs.specs.declared.fault.Fault.{Fault}
-use Rattle.pay_jobs.specs.declared.fault.Fault.TheVariants.{Usage, CannotReadFares, CannotReadOldFares, BadZone, CannotListen, Input, Output, CannotUseJournal, JournalLine, JournalLineOf, Journal, LedgerAlone, Lacks, PostedOtherwise, Refused}
+use Rattle.pay_jobs.specs.declared.fault.Fault.TheVariants.{Usage, CannotReadFares, CannotReadOldFares, BadZone, CannotListen, Input, Output, CannotUseJournal, CannotReadKeptFares, Kept, NewLedger, JournalLine, JournalLineOf, Journal, LedgerAlone, Lacks, PostedOtherwise, Refused}
 
 -- ---- there is no line
 
@@ -33,6 +33,12 @@ unsummed_refused Output fares zone texts (inl told) = absurd told
 unsummed_refused Output fares zone texts (inr (of, says, told)) = absurd told
 unsummed_refused CannotUseJournal fares zone texts (inl told) = absurd told
 unsummed_refused CannotUseJournal fares zone texts (inr (of, says, told)) = absurd told
+unsummed_refused CannotReadKeptFares fares zone texts (inl told) = absurd told
+unsummed_refused CannotReadKeptFares fares zone texts (inr (of, says, told)) = absurd told
+unsummed_refused (Kept why) fares zone texts (inl told) = absurd told
+unsummed_refused NewLedger fares zone texts (inl told) = absurd told
+unsummed_refused (Kept why) fares zone texts (inr (of, says, told)) = absurd told
+unsummed_refused NewLedger fares zone texts (inr (of, says, told)) = absurd told
 unsummed_refused (JournalLine line why) fares zone texts (inl told) = absurd told
 unsummed_refused (JournalLine line why) fares zone texts (inr (of, says, told)) = absurd told
 unsummed_refused (JournalLineOf journal line why) fares zone texts (inl told) = absurd told
@@ -71,6 +77,9 @@ unsummed BadZone fares zone texts held h = (h, refl)
 unsummed CannotListen fares zone texts held h = (h, refl)
 unsummed Input fares zone texts held h = (h, refl)
 unsummed CannotUseJournal fares zone texts held h = (h, refl)
+unsummed CannotReadKeptFares fares zone texts held h = (h, refl)
+unsummed (Kept why) fares zone texts held h = (h, refl)
+unsummed NewLedger fares zone texts held h = (h, refl)
 unsummed (JournalLine line why) fares zone texts held h = (h, refl)
 unsummed (JournalLineOf journal line why) fares zone texts held h = (h, refl)
 unsummed Journal fares zone texts held h = (h, refl)

@@ -1,7 +1,7 @@
 -- How a program ends where it fails: its status, and the refusal that a fault is.
 use Rattle.std.specs.Prelude.{◌≡◌, ℕ, Bool, true, false, List, Result, Ok, Err, codes, ⊤}
 use Rattle.pay_jobs.specs.declared.fault.Fault.{Fault}
-use Rattle.pay_jobs.specs.declared.fault.Fault.TheVariants.{Usage, Input, Output, JournalLine, Journal, Refused}
+use Rattle.pay_jobs.specs.declared.fault.Fault.TheVariants.{Usage, Input, Output, JournalLine, Journal, Kept, Refused}
 use Rattle.pay_rules.specs.declared.post_fault.PostFault.TheVariants as post_fault
 use Rattle.pay_ledger.specs.declared.fault.LedgerFault.{LedgerFault}
 use Rattle.pay_ledger.specs.declared.fault.LedgerFault.TheVariants as ledger_fault
@@ -9,6 +9,8 @@ use Rattle.pay_wire.specs.Words.{WriterCall}
 use Rattle.pay_session.specs.Words.{ReaderCall, IsBroken}
 use Rattle.pay_journal.specs.declared.replaying.ReplayFault.{ReplayFault}
 use Rattle.pay_journal.specs.declared.replaying.ReplayFault.TheVariants as replaying
+use Rattle.pay_kept.specs.declared.fault.KeptFault.{KeptFault}
+use Rattle.pay_kept.specs.declared.fault.KeptFault.TheVariants as kept
 use Rattle.pay_session.specs.declared.sessions.Done.{Done}
 use Rattle.pay_session.specs.declared.stop.SessionFault.{SessionFault}
 use Rattle.pay_session.specs.declared.stop.SessionFault.TheVariants.{Read, Write}
@@ -54,6 +56,11 @@ IsUnread (ledger_fault.Refused _) fault = IsRefusal fault 45 (codes "BadArchive"
 abbrev pub IsReplayFault : ReplayFault → Fault → Type 0
 IsReplayFault (replaying.Line line why) fault = fault ≡ JournalLine line why
 IsReplayFault replaying.Memory fault = IsWantOfMemory fault
+
+-- why accounts do not come to the same by what is kept beside their journal
+abbrev pub IsKeptFault : KeptFault → Fault → Type 0
+IsKeptFault kept.Memory fault = IsWantOfMemory fault
+IsKeptFault other fault = fault ≡ Kept other
 
 -- what kept the journeys of a week from being told
 abbrev pub IsWeekFault : WeekFault → Fault → Type 0

@@ -1,4 +1,5 @@
 pub mod Faults
+pub mod Kept
 pub mod Replays
 pub mod Run
 pub mod Statement

@@ -1,12 +1,13 @@
 //! Why the program fails, and the status that it ends with.
 ghost use Rattle.std.specs.Prelude.{◌≡◌};
-ghost use Rattle.pay_jobs.specs.Faults.{IsRefusal, IsWantOfMemory, IsUnread, IsReplayFault, IsWeekFault, status_of, stream_fault};
+ghost use Rattle.pay_jobs.specs.Faults.{IsKeptFault, IsRefusal, IsReplayFault, IsUnread, IsWantOfMemory, IsWeekFault, status_of, stream_fault};
 ghost use Rattle.pay_fare_file.specs.Words.{fault_number, fault_name};
 ghost use Rattle.pay_ledger.specs.Words.{open_fault_number, open_fault_name};
 
 use crate::lacked::Lacked;
 use pay_fare_file::FareFileFault;
 use pay_journal::ReplayFault;
+use pay_kept::KeptFault;
 use pay_ledger::{LedgerFault, OpenFault};
 use pay_rules::PostFault;
 use pay_run::WeekFault;
@@ -42,6 +43,15 @@ pub enum Fault {
     /// The journal cannot be opened or read.
     #[error("farebox: cannot use journal")]
     CannotUseJournal,
+    /// What is kept beside a journal cannot be read, or is no text.
+    #[error("farebox: cannot read the journal's fares")]
+    CannotReadKeptFares,
+    /// What the journal gives back does not come to the same by what is kept beside it.
+    #[error("farebox: {0}")]
+    Kept(KeptFault),
+    /// Days of the journal were closed into a ledger, and this one is new.
+    #[error("farebox: a new ledger beside a journal that had one")]
+    NewLedger,
     /// The line of this number of the journal, from 1, is not accepted.
     #[error("farebox: journal line {line}: {why}")]
     JournalLine {
@@ -170,6 +180,17 @@ impl From<WeekFault> for Fault {
             WeekFault::Broken { .. } => Fault::Input,
             WeekFault::NotAccepted { line, why } => Fault::JournalLine { line, why },
             WeekFault::Memory => Fault::from(AllocError),
+        }
+    }
+}
+
+impl From<KeptFault> for Fault {
+    ghost from_gives = { λ of fault. IsKeptFault of fault };
+
+    fn from(fault: KeptFault) -> Fault {
+        match fault {
+            KeptFault::Memory => Fault::from(AllocError),
+            other => Fault::Kept(other),
         }
     }
 }

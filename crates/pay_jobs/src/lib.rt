@@ -6,6 +6,7 @@
 
 mod begun;
 mod fault;
+mod kept;
 mod lacked;
 mod ledger;
 mod output;
@@ -15,10 +16,12 @@ mod statement;
 
 pub use begun::{Begun, FaresAndZone};
 pub use fault::Fault;
+pub use kept::compare_texts;
 pub use lacked::Lacked;
 pub use ledger::take_with;
 pub use pay_book::Book;
 pub use pay_journal::{Keeper, LineKeeper, NoKeeper, NotKept, whole_bytes};
+pub use pay_kept::{has_ledger, kept_text};
 pub use pay_ledger::Ledger;
 pub use pay_ledger_files::{Ledgers, new_ledger};
 pub use pay_run::Ran;

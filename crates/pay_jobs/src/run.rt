@@ -1,6 +1,6 @@
 //! The job `run`, by the texts of its fare file and its zone, and its journal: all that the program does below the reading of files. It has
 //! two steps, [`begin`] and [`Begun::run`], between which the caller opens the ledger.
-ghost use Rattle.std.specs.Prelude.{◌≡◌, false, nat_lt, None, Some, Ok, IfOk, IfErr, OnErr};
+ghost use Rattle.std.specs.Prelude.{◌≡◌, false, nat_lt, None, Some, Ok, IfOk, IfErr, OnOk, OnErr};
 ghost use Rattle.std.specs.Arc.{arc_value};
 ghost use Rattle.jiff.specs.Placed.{IsPosixZone};
 ghost use Rattle.jiff.specs.Words.{read_whole};
@@ -8,12 +8,15 @@ ghost use Rattle.jiff.specs.ZoneView.{plain_zone};
 ghost use Rattle.pay_fare_file.specs.Words.{fare_text};
 ghost use Rattle.pay_session.specs.Words.{IsBroken, IsLastFill, ShowsNothing};
 ghost use Rattle.pay_run.specs.Words.{after, before, whole_bytes, with_ledger_in, without_ledger};
+ghost use Rattle.pay_kept.specs.Words.{IsAsKept};
 ghost use Rattle.pay_jobs.specs.Faults.{told_of};
+ghost use Rattle.pay_jobs.specs.Kept.{IsOtherThanKept};
 ghost use Rattle.pay_jobs.specs.Run.{AreNotRead, AreRead, HasBegun, HasNotRun, HasRun, IsNotBegun, IsRefused};
 ghost use Rattle.pay_jobs.specs.Texts.{Texts, texts};
 
 use crate::begun::{Begun, FaresAndZone};
 use crate::fault::Fault;
+use crate::kept::compare_with;
 use crate::ledger::take_with;
 use jiff::tz::TimeZone;
 use pay_book::Book;
@@ -54,6 +57,14 @@ impl Begun {
         ensures syncs { result.syncs ≡ syncs }
     {
         LineKeeper::begin(writer, self.replayed.bytes, syncs)
+    }
+
+    /// That the accounts come to the same by what is kept beside the journal, which is to be with the zone of a text; or why not.
+    pub fn compare(&self, alloc: Global, zone: &str, kept: &str) -> Result<(), Fault>
+        ensures alike { OnOk result (IsAsKept kept.now zone.now self.now.desk.shard) }
+        ensures other { IfErr result (IsOtherThanKept kept.now zone.now self.now.desk.shard) }
+    {
+        compare_with(alloc, self.desk.shard(), zone, kept)
     }
 
     /// The second step: answers the lines of a reader, beginning with what the journal gives back, and closes days into the ledger that was

@@ -6,4 +6,4 @@ mod fault;
 mod service;
 
 pub use pay_serve::{Given, Plan};
-pub use service::{serve, serve_without_ledger};
+pub use service::{serve, serve_without_ledger, take_given};

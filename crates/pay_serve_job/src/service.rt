@@ -40,7 +40,7 @@ fn tell_ports<R: Eprint>(rt: &R, plan: &Plan) {
 }
 
 /// Takes a ledger with the accounts that the journals of a service give back. These are let go again before the service begins.
-fn take_given<S: Alter>(
+pub fn take_given<S: Alter>(
     alloc: Global,
     editions: &Arc<Editions>,
     zone: &TimeZone<'_>,
