@@ -4,7 +4,6 @@ use Rattle.std.specs.FinMap.{entries, values, len-entries}
 use Rattle.std.specs.List.{AllByRecursion}
 use Rattle.std.proofs.lemmas.List.{length-map}
 use Rattle.sqlite_keyed.proofs.ListLemmas.{all_weaker, all-slice_get}
-use Rattle.pay_day.specs.Words.{monday}
 use Rattle.pay_tables.specs.Words.{FareEditions}
 use Rattle.pay_rules.specs.declared.tap.Tap.{Tap}
 use Rattle.pay_rules.specs.declared.fix.Fix.{Fix}
@@ -18,7 +17,7 @@ use Rattle.pay_postings.specs.Words.{LedgerParts, ArchivedParts, archived_of, ta
 use Rattle.pay_ledger.specs.Words.{PassesIn, AllPass}
 use Rattle.pay_audit.specs.declared.difference.Difference.{Difference}
 use Rattle.pay_audit.specs.declared.difference.Difference.TheVariants.{Tap as OfTap, Fix as OfFix, Posting as OfPosting}
-use Rattle.pay_audit.specs.Differs.{IsFirstNot, IsOtherItem, IsPostedOtherwise, Differs, DiffersIn}
+use Rattle.pay_audit.specs.Differs.{IsFirstNot, IsOtherItem, ArePostedSo, IsPostedSo, IsPostedOtherwise, Differs, DiffersIn}
 use Rattle.pay_audit.proofs.Lists.{all_of_map, each_own, own_filtered, all_to_map}
 
 -- what was posted for the version that an account has is kept for its quote, or not
@@ -33,16 +32,13 @@ counted account accepted its taps fixes is of_taps of_fixes =
     (ap length (of_fixes ∙ ap (λ (s : SetsParts). s.fixes) is) ∙ length-map (entries accepted.fixes) (λ (e : (ℕ × ℕ) × Fix). e.1) ∙ sym (len-entries accepted.fixes))
 
 module _ (editions : FareEditions) (account : ℕ) (accepted : Accepted) where
-  abbrev pub IsSo : Posting → Type 0
-  IsSo p = (is_posted_so editions account accepted p ≡ true) × (p.quote.week ≡ monday p.quote.through)
-
   -- an account agrees where nothing differs
   pub agrees : {X Y : Type 0} (item : Option X) (posting : Option Y) (its : SetsParts) (archived : ArchivedParts) (postings : List Posting) → its ≡ sets account accepted → postings ≡ archived.postings → item ≡ None
-      → IfNone item (AllByRecursion (IsRowOf tap_row its.taps) archived.taps) → IfNone item (AllByRecursion (IsRowOf fix_row its.fixes) archived.fixes) → IfNone posting (AllByRecursion IsSo postings)
+      → IfNone item (AllByRecursion (IsRowOf tap_row its.taps) archived.taps) → IfNone item (AllByRecursion (IsRowOf fix_row its.fixes) archived.fixes) → IfNone posting (ArePostedSo editions account accepted postings)
       → IfNone posting (AccountAgrees editions account accepted archived)
   agrees item (Some y) its archived postings is are none taps fixes posted = tt
   agrees {X} item None its archived postings is are none taps fixes posted = record {
-    postings = subst (AllByRecursion IsSo) are posted;
+    postings = subst (ArePostedSo editions account accepted) are posted;
     taps = subst (λ (s : SetsParts). AllByRecursion (IsRowOf tap_row s.taps) archived.taps) is (subst (λ (o : Option X). IfNone o (AllByRecursion (IsRowOf tap_row its.taps) archived.taps)) none taps);
     fixes = subst (λ (s : SetsParts). AllByRecursion (IsRowOf fix_row s.fixes) archived.fixes) is (subst (λ (o : Option X). IfNone o (AllByRecursion (IsRowOf fix_row its.fixes) archived.fixes)) none fixes);
   }
@@ -77,8 +73,8 @@ module _ (editions : FareEditions) (state : State) (ledger : LedgerParts) where
 
   pub all_agree : AllPass Agrees ledger → AgreesWith editions state ledger
   all_agree pass = record {
-    postings = each_own (λ (p : Posting). p.quote.account) (λ account. IsSo editions account (accepted_of state account)) ledger.postings
-        (all_weaker (λ (p : Posting). PassesIn Agrees ledger p.quote.account) (λ (p : Posting). AllByRecursion (IsSo editions p.quote.account (accepted_of state p.quote.account)) (of_account p.quote.account ledger.postings)) (λ p h. h.1.postings) ledger.postings pass.posted);
+    postings = each_own (λ (p : Posting). p.quote.account) (λ account. IsPostedSo editions account (accepted_of state account)) ledger.postings
+        (all_weaker (λ (p : Posting). PassesIn Agrees ledger p.quote.account) (λ (p : Posting). AllByRecursion (IsPostedSo editions p.quote.account (accepted_of state p.quote.account)) (of_account p.quote.account ledger.postings)) (λ p h. h.1.postings) ledger.postings pass.posted);
     taps = each_own (λ (t : Tap). t.account) (λ account t. IsRowOf tap_row (values (accepted_of state account).taps) (tap_row t)) ledger.taps
         (all_weaker (λ (t : Tap). PassesIn Agrees ledger t.account) (λ (t : Tap). AllByRecursion (λ (other : Tap). IsRowOf tap_row (values (accepted_of state t.account).taps) (tap_row other)) (filter (λ (other : Tap). other.account == t.account) ledger.taps))
         (λ t h. all_of_map (IsRowOf tap_row (values (accepted_of state t.account).taps)) tap_row _ h.1.taps) ledger.taps pass.tapped);
@@ -105,8 +101,8 @@ module _ (editions : FareEditions) (state : State) (ledger : LedgerParts) where
         (all_to_map fix_row (IsRowOf fix_row (values (accepted_of state account).fixes)) (fixes_of account ledger.fixes) (own_filtered (λ (f : Fix). f.account) (λ a f. IsRowOf fix_row (values (accepted_of state a).fixes) (fix_row f)) account ledger.fixes agree.fixes))
     one_agrees_not (OfPosting week through) other =
         not_all (λ p. is_posted_so editions account (accepted_of state account) p ≡ true) (of_account account ledger.postings) other.2.0 other.2.1
-        (all_weaker (IsSo editions account (accepted_of state account)) (λ p. is_posted_so editions account (accepted_of state account) p ≡ true) (λ p so. so.0) (of_account account ledger.postings)
-        (own_filtered (λ (p : Posting). p.quote.account) (λ a. IsSo editions a (accepted_of state a)) account ledger.postings agree.postings))
+        (all_weaker (IsPostedSo editions account (accepted_of state account)) (λ p. is_posted_so editions account (accepted_of state account) p ≡ true) (λ p so. so.0) (of_account account ledger.postings)
+        (own_filtered (λ (p : Posting). p.quote.account) (λ a. IsPostedSo editions a (accepted_of state a)) account ledger.postings agree.postings))
 
   pub agrees_not : (found : Option (ℕ × Difference)) → IfSome found (DiffersIn editions state ledger) → IfSome found (λ _. AgreesWith editions state ledger → ⊥)
   agrees_not None differs = tt

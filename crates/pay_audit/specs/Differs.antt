@@ -5,6 +5,7 @@ use Rattle.std.specs.List.{AllByRecursion}
 use Rattle.std.proofs.Common.{zero, suc, sym, ap, ap₂, ◌∙◌, arith}
 use Rattle.std.proofs.lemmas.Bool.{ne_eqb, le-ltb, true≢false}
 use Rattle.std.proofs.lemmas.Int.{ints}
+use Rattle.pay_day.specs.Words.{monday}
 use Rattle.pay_tables.specs.Words.{FareEditions}
 use Rattle.pay_rows.specs.declared.row.TapRow.{TapRow}
 use Rattle.pay_rules.specs.declared.tap.Kind.TheVariants.{Bus}
@@ -36,6 +37,14 @@ IsOtherItem its archived (OfPosting week through) = ⊥
 
 -- Beside what an account has accepted.
 module _ (editions : FareEditions) (account : ℕ) (accepted : Accepted) where
+  -- a posting is so, and is of the week of its day
+  abbrev pub IsPostedSo : Posting → Type 0
+  IsPostedSo p = (is_posted_so editions account accepted p ≡ true) × (p.quote.week ≡ monday p.quote.through)
+
+  -- each of these postings is so
+  abbrev pub ArePostedSo : List Posting → Type 0
+  ArePostedSo = AllByRecursion IsPostedSo
+
   -- the first of these postings that is not so is of this week through this day
   abbrev pub IsPostedOtherwise : List Posting → ℕ → ℕ → Type 0
   IsPostedOtherwise postings week through =

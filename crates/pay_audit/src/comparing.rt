@@ -1,7 +1,6 @@
 //! One account beside what a ledger has of it.
 ghost use Rattle.std.specs.Prelude.{◌≡◌, ◌≤◌, ◌↔◌, true, List, [], IfNone, IfSome, IfOk};
 ghost use Rattle.std.specs.List.{AllByRecursion};
-ghost use Rattle.pay_day.specs.Words.{monday};
 ghost use Rattle.pay_rules.specs.declared.limits.TheConstants.{MOST_TAPS, MOST_FIXES};
 ghost use Rattle.pay_rules.specs.Taps.{number as tap_number};
 ghost use Rattle.pay_rules.specs.Fixes.{number as fix_number};
@@ -9,7 +8,7 @@ ghost use Rattle.pay_rules.specs.SetsParts.{AreNumbered};
 ghost use Rattle.pay_rules.specs.Accepted.{version as version_of};
 ghost use Rattle.pay_set_rows.specs.SetRows.{tap_row, tap_from_row, fix_row, fix_from_row};
 ghost use Rattle.pay_postings.specs.Words.{parts, is_posted_so, IsRowOf, AccountAgrees};
-ghost use Rattle.pay_audit.specs.Differs.{IsOther, IsOtherItem, Differs};
+ghost use Rattle.pay_audit.specs.Differs.{IsOther, IsOtherItem, ArePostedSo, Differs};
 
 use crate::difference::Difference;
 use pay_postings::{Archived, is_kept};
@@ -121,7 +120,7 @@ fn other_posting<F: Fares>(
     requires numbered { 1 ≤ F.account account.now }
     requires priced_by { F.IsPricedBy editions.now account.now }
     requires version { version ≡ version_of (F.accepted account.now) }
-    ensures agree { IfOk result (λ it. IfNone it (AllByRecursion (λ p. (is_posted_so editions.now (F.account account.now) (F.accepted account.now) p ≡ true) × (p.quote.week ≡ monday p.quote.through)) postings.now)) }
+    ensures agree { IfOk result (λ it. IfNone it (ArePostedSo editions.now (F.account account.now) (F.accepted account.now) postings.now)) }
     ensures differs { IfOk result (λ it. IfSome it (Differs editions.now (F.account account.now) (F.accepted account.now) (record { postings = postings.now; taps = []; fixes = [] }))) }
 {
     for posting in postings {
