@@ -1,5 +1,5 @@
 //! The fare file and the zone that are kept beside a journal, as a file.
-ghost use Rattle.std.specs.Prelude.{◌≡◌, true, IfOk, OnErr};
+ghost use Rattle.std.specs.Prelude.{◌≡◌, true, OnErr};
 
 use crate::errors::memory_or;
 use crate::journal::{OWNER_ALONE, is_new_ledger, settle_folder_of};
@@ -162,13 +162,25 @@ pub struct FaresFirst<K, R> {
     keeper: K,
     rt: R,
     fares: KeptFares,
-    /// Where the text is written before it takes the place of the old one, in the same folder.
-    aside: String,
     is_kept: bool,
     has_failed: bool,
 }
 
-impl<K: Keeper, R: Files<File = File> + Eprint + Copy> FaresFirst<K, R> {
+impl<K: Keeper, R: Files<File = File> + Eprint + AllocGlobal + Copy> FaresFirst<K, R> {
+    /// The keeper of the lines of one journal, so that it keeps the fare file and the zone first.
+    pub fn over(rt: R, keeper: K, fares: KeptFares) -> FaresFirst<K, R>
+        ensures { result.keeper ≡ keeper }
+    {
+        let is_kept = fares.is_there();
+        FaresFirst {
+            keeper,
+            rt,
+            fares,
+            is_kept,
+            has_failed: false,
+        }
+    }
+
     /// Keeps the fare file and the zone, unless they are kept.
     fn keep_fares(&mut self) -> Result<(), NotKept>
         ensures same { self.new.keeper ≡ self.old.keeper }
@@ -177,14 +189,12 @@ impl<K: Keeper, R: Files<File = File> + Eprint + Copy> FaresFirst<K, R> {
         if self.is_kept {
             return Ok(());
         }
-        let (rt, path) = (&self.rt, self.fares.path.as_str());
-        match replace(rt, path, self.aside.as_str(), self.fares.text.as_str()) {
+        match self.fares.keep(&self.rt) {
             Ok(()) => {
                 self.is_kept = true;
                 Ok(())
             }
             Err(_) => {
-                let _ = eprintln!(rt; "farebox: cannot keep fares in {path}");
                 self.has_failed = true;
                 Err(NotKept)
             }
@@ -199,28 +209,7 @@ fn copy_of(alloc: Global, text: &str) -> Result<String, AllocError> {
     Ok(copy)
 }
 
-/// The keeper of the lines of one journal, so that it keeps the fare file and the zone first.
-pub fn fares_before<K: Keeper, R: Files<File = File> + Eprint + AllocGlobal + Copy>(
-    rt: R,
-    keeper: K,
-    fares: KeptFares,
-) -> Result<FaresFirst<K, R>, AllocError>
-    ensures { IfOk result (λ it. it.keeper ≡ keeper) }
-{
-    let is_kept = fares.is_there();
-    let mut aside = copy_of(rt.alloc(), fares.path.as_str())?;
-    aside.push_str(".tmp")?;
-    Ok(FaresFirst {
-        keeper,
-        rt,
-        fares,
-        aside,
-        is_kept,
-        has_failed: false,
-    })
-}
-
-impl<K: Keeper, R: Files<File = File> + Eprint + Copy> Keeper for FaresFirst<K, R> {
+impl<K: Keeper, R: Files<File = File> + Eprint + AllocGlobal + Copy> Keeper for FaresFirst<K, R> {
     ghost use Rattle.std.specs.Prelude.{◌≡◌, ◌⊎◌, true};
 
     ghost holds = { λ k. K.holds k.keeper };

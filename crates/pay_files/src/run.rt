@@ -2,7 +2,7 @@
 
 use crate::input::{fares_text, is_input_a_file, print_warnings};
 use crate::journal::{JournalFile, open_journal, ready_ledger};
-use crate::kept::{fares_before, file_of, kept_beside};
+use crate::kept::{FaresFirst, file_of, kept_beside};
 use pay_jobs::{
     Begun, Book, Disk, Fault, FileStore, Keeper, Ledger, Ledgers, NoKeeper, Ran, Wary, begin,
     new_ledger, told,
@@ -93,7 +93,7 @@ where
     if let Some(ledger) = words.ledger {
         kept.refuse_new_ledger(rt, ledger)?;
     }
-    let keeper = fares_before(*rt, begun.keeper(file, words.syncs), kept)?;
+    let keeper = FaresFirst::over(*rt, begun.keeper(file, words.syncs), kept);
     match words.ledger {
         None => end(Ok(begun.run_without_ledger(keeper, reader, &mut io::writer(rt)))),
         Some(path) => run_in_file(rt, path, begun, keeper, reader),
