@@ -41,6 +41,7 @@ fn prints_why_a_line_is_refused(rt: HostRuntime) {
             (Refusal::ArchiveConflict, "46 ArchiveConflict"),
             (Refusal::QuoteDiffers, "47 QuoteDiffers"),
             (Refusal::NotKept, "48 NotKept"),
+            (Refusal::NotOver, "49 NotOver"),
             (Refusal::BadLine, "50 BadLine"),
             (Refusal::LongLine, "51 LongLine"),
             (Refusal::Late, "52 Late"),

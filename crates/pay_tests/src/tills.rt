@@ -92,6 +92,7 @@ impl Prepared<'_> {
                     Refusal::BadArchive => Refusal::BadArchive,
                     Refusal::ArchiveConflict => Refusal::ArchiveConflict,
                     Refusal::QuoteDiffers => Refusal::QuoteDiffers,
+                    Refusal::NotOver => Refusal::NotOver,
                     Refusal::Memory => Refusal::Memory,
                     _ => Refusal::NotHere,
                 }
@@ -119,23 +120,24 @@ impl Till for Prepared<'_> {
 }
 
 /// The faults at the closes after the first, which posts.
-static FAULTS: [Refusal; 7] = [
+static FAULTS: [Refusal; 8] = [
     Refusal::NotHere,
     Refusal::StaleQuote,
     Refusal::Store,
     Refusal::BadArchive,
     Refusal::ArchiveConflict,
     Refusal::QuoteDiffers,
+    Refusal::NotOver,
     Refusal::Memory,
 ];
 
 /// A command for each of the desk's replies, a close for each of the till's, and the end.
 const LINES: &str =
-    "DUE 7 19730\nDUE 7 19730\nTAP 1 1 7 1704697200 50 BUS\nSHOW 7 19730\nSHOW 7 19730\nCLOSE 19730\nCLOSE 19730\nCLOSE 19730\nCLOSE 19730\nCLOSE 19730\nCLOSE 19730\nCLOSE 19730\nCLOSE 19730\nQUIT\n";
+    "DUE 7 19730\nDUE 7 19730\nTAP 1 1 7 1704697200 50 BUS\nSHOW 7 19730\nSHOW 7 19730\nCLOSE 19730\nCLOSE 19730\nCLOSE 19730\nCLOSE 19730\nCLOSE 19730\nCLOSE 19730\nCLOSE 19730\nCLOSE 19730\nCLOSE 19730\nQUIT\n";
 
 /// The replies.
 const REPLIES: &str =
-    "NO 30 Busy\nNO 31 Window\nNO 52 Late\nNO 90 Memory\nNO 90 Memory\nPAY 7 19730 19730 1 175 175 4=175\nPAY 8 19730 19730 1 175 -25 1=-20 4=-5\nDONE 19730 2\nNO 34 NotHere\nNO 42 StaleQuote\nNO 43 Store\nNO 45 BadArchive\nNO 46 ArchiveConflict\nNO 47 QuoteDiffers\nNO 90 Memory\nBYE\n";
+    "NO 30 Busy\nNO 31 Window\nNO 52 Late\nNO 90 Memory\nNO 90 Memory\nPAY 7 19730 19730 1 175 175 4=175\nPAY 8 19730 19730 1 175 -25 1=-20 4=-5\nDONE 19730 2\nNO 34 NotHere\nNO 42 StaleQuote\nNO 43 Store\nNO 45 BadArchive\nNO 46 ArchiveConflict\nNO 47 QuoteDiffers\nNO 49 NotOver\nNO 90 Memory\nBYE\n";
 
 /// What is posted for a boarding of an account.
 fn posting<R: Abort + AllocGlobal>(
@@ -231,18 +233,18 @@ fn lines_until<'a>(until: usize) -> Trickle<'a> {
 /// What all lines come to.
 const ALL: Ended = Ended {
     result: Ok(Done {
-        answered: 14,
+        answered: 15,
         quit: true,
         lacked_memory: true,
     }),
     asked: 5,
-    closes: 8,
+    closes: 9,
 };
 
 #[test]
 fn says_what_a_desk_and_a_till_say(rt: HostRuntime) {
     let writer = Scripted::new(rt.alloc(), &[]);
-    expect_ended(&rt, lines_until(usize::MAX), writer, ALL, 265);
+    expect_ended(&rt, lines_until(usize::MAX), writer, ALL, 279);
 }
 
 #[test]
@@ -256,7 +258,7 @@ fn closes_where_it_was_interrupted(rt: HostRuntime) {
         most: 5,
         ..Scripted::new(rt.alloc(), &[])
     };
-    expect_ended(&rt, reader, writer, ALL, 265);
+    expect_ended(&rt, reader, writer, ALL, 279);
 }
 
 /// The reader fails after so many bytes: the lines before are answered, and no other is asked for.
@@ -285,7 +287,7 @@ fn closes_until_the_reader_fails(rt: HostRuntime) {
     expect_read_fault(&rt, 52, 3, 35, 0);
     expect_read_fault(&rt, 89, 5, 61, 0);
     expect_read_fault(&rt, 90, 6, 147, 1);
-    expect_read_fault(&rt, 175, 13, 261, 8);
+    expect_read_fault(&rt, 187, 14, 275, 9);
 }
 
 /// The writer fails after so many bytes: the next line was asked for, and the lines after it were not.

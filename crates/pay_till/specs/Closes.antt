@@ -27,7 +27,8 @@ abbrev pub brings_quotes : Option Answer → Bool
 brings_quotes (Some answer) = gives_quotes answer.reply
 brings_quotes None = false
 
--- whether a close may be refused so: nothing is closed here, the quotes did not come, the ledger refuses, or memory ran out
+-- whether a close may be refused so: nothing is closed here, the day is not over, the quotes did not come, the ledger refuses, or
+-- memory ran out
 abbrev pub is_of_close : Refusal → Bool
 is_of_close refusal.NotHere = true
 is_of_close refusal.StaleQuote = true
@@ -36,6 +37,7 @@ is_of_close refusal.DeskFault = true
 is_of_close refusal.BadArchive = true
 is_of_close refusal.ArchiveConflict = true
 is_of_close refusal.QuoteDiffers = true
+is_of_close refusal.NotOver = true
 is_of_close refusal.Memory = true
 is_of_close _ = false
 

@@ -25,7 +25,8 @@ pub trait Till: Drop {
 
     /// Closes a service day, counted from 1970-01-01, over a desk: nothing is put but Quotes of that day, one for each shard in
     /// order, as far as it comes, and each is got. It answers `DeskFault` only where the desk took one of them not, or some
-    /// brought no quotes. Its refusal is the line's: `NotHere`, `DeskFault`, `Memory`, or one of a ledger (42, 43, 45 to 47).
+    /// brought no quotes. Its refusal is the line's: `NotHere`, `NotOver`, `DeskFault`, `Memory`, or one of a ledger (42, 43, 45 to
+    /// 47).
     fn close<D: Desk>(&mut self, desk: &mut D, day: u32) -> Result<Postings, Refusal>
         requires { (FIRST_DAY ≤ day) × (day ≤ LAST_DAY) }
         ensures closed { IsClosedAt D.parts desk.old desk.new day (λ of put answer. Closes self.old day of put answer self.new) result }

@@ -9,7 +9,7 @@ use Rattle.std.proofs.lemmas.Fmt.{decimal_injective, signed_decimal_injective}
 use Rattle.std.proofs.lemmas.List.{length-append}
 use Rattle.std.proofs.lemmas.List.Splits.{join_with_byte-slice_split}
 use Rattle.pay_wire.specs.declared.refusal.Refusal.{Refusal}
-use Rattle.pay_wire.specs.declared.refusal.Refusal.TheVariants.{OutOfTime, UnknownPlace, Conflict, AccountFull, FixConflict, FixesFull, Busy, Window, NotHere, StaleQuote, Store, DeskFault, BadArchive, ArchiveConflict, QuoteDiffers, NotKept, BadLine, LongLine, Late, Memory}
+use Rattle.pay_wire.specs.declared.refusal.Refusal.TheVariants.{OutOfTime, UnknownPlace, Conflict, AccountFull, FixConflict, FixesFull, Busy, Window, NotHere, StaleQuote, Store, DeskFault, BadArchive, ArchiveConflict, QuoteDiffers, NotKept, NotOver, BadLine, LongLine, Late, Memory}
 use Rattle.pay_rules.specs.declared.priced.Priced.{Priced}
 use Rattle.pay_rules.specs.declared.posting.Posting.{Posting}
 use Rattle.pay_rules.specs.QuoteParts.{QuoteParts}
@@ -43,6 +43,7 @@ name_visible BadArchive = refl
 name_visible ArchiveConflict = refl
 name_visible QuoteDiffers = refl
 name_visible NotKept = refl
+name_visible NotOver = refl
 name_visible BadLine = refl
 name_visible LongLine = refl
 name_visible Late = refl
@@ -65,6 +66,7 @@ number_small BadArchive = omega arith
 number_small ArchiveConflict = omega arith
 number_small QuoteDiffers = omega arith
 number_small NotKept = omega arith
+number_small NotOver = omega arith
 number_small BadLine = omega arith
 number_small LongLine = omega arith
 number_small Late = omega arith
@@ -127,7 +129,7 @@ refusal_at n =
     if n == 1 then OutOfTime else if n == 15 then UnknownPlace else if n == 20 then Conflict else if n == 21 then AccountFull else
     if n == 22 then FixConflict else if n == 23 then FixesFull else if n == 30 then Busy else if n == 31 then Window else
     if n == 34 then NotHere else if n == 42 then StaleQuote else if n == 43 then Store else if n == 44 then DeskFault else
-    if n == 45 then BadArchive else if n == 46 then ArchiveConflict else if n == 47 then QuoteDiffers else if n == 48 then NotKept else if n == 50 then BadLine else
+    if n == 45 then BadArchive else if n == 46 then ArchiveConflict else if n == 47 then QuoteDiffers else if n == 48 then NotKept else if n == 49 then NotOver else if n == 50 then BadLine else
     if n == 51 then LongLine else if n == 52 then Late else Memory
 
 refusal_again : (r : Refusal) → refusal_at (refusal_number r) ≡ r
@@ -148,6 +150,7 @@ refusal_again BadArchive = refl
 refusal_again ArchiveConflict = refl
 refusal_again QuoteDiffers = refl
 refusal_again NotKept = refl
+refusal_again NotOver = refl
 refusal_again BadLine = refl
 refusal_again LongLine = refl
 refusal_again Late = refl

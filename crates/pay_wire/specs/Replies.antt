@@ -5,7 +5,7 @@ use Rattle.std.specs.Int.Signed.{mag}
 use Rattle.std.specs.Str.{bytes_eq}
 use Rattle.std.specs.List.{join_with_byte, flat_map, AllByRecursion}
 use Rattle.pay_wire.specs.declared.refusal.Refusal.{Refusal}
-use Rattle.pay_wire.specs.declared.refusal.Refusal.TheVariants.{OutOfTime, UnknownPlace, Conflict, AccountFull, FixConflict, FixesFull, Busy, Window, NotHere, StaleQuote, Store, DeskFault, BadArchive, ArchiveConflict, QuoteDiffers, NotKept, BadLine, LongLine, Late, Memory}
+use Rattle.pay_wire.specs.declared.refusal.Refusal.TheVariants.{OutOfTime, UnknownPlace, Conflict, AccountFull, FixConflict, FixesFull, Busy, Window, NotHere, StaleQuote, Store, DeskFault, BadArchive, ArchiveConflict, QuoteDiffers, NotKept, NotOver, BadLine, LongLine, Late, Memory}
 use Rattle.pay_rules.specs.declared.priced.Priced.{Priced}
 use Rattle.pay_rules.specs.declared.posting.Posting.{Posting}
 use Rattle.pay_rules.specs.QuoteParts.{QuoteParts}
@@ -36,6 +36,7 @@ refusal_number BadArchive = 45
 refusal_number ArchiveConflict = 46
 refusal_number QuoteDiffers = 47
 refusal_number NotKept = 48
+refusal_number NotOver = 49
 refusal_number BadLine = 50
 refusal_number LongLine = 51
 refusal_number Late = 52
@@ -59,6 +60,7 @@ refusal_name BadArchive = codes "BadArchive"
 refusal_name ArchiveConflict = codes "ArchiveConflict"
 refusal_name QuoteDiffers = codes "QuoteDiffers"
 refusal_name NotKept = codes "NotKept"
+refusal_name NotOver = codes "NotOver"
 refusal_name BadLine = codes "BadLine"
 refusal_name LongLine = codes "LongLine"
 refusal_name Late = codes "Late"

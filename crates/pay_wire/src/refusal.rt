@@ -55,6 +55,9 @@ pub enum Refusal {
     /// 48: the line could not be kept.
     #[error("48 NotKept")]
     NotKept,
+    /// 49: the day is not over yet, so that it is not closed.
+    #[error("49 NotOver")]
+    NotOver,
     /// 50: the line spells no command.
     #[error("50 BadLine")]
     BadLine,
@@ -91,6 +94,7 @@ impl Refusal {
             Refusal::ArchiveConflict => 46,
             Refusal::QuoteDiffers => 47,
             Refusal::NotKept => 48,
+            Refusal::NotOver => 49,
             Refusal::BadLine => 50,
             Refusal::LongLine => 51,
             Refusal::Late => 52,
@@ -120,6 +124,7 @@ impl Refusal {
             Refusal::ArchiveConflict => "ArchiveConflict",
             Refusal::QuoteDiffers => "QuoteDiffers",
             Refusal::NotKept => "NotKept",
+            Refusal::NotOver => "NotOver",
             Refusal::BadLine => "BadLine",
             Refusal::LongLine => "LongLine",
             Refusal::Late => "Late",
