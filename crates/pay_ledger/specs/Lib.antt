@@ -5,6 +5,7 @@ pub mod Stores
 pub mod Opening
 pub mod Steps
 pub mod Examined
+pub mod Last
 pub mod Calls
 pub mod WorkedRows
 pub mod Words

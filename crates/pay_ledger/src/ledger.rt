@@ -10,6 +10,7 @@ ghost use Rattle.pay_restore.specs.Words.{restored};
 ghost use Rattle.pay_records.specs.Words.{OnCleanDisk, LeavesAsBeforeOr, LeavesAsBefore, Answers, IsFree};
 ghost use Rattle.pay_ledger.specs.Opening.{HasNoView, IsWhy, IsOpened, BlankJustGrows, MayLeaveOpened};
 ghost use Rattle.pay_ledger.specs.Steps.{IsOnDisk, Posts, MayLeave};
+ghost use Rattle.pay_ledger.specs.Last.{has_posting};
 ghost use Rattle.pay_ledger.specs.Examined.{AllPass, AllPassRows, PassBefore, PassRowsBefore, IsFoundIn, IsFoundInRows};
 ghost use Rattle.pay_ledger.specs.BadRows.{ReadsAs, net_said, asked};
 ghost use Rattle.pay_ledger.specs.Calls.{ChangesNothing, ChangesNothingIfRefused, AnswersOfLedger, AnswersOfRows, AnswersOfReadable, FailsByStoreAlone, RefusesAsDefined, RefusesOpenAlone, RefusesBadRows, RefusesBadAmounts, RefusesBadRowsFirst, AreAccountsOf, RestoresRows, RestoresLedger};
@@ -17,6 +18,7 @@ ghost use Rattle.pay_ledger.specs.Calls.{ChangesNothing, ChangesNothingIfRefused
 use crate::crashes::settled;
 use crate::examining::{Examiner, examine};
 use crate::fault::{LedgerFault, OpenFault};
+use crate::last::{LastPosting, is_among};
 use crate::lookup::{Archive, archive_of, net_of, of_week, posted_of};
 use crate::opening::prepare;
 use crate::post::post;
@@ -31,6 +33,7 @@ use std::marker::Model;
 pub struct Ledger<S: Alter> {
     alloc: Global,
     conn: Connection<S>,
+    last: Option<LastPosting>,
 }
 
 impl<S: Alter> Model for Ledger<S> {
@@ -84,7 +87,11 @@ impl<S: Alter> Ledger<S> {
         match prepare(&mut conn) {
             Ok(()) => {
                 settled(&conn);
-                Ok(Ledger { alloc, conn })
+                Ok(Ledger {
+                    alloc,
+                    conn,
+                    last: None,
+                })
             }
             Err(fault) => Err((fault, conn)),
         }
@@ -102,7 +109,12 @@ impl<S: Alter> Ledger<S> {
         ensures unchanged { ChangesNothingIfRefused S.Store self.old self.new result }
         ensures survives { LeavesAsBeforeOr S.Store self.old self.new (λ old. MayLeave old quotes.now sets.now) }
     {
-        post(self.alloc, &mut self.conn, quotes, sets)
+        post(self.alloc, &mut self.conn, quotes, sets, &mut self.last)
+    }
+
+    /// The last posting that was made since the ledger was opened.
+    pub fn last_posting(&self) -> Option<LastPosting> {
+        self.last
     }
 
     /// The postings of an account and a week, which its Monday names, in the order in which they were posted.
@@ -117,6 +129,17 @@ impl<S: Alter> Ledger<S> {
         pay_postings::laws::postings_back();
         let posted = posted_of(self.alloc, &mut self.conn, account)?;
         Ok(Postings::from(of_week(self.alloc, &posted, account, week)?))
+    }
+
+    /// Whether this posting was made: one of its account and week, through its day and for its version.
+    pub fn has(&mut self, posting: &LastPosting) -> Result<bool, LedgerFault>
+        ensures told { AnswersOfLedger S.Store self.old self.new result (λ ledger has. has ≡ has_posting posting.now ledger.postings) }
+        ensures never_bad { FailsByStoreAlone S.Store self.old self.new result }
+        ensures unchanged { ChangesNothing S.Store self.old self.new }
+        ensures survives { LeavesAsBefore S.Store self.old self.new }
+    {
+        let postings = self.postings(posting.account, posting.week)?;
+        Ok(is_among(posting, postings.as_slice()))
     }
 
     /// What an account was charged for a week less what it was given back, in pence: the sum of the amounts. Nothing else of

@@ -4,6 +4,7 @@
 mod crashes;
 mod examining;
 mod fault;
+mod last;
 mod ledger;
 mod lookup;
 mod opening;
@@ -13,4 +14,5 @@ mod write;
 
 pub use examining::Examiner;
 pub use fault::{LedgerFault, OpenFault};
+pub use last::LastPosting;
 pub use ledger::Ledger;

@@ -9,6 +9,7 @@ ghost use Rattle.pay_ledger.specs.Calls.{ChangesNothingIfRefused, GrowsInside, F
 
 use crate::crashes::settled;
 use crate::fault::LedgerFault;
+use crate::last::{LastPosting, last_of};
 use crate::read::{ask, read_quoted, read_sets};
 use crate::write::{write_fixes, write_postings, write_taps};
 use pay_postings::{LedgerAccounts, PostingBatch};
@@ -74,6 +75,7 @@ fn add_batch<S: Alter>(
     tx: &mut Transaction<'_, S>,
     quotes: &[Quote],
     sets: &[Sets],
+    last: &mut Option<LastPosting>,
 ) -> Result<Vec<Posting>, LedgerFault>
     ensures step { IsStep S.Store tx.old.conn tx.new.conn result }
     ensures posts { AnswersInside S.Store tx.old.conn.now tx.new.conn.now result (λ old new given. BecomesPosted old.now new.now (quotes.now, sets.now) given.items) }
@@ -83,6 +85,7 @@ fn add_batch<S: Alter>(
     pay_postings::laws::paid();
     let batch = batch_for(alloc, tx, quotes, sets)?;
     write_batch(alloc, tx, &batch)?;
+    *last = last_of(&batch.postings, *last);
     Ok(batch.given)
 }
 
@@ -92,6 +95,7 @@ fn post_in<S: Alter>(
     tx: &mut Transaction<'_, S>,
     quotes: &[Quote],
     sets: &[Sets],
+    last: &mut Option<LastPosting>,
 ) -> Result<Vec<Posting>, LedgerFault>
     ensures step { IsStep S.Store tx.old.conn tx.new.conn result }
     ensures posts { AnswersInside S.Store tx.old.conn.now tx.new.conn.now result (λ old new given. BecomesPosted old.now new.now (quotes.now, sets.now) given.items) }
@@ -99,15 +103,16 @@ fn post_in<S: Alter>(
     ensures of_open { RefusesOpenAlone S.Store tx.old.conn.now tx.new.conn.now result }
 {
     ask(tx)?;
-    add_batch(alloc, tx, quotes, sets)
+    add_batch(alloc, tx, quotes, sets, last)
 }
 
-/// Posts quotes, and archives sets, in one transaction.
+/// Posts quotes, and archives sets, in one transaction. Once it is committed the last posting that was made is noted, if any was.
 pub(crate) fn post<S: Alter>(
     alloc: Global,
     conn: &mut Connection<S>,
     quotes: &[Quote],
     sets: &[Sets],
+    last: &mut Option<LastPosting>,
 ) -> Result<Vec<Posting>, LedgerFault>
     requires { conn.old.in_transaction ≡ false }
     ensures autocommit { conn.new.in_transaction ≡ false }
@@ -119,8 +124,10 @@ pub(crate) fn post<S: Alter>(
 {
     let _ = conn.is_autocommit();
     let mut tx = conn.transaction();
-    let given = post_in(alloc, &mut tx, quotes, sets)?;
+    let mut made = *last;
+    let given = post_in(alloc, &mut tx, quotes, sets, &mut made)?;
     tx.commit()?;
+    *last = made;
     settled(conn);
     Ok(given)
 }
