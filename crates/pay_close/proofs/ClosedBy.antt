@@ -213,11 +213,39 @@ module _ (Refuses : DeskFault → Type 0) (Late : Type 0) (of : ℕ) where
     answered = f.answered;
   }
 
-  pub till_refused : (old new : State) (day : ℕ) (before after : List (ℕ × Asked)) (transcript : ℕ → Option Answer) (its : NotClosed) (fault : Refusal) (said : Result (List Posting) Refusal) → said ≡ Err fault → fault ≡ refusal_of_close its
-      → IsAsked Refuses Late (AreQuotes day of 0) before after transcript (λ put. ClosedSo old new put (Err its))
-      → IsClosed Refuses Late (λ put answer. Closes old new of put answer) day of before after transcript said
-  till_refused old new day before after transcript its fault said is e f =
-      till_closed old new day before after transcript (Err its) said (is ∙ ap (λ (w : Refusal). Err w) e) f
+  pub till_closed_not : (old new : State) (day : ℕ) (before after : List (ℕ × Asked)) (transcript : ℕ → Option Answer) (why : NotClosed) (result : Result (List Posting) NotClosed) → result ≡ Err why → (fault : Refusal) → fault ≡ refusal_of_close why
+      → IsAsked Refuses Late (AreQuotes day of 0) before after transcript (λ put. ClosedSo old new put result)
+      → IsClosed Refuses Late (λ put answer. Closes old new of put answer) day of before after transcript (Err fault)
+  till_closed_not old new day before after transcript why result is fault said f =
+      till_closed old new day before after transcript result (Err fault) (ap (λ (w : Refusal). Err w) said ∙ sym (ap as_said is)) f
+
+  -- the day was put off, and nothing was asked
+  no_more : (list : List (ℕ × Asked)) → list ≡ list ++ []
+  no_more [] = refl
+  no_more (x ∷ list) = ap (λ l. x ∷ l) (no_more list)
+
+  not_of_desk_fault : refusal.NotOver ≡ refusal.DeskFault → ⊥
+  not_of_desk_fault e = cc
+
+  pub till_put_off : (s : State) (day : ℕ) (before : List (ℕ × Asked)) (transcript : ℕ → Option Answer) → IsClosed Refuses Late (λ put answer. Closes s s of put answer) day of before before transcript (Err refusal.NotOver)
+  till_put_off s day before transcript = record {
+    put = [];
+    close = record {
+      quotes = tt;
+      in_time = tt;
+      short = λ e. absurd (not_of_desk_fault (fault_in _ _ e));
+      of_close = refl;
+      closes = record {
+        closed = λ clean. tt;
+        refused = λ clean ledger is. inl refl;
+        of_open = λ clean. inl refl;
+        unchanged = λ clean live. record { was_open = live; now = refl; committed = refl };
+        survives = survives_itself s (IsWhole of []) (gathered []).quotes (gathered []).sets;
+      };
+    };
+    added = no_more before;
+    answered = tt;
+  }
 
   -- ---- over a desk
 

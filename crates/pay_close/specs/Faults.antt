@@ -1,5 +1,5 @@
 -- Why a day is not closed, as a session's line says it.
-use Rattle.std.specs.Prelude.{◌≡◌, Bool, true, false, refl}
+use Rattle.std.specs.Prelude.{◌≡◌, ℕ, Bool, true, false, Option, Some, None, refl}
 use Rattle.pay_rules.specs.declared.post_fault.PostFault.{PostFault}
 use Rattle.pay_rules.specs.declared.post_fault.PostFault.TheVariants as post
 use Rattle.pay_ledger.specs.declared.fault.LedgerFault.{LedgerFault}
@@ -14,6 +14,11 @@ use Rattle.pay_close.specs.declared.fault.NotClosed.TheVariants.{Desk, Ledger}
 -- the memory for what is gathered was refused
 abbrev pub no_memory : NotClosed
 no_memory = Ledger wants_memory
+
+-- an account of which a later day of the week was posted, and that day
+abbrev pub posted_later : NotClosed → Option (ℕ × ℕ)
+posted_later (Ledger (ledger.Refused (post.StaleQuote account version through))) = Some (account, through)
+posted_later _ = None
 
 -- ---- as a session's line says it
 
@@ -32,11 +37,12 @@ abbrev pub refusal_of_close : NotClosed → Refusal
 refusal_of_close (Desk fault) = refusal.DeskFault
 refusal_of_close (Ledger fault) = refusal_of_ledger fault
 
--- what does not come of the quotes and the ledger: a fault of the desk or of the store, or want of memory
+-- what does not come of the quotes and the ledger: a fault of the desk or of the store, want of memory, or a day that is not over
 abbrev pub is_outside : Refusal → Bool
 is_outside refusal.DeskFault = true
 is_outside refusal.Store = true
 is_outside refusal.Memory = true
+is_outside refusal.NotOver = true
 is_outside _ = false
 
 -- the same of why a day is not closed

@@ -1,6 +1,6 @@
 //! Why a day is not closed.
 ghost use Rattle.std.specs.Prelude.{◌≡◌};
-ghost use Rattle.pay_close.specs.Faults.{refusal_of_posting};
+ghost use Rattle.pay_close.specs.Faults.{posted_later, refusal_of_posting};
 
 use pay_ledger::LedgerFault;
 use pay_rules::PostFault;
@@ -18,6 +18,26 @@ pub enum NotClosed {
     /// 43, or what a posting is refused for: 42, 45, 46, 47 or 90. It is 90 too where the memory for the quotes was refused.
     #[error(transparent)]
     Ledger(LedgerFault),
+}
+
+impl NotClosed {
+    /// Where a later day of the week was posted: an account of which it was, and that day.
+    pub fn posted_later(&self) -> Option<(u32, u32)>
+        ensures { result ≡ posted_later self.now }
+    {
+        match self {
+            NotClosed::Ledger(
+                LedgerFault::Refused(
+                    PostFault::StaleQuote {
+                        account,
+                        through,
+                        ..
+                    },
+                ),
+            ) => Some((*account, *through)),
+            _ => None,
+        }
+    }
 }
 
 /// A ledger that does not post.

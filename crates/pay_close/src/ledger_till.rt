@@ -11,6 +11,7 @@ ghost use Rattle.pay_close.specs.Gathers.{IsAskedAt};
 
 use crate::fault::NotClosed;
 use crate::gathered::gather;
+use crate::watch::Watch;
 use pay_ledger::Ledger;
 use pay_rules::Postings;
 use pay_shard::Desk;
@@ -39,26 +40,32 @@ pub fn close<D: Desk, S: Alter>(
     Ok(Postings::from(given))
 }
 
-/// A till that closes days into a ledger.
+/// A till that closes days into a ledger, if its watch lets it.
 #[derive(Drop)]
-pub struct LedgerTill<'a, S: Alter> {
+pub struct LedgerTill<'a, S: Alter, W: Watch> {
     /// Where the memory for what is gathered comes from.
     pub alloc: Global,
     /// The ledger that is posted to.
     pub ledger: &'a mut Ledger<S>,
+    /// Who watches what is closed.
+    pub watch: &'a mut W,
 }
 
-impl<'a, S: Alter> LedgerTill<'a, S> {
+impl<'a, S: Alter, W: Watch> LedgerTill<'a, S, W> {
     /// A till over a ledger.
-    pub fn new(alloc: Global, ledger: &'a mut Ledger<S>) -> LedgerTill<'a, S>
+    pub fn new(alloc: Global, ledger: &'a mut Ledger<S>, watch: &'a mut W) -> LedgerTill<'a, S, W>
         ensures same_ledger { result.ledger.ghost_name ≡ ledger.entry.ghost_name }
         ensures ledger { result.ledger.now ≡ ledger.old }
     {
-        LedgerTill { alloc, ledger }
+        LedgerTill {
+            alloc,
+            ledger,
+            watch,
+        }
     }
 }
 
-impl<'a, S: Alter> Till for LedgerTill<'a, S> {
+impl<'a, S: Alter, W: Watch> Till for LedgerTill<'a, S, W> {
     ghost use Rattle.std.specs.Borrow.{GName};
     ghost use Rattle.sqlite.specs.Held.{state};
     ghost use Rattle.pay_close.specs.Closes.{Closes};
@@ -70,6 +77,18 @@ impl<'a, S: Alter> Till for LedgerTill<'a, S> {
     ghost Closes = { λ before day of put result after. Closes (state S.Store before.ledger.now) (state S.Store after.ledger.now) of put result };
 
     fn close<D: Desk>(&mut self, desk: &mut D, day: u32) -> Result<Postings, Refusal> {
-        Ok(close(self.alloc, desk, self.ledger, day)?)
+        if !self.watch.may_close(day) {
+            return Err(Refusal::NotOver);
+        }
+        match close(self.alloc, desk, self.ledger, day) {
+            Ok(postings) => {
+                self.watch.closed(self.ledger.last_posting());
+                Ok(postings)
+            }
+            Err(why) => {
+                self.watch.not_closed(day, &why);
+                Err(Refusal::from(why))
+            }
+        }
     }
 }

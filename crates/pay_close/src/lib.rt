@@ -1,5 +1,5 @@
 //! The close of a day: [`gather`] asks a desk for the quotes of all accounts, and [`close`] posts them into a ledger.
-//! [`LedgerTill`] does so for a session. `laws` says what commands and closes come to.
+//! [`LedgerTill`] does so for a session, under the eyes of a [`Watch`]. `laws` says what commands and closes come to.
 #![tactic(auto)]
 
 mod asking;
@@ -8,7 +8,9 @@ mod gathered;
 pub mod laws;
 mod ledger_till;
 pub mod limits;
+mod watch;
 
 pub use fault::NotClosed;
 pub use gathered::{Gathered, gather};
 pub use ledger_till::{LedgerTill, close};
+pub use watch::{NoWatch, Watch};

@@ -7,7 +7,7 @@ use crate::given::{MONDAY, expect_same, sample_in_london};
 use crate::ledger::{empty_ledger, expect_rows};
 use crate::lines::{expect_lines, expect_run};
 use pay_book::Book;
-use pay_close::{LedgerTill, NotClosed, close};
+use pay_close::{LedgerTill, NoWatch, NotClosed, close};
 use pay_lanes::{Gate, Lane, laws};
 use pay_ledger::Ledger;
 use pay_office::{Ended, LaneDesk, Office, shut, start};
@@ -209,7 +209,8 @@ impl<R: Threads + Wait + Abort + AllocGlobal + Copy> Closer<R> {
         answered: u128,
         replies: &str,
     ) {
-        let mut till = LedgerTill::new(rt.alloc(), ledger);
+        let mut watch = NoWatch;
+        let mut till = LedgerTill::new(rt.alloc(), ledger, &mut watch);
         expect_lines(&rt, &mut self.desk, &mut till, lines, answered, replies);
     }
 

@@ -4,7 +4,7 @@ ghost use Rattle.std.specs.Prelude.{◌≡◌};
 
 use crate::given::{expect_same, sample_in_london};
 use pay_book::Book;
-use pay_close::LedgerTill;
+use pay_close::{LedgerTill, NoWatch};
 use pay_ledger::Ledger;
 use pay_session::{Done, session};
 use pay_shard::{Desk, LocalDesk};
@@ -48,6 +48,7 @@ pub fn expect_run<R: Abort + AllocGlobal, S: Alter>(
     let mut desk: LocalDesk<Book> = LocalDesk::new(rt.alloc(), editions, Vec::new(rt.alloc()))
         .ok()
         .expect(rt, "a desk");
-    let mut till = LedgerTill::new(rt.alloc(), ledger);
+    let mut watch = NoWatch;
+    let mut till = LedgerTill::new(rt.alloc(), ledger, &mut watch);
     expect_lines(rt, &mut desk, &mut till, lines, answered, replies);
 }

@@ -15,7 +15,7 @@ use Rattle.pay_session.specs.declared.asks.Asks.{Asks}
 use Rattle.pay_session.specs.declared.asks.Asks.TheVariants as asks
 use Rattle.pay_session.specs.declared.request.Request.{Request}
 use Rattle.pay_wire.specs.declared.reply.SpelledReply.TheVariants as replies
-use Rattle.pay_run.specs.Machine.{Machine, Failure, Memory, Store, Desk, Keeping, is_keeping, refusal_of_command, Step, step_close, step_asks, step}
+use Rattle.pay_run.specs.Machine.{Machine, Failure, Memory, Store, Desk, Keeping, Early, is_keeping, refusal_of_command, Step, step_close, step_asks, step}
 use Rattle.pay_run.specs.Outcomes.{outcome, tells_loss, is_priced, AreAllPriced, accepted_requests}
 use Rattle.pay_run.proofs.Closes.{of_close}
 
@@ -148,12 +148,14 @@ lost Memory = refl
 lost Store = refl
 lost Desk = refl
 lost Keeping = refl
+lost Early = refl
 
 lacks : (failure : Failure) → is_keeping (Some failure) ≡ false → lacks_memory (replies.No (refusal_of_command failure)) ≡ true
 lacks Memory kept = refl
 lacks Store kept = refl
 lacks Desk kept = refl
 lacks Keeping kept = absurd (true_false kept)
+lacks Early kept = refl
 
 -- so no command has one
 abbrev IsNoCommand : Option Failure → Asks → Type 0

@@ -22,7 +22,7 @@ use Rattle.pay_wire.specs.declared.refusal.Refusal.{Refusal}
 use Rattle.pay_wire.specs.declared.refusal.Refusal.TheVariants as refusal
 use Rattle.pay_wire.specs.declared.reply.SpelledReply.TheVariants as replies
 use Rattle.pay_run.specs.Ledgers.{HasLedger}
-use Rattle.pay_run.specs.Machine.{Machine, Failure, is_keeping, Memory, Store, Desk, refusal_of_failure, stays, step_closed, step_close}
+use Rattle.pay_run.specs.Machine.{Machine, Failure, is_keeping, Memory, Store, Desk, Early, refusal_of_failure, stays, step_closed, step_close}
 use Rattle.pay_run.specs.Outcomes.{tells_failure}
 use Rattle.pay_run.proofs.Tills.{IsOfMachine, ClosesAs}
 
@@ -76,6 +76,7 @@ module _ (m : Machine) (day : ℕ) (new : State) (ledger : LedgerParts) (there :
     outside_as refusal.DeskFault e = failed_as refusal.DeskFault Desk refl refl refl
     outside_as refusal.Store e = failed_as refusal.Store Store refl refl refl
     outside_as refusal.Memory e = failed_as refusal.Memory Memory refl refl refl
+    outside_as refusal.NotOver e = failed_as refusal.NotOver Early refl refl refl
     outside_as refusal.OutOfTime e = absurd (true_false (sym e))
     outside_as refusal.UnknownPlace e = absurd (true_false (sym e))
     outside_as refusal.Conflict e = absurd (true_false (sym e))

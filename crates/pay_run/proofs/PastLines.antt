@@ -43,7 +43,7 @@ use Rattle.pay_journal.specs.declared.replaying.ReplayFault.{ReplayFault}
 use Rattle.pay_journal.specs.declared.replaying.ReplayFault.TheVariants as fault
 use Rattle.pay_session.specs.declared.request.Request.{Request}
 use Rattle.pay_run.specs.Journals.{machine_of, GivesBack}
-use Rattle.pay_run.specs.Machine.{Machine, Failure, Memory, Store, Desk, Keeping, is_keeping, Step, new_machine, machine_on, with_ledger, step_asks, step}
+use Rattle.pay_run.specs.Machine.{Machine, Failure, Memory, Store, Desk, Keeping, Early, is_keeping, Step, new_machine, machine_on, with_ledger, step_asks, step}
 use Rattle.pay_run.specs.Outcomes.{Outcome, outcome, reply_then, is_priced, AreAllPriced}
 use Rattle.pay_run.specs.Commands.{command_of, commands_in, commands_of as asked_of}
 use Rattle.pay_run.specs.Past.{HasReplayed, IsReplayedAfter, IsNotReplayedAfter, IsReplayOf, IsRefusedSo, Reaches, StopsAt, IsNotReplayed, whole_bytes}
@@ -333,6 +333,7 @@ refused_so (Some Memory) m (asks.Put a) reply why free told ends other kept = ab
 refused_so (Some Store) m (asks.Put a) reply why free told ends other kept = absurd (other (sym (some_why refusal.Memory why (ap why_ended told ∙ ends))))
 refused_so (Some Desk) m (asks.Put a) reply why free told ends other kept = absurd (other (sym (some_why refusal.Memory why (ap why_ended told ∙ ends))))
 refused_so (Some Keeping) m (asks.Put a) reply why free told ends other kept = absurd (true_false kept)
+refused_so (Some Early) m (asks.Put a) reply why free told ends other kept = absurd (other (sym (some_why refusal.Memory why (ap why_ended told ∙ ends))))
 refused_so None m (asks.Put (asked.Due account day)) reply why free told ends other kept = absurd (true_false free)
 refused_so None m (asks.Put (asked.Show account day)) reply why free told ends other kept = absurd (true_false free)
 refused_so None m (asks.Put (asked.Quotes day shard of)) reply why free told ends other kept = absurd (true_false free)

@@ -31,7 +31,7 @@ pub record Beside : Type 1 where
   pub Keeps : List Request → Type 0
   pub Fails : Type 0
 
--- Requests came to this: it is what the machine comes to, but for what failed. Where no reply is 43, 44, 48 or 90, nothing failed.
+-- Requests came to this: it is what the machine comes to, but for what failed. Where no reply is 43, 44, 48, 49 or 90, nothing failed.
 -- Just what was newly accepted was kept; and where what keeps it cannot fail, that is not what failed, so that no reply is 48.
 pub record ComesTo (m : Machine) (requests : List Request) (beside : Beside) (came : Outcome) : Type 0 where
   -- of each request, what failed for it

@@ -42,13 +42,14 @@ with_accounts m accounts = record { zone = m.zone; editions = m.editions; accoun
 abbrev pub with_ledger : Machine → Option LedgerParts → Machine
 with_ledger m ledger = record { zone = m.zone; editions = m.editions; accounts = m.accounts; ledger = ledger }
 
--- What may fail for a request, which no rule decides: memory for it, the store of the ledger, the desk's quotes for a close, or what
--- keeps the lines that are accepted.
+-- What may fail for a request, which no rule decides: memory for it, the store of the ledger, the desk's quotes for a close, what keeps
+-- the lines that are accepted, or that the day of a close is over by the clock.
 pub data Failure : Type 0 where
   Memory : Failure
   Store : Failure
   Desk : Failure
   Keeping : Failure
+  Early : Failure
 
 -- whether what failed is what keeps the lines, as it does for no request where nothing is kept
 abbrev pub is_keeping : Option Failure → Bool
@@ -76,6 +77,7 @@ refusal_of_failure Memory = refusal.Memory
 refusal_of_failure Store = refusal.Store
 refusal_of_failure Desk = refusal.DeskFault
 refusal_of_failure Keeping = refusal.DeskFault
+refusal_of_failure Early = refusal.NotOver
 
 -- what a close comes to: the day's postings and another ledger, or a refusal
 abbrev pub step_closed : Machine → ℕ → Result (List Posting × LedgerParts) PostFault → Step
@@ -96,6 +98,7 @@ refusal_of_command Memory = refusal.Memory
 refusal_of_command Store = refusal.Memory
 refusal_of_command Desk = refusal.Memory
 refusal_of_command Keeping = refusal.NotKept
+refusal_of_command Early = refusal.Memory
 
 -- A command is answered by the accounts. Where something fails for it, that is the reply, and nothing changes.
 abbrev pub step_command : Option Failure → Machine → Asked → Step

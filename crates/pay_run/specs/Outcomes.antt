@@ -32,11 +32,12 @@ text_of = flat_map spelling_of_reply
 
 -- ---- failures
 
--- whether a reply tells of a failure: 43, 44, 48 and 90
+-- whether a reply tells of a failure: 43, 44, 48, 49 and 90
 abbrev pub tells_failure : SpelledReply → Bool
 tells_failure (replies.No refusal.Store) = true
 tells_failure (replies.No refusal.DeskFault) = true
 tells_failure (replies.No refusal.NotKept) = true
+tells_failure (replies.No refusal.NotOver) = true
 tells_failure (replies.No refusal.Memory) = true
 tells_failure _ = false
 

@@ -11,7 +11,7 @@ ghost use Rattle.pay_run.specs.Past.{HasReplayed};
 ghost use Rattle.pay_run.specs.LineRuns.{LinesEnd, LinesFail, after, before, with_ledger_in, without_ledger};
 
 use jiff::tz::TimeZone;
-use pay_close::LedgerTill;
+use pay_close::{LedgerTill, Watch};
 use pay_journal::{Keeper, KeptDesk};
 use pay_ledger::Ledger;
 use pay_rules::Fares;
@@ -46,15 +46,15 @@ pub struct Ran<F: Fares, K: Keeper> {
     pub desk: KeptDesk<F, K>,
 }
 
-/// Answers the lines of a reader, beginning with what a desk has, and closes days into a ledger. A keeper keeps the line of each tap
+/// Answers the lines of a reader, beginning with what a desk has, and closes days into a ledger, if a watch lets it. A keeper keeps the line of each tap
 /// and each correction that is newly accepted, before its reply is written, and in the end all of them are settled. This is the
 /// whole run: for a reader that tells its bytes and a writer that tells what it holds, what is written is, for the lines of the
 /// input in order, the replies of the machine to what they ask for; the ledger is then the machine's; and the keeper has the lines
 /// of what was newly accepted. All are one function of the input, the zone, the desk and the ledger before it, where no reply is
-/// 43, 44, 48 or 90. Where a write of the ledger's disk fails, its connection may shut: the replies are still the machine's, by
+/// 43, 44, 48, 49 or 90. Where a write of the ledger's disk fails, its connection may shut: the replies are still the machine's, by
 /// what failed for each line, and nothing is said of the ledger. Where the disk does not return what was written, nothing is said
 /// of the run.
-pub fn run_lines<F: Fares, R: KnownReader, W: KnownWriter, S: Alter, K: Keeper>(
+pub fn run_lines<F: Fares, R: KnownReader, W: KnownWriter, S: Alter, K: Keeper, C: Watch>(
     alloc: Global,
     reader: &mut R,
     writer: &mut W,
@@ -62,6 +62,7 @@ pub fn run_lines<F: Fares, R: KnownReader, W: KnownWriter, S: Alter, K: Keeper>(
     desk: LocalDesk<F>,
     keeper: K,
     ledger: &mut Ledger<S>,
+    watch: &mut C,
 ) -> Ran<F, K>
     ensures ends { LinesEnd (with_ledger_in S.Store K.Keeper R.remaining W.contents) zone.now desk (before keeper ledger.old reader.old writer.old)
         (after result.desk ledger.new reader.new writer.new) result.ended }
@@ -73,7 +74,7 @@ pub fn run_lines<F: Fares, R: KnownReader, W: KnownWriter, S: Alter, K: Keeper>(
     ensures cause { IfErr result.ended (λ fault. IsBroken R.MayAnswer W.MayAnswer fault reader.old reader.new writer.new) }
 {
     let mut desk = KeptDesk::begin(desk, keeper);
-    let mut till = LedgerTill::new(alloc, ledger);
+    let mut till = LedgerTill::new(alloc, ledger, watch);
     let ended = session(reader, writer, zone, &mut desk, &mut till);
     // Whether this failed the desk tells too.
     let _ = desk.settle();

@@ -1,8 +1,8 @@
-use Rattle.std.proofs.lemmas.Result.{err_from_is_err_and}
-use Rattle.pay_close.proofs.ClosedBy.{till_refused}
+use Rattle.pay_close.proofs.ClosedBy.{till_put_off, till_closed_not}
 use Rattle.pay_close.proofs.ledger_till.LedgerTillTill.close.Goals as goal
 
-pub returns-in_err-close-clause-closed : goal.returns-in_err-close-clause-closed
-returns-in_err-close-clause-closed g c =
-    let p = err_from_is_err_and c.from_residual.result c.from_residual.ensures.1 in
-    till_refused _ _ _ _ _ _ _ _ _ _ _ _ p.1 p.2 c.in_err-close.ensures.closed
+pub returns-in-Err-clause-closed : goal.returns-in-Err-clause-closed
+returns-in-Err-clause-closed g c = till_closed_not _ _ _ _ _ _ _ _ _ c.in-Err.why c.close.result c.in-Err.is _ c.from.ensures c.close.ensures.closed
+
+pub returns-then-not-may_close-clause-closed : goal.returns-then-not-may_close-clause-closed
+returns-then-not-may_close-clause-closed g c = till_put_off _ _ _ _ c.args.day _ _
