@@ -17,7 +17,7 @@ use Rattle.pay_rules.specs.SetsParts.{SetsParts, sets}
 use Rattle.pay_rules.specs.State.{State, accepted_of}
 use Rattle.pay_set_rows.specs.SetRows.{tap_row, tap_from_row, fix_row, fix_from_row}
 use Rattle.pay_postings.specs.Words.{LedgerParts, ArchivedParts, is_kept, is_posted_so, IsRowOf, AccountAgrees}
-use Rattle.pay_ledger.specs.Words.{PassBefore, IsFoundIn}
+use Rattle.pay_ledger.specs.Words.{accounts_in, PassesIn, PassBefore, IsFoundIn}
 use Rattle.pay_audit.specs.declared.difference.Difference.{Difference}
 use Rattle.pay_audit.specs.declared.difference.Difference.TheVariants.{Tap as OfTap, Fix as OfFix, Posting as OfPosting}
 
@@ -64,6 +64,18 @@ DiffersIn editions state ledger it = IsFoundIn (λ account. Differs editions acc
 abbrev pub AgreeBefore : FareEditions → State → LedgerParts → ℕ → Type 0
 AgreeBefore editions state ledger account = PassBefore (λ other. AccountAgrees editions other (accepted_of state other)) ledger account
 
+-- of an account above another, what a ledger has agrees with what it has accepted
+abbrev pub AgreesAbove : ℕ → FareEditions → State → ℕ → ArchivedParts → Type 0
+AgreesAbove after editions state account archived = after < account → AccountAgrees editions account (accepted_of state account) archived
+
+-- and so it does of each above that one
+abbrev pub AgreeAfter : FareEditions → State → LedgerParts → ℕ → Type 0
+AgreeAfter editions state ledger after = AllByRecursion (PassesIn (AgreesAbove after editions state) ledger) (accounts_in ledger)
+
+-- or of each between two
+abbrev pub AgreeBetween : FareEditions → State → LedgerParts → ℕ → ℕ → Type 0
+AgreeBetween editions state ledger after account = PassBefore (AgreesAbove after editions state) ledger account
+
 -- ---- worked rows: account 7 boarded a bus at 07:46:40, and is archived so
 
 bus : Tap
@@ -97,6 +109,31 @@ accepted_so other = other.1.3 (0, bus, refl, one other.0 other.1.0 other.1.1)
     one : (row : TapRow) (at : ℕ) → slice_get (tap_row bus ∷ []) at ≡ Some row → tap_row bus ≡ row
     one row zero is = cc
     one row (suc at) is = absurd (cc)
+
+-- ---- and of a ledger that has just this tap
+
+just_the_bus : LedgerParts
+just_the_bus = record { postings = []; taps = bus ∷ []; fixes = [] }
+
+-- whatever it has accepted, none is above account 7, and none between it and account 6
+none_above : (editions : FareEditions) (state : State) → AgreeAfter editions state just_the_bus 7
+unfolding just_the_bus bus
+none_above editions state = ((omega arith, λ above. absurd (omega (arith, above))), tt)
+
+none_between : (editions : FareEditions) (state : State) → AgreeBetween editions state just_the_bus 6 7
+unfolding just_the_bus bus
+none_between editions state = ((λ below. absurd (omega (arith, below))), tt)
+
+-- above account 6, and between it and account 8, is account 7, and does not agree where it has accepted no tap
+it_is_above : (editions : FareEditions) (state : State) → values (accepted_of state 7).taps ≡ [] → AgreeAfter editions state just_the_bus 6 → ⊥
+unfolding just_the_bus bus
+it_is_above editions state none agree = let there = (agree.0.1 (omega arith)).taps.0 in let is = there.2 in cc
+
+it_is_between : (editions : FareEditions) (state : State) → values (accepted_of state 7).taps ≡ [] → AgreeBetween editions state just_the_bus 6 8 → ⊥
+unfolding just_the_bus bus
+it_is_between editions state none agree = let there = ((agree.0 (omega arith)).1 (omega arith)).taps.0 in let is = there.2 in cc
+
+-- ---- postings
 
 later_is_not : (version posted : ℕ) (kept : Bool) → version < posted → (if posted == version then kept else nat_lt posted version) ≡ false
 later_is_not version posted kept less =

@@ -5,5 +5,5 @@ mod beside;
 mod comparing;
 mod difference;
 
-pub use beside::first_difference;
+pub use beside::{first_difference, next_difference};
 pub use difference::Difference;
