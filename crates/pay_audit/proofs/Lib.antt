@@ -2,3 +2,6 @@ mod Lists
 mod Accounts
 mod Sought
 mod SameRows
+mod Sums
+mod Fronts
+mod Weeks

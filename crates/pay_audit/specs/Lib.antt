@@ -1,2 +1,3 @@
 pub mod Differs
+pub mod Settled
 pub mod Words
