@@ -10,7 +10,7 @@ use Rattle.pay_words.specs.Asked.{check, check_asked, check_of, replay, replay_a
 use Rattle.pay_words.specs.Asked.{Given, with_value, values, help, refused, without_dashes}
 use Rattle.pay_words.specs.Asked as words
 use Rattle.pay_words.specs.Options.{IsOption, Part, Said, Setting, StandApart, all_of, all_said, flag_value, help_wanted, is_flag, not_taken, plain_words, reader_of, values_of, words_of_parts}
-use Rattle.pay_words.specs.Options.{port_option, lanes_option, shards_option, sessions_option, close_option, journal_option, sync_option, ledger_option}
+use Rattle.pay_words.specs.Options.{port_option, lanes_option, shards_option, sessions_option, close_option, journal_option, sync_option, ledger_option, early_option}
 use Rattle.pay_words.specs.Options.{lint_option, against_option, after_option}
 use Rattle.pay_words.specs.Check.{AreCheckParts, CheckTexts, HasAfterInRange, check_grammar, check_of_texts, has_against}
 use Rattle.pay_words.specs.Run.{AreRunParts, Run, first_given, flags, has_journal, is_given, listed, run_grammar}
@@ -93,7 +93,7 @@ after_run rest = go (all_said run_grammar rest) (Level run_shape [] (stand [] No
   where
     made : (parts : List Part) (had : List Row) → Says run_grammar (codes "run") run_rules run_built run_apart (all_of parts) (without_dashes rest)
         → ((k : Setting) → Under had k (values_of k parts)) → (vs : List Text) → plain_words parts ≡ vs
-        → AreWordsOf (run_of vs (values_of journal_option parts) (values_of sync_option parts) (values_of ledger_option parts)) (codes "run" ∷ rest)
+        → AreWordsOf (run_of vs (values_of journal_option parts) (values_of sync_option parts) (values_of ledger_option parts) (values_of early_option parts)) (codes "run" ∷ rest)
     made parts had s under [] is = tt
     made parts had s under (a ∷ []) is = tt
     made parts had s under (a ∷ b ∷ c ∷ more) is = tt
@@ -106,6 +106,7 @@ after_run rest = go (all_said run_grammar rest) (Level run_shape [] (stand [] No
         under_listed had journal_option (values_of journal_option parts) (under journal_option),
         under_flags had sync_option refl (values_of sync_option parts) (under sync_option),
         under_listed had ledger_option (values_of ledger_option parts) (under ledger_option),
+        under_flags had early_option refl (values_of early_option parts) (under early_option),
       ),
     )
 
@@ -199,7 +200,7 @@ module _ (rest : List Text) (parts : List Part) (had : List Row) (s : Says serve
 
   serve_made : (vs ps ls ns ks ds : List Text) → plain_words parts ≡ vs → values_of port_option parts ≡ ps → values_of lanes_option parts ≡ ls
       → values_of shards_option parts ≡ ns → values_of sessions_option parts ≡ ks → values_of close_option parts ≡ ds
-      → AreWordsOf (serve_of vs ps ls ns ks ds (values_of journal_option parts) (values_of ledger_option parts)) (codes "serve" ∷ rest)
+      → AreWordsOf (serve_of vs ps ls ns ks ds (values_of journal_option parts) (values_of ledger_option parts) (values_of early_option parts)) (codes "serve" ∷ rest)
   serve_made [] ps ls ns ks ds h p l n k d = tt
   serve_made (a ∷ []) ps ls ns ks ds h p l n k d = tt
   serve_made (a ∷ b ∷ c ∷ more) ps ls ns ks ds h p l n k d = tt
@@ -224,6 +225,7 @@ module _ (rest : List Text) (parts : List Part) (had : List Row) (s : Says serve
       close = dw;
       journal = first_given (values_of journal_option parts);
       ledger = first_given (values_of ledger_option parts);
+      early = is_given (values_of early_option parts);
     },
     parts,
     ap (λ (l : List Text). codes "serve" ∷ l) s.0,
@@ -233,6 +235,7 @@ module _ (rest : List Text) (parts : List Part) (had : List Row) (s : Says serve
       (p, l, n, k, d),
       under_listed had journal_option (values_of journal_option parts) (under journal_option),
       under_listed had ledger_option (values_of ledger_option parts) (under ledger_option),
+      under_flags had early_option refl (values_of early_option parts) (under early_option),
     ),
     (serve_fits port_option pw p, serve_fits lanes_option lw l, serve_fits shards_option nw n, serve_fits sessions_option kw k, serve_fits close_option dw d),
     refl,
@@ -334,6 +337,7 @@ module _ (r : Run) (parts : List Part) (are : AreRunParts r parts) where
   run_once journal_option = subst (Once journal_option) (sym are.2) (once_listed journal_option r.journal (λ v. refl))
   run_once sync_option = subst (Once sync_option) (sym are.3) (once_flags sync_option refl r.syncs)
   run_once ledger_option = subst (Once ledger_option) (sym are.4) (once_listed ledger_option r.ledger (λ v. refl))
+  run_once early_option = subst (Once early_option) (sym are.5) (once_flags early_option refl r.early)
   run_once lint_option = none_of_run lint_option (λ e. cc)
   run_once against_option = none_of_run against_option (λ e. cc)
   run_once after_option = none_of_run after_option (λ e. cc)
@@ -347,7 +351,7 @@ module _ (r : Run) (parts : List Part) (are : AreRunParts r parts) where
   }
 
   run_is : run_asked (all_of parts) ≡ run r
-  run_is = rw (are.1, are.2, are.3, are.4, first_listed r.journal, given_flags r.syncs, first_listed r.ledger) refl
+  run_is = rw (are.1, are.2, are.3, are.4, are.5, first_listed r.journal, given_flags r.syncs, first_listed r.ledger, given_flags r.early) refl
 
 pub asks_run : (ws : List Text) (name : Text) (r : Run) (parts : List Part) → ws ≡ name ∷ codes "run" ∷ words_of_parts parts → AreRunParts r parts → StandApart parts
     → slice_index r.fares 0 ≢ 45 → slice_index r.zone 0 ≢ 45 → has_journal r ≡ true → asked ws ≡ run r
@@ -371,6 +375,7 @@ module _ (t : CheckTexts) (parts : List Part) (are : AreCheckParts t parts) (fit
   check_once journal_option = none_of_check journal_option (λ e. cc)
   check_once sync_option = none_of_check sync_option (λ e. cc)
   check_once ledger_option = none_of_check ledger_option (λ e. cc)
+  check_once early_option = none_of_check early_option (λ e. cc)
   check_once lint_option = subst (Once lint_option) (sym are.2) (once_flags lint_option refl t.lints)
   check_once against_option = subst (Once against_option) (sym are.3) (once_listed against_option t.against (λ v. refl))
   check_once after_option = subst (Once after_option) (sym are.4) (once_day t.after fits)
@@ -404,6 +409,7 @@ module _ (t : StatementTexts) (parts : List Part) (are : AreStatementParts t par
   statement_once journal_option = subst (Once journal_option) (sym are.2) (once_listed journal_option t.journal (λ v. refl))
   statement_once sync_option = none_of_statement sync_option (λ e. cc)
   statement_once ledger_option = none_of_statement ledger_option (λ e. cc)
+  statement_once early_option = none_of_statement early_option (λ e. cc)
   statement_once lint_option = none_of_statement lint_option (λ e. cc)
   statement_once against_option = none_of_statement against_option (λ e. cc)
   statement_once after_option = none_of_statement after_option (λ e. cc)
@@ -449,6 +455,7 @@ module _ (t : ServeTexts) (parts : List Part) (are : ArePartsOf t parts) (fits :
   serve_once against_option = none_of_serve against_option (λ e. cc)
   serve_once after_option = none_of_serve after_option (λ e. cc)
   serve_once ledger_option = subst (Once ledger_option) (sym are.4) (once_listed ledger_option t.ledger (λ v. refl))
+  serve_once early_option = subst (Once early_option) (sym are.5) (once_flags early_option refl t.early)
 
   serve_taken : slice_index t.fares 0 ≢ 45 → slice_index t.zone 0 ≢ 45 → AreTaken serve_grammar parts
   serve_taken f z = record {
@@ -459,7 +466,7 @@ module _ (t : ServeTexts) (parts : List Part) (are : ArePartsOf t parts) (fits :
   }
 
   serve_is : serve_asked (all_of parts) ≡ serve (numbers_of t)
-  serve_is = rw (are.1, are.2.0, are.2.1, are.2.2, are.2.3, are.2.4, are.3, are.4, first_listed t.journal, first_listed t.ledger) refl
+  serve_is = rw (are.1, are.2.0, are.2.1, are.2.2, are.2.3, are.2.4, are.3, are.4, are.5, first_listed t.journal, first_listed t.ledger, given_flags t.early) refl
 
 pub asks_serve : (ws : List Text) (name : Text) (t : ServeTexts) (parts : List Part) → ws ≡ name ∷ codes "serve" ∷ words_of_parts parts → ArePartsOf t parts → StandApart parts
     → slice_index t.fares 0 ≢ 45 → slice_index t.zone 0 ≢ 45 → AreInRange t → has_ports (numbers_of t) ≡ true → asked ws ≡ serve (numbers_of t)

@@ -1,14 +1,14 @@
 -- What the rows of a program with options have of each when its words have ended.
-use Rattle.std.proofs.Common.{◌≡◌, codes, true, false, refl, sym, ap, subst, List, [], ◌∷◌, ◌++◌, Option, Some}
+use Rattle.std.proofs.Common.{◌≡◌, ◌∙◌, codes, true, false, refl, sym, ap, subst, List, [], ◌∷◌, ◌++◌, Option, Some}
 use Rattle.std.specs.Prelude.{option_and_then, slice_get}
 use Rattle.std.specs.Str.{bytes_eq}
 use Rattle.clap.specs.Walk.{Row, Text, first_of, has_row, one_of, row_text, with_default}
 use Rattle.pay_words.specs.CommandLine.{flag_text}
-use Rattle.pay_words.specs.Options.{Setting, is_flag, name_of}
+use Rattle.pay_words.specs.Options.{Place, Setting, is_flag, name_of}
 use Rattle.pay_words.specs.Run.{first_given, is_given}
 use Rattle.pay_words.proofs.OptionRows.{a_row, default_added, default_row, found, found_new, found_other, no_row, row_with}
-use Rattle.pay_words.proofs.OptionRules.{flag_given, option_reading, same_name, setting_rule}
-use Rattle.pay_words.proofs.WordsAfterOptions.{Under}
+use Rattle.pay_words.proofs.OptionRules.{flag_given, no_place, option_reading, place_name, same_name, setting_rule}
+use Rattle.pay_words.proofs.WordsAfterOptions.{Places, Under}
 
 -- the first value of a row, and the one text of it
 abbrev pub row_first : Option Row → Option Text
@@ -45,3 +45,16 @@ flag_final k flag had (v ∷ []) h =
     let is : with_default had (setting_rule k) ≡ had = rw old refl in
     subst (IsFinal k had (v ∷ [])) (sym is) (λ id other. refl, rw h.0 (ap Some (flag_given k flag v h.1)))
 flag_final k flag had (v ∷ w ∷ more) h = absurd h
+
+-- so the values in their places have their rows still, and so has another option
+pub places_final : (k : Setting) (had rows : List Row) (us : List Text) → IsFinal k had us rows → (ps : List Place) (vs : List Text) → Places ps vs had → Places ps vs rows
+places_final k had rows us f [] [] h = h
+places_final k had rows us f [] (v ∷ vs) h = h
+places_final k had rows us f (p ∷ ps) [] h = (f.0 (place_name p) (no_place k p).1 ∙ h.0, places_final k had rows us f ps [] h.1)
+places_final k had rows us f (p ∷ ps) (v ∷ vs) h = (f.0 (place_name p) (no_place k p).1 ∙ h.0, h.1, places_final k had rows us f ps vs h.2)
+
+pub under_final : (k : Setting) (had rows : List Row) (us : List Text) → IsFinal k had us rows
+    → (j : Setting) → bytes_eq (name_of k) (name_of j) ≡ false → (vs : List Text) → Under had j vs → Under rows j vs
+under_final k had rows us f j other [] h = f.0 (name_of j) other ∙ h
+under_final k had rows us f j other (v ∷ []) h = (f.0 (name_of j) other ∙ h.0, h.1)
+under_final k had rows us f j other (v ∷ w ∷ more) h = h

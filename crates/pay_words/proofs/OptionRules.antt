@@ -15,7 +15,7 @@ use Rattle.clap.specs.declared.builder.value_parser.ValueParser.{ValueParser}
 use Rattle.clap.specs.declared.builder.value_parser.ValueParser.TheVariants as vp
 use Rattle.clap.specs.declared.builder.value_parser.Reading.TheVariants as reading
 use Rattle.pay_words.specs.Options.{Grammar, Place, Setting, flag_value, is_flag, name_of, place_after, place_reader, reader_of, setting_named}
-use Rattle.pay_words.specs.Options.{port_option, lanes_option, shards_option, sessions_option, close_option, journal_option, sync_option, ledger_option}
+use Rattle.pay_words.specs.Options.{port_option, lanes_option, shards_option, sessions_option, close_option, journal_option, sync_option, ledger_option, early_option}
 use Rattle.pay_words.specs.Options.{lint_option, against_option, after_option}
 use Rattle.pay_words.specs.Options.{fares_place, zone_place, account_place, day_place}
 use Rattle.pay_words.proofs.OptionRows.{a_row, found, no_row, row_added, row_with}
@@ -69,6 +69,7 @@ parser_for close_option = vp.Unsigned 4 50_000
 parser_for journal_option = vp.String
 parser_for sync_option = vp.Bool
 parser_for ledger_option = vp.String
+parser_for early_option = vp.Bool
 parser_for lint_option = vp.Bool
 parser_for against_option = vp.String
 parser_for after_option = vp.Unsigned 4 50_000
@@ -82,6 +83,7 @@ is_needed close_option = true
 is_needed journal_option = false
 is_needed sync_option = false
 is_needed ledger_option = false
+is_needed early_option = false
 is_needed lint_option = false
 is_needed against_option = false
 is_needed after_option = false
@@ -111,6 +113,7 @@ option_reads close_option word value = refl
 option_reads journal_option word value = refl
 option_reads sync_option word value = cc
 option_reads ledger_option word value = refl
+option_reads early_option word value = cc
 option_reads lint_option word value = cc
 option_reads against_option word value = refl
 option_reads after_option word value = refl
@@ -124,6 +127,7 @@ option_reading close_option = refl
 option_reading journal_option = refl
 option_reading sync_option = refl
 option_reading ledger_option = refl
+option_reading early_option = refl
 option_reading lint_option = refl
 option_reading against_option = refl
 option_reading after_option = refl
@@ -139,6 +143,7 @@ same_name close_option = refl
 same_name journal_option = refl
 same_name sync_option = refl
 same_name ledger_option = refl
+same_name early_option = refl
 same_name lint_option = refl
 same_name against_option = refl
 same_name after_option = refl
@@ -153,6 +158,7 @@ same_setting close_option close_option = inl refl
 same_setting journal_option journal_option = inl refl
 same_setting sync_option sync_option = inl refl
 same_setting ledger_option ledger_option = inl refl
+same_setting early_option early_option = inl refl
 same_setting lint_option lint_option = inl refl
 same_setting against_option against_option = inl refl
 same_setting after_option after_option = inl refl
@@ -168,6 +174,7 @@ no_place close_option fares_place = (refl, refl)
 no_place journal_option fares_place = (refl, refl)
 no_place sync_option fares_place = (refl, refl)
 no_place ledger_option fares_place = (refl, refl)
+no_place early_option fares_place = (refl, refl)
 no_place lint_option fares_place = (refl, refl)
 no_place against_option fares_place = (refl, refl)
 no_place after_option fares_place = (refl, refl)
@@ -258,29 +265,32 @@ Uses k (v ∷ []) word = (is_flag k ≡ false) × (v ≡ word)
 Uses k (v ∷ w ∷ more) word = ⊥
 
 -- what is so of each flag
-of_flag : (P : Setting → Type 0) → P sync_option → P lint_option → (k : Setting) → is_flag k ≡ true → P k
-of_flag P sync lint port_option flag = cc
-of_flag P sync lint lanes_option flag = cc
-of_flag P sync lint shards_option flag = cc
-of_flag P sync lint sessions_option flag = cc
-of_flag P sync lint close_option flag = cc
-of_flag P sync lint journal_option flag = cc
-of_flag P sync lint sync_option flag = sync
-of_flag P sync lint ledger_option flag = cc
-of_flag P sync lint lint_option flag = lint
-of_flag P sync lint against_option flag = cc
-of_flag P sync lint after_option flag = cc
+of_flag : (P : Setting → Type 0) → P sync_option → P early_option → P lint_option → (k : Setting) → is_flag k ≡ true → P k
+of_flag P sync early lint port_option flag = cc
+of_flag P sync early lint lanes_option flag = cc
+of_flag P sync early lint shards_option flag = cc
+of_flag P sync early lint sessions_option flag = cc
+of_flag P sync early lint close_option flag = cc
+of_flag P sync early lint journal_option flag = cc
+of_flag P sync early lint sync_option flag = sync
+of_flag P sync early lint ledger_option flag = cc
+of_flag P sync early lint early_option flag = early
+of_flag P sync early lint lint_option flag = lint
+of_flag P sync early lint against_option flag = cc
+of_flag P sync early lint after_option flag = cc
 
 flag_reads : (k : Setting) → is_flag k ≡ true → accepts false (parser_for k) flag_value ≡ true
-flag_reads k flag = of_flag (λ j. accepts false (parser_for j) flag_value ≡ true) refl refl k flag
+flag_reads k flag = of_flag (λ j. accepts false (parser_for j) flag_value ≡ true) refl refl refl k flag
 
 -- a flag takes what it is given with
 flag_takes : (k : Setting) → is_flag k ≡ true → reader_of k flag_value ≡ true
-flag_takes k flag = of_flag (λ j. reader_of j flag_value ≡ true) refl refl k flag
+flag_takes k flag = of_flag (λ j. reader_of j flag_value ≡ true) refl refl refl k flag
 
 -- and nothing else
 pub flag_given : (k : Setting) → is_flag k ≡ true → (v : Text) → reader_of k v ≡ true → v ≡ flag_value
-flag_given k flag = of_flag (λ j. (v : Text) → reader_of j v ≡ true → v ≡ flag_value) (λ v h. same_bytes v flag_value h) (λ v h. same_bytes v flag_value h) k flag
+flag_given k flag =
+    let given : (v : Text) → bytes_eq v flag_value ≡ true → v ≡ flag_value = λ v h. same_bytes v flag_value h in
+    of_flag (λ j. (v : Text) → reader_of j v ≡ true → v ≡ flag_value) given given given k flag
 
 refuses_value : (k : Setting) → is_refusal (refused_kind (parser_for k)) ≡ true
 refuses_value port_option = refl
@@ -291,6 +301,7 @@ refuses_value close_option = refl
 refuses_value journal_option = refl
 refuses_value sync_option = refl
 refuses_value ledger_option = refl
+refuses_value early_option = refl
 refuses_value lint_option = refl
 refuses_value against_option = refl
 refuses_value after_option = refl

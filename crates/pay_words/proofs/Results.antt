@@ -136,6 +136,7 @@ run_values m f r same gives =
       first_value-rows f (codes "journal") ∙ (ap (first_of (codes "journal")) rows_are ∙ h.2),
       one_text-rows f (codes "sync") ∙ (ap (one_of (codes "sync")) rows_are ∙ h.3),
       first_value-rows f (codes "ledger") ∙ (ap (first_of (codes "ledger")) rows_are ∙ h.4),
+      one_text-rows f (codes "early") ∙ (ap (one_of (codes "early")) rows_are ∙ h.5),
     )
 
 -- the matches of `check` have the words that it is given
@@ -198,6 +199,7 @@ serve_texts m f s same gives =
       one_text-rows f (codes "close") ∙ (ap (one_of (codes "close")) rows_are ∙ h.6),
       first_value-rows f (codes "journal") ∙ (ap (first_of (codes "journal")) rows_are ∙ h.7),
       first_value-rows f (codes "ledger") ∙ (ap (first_of (codes "ledger")) rows_are ∙ h.8),
+      one_text-rows f (codes "early") ∙ (ap (one_of (codes "early")) rows_are ∙ h.9),
     )
 
 -- ---- the clauses

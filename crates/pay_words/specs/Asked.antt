@@ -17,7 +17,7 @@ pub use Rattle.pay_words.specs.OneWord.{Text, Word, value, dashes, call_for_help
 pub use Rattle.pay_words.specs.OneWord.{Reader, any_text, is_account, is_day, number_of}
 pub use Rattle.pay_words.specs.Options.{HasNoHyphen}
 use Rattle.pay_words.specs.Options.{Part, Said, StandApart, all_of, all_said, help_wanted, not_taken, plain, apart, joined, plain_words, values_of, words_of_parts}
-use Rattle.pay_words.specs.Options.{port_option, lanes_option, shards_option, sessions_option, close_option, journal_option, sync_option, ledger_option}
+use Rattle.pay_words.specs.Options.{port_option, lanes_option, shards_option, sessions_option, close_option, journal_option, sync_option, ledger_option, early_option}
 use Rattle.pay_words.specs.Options.{lint_option, against_option, after_option}
 use Rattle.pay_words.specs.Check.{AreCheckParts, Check, CheckTexts, HasAfterInRange, check_grammar, check_of_texts, has_against}
 use Rattle.pay_words.specs.Run.{AreRunParts, Run, first_given, has_journal, is_given, run_grammar}
@@ -74,19 +74,21 @@ pub data Asked : Type 0 where
   usage : Asked
 
 -- two values, and what each option was given
-abbrev pub run_of : List Text → List Text → List Text → List Text → Asked
-run_of (fares ∷ zone ∷ []) j s l = run (record {
+abbrev pub run_of : List Text → List Text → List Text → List Text → List Text → Asked
+run_of (fares ∷ zone ∷ []) j s l e = run (record {
   fares = fares;
   zone = zone;
   journal = first_given j;
   syncs = is_given s;
   ledger = first_given l;
+  early = is_given e;
 })
-run_of _ _ _ _ = usage
+run_of _ _ _ _ _ = usage
 
 -- `run FARES ZONE` and its options
 abbrev pub run_asked : Said → Asked
-run_asked (all_of parts) = run_of (plain_words parts) (values_of journal_option parts) (values_of sync_option parts) (values_of ledger_option parts)
+run_asked (all_of parts) = run_of (plain_words parts) (values_of journal_option parts) (values_of sync_option parts)
+    (values_of ledger_option parts) (values_of early_option parts)
 run_asked help_wanted = help_asked
 run_asked not_taken = usage
 
@@ -130,8 +132,8 @@ replay_asked help = help_asked
 replay_asked _ = usage
 
 -- two values, one value for each option that is needed, and what each other was given
-abbrev pub serve_of : List Text → List Text → List Text → List Text → List Text → List Text → List Text → List Text → Asked
-serve_of (fares ∷ zone ∷ []) (p ∷ []) (l ∷ []) (n ∷ []) (k ∷ []) (d ∷ []) j g = serve (numbers_of (record {
+abbrev pub serve_of : List Text → List Text → List Text → List Text → List Text → List Text → List Text → List Text → List Text → Asked
+serve_of (fares ∷ zone ∷ []) (p ∷ []) (l ∷ []) (n ∷ []) (k ∷ []) (d ∷ []) j g e = serve (numbers_of (record {
   fares = fares;
   zone = zone;
   port = p;
@@ -141,14 +143,15 @@ serve_of (fares ∷ zone ∷ []) (p ∷ []) (l ∷ []) (n ∷ []) (k ∷ []) (d 
   close = d;
   journal = first_given j;
   ledger = first_given g;
+  early = is_given e;
 }))
-serve_of _ _ _ _ _ _ _ _ = usage
+serve_of _ _ _ _ _ _ _ _ _ = usage
 
 -- `serve FARES ZONE` and its options
 abbrev pub serve_asked : Said → Asked
 serve_asked (all_of parts) = serve_of (plain_words parts) (values_of port_option parts) (values_of lanes_option parts)
     (values_of shards_option parts) (values_of sessions_option parts) (values_of close_option parts)
-    (values_of journal_option parts) (values_of ledger_option parts)
+    (values_of journal_option parts) (values_of ledger_option parts) (values_of early_option parts)
 serve_asked help_wanted = help_asked
 serve_asked not_taken = usage
 
@@ -195,6 +198,7 @@ run_job w = record {
   journal = option_map (λ s. s.now) w.journal;
   syncs = w.syncs;
   ledger = option_map (λ s. s.now) w.ledger;
+  early = w.early;
 }
 
 abbrev pub check_job : CheckWords → Check
@@ -225,6 +229,7 @@ served_job w = record {
   close = w.close;
   journal = option_map (λ s. s.now) w.journal;
   ledger = option_map (λ s. s.now) w.ledger;
+  early = w.early;
 }
 
 abbrev pub job_asked : Job → Asked
@@ -331,7 +336,7 @@ ReplayIsTaken words result = (name fares zone file : Text) (files : List Text) �
     → IsJobOrMemory (replay fares zone (file ∷ files)) result
 
 -- two words with no hyphen before them, the five options that are needed, with numbers in their ranges, and
--- perhaps the other two, in whatever order, are those of `serve`
+-- perhaps the other three, in whatever order, are those of `serve`
 abbrev pub ServeIsTaken : List Text → Result Job WordsFault → Type 0
 ServeIsTaken words result = (name : Text) (t : ServeTexts) (parts : List Part) → words ≡ name ∷ codes "serve" ∷ words_of_parts parts
     → ArePartsOf t parts → StandApart parts → HasNoHyphen t.fares → HasNoHyphen t.zone → AreInRange t → has_ports (numbers_of t) ≡ true
@@ -343,7 +348,7 @@ abbrev row : List Text → Asked
 row rest = asked (codes "farebox" ∷ rest)
 
 abbrev plain_run : Run
-plain_run = record { fares = codes "a"; zone = codes "b"; journal = None; syncs = false; ledger = None }
+plain_run = record { fares = codes "a"; zone = codes "b"; journal = None; syncs = false; ledger = None; early = false }
 
 run_row : row (codes "run" ∷ codes "a" ∷ codes "b" ∷ []) ≡ run plain_run
 unfolding chars
@@ -362,8 +367,8 @@ unfolding chars
 journal_row = refl
 
 -- options before, between and after the values
-all_options_row : row (codes "run" ∷ codes "--ledger=l" ∷ codes "a" ∷ codes "--sync" ∷ codes "b" ∷ codes "--journal" ∷ codes "j" ∷ [])
-    ≡ run (record with_journal { syncs = true; ledger = Some (codes "l") })
+all_options_row : row (codes "run" ∷ codes "--ledger=l" ∷ codes "--early" ∷ codes "a" ∷ codes "--sync" ∷ codes "b" ∷ codes "--journal" ∷ codes "j" ∷ [])
+    ≡ run (record with_journal { syncs = true; ledger = Some (codes "l"); early = true })
 unfolding chars
 all_options_row = refl
 
@@ -375,6 +380,24 @@ ledger_row = refl
 sync_row : row (codes "run" ∷ codes "a" ∷ codes "b" ∷ codes "--sync" ∷ []) ≡ usage
 unfolding chars
 sync_row = refl
+
+-- without a ledger a day that is not over may be asked for all the same
+early_row : row (codes "run" ∷ codes "a" ∷ codes "b" ∷ codes "--early" ∷ []) ≡ run (record plain_run { early = true })
+unfolding chars
+early_row = refl
+
+early_ledger_row : row (codes "run" ∷ codes "--early" ∷ codes "--ledger" ∷ codes "l" ∷ codes "a" ∷ codes "b" ∷ [])
+    ≡ run (record plain_run { ledger = Some (codes "l"); early = true })
+unfolding chars
+early_ledger_row = refl
+
+early_twice_row : row (codes "run" ∷ codes "a" ∷ codes "b" ∷ codes "--early" ∷ codes "--early" ∷ []) ≡ usage
+unfolding chars
+early_twice_row = refl
+
+early_value_row : row (codes "run" ∷ codes "a" ∷ codes "b" ∷ codes "--early=true" ∷ []) ≡ usage
+unfolding chars
+early_value_row = refl
 
 -- a flag has no value, and is given once
 sync_value_row : row (codes "run" ∷ codes "a" ∷ codes "b" ∷ codes "--journal" ∷ codes "j" ∷ codes "--sync=true" ∷ []) ≡ usage
@@ -503,6 +526,11 @@ statement_ledger_row : row (codes "statement" ∷ codes "a" ∷ codes "b" ∷ co
 unfolding chars
 statement_ledger_row = refl
 
+-- and closes nothing
+statement_early_row : row (codes "statement" ∷ codes "a" ∷ codes "b" ∷ codes "7" ∷ codes "19730" ∷ codes "--early" ∷ []) ≡ usage
+unfolding chars
+statement_early_row = refl
+
 replay_row : row (codes "replay" ∷ codes "a" ∷ codes "b" ∷ codes "j" ∷ []) ≡ replay (codes "a") (codes "b") (codes "j" ∷ [])
 unfolding chars
 replay_row = refl
@@ -581,6 +609,7 @@ example = record {
   close = 19_730;
   journal = None;
   ledger = None;
+  early = false;
 }
 
 abbrev options_row : List Text → List Text
@@ -595,7 +624,11 @@ serve_files_row : row (codes "serve" ∷ codes "a" ∷ codes "b" ∷ codes "--le
 unfolding chars
 serve_files_row = refl
 
--- `serve` has no such flag
+serve_early_row : row (codes "serve" ∷ codes "a" ∷ codes "--early" ∷ codes "b" ∷ codes "--port=9000" ∷ options_row []) ≡ serve (record example { early = true })
+unfolding chars
+serve_early_row = refl
+
+-- `serve` has no `--sync`
 serve_sync_row : row (codes "serve" ∷ codes "a" ∷ codes "b" ∷ codes "--sync" ∷ codes "--port=9000" ∷ options_row (codes "--journal=j" ∷ [])) ≡ usage
 unfolding chars
 serve_sync_row = refl

@@ -52,10 +52,14 @@ flag_option name = record (new_rule name) { long = Some name; action = Some SetT
 abbrev pub with_fares_and_zone : App → App
 with_fares_and_zone app = with_rule (with_rule app (required_word (codes "FARES"))) (required_word (codes "ZONE"))
 
--- `run FARES ZONE [--journal FILE [--sync]] [--ledger FILE]`
+-- the options of what closes days into a file
+abbrev pub with_ledger : App → App
+with_ledger app = with_rule (with_rule app (text_option (codes "ledger"))) (flag_option (codes "early"))
+
+-- `run FARES ZONE [--journal FILE [--sync]] [--ledger FILE] [--early]`
 abbrev pub run_app : App
-run_app = with_rule (with_rule (with_rule (with_fares_and_zone (new_app (codes "run")))
-    (text_option (codes "journal"))) (flag_option (codes "sync"))) (text_option (codes "ledger"))
+run_app = with_ledger (with_rule (with_rule (with_fares_and_zone (new_app (codes "run")))
+    (text_option (codes "journal"))) (flag_option (codes "sync")))
 
 -- the options of `check` that compare two fare files
 abbrev pub with_against : App → App
@@ -82,10 +86,9 @@ with_numbers app = with_rule (with_rule (with_rule (with_rule (with_rule app
     (required_option (codes "shards") 1 MOST_SHARDS)) (required_option (codes "sessions") 1 MOST_SESSIONS))
     (required_option (codes "close") FIRST_DAY LAST_DAY)
 
--- `serve FARES ZONE --port P --lanes L --shards N --sessions K --close DAY [--journal FOLDER] [--ledger FILE]`
+-- `serve FARES ZONE --port P --lanes L --shards N --sessions K --close DAY [--journal FOLDER] [--ledger FILE] [--early]`
 abbrev pub serve_app : App
-serve_app = with_rule (with_rule (with_numbers (with_fares_and_zone (new_app (codes "serve"))))
-    (text_option (codes "journal"))) (text_option (codes "ledger"))
+serve_app = with_ledger (with_rule (with_numbers (with_fares_and_zone (new_app (codes "serve")))) (text_option (codes "journal")))
 
 -- the program, which has a version, and wants one of its programs named
 abbrev pub farebox_app : App
@@ -104,7 +107,7 @@ flag_text given = if given then codes "true" else codes "false"
 abbrev pub HaveRun : List Row → Run → Type 0
 HaveRun rows r = (first_of (codes "FARES") rows ≡ Some r.fares) × (first_of (codes "ZONE") rows ≡ Some r.zone)
     × (first_of (codes "journal") rows ≡ r.journal) × (one_of (codes "sync") rows ≡ Some (flag_text r.syncs))
-    × (first_of (codes "ledger") rows ≡ r.ledger)
+    × (first_of (codes "ledger") rows ≡ r.ledger) × (one_of (codes "early") rows ≡ Some (flag_text r.early))
 
 -- the matches are those of `run` with these values
 abbrev pub GivesRun : ArgMatches → Run → Type 0
@@ -114,7 +117,7 @@ GivesRun m r = (rows : List Row) × (subcommand_rows_of m ≡ Some (codes "run",
 abbrev pub HasRun : Found → Run → Type 0
 HasRun f r = (first_value f (codes "FARES") ≡ Some r.fares) × (first_value f (codes "ZONE") ≡ Some r.zone)
     × (first_value f (codes "journal") ≡ r.journal) × (one_text f (codes "sync") ≡ Some (flag_text r.syncs))
-    × (first_value f (codes "ledger") ≡ r.ledger)
+    × (first_value f (codes "ledger") ≡ r.ledger) × (one_text f (codes "early") ≡ Some (flag_text r.early))
 
 -- these rows have the words that `check` is given
 abbrev pub HaveCheckTexts : List Row → CheckTexts → Type 0
@@ -172,6 +175,7 @@ HaveServeTexts rows t = (first_of (codes "FARES") rows ≡ Some t.fares) × (fir
     × (one_of (codes "shards") rows ≡ Some t.shards) × (one_of (codes "sessions") rows ≡ Some t.sessions)
     × (one_of (codes "close") rows ≡ Some t.close)
     × (first_of (codes "journal") rows ≡ t.journal) × (first_of (codes "ledger") rows ≡ t.ledger)
+    × (one_of (codes "early") rows ≡ Some (flag_text t.early))
 
 -- the matches are those of `serve` with these values, and words in their ranges for the numbers
 abbrev pub GivesServe : ArgMatches → Serve → Type 0
@@ -185,6 +189,7 @@ HasServeTexts f t = (first_value f (codes "FARES") ≡ Some t.fares) × (first_v
     × (one_text f (codes "shards") ≡ Some t.shards) × (one_text f (codes "sessions") ≡ Some t.sessions)
     × (one_text f (codes "close") ≡ Some t.close)
     × (first_value f (codes "journal") ≡ t.journal) × (first_value f (codes "ledger") ≡ t.ledger)
+    × (one_text f (codes "early") ≡ Some (flag_text t.early))
 
 -- help was asked for, or memory was refused
 abbrev pub IsHelpOrMemory : WordsFault → Type 0

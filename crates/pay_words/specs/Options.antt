@@ -31,6 +31,7 @@ pub data Setting : Type 0 where
   journal_option : Setting
   sync_option : Setting
   ledger_option : Setting
+  early_option : Setting
   lint_option : Setting
   against_option : Setting
   after_option : Setting
@@ -44,6 +45,7 @@ name_of close_option = codes "close"
 name_of journal_option = codes "journal"
 name_of sync_option = codes "sync"
 name_of ledger_option = codes "ledger"
+name_of early_option = codes "early"
 name_of lint_option = codes "lint"
 name_of against_option = codes "against"
 name_of after_option = codes "after"
@@ -57,6 +59,7 @@ is_flag close_option = false
 is_flag journal_option = false
 is_flag sync_option = true
 is_flag ledger_option = false
+is_flag early_option = true
 is_flag lint_option = true
 is_flag against_option = false
 is_flag after_option = false
@@ -78,6 +81,7 @@ reader_of close_option = is_day
 reader_of journal_option = any_text
 reader_of sync_option = is_flag_value
 reader_of ledger_option = any_text
+reader_of early_option = is_flag_value
 reader_of lint_option = is_flag_value
 reader_of against_option = any_text
 reader_of after_option = is_day

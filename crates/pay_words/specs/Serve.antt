@@ -3,8 +3,8 @@ use Rattle.std.specs.Prelude.{◌≡◌, ◌+◌, ◌-◌, ℕ, List, [], ◌∷
 use Rattle.pay_words.specs.declared.limits.TheConstants.{MOST_PORT}
 use Rattle.pay_words.specs.OneWord.{Text, is_day, is_lanes, is_port, is_sessions, is_shards, number_of}
 use Rattle.pay_words.specs.Options.{AreParts, Grammar, Part, plain_words, values_of, fares_place, zone_place}
-use Rattle.pay_words.specs.Options.{port_option, lanes_option, shards_option, sessions_option, close_option, journal_option, ledger_option}
-use Rattle.pay_words.specs.Run.{listed}
+use Rattle.pay_words.specs.Options.{port_option, lanes_option, shards_option, sessions_option, close_option, journal_option, ledger_option, early_option}
+use Rattle.pay_words.specs.Run.{flags, listed}
 
 -- what `serve` is asked for
 pub record Serve : Type 0 where
@@ -17,6 +17,7 @@ pub record Serve : Type 0 where
   pub close : ℕ
   pub journal : Option Text
   pub ledger : Option Text
+  pub early : Bool
 
 -- the words that `serve` is given, one for each thing that it needs
 pub record ServeTexts : Type 0 where
@@ -29,11 +30,12 @@ pub record ServeTexts : Type 0 where
   pub close : Text
   pub journal : Option Text
   pub ledger : Option Text
+  pub early : Bool
 
 abbrev pub serve_grammar : Grammar
 serve_grammar = record {
   places = fares_place ∷ zone_place ∷ [];
-  options = port_option ∷ lanes_option ∷ shards_option ∷ sessions_option ∷ close_option ∷ journal_option ∷ ledger_option ∷ [];
+  options = port_option ∷ lanes_option ∷ shards_option ∷ sessions_option ∷ close_option ∷ journal_option ∷ ledger_option ∷ early_option ∷ [];
 }
 
 abbrev pub numbers_of : ServeTexts → Serve
@@ -47,6 +49,7 @@ numbers_of t = record {
   close = number_of t.close;
   journal = t.journal;
   ledger = t.ledger;
+  early = t.early;
 }
 
 -- the numbers among the words of `serve` are in their ranges
@@ -64,6 +67,7 @@ HaveNeeded t parts = (values_of port_option parts ≡ t.port ∷ []) × (values_
 abbrev pub ArePartsOf : ServeTexts → List Part → Type 0
 ArePartsOf t parts = AreParts serve_grammar parts × (plain_words parts ≡ t.fares ∷ t.zone ∷ []) × HaveNeeded t parts
     × (values_of journal_option parts ≡ listed t.journal) × (values_of ledger_option parts ≡ listed t.ledger)
+    × (values_of early_option parts ≡ flags t.early)
 
 -- lane l, from 0 on, listens on port `port` + l; this is the port of the last one
 abbrev pub last_port : ℕ → ℕ → ℕ

@@ -66,6 +66,11 @@ posted, and at the end";
 pub const LEDGER: &str = "\
 The SQLite file that days are closed into. It is made if it is missing";
 
+/// What the option `--early` is.
+pub const EARLY: &str = "\
+Close a day that is not over yet. Without it, a close into a ledger in a
+file is refused before its day is over by this machine's clock";
+
 /// What the option `--lint` is.
 pub const LINT: &str = "\
 Say where a fault lies, and warn of what may be a mistake: keys that nothing
@@ -119,7 +124,8 @@ Words of run (FARES ZONE), of check (FARES), of statement (FARES ZONE ACCOUNT DA
 
 Further options: --journal FILE and --ledger FILE of run, and --sync with --journal; --lint and
 --against OLD of check, where OLD is another fare file, and --after DAY with --against; --journal
-FILE of statement, where it is only read; --journal FOLDER and --ledger FILE of serve.
+FILE of statement, where it is only read; --journal FOLDER and --ledger FILE of serve; --early of
+run and of serve, for a day that is not over yet.
 
 Example: account 7 boards a bus in London on Monday 8 January 2024 at 07:00. The reply names the
 day, counted from 1970-01-01, its price and that of its week, in pence.
@@ -137,8 +143,10 @@ The lines and replies, the fare file and the faults are described in docs/FORMAT
 /// What stands below the help of `run`.
 pub const BELOW_RUN: &str = "\
 With --journal FILE the lines that were accepted before are taken first, and with --ledger FILE days
-are closed into a file. With --journal and without --ledger nothing is closed, and a CLOSE is refused
-by 34: what is posted would not be there for the next session. --sync is taken with --journal alone.
+are closed into a file: those that are over by this machine's clock, and with --early any. With
+--journal and without --ledger nothing is closed, and a CLOSE is refused by 34: what is posted would
+not be there for the next session. --sync is taken with --journal alone. Without --ledger, --early
+does nothing.
 
 Example: account 7 boards a bus in London on Monday 8 January 2024 at 07:00. The reply names the
 day, counted from 1970-01-01, its price and that of its week, in pence.
@@ -211,8 +219,9 @@ another, in a thread of its own. On a connection lines come in, and the reply to
 CLOSE is refused by 34. The accounts are spread over N shards, each in a thread of its own. When
 all connections of all lanes have ended, DAY is closed, the lines of that close are printed, and
 the program ends. With --journal FOLDER the lines that were accepted before are taken first, and
-with --ledger FILE the day is closed into a file. With --journal and without --ledger it is not
-closed: its refusal by 34 is printed, and the status is 1.
+with --ledger FILE the day is closed into a file, if it is over by this machine's clock or --early
+is given. With --journal and without --ledger it is not closed: its refusal by 34 is printed, and
+the status is 1. Without --ledger, --early does nothing.
 
 Example: two lanes, on ports 9000 and 9001, serve a connection each, and day 19730 is closed.
   $ farebox serve examples/bus.toml GMT0BST,M3.5.0/1,M10.5.0 --port 9000 --lanes 2 --shards 4 \\

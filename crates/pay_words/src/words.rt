@@ -9,7 +9,7 @@ ghost use Rattle.pay_words.specs.CommandLine.{HasCheckTexts, HasFaresAndZone, Ha
 ghost use Rattle.pay_words.specs.CommandLine.{IsFaultOfKind, IsHelpOrMemory, IsVersionOrMemory, flag_text};
 ghost use Rattle.pay_words.specs.CommandLine.{check_app, farebox_app, replay_app, run_app, serve_app, statement_app};
 ghost use Rattle.pay_words.specs.CommandLine.{flag_option, optional_number, required_number, required_option, required_word};
-ghost use Rattle.pay_words.specs.CommandLine.{required_words, text_option, with_against, with_fares_and_zone, with_numbers};
+ghost use Rattle.pay_words.specs.CommandLine.{required_words, text_option, with_against, with_fares_and_zone, with_ledger, with_numbers};
 ghost use Rattle.clap.specs.Words.{shape_of, with_rule, with_subcommand};
 ghost use Rattle.clap.specs.ValueTests.{is_unsigned_in};
 ghost use Rattle.clap.specs.Walk.{rule_of};
@@ -56,7 +56,7 @@ pub enum Job<'a> {
     Serve(ServeWords<'a>),
 }
 
-/// The values of `run FARES ZONE [--journal FILE [--sync]] [--ledger FILE]`.
+/// The values of `run FARES ZONE [--journal FILE [--sync]] [--ledger FILE] [--early]`.
 #[derive(Clone, Copy)]
 pub struct RunWords<'a> {
     /// The path of the fare file.
@@ -70,6 +70,8 @@ pub struct RunWords<'a> {
     pub syncs: bool,
     /// The path of the SQLite file that days are closed into.
     pub ledger: Option<&'a str>,
+    /// Whether a day is closed into that file also where it is not over yet.
+    pub early: bool,
 }
 
 /// The values of `check FARES [--lint] [--against OLD [--after DAY]]`.
@@ -113,7 +115,7 @@ pub struct ReplayWords<'a> {
 }
 
 /// The values of `serve FARES ZONE --port P --lanes L --shards N --sessions K --close DAY
-/// [--journal FOLDER] [--ledger FILE]`.
+/// [--journal FOLDER] [--ledger FILE] [--early]`.
 #[derive(Clone, Copy)]
 pub struct ServeWords<'a> {
     /// The path of the fare file.
@@ -134,6 +136,8 @@ pub struct ServeWords<'a> {
     pub journal: Option<&'a str>,
     /// The path of the SQLite file that the day is closed into.
     pub ledger: Option<&'a str>,
+    /// Whether the day is closed into that file also where it is not over yet.
+    pub early: bool,
 }
 
 /// Why the words give no job.
@@ -165,8 +169,8 @@ impl From<AllocError> for WordsFault {
 ///
 /// A word that begins with a hyphen and goes on is an option: help, in the place of a program the
 /// version, one of the options of its program, and no other. The value of an option is the next word, or
-/// stands after an equals sign in the same; `--sync` and `--lint` have none. `--sync` is taken with `--journal`
-/// alone, and `--after` with `--against`. Each is given once, before, between or after the other values.
+/// stands after an equals sign in the same; `--sync`, `--early` and `--lint` have none. `--sync` is taken with
+/// `--journal` alone, and `--after` with `--against`. Each is given once, before, between or after the other values.
 /// `--` says that each word after it is a value. Numbers are decimal digits, which may have a plus and zeros
 /// before them; one outside its range is refused as `Usage`, and so are lanes with a port above 65,535.
 pub fn read_words<'a>(alloc: Global, words: &'a [&'a str]) -> Result<Job<'a>, WordsFault>
@@ -195,7 +199,7 @@ pub fn read_words<'a>(alloc: Global, words: &'a [&'a str]) -> Result<Job<'a>, Wo
     // Three words or more with no hyphen before them are the values of `replay`.
     ensures replay { ReplayIsTaken (texts words.entry.now) result }
 
-    // Two words with no hyphen before them, five options with numbers in their ranges, and perhaps two others, in
+    // Two words with no hyphen before them, five options with numbers in their ranges, and perhaps three others, in
     // any order, are the values of `serve`, where each lane has a port.
     ensures serve { ServeIsTaken (texts words.entry.now) result }
 {
@@ -252,10 +256,21 @@ fn run_command<'a>(alloc: Global) -> Result<Command<'a>, AllocError>
     let command = Command::new(alloc, "run")
         .about(help::RUN)
         .after_help(help::BELOW_RUN);
-    with_fares_and_zone(alloc, command)?
+    let kept = with_fares_and_zone(alloc, command)?
         .arg(text_option(alloc, "journal", "FILE", help::JOURNAL))?
-        .arg(flag_option(alloc, "sync", help::SYNC))?
-        .arg(text_option(alloc, "ledger", "FILE", help::LEDGER))
+        .arg(flag_option(alloc, "sync", help::SYNC))?;
+    with_ledger(alloc, kept)
+}
+
+/// A command with the options of what closes days into a file, after the words that it has.
+fn with_ledger<'a>(alloc: Global, command: Command<'a>) -> Result<Command<'a>, AllocError>
+    requires { (fields_of command).has_globals ≡ false }
+    ensures app { IfOk result (λ r. app_of r ≡ with_ledger (app_of command.entry)) }
+    ensures local { IfOk result (λ r. (fields_of r).has_globals ≡ false) }
+{
+    command
+        .arg(text_option(alloc, "ledger", "FILE", help::LEDGER))?
+        .arg(flag_option(alloc, "early", help::EARLY))
 }
 
 /// A command with the words FARES and ZONE, after those that it has.
@@ -322,9 +337,13 @@ fn serve_command<'a>(alloc: Global) -> Result<Command<'a>, AllocError>
     let command = Command::new(alloc, "serve")
         .about(help::SERVE)
         .after_help(help::BELOW_SERVE);
-    with_numbers(alloc, with_fares_and_zone(alloc, command)?)?
-        .arg(text_option(alloc, "journal", "FOLDER", help::JOURNALS))?
-        .arg(text_option(alloc, "ledger", "FILE", help::LEDGER))
+    let kept = with_numbers(alloc, with_fares_and_zone(alloc, command)?)?.arg(text_option(
+        alloc,
+        "journal",
+        "FOLDER",
+        help::JOURNALS,
+    ))?;
+    with_ledger(alloc, kept)
 }
 
 /// A command with the options that `serve` needs, after the words that it has.
@@ -455,6 +474,7 @@ fn run_words<'a>(run: &ArgMatches<'a>) -> Option<RunWords<'a>>
         journal: run.get_str("journal"),
         syncs: is_flagged(run, "sync"),
         ledger: run.get_str("ledger"),
+        early: is_flagged(run, "early"),
     })
 }
 
@@ -618,6 +638,7 @@ fn serve_words<'a>(serve: &ArgMatches<'a>) -> Option<ServeWords<'a>>
         close: number_of(serve, "close")?,
         journal: serve.get_str("journal"),
         ledger: serve.get_str("ledger"),
+        early: is_flagged(serve, "early"),
     })
 }
 
