@@ -5,14 +5,18 @@ use Rattle.clap.specs.Kinds.{Kinds}
 use Rattle.clap.specs.ValueTests.{is_unsigned_in}
 use Rattle.std.specs.Prelude.{IfSome, ⊤}
 use Rattle.std.proofs.lemmas.Bool.Decides.{eqb_tells}
-use Rattle.pay_words.specs.Asked.{AreCheckWords, AreRunWords, AreServeWords, AreStatementWords, Asked, HaveNoHyphens, Word, allowed, asked, many_by, many_given, word_kind, words_ask, option_asked, program_asked}
+use Rattle.pay_words.specs.Asked.{AreAuditWords, AreCheckWords, AreRunWords, AreServeWords, AreStatementWords, Asked, HaveNoHyphens, Word, allowed, asked, many_by, many_given, word_kind, words_ask, option_asked, program_asked}
+use Rattle.pay_words.specs.Asked.{audit, audit_asked, audit_of, rebuild, rebuild_asked, rebuild_of}
 use Rattle.pay_words.specs.Asked.{check, check_asked, check_of, replay, replay_asked, run, run_asked, run_of, serve, serve_asked, serve_of, statement, statement_asked, statement_of}
 use Rattle.pay_words.specs.Asked.{Given, with_value, values, help, refused, without_dashes}
 use Rattle.pay_words.specs.Asked as words
-use Rattle.pay_words.specs.Options.{IsOption, Part, Said, Setting, StandApart, all_of, all_said, flag_value, help_wanted, is_flag, not_taken, plain_words, reader_of, values_of, words_of_parts}
+use Rattle.pay_words.specs.Options as say
+use Rattle.pay_words.specs.Options.{AreParts, IsOption, Part, Said, Setting, StandApart, all_of, all_said, flag_value, help_wanted, is_flag, not_taken, plain_words, reader_of, values_of, words_of_parts}
 use Rattle.pay_words.specs.Options.{port_option, lanes_option, shards_option, sessions_option, close_option, journal_option, sync_option, ledger_option, early_option}
 use Rattle.pay_words.specs.Options.{lint_option, against_option, after_option}
+use Rattle.pay_words.specs.Audit.{AreAuditParts, Audit, audit_grammar}
 use Rattle.pay_words.specs.Check.{AreCheckParts, CheckTexts, HasAfterInRange, check_grammar, check_of_texts, has_against}
+use Rattle.pay_words.specs.Rebuild.{rebuild_grammar}
 use Rattle.pay_words.specs.Run.{AreRunParts, Run, first_given, flags, has_journal, is_given, listed, run_grammar}
 use Rattle.pay_words.specs.Serve.{AreInRange, ArePartsOf, ServeTexts, has_ports, numbers_of, serve_grammar}
 use Rattle.pay_words.specs.Statement.{AreStatementParts, HasNumbersInRange, StatementTexts, statement_grammar, statement_of_texts}
@@ -23,8 +27,10 @@ use Rattle.pay_words.proofs.Programs.{by_program}
 use Rattle.pay_words.proofs.WordKinds.{Reads, reads}
 use Rattle.pay_words.proofs.WordLevels.{Level, rows_from}
 use Rattle.pay_words.proofs.WordSteps.{stand}
+use Rattle.pay_words.proofs.WordsAfterAudit.{audit_apart, audit_built, audit_rules, audit_shape}
 use Rattle.pay_words.proofs.WordsAfterCheck.{check_apart, check_built, check_rules, check_shape, under_day}
 use Rattle.pay_words.proofs.WordsAfterOptions.{Comes, Places, Under, ends}
+use Rattle.pay_words.proofs.WordsAfterRebuild.{rebuild_apart, rebuild_built, rebuild_rules}
 use Rattle.pay_words.proofs.WordsAfterReplay.{replay_long, replay_rules, replay_short}
 use Rattle.pay_words.proofs.WordsAfterRun.{run_apart, run_built, run_rules, run_shape}
 use Rattle.pay_words.proofs.WordsAfterServe.{serve_apart, serve_built, serve_rules, serve_shape}
@@ -70,6 +76,8 @@ AreWordsOf (check c) ws = AreCheckWords c (without_dashes ws)
 AreWordsOf (statement s) ws = AreStatementWords s (without_dashes ws)
 AreWordsOf (replay a b files) ws = (without_dashes ws ≡ codes "replay" ∷ a ∷ b ∷ files) × (files ≢ [])
 AreWordsOf (serve s) ws = AreServeWords s (without_dashes ws)
+AreWordsOf (audit a) ws = AreAuditWords a (without_dashes ws)
+AreWordsOf (rebuild fares ledger) ws = without_dashes ws ≡ codes "rebuild" ∷ fares ∷ ledger ∷ []
 AreWordsOf _ ws = ⊤
 
 -- what an option was given is the one value that it has, if it has one
@@ -252,6 +260,56 @@ after_serve rest = go (all_said serve_grammar rest) (Level serve_shape [] (stand
     go help_wanted ks rows s h = tt
     go not_taken ks rows s h = tt
 
+after_audit : (rest : List Text) → AreWordsOf (audit_asked (all_said audit_grammar rest)) (codes "audit" ∷ rest)
+after_audit rest = go (all_said audit_grammar rest) (Level audit_shape [] (stand [] None idle 1 false) rest false []) (rows_from audit_shape [] (stand [] None idle 1 false) rest)
+    (says audit_grammar (codes "audit") audit_rules audit_built audit_apart rest) (ends audit_grammar (codes "audit") audit_rules audit_built audit_apart rest)
+  where
+    made : (parts : List Part) (had : List Row) → Says audit_grammar (codes "audit") audit_rules audit_built audit_apart (all_of parts) (without_dashes rest)
+        → ((k : Setting) → Under had k (values_of k parts)) → (vs js : List Text) → plain_words parts ≡ vs → values_of journal_option parts ≡ js
+        → AreWordsOf (audit_of vs js (values_of ledger_option parts)) (codes "audit" ∷ rest)
+    made parts had s under [] js is j = tt
+    made parts had s under (a ∷ []) js is j = tt
+    made parts had s under (a ∷ b ∷ c ∷ more) js is j = tt
+    made parts had s under (a ∷ b ∷ []) [] is j = tt
+    made parts had s under (a ∷ b ∷ []) (w ∷ v ∷ more) is j = tt
+    made parts had s under (a ∷ b ∷ []) (w ∷ []) is j = (
+      parts,
+      ap (λ (l : List Text). codes "audit" ∷ l) s.0,
+      (s.1, is, j, under_listed had ledger_option (values_of ledger_option parts) (under ledger_option)),
+    )
+
+    go : (x : Said) (ks : Kinds) (rows : List Row) → Says audit_grammar (codes "audit") audit_rules audit_built audit_apart x (without_dashes rest)
+        → Comes audit_grammar (codes "audit") audit_rules audit_built audit_apart x ks rows → AreWordsOf (audit_asked x) (codes "audit" ∷ rest)
+    go (all_of parts) ks rows s h = made parts h.0 s h.1.2 (plain_words parts) (values_of journal_option parts) refl refl
+    go help_wanted ks rows s h = tt
+    go not_taken ks rows s h = tt
+
+-- where there are no options, the words are the values
+all_values : (parts : List Part) → AreParts rebuild_grammar parts → words_of_parts parts ≡ plain_words parts
+all_values [] are = refl
+all_values (say.plain w ∷ parts) are = ap (λ (l : List Text). w ∷ l) (all_values parts are.1)
+all_values (say.apart k w ∷ parts) are =
+    let none = are.0.0 in cc
+all_values (say.joined k w ∷ parts) are =
+    let none = are.0.0 in cc
+all_values (say.alone k ∷ parts) are =
+    let none = are.0.0 in cc
+
+after_rebuild : (rest : List Text) → AreWordsOf (rebuild_asked (all_said rebuild_grammar rest)) (codes "rebuild" ∷ rest)
+after_rebuild rest = go (all_said rebuild_grammar rest) (says rebuild_grammar (codes "rebuild") rebuild_rules rebuild_built rebuild_apart rest)
+  where
+    made : (vs : List Text) → without_dashes rest ≡ vs → AreWordsOf (rebuild_of vs) (codes "rebuild" ∷ rest)
+    made [] is = tt
+    made (a ∷ []) is = tt
+    made (a ∷ b ∷ c ∷ more) is = tt
+    made (a ∷ b ∷ []) is = ap (λ (l : List Text). codes "rebuild" ∷ l) is
+
+    go : (x : Said) → Says rebuild_grammar (codes "rebuild") rebuild_rules rebuild_built rebuild_apart x (without_dashes rest)
+        → AreWordsOf (rebuild_asked x) (codes "rebuild" ∷ rest)
+    go (all_of parts) s = made (plain_words parts) (s.0 ∙ all_values parts s.1)
+    go help_wanted s = tt
+    go not_taken s = tt
+
 after_other : (k : Word) (ws : List Text) → AreWordsOf (option_asked k) ws
 after_other words.value ws = tt
 after_other words.dashes ws = tt
@@ -278,6 +336,8 @@ allowed_too (serve s) ws h = go (has_ports s) refl
     go : (fits : Bool) → has_ports s ≡ fits → AreWordsOf (allowed (serve s)) ws
     go true is = rw is h
     go false is = rw is tt
+allowed_too (audit a) ws h = h
+allowed_too (rebuild fares ledger) ws h = h
 allowed_too words.help_asked ws h = tt
 allowed_too words.help_named ws h = tt
 allowed_too words.version_asked ws h = tt
@@ -286,8 +346,8 @@ allowed_too words.usage ws h = tt
 said_in_order : (ws : List Text) → AreWordsOf (words_ask ws) (drop 1 ws)
 said_in_order [] = tt
 said_in_order (name ∷ []) = tt
-said_in_order (name ∷ word ∷ rest) = by_program (λ (w : Text). AreWordsOf (program_asked w rest) (w ∷ rest)) word (after_run rest) (after_check rest) (after_statement rest) (after_replay rest) (after_serve rest) tt
-    (λ none. rw (none.0, none.1, none.2, none.3, none.4, none.5) (after_other (word_kind word) (word ∷ rest)))
+said_in_order (name ∷ word ∷ rest) = by_program (λ (w : Text). AreWordsOf (program_asked w rest) (w ∷ rest)) word (after_run rest) (after_check rest) (after_statement rest) (after_replay rest) (after_serve rest) (after_audit rest) (after_rebuild rest) tt
+    (λ none. rw (none.0, none.1, none.2, none.3, none.4, none.5, none.6, none.7) (after_other (word_kind word) (word ∷ rest)))
 
 -- but for the first, and for a `--`, the words are those of the job
 pub in_order : (ws : List Text) → AreWordsOf (asked ws) (drop 1 ws)
@@ -472,3 +532,44 @@ pub asks_serve : (ws : List Text) (name : Text) (t : ServeTexts) (parts : List P
     → slice_index t.fares 0 ≢ 45 → slice_index t.zone 0 ≢ 45 → AreInRange t → has_ports (numbers_of t) ≡ true → asked ws ≡ serve (numbers_of t)
 asks_serve ws name t parts is are may f z fits ports = ap asked is ∙ (ap (λ (x : Said). allowed (serve_asked x)) (parts_taken serve_grammar parts (serve_taken t parts are fits f z) may)
     ∙ (ap allowed (serve_is t parts are fits) ∙ (rw ports refl)))
+
+module _ (a : Audit) (parts : List Part) (are : AreAuditParts a parts) where
+  none_of_audit : (k : Setting) → (IsOption audit_grammar k → ⊥) → Once k (values_of k parts)
+  none_of_audit k none = subst (Once k) (sym (no_values audit_grammar k none parts are.0)) tt
+
+  audit_once : (k : Setting) → Once k (values_of k parts)
+  audit_once port_option = none_of_audit port_option (λ e. cc)
+  audit_once lanes_option = none_of_audit lanes_option (λ e. cc)
+  audit_once shards_option = none_of_audit shards_option (λ e. cc)
+  audit_once sessions_option = none_of_audit sessions_option (λ e. cc)
+  audit_once close_option = none_of_audit close_option (λ e. cc)
+  audit_once journal_option = subst (Once journal_option) (sym are.2) refl
+  audit_once sync_option = none_of_audit sync_option (λ e. cc)
+  audit_once ledger_option = subst (Once ledger_option) (sym are.3) (once_listed ledger_option a.ledger (λ v. refl))
+  audit_once early_option = none_of_audit early_option (λ e. cc)
+  audit_once lint_option = none_of_audit lint_option (λ e. cc)
+  audit_once against_option = none_of_audit against_option (λ e. cc)
+  audit_once after_option = none_of_audit after_option (λ e. cc)
+
+  audit_taken : slice_index a.fares 0 ≢ 45 → slice_index a.zone 0 ≢ 45 → AreTaken audit_grammar parts
+  audit_taken f z = record {
+    are = are.0;
+    fits = subst (Fits audit_grammar.places) (sym are.1) (refl, (refl, tt));
+    hyphens = subst HaveNoHyphens (sym are.1) (f, (z, tt));
+    once = audit_once;
+  }
+
+  audit_is : audit_asked (all_of parts) ≡ audit a
+  audit_is = rw (are.1, are.2, are.3, first_listed a.ledger) refl
+
+pub asks_audit : (ws : List Text) (name : Text) (a : Audit) (parts : List Part) → ws ≡ name ∷ codes "audit" ∷ words_of_parts parts → AreAuditParts a parts → StandApart parts
+    → slice_index a.fares 0 ≢ 45 → slice_index a.zone 0 ≢ 45 → asked ws ≡ audit a
+asks_audit ws name a parts is are may f z = ap asked is
+    ∙ (ap (λ (x : Said). allowed (audit_asked x)) (parts_taken audit_grammar parts (audit_taken a parts are f z) may) ∙ ap allowed (audit_is a parts are))
+
+pub asks_rebuild : (ws : List Text) (name fares ledger : Text) → ws ≡ name ∷ codes "rebuild" ∷ fares ∷ ledger ∷ []
+    → slice_index fares 0 ≢ 45 → slice_index ledger 0 ≢ 45 → asked ws ≡ rebuild fares ledger
+asks_rebuild ws name fares ledger is f l =
+    let parts : List Part = say.plain fares ∷ say.plain ledger ∷ [] in
+    let taken : AreTaken rebuild_grammar parts = record { are = (tt, (tt, tt)); fits = (refl, (refl, tt)); hyphens = (f, (l, tt)); once = λ k. tt } in
+    ap asked is ∙ ap (λ (x : Said). allowed (rebuild_asked x)) (parts_taken rebuild_grammar parts taken tt)

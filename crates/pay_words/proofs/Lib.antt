@@ -11,8 +11,10 @@ mod Results
 mod WordKinds
 mod WordLevels
 mod WordSteps
+mod WordsAfterAudit
 mod WordsAfterCheck
 mod WordsAfterOptions
+mod WordsAfterRebuild
 mod WordsAfterReplay
 mod WordsAfterRun
 mod WordsAfterServe

@@ -33,16 +33,16 @@ abbrev pub IsFinal : Setting → List Row → List Text → List Row → Type 0
 IsFinal k had vs rows = ((id : Text) → bytes_eq (name_of k) id ≡ false → found id rows ≡ found id had)
     × (one_of (name_of k) rows ≡ Some (flag_text (is_given vs)))
 
-pub flag_final : (k : Setting) → is_flag k ≡ true → (had : List Row) (vs : List Text) → Under had k vs → IsFinal k had vs (with_default had (setting_rule k))
+pub flag_final : (k : Setting) → is_flag k ≡ true → (had : List Row) (vs : List Text) → Under had k vs → IsFinal k had vs (with_default had (setting_rule false k))
 flag_final k flag had [] h =
     let r : Row = default_row (name_of k) (codes "false") in
     let new : has_row (name_of k) had ≡ false = no_row (name_of k) had h in
-    let is : with_default had (setting_rule k) ≡ had ++ r ∷ [] = rw (new, flag, option_reading k) (default_added (name_of k) (codes "false") had h) in
+    let is : with_default had (setting_rule false k) ≡ had ++ r ∷ [] = rw (new, flag, option_reading false k) (default_added (name_of k) (codes "false") had h) in
     let own : found (name_of k) (had ++ r ∷ []) ≡ Some r = found_new (name_of k) had r h (same_name k) in
     subst (IsFinal k had []) (sym is) (λ id other. found_other id had r other, rw own refl)
 flag_final k flag had (v ∷ []) h =
     let old : has_row (name_of k) had ≡ true = a_row (name_of k) had (row_with (name_of k) v) h.0 in
-    let is : with_default had (setting_rule k) ≡ had = rw old refl in
+    let is : with_default had (setting_rule false k) ≡ had = rw old refl in
     subst (IsFinal k had (v ∷ [])) (sym is) (λ id other. refl, rw h.0 (ap Some (flag_given k flag v h.1)))
 flag_final k flag had (v ∷ w ∷ more) h = absurd h
 

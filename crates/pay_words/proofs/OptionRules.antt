@@ -17,7 +17,7 @@ use Rattle.clap.specs.declared.builder.value_parser.Reading.TheVariants as readi
 use Rattle.pay_words.specs.Options.{Grammar, Place, Setting, flag_value, is_flag, name_of, place_after, place_reader, reader_of, setting_named}
 use Rattle.pay_words.specs.Options.{port_option, lanes_option, shards_option, sessions_option, close_option, journal_option, sync_option, ledger_option, early_option}
 use Rattle.pay_words.specs.Options.{lint_option, against_option, after_option}
-use Rattle.pay_words.specs.Options.{fares_place, zone_place, account_place, day_place}
+use Rattle.pay_words.specs.Options.{fares_place, zone_place, account_place, day_place, ledger_place}
 use Rattle.pay_words.proofs.OptionRows.{a_row, found, no_row, row_added, row_with}
 use Rattle.pay_words.proofs.WordKinds.{LongOptionsBut, Refuses, ShortOptions, help_filled, is_refusal, same_bytes}
 use Rattle.pay_words.proofs.WordsOfProgram.{one_value, place_rule}
@@ -29,18 +29,22 @@ place_name fares_place = codes "FARES"
 place_name zone_place = codes "ZONE"
 place_name account_place = codes "ACCOUNT"
 place_name day_place = codes "DAY"
+place_name ledger_place = codes "LEDGER"
 
+-- where it stands, in each program that has it
 abbrev place_index : Place → ℕ
 place_index fares_place = 1
 place_index zone_place = 2
 place_index account_place = 3
 place_index day_place = 4
+place_index ledger_place = 2
 
 abbrev place_parser : Place → ValueParser
 place_parser fares_place = vp.String
 place_parser zone_place = vp.String
 place_parser account_place = vp.Unsigned 1 4_294_967_295
 place_parser day_place = vp.Unsigned 4 50_000
+place_parser ledger_place = vp.String
 
 -- as the build fills it in
 abbrev pub rule_at : Place → Rule
@@ -51,12 +55,14 @@ place_reads fares_place word = refl
 place_reads zone_place word = refl
 place_reads account_place word = refl
 place_reads day_place word = refl
+place_reads ledger_place word = refl
 
 place_reading : (p : Place) → reading_by (rule_at p) ≡ reading.AsWritten
 place_reading fares_place = refl
 place_reading zone_place = refl
 place_reading account_place = refl
 place_reading day_place = refl
+place_reading ledger_place = refl
 
 -- ---- options
 
@@ -74,7 +80,12 @@ parser_for lint_option = vp.Bool
 parser_for against_option = vp.String
 parser_for after_option = vp.Unsigned 4 50_000
 
-abbrev is_needed : Setting → Bool
+-- the options that a program needs
+abbrev pub Needs : Type 0
+Needs = Setting → Bool
+
+-- each that has a number, but for the day of `check`; `run`, `check` and `statement` need none of these
+abbrev pub is_needed : Needs
 is_needed port_option = true
 is_needed lanes_option = true
 is_needed shards_option = true
@@ -91,9 +102,9 @@ is_needed after_option = false
 abbrev no_values : ValueRange
 no_values = record { start_inclusive = 0; end_inclusive = 0 }
 
--- an option as the build fills it in
-abbrev pub setting_rule : Setting → Rule
-setting_rule k = record (new_rule (name_of k)) {
+-- an option as the build fills it in, where it is needed or not
+abbrev pub setting_rule : Bool → Setting → Rule
+setting_rule needed k = record (new_rule (name_of k)) {
   long = Some (name_of k);
   action = Some (if is_flag k then SetTrue else Set);
   range = Some (if is_flag k then no_values else one_value);
@@ -101,7 +112,7 @@ setting_rule k = record (new_rule (name_of k)) {
   defaults = if is_flag k then codes "false" ∷ [] else [];
   missing = if is_flag k then flag_value ∷ [] else [];
   parser = Some (parser_for k);
-  required = is_needed k;
+  required = needed;
 }
 
 option_reads : (k : Setting) (word : Text) → is_flag k ≡ false → accepts false (parser_for k) word ≡ reader_of k word
@@ -118,19 +129,19 @@ option_reads lint_option word value = cc
 option_reads against_option word value = refl
 option_reads after_option word value = refl
 
-pub option_reading : (k : Setting) → reading_by (setting_rule k) ≡ reading.AsWritten
-option_reading port_option = refl
-option_reading lanes_option = refl
-option_reading shards_option = refl
-option_reading sessions_option = refl
-option_reading close_option = refl
-option_reading journal_option = refl
-option_reading sync_option = refl
-option_reading ledger_option = refl
-option_reading early_option = refl
-option_reading lint_option = refl
-option_reading against_option = refl
-option_reading after_option = refl
+pub option_reading : (needed : Bool) (k : Setting) → reading_by (setting_rule needed k) ≡ reading.AsWritten
+option_reading needed port_option = refl
+option_reading needed lanes_option = refl
+option_reading needed shards_option = refl
+option_reading needed sessions_option = refl
+option_reading needed close_option = refl
+option_reading needed journal_option = refl
+option_reading needed sync_option = refl
+option_reading needed ledger_option = refl
+option_reading needed early_option = refl
+option_reading needed lint_option = refl
+option_reading needed against_option = refl
+option_reading needed after_option = refl
 
 -- ---- names
 
@@ -185,6 +196,7 @@ same_place fares_place = refl
 same_place zone_place = refl
 same_place account_place = refl
 same_place day_place = refl
+same_place ledger_place = refl
 
 -- ---- the options of a program
 
@@ -207,19 +219,21 @@ of_named (j ∷ options) P h name k is = go (bytes_eq (name_of j) name) refl (of
 abbrev help_or_none : Text → Option Rule
 help_or_none name = if bytes_eq (codes "help") name || false then Some help_filled else None
 
-abbrev pub rules_for : List Setting → List Rule
-rules_for [] = help_filled ∷ []
-rules_for (k ∷ options) = setting_rule k ∷ rules_for options
+abbrev pub rules_for : Needs → List Setting → List Rule
+rules_for needs [] = help_filled ∷ []
+rules_for needs (k ∷ options) = setting_rule (needs k) k ∷ rules_for needs options
+
+abbrev setting_or_help : Needs → Text → Option Setting → Option Rule
+setting_or_help needs name o = option_map_or (λ k. Some (setting_rule (needs k) k)) o (help_or_none name)
 
 -- the argument that a long name names
-pub rule_by_long : (options : List Setting) (name : Text) → arg_by_long (rules_for options) name
-    ≡ option_map_or (λ k. Some (setting_rule k)) (setting_named options name) (help_or_none name)
-rule_by_long [] name = refl
-rule_by_long (k ∷ options) name = go (bytes_eq (name_of k) name) refl (rule_by_long options name)
+pub rule_by_long : (needs : Needs) (options : List Setting) (name : Text) → arg_by_long (rules_for needs options) name ≡ setting_or_help needs name (setting_named options name)
+rule_by_long needs [] name = refl
+rule_by_long needs (k ∷ options) name = go (bytes_eq (name_of k) name) refl (rule_by_long needs options name)
   where
     go : (t : Bool) → bytes_eq (name_of k) name ≡ t
-        → arg_by_long (rules_for options) name ≡ option_map_or (λ k. Some (setting_rule k)) (setting_named options name) (help_or_none name)
-        → arg_by_long (rules_for (k ∷ options)) name ≡ option_map_or (λ k. Some (setting_rule k)) (setting_named (k ∷ options) name) (help_or_none name)
+        → arg_by_long (rules_for needs options) name ≡ setting_or_help needs name (setting_named options name)
+        → arg_by_long (rules_for needs (k ∷ options)) name ≡ setting_or_help needs name (setting_named (k ∷ options) name)
     go true t next = rw t refl
     go false t next = rw t next
 
@@ -233,18 +247,18 @@ position_of (a ∷ b ∷ c ∷ d ∷ more) = 5
 
 -- these are the arguments of a program, as they are built
 pub record IsBuilt (g : Grammar) (c : List Rule) : Type 0 where
-  pub by_long : (name : Text) → arg_by_long c name ≡ option_map_or (λ k. Some (setting_rule k)) (setting_named g.options name) (help_or_none name)
+  pub needs : Needs
+  pub by_long : (name : Text) → arg_by_long c name ≡ setting_or_help needs name (setting_named g.options name)
   pub by_short : ShortOptions c false
-  pub by_name : OfEach (λ k. arg_by_id c (name_of k) ≡ Some (setting_rule k)) g.options
+  pub by_name : OfEach (λ k. arg_by_id c (name_of k) ≡ Some (setting_rule (needs k) k)) g.options
   pub by_place : OfEach (λ p. arg_by_id c (place_name p) ≡ Some (rule_at p)) g.places
   pub by_index : (vs : List Text) → arg_by_index c (position_of vs) ≡ option_map rule_at (place_after g.places vs)
   pub next : (vs : List Text) (p : Place) (word : Text) → place_after g.places vs ≡ Some p → min (position_of vs + 1) usize_max ≡ position_of (vs ++ word ∷ [])
   pub defaults : (rows : List Row) → defaults_fault rows c ≡ []
 
 module _ (g : Grammar) (c : List Rule) (built : IsBuilt g c) where
-  pub setting_by_long : (name : Text) (k : Setting) → setting_named g.options name ≡ Some k → arg_by_long c name ≡ Some (setting_rule k)
-  setting_by_long name k is =
-      built.by_long name ∙ ap (λ (o : Option Setting). option_map_or (λ k. Some (setting_rule k)) o (help_or_none name)) is
+  pub setting_by_long : (name : Text) (k : Setting) → setting_named g.options name ≡ Some k → arg_by_long c name ≡ Some (setting_rule (built.needs k) k)
+  setting_by_long name k is = built.by_long name ∙ ap (setting_or_help built.needs name) is
 
   abbrev pub names_setting : Text → Bool
   names_setting name = is_some (setting_named g.options name)
@@ -252,7 +266,7 @@ module _ (g : Grammar) (c : List Rule) (built : IsBuilt g c) where
   pub long_but : LongOptionsBut names_setting c false
   long_but name unnamed = built.by_long name ∙ go (setting_named g.options name) unnamed
     where
-      go : (o : Option Setting) → is_some o ≡ false → option_map_or (λ k. Some (setting_rule k)) o (help_or_none name) ≡ help_or_none name
+      go : (o : Option Setting) → is_some o ≡ false → setting_or_help built.needs name o ≡ help_or_none name
       go None e = refl
       go (Some k) e = cc
 
@@ -311,9 +325,10 @@ refuses_place fares_place = refl
 refuses_place zone_place = refl
 refuses_place account_place = refl
 refuses_place day_place = refl
+refuses_place ledger_place = refl
 
-module _ (k : Setting) (rows : List Row) where
-  pub use_taken : (vs : List Text) (word : Text) → Uses k vs word → found (name_of k) rows ≡ None → reader_of k word ≡ true → use_fault false (setting_rule k) vs rows ≡ []
+module _ (needed : Bool) (k : Setting) (rows : List Row) where
+  pub use_taken : (vs : List Text) (word : Text) → Uses k vs word → found (name_of k) rows ≡ None → reader_of k word ≡ true → use_fault false (setting_rule needed k) vs rows ≡ []
   use_taken [] word (flag, is) none fits =
       let new : has_row (name_of k) rows ≡ false = no_row (name_of k) rows none in
       rw (flag, new, flag_reads k flag) refl
@@ -323,7 +338,7 @@ module _ (k : Setting) (rows : List Row) where
       rw (value, new, reads) refl
   use_taken (v ∷ w ∷ more) word uses none fits = absurd uses
 
-  pub use_beyond : (vs : List Text) (word : Text) → Uses k vs word → found (name_of k) rows ≡ None → reader_of k word ≡ false → Refuses (use_fault false (setting_rule k) vs rows)
+  pub use_beyond : (vs : List Text) (word : Text) → Uses k vs word → found (name_of k) rows ≡ None → reader_of k word ≡ false → Refuses (use_fault false (setting_rule needed k) vs rows)
   use_beyond [] word (flag, is) none beyond = absurd (true≢false (sym (flag_takes k flag) ∙ (ap (reader_of k) is ∙ beyond)))
   use_beyond (v ∷ []) word (value, is) none beyond =
       let new : has_row (name_of k) rows ≡ false = no_row (name_of k) rows none in
@@ -331,7 +346,7 @@ module _ (k : Setting) (rows : List Row) where
       rw (value, new, reads, refuses_value k) refl
   use_beyond (v ∷ w ∷ more) word uses none beyond = absurd uses
 
-  pub use_again : (vs : List Text) (word : Text) → Uses k vs word → (r : Row) → found (name_of k) rows ≡ Some r → Refuses (use_fault false (setting_rule k) vs rows)
+  pub use_again : (vs : List Text) (word : Text) → Uses k vs word → (r : Row) → found (name_of k) rows ≡ Some r → Refuses (use_fault false (setting_rule needed k) vs rows)
   use_again [] word (flag, is) r some =
       let old : has_row (name_of k) rows ≡ true = a_row (name_of k) rows r some in
       rw (flag, old) refl
@@ -340,9 +355,9 @@ module _ (k : Setting) (rows : List Row) where
       rw (value, old) refl
   use_again (v ∷ w ∷ more) word uses r some = absurd uses
 
-  pub use_adds : (vs : List Text) (word : Text) → Uses k vs word → found (name_of k) rows ≡ None → used (setting_rule k) vs rows ≡ rows ++ row_with (name_of k) word ∷ []
-  use_adds [] word (flag, is) none = rw (flag, option_reading k, ← is) (row_added (name_of k) flag_value rows none)
-  use_adds (v ∷ []) word (value, is) none = rw (value, option_reading k, ← is) (row_added (name_of k) v rows none)
+  pub use_adds : (vs : List Text) (word : Text) → Uses k vs word → found (name_of k) rows ≡ None → used (setting_rule needed k) vs rows ≡ rows ++ row_with (name_of k) word ∷ []
+  use_adds [] word (flag, is) none = rw (flag, option_reading needed k, ← is) (row_added (name_of k) flag_value rows none)
+  use_adds (v ∷ []) word (value, is) none = rw (value, option_reading needed k, ← is) (row_added (name_of k) v rows none)
   use_adds (v ∷ w ∷ more) word uses none = absurd uses
 
 module _ (p : Place) (word : Text) (rows : List Row) where

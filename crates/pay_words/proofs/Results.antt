@@ -5,8 +5,9 @@ use Rattle.clap.specs.Simple.{subcommand_of}
 use Rattle.clap.specs.Kinds.{Kinds}
 use Rattle.clap.specs.Faults.{fault_of}
 use Rattle.clap.specs.declared.error.kind.ErrorKind.TheVariants.{DisplayHelp, DisplayVersion, InvalidSubcommand, OutOfMemory}
-use Rattle.pay_words.specs.Asked.{Asked, HaveNoHyphens, IsAnswer, IsJobOrMemory, allowed, asked, number_of, run, check, statement, replay, serve, words_ask, help_asked, help_named, version_asked, usage, IsFaultOf, job_asked, AreJobWords, IsJobInRange, without_dashes}
+use Rattle.pay_words.specs.Asked.{Asked, HaveNoHyphens, IsAnswer, IsJobOrMemory, allowed, asked, number_of, run, check, statement, replay, serve, audit, rebuild, words_ask, help_asked, help_named, version_asked, usage, IsFaultOf, job_asked, AreJobWords, IsJobInRange, without_dashes}
 use Rattle.pay_words.specs.Options.{Part, StandApart, words_of_parts}
+use Rattle.pay_words.specs.Audit.{AreAuditParts, Audit}
 use Rattle.pay_words.specs.Check.{AreCheckParts, Check, CheckTexts, HasAfterInRange, check_of_texts, has_against}
 use Rattle.pay_words.specs.Run.{AreRunParts, Run, has_journal}
 use Rattle.pay_words.specs.Serve.{AreInRange, ArePartsOf, Serve, ServeTexts, has_ports, last_port, numbers_of}
@@ -24,14 +25,14 @@ use Rattle.std.proofs.lemmas.Bool.{leb-true}
 use Rattle.clap.proofs.WalkLemmas.{both, first_value-rows, one_text-rows, raw_values-rows}
 use Rattle.std.specs.Prelude.{IfSome, IsOkAnd, ⊤}
 use Rattle.pay_words.specs.declared.words.Job.{Job}
-use Rattle.pay_words.specs.declared.words.Job.TheVariants.{Run as RunJob, Check as CheckJob, Statement as StatementJob, Replay, Serve as ServeJob}
+use Rattle.pay_words.specs.declared.words.Job.TheVariants.{Run as RunJob, Check as CheckJob, Statement as StatementJob, Replay, Serve as ServeJob, Audit as AuditJob, Rebuild}
 use Rattle.pay_words.specs.declared.words.WordsFault.{WordsFault}
 use Rattle.pay_words.specs.declared.words.WordsFault.TheVariants.{Help, Version, Usage, Memory}
-use Rattle.pay_words.specs.CommandLine.{GivesCheck, GivesReplay, GivesRun, GivesServe, GivesStatement, HasCheckTexts, HasRun, HasServeTexts, HasStatementTexts, IsFaultOfKind, IsHelpOrMemory, IsVersionOrMemory, farebox_app, values_and_files}
+use Rattle.pay_words.specs.CommandLine.{GivesAudit, GivesCheck, GivesRebuild, GivesReplay, GivesRun, GivesServe, GivesStatement, HasAudit, HasCheckTexts, HasFaresAndLedger, HasRun, HasServeTexts, HasStatementTexts, IsFaultOfKind, IsHelpOrMemory, IsVersionOrMemory, farebox_app, values_and_files}
 use Rattle.pay_words.proofs.WordKinds.{Refuses, is_refusal}
 use Rattle.pay_words.proofs.WordsOfProgram.{Comes}
 use Rattle.pay_words.proofs.WordsAsked.{comes}
-use Rattle.pay_words.proofs.JobWords.{AreWordsOf, asks_check, asks_replay, asks_run, asks_serve, asks_statement, in_order}
+use Rattle.pay_words.proofs.JobWords.{AreWordsOf, asks_audit, asks_check, asks_rebuild, asks_replay, asks_run, asks_serve, asks_statement, in_order}
 
 -- ---- a parse that succeeds
 
@@ -42,6 +43,8 @@ Gives m (check c) = GivesCheck m c
 Gives m (statement s) = GivesStatement m s
 Gives m (replay fares zone files) = GivesReplay m fares zone files
 Gives m (serve s) = GivesServe m s
+Gives m (audit a) = GivesAudit m a
+Gives m (rebuild fares ledger) = GivesRebuild m fares ledger
 Gives m _ = ⊥
 
 -- a parse that succeeds had the words of a job
@@ -54,6 +57,8 @@ matched ws m none has = go (words_ask ws) (comes ws)
     go (statement s) h = (h.1.0, h.1.1, (has refl).1 ∙ h.1.2, h.1.3, h.1.4, h.1.5)
     go (replay a b files) h = ap (option_map values_and_files) ((has refl).1 ∙ h.1)
     go (serve s) h = (h.1.0, h.1.1, (has refl).1 ∙ h.1.2, h.1.3, h.1.4, h.1.5)
+    go (audit a) h = (h.1.0, (has refl).1 ∙ h.1.1, h.1.2)
+    go (rebuild fares ledger) h = (h.1.0, (has refl).1 ∙ h.1.1, h.1.2)
     go help_asked h =
         let both : [] ≡ DisplayHelp ∷ [] = sym none ∙ h in cc
     go help_named h =
@@ -110,6 +115,8 @@ refused_as ws k fault (inr among) is = go (words_ask ws) (comes ws)
     go (statement s) h = absurd (subst (IsAmong k) h.0 among)
     go (replay a b files) h = absurd (subst (IsAmong k) h.0 among)
     go (serve s) h = absurd (subst (IsAmong k) h.0 among)
+    go (audit a) h = absurd (subst (IsAmong k) h.0 among)
+    go (rebuild fares ledger) h = absurd (subst (IsAmong k) h.0 among)
     go help_asked h = elim (subst (IsAmong k) h among) [
       | inl e ↦ called_help help_asked fault (inl refl) (subst (λ (y : ErrorKind). IsFaultOfKind y fault) e is)
       | inr bad ↦ absurd bad
@@ -202,6 +209,28 @@ serve_texts m f s same gives =
       one_text-rows f (codes "early") ∙ (ap (one_of (codes "early")) rows_are ∙ h.9),
     )
 
+-- the matches of `audit` have what it is asked for
+pub audit_values : (m : ArgMatches) (f : Found) (a : Audit) → Some (rows_of f) ≡ option_map (λ p. p.1) (subcommand_rows_of m) → GivesAudit m a → HasAudit f a
+audit_values m f a same gives =
+    let some : Some (rows_of f) ≡ Some gives.0 = same ∙ ap (option_map (λ p. p.1)) gives.1 in
+    let rows_are : rows_of f ≡ gives.0 = cc in
+    let h = gives.2 in (
+      first_value-rows f (codes "FARES") ∙ (ap (first_of (codes "FARES")) rows_are ∙ h.0),
+      first_value-rows f (codes "ZONE") ∙ (ap (first_of (codes "ZONE")) rows_are ∙ h.1),
+      first_value-rows f (codes "journal") ∙ (ap (first_of (codes "journal")) rows_are ∙ h.2),
+      first_value-rows f (codes "ledger") ∙ (ap (first_of (codes "ledger")) rows_are ∙ h.3),
+    )
+
+-- the matches of `rebuild` have its values
+pub rebuild_values : (m : ArgMatches) (f : Found) (fares ledger : Text) → Some (rows_of f) ≡ option_map (λ p. p.1) (subcommand_rows_of m)
+    → GivesRebuild m fares ledger → HasFaresAndLedger f fares ledger
+rebuild_values m f fares ledger same gives =
+    let some : Some (rows_of f) ≡ Some gives.0 = same ∙ ap (option_map (λ p. p.1)) gives.1 in
+    let rows_are : rows_of f ≡ gives.0 = cc in (
+      first_value-rows f (codes "FARES") ∙ (ap (first_of (codes "FARES")) rows_are ∙ gives.2.0),
+      first_value-rows f (codes "LEDGER") ∙ (ap (first_of (codes "LEDGER")) rows_are ∙ gives.2.1),
+    )
+
 -- ---- the clauses
 
 -- the job that is asked for, `Usage` where none is, or memory was refused
@@ -227,6 +256,8 @@ pub record ReadsJobs (m : ArgMatches) (r : Result Job WordsFault) : Type 0 where
   pub of_statement : (s : Statement) → GivesStatement m s → IsOkAnd r (λ job. job_asked job ≡ statement s)
   pub of_replay : (fares zone : Text) (files : List Text) → GivesReplay m fares zone files → IsJobOrMemory (replay fares zone files) r
   pub of_serve : (s : Serve) → GivesServe m s → IsAnswer (allowed (serve s)) r
+  pub of_audit : (a : Audit) → GivesAudit m a → IsOkAnd r (λ job. job_asked job ≡ audit a)
+  pub of_rebuild : (fares ledger : Text) → GivesRebuild m fares ledger → IsOkAnd r (λ job. job_asked job ≡ rebuild fares ledger)
 
 pub job_read : (m : ArgMatches) (x : Asked) (r : Result Job WordsFault) → Gives m x → ReadsJobs m r → Answers (allowed x) r
 job_read m (run y) r h reads = answer_answers (allowed (run y)) r (reads.of_run y h)
@@ -234,6 +265,8 @@ job_read m (check c) r h reads = answer_answers (allowed (check c)) r (reads.of_
 job_read m (statement s) r h reads = job_answers (statement s) r (reads.of_statement s h)
 job_read m (replay a b files) r h reads = memory_answers (replay a b files) r (reads.of_replay a b files h)
 job_read m (serve s) r h reads = answer_answers (allowed (serve s)) r (reads.of_serve s h)
+job_read m (audit a) r h reads = job_answers (audit a) r (reads.of_audit a h)
+job_read m (rebuild fares ledger) r h reads = job_answers (rebuild fares ledger) r (reads.of_rebuild fares ledger h)
 job_read m help_asked r h reads = absurd h
 job_read m help_named r h reads = absurd h
 job_read m version_asked r h reads = absurd h
@@ -245,6 +278,8 @@ job_words_are ws (CheckJob w) e = subst (λ (x : Asked). AreWordsOf x (drop 1 ws
 job_words_are ws (StatementJob w) e = subst (λ (x : Asked). AreWordsOf x (drop 1 ws)) e (in_order ws)
 job_words_are ws (Replay w) e = (subst (λ (x : Asked). AreWordsOf x (drop 1 ws)) e (in_order ws)).0
 job_words_are ws (ServeJob w) e = subst (λ (x : Asked). AreWordsOf x (drop 1 ws)) e (in_order ws)
+job_words_are ws (AuditJob w) e = subst (λ (x : Asked). AreWordsOf x (drop 1 ws)) e (in_order ws)
+job_words_are ws (Rebuild w) e = subst (λ (x : Asked). AreWordsOf x (drop 1 ws)) e (in_order ws)
 
 -- a job is asked for
 abbrev IsTask : Asked → Type 0
@@ -287,6 +322,8 @@ asked_is_allowed (serve s) = go (has_ports s) refl
     go false is = rw is tt
 asked_is_allowed (statement s) = tt
 asked_is_allowed (replay a b files) = tt
+asked_is_allowed (audit a) = tt
+asked_is_allowed (rebuild fares ledger) = tt
 asked_is_allowed help_asked = tt
 asked_is_allowed help_named = tt
 asked_is_allowed version_asked = tt
@@ -328,6 +365,8 @@ job_in_range ws (ServeJob w) e =
     let close = number_in_range 4 50_000 made.0.close w.close made.4.4 (ap (λ (s : Serve). s.close) made.5) in
     let ports : last_port w.port w.lanes ≤ 65_535 = leb-true (last_port w.port w.lanes) 65_535 (subst IsAllowed e (asked_is_allowed (words_ask ws))) in
     (port.0, lanes.0, lanes.1, ports, shards.0, shards.1, sessions.0, sessions.1, close.0, close.1)
+job_in_range ws (AuditJob w) e = tt
+job_in_range ws (Rebuild w) e = tt
 
 pub result_in_range : (r : Result Job WordsFault) (ws : List Text) → IfOk r (λ job. asked ws ≡ job_asked job) → IfOk r IsJobInRange
 result_in_range (Ok job) ws h = job_in_range ws job h
@@ -372,3 +411,11 @@ module _ (r : Result Job WordsFault) (ws : List Text) (ok : IfOk r (λ job. aske
   pub result_serve : (name : Text) (t : ServeTexts) (parts : List Part) → ws ≡ name ∷ codes "serve" ∷ words_of_parts parts → ArePartsOf t parts → StandApart parts
       → slice_index t.fares 0 ≢ 45 → slice_index t.zone 0 ≢ 45 → AreInRange t → has_ports (numbers_of t) ≡ true → IsJobOrMemory (serve (numbers_of t)) r
   result_serve name t parts is are may f z fits ports = job_or_memory r ws (serve (numbers_of t)) ok err (asks_serve ws name t parts is are may f z fits ports) tt
+
+  pub result_audit : (name : Text) (a : Audit) (parts : List Part) → ws ≡ name ∷ codes "audit" ∷ words_of_parts parts → AreAuditParts a parts → StandApart parts
+      → slice_index a.fares 0 ≢ 45 → slice_index a.zone 0 ≢ 45 → IsJobOrMemory (audit a) r
+  result_audit name a parts is are may f z = job_or_memory r ws (audit a) ok err (asks_audit ws name a parts is are may f z) tt
+
+  pub result_rebuild : (name fares ledger : Text) → ws ≡ name ∷ codes "rebuild" ∷ fares ∷ ledger ∷ []
+      → slice_index fares 0 ≢ 45 → slice_index ledger 0 ≢ 45 → IsJobOrMemory (rebuild fares ledger) r
+  result_rebuild name fares ledger is f l = job_or_memory r ws (rebuild fares ledger) ok err (asks_rebuild ws name fares ledger is f l) tt

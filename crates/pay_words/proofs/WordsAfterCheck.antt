@@ -14,7 +14,7 @@ use Rattle.pay_words.specs.Options.{fares_place, lint_option, against_option, af
 use Rattle.pay_words.specs.Run.{first_given, is_given}
 use Rattle.pay_words.proofs.OptionEnds.{IsFinal, flag_final, row_first, row_one, under_first, under_one}
 use Rattle.pay_words.proofs.OptionRows.{no_default_faults, no_defaults}
-use Rattle.pay_words.proofs.OptionRules.{IsBuilt, position_of, rule_at, rule_by_long, rules_for, setting_rule}
+use Rattle.pay_words.proofs.OptionRules.{IsBuilt, is_needed, position_of, rule_at, rule_by_long, rules_for, setting_rule}
 use Rattle.pay_words.proofs.WordLevels.{Level, rows_from}
 use Rattle.pay_words.proofs.WordSteps.{stand}
 use Rattle.pay_words.proofs.WordsAfterOptions as options
@@ -22,7 +22,7 @@ use Rattle.pay_words.proofs.WordsAfterOptions.{AreApart, Places, Under, ends}
 use Rattle.pay_words.proofs.WordsOfProgram.{Comes, program_shape}
 
 abbrev pub check_rules : List Rule
-check_rules = rule_at fares_place ∷ rules_for (lint_option ∷ against_option ∷ after_option ∷ [])
+check_rules = rule_at fares_place ∷ rules_for is_needed (lint_option ∷ against_option ∷ after_option ∷ [])
 
 abbrev pub check_shape : Shape
 check_shape = program_shape (codes "check") check_rules
@@ -43,7 +43,8 @@ check_next (a ∷ more) p word is = cc
 
 pub check_built : IsBuilt check_grammar check_rules
 check_built = record {
-  by_long = λ name. rule_by_long check_grammar.options name;
+  needs = is_needed;
+  by_long = λ name. rule_by_long is_needed check_grammar.options name;
   by_short = λ x. refl;
   by_name = (refl, (refl, (refl, tt)));
   by_place = (refl, tt);
@@ -60,10 +61,10 @@ under_day rows [] h = tt
 under_day rows (v ∷ []) h = h.1
 under_day rows (v ∷ w ∷ more) h = absurd h
 
-check_ended : (rows : List Row) → fold with_default rows check_rules ≡ with_default rows (setting_rule lint_option)
+check_ended : (rows : List Row) → fold with_default rows check_rules ≡ with_default rows (setting_rule false lint_option)
 check_ended rows =
-    ap (λ (r : List Row). fold with_default r (rules_for (lint_option ∷ against_option ∷ after_option ∷ []))) (no_defaults (rule_at fares_place ∷ []) rows (refl, tt))
-    ∙ no_defaults (rules_for (against_option ∷ after_option ∷ [])) (with_default rows (setting_rule lint_option)) (refl, (refl, (refl, tt)))
+    ap (λ (r : List Row). fold with_default r (rules_for is_needed (lint_option ∷ against_option ∷ after_option ∷ []))) (no_defaults (rule_at fares_place ∷ []) rows (refl, tt))
+    ∙ no_defaults (rules_for is_needed (against_option ∷ after_option ∷ [])) (with_default rows (setting_rule false lint_option)) (refl, (refl, (refl, tt)))
 
 -- what is asked for by all that was given, and what `clap` says of it
 finish : (vs ls gs ds : List Text) (had rows : List Row) → Places check_grammar.places vs had → Under had against_option gs → Under had after_option ds

@@ -163,6 +163,10 @@ module _ (g : Grammar) (program : Text) (c : List Rule) (built : IsBuilt g c) (a
   abbrev shape : Shape
   shape = program_shape program c
 
+  -- an option as the program has it
+  abbrev own_rule : Setting → Rule
+  own_rule k = setting_rule (built.needs k) k
+
   -- what the words come to by `clap`: the kinds of its error, and the rows that it found
   abbrev pub Comes : Said → Kinds → List Row → Type 0
   Comes (all_of parts) ks rows = (had : List Row) × Holds g parts (plain_words parts) had
@@ -184,7 +188,7 @@ module _ (g : Grammar) (program : Text) (c : List Rule) (built : IsBuilt g c) (a
 
   -- an option of the program
   abbrev pub IsNamed : Setting → Type 0
-  IsNamed k = arg_by_id c (name_of k) ≡ Some (setting_rule k)
+  IsNamed k = arg_by_id c (name_of k) ≡ Some (own_rule k)
 
   named_is : (name : Text) (k : Setting) → setting_named g.options name ≡ Some k → IsNamed k
   named_is name k is = of_named g.options IsNamed built.by_name name k is
@@ -195,10 +199,10 @@ module _ (g : Grammar) (program : Text) (c : List Rule) (built : IsBuilt g c) (a
 
   -- what the pending value of an option comes to
   pending_fault : (k : Setting) → IsNamed k → (word : Text) (rows : List Row)
-      → settle_fault c false (held_at rows (Some (name_of k, word ∷ []))) ≡ use_fault false (setting_rule k) (word ∷ []) rows
+      → settle_fault c false (held_at rows (Some (name_of k, word ∷ []))) ≡ use_fault false (own_rule k) (word ∷ []) rows
   pending_fault k named word rows = ap (λ (o : Option Rule). option_map_or (λ a. use_fault false a (word ∷ []) rows) o []) named
 
-  pending_rows : (k : Setting) → IsNamed k → (word : Text) (rows : List Row) → settled_rows c (Some (name_of k, word ∷ [])) rows ≡ used (setting_rule k) (word ∷ []) rows
+  pending_rows : (k : Setting) → IsNamed k → (word : Text) (rows : List Row) → settled_rows c (Some (name_of k, word ∷ [])) rows ≡ used (own_rule k) (word ∷ []) rows
   pending_rows k named word rows = ap (λ (o : Option Rule). walk.used_by_id o (word ∷ []) rows) named
 
   -- and that of a value in its place
@@ -233,21 +237,21 @@ module _ (g : Grammar) (program : Text) (c : List Rule) (built : IsBuilt g c) (a
   -- an option of the program, as the walk meets it
   module _ (word : Text) (long : Text × Option Text) (long_is : long_of word ≡ Some long) (k : Setting) (named : setting_named g.options long.0 ≡ Some k)
       (v : Option Text) (v_is : long.1 ≡ v) (rows : List Row) (pending : Option (Text × List Text)) where
-    setting_fault : flag_word_fault c false (long_of word) word (held_at rows pending) ≡ long_fault c false (Some (setting_rule k)) v (held_at rows pending)
+    setting_fault : flag_word_fault c false (long_of word) word (held_at rows pending) ≡ long_fault c false (Some (own_rule k)) v (held_at rows pending)
     setting_fault =
         ap (λ (o : Option (Text × Option Text)). flag_word_fault c false o word (held_at rows pending)) long_is
         ∙ (ap (λ (o : Option Rule). long_fault c false o long.1 (held_at rows pending)) (setting_by_long g c built long.0 k named)
-        ∙ ap (λ (u : Option Text). long_fault c false (Some (setting_rule k)) u (held_at rows pending)) v_is)
+        ∙ ap (λ (u : Option Text). long_fault c false (Some (own_rule k)) u (held_at rows pending)) v_is)
 
     abbrev met_by : Waiting → Held × walk.Outcome → Held × Step
     met_by waiting m = after_flag c waiting word m.0 m.1
 
     setting_met : (waiting : Waiting) → long_or_other c waiting word (long_of word) (held_at rows pending)
-        ≡ met_by waiting (long_met c (Some (setting_rule k)) v (held_at rows pending))
+        ≡ met_by waiting (long_met c (Some (own_rule k)) v (held_at rows pending))
     setting_met waiting =
         ap (λ (o : Option (Text × Option Text)). long_or_other c waiting word o (held_at rows pending)) long_is
         ∙ (ap (λ (o : Option Rule). met_by waiting (long_met c o long.1 (held_at rows pending))) (setting_by_long g c built long.0 k named)
-        ∙ ap (λ (u : Option Text). met_by waiting (long_met c (Some (setting_rule k)) u (held_at rows pending))) v_is)
+        ∙ ap (λ (u : Option Text). met_by waiting (long_met c (Some (own_rule k)) u (held_at rows pending))) v_is)
 
   -- an option that is done with its word: a flag, or a value after an equals sign
   abbrev Done : Setting → Option Text → List Text → Type 0
@@ -255,17 +259,17 @@ module _ (g : Grammar) (program : Text) (c : List Rule) (built : IsBuilt g c) (a
   Done k (Some v) vs = (is_flag k ≡ false) × (vs ≡ v ∷ [])
 
   done_fault : (k : Setting) (v : Option Text) (vs : List Text) → Done k v vs → (h : Held)
-      → long_fault c false (Some (setting_rule k)) v h ≡ react_fault c false (setting_rule k) vs h
+      → long_fault c false (Some (own_rule k)) v h ≡ react_fault c false (own_rule k) vs h
   done_fault k None vs d h = rw (d.0, d.1) refl
   done_fault k (Some v) vs d h = rw (d.0, d.1) refl
 
   done_met : (k : Setting) (v : Option Text) (vs : List Text) → Done k v vs → (h : Held)
-      → long_met c (Some (setting_rule k)) v h ≡ (reacted c (setting_rule k) vs h, walk.done)
+      → long_met c (Some (own_rule k)) v h ≡ (reacted c (own_rule k) vs h, walk.done)
   done_met k None vs d h = rw (d.0, d.1) refl
   done_met k (Some v) vs d h = rw (d.0, d.1) refl
 
   -- an option that waits for its value judges what was pending
-  waits_fault : (k : Setting) → is_flag k ≡ false → (h : Held) → long_fault c false (Some (setting_rule k)) None h ≡ settle_fault c false h
+  waits_fault : (k : Setting) → is_flag k ≡ false → (h : Held) → long_fault c false (Some (own_rule k)) None h ≡ settle_fault c false h
   waits_fault k valued h = rw valued refl
 
   -- ---- words that nothing after them helps
@@ -293,7 +297,7 @@ module _ (g : Grammar) (program : Text) (c : List Rule) (built : IsBuilt g c) (a
       stuck_setting k v r = refuses_by program c rows pending waiting position word (not_dashes word r.0 r.1)
           (subst Refuses (sym (setting_fault word r.0 r.1 k r.2 v r.3 rows pending)) (go v (is_flag k) refl)) rest
         where
-          go : (v : Option Text) (flag : Bool) → is_flag k ≡ flag → Refuses (long_fault c false (Some (setting_rule k)) v (held_at rows pending))
+          go : (v : Option Text) (flag : Bool) → is_flag k ≡ flag → Refuses (long_fault c false (Some (own_rule k)) v (held_at rows pending))
           go None true e = rw e (refuses_first kinds _ bad)
           go None false e = rw e bad
           go (Some u) true e = rw e refl
@@ -439,7 +443,7 @@ module _ (g : Grammar) (program : Text) (c : List Rule) (built : IsBuilt g c) (a
   -- an option with its value after it, and the words after it
   module _ (parts : List Part) (vs : List Text) (rows : List Row) (k : Setting) (valued : is_flag k ≡ false) (named : IsNamed k) (word : Text) (rest : List Text)
       (h : Holds g parts vs rows) (after : Stands false (said g (parts ++ say.apart k word ∷ []) None rest) rest (parts ++ say.apart k word ∷ [])) where
-    apart_stuck : Refuses (use_fault false (setting_rule k) (word ∷ []) rows)
+    apart_stuck : Refuses (use_fault false (own_rule k) (word ∷ []) rows)
         → Refuses (Level shape [] (stand rows (Some (name_of k, word ∷ [])) idle (position_of vs) false) rest false [])
     apart_stuck bad =
         let unsettled : Refuses (settle_fault c false (held_at rows (Some (name_of k, word ∷ [])))) = subst Refuses (sym (pending_fault k named word rows)) bad in
@@ -448,11 +452,11 @@ module _ (g : Grammar) (program : Text) (c : List Rule) (built : IsBuilt g c) (a
     apart_step : (before : List Text) → values_of k parts ≡ before → Under rows k before → (fits : Bool) → reader_of k word ≡ fits
         → EndsFrom (one_more_value k word before (said g (parts ++ say.apart k word ∷ []) None rest)) (stand rows (Some (name_of k, word ∷ [])) idle (position_of vs) false) rest
     apart_step [] none new true fits = rw fits (after vs rows (Some (name_of k, word ∷ [])) (rows ++ row_with (name_of k) word ∷ [])
-        (pending_fault k named word rows ∙ use_taken k rows (word ∷ []) word (valued, refl) new fits)
-        (pending_rows k named word rows ∙ use_adds k rows (word ∷ []) word (valued, refl) new)
+        (pending_fault k named word rows ∙ use_taken (built.needs k) k rows (word ∷ []) word (valued, refl) new fits)
+        (pending_rows k named word rows ∙ use_adds (built.needs k) k rows (word ∷ []) word (valued, refl) new)
         (holds_valued g parts vs rows (say.apart k word) k word (apart_gives k word) none fits h))
-    apart_step [] none new false beyond = rw beyond (apart_stuck (use_beyond k rows (word ∷ []) word (valued, refl) new beyond))
-    apart_step (v ∷ []) is old fits reads = apart_stuck (use_again k rows (word ∷ []) word (valued, refl) (row_with (name_of k) v) old.0)
+    apart_step [] none new false beyond = rw beyond (apart_stuck (use_beyond (built.needs k) k rows (word ∷ []) word (valued, refl) new beyond))
+    apart_step (v ∷ []) is old fits reads = apart_stuck (use_again (built.needs k) k rows (word ∷ []) word (valued, refl) (row_with (name_of k) v) old.0)
     apart_step (v ∷ w ∷ more) is old fits reads = absurd old
 
   -- an option that is done with its word, and the words after it
@@ -469,28 +473,28 @@ module _ (g : Grammar) (program : Text) (c : List Rule) (built : IsBuilt g c) (a
 
     -- where the walk stands when the option is used
     abbrev used_now : Held
-    used_now = reacted c (setting_rule k) us (held_at rows pending)
+    used_now = reacted c (own_rule k) us (held_at rows pending)
 
-    fault_now : flag_word_fault c false (long_of word) word (held_at rows pending) ≡ use_fault false (setting_rule k) us rows_then
+    fault_now : flag_word_fault c false (long_of word) word (held_at rows pending) ≡ use_fault false (own_rule k) us rows_then
     fault_now = setting_fault word r.0 r.1 k r.2 v r.3 rows pending ∙ (done_fault k v us done (held_at rows pending)
-        ∙ ap₂ (λ (ks : Kinds) (rs : List Row). or_else ks (use_fault false (setting_rule k) us rs)) settles are)
+        ∙ ap₂ (λ (ks : Kinds) (rs : List Row). or_else ks (use_fault false (own_rule k) us rs)) settles are)
 
     met_now : long_or_other c idle word (long_of word) (held_at rows pending) ≡ (used_now, next idle)
     met_now = setting_met word r.0 r.1 k r.2 v r.3 rows pending idle
         ∙ ap (λ (m : Held × walk.Outcome). after_flag c idle word m.0 m.1) (done_met k v us done (held_at rows pending))
 
-    done_stuck : Refuses (use_fault false (setting_rule k) us rows_then) → Refuses (Level shape [] here (word ∷ rest) false [])
+    done_stuck : Refuses (use_fault false (own_rule k) us rows_then) → Refuses (Level shape [] here (word ∷ rest) false [])
     done_stuck bad = refuses_by program c rows pending idle (position_of vs) word other (subst Refuses (sym fault_now) bad) rest
 
     done_step : (before : List Text) → values_of k parts ≡ before → Under rows_then k before → (fits : Bool) → reader_of k given ≡ fits
         → EndsFrom (one_more_value k given before (said g (parts ++ part ∷ []) None rest)) here (word ∷ rest)
     done_step [] none new true fits = rw fits (moved (said g (parts ++ part ∷ []) None rest) here (stand (rows_then ++ row_with (name_of k) given ∷ []) None idle (position_of vs) false) word rest
-        (turn_by program c rows pending idle (position_of vs) word other [] (used_now, next idle) (fault_now ∙ use_taken k rows_then us given uses new fits) met_now)
+        (turn_by program c rows pending idle (position_of vs) word other [] (used_now, next idle) (fault_now ∙ use_taken (built.needs k) k rows_then us given uses new fits) met_now)
         (walked_by program c rows pending idle (position_of vs) word other (used_now, next idle) met_now
-        ∙ ap (λ (rs : List Row). stand rs None idle (position_of vs) false) (ap (used (setting_rule k) us) are ∙ use_adds k rows_then us given uses new))
+        ∙ ap (λ (rs : List Row). stand rs None idle (position_of vs) false) (ap (used (own_rule k) us) are ∙ use_adds (built.needs k) k rows_then us given uses new))
         (after vs (rows_then ++ row_with (name_of k) given ∷ []) None (rows_then ++ row_with (name_of k) given ∷ []) refl refl (holds_valued g parts vs rows_then part k given gives none fits h)))
-    done_step [] none new false beyond = rw beyond (done_stuck (use_beyond k rows_then us given uses new beyond))
-    done_step (u ∷ []) is old fits reads = done_stuck (use_again k rows_then us given uses (row_with (name_of k) u) old.0)
+    done_step [] none new false beyond = rw beyond (done_stuck (use_beyond (built.needs k) k rows_then us given uses new beyond))
+    done_step (u ∷ []) is old fits reads = done_stuck (use_again (built.needs k) k rows_then us given uses (row_with (name_of k) u) old.0)
     done_step (u ∷ w ∷ more) is old fits reads = absurd old
 
   -- a word where no option waits, by what it is

@@ -14,7 +14,7 @@ use Rattle.pay_words.specs.Options.{fares_place, zone_place, journal_option, syn
 use Rattle.pay_words.specs.Run.{is_given, run_grammar}
 use Rattle.pay_words.proofs.OptionEnds.{IsFinal, flag_final, places_final, row_one, under_final, under_first}
 use Rattle.pay_words.proofs.OptionRows.{no_default_faults, no_defaults}
-use Rattle.pay_words.proofs.OptionRules.{IsBuilt, position_of, rule_at, rule_by_long, rules_for, setting_rule}
+use Rattle.pay_words.proofs.OptionRules.{IsBuilt, is_needed, position_of, rule_at, rule_by_long, rules_for, setting_rule}
 use Rattle.pay_words.proofs.WordLevels.{Level, rows_from}
 use Rattle.pay_words.proofs.WordSteps.{stand}
 use Rattle.pay_words.proofs.WordsAfterOptions as options
@@ -22,7 +22,7 @@ use Rattle.pay_words.proofs.WordsAfterOptions.{AreApart, Holds, Places, Under, e
 use Rattle.pay_words.proofs.WordsOfProgram.{Comes, program_shape}
 
 abbrev pub run_rules : List Rule
-run_rules = rule_at fares_place ∷ rule_at zone_place ∷ rules_for (journal_option ∷ sync_option ∷ ledger_option ∷ early_option ∷ [])
+run_rules = rule_at fares_place ∷ rule_at zone_place ∷ rules_for is_needed (journal_option ∷ sync_option ∷ ledger_option ∷ early_option ∷ [])
 
 abbrev pub run_shape : Shape
 run_shape = program_shape (codes "run") run_rules
@@ -44,7 +44,8 @@ run_next (a ∷ b ∷ more) p word is = cc
 
 pub run_built : IsBuilt run_grammar run_rules
 run_built = record {
-  by_long = λ name. rule_by_long run_grammar.options name;
+  needs = is_needed;
+  by_long = λ name. rule_by_long is_needed run_grammar.options name;
   by_short = λ x. refl;
   by_name = (refl, (refl, (refl, (refl, tt))));
   by_place = (refl, (refl, tt));
@@ -55,11 +56,11 @@ run_built = record {
 
 -- ---- the end of the words
 
-run_ended : (rows : List Row) → fold with_default rows run_rules ≡ with_default (with_default rows (setting_rule sync_option)) (setting_rule early_option)
+run_ended : (rows : List Row) → fold with_default rows run_rules ≡ with_default (with_default rows (setting_rule false sync_option)) (setting_rule false early_option)
 run_ended rows =
-    ap (λ (r : List Row). fold with_default r (rules_for (sync_option ∷ ledger_option ∷ early_option ∷ []))) (no_defaults (rule_at fares_place ∷ rule_at zone_place ∷ setting_rule journal_option ∷ []) rows (refl, (refl, (refl, tt))))
-    ∙ (ap (λ (r : List Row). fold with_default r (rules_for (early_option ∷ []))) (no_defaults (setting_rule ledger_option ∷ []) (with_default rows (setting_rule sync_option)) (refl, tt))
-    ∙ no_defaults (rules_for []) (with_default (with_default rows (setting_rule sync_option)) (setting_rule early_option)) (refl, tt))
+    ap (λ (r : List Row). fold with_default r (rules_for is_needed (sync_option ∷ ledger_option ∷ early_option ∷ []))) (no_defaults (rule_at fares_place ∷ rule_at zone_place ∷ setting_rule false journal_option ∷ []) rows (refl, (refl, (refl, tt))))
+    ∙ (ap (λ (r : List Row). fold with_default r (rules_for is_needed (early_option ∷ []))) (no_defaults (setting_rule false ledger_option ∷ []) (with_default rows (setting_rule false sync_option)) (refl, tt))
+    ∙ no_defaults (rules_for is_needed []) (with_default (with_default rows (setting_rule false sync_option)) (setting_rule false early_option)) (refl, tt))
 
 -- what is asked for by all that was given, and what `clap` says of it
 finish : (vs js ss ls es : List Text) (rows : List Row) → Places run_grammar.places vs rows → Under rows journal_option js → Under rows ledger_option ls
@@ -80,10 +81,10 @@ finish (a ∷ b ∷ []) js ss ls es rows h j l s e = (
 -- the rows with what the flags come to
 module _ (parts : List Part) (had : List Row) (h : Holds run_grammar parts (plain_words parts) had) where
   abbrev synced : List Row
-  synced = with_default had (setting_rule sync_option)
+  synced = with_default had (setting_rule false sync_option)
 
   abbrev all_rows : List Row
-  all_rows = with_default synced (setting_rule early_option)
+  all_rows = with_default synced (setting_rule false early_option)
 
   sync_final : IsFinal sync_option had (values_of sync_option parts) synced
   sync_final = flag_final sync_option refl had (values_of sync_option parts) (h.2 sync_option)

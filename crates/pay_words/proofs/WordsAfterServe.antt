@@ -1,5 +1,5 @@
 -- What `clap` makes of the words after `serve`.
-use Rattle.std.proofs.Common.{◌≡◌, ◌∙◌, ◌+◌, codes, false, refl, sym, ap, subst, List, [], ◌∷◌, ◌++◌, Some, None}
+use Rattle.std.proofs.Common.{◌≡◌, ◌∙◌, ◌+◌, codes, true, false, refl, sym, ap, subst, List, [], ◌∷◌, ◌++◌, Some, None}
 use Rattle.std.specs.Prelude.{fold, min, option_map}
 use Rattle.std.specs.Str.{bytes_eq}
 use Rattle.clap.specs.Lexer.{usize_max}
@@ -15,7 +15,7 @@ use Rattle.pay_words.specs.Run.{first_given, is_given}
 use Rattle.pay_words.specs.Serve.{serve_grammar}
 use Rattle.pay_words.proofs.OptionEnds.{IsFinal, flag_final, places_final, under_final, under_first}
 use Rattle.pay_words.proofs.OptionRows.{no_default_faults, no_defaults}
-use Rattle.pay_words.proofs.OptionRules.{IsBuilt, position_of, rule_at, rule_by_long, rules_for, setting_rule}
+use Rattle.pay_words.proofs.OptionRules.{IsBuilt, is_needed, position_of, rule_at, rule_by_long, rules_for, setting_rule}
 use Rattle.pay_words.proofs.WordLevels.{Level, rows_from}
 use Rattle.pay_words.proofs.WordSteps.{stand}
 use Rattle.pay_words.proofs.WordsAfterOptions as options
@@ -23,7 +23,7 @@ use Rattle.pay_words.proofs.WordsAfterOptions.{AreApart, Holds, Places, Under, e
 use Rattle.pay_words.proofs.WordsOfProgram.{Comes, program_shape}
 
 abbrev pub serve_rules : List Rule
-serve_rules = rule_at fares_place ∷ rule_at zone_place ∷ rules_for (port_option ∷ lanes_option ∷ shards_option ∷ sessions_option ∷ close_option ∷ journal_option ∷ ledger_option ∷ early_option ∷ [])
+serve_rules = rule_at fares_place ∷ rule_at zone_place ∷ rules_for is_needed (port_option ∷ lanes_option ∷ shards_option ∷ sessions_option ∷ close_option ∷ journal_option ∷ ledger_option ∷ early_option ∷ [])
 
 abbrev pub serve_shape : Shape
 serve_shape = program_shape (codes "serve") serve_rules
@@ -45,7 +45,8 @@ serve_next (a ∷ b ∷ more) p word is = cc
 
 pub serve_built : IsBuilt serve_grammar serve_rules
 serve_built = record {
-  by_long = λ name. rule_by_long serve_grammar.options name;
+  needs = is_needed;
+  by_long = λ name. rule_by_long is_needed serve_grammar.options name;
   by_short = λ x. refl;
   by_name = (refl, (refl, (refl, (refl, (refl, (refl, (refl, (refl, tt))))))));
   by_place = (refl, (refl, tt));
@@ -83,17 +84,17 @@ finish (a ∷ b ∷ []) (pw ∷ []) (lw ∷ []) (nw ∷ []) (kw ∷ []) (dw ∷ 
   ),
 )
 
-serve_ended : (rows : List Row) → fold with_default rows serve_rules ≡ with_default rows (setting_rule early_option)
+serve_ended : (rows : List Row) → fold with_default rows serve_rules ≡ with_default rows (setting_rule false early_option)
 serve_ended rows =
-    ap (λ (r : List Row). fold with_default r (rules_for (early_option ∷ [])))
-    (no_defaults (rule_at fares_place ∷ rule_at zone_place ∷ setting_rule port_option ∷ setting_rule lanes_option ∷ setting_rule shards_option ∷ setting_rule sessions_option
-    ∷ setting_rule close_option ∷ setting_rule journal_option ∷ setting_rule ledger_option ∷ []) rows (refl, (refl, (refl, (refl, (refl, (refl, (refl, (refl, (refl, tt))))))))))
-    ∙ no_defaults (rules_for []) (with_default rows (setting_rule early_option)) (refl, tt)
+    ap (λ (r : List Row). fold with_default r (rules_for is_needed (early_option ∷ [])))
+    (no_defaults (rule_at fares_place ∷ rule_at zone_place ∷ setting_rule true port_option ∷ setting_rule true lanes_option ∷ setting_rule true shards_option ∷ setting_rule true sessions_option
+    ∷ setting_rule true close_option ∷ setting_rule false journal_option ∷ setting_rule false ledger_option ∷ []) rows (refl, (refl, (refl, (refl, (refl, (refl, (refl, (refl, (refl, tt))))))))))
+    ∙ no_defaults (rules_for is_needed []) (with_default rows (setting_rule false early_option)) (refl, tt)
 
 -- the rows with what the flag comes to
 module _ (parts : List Part) (had : List Row) (h : Holds serve_grammar parts (plain_words parts) had) where
   abbrev all_rows : List Row
-  all_rows = with_default had (setting_rule early_option)
+  all_rows = with_default had (setting_rule false early_option)
 
   early_final : IsFinal early_option had (values_of early_option parts) all_rows
   early_final = flag_final early_option refl had (values_of early_option parts) (h.2 early_option)

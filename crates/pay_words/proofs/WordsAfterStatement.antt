@@ -13,7 +13,7 @@ use Rattle.pay_words.specs.Run.{first_given}
 use Rattle.pay_words.specs.Statement.{statement_grammar}
 use Rattle.pay_words.proofs.OptionEnds.{under_first}
 use Rattle.pay_words.proofs.OptionRows.{no_default_faults, no_defaults}
-use Rattle.pay_words.proofs.OptionRules.{IsBuilt, position_of, rule_at, rule_by_long, rules_for}
+use Rattle.pay_words.proofs.OptionRules.{IsBuilt, is_needed, position_of, rule_at, rule_by_long, rules_for}
 use Rattle.pay_words.proofs.WordLevels.{Level, rows_from}
 use Rattle.pay_words.proofs.WordSteps.{stand}
 use Rattle.pay_words.proofs.WordsAfterOptions as options
@@ -21,7 +21,7 @@ use Rattle.pay_words.proofs.WordsAfterOptions.{AreApart, Places, Under, ends}
 use Rattle.pay_words.proofs.WordsOfProgram.{Comes, program_shape}
 
 abbrev pub statement_rules : List Rule
-statement_rules = rule_at fares_place ∷ rule_at zone_place ∷ rule_at account_place ∷ rule_at day_place ∷ rules_for (journal_option ∷ [])
+statement_rules = rule_at fares_place ∷ rule_at zone_place ∷ rule_at account_place ∷ rule_at day_place ∷ rules_for is_needed (journal_option ∷ [])
 
 abbrev pub statement_shape : Shape
 statement_shape = program_shape (codes "statement") statement_rules
@@ -45,7 +45,8 @@ statement_next (a ∷ b ∷ c ∷ d ∷ more) p word is = cc
 
 pub statement_built : IsBuilt statement_grammar statement_rules
 statement_built = record {
-  by_long = λ name. rule_by_long statement_grammar.options name;
+  needs = is_needed;
+  by_long = λ name. rule_by_long is_needed statement_grammar.options name;
   by_short = λ x. refl;
   by_name = (refl, tt);
   by_place = (refl, (refl, (refl, (refl, tt))));

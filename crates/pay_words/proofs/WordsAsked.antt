@@ -6,10 +6,12 @@ use Rattle.clap.specs.Simple.{App, Shape, built, built_leaf, entered, help_shape
 use Rattle.clap.specs.Kinds.{Kinds, or_else}
 use Rattle.clap.specs.Faults.{check_fault, defaults_fault, entered_fault, fault_of, flags_fault, settle_fault, turn_fault, walk_fault}
 use Rattle.clap.specs.declared.error.kind.ErrorKind.TheVariants.{DisplayHelp, DisplayVersion, InvalidSubcommand, UnknownArgument}
-use Rattle.pay_words.specs.Asked.{Asked, Word, words_ask, check_asked, many_given, word_kind, option_asked, program_asked, replay_asked, run_asked, serve_asked, statement_asked}
+use Rattle.pay_words.specs.Asked.{Asked, Word, words_ask, check_asked, many_given, word_kind, option_asked, program_asked, audit_asked, rebuild_asked, replay_asked, run_asked, serve_asked, statement_asked}
 use Rattle.pay_words.specs.Asked as words
 use Rattle.pay_words.specs.Options.{all_said}
+use Rattle.pay_words.specs.Audit.{audit_grammar}
 use Rattle.pay_words.specs.Check.{check_grammar}
+use Rattle.pay_words.specs.Rebuild.{rebuild_grammar}
 use Rattle.pay_words.specs.Run.{run_grammar}
 use Rattle.pay_words.specs.Serve.{serve_grammar}
 use Rattle.pay_words.specs.Statement.{statement_grammar}
@@ -18,7 +20,9 @@ use Rattle.pay_words.proofs.Programs.{by_program}
 use Rattle.pay_words.proofs.WordKinds.{LongOptions, Reads, Refuses, ShortOptions, help_filled, reads, version_filled}
 use Rattle.pay_words.proofs.WordLevels.{Level, place, refuses_first, turn_dashes, turn_refuses, turn_shows, turn_value, walked_dashes, rows_from}
 use Rattle.pay_words.proofs.WordsOfProgram.{Comes}
+use Rattle.pay_words.proofs.WordsAfterAudit.{audit_ends, audit_shape}
 use Rattle.pay_words.proofs.WordsAfterCheck.{check_ends, check_shape}
+use Rattle.pay_words.proofs.WordsAfterRebuild.{rebuild_ends, rebuild_shape}
 use Rattle.pay_words.proofs.WordsAfterReplay.{replay_ends, replay_shape}
 use Rattle.pay_words.proofs.WordsAfterRun.{run_ends, run_shape}
 use Rattle.pay_words.proofs.WordsAfterServe.{serve_ends, serve_shape}
@@ -31,13 +35,13 @@ abbrev help_built : Shape
 help_built = built_leaf (record help_shape { disable_help_subcommand = true })
 
 abbrev farebox_built : App
-farebox_built = record { top = top_shape; subs = run_shape ∷ check_shape ∷ statement_shape ∷ replay_shape ∷ serve_shape ∷ help_built ∷ [] }
+farebox_built = record { top = top_shape; subs = run_shape ∷ check_shape ∷ statement_shape ∷ replay_shape ∷ serve_shape ∷ audit_shape ∷ rebuild_shape ∷ help_built ∷ [] }
 
 built_farebox : built farebox_app ≡ farebox_built
 built_farebox = refl
 
 abbrev names : Names
-names = (codes "run", []) ∷ (codes "check", []) ∷ (codes "statement", []) ∷ (codes "replay", []) ∷ (codes "serve", []) ∷ (codes "help", []) ∷ []
+names = (codes "run", []) ∷ (codes "check", []) ∷ (codes "statement", []) ∷ (codes "replay", []) ∷ (codes "serve", []) ∷ (codes "audit", []) ∷ (codes "rebuild", []) ∷ (codes "help", []) ∷ []
 
 top_long : LongOptions top_shape.rules true
 top_long name = refl
@@ -136,6 +140,22 @@ serve_entered : (rest : List Text) → entered farebox_built (end_of start (code
 unfolding walked
 serve_entered rest = ap (λ (w : Walk). entered farebox_built w.stopped) (met_words (codes "serve") [] rest)
 
+met_audit : (rest : List Text) → whole start (codes "audit" ∷ rest) ≡ below audit_shape rest
+unfolding walked walk_fault defaults_fault
+met_audit rest = ap₂ end_kinds (no_kinds (codes "audit") [] rest) (met_words (codes "audit") [] rest) ∙ or_nothing (below audit_shape rest)
+
+audit_entered : (rest : List Text) → entered farebox_built (end_of start (codes "audit" ∷ rest)).stopped ≡ Some (codes "audit", rows_below audit_shape rest)
+unfolding walked
+audit_entered rest = ap (λ (w : Walk). entered farebox_built w.stopped) (met_words (codes "audit") [] rest)
+
+met_rebuild : (rest : List Text) → whole start (codes "rebuild" ∷ rest) ≡ below rebuild_shape rest
+unfolding walked walk_fault defaults_fault
+met_rebuild rest = ap₂ end_kinds (no_kinds (codes "rebuild") [] rest) (met_words (codes "rebuild") [] rest) ∙ or_nothing (below rebuild_shape rest)
+
+rebuild_entered : (rest : List Text) → entered farebox_built (end_of start (codes "rebuild" ∷ rest)).stopped ≡ Some (codes "rebuild", rows_below rebuild_shape rest)
+unfolding walked
+rebuild_entered rest = ap (λ (w : Walk). entered farebox_built w.stopped) (met_words (codes "rebuild") [] rest)
+
 lifted : (x : Asked) (ks all : Kinds) (sub entry : Option (Text × List Row)) → all ≡ ks → entry ≡ sub → Comes x ks sub → Comes x all entry
 lifted x ks all sub entry same is h =
     subst (λ (k : Kinds). Comes x k entry) (sym same) (subst (λ (e : Option (Text × List Row)). Comes x ks e) (sym is) h)
@@ -160,6 +180,14 @@ replay_comes name rest = lifted (replay_asked (many_given rest)) (below replay_s
 serve_comes : (name : Text) (rest : List Text) → Comes (serve_asked (all_said serve_grammar rest)) (fault_of farebox_app (name ∷ codes "serve" ∷ rest)) (subcommand_of farebox_app (name ∷ codes "serve" ∷ rest))
 serve_comes name rest = lifted (serve_asked (all_said serve_grammar rest)) (below serve_shape rest) _ (Some (codes "serve", rows_below serve_shape rest)) _
     (fault_is name (codes "serve" ∷ rest) ∙ met_serve rest) (subcommand_is name (codes "serve" ∷ rest) ∙ serve_entered rest) (serve_ends rest)
+
+audit_comes : (name : Text) (rest : List Text) → Comes (audit_asked (all_said audit_grammar rest)) (fault_of farebox_app (name ∷ codes "audit" ∷ rest)) (subcommand_of farebox_app (name ∷ codes "audit" ∷ rest))
+audit_comes name rest = lifted (audit_asked (all_said audit_grammar rest)) (below audit_shape rest) _ (Some (codes "audit", rows_below audit_shape rest)) _
+    (fault_is name (codes "audit" ∷ rest) ∙ met_audit rest) (subcommand_is name (codes "audit" ∷ rest) ∙ audit_entered rest) (audit_ends rest)
+
+rebuild_comes : (name : Text) (rest : List Text) → Comes (rebuild_asked (all_said rebuild_grammar rest)) (fault_of farebox_app (name ∷ codes "rebuild" ∷ rest)) (subcommand_of farebox_app (name ∷ codes "rebuild" ∷ rest))
+rebuild_comes name rest = lifted (rebuild_asked (all_said rebuild_grammar rest)) (below rebuild_shape rest) _ (Some (codes "rebuild", rows_below rebuild_shape rest)) _
+    (fault_is name (codes "rebuild" ∷ rest) ∙ met_rebuild rest) (subcommand_is name (codes "rebuild" ∷ rest) ∙ rebuild_entered rest) (rebuild_ends rest)
 
 -- ---- any other word
 
@@ -208,8 +236,8 @@ unfolding walk_fault flags_fault walked defaults_fault
 comes [] = refl
 comes (name ∷ []) = refl
 comes (name ∷ word ∷ rest) = by_program (λ (w : Text). Comes (program_asked w rest) (fault_of farebox_app (name ∷ w ∷ rest)) (subcommand_of farebox_app (name ∷ w ∷ rest)))
-    word (run_comes name rest) (check_comes name rest) (statement_comes name rest) (replay_comes name rest) (serve_comes name rest) refl (λ none.
-    let unmet : subcommand_met names idle word ≡ None = rw (none.0, none.1, none.2, none.3, none.4, none.5) refl in
-    let asks : program_asked word rest ≡ option_asked (word_kind word) = rw (none.0, none.1, none.2, none.3, none.4, none.5) refl in
+    word (run_comes name rest) (check_comes name rest) (statement_comes name rest) (replay_comes name rest) (serve_comes name rest) (audit_comes name rest) (rebuild_comes name rest) refl (λ none.
+    let unmet : subcommand_met names idle word ≡ None = rw (none.0, none.1, none.2, none.3, none.4, none.5, none.6, none.7) refl in
+    let asks : program_asked word rest ≡ option_asked (word_kind word) = rw (none.0, none.1, none.2, none.3, none.4, none.5, none.6, none.7) refl in
     subst (λ (x : Asked). Comes x (fault_of farebox_app (name ∷ word ∷ rest)) (subcommand_of farebox_app (name ∷ word ∷ rest))) (sym asks)
     (option_comes name word rest unmet (word_kind word) (reads top_shape.rules true top_long top_short [] [] None refl word)))

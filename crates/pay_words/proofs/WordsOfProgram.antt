@@ -9,13 +9,14 @@ use Rattle.clap.specs.declared.builder.range.ValueRange.{ValueRange}
 use Rattle.clap.specs.declared.builder.value_parser.ValueParser.TheVariants as vp
 use Rattle.clap.specs.declared.error.kind.ErrorKind.TheVariants.{DisplayHelp, DisplayVersion, InvalidSubcommand}
 use Rattle.clap.specs.declared.parser.matches.ValueSource.TheVariants.{CommandLine}
-use Rattle.pay_words.specs.Asked.{Asked, Word, run, check, statement, replay, serve, help_asked, help_named, version_asked, usage}
+use Rattle.pay_words.specs.Asked.{Asked, Word, run, check, statement, replay, serve, audit, rebuild, help_asked, help_named, version_asked, usage}
 use Rattle.pay_words.specs.Asked as words
+use Rattle.pay_words.specs.Audit.{Audit}
 use Rattle.pay_words.specs.Check.{Check, CheckTexts, HasAfterInRange, check_of_texts}
 use Rattle.pay_words.specs.Run.{Run}
 use Rattle.pay_words.specs.Serve.{AreInRange, Serve, ServeTexts, numbers_of}
 use Rattle.pay_words.specs.Statement.{HasNumbersInRange, Statement, StatementTexts, statement_of_texts}
-use Rattle.pay_words.specs.CommandLine.{HaveCheckTexts, HaveRun, HaveServeTexts, HaveStatementTexts, required_word}
+use Rattle.pay_words.specs.CommandLine.{HaveAudit, HaveCheckTexts, HaveFaresAndLedger, HaveRun, HaveServeTexts, HaveStatementTexts, required_word}
 use Rattle.pay_words.proofs.WordKinds.{LongOptions, Reads, Refuses, ShortOptions}
 use Rattle.pay_words.proofs.WordLevels.{Level, level_next, level_refuses, level_shows, place, rows_from, rows_next, turn_dashes, turn_refuses, turn_shows, turn_value, walked_dashes, walked_value}
 
@@ -72,6 +73,14 @@ ComesWithNumbers s sub = (t : StatementTexts) × (rows : List Row) × (sub ≡ S
 abbrev pub ComesWithOptions : Serve → Option (Text × List Row) → Type 0
 ComesWithOptions s sub = (t : ServeTexts) × (rows : List Row) × (sub ≡ Some (codes "serve", rows)) × HaveServeTexts rows t × AreInRange t × (numbers_of t ≡ s)
 
+-- the matches have what `audit` is asked for
+abbrev pub ComesWithAudit : Audit → Option (Text × List Row) → Type 0
+ComesWithAudit a sub = (rows : List Row) × (sub ≡ Some (codes "audit", rows)) × HaveAudit rows a
+
+-- the matches have the values of `rebuild`
+abbrev pub ComesWithLedger : Text → Text → Option (Text × List Row) → Type 0
+ComesWithLedger fares ledger sub = (rows : List Row) × (sub ≡ Some (codes "rebuild", rows)) × HaveFaresAndLedger rows fares ledger
+
 -- what a parse comes to, by what the words ask for
 abbrev pub Comes : Asked → Kinds → Option (Text × List Row) → Type 0
 Comes (run r) ks sub = (ks ≡ []) × ComesWithRun r sub
@@ -79,6 +88,8 @@ Comes (check c) ks sub = (ks ≡ []) × ComesWithCheck c sub
 Comes (statement s) ks sub = (ks ≡ []) × ComesWithNumbers s sub
 Comes (replay a b files) ks sub = (ks ≡ []) × (sub ≡ Some (codes "replay", replay_rows a b files))
 Comes (serve s) ks sub = (ks ≡ []) × ComesWithOptions s sub
+Comes (audit a) ks sub = (ks ≡ []) × ComesWithAudit a sub
+Comes (rebuild fares ledger) ks sub = (ks ≡ []) × ComesWithLedger fares ledger sub
 Comes help_asked ks sub = ks ≡ DisplayHelp ∷ []
 Comes help_named ks sub = ks ≡ DisplayHelp ∷ InvalidSubcommand ∷ []
 Comes version_asked ks sub = ks ≡ DisplayVersion ∷ []

@@ -5,11 +5,12 @@ use Rattle.std.specs.Str.{bytes_eq, chars}
 use Rattle.std.specs.String.{string_bytes}
 use Rattle.clap.specs.Walk.{texts}
 use Rattle.pay_words.specs.declared.words.Job.{Job}
-use Rattle.pay_words.specs.declared.words.Job.TheVariants.{Run as RunJob, Check as CheckJob, Statement as StatementJob, Replay, Serve as ServeJob}
+use Rattle.pay_words.specs.declared.words.Job.TheVariants.{Run as RunJob, Check as CheckJob, Statement as StatementJob, Replay, Serve as ServeJob, Audit as AuditJob, Rebuild}
 use Rattle.pay_words.specs.declared.words.RunWords.{RunWords}
 use Rattle.pay_words.specs.declared.words.CheckWords.{CheckWords}
 use Rattle.pay_words.specs.declared.words.StatementWords.{StatementWords}
 use Rattle.pay_words.specs.declared.words.ServeWords.{ServeWords}
+use Rattle.pay_words.specs.declared.words.AuditWords.{AuditWords}
 use Rattle.pay_words.specs.declared.words.WordsFault.{WordsFault}
 use Rattle.pay_words.specs.declared.words.WordsFault.TheVariants.{Help, Version, Usage, Memory}
 use Rattle.pay_words.specs.declared.limits.TheConstants.{MOST_ACCOUNT, FIRST_DAY, LAST_DAY, MOST_PORT, MOST_SERVED_LANES, MOST_SHARDS, MOST_SESSIONS}
@@ -19,7 +20,9 @@ pub use Rattle.pay_words.specs.Options.{HasNoHyphen}
 use Rattle.pay_words.specs.Options.{Part, Said, StandApart, all_of, all_said, help_wanted, not_taken, plain, apart, joined, plain_words, values_of, words_of_parts}
 use Rattle.pay_words.specs.Options.{port_option, lanes_option, shards_option, sessions_option, close_option, journal_option, sync_option, ledger_option, early_option}
 use Rattle.pay_words.specs.Options.{lint_option, against_option, after_option}
+use Rattle.pay_words.specs.Audit.{AreAuditParts, Audit, audit_grammar}
 use Rattle.pay_words.specs.Check.{AreCheckParts, Check, CheckTexts, HasAfterInRange, check_grammar, check_of_texts, has_against}
+use Rattle.pay_words.specs.Rebuild.{rebuild_grammar}
 use Rattle.pay_words.specs.Run.{AreRunParts, Run, first_given, has_journal, is_given, run_grammar}
 use Rattle.pay_words.specs.Serve.{AreInRange, ArePartsOf, Serve, ServeTexts, has_ports, last_port, numbers_of, serve_grammar}
 use Rattle.pay_words.specs.Statement.{AreStatementParts, HasNumbersInRange, Statement, StatementTexts, statement_grammar, statement_of_texts}
@@ -64,6 +67,10 @@ pub data Asked : Type 0 where
   replay : Text → Text → List Text → Asked
   -- `serve` with its fare file, zone and the values of its options
   serve : Serve → Asked
+  -- `audit` with its fare file and zone, and the values of its options
+  audit : Audit → Asked
+  -- `rebuild` with its fare file and ledger
+  rebuild : Text → Text → Asked
   -- help, by `-h` or `--help`
   help_asked : Asked
   -- the word `help`: help, or usage where a word after it names no program
@@ -155,6 +162,32 @@ serve_asked (all_of parts) = serve_of (plain_words parts) (values_of port_option
 serve_asked help_wanted = help_asked
 serve_asked not_taken = usage
 
+-- two values, one journal, and what the other option was given
+abbrev pub audit_of : List Text → List Text → List Text → Asked
+audit_of (fares ∷ zone ∷ []) (j ∷ []) l = audit (record {
+  fares = fares;
+  zone = zone;
+  journal = j;
+  ledger = first_given l;
+})
+audit_of _ _ _ = usage
+
+-- `audit FARES ZONE` and its options
+abbrev pub audit_asked : Said → Asked
+audit_asked (all_of parts) = audit_of (plain_words parts) (values_of journal_option parts) (values_of ledger_option parts)
+audit_asked help_wanted = help_asked
+audit_asked not_taken = usage
+
+abbrev pub rebuild_of : List Text → Asked
+rebuild_of (fares ∷ ledger ∷ []) = rebuild fares ledger
+rebuild_of _ = usage
+
+-- `rebuild FARES LEDGER`
+abbrev pub rebuild_asked : Said → Asked
+rebuild_asked (all_of parts) = rebuild_of (plain_words parts)
+rebuild_asked help_wanted = help_asked
+rebuild_asked not_taken = usage
+
 abbrev pub option_asked : Word → Asked
 option_asked call_for_help = help_asked
 option_asked call_for_version = version_asked
@@ -166,8 +199,10 @@ program_asked program rest = if bytes_eq (codes "run") program then run_asked (a
     else (if bytes_eq (codes "statement") program then statement_asked (all_said statement_grammar rest)
     else (if bytes_eq (codes "replay") program then replay_asked (many_given rest)
     else (if bytes_eq (codes "serve") program then serve_asked (all_said serve_grammar rest)
+    else (if bytes_eq (codes "audit") program then audit_asked (all_said audit_grammar rest)
+    else (if bytes_eq (codes "rebuild") program then rebuild_asked (all_said rebuild_grammar rest)
     else (if bytes_eq (codes "help") program then help_named
-    else option_asked (word_kind program))))))
+    else option_asked (word_kind program))))))))
 
 -- the first word is the program's own name, and the second names what it is to do
 abbrev pub words_ask : List Text → Asked
@@ -232,12 +267,22 @@ served_job w = record {
   early = w.early;
 }
 
+abbrev pub audit_job : AuditWords → Audit
+audit_job w = record {
+  fares = w.fares.now;
+  zone = w.zone.now;
+  journal = w.journal.now;
+  ledger = option_map (λ s. s.now) w.ledger;
+}
+
 abbrev pub job_asked : Job → Asked
 job_asked (RunJob w) = run (run_job w)
 job_asked (CheckJob w) = check (check_job w)
 job_asked (StatementJob w) = statement (statement_job w)
 job_asked (Replay w) = replay w.fares.now w.zone.now (texts w.files.items)
 job_asked (ServeJob w) = serve (served_job w)
+job_asked (AuditJob w) = audit (audit_job w)
+job_asked (Rebuild w) = rebuild w.fares.now w.ledger.now
 
 -- the words of `run` say what it is asked for, in some order
 abbrev pub AreRunWords : Run → List Text → Type 0
@@ -258,6 +303,10 @@ abbrev pub AreServeWords : Serve → List Text → Type 0
 AreServeWords s words = (t : ServeTexts) × (parts : List Part) × (words ≡ codes "serve" ∷ words_of_parts parts)
     × ArePartsOf t parts × AreInRange t × (numbers_of t ≡ s)
 
+-- the words of `audit` do
+abbrev pub AreAuditWords : Audit → List Text → Type 0
+AreAuditWords a words = (parts : List Part) × (words ≡ codes "audit" ∷ words_of_parts parts) × AreAuditParts a parts
+
 -- the words that the job was made of
 abbrev pub AreJobWords : Job → List Text → Type 0
 AreJobWords (RunJob w) words = AreRunWords (run_job w) words
@@ -265,6 +314,8 @@ AreJobWords (CheckJob w) words = AreCheckWords (check_job w) words
 AreJobWords (StatementJob w) words = AreStatementWords (statement_job w) words
 AreJobWords (Replay w) words = words ≡ codes "replay" ∷ w.fares.now ∷ w.zone.now ∷ texts w.files.items
 AreJobWords (ServeJob w) words = AreServeWords (served_job w) words
+AreJobWords (AuditJob w) words = AreAuditWords (audit_job w) words
+AreJobWords (Rebuild w) words = words ≡ codes "rebuild" ∷ w.fares.now ∷ w.ledger.now ∷ []
 
 -- the numbers of a job are in their ranges, what is synced is a journal, days up to one are compared with another
 -- fare file, and there is a journal to be replayed
@@ -276,6 +327,8 @@ IsJobInRange (Replay w) = texts w.files.items ≢ []
 IsJobInRange (ServeJob w) = (1 ≤ w.port) × (1 ≤ w.lanes) × (w.lanes ≤ MOST_SERVED_LANES) × (last_port w.port w.lanes ≤ MOST_PORT)
     × (1 ≤ w.shards) × (w.shards ≤ MOST_SHARDS) × (1 ≤ w.sessions) × (w.sessions ≤ MOST_SESSIONS)
     × (FIRST_DAY ≤ w.close) × (w.close ≤ LAST_DAY)
+IsJobInRange (AuditJob w) = ⊤
+IsJobInRange (Rebuild w) = ⊤
 
 -- what the fault says of the words; memory may be refused at any words
 abbrev pub IsFaultOf : Asked → WordsFault → Type 0
@@ -341,6 +394,18 @@ abbrev pub ServeIsTaken : List Text → Result Job WordsFault → Type 0
 ServeIsTaken words result = (name : Text) (t : ServeTexts) (parts : List Part) → words ≡ name ∷ codes "serve" ∷ words_of_parts parts
     → ArePartsOf t parts → StandApart parts → HasNoHyphen t.fares → HasNoHyphen t.zone → AreInRange t → has_ports (numbers_of t) ≡ true
     → IsJobOrMemory (serve (numbers_of t)) result
+
+-- two words with no hyphen before them, the journal that is needed, and perhaps a ledger, in whatever order, are
+-- those of `audit`
+abbrev pub AuditIsTaken : List Text → Result Job WordsFault → Type 0
+AuditIsTaken words result = (name : Text) (a : Audit) (parts : List Part) → words ≡ name ∷ codes "audit" ∷ words_of_parts parts
+    → AreAuditParts a parts → StandApart parts → HasNoHyphen a.fares → HasNoHyphen a.zone
+    → IsJobOrMemory (audit a) result
+
+-- two words with no hyphen before them are the values of `rebuild`
+abbrev pub RebuildIsTaken : List Text → Result Job WordsFault → Type 0
+RebuildIsTaken words result = (name fares ledger : Text) → words ≡ name ∷ codes "rebuild" ∷ fares ∷ ledger ∷ []
+    → HasNoHyphen fares → HasNoHyphen ledger → IsJobOrMemory (rebuild fares ledger) result
 
 -- ---- worked rows
 
@@ -687,6 +752,70 @@ lanes_16_row = refl
 serve_help_row : row (codes "serve" ∷ codes "--lanes" ∷ codes "15" ∷ codes "-h" ∷ []) ≡ help_asked
 unfolding chars
 serve_help_row = refl
+
+abbrev plain_audit : Audit
+plain_audit = record { fares = codes "a"; zone = codes "b"; journal = codes "j"; ledger = None }
+
+audit_row : row (codes "audit" ∷ codes "a" ∷ codes "b" ∷ codes "--journal" ∷ codes "j" ∷ []) ≡ audit plain_audit
+unfolding chars
+audit_row = refl
+
+-- options before, between and after the values
+all_audit_row : row (codes "audit" ∷ codes "--ledger" ∷ codes "l" ∷ codes "a" ∷ codes "--journal=-j" ∷ codes "--" ∷ codes "-b" ∷ [])
+    ≡ audit (record { fares = codes "a"; zone = codes "-b"; journal = codes "-j"; ledger = Some (codes "l") })
+unfolding chars
+all_audit_row = refl
+
+-- a journal is needed, and given once
+no_journal_row : row (codes "audit" ∷ codes "a" ∷ codes "b" ∷ codes "--ledger=l" ∷ []) ≡ usage
+unfolding chars
+no_journal_row = refl
+
+audit_twice_row : row (codes "audit" ∷ codes "a" ∷ codes "b" ∷ codes "--journal=j" ∷ codes "--journal=k" ∷ []) ≡ usage
+unfolding chars
+audit_twice_row = refl
+
+audit_hyphen_row : row (codes "audit" ∷ codes "a" ∷ codes "b" ∷ codes "--journal" ∷ codes "-j" ∷ []) ≡ usage
+unfolding chars
+audit_hyphen_row = refl
+
+-- nothing is written
+audit_sync_row : row (codes "audit" ∷ codes "a" ∷ codes "b" ∷ codes "--journal=j" ∷ codes "--sync" ∷ []) ≡ usage
+unfolding chars
+audit_sync_row = refl
+
+audit_zone_row : row (codes "audit" ∷ codes "a" ∷ codes "--journal=j" ∷ []) ≡ usage
+unfolding chars
+audit_zone_row = refl
+
+audit_help_row : row (codes "audit" ∷ codes "--journal=j" ∷ codes "-h" ∷ []) ≡ help_asked
+unfolding chars
+audit_help_row = refl
+
+rebuild_row : row (codes "rebuild" ∷ codes "a" ∷ codes "l" ∷ []) ≡ rebuild (codes "a") (codes "l")
+unfolding chars
+rebuild_row = refl
+
+rebuild_dashes_row : row (codes "rebuild" ∷ codes "a" ∷ codes "--" ∷ codes "-l" ∷ []) ≡ rebuild (codes "a") (codes "-l")
+unfolding chars
+rebuild_dashes_row = refl
+
+rebuild_one_row : row (codes "rebuild" ∷ codes "a" ∷ []) ≡ usage
+unfolding chars
+rebuild_one_row = refl
+
+-- one value too many comes before a call for help after it
+rebuild_three_row : row (codes "rebuild" ∷ codes "a" ∷ codes "l" ∷ codes "b" ∷ codes "-h" ∷ []) ≡ usage
+unfolding chars
+rebuild_three_row = refl
+
+rebuild_option_row : row (codes "rebuild" ∷ codes "a" ∷ codes "--ledger=l" ∷ []) ≡ usage
+unfolding chars
+rebuild_option_row = refl
+
+rebuild_help_row : row (codes "rebuild" ∷ codes "a" ∷ codes "l" ∷ codes "--help" ∷ []) ≡ help_asked
+unfolding chars
+rebuild_help_row = refl
 
 check_help_row : row (codes "check" ∷ codes "-h" ∷ []) ≡ help_asked
 unfolding chars

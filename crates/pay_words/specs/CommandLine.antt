@@ -16,6 +16,7 @@ use Rattle.pay_words.specs.declared.words.WordsFault.{WordsFault}
 use Rattle.pay_words.specs.declared.words.WordsFault.TheVariants.{Help, Version, Usage, Memory}
 use Rattle.pay_words.specs.declared.limits.TheConstants.{MOST_ACCOUNT, FIRST_DAY, LAST_DAY, MOST_PORT, MOST_SERVED_LANES, MOST_SHARDS, MOST_SESSIONS}
 use Rattle.pay_words.specs.Asked.{version_line}
+use Rattle.pay_words.specs.Audit.{Audit}
 use Rattle.pay_words.specs.Check.{Check, CheckTexts, HasAfterInRange, check_of_texts}
 use Rattle.pay_words.specs.Run.{Run}
 use Rattle.pay_words.specs.Serve.{AreInRange, Serve, ServeTexts, numbers_of}
@@ -36,6 +37,10 @@ required_number name least most = record (required_word name) { parser = Some (v
 -- an option with a number in its range, which has to be there and is called by its name in the words
 abbrev pub required_option : Text → ℕ → ℕ → Rule
 required_option name least most = record (required_number name least most) { long = Some name; value_names = 1 }
+
+-- an option with a text, which has to be there
+abbrev pub required_text : Text → Rule
+required_text name = record (required_word name) { long = Some name; value_names = 1 }
 
 -- an option with a text, which may be there
 abbrev pub text_option : Text → Rule
@@ -90,12 +95,20 @@ with_numbers app = with_rule (with_rule (with_rule (with_rule (with_rule app
 abbrev pub serve_app : App
 serve_app = with_ledger (with_rule (with_numbers (with_fares_and_zone (new_app (codes "serve")))) (text_option (codes "journal")))
 
+-- `audit FARES ZONE --journal PATH [--ledger FILE]`
+abbrev pub audit_app : App
+audit_app = with_rule (with_rule (with_fares_and_zone (new_app (codes "audit"))) (required_text (codes "journal"))) (text_option (codes "ledger"))
+
+-- `rebuild FARES LEDGER`
+abbrev pub rebuild_app : App
+rebuild_app = with_rule (with_rule (new_app (codes "rebuild")) (required_word (codes "FARES"))) (required_word (codes "LEDGER"))
+
 -- the program, which has a version, and wants one of its programs named
 abbrev pub farebox_app : App
-farebox_app = with_subcommand (with_subcommand (with_subcommand (with_subcommand (with_subcommand
+farebox_app = with_subcommand (with_subcommand (with_subcommand (with_subcommand (with_subcommand (with_subcommand (with_subcommand
     (on_top (λ top. record top { has_version = true; subcommand_required = true })
     (new_app (codes "farebox")))
-    run_app.top) check_app.top) statement_app.top) replay_app.top) serve_app.top
+    run_app.top) check_app.top) statement_app.top) replay_app.top) serve_app.top) audit_app.top) rebuild_app.top
 
 -- ---- the matches
 
@@ -190,6 +203,32 @@ HasServeTexts f t = (first_value f (codes "FARES") ≡ Some t.fares) × (first_v
     × (one_text f (codes "close") ≡ Some t.close)
     × (first_value f (codes "journal") ≡ t.journal) × (first_value f (codes "ledger") ≡ t.ledger)
     × (one_text f (codes "early") ≡ Some (flag_text t.early))
+
+-- these rows have what `audit` is asked for
+abbrev pub HaveAudit : List Row → Audit → Type 0
+HaveAudit rows a = (first_of (codes "FARES") rows ≡ Some a.fares) × (first_of (codes "ZONE") rows ≡ Some a.zone)
+    × (first_of (codes "journal") rows ≡ Some a.journal) × (first_of (codes "ledger") rows ≡ a.ledger)
+
+-- the matches are those of `audit` with these values
+abbrev pub GivesAudit : ArgMatches → Audit → Type 0
+GivesAudit m a = (rows : List Row) × (subcommand_rows_of m ≡ Some (codes "audit", rows)) × HaveAudit rows a
+
+-- the matches have what `audit` is asked for
+abbrev pub HasAudit : Found → Audit → Type 0
+HasAudit f a = (first_value f (codes "FARES") ≡ Some a.fares) × (first_value f (codes "ZONE") ≡ Some a.zone)
+    × (first_value f (codes "journal") ≡ Some a.journal) × (first_value f (codes "ledger") ≡ a.ledger)
+
+-- these rows have the values of FARES and LEDGER
+abbrev pub HaveFaresAndLedger : List Row → Text → Text → Type 0
+HaveFaresAndLedger rows fares ledger = (first_of (codes "FARES") rows ≡ Some fares) × (first_of (codes "LEDGER") rows ≡ Some ledger)
+
+-- the matches are those of `rebuild` with these values
+abbrev pub GivesRebuild : ArgMatches → Text → Text → Type 0
+GivesRebuild m fares ledger = (rows : List Row) × (subcommand_rows_of m ≡ Some (codes "rebuild", rows)) × HaveFaresAndLedger rows fares ledger
+
+-- the matches have these values of FARES and LEDGER
+abbrev pub HasFaresAndLedger : Found → Text → Text → Type 0
+HasFaresAndLedger f fares ledger = (first_value f (codes "FARES") ≡ Some fares) × (first_value f (codes "LEDGER") ≡ Some ledger)
 
 -- help was asked for, or memory was refused
 abbrev pub IsHelpOrMemory : WordsFault → Type 0

@@ -1,8 +1,10 @@
 pub mod CommandLine
 pub mod Asked
+pub mod Audit
 pub mod Check
 pub mod OneWord
 pub mod Options
+pub mod Rebuild
 pub mod Run
 pub mod Serve
 pub mod Statement

@@ -13,6 +13,7 @@ pub data Place : Type 0 where
   zone_place : Place
   account_place : Place
   day_place : Place
+  ledger_place : Place
 
 -- what it has to be
 abbrev pub place_reader : Place → Reader
@@ -20,6 +21,7 @@ place_reader fares_place = any_text
 place_reader zone_place = any_text
 place_reader account_place = is_account
 place_reader day_place = is_day
+place_reader ledger_place = any_text
 
 -- an option, which has a value if it is no flag
 pub data Setting : Type 0 where

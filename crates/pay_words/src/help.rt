@@ -24,6 +24,16 @@ instant, or the first bad line";
 pub const SERVE: &str =
     "Read taps and corrections from the connections of several lanes, and then close a day";
 
+/// What `audit` does.
+pub const AUDIT: &str = "\
+Compare a journal with what is kept beside it and with a ledger, and print each thing
+that differs and each week that is not settled";
+
+/// What `rebuild` does.
+pub const REBUILD: &str = "\
+Print the lines of the taps and corrections that a ledger archives, as a journal
+has them";
+
 /// What the word FARES is.
 pub const FARES: &str = "The fare file, a TOML document";
 
@@ -41,6 +51,9 @@ A service day of the week, counted from 1970-01-01: a number from 4 to 50000";
 /// What the words FILE.. are.
 pub const FILES: &str = "The journals, files of lines that were accepted";
 
+/// What the word LEDGER is, and the option `--ledger` of `audit`.
+pub const LEDGER_READ: &str = "The SQLite file that days were closed into";
+
 /// What the option `--journal` of `run` is.
 pub const JOURNAL: &str = "\
 A file of the lines that were accepted. They are taken first, and each line
@@ -57,12 +70,15 @@ A folder of the lines that were accepted, a file for each shard. They are
 taken first, and each line that is accepted is added before its reply. The
 files are made if they are missing, the folder is not";
 
+/// What the option `--journal` of `audit` is.
+pub const JOURNAL_AUDITED: &str = "A journal, or a folder of journals; it is only read";
+
 /// What the option `--sync` is.
 pub const SYNC: &str = "\
 Each line is on the disk before its reply. Without it, before a close is
 posted, and at the end";
 
-/// What the option `--ledger` is.
+/// What the option `--ledger` of `run` and of `serve` is.
 pub const LEDGER: &str = "\
 The SQLite file that days are closed into. It is made if it is missing";
 
@@ -110,8 +126,8 @@ number from 4 to 50000";
 /// What stands below the program's own help.
 pub const BELOW_PROGRAM: &str = "\
 Words of run (FARES ZONE), of check (FARES), of statement (FARES ZONE ACCOUNT DAY), of replay
-(FARES ZONE FILE..) and of serve (FARES ZONE --port P --lanes L --shards N --sessions K
---close DAY), with options in any order:
+(FARES ZONE FILE..), of serve (FARES ZONE --port P --lanes L --shards N --sessions K --close DAY),
+of audit (FARES ZONE --journal PATH) and of rebuild (FARES LEDGER), with options in any order:
   FARES    the fare file, a TOML document, which may hold editions, fares that hold from a day on
   ZONE     the time zone, a POSIX rule text (a name such as Europe/London is none)
   ACCOUNT  the account, a number from 1 to 4294967295
@@ -121,11 +137,13 @@ Words of run (FARES ZONE), of check (FARES), of statement (FARES ZONE ACCOUNT DA
   N        how many shards the accounts are spread over, from 1 to 16
   K        how many connections each lane serves, from 1 to 1000
   FILE     a journal, which run or serve wrote
+  PATH     a journal, or a folder of journals, which is only read
+  LEDGER   the SQLite file that days were closed into
 
 Further options: --journal FILE and --ledger FILE of run, and --sync with --journal; --lint and
 --against OLD of check, where OLD is another fare file, and --after DAY with --against; --journal
 FILE of statement, where it is only read; --journal FOLDER and --ledger FILE of serve; --early of
-run and of serve, for a day that is not over yet.
+run and of serve, to close a day that is not over yet; --ledger FILE of audit.
 
 Example: account 7 boards a bus in London on Monday 8 January 2024 at 07:00. The reply names the
 day, counted from 1970-01-01, its price and that of its week, in pence.
@@ -233,3 +251,27 @@ Statuses:
   2  the words were refused
 
 The lines and replies, the fare file and the faults are described in docs/FORMATS.md.";
+
+/// What stands below the help of `audit`.
+pub const BELOW_AUDIT: &str = "\
+PATH is the FILE of `run --journal FILE`, or the FOLDER of `serve --journal FOLDER`. Without
+--ledger FILE it is compared with what is kept beside it alone.
+
+Statuses:
+  0  the files belong together
+  1  they do not, or a fault, which one line on standard error names
+  2  the words were refused
+
+The journal, the ledger and the faults are described in docs/FORMATS.md.";
+
+/// What stands below the help of `rebuild`.
+pub const BELOW_REBUILD: &str = "\
+LEDGER is the FILE of `run --ledger FILE` or of `serve --ledger FILE`. It archives the taps and the
+corrections of the days that were closed into it.
+
+Statuses:
+  0  all right
+  1  a fault, which one line on standard error names
+  2  the words were refused
+
+The lines, the journal, the ledger and the faults are described in docs/FORMATS.md.";

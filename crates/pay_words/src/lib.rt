@@ -6,5 +6,6 @@ pub mod limits;
 mod words;
 
 pub use words::{
-    CheckWords, Job, ReplayWords, RunWords, ServeWords, StatementWords, WordsFault, read_words,
+    AuditWords, CheckWords, Job, RebuildWords, ReplayWords, RunWords, ServeWords, StatementWords,
+    WordsFault, read_words,
 };

@@ -4,24 +4,26 @@ ghost use Rattle.std.specs.Prelude.{IfOk, IfErr, IsSomeAnd};
 ghost use Rattle.clap.specs.Walk.{texts};
 ghost use Rattle.clap.specs.Words.{app_of, first_value, found_of, kind_of, one_text};
 ghost use Rattle.clap.specs.declared.builder.command.Command.TheViews.{out-Command as fields_of};
-ghost use Rattle.pay_words.specs.CommandLine.{GivesCheck, GivesReplay, GivesRun, GivesServe, GivesStatement};
-ghost use Rattle.pay_words.specs.CommandLine.{HasCheckTexts, HasFaresAndZone, HasFiles, HasRun, HasServeTexts, HasStatementTexts};
+ghost use Rattle.pay_words.specs.CommandLine.{GivesAudit, GivesCheck, GivesRebuild, GivesReplay, GivesRun, GivesServe, GivesStatement};
+ghost use Rattle.pay_words.specs.CommandLine.{HasAudit, HasCheckTexts, HasFaresAndLedger, HasFaresAndZone, HasFiles, HasRun, HasServeTexts, HasStatementTexts};
 ghost use Rattle.pay_words.specs.CommandLine.{IsFaultOfKind, IsHelpOrMemory, IsVersionOrMemory, flag_text};
-ghost use Rattle.pay_words.specs.CommandLine.{check_app, farebox_app, replay_app, run_app, serve_app, statement_app};
-ghost use Rattle.pay_words.specs.CommandLine.{flag_option, optional_number, required_number, required_option, required_word};
+ghost use Rattle.pay_words.specs.CommandLine.{audit_app, check_app, farebox_app, rebuild_app, replay_app, run_app, serve_app, statement_app};
+ghost use Rattle.pay_words.specs.CommandLine.{flag_option, optional_number, required_number, required_option, required_text, required_word};
 ghost use Rattle.pay_words.specs.CommandLine.{required_words, text_option, with_against, with_fares_and_zone, with_ledger, with_numbers};
 ghost use Rattle.clap.specs.Words.{shape_of, with_rule, with_subcommand};
 ghost use Rattle.clap.specs.ValueTests.{is_unsigned_in};
 ghost use Rattle.clap.specs.Walk.{rule_of};
 ghost use Rattle.pay_words.specs.Asked.{IsFaultOf, Text, asked, job_asked, AreJobWords, IsJob, IsJobInRange};
-ghost use Rattle.pay_words.specs.Asked.{RunIsTaken, CheckIsTaken, StatementIsTaken, ReplayIsTaken, ServeIsTaken};
-ghost use Rattle.pay_words.specs.Asked.{IsAnswer, IsJobOrMemory, allowed, check_job, run_job, served_job, statement_job};
+ghost use Rattle.pay_words.specs.Asked.{RunIsTaken, CheckIsTaken, StatementIsTaken, ReplayIsTaken, ServeIsTaken, AuditIsTaken, RebuildIsTaken};
+ghost use Rattle.pay_words.specs.Asked.{IsAnswer, IsJobOrMemory, allowed, audit_job, check_job, run_job, served_job, statement_job};
 ghost use Rattle.pay_words.specs.OneWord.{is_port};
+ghost use Rattle.pay_words.specs.Audit.{Audit};
 ghost use Rattle.pay_words.specs.Check.{Check, CheckTexts, HasAfterInRange, check_of_texts, has_against};
 ghost use Rattle.pay_words.specs.Run.{Run, has_journal};
 ghost use Rattle.pay_words.specs.Serve.{AreInRange, Serve, ServeTexts, has_ports, numbers_of};
 ghost use Rattle.pay_words.specs.Statement.{HasNumbersInRange, Statement, StatementTexts, statement_of_texts};
 ghost use Rattle.pay_words.specs.Asked.{check as check_asked, run as run_asked, without_dashes};
+ghost use Rattle.pay_words.specs.Asked.{audit as audit_asked, rebuild as rebuild_asked};
 ghost use Rattle.pay_words.specs.Asked.{replay as replay_asked, serve as serve_asked, statement as statement_asked, number_of};
 ghost use Rattle.pay_words.specs.declared.words.WordsFault.TheVariants.{Memory};
 
@@ -54,6 +56,11 @@ pub enum Job<'a> {
     /// `serve FARES ZONE --port P --lanes L --shards N --sessions K --close DAY` and the options that may be
     /// left out: sessions of several lanes at once, and the close of a day when all of them have ended.
     Serve(ServeWords<'a>),
+    /// `audit FARES ZONE --journal PATH` and its option: whether a journal, what is kept beside it and a ledger
+    /// belong together.
+    Audit(AuditWords<'a>),
+    /// `rebuild FARES LEDGER`: the lines of the taps and corrections that a ledger archives.
+    Rebuild(RebuildWords<'a>),
 }
 
 /// The values of `run FARES ZONE [--journal FILE [--sync]] [--ledger FILE] [--early]`.
@@ -140,6 +147,28 @@ pub struct ServeWords<'a> {
     pub early: bool,
 }
 
+/// The values of `audit FARES ZONE --journal PATH [--ledger FILE]`.
+#[derive(Clone, Copy)]
+pub struct AuditWords<'a> {
+    /// The path of the fare file.
+    pub fares: &'a str,
+    /// The text of the time zone, a POSIX rule.
+    pub zone: &'a str,
+    /// The path of a journal, or of a folder of journals; it is only read.
+    pub journal: &'a str,
+    /// The path of the SQLite file that days were closed into.
+    pub ledger: Option<&'a str>,
+}
+
+/// The values of `rebuild FARES LEDGER`.
+#[derive(Clone, Copy)]
+pub struct RebuildWords<'a> {
+    /// The path of the fare file.
+    pub fares: &'a str,
+    /// The path of the SQLite file that days were closed into.
+    pub ledger: &'a str,
+}
+
 /// Why the words give no job.
 #[derive(Debug, Drop, Error)]
 pub enum WordsFault {
@@ -202,6 +231,12 @@ pub fn read_words<'a>(alloc: Global, words: &'a [&'a str]) -> Result<Job<'a>, Wo
     // Two words with no hyphen before them, five options with numbers in their ranges, and perhaps three others, in
     // any order, are the values of `serve`, where each lane has a port.
     ensures serve { ServeIsTaken (texts words.entry.now) result }
+
+    // Two words with no hyphen before them, a journal, and perhaps a ledger, in any order, are the values of `audit`.
+    ensures audit { AuditIsTaken (texts words.entry.now) result }
+
+    // Two words with no hyphen before them are the values of `rebuild`.
+    ensures rebuild { RebuildIsTaken (texts words.entry.now) result }
 {
     let command = farebox_command(alloc)?;
     match command.try_get_matches_from(words) {
@@ -218,13 +253,15 @@ fn farebox_command<'a>(alloc: Global) -> Result<Command<'a>, AllocError>
     let statement = statement_command(alloc)?;
     let replay = replay_command(alloc)?;
     let serve = serve_command(alloc)?;
+    let audit = audit_command(alloc)?;
+    let rebuild = rebuild_command(alloc)?;
     let farebox = Command::new(alloc, "farebox")
         .version(VERSION)
         .about(help::PROGRAM)
         .after_help(help::BELOW_PROGRAM)
         .subcommand_required(true);
-    let most = with_programs(with_programs(farebox, run, check)?, statement, replay)?;
-    with_program(most, serve)
+    let four = with_programs(with_programs(farebox, run, check)?, statement, replay)?;
+    with_program(with_programs(four, serve, audit)?, rebuild)
 }
 
 /// A command with a program more.
@@ -346,6 +383,29 @@ fn serve_command<'a>(alloc: Global) -> Result<Command<'a>, AllocError>
     with_ledger(alloc, kept)
 }
 
+fn audit_command<'a>(alloc: Global) -> Result<Command<'a>, AllocError>
+    ensures app { IfOk result (λ command. app_of command ≡ audit_app) }
+    ensures local { IfOk result (λ command. (fields_of command).has_globals ≡ false) }
+{
+    let command = Command::new(alloc, "audit")
+        .about(help::AUDIT)
+        .after_help(help::BELOW_AUDIT);
+    with_fares_and_zone(alloc, command)?
+        .arg(required_text(alloc, "journal", "PATH", help::JOURNAL_AUDITED))?
+        .arg(text_option(alloc, "ledger", "FILE", help::LEDGER_READ))
+}
+
+fn rebuild_command<'a>(alloc: Global) -> Result<Command<'a>, AllocError>
+    ensures app { IfOk result (λ command. app_of command ≡ rebuild_app) }
+    ensures local { IfOk result (λ command. (fields_of command).has_globals ≡ false) }
+{
+    Command::new(alloc, "rebuild")
+        .about(help::REBUILD)
+        .after_help(help::BELOW_REBUILD)
+        .arg(text_word(alloc, "FARES", help::FARES))?
+        .arg(text_word(alloc, "LEDGER", help::LEDGER_READ))
+}
+
 /// A command with the options that `serve` needs, after the words that it has.
 fn with_numbers<'a>(alloc: Global, command: Command<'a>) -> Result<Command<'a>, AllocError>
     requires { (fields_of command).has_globals ≡ false }
@@ -385,6 +445,14 @@ fn text_option<'a>(alloc: Global, name: &'a str, value: &'a str, help: &'a str) 
         .long(name)
         .value_name(value)
         .help(help)
+}
+
+/// An option with a text, which has to be there; help calls the text `value`.
+fn required_text<'a>(alloc: Global, name: &'a str, value: &'a str, help: &'a str) -> Arg<'a>
+    ensures rule { rule_of result ≡ required_text name.entry.now }
+    ensures local { result.global ≡ false }
+{
+    text_word(alloc, name, help).long(name).value_name(value)
 }
 
 /// An option with a number in its range, which may be there; help calls the number `value`.
@@ -445,6 +513,8 @@ fn job_of<'a>(alloc: Global, matches: &ArgMatches<'a>) -> Result<Job<'a>, WordsF
     ensures replay { (fares zone : Text) (files : List Text)
         → GivesReplay matches.now fares zone files → IsJobOrMemory (replay_asked fares zone files) result }
     ensures serve { (s : Serve) → GivesServe matches.now s → IsAnswer (allowed (serve_asked s)) result }
+    ensures audit { (a : Audit) → GivesAudit matches.now a → IsJob (audit_asked a) result }
+    ensures rebuild { (fares ledger : Text) → GivesRebuild matches.now fares ledger → IsJob (rebuild_asked fares ledger) result }
 {
     match matches.subcommand() {
         Some(("run", run)) => run_job(run),
@@ -452,6 +522,8 @@ fn job_of<'a>(alloc: Global, matches: &ArgMatches<'a>) -> Result<Job<'a>, WordsF
         Some(("statement", statement)) => statement_job(statement),
         Some(("replay", replay)) => replay_job(alloc, replay),
         Some(("serve", serve)) => serve_job(serve),
+        Some(("audit", audit)) => audit_job(audit),
+        Some(("rebuild", rebuild)) => rebuild_job(rebuild),
         _ => Err(WordsFault::Usage),
     }
 }
@@ -640,6 +712,36 @@ fn serve_words<'a>(serve: &ArgMatches<'a>) -> Option<ServeWords<'a>>
         ledger: serve.get_str("ledger"),
         early: is_flagged(serve, "early"),
     })
+}
+
+fn audit_job<'a>(audit: &ArgMatches<'a>) -> Result<Job<'a>, WordsFault>
+    ensures { (a : Audit) → HasAudit (found_of audit.now) a → IsJob (audit_asked a) result }
+{
+    match audit_words(audit) {
+        Some(words) => Ok(Job::Audit(words)),
+        None => Err(WordsFault::Usage),
+    }
+}
+
+fn audit_words<'a>(audit: &ArgMatches<'a>) -> Option<AuditWords<'a>>
+    ensures { (a : Audit) → HasAudit (found_of audit.now) a → IsSomeAnd result (λ words. audit_job words ≡ a) }
+{
+    Some(AuditWords {
+        fares: audit.get_str("FARES")?,
+        zone: audit.get_str("ZONE")?,
+        journal: audit.get_str("journal")?,
+        ledger: audit.get_str("ledger"),
+    })
+}
+
+fn rebuild_job<'a>(rebuild: &ArgMatches<'a>) -> Result<Job<'a>, WordsFault>
+    ensures { (fares ledger : Text) → HasFaresAndLedger (found_of rebuild.now) fares ledger
+        → IsJob (rebuild_asked fares ledger) result }
+{
+    match (rebuild.get_str("FARES"), rebuild.get_str("LEDGER")) {
+        (Some(fares), Some(ledger)) => Ok(Job::Rebuild(RebuildWords { fares, ledger })),
+        _ => Err(WordsFault::Usage),
+    }
 }
 
 /// The port, of the numbers that the matches have.

@@ -10,9 +10,11 @@ returns c =
     let top : app_of c.subcommand_required-farebox.result ≡ on_top (λ top. record top { has_version = true; subcommand_required = true }) (new_app (codes "farebox")) = search rules in
     let first = c.in_ok-with_programs.ensures
     ∙ ap₂ with_subcommand (ap₂ with_subcommand top (ap (λ (a : App). a.top) c.in_ok-run.ensures.app)) (ap (λ (a : App). a.top) c.in_ok-check.ensures.app) in
-    let second = c.in_ok-most.ensures
+    let second = c.in_ok-four.ensures
     ∙ ap₂ with_subcommand (ap₂ with_subcommand first (ap (λ (a : App). a.top) c.in_ok-statement.ensures.app)) (ap (λ (a : App). a.top) c.in_ok-replay.ensures.app) in
-    IfOk-weaker c.with_program.result (λ command. app_of command ≡ with_subcommand (app_of c.in_ok-most.most) (shape_of c.in_ok-serve.serve))
+    let third = c.in_ok-with_programs-2.ensures
+    ∙ ap₂ with_subcommand (ap₂ with_subcommand second (ap (λ (a : App). a.top) c.in_ok-serve.ensures.app)) (ap (λ (a : App). a.top) c.in_ok-audit.ensures.app) in
+    IfOk-weaker c.with_program.result (λ command. app_of command ≡ with_subcommand (app_of c.in_ok-with_programs-2.field-0) (shape_of c.in_ok-rebuild.rebuild))
     (λ command. app_of command ≡ farebox_app)
-    (λ command is. is ∙ ap₂ with_subcommand second (ap (λ (a : App). a.top) c.in_ok-serve.ensures.app))
+    (λ command is. is ∙ ap₂ with_subcommand third (ap (λ (a : App). a.top) c.in_ok-rebuild.ensures.app))
     c.with_program.ensures

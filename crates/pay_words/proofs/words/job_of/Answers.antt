@@ -1,5 +1,5 @@
 use Rattle.clap.specs.Words.{found_of}
-use Rattle.pay_words.proofs.Results.{check_texts, replay_values, run_values, serve_texts, statement_texts}
+use Rattle.pay_words.proofs.Results.{audit_values, check_texts, rebuild_values, replay_values, run_values, serve_texts, statement_texts}
 use Rattle.pay_words.proofs.words.job_of.Goals as goal
 
 pub returns-in-Some-run-default-clause-run : goal.returns-in-Some-run-default-clause-run
@@ -26,3 +26,11 @@ pub returns-in-Some-serve-default-clause-serve : goal.returns-in-Some-serve-defa
 returns-in-Some-serve-default-clause-serve c = λ s gives.
     let found = found_of c.in-Some-serve-default.serve.now in
     rw (← gives.5) (c.serve_job.ensures gives.0 (serve_texts c.args.matches.now found s c.in-Some-serve-default.ensures.rows gives) gives.4)
+
+pub returns-in-Some-audit-default-clause-audit : goal.returns-in-Some-audit-default-clause-audit
+returns-in-Some-audit-default-clause-audit c = λ a gives.
+    c.audit_job.ensures a (audit_values c.args.matches.now (found_of c.in-Some-audit-default.audit.now) a c.in-Some-audit-default.ensures.rows gives)
+
+pub returns-in-Some-rebuild-default-clause-rebuild : goal.returns-in-Some-rebuild-default-clause-rebuild
+returns-in-Some-rebuild-default-clause-rebuild c = λ fares ledger gives.
+    c.rebuild_job.ensures fares ledger (rebuild_values c.args.matches.now (found_of c.in-Some-rebuild-default.rebuild.now) fares ledger c.in-Some-rebuild-default.ensures.rows gives)

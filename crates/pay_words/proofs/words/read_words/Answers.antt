@@ -3,7 +3,7 @@ use Rattle.clap.specs.Words.{App, HasMatchesOf, HasKind, Text, app_of, fault_of,
 use Rattle.clap.specs.Walk.{texts}
 use Rattle.pay_words.specs.Asked.{asked, words_ask}
 use Rattle.pay_words.specs.CommandLine.{farebox_app}
-use Rattle.pay_words.proofs.Results.{job_read, matched, refused_as, result_check, result_in_range, result_job, result_refused, result_replay, result_run, result_serve, result_statement, result_words}
+use Rattle.pay_words.proofs.Results.{job_read, matched, refused_as, result_audit, result_check, result_in_range, result_job, result_rebuild, result_refused, result_replay, result_run, result_serve, result_statement, result_words}
 use Rattle.pay_words.proofs.words.read_words.Goals as goal
 
 pub returns-in-Ok-clause-job : goal.returns-in-Ok-clause-job
@@ -18,6 +18,8 @@ returns-in-Ok-clause-job c =
       of_statement = c.job_of.ensures.statement;
       of_replay = c.job_of.ensures.replay;
       of_serve = c.job_of.ensures.serve;
+      of_audit = c.job_of.ensures.audit;
+      of_rebuild = c.job_of.ensures.rebuild;
     }))
 
 pub returns-in-Ok-clause-refused : goal.returns-in-Ok-clause-refused
@@ -32,6 +34,8 @@ returns-in-Ok-clause-refused c =
       of_statement = c.job_of.ensures.statement;
       of_replay = c.job_of.ensures.replay;
       of_serve = c.job_of.ensures.serve;
+      of_audit = c.job_of.ensures.audit;
+      of_rebuild = c.job_of.ensures.rebuild;
     }))
 
 pub returns-in-Ok-clause-in_range : goal.returns-in-Ok-clause-in_range
@@ -76,3 +80,15 @@ returns-in-Ok-clause-serve c = result_serve c.job_of.result (texts c.args.words.
 
 pub returns-in-Err-clause-serve : goal.returns-in-Err-clause-serve
 returns-in-Err-clause-serve c = result_serve (Err c.fault_of.result) (texts c.args.words.now) tt (returns-in-Err-clause-refused c)
+
+pub returns-in-Ok-clause-audit : goal.returns-in-Ok-clause-audit
+returns-in-Ok-clause-audit c = result_audit c.job_of.result (texts c.args.words.now) (returns-in-Ok-clause-job c) (returns-in-Ok-clause-refused c)
+
+pub returns-in-Err-clause-audit : goal.returns-in-Err-clause-audit
+returns-in-Err-clause-audit c = result_audit (Err c.fault_of.result) (texts c.args.words.now) tt (returns-in-Err-clause-refused c)
+
+pub returns-in-Ok-clause-rebuild : goal.returns-in-Ok-clause-rebuild
+returns-in-Ok-clause-rebuild c = result_rebuild c.job_of.result (texts c.args.words.now) (returns-in-Ok-clause-job c) (returns-in-Ok-clause-refused c)
+
+pub returns-in-Err-clause-rebuild : goal.returns-in-Err-clause-rebuild
+returns-in-Err-clause-rebuild c = result_rebuild (Err c.fault_of.result) (texts c.args.words.now) tt (returns-in-Err-clause-refused c)
