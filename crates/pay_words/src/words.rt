@@ -10,7 +10,7 @@ ghost use Rattle.pay_words.specs.CommandLine.{IsFaultOfKind, IsHelpOrMemory, IsV
 ghost use Rattle.pay_words.specs.CommandLine.{audit_app, check_app, farebox_app, rebuild_app, replay_app, run_app, serve_app, statement_app};
 ghost use Rattle.pay_words.specs.CommandLine.{flag_option, optional_number, required_number, required_option, required_text, required_word};
 ghost use Rattle.pay_words.specs.CommandLine.{required_words, text_option, with_against, with_fares_and_zone, with_ledger, with_numbers};
-ghost use Rattle.clap.specs.Words.{shape_of, with_rule, with_subcommand};
+ghost use Rattle.clap.specs.Words.{App, with_rule, with_subcommand};
 ghost use Rattle.clap.specs.ValueTests.{is_unsigned_in};
 ghost use Rattle.clap.specs.Walk.{rule_of};
 ghost use Rattle.pay_words.specs.Asked.{IsFaultOf, Text, asked, job_asked, AreJobWords, IsJob, IsJobInRange};
@@ -248,42 +248,30 @@ pub fn read_words<'a>(alloc: Global, words: &'a [&'a str]) -> Result<Job<'a>, Wo
 fn farebox_command<'a>(alloc: Global) -> Result<Command<'a>, AllocError>
     ensures { IfOk result (λ command. app_of command ≡ farebox_app) }
 {
-    let run = run_command(alloc)?;
-    let check = check_command(alloc)?;
-    let statement = statement_command(alloc)?;
-    let replay = replay_command(alloc)?;
-    let serve = serve_command(alloc)?;
-    let audit = audit_command(alloc)?;
-    let rebuild = rebuild_command(alloc)?;
-    let farebox = Command::new(alloc, "farebox")
+    let top = Command::new(alloc, "farebox")
         .version(VERSION)
         .about(help::PROGRAM)
         .after_help(help::BELOW_PROGRAM)
         .subcommand_required(true);
-    let four = with_programs(with_programs(farebox, run, check)?, statement, replay)?;
-    with_program(with_programs(four, serve, audit)?, rebuild)
+    let one = with_program(Ok(top), run_command(alloc));
+    let two = with_program(one, check_command(alloc));
+    let three = with_program(two, statement_command(alloc));
+    let four = with_program(three, replay_command(alloc));
+    let five = with_program(four, serve_command(alloc));
+    let six = with_program(five, audit_command(alloc));
+    with_program(six, rebuild_command(alloc))
 }
 
-/// A command with a program more.
-fn with_program<'a>(command: Command<'a>, program: Command<'a>) -> Result<Command<'a>, AllocError>
-    requires local { (fields_of program).has_globals ≡ false }
-    ensures { IfOk result (λ r. app_of r ≡ with_subcommand (app_of command.entry) (shape_of program.entry)) }
-{
-    command.subcommand(program)
-}
-
-/// And with two.
-fn with_programs<'a>(
-    command: Command<'a>,
-    first: Command<'a>,
-    second: Command<'a>,
+/// A command with a program more, if both could be made.
+fn with_program<'a>(
+    command: Result<Command<'a>, AllocError>,
+    program: Result<Command<'a>, AllocError>,
 ) -> Result<Command<'a>, AllocError>
-    requires first { (fields_of first).has_globals ≡ false }
-    requires second { (fields_of second).has_globals ≡ false }
-    ensures { IfOk result (λ r. app_of r ≡ with_subcommand
-        (with_subcommand (app_of command.entry) (shape_of first.entry)) (shape_of second.entry)) }
+    requires local { IfOk program (λ p. (fields_of p).has_globals ≡ false) }
+    ensures { (app sub : App) → IfOk command.entry (λ c. app_of c ≡ app) → IfOk program.entry (λ p. app_of p ≡ sub)
+        → IfOk result (λ r. app_of r ≡ with_subcommand app sub.top) }
 {
-    command.subcommand(first)?.subcommand(second)
+    command?.subcommand(program?)
 }
 
 fn run_command<'a>(alloc: Global) -> Result<Command<'a>, AllocError>
@@ -293,9 +281,11 @@ fn run_command<'a>(alloc: Global) -> Result<Command<'a>, AllocError>
     let command = Command::new(alloc, "run")
         .about(help::RUN)
         .after_help(help::BELOW_RUN);
-    let kept = with_fares_and_zone(alloc, command)?
-        .arg(text_option(alloc, "journal", "FILE", help::JOURNAL))?
-        .arg(flag_option(alloc, "sync", help::SYNC))?;
+    let kept = with_two(
+        with_fares_and_zone(alloc, command)?,
+        text_option(alloc, "journal", "FILE", help::JOURNAL),
+        flag_option(alloc, "sync", help::SYNC),
+    )?;
     with_ledger(alloc, kept)
 }
 
@@ -305,9 +295,11 @@ fn with_ledger<'a>(alloc: Global, command: Command<'a>) -> Result<Command<'a>, A
     ensures app { IfOk result (λ r. app_of r ≡ with_ledger (app_of command.entry)) }
     ensures local { IfOk result (λ r. (fields_of r).has_globals ≡ false) }
 {
-    command
-        .arg(text_option(alloc, "ledger", "FILE", help::LEDGER))?
-        .arg(flag_option(alloc, "early", help::EARLY))
+    with_two(
+        command,
+        text_option(alloc, "ledger", "FILE", help::LEDGER),
+        flag_option(alloc, "early", help::EARLY),
+    )
 }
 
 /// A command with the words FARES and ZONE, after those that it has.
@@ -316,9 +308,27 @@ fn with_fares_and_zone<'a>(alloc: Global, command: Command<'a>) -> Result<Comman
     ensures app { IfOk result (λ r. app_of r ≡ with_fares_and_zone (app_of command.entry)) }
     ensures local { IfOk result (λ r. (fields_of r).has_globals ≡ false) }
 {
-    command
-        .arg(text_word(alloc, "FARES", help::FARES))?
-        .arg(text_word(alloc, "ZONE", help::ZONE))
+    with_two(
+        command,
+        text_word(alloc, "FARES", help::FARES),
+        text_word(alloc, "ZONE", help::ZONE),
+    )
+}
+
+/// A command with two arguments, after those that it has.
+fn with_two<'a>(
+    command: Command<'a>,
+    first: Arg<'a>,
+    second: Arg<'a>,
+) -> Result<Command<'a>, AllocError>
+    requires local { (fields_of command).has_globals ≡ false }
+    requires first { first.global ≡ false }
+    requires second { second.global ≡ false }
+    ensures app { IfOk result (λ r. app_of r
+        ≡ with_rule (with_rule (app_of command.entry) (rule_of first.entry)) (rule_of second.entry)) }
+    ensures local { IfOk result (λ r. (fields_of r).has_globals ≡ false) }
+{
+    command.arg(first)?.arg(second)
 }
 
 fn check_command<'a>(alloc: Global) -> Result<Command<'a>, AllocError>
@@ -327,10 +337,13 @@ fn check_command<'a>(alloc: Global) -> Result<Command<'a>, AllocError>
 {
     let command = Command::new(alloc, "check")
         .about(help::CHECK)
-        .after_help(help::BELOW_CHECK)
-        .arg(text_word(alloc, "FARES", help::FARES))?
-        .arg(flag_option(alloc, "lint", help::LINT))?;
-    with_against(alloc, command)
+        .after_help(help::BELOW_CHECK);
+    let linted = with_two(
+        command,
+        text_word(alloc, "FARES", help::FARES),
+        flag_option(alloc, "lint", help::LINT),
+    )?;
+    with_against(alloc, linted)
 }
 
 /// A command with the options of `check` that compare two fare files, after the words that it has.
@@ -339,9 +352,11 @@ fn with_against<'a>(alloc: Global, command: Command<'a>) -> Result<Command<'a>, 
     ensures app { IfOk result (λ r. app_of r ≡ with_against (app_of command.entry)) }
     ensures local { IfOk result (λ r. (fields_of r).has_globals ≡ false) }
 {
-    command
-        .arg(text_option(alloc, "against", "OLD", help::AGAINST))?
-        .arg(optional_number(alloc, "after", "DAY", help::AFTER, FIRST_DAY, LAST_DAY))
+    with_two(
+        command,
+        text_option(alloc, "against", "OLD", help::AGAINST),
+        optional_number(alloc, "after", "DAY", help::AFTER, FIRST_DAY, LAST_DAY),
+    )
 }
 
 fn statement_command<'a>(alloc: Global) -> Result<Command<'a>, AllocError>
@@ -351,10 +366,12 @@ fn statement_command<'a>(alloc: Global) -> Result<Command<'a>, AllocError>
     let command = Command::new(alloc, "statement")
         .about(help::STATEMENT)
         .after_help(help::BELOW_STATEMENT);
-    with_fares_and_zone(alloc, command)?
-        .arg(number_word(alloc, "ACCOUNT", help::ACCOUNT, 1, MOST_ACCOUNT))?
-        .arg(number_word(alloc, "DAY", help::DAY, FIRST_DAY, LAST_DAY))?
-        .arg(text_option(alloc, "journal", "FILE", help::JOURNAL_READ))
+    let numbered = with_two(
+        with_fares_and_zone(alloc, command)?,
+        number_word(alloc, "ACCOUNT", help::ACCOUNT, 1, MOST_ACCOUNT),
+        number_word(alloc, "DAY", help::DAY, FIRST_DAY, LAST_DAY),
+    )?;
+    numbered.arg(text_option(alloc, "journal", "FILE", help::JOURNAL_READ))
 }
 
 fn replay_command<'a>(alloc: Global) -> Result<Command<'a>, AllocError>
@@ -390,20 +407,25 @@ fn audit_command<'a>(alloc: Global) -> Result<Command<'a>, AllocError>
     let command = Command::new(alloc, "audit")
         .about(help::AUDIT)
         .after_help(help::BELOW_AUDIT);
-    with_fares_and_zone(alloc, command)?
-        .arg(required_text(alloc, "journal", "PATH", help::JOURNAL_AUDITED))?
-        .arg(text_option(alloc, "ledger", "FILE", help::LEDGER_READ))
+    with_two(
+        with_fares_and_zone(alloc, command)?,
+        required_text(alloc, "journal", "PATH", help::JOURNAL_AUDITED),
+        text_option(alloc, "ledger", "FILE", help::LEDGER_READ),
+    )
 }
 
 fn rebuild_command<'a>(alloc: Global) -> Result<Command<'a>, AllocError>
     ensures app { IfOk result (λ command. app_of command ≡ rebuild_app) }
     ensures local { IfOk result (λ command. (fields_of command).has_globals ≡ false) }
 {
-    Command::new(alloc, "rebuild")
+    let command = Command::new(alloc, "rebuild")
         .about(help::REBUILD)
-        .after_help(help::BELOW_REBUILD)
-        .arg(text_word(alloc, "FARES", help::FARES))?
-        .arg(text_word(alloc, "LEDGER", help::LEDGER_READ))
+        .after_help(help::BELOW_REBUILD);
+    with_two(
+        command,
+        text_word(alloc, "FARES", help::FARES),
+        text_word(alloc, "LEDGER", help::LEDGER_READ),
+    )
 }
 
 /// A command with the options that `serve` needs, after the words that it has.

@@ -1,20 +1,25 @@
-use Rattle.std.proofs.Common.{◌≡◌, ◌∙◌, ap, ap₂, true, codes, rules}
-use Rattle.std.proofs.lemmas.Result.{IfOk-weaker}
-use Rattle.clap.specs.Words.{App, app_of, new_app, shape_of, with_subcommand}
-use Rattle.clap.specs.Simple.{on_top}
-use Rattle.pay_words.specs.CommandLine.{farebox_app}
+use Rattle.std.proofs.Common.{◌≡◌, true, codes, rules}
+use Rattle.clap.specs.Words.{app_of, new_app, with_subcommand}
+use Rattle.clap.specs.Simple.{App, on_top}
+use Rattle.pay_words.specs.CommandLine.{audit_app, check_app, rebuild_app, replay_app, run_app, serve_app, statement_app}
 use Rattle.pay_words.proofs.words.farebox_command.Goals as goal
 
 pub returns : goal.returns
 returns c =
-    let top : app_of c.subcommand_required-farebox.result ≡ on_top (λ top. record top { has_version = true; subcommand_required = true }) (new_app (codes "farebox")) = search rules in
-    let first = c.in_ok-with_programs.ensures
-    ∙ ap₂ with_subcommand (ap₂ with_subcommand top (ap (λ (a : App). a.top) c.in_ok-run.ensures.app)) (ap (λ (a : App). a.top) c.in_ok-check.ensures.app) in
-    let second = c.in_ok-four.ensures
-    ∙ ap₂ with_subcommand (ap₂ with_subcommand first (ap (λ (a : App). a.top) c.in_ok-statement.ensures.app)) (ap (λ (a : App). a.top) c.in_ok-replay.ensures.app) in
-    let third = c.in_ok-with_programs-2.ensures
-    ∙ ap₂ with_subcommand (ap₂ with_subcommand second (ap (λ (a : App). a.top) c.in_ok-serve.ensures.app)) (ap (λ (a : App). a.top) c.in_ok-audit.ensures.app) in
-    IfOk-weaker c.with_program.result (λ command. app_of command ≡ with_subcommand (app_of c.in_ok-with_programs-2.field-0) (shape_of c.in_ok-rebuild.rebuild))
-    (λ command. app_of command ≡ farebox_app)
-    (λ command is. is ∙ ap₂ with_subcommand third (ap (λ (a : App). a.top) c.in_ok-rebuild.ensures.app))
-    c.with_program.ensures
+    let top : App = on_top (λ top. record top { has_version = true; subcommand_required = true }) (new_app (codes "farebox")) in
+    let made : app_of c.subcommand_required-top.result ≡ top = search rules in
+    let one = with_subcommand top run_app.top in
+    let two = with_subcommand one check_app.top in
+    let three = with_subcommand two statement_app.top in
+    let four = with_subcommand three replay_app.top in
+    let five = with_subcommand four serve_app.top in
+    let six = with_subcommand five audit_app.top in
+    c.with_program.ensures six rebuild_app
+    (c.with_program-six.ensures five audit_app
+    (c.with_program-five.ensures four serve_app
+    (c.with_program-four.ensures three replay_app
+    (c.with_program-three.ensures two statement_app
+    (c.with_program-two.ensures one check_app
+    (c.with_program-one.ensures top run_app made c.run_command.ensures.app)
+    c.check_command.ensures.app) c.statement_command.ensures.app) c.replay_command.ensures.app) c.serve_command.ensures.app) c.audit_command.ensures.app)
+    c.rebuild_command.ensures.app
