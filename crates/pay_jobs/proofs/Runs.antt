@@ -22,7 +22,7 @@ use Rattle.pay_jobs.specs.Run.{Begins, Resumes, IsRefused, IsNotBegun, HasBegun,
 use Rattle.pay_jobs.specs.Texts.{Texts}
 use Rattle.pay_jobs.specs.declared.begun.Begun.{Begun}
 use Rattle.pay_jobs.specs.declared.fault.Fault.{Fault}
-use Rattle.pay_jobs.specs.declared.fault.Fault.TheVariants.{Usage, CannotReadFares, CannotReadOldFares, BadZone, CannotListen, Input, Output, CannotUseJournal, CannotReadKeptFares, Kept, NewLedger, JournalLine, JournalLineOf, Journal, LedgerAlone, Lacks, PostedOtherwise, Refused}
+use Rattle.pay_jobs.specs.declared.fault.Fault.TheVariants.{Usage, File, BadZone, CannotListen, Input, Output, Kept, JournalLine, JournalLineOf, Journal, LedgerAlone, Lacks, PostedOtherwise, Refused}
 
 -- ---- there is no desk
 
@@ -31,16 +31,12 @@ module _ (texts : Texts) where
   by_refusal : (fault : Fault) (number : ℕ) (name : List ℕ) → IsRefusal fault number name → IsRefused fault texts.fares → IsNotBegun texts fault
   by_refusal (Refused number name) n text told h = h
   by_refusal Usage n text told h = absurd told
-  by_refusal CannotReadFares n text told h = absurd told
-  by_refusal CannotReadOldFares n text told h = absurd told
+  by_refusal (File why) n text told h = absurd told
   by_refusal BadZone n text told h = absurd told
   by_refusal CannotListen n text told h = absurd told
   by_refusal Input n text told h = absurd told
   by_refusal Output n text told h = absurd told
-  by_refusal CannotUseJournal n text told h = absurd told
-  by_refusal CannotReadKeptFares n text told h = absurd told
   by_refusal (Kept why) n text told h = absurd told
-  by_refusal NewLedger n text told h = absurd told
   by_refusal (JournalLine line why) n text told h = absurd told
   by_refusal (JournalLineOf journal line why) n text told h = absurd told
   by_refusal Journal n text told h = absurd told

@@ -17,7 +17,7 @@ use Rattle.pay_jobs.specs.Texts.{Texts}
 use Rattle.pay_jobs.specs.Run.{Begins, Resumes}
 use Rattle.pay_jobs.specs.Statement.{WeekBreaks, PageFails, IsPage, StatementWritten, StatementRefused}
 use Rattle.pay_jobs.specs.declared.fault.Fault.{Fault}
-use Rattle.pay_jobs.specs.declared.fault.Fault.TheVariants.{Usage, CannotReadFares, CannotReadOldFares, BadZone, CannotListen, Input, Output, CannotUseJournal, CannotReadKeptFares, Kept, NewLedger, JournalLine, JournalLineOf, Journal, LedgerAlone, Lacks, PostedOtherwise, Refused}
+use Rattle.pay_jobs.specs.declared.fault.Fault.TheVariants.{Usage, File, BadZone, CannotListen, Input, Output, Kept, JournalLine, JournalLineOf, Journal, LedgerAlone, Lacks, PostedOtherwise, Refused}
 use Rattle.pay_run.specs.declared.week.WeekFault.{WeekFault}
 use Rattle.pay_run.specs.declared.week.WeekFault.TheVariants.{Broken, NotAccepted, Memory}
 
@@ -26,16 +26,12 @@ not_told (Broken answered) fault texts reader is breaks = subst (λ f. PageFails
 not_told (NotAccepted line why) fault texts reader is breaks = subst (λ f. PageFails f texts reader) (sym is) breaks
 not_told Memory (Refused number name) texts reader is breaks = inr (is, breaks)
 not_told Memory Usage texts reader is breaks = absurd is
-not_told Memory CannotReadFares texts reader is breaks = absurd is
-not_told Memory CannotReadOldFares texts reader is breaks = absurd is
+not_told Memory (File why) texts reader is breaks = absurd is
 not_told Memory BadZone texts reader is breaks = absurd is
 not_told Memory CannotListen texts reader is breaks = absurd is
 not_told Memory Input texts reader is breaks = absurd is
 not_told Memory Output texts reader is breaks = absurd is
-not_told Memory CannotUseJournal texts reader is breaks = absurd is
-not_told Memory CannotReadKeptFares texts reader is breaks = absurd is
 not_told Memory (Kept why) texts reader is breaks = absurd is
-not_told Memory NewLedger texts reader is breaks = absurd is
 not_told Memory (JournalLine line why) texts reader is breaks = absurd is
 not_told Memory (JournalLineOf journal line why) texts reader is breaks = absurd is
 not_told Memory Journal texts reader is breaks = absurd is
@@ -92,15 +88,11 @@ pub no_page : (fault : Fault) (texts : Texts) (of : ℕ × ℕ) (remaining left 
 no_page Output texts of remaining left held fails = absurd fails
 no_page (Refused number name) texts of remaining left held fails = (fails, refl)
 no_page Usage texts of remaining left held fails = (fails, refl)
-no_page CannotReadFares texts of remaining left held fails = (fails, refl)
-no_page CannotReadOldFares texts of remaining left held fails = (fails, refl)
+no_page (File why) texts of remaining left held fails = (fails, refl)
 no_page BadZone texts of remaining left held fails = (fails, refl)
 no_page CannotListen texts of remaining left held fails = (fails, refl)
 no_page Input texts of remaining left held fails = (fails, refl)
-no_page CannotUseJournal texts of remaining left held fails = (fails, refl)
-no_page CannotReadKeptFares texts of remaining left held fails = (fails, refl)
 no_page (Kept why) texts of remaining left held fails = (fails, refl)
-no_page NewLedger texts of remaining left held fails = (fails, refl)
 no_page (JournalLine line why) texts of remaining left held fails = (fails, refl)
 no_page (JournalLineOf journal line why) texts of remaining left held fails = (fails, refl)
 no_page Journal texts of remaining left held fails = (fails, refl)

@@ -11,7 +11,7 @@ use Rattle.pay_run.specs.Words.{HasInputFault}
 use Rattle.pay_run.specs.declared.week.WeekFault.{WeekFault}
 use Rattle.pay_run.specs.declared.week.WeekFault.TheVariants.{Broken, NotAccepted, Memory}
 use Rattle.pay_jobs.specs.declared.fault.Fault.{Fault}
-use Rattle.pay_jobs.specs.declared.fault.Fault.TheVariants.{Usage, CannotReadFares, CannotReadOldFares, BadZone, CannotListen, Input, Output, CannotUseJournal, CannotReadKeptFares, Kept, NewLedger, JournalLine, JournalLineOf, Journal, LedgerAlone, Lacks, PostedOtherwise, Refused}
+use Rattle.pay_jobs.specs.declared.fault.Fault.TheVariants.{Usage, File, BadZone, CannotListen, Input, Output, Kept, JournalLine, JournalLineOf, Journal, LedgerAlone, Lacks, PostedOtherwise, Refused}
 
 -- a refused fare file is no fault of a reader, and neither is want of memory
 pub not_input : (fault : Fault) (fares : List ℕ) → IsRefused fault fares → fault ≡ Input → ⊥
@@ -46,14 +46,10 @@ module _ {R W : Type 0} (reads : R → ReaderCall → R → Type 0) (writes : W 
   page_cause Output texts known fails cause = absurd fails
   page_cause (Refused number name) texts known fails cause = tt
   page_cause Usage texts known fails cause = tt
-  page_cause CannotReadFares texts known fails cause = tt
-  page_cause CannotReadOldFares texts known fails cause = tt
+  page_cause (File why) texts known fails cause = tt
   page_cause BadZone texts known fails cause = tt
   page_cause CannotListen texts known fails cause = tt
-  page_cause CannotUseJournal texts known fails cause = tt
-  page_cause CannotReadKeptFares texts known fails cause = tt
   page_cause (Kept why) texts known fails cause = tt
-  page_cause NewLedger texts known fails cause = tt
   page_cause (JournalLine line why) texts known fails cause = tt
   page_cause (JournalLineOf journal line why) texts known fails cause = tt
   page_cause Journal texts known fails cause = tt

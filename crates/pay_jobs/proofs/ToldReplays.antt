@@ -11,7 +11,7 @@ use Rattle.pay_run.specs.Words.{new_machine}
 use Rattle.pay_jobs.specs.Replays.{IsFaultOf, IsStoppedAmong, IsSummed, IsNotSummed, ReplayWritten, ReplayRefused}
 use Rattle.pay_jobs.specs.Run.{Begins, IsRefused}
 use Rattle.pay_jobs.specs.declared.fault.Fault.{Fault}
-use Rattle.pay_jobs.specs.declared.fault.Fault.TheVariants.{Usage, CannotReadFares, CannotReadOldFares, BadZone, CannotListen, Input, Output, CannotUseJournal, CannotReadKeptFares, Kept, NewLedger, JournalLine, JournalLineOf, Journal, LedgerAlone, Lacks, PostedOtherwise, Refused}
+use Rattle.pay_jobs.specs.declared.fault.Fault.TheVariants.{Usage, File, BadZone, CannotListen, Input, Output, Kept, JournalLine, JournalLineOf, Journal, LedgerAlone, Lacks, PostedOtherwise, Refused}
 
 -- ---- there is no line
 
@@ -19,10 +19,8 @@ pub unsummed_refused : (fault : Fault) (fares zone : List ℕ) (texts : List (Li
 unsummed_refused (Refused number name) fares zone texts h = h
 unsummed_refused Usage fares zone texts (inl told) = absurd told
 unsummed_refused Usage fares zone texts (inr (of, says, told)) = absurd told
-unsummed_refused CannotReadFares fares zone texts (inl told) = absurd told
-unsummed_refused CannotReadFares fares zone texts (inr (of, says, told)) = absurd told
-unsummed_refused CannotReadOldFares fares zone texts (inl told) = absurd told
-unsummed_refused CannotReadOldFares fares zone texts (inr (of, says, told)) = absurd told
+unsummed_refused (File why) fares zone texts (inl told) = absurd told
+unsummed_refused (File why) fares zone texts (inr (of, says, told)) = absurd told
 unsummed_refused BadZone fares zone texts (inl told) = absurd told
 unsummed_refused BadZone fares zone texts (inr (of, says, told)) = absurd told
 unsummed_refused CannotListen fares zone texts (inl told) = absurd told
@@ -31,14 +29,8 @@ unsummed_refused Input fares zone texts (inl told) = absurd told
 unsummed_refused Input fares zone texts (inr (of, says, told)) = absurd told
 unsummed_refused Output fares zone texts (inl told) = absurd told
 unsummed_refused Output fares zone texts (inr (of, says, told)) = absurd told
-unsummed_refused CannotUseJournal fares zone texts (inl told) = absurd told
-unsummed_refused CannotUseJournal fares zone texts (inr (of, says, told)) = absurd told
-unsummed_refused CannotReadKeptFares fares zone texts (inl told) = absurd told
-unsummed_refused CannotReadKeptFares fares zone texts (inr (of, says, told)) = absurd told
 unsummed_refused (Kept why) fares zone texts (inl told) = absurd told
-unsummed_refused NewLedger fares zone texts (inl told) = absurd told
 unsummed_refused (Kept why) fares zone texts (inr (of, says, told)) = absurd told
-unsummed_refused NewLedger fares zone texts (inr (of, says, told)) = absurd told
 unsummed_refused (JournalLine line why) fares zone texts (inl told) = absurd told
 unsummed_refused (JournalLine line why) fares zone texts (inr (of, says, told)) = absurd told
 unsummed_refused (JournalLineOf journal line why) fares zone texts (inl told) = absurd told
@@ -71,15 +63,11 @@ pub unsummed : (fault : Fault) (fares zone : List ℕ) (texts : List (List ℕ))
 unsummed Output fares zone texts held h = absurd h
 unsummed (Refused number name) fares zone texts held h = (h, refl)
 unsummed Usage fares zone texts held h = (h, refl)
-unsummed CannotReadFares fares zone texts held h = (h, refl)
-unsummed CannotReadOldFares fares zone texts held h = (h, refl)
+unsummed (File why) fares zone texts held h = (h, refl)
 unsummed BadZone fares zone texts held h = (h, refl)
 unsummed CannotListen fares zone texts held h = (h, refl)
 unsummed Input fares zone texts held h = (h, refl)
-unsummed CannotUseJournal fares zone texts held h = (h, refl)
-unsummed CannotReadKeptFares fares zone texts held h = (h, refl)
 unsummed (Kept why) fares zone texts held h = (h, refl)
-unsummed NewLedger fares zone texts held h = (h, refl)
 unsummed (JournalLine line why) fares zone texts held h = (h, refl)
 unsummed (JournalLineOf journal line why) fares zone texts held h = (h, refl)
 unsummed Journal fares zone texts held h = (h, refl)

@@ -1,5 +1,7 @@
 pub mod Faults
 pub mod Kept
+pub mod Last
+pub mod Rebuild
 pub mod Replays
 pub mod Run
 pub mod Statement

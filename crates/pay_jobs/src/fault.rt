@@ -16,18 +16,48 @@ use pay_wire::Refusal;
 use std::alloc::AllocError;
 use thiserror::Error;
 
+/// Why a file is not taken.
+#[derive(Clone, Copy, Debug, PartialEq, Eq, Error)]
+pub enum FileFault {
+    /// The fare file cannot be read, or is no text.
+    #[error("cannot read fares")]
+    CannotReadFares,
+    /// The old fare file, against which another is checked, cannot be read, or is no text.
+    #[error("cannot read old fares")]
+    CannotReadOldFares,
+    /// The journal cannot be opened or read.
+    #[error("cannot use journal")]
+    CannotUseJournal,
+    /// What is kept beside a journal cannot be read, or is no text.
+    #[error("cannot read the journal's fares")]
+    CannotReadKeptFares,
+    /// The last posting that is noted beside a journal cannot be read.
+    #[error("cannot read the journal's last posting")]
+    CannotReadLastPosting,
+    /// There is no such ledger.
+    #[error("no such ledger")]
+    NoLedger,
+    /// Days of the journal were closed into a ledger, and this one is new.
+    #[error("a new ledger beside a journal that had one")]
+    NewLedger,
+    /// A posting of this account that is noted beside the journal is not in the ledger.
+    #[error("another or an older ledger than the journal's: no posting of account {account} for week {week} through {through}")]
+    LacksPosting {
+        account: u32,
+        week: u32,
+        through: u32,
+    },
+}
+
 /// Why the program fails: one line on standard error.
 #[derive(Clone, Copy, Debug, PartialEq, Eq, Error)]
 pub enum Fault {
     /// The words are not those of a program.
     #[error("farebox: usage")]
     Usage,
-    /// The fare file cannot be read, or is no text.
-    #[error("farebox: cannot read fares")]
-    CannotReadFares,
-    /// The old fare file, against which another is checked, cannot be read, or is no text.
-    #[error("farebox: cannot read old fares")]
-    CannotReadOldFares,
+    /// A file cannot be used, or it is another's.
+    #[error("farebox: {0}")]
+    File(FileFault),
     /// The zone is no POSIX rule.
     #[error("farebox: bad zone")]
     BadZone,
@@ -40,18 +70,9 @@ pub enum Fault {
     /// Standard output failed.
     #[error("farebox: output fault")]
     Output,
-    /// The journal cannot be opened or read.
-    #[error("farebox: cannot use journal")]
-    CannotUseJournal,
-    /// What is kept beside a journal cannot be read, or is no text.
-    #[error("farebox: cannot read the journal's fares")]
-    CannotReadKeptFares,
     /// What the journal gives back does not come to the same by what is kept beside it.
     #[error("farebox: {0}")]
     Kept(KeptFault),
-    /// Days of the journal were closed into a ledger, and this one is new.
-    #[error("farebox: a new ledger beside a journal that had one")]
-    NewLedger,
     /// The line of this number of the journal, from 1, is not accepted.
     #[error("farebox: journal line {line}: {why}")]
     JournalLine {

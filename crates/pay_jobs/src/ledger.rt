@@ -12,7 +12,7 @@ use sqlite::Alter;
 use std::alloc::Global;
 
 /// What does not agree, as it is told: a ledger without any line of its journal, or the first thing.
-fn differs(account: u32, difference: Difference, has_line: bool) -> Fault
+pub(crate) fn differs(account: u32, difference: Difference, has_line: bool) -> Fault
     ensures of_difference { IsOfDifference result }
     ensures told { IsDifferenceTold account difference has_line result }
 {

@@ -192,6 +192,13 @@ fn tally_of(alloc: Global, journal: &Journal) -> Result<Tally, AllocError>
     Ok(tally)
 }
 
+/// The accounts of the commands of a journal.
+pub(crate) fn accounts_of(alloc: Global, journal: &Journal) -> Result<BTreeSet<u32>, AllocError>
+    ensures { IfOk result (λ it. it.keys ≡ each_once (flat_map account_of (commands_in journal.now.items))) }
+{
+    Ok(tally_of(alloc, journal)?.accounts)
+}
+
 /// The command at a place of a journal.
 fn command_at(journal: &Journal, place: usize) -> Command
     requires { place < length journal.now.items }

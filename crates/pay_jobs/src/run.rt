@@ -1,10 +1,11 @@
 //! The job `run`, by the texts of its fare file and its zone, and its journal: all that the program does below the reading of files. It has
 //! two steps, [`begin`] and [`Begun::run`], between which the caller opens the ledger.
-ghost use Rattle.std.specs.Prelude.{◌≡◌, false, nat_lt, None, Some, Ok, IfOk, IfErr, OnOk, OnErr};
+ghost use Rattle.std.specs.Prelude.{◌≡◌, ◌↔◌, ◌<◌, true, false, nat_lt, None, Some, Ok, IfOk, IfErr, OnOk, OnErr};
 ghost use Rattle.std.specs.Arc.{arc_value};
 ghost use Rattle.jiff.specs.Placed.{IsPosixZone};
 ghost use Rattle.jiff.specs.Words.{read_whole};
 ghost use Rattle.jiff.specs.ZoneView.{plain_zone};
+ghost use Rattle.pay_day.specs.Day.{IsInstant, stamp_of};
 ghost use Rattle.pay_fare_file.specs.Words.{fare_text};
 ghost use Rattle.pay_session.specs.Words.{IsBroken, IsLastFill, ShowsNothing};
 ghost use Rattle.pay_run.specs.Words.{after, before, whole_bytes, with_ledger_in, without_ledger};
@@ -20,6 +21,8 @@ use crate::kept::compare_with;
 use crate::ledger::take_with;
 use jiff::tz::TimeZone;
 use pay_book::Book;
+use pay_close::Watch;
+use pay_day::stamp;
 use pay_fare_file::read_editions;
 use pay_journal::{Keeper, Lasting, LineKeeper};
 use pay_ledger::Ledger;
@@ -68,13 +71,14 @@ impl Begun {
     }
 
     /// The second step: answers the lines of a reader, beginning with what the journal gives back, and closes days into the ledger that was
-    /// opened. The keeper keeps lines after the whole ones of the journal. A ledger that does not agree with what the journal gives back is
+    /// opened, if the watch lets it. The keeper keeps lines after the whole ones of the journal. A ledger that does not agree with what the journal gives back is
     /// not [taken](take_with), and nothing is read or written. What came of the session is [told](told).
-    pub fn run<K: Keeper, S: Alter, R: KnownReader, W: KnownWriter>(
+    pub fn run<K: Keeper, S: Alter, C: Watch, R: KnownReader, W: KnownWriter>(
         self,
         alloc: Global,
         keeper: K,
         ledger: &mut Ledger<S>,
+        watch: &mut C,
         reader: &mut R,
         writer: &mut W,
     ) -> Result<Ran<Book, K>, Fault>
@@ -92,7 +96,7 @@ impl Begun {
             replayed: _,
         } = self;
         take_with(alloc, ledger, desk.shard())?;
-        Ok(run_lines(alloc, reader, writer, &zone, desk, keeper, ledger))
+        Ok(run_lines(alloc, reader, writer, &zone, desk, keeper, ledger, watch))
     }
 
     /// The second step without a ledger: nothing is closed, and each close is answered by `NO 34 NotHere`.
@@ -150,7 +154,7 @@ pub(crate) fn read_fares(alloc: Global, text: &str) -> Result<Arc<Editions>, Fau
 }
 
 /// The zone of a text, a POSIX rule.
-pub(crate) fn read_zone(text: &str) -> Result<TimeZone<'static>, Fault>
+pub fn read_zone(text: &str) -> Result<TimeZone<'static>, Fault>
     ensures ok { IfOk result (λ zone. IsPosixZone text.now (plain_zone zone)) }
     ensures bad { IfErr result (λ fault. fault ≡ Fault.BadZone) }
     ensures none { OnErr result (read_whole text.now ≡ None) }
@@ -158,5 +162,16 @@ pub(crate) fn read_zone(text: &str) -> Result<TimeZone<'static>, Fault>
     match TimeZone::posix(text) {
         Ok(zone) => Ok(zone),
         Err(_) => Err(Fault::BadZone),
+    }
+}
+
+/// Whether a service day is over in a zone at an instant, in seconds of the Unix clock: a later one has begun. At an instant that has no
+/// service day none is.
+pub fn is_over(zone: &TimeZone<'_>, day: u32, now: u64) -> bool
+    ensures { (result ≡ true) ↔ (IsInstant now × (day < (stamp_of zone.now now).day)) }
+{
+    match stamp(zone, now) {
+        Ok(moment) => day < moment.day(),
+        Err(_) => false,
     }
 }
