@@ -13,7 +13,7 @@ ghost use Rattle.pay_serve_job.specs.Service.{IsTakenBy, IsNotTakenBy, FailsAlon
 use crate::fault::fault_of;
 use jiff::tz::TimeZone;
 use pay_book::Book;
-use pay_close::LedgerTill;
+use pay_close::{LedgerTill, Watch};
 use pay_jobs::{Fault, replayed_texts, take_with};
 use pay_journal::Keeper;
 use pay_ledger::Ledger;
@@ -56,12 +56,13 @@ pub fn take_given<S: Alter>(
 }
 
 /// Serves the connections of what is given, and closes its day into a ledger that was taken.
-fn serve_into<R, K, S: Alter, W: KnownWriter>(
+fn serve_into<R, K, S: Alter, C: Watch, W: KnownWriter>(
     rt: R,
     alloc: Global,
     given: Given<'_, K>,
     listeners: Vec<TcpListener>,
     ledger: &mut Ledger<S>,
+    watch: &mut C,
     writer: &mut W,
 ) -> Result<bool, ServeFault>
 where
@@ -77,21 +78,23 @@ where
     ensures within { OnOk result (IsOutOfPlan given.entry.plan → ⊥) }
     ensures cause { IfErr result (λ fault. IsServeCause W.MayAnswer (CanFail K.HasFailed) given.entry.plan fault writer.new) }
 {
-    let mut till = LedgerTill::new(alloc, ledger);
-    pay_serve::serve::<Book, R, K, LedgerTill<'_, S>, W>(
+    let mut till = LedgerTill::new(alloc, ledger, watch);
+    pay_serve::serve::<Book, R, K, LedgerTill<'_, S, C>, W>(
         rt, alloc, given, listeners, &mut till, writer,
     )
 }
 
-/// Serves the connections of a plan by a fare file and the clock of a zone, and closes the plan's day into a ledger when all have ended.
+/// Serves the connections of a plan by a fare file and the clock of a zone, and closes the plan's day into a ledger when all have ended,
+/// if the watch lets it.
 /// Whether the day was closed; if not, its refusal is written. The lines of journals, which are given by their numbers from 0 on, are
 /// taken again before the first connection; and each shard has a keeper of what it newly accepts. A ledger that does not agree with what
 /// the journals give back is not [taken](take_with), and then no port is.
-pub fn serve<R, K, S: Alter, W: KnownWriter>(
+pub fn serve<R, K, S: Alter, C: Watch, W: KnownWriter>(
     rt: R,
     alloc: Global,
     given: Given<'_, K>,
     ledger: &mut Ledger<S>,
+    watch: &mut C,
     writer: &mut W,
 ) -> Result<bool, Fault>
 where
@@ -117,7 +120,7 @@ where
         Err(why) => return Err(fault_of(why)),
     };
     tell_ports(&rt, &given.plan);
-    match serve_into(rt, alloc, given, listeners, ledger, writer) {
+    match serve_into(rt, alloc, given, listeners, ledger, watch, writer) {
         Ok(closed) => Ok(closed),
         Err(why) => Err(fault_of(why)),
     }
