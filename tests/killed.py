@@ -11,7 +11,7 @@ import time
 
 import loads
 import rules
-from running import LONDON, MONDAY, RUN_SAMPLE, SAMPLE, TIME_TO_REPLY, End, answers, in_lines, run, started
+from running import LONDON, MONDAY, RUN_SAMPLE, SAMPLE, TIME_TO_REPLY, End, answers, but_for_closes, in_lines, run, started
 
 ACCOUNTS = 40
 WEEK_DAYS = range(MONDAY, MONDAY + loads.DAYS)
@@ -58,7 +58,7 @@ def killed_session(words, lines, draw):
         ran.kill()
         output += ran.stdout.read()
         giving.join()
-        return End(status, output, ran.stderr.read())
+        return but_for_closes(End(status, output, ran.stderr.read()))
 
 
 def bytes_of(path):
@@ -188,7 +188,7 @@ class SessionStory(Story):
         return has if has.startswith(before) and next_line.startswith(has[len(before):]) else before
 
     def ended(self, lines, replies):
-        came = run(self.words, lines)
+        came = but_for_closes(run(self.words, lines))
         return came._replace(left=bytes_of(self.journal)), End(0, replies, left=self.kept.lines)
 
     def checks(self, most):

@@ -2,6 +2,7 @@
 
 import contextlib
 import os
+import re
 import select
 import subprocess
 import sys
@@ -56,6 +57,26 @@ def fault(line, output=b"", status=1):
 
 
 USAGE = fault("usage", status=2)
+
+# What standard error has of a close into a ledger in a file: that it was refused, or that its last posting could not be noted; and the
+# refusals that only a close has.
+REFUSED = rb"farebox: close of day \d+ refused: (?:(42) StaleQuote: account \d+ was posted through day \d+|(4[34567]|90) [A-Z]\w+)\n"
+NOT_NOTED = rb"farebox: cannot note the last posting in \S+\n"
+OF_A_CLOSE = rb"(?m)^NO (4[2-7]) "
+
+
+def but_for_closes(came):
+    """What a session over a ledger in a file came to but for its closes: if standard error reports each that was refused, in order, and the
+    status tells it, as if it did neither. One that was killed may have reported another than it answered."""
+    if not isinstance(came.errors, bytes):
+        return came
+    told = [first or second for first, second in re.findall(REFUSED, came.errors)]
+    rest = re.sub(NOT_NOTED, b"", re.sub(REFUSED, b"", came.errors))
+    if came.status == "killed":
+        return came._replace(errors=rest)
+    if rest == came.errors or came.status != 1 or [number for number in told if number != b"90"] != re.findall(OF_A_CLOSE, came.output):
+        return came
+    return came._replace(status=1 if rest else 0, errors=rest)
 
 
 def run(words, lines=b"", stdin=None, stdout=subprocess.PIPE, stderr=subprocess.PIPE, **how):

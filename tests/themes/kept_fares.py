@@ -198,9 +198,11 @@ def new_ledgers(folder):
     yield "a mistyped one after it", begun(journal, ["CLOSE 19730"], more=["--ledger", mistyped]), refused
     again = b"PAY 7 19730 19730 2 350 175 4=175\nDONE 19730 1\n"
     yield "its own", begun(journal, ["CLOSE 19730"], more=["--ledger", ledger]), answers(again)
-    # A ledger that is meant to begin anew.
+    # A ledger that is meant to begin anew: what is kept of the old one goes, and the posting that is noted.
     os.remove(beside)
     anew = b"PAY 7 19730 19730 2 350 350 4=350\nDONE 19730 1\n"
+    yield "a posting is noted", begun(journal, ["CLOSE 19730"], more=["--ledger", mistyped]), refused
+    os.remove(f"{journal}.posted")
     yield "one that is meant to be new", begun(journal, ["CLOSE 19730"], more=["--ledger", mistyped]), answers(anew)
 
 

@@ -17,8 +17,8 @@ import rules
 from killed import Kept, rows_of
 from preloads import preloaded
 from running import (
-    FARES, LONDON, MISSING, PROGRAM, RUN, RUN_SAMPLE, STATE, End, answers, boardings, edited, end_of, fault, heard, in_lines, run, run_file, session, started,
-    test, written,
+    FARES, LONDON, MISSING, PROGRAM, RUN, RUN_SAMPLE, STATE, End, answers, boardings, but_for_closes, edited, end_of, fault, heard, in_lines, run, run_file,
+    session, started, test, written,
 )
 from themes.drawn import with_closes
 from themes.journals import CANNOT_USE, JOURNAL_FAULT, bad_line, bytes_of, limited_to, missing, parts_of, replayed
@@ -102,9 +102,11 @@ def sessions_that_go_on(folder):
             (LAST_SESSION, ROWS_AFTER_THIRD),
         ), 1):
             lines, replies = session(pairs)
-            yield f"{name}, session {number}", closing(path, folder, run(words, lines)), End(0, replies, left=left)
+            came = but_for_closes(run(words, lines))
+            yield f"{name}, session {number}", closing(path, folder, came), End(0, replies, left=left)
     there = " ".join(sorted(it for it in os.listdir(folder) if it != "copied"))
-    yield "the files there", answers(there.encode()), answers(b"journal0 journal0.fares journal1 journal1.fares ledger0 ledger0-wal ledger1 ledger1-wal")
+    yield "the files there", answers(there.encode()), answers(
+        b"journal0 journal0.fares journal0.posted journal1 journal1.fares journal1.posted ledger0 ledger0-wal ledger1 ledger1-wal")
 
 
 @test
@@ -189,10 +191,10 @@ def journals_of_another(folder):
     lines, replies = session((("CLOSE 19730", "PAY 7 19730 19730 2 350 350 4=350\nDONE 19730 1"),))
     yield "a line that was lost and sent again", run(with_ledger(path, other), lines), answers(replies)
     yield "a line that was lost and sent again, the ledger then", answers(copied_rows(path, folder)), answers(left)
-    # What was posted for a version that the account has not, and what another sum was due for.
+    # What was posted for a version that the account has not, and what another sum was due for; beside a journal where no posting is noted.
     for name, change in (("a later version", "version = 3"), ("another sum", "due = 351, amount = 351")):
         changed = others_database(shutil.copy(path, os.path.join(folder, "changed")), f"UPDATE postings2 SET {change}", "UPDATE shares2 SET amount = 351" if "351" in change else "SELECT 1")
-        yield f"a posting of {name}", run(with_ledger(changed, journal), lines), otherwise
+        yield f"a posting of {name}", run(with_ledger(changed, other), lines), otherwise
 
 
 @test
@@ -224,7 +226,8 @@ def drawn_sessions(folder):
             lines = "".join(map(rules.line, part)).encode()
             came = run(with_ledger(path, journal, RUN_SAMPLE, *draw.choice(((), ("--sync",)))), lines)
             wanted = b"".join(map(kept.reply, part))
-            yield f"session {number} of draw {seed}", came._replace(left=copied_rows(path, folder)), End(0, wanted, left=kept.rows())
+            came = but_for_closes(came)._replace(left=copied_rows(path, folder))
+            yield f"session {number} of draw {seed}", came, End(0, wanted, left=kept.rows())
         yield f"the journal of draw {seed}", answers(bytes_of(journal)), answers(kept.lines)
 
 
@@ -300,7 +303,7 @@ def version_1(folder):
         yield f"a ledger by {name}, no lines", closing(path, folder, run(words)), End(0, left=ROWS_COPIED)
         lines, replies = session(THIRD_SESSION)
         left = ROWS_AFTER_THIRD.replace(in_lines(map(repr, (FIRST_POSTING, SECOND_POSTING))), in_lines(map(repr, COPIED)))
-        yield f"a ledger by {name}, a session", closing(path, folder, run(words, lines)), End(0, replies, left=left)
+        yield f"a ledger by {name}, a session", closing(path, folder, but_for_closes(run(words, lines))), End(0, replies, left=left)
         with contextlib.closing(sqlite3.connect(path)) as it:
             found = it.execute("SELECT max(id) FROM postings2").fetchall() + it.execute("SELECT * FROM postings ORDER BY id").fetchall()
         wanted = [(7,), (3, 7, 19730, 19730, 1, 860, 860), (5, 7, 19730, 19730, 2, 340, -520)]
@@ -484,7 +487,8 @@ def killed_after_a_close(folder):
         ran.wait()
     yield "the rows by SQLite", answers(rows_of(path)), answers(ROWS_AFTER_SECOND)
     lines, replies = session(THIRD_SESSION)
-    yield "the next session", closing(path, folder, run(with_ledger(path, journal, RUN_SAMPLE), lines)), End(0, replies, left=ROWS_AFTER_THIRD)
+    came = but_for_closes(run(with_ledger(path, journal, RUN_SAMPLE), lines))
+    yield "the next session", closing(path, folder, came), End(0, replies, left=ROWS_AFTER_THIRD)
 
 
 @test
@@ -528,7 +532,8 @@ def full_files(folder):
     # The journal has room for all lines, and the ledger not for what is posted: a row of each account in three tables.
     room = max(2 * len(lines), os.path.getsize(path) + (32 << 10))
     asked, told = b"CLOSE 19730\nDUE 7 19730\nCLOSE 19730\n", b"NO 43 Store\nDUE 7 19730 19730 1 860 1=860\nNO 43 Store\n"
-    yield "a close without room", run(with_ledger(path, journal, RUN_SAMPLE), lines + asked, **limited_to(room)), answers(replies + told)
+    came = run(with_ledger(path, journal, RUN_SAMPLE), lines + asked, **limited_to(room))
+    yield "a close without room", but_for_closes(came), answers(replies + told)
     yield "a close without room, the rows then", answers(copied_rows(path, folder)), answers(ROWS_AFTER_FIRST)
     with started(with_ledger(path, journal, RUN_SAMPLE), **limited_to(room, resource.RLIM_INFINITY)) as ran:
         ran.stdin.write(b"CLOSE 19730\n")
@@ -536,7 +541,7 @@ def full_files(folder):
         resource.prlimit(ran.pid, resource.RLIMIT_FSIZE, (resource.RLIM_INFINITY, resource.RLIM_INFINITY))
         ran.stdin.write(b"CLOSE 19730\n")
         ran.stdin.close()
-        yield "a close without room, and one with room", end_of(ran, output), answers(b"NO 43 Store\n" + paid)
+        yield "a close without room, and one with room", but_for_closes(end_of(ran, output)), answers(b"NO 43 Store\n" + paid)
     left = rows(
         FIRST_POSTING, *((it, 19730, 19730, 1, 175, 175, 4) for it in accounts), FIRST_SHARE, *((it, 1, 19730, 4, 175) for it in accounts),
         FIRST_TAP, *((it, 2, 1, 1704697200, 19730, 25200, 50, 2) for it in accounts),
@@ -594,7 +599,7 @@ def disks_that_fail(folder):
     while not is_copied:
         path, journal = (os.path.join(folder, f"{name}{count}") for name in ("ledger", "journal"))
         with_disk = {"env": {"LD_PRELOAD": library, "SETTLED": str(count)}}
-        came = run(with_ledger(path, journal, RUN_SAMPLE), CLOSE_LINES, **with_disk)
+        came = but_for_closes(run(with_ledger(path, journal, RUN_SAMPLE), CLOSE_LINES, **with_disk))
         # It comes to what it came to with a sync less, or to the next that it may come to.
         at = ends.index(came) if came in ends else len(ends)
         last = seen[-1] if seen else 0
@@ -644,7 +649,7 @@ def memory_that_is_refused(folder):
         path, journal = os.path.join(folder, f"ledger{number}"), os.path.join(folder, f"journal{number}")
         with tempfile.TemporaryFile() as told:
             around = {"LD_PRELOAD": library, "FIRST": str(number), "LAST": str(number), "TELL": str(told.fileno())}
-            came = run(with_ledger(path, journal, RUN_SAMPLE), CLOSE_LINES, env=around, pass_fds=[told.fileno()])
+            came = but_for_closes(run(with_ledger(path, journal, RUN_SAMPLE), CLOSE_LINES, env=around, pass_fds=[told.fileno()]))
             was_refused = os.fstat(told.fileno()).st_size > 0
         ends = [copy.deepcopy(kept) for end, kept in all_ends if end == came]
         right = answers(session(TWO_CLOSES)[1])

@@ -19,7 +19,7 @@ from running import (
 from themes.journals import CANNOT_USE, bad_line, bytes_of, limited_to, naming, replayed, with_journal
 from themes.ledgers import ALONE, ROWS_AFTER_FIRST, ROWS_AFTER_SECOND, STORE, lacks, opened_ledger, refused_ledgers, rows, with_ledger
 from themes.serve import (
-    WEEK_DAYS, boarding, closed, connected, ended, free_ports, listening, paid, serving, side_by_side, talk, talk_ahead, words_of,
+    WEEK_DAYS, boarding, closed, connected, ended, failed, free_ports, listening, paid, serving, side_by_side, talk, talk_ahead, words_of,
 )
 from themes.statements import A_BOARDING, rows_of_statement
 
@@ -513,7 +513,8 @@ def full_journals(folder):
             yield f"lines of the other journal{name}", answers(heard(peer, len(wanted))), answers(wanted.encode())
             left = texts(boarding(10) + boarding(12) + boarding(14)[:4], boarding(11) + boarding(13))
             wanted = fault("journal fault", refused)
-            wanted = wanted._replace(errors=listening(port, 1) + full + wanted.errors, left=left)
+            not_posted = b"farebox: close of day 19730 refused: 44 DeskFault\n" if has_ledger else b""
+            wanted = wanted._replace(errors=listening(port, 1) + full + not_posted + wanted.errors, left=left)
             yield f"how it ends{name}", leaving(journals, ended(ran, said)), wanted
         with serving(1, 2, 1, more=more if has_ledger else with_new_ledger(journals)) as (ran, port, said):
             replies = talk(port, (before + after).encode())
@@ -550,7 +551,7 @@ def ledgers_of_services(folder):
     port, _, end = served(journals, ledger, "", MONDAY + 1)
     yield "a later day", end, closed(port, 1, b"PAY 7 19730 19731 2 340 0\nDONE 19731 1\n")
     port, _, end = served(journals, ledger, "")
-    yield "an earlier day", end, End(1, b"NO 42 StaleQuote\n", listening(port, 1))
+    yield "an earlier day", end, failed(port, 1, "close of day 19730 refused: 42 StaleQuote: account 7 was posted through day 19731", b"NO 42 StaleQuote\n")
     # A session goes on with what the services have kept and posted.
     both = written(folder, "both", b"".join(bytes_of(path_of(journals, number)) or b"" for number in FROM_EACH))
     lines, replies = session((("CLOSE 19731", "PAY 7 19730 19731 2 340 0\nDONE 19731 1"), ("DUE 7 19731", "DUE 7 19730 19731 2 340 1=340")))

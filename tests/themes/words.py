@@ -38,6 +38,10 @@ Commands:
   replay     Read journals, and print how many lines and accounts they have, with the first and last
              instant, or the first bad line
   serve      Read taps and corrections from the connections of several lanes, and then close a day
+  audit      Compare a journal with what is kept beside it and with a ledger, and print each thing
+             that differs and each week that is not settled
+  rebuild    Print the lines of the taps and corrections that a ledger archives, as a journal
+             has them
   help       Print this message or the help of the given subcommand(s)
 
 Options:
@@ -45,8 +49,8 @@ Options:
   -V, --version  Print version
 
 Words of run (FARES ZONE), of check (FARES), of statement (FARES ZONE ACCOUNT DAY), of replay
-(FARES ZONE FILE..) and of serve (FARES ZONE --port P --lanes L --shards N --sessions K
---close DAY), with options in any order:
+(FARES ZONE FILE..), of serve (FARES ZONE --port P --lanes L --shards N --sessions K --close DAY),
+of audit (FARES ZONE --journal PATH) and of rebuild (FARES LEDGER), with options in any order:
   FARES    the fare file, a TOML document, which may hold editions, fares that hold from a day on
   ZONE     the time zone, a POSIX rule text (a name such as Europe/London is none)
   ACCOUNT  the account, a number from 1 to 4294967295
@@ -56,10 +60,13 @@ Words of run (FARES ZONE), of check (FARES), of statement (FARES ZONE ACCOUNT DA
   N        how many shards the accounts are spread over, from 1 to 16
   K        how many connections each lane serves, from 1 to 1000
   FILE     a journal, which run or serve wrote
+  PATH     a journal, or a folder of journals, which is only read
+  LEDGER   the SQLite file that days were closed into
 
 Further options: --journal FILE and --ledger FILE of run, and --sync with --journal; --lint and
 --against OLD of check, where OLD is another fare file, and --after DAY with --against; --journal
-FILE of statement, where it is only read; --journal FOLDER and --ledger FILE of serve.
+FILE of statement, where it is only read; --journal FOLDER and --ledger FILE of serve; --early of
+run and of serve, to close a day that is not over yet; --ledger FILE of audit.
 """ + RUN_EXAMPLE + STATUSES + RUN_FORMATS
 RUN_HELP = b"""\
 Read taps, corrections and closes from standard input, and reply to each
@@ -77,11 +84,15 @@ Options:
       --sync            Each line is on the disk before its reply. Without it, before a close is
                         posted, and at the end
       --ledger <FILE>   The SQLite file that days are closed into. It is made if it is missing
+      --early           Close a day that is not over yet. Without it, a close into a ledger in a
+                        file is refused before its day is over by this machine's clock
   -h, --help            Print help
 
 With --journal FILE the lines that were accepted before are taken first, and with --ledger FILE days
-are closed into a file. With --journal and without --ledger nothing is closed, and a CLOSE is refused
-by 34: what is posted would not be there for the next session. --sync is taken with --journal alone.
+are closed into a file: those that are over by this machine's clock, and with --early any. With
+--journal and without --ledger nothing is closed, and a CLOSE is refused by 34: what is posted would
+not be there for the next session. --sync is taken with --journal alone. Without --ledger, --early
+does nothing.
 """ + RUN_EXAMPLE + STATUSES + RUN_FORMATS
 CHECK_HELP = b"""\
 Read a fare file, and print how many places, bands, interchanges, holidays and editions
@@ -187,6 +198,8 @@ Options:
                           taken first, and each line that is accepted is added before its reply. The
                           files are made if they are missing, the folder is not
       --ledger <FILE>     The SQLite file that days are closed into. It is made if it is missing
+      --early             Close a day that is not over yet. Without it, a close into a ledger in a
+                          file is refused before its day is over by this machine's clock
   -h, --help              Print help
 
 Lane l, from 0 to L - 1, listens on port P + l of 127.0.0.1 and serves K connections, one after
@@ -194,13 +207,58 @@ another, in a thread of its own. On a connection lines come in, and the reply to
 CLOSE is refused by 34. The accounts are spread over N shards, each in a thread of its own. When
 all connections of all lanes have ended, DAY is closed, the lines of that close are printed, and
 the program ends. With --journal FOLDER the lines that were accepted before are taken first, and
-with --ledger FILE the day is closed into a file. With --journal and without --ledger it is not
-closed: its refusal by 34 is printed, and the status is 1.
+with --ledger FILE the day is closed into a file, if it is over by this machine's clock or --early
+is given. With --journal and without --ledger it is not closed: its refusal by 34 is printed, and
+the status is 1. Without --ledger, --early does nothing.
 
 Example: two lanes, on ports 9000 and 9001, serve a connection each, and day 19730 is closed.
   $ farebox serve examples/bus.toml GMT0BST,M3.5.0/1,M10.5.0 --port 9000 --lanes 2 --shards 4 \\
       --sessions 1 --close 19730
 """ + STATUSES + RUN_FORMATS
+AUDIT_HELP = b"""\
+Compare a journal with what is kept beside it and with a ledger, and print each thing
+that differs and each week that is not settled
+
+Usage: farebox audit [OPTIONS] --journal <PATH> <FARES> <ZONE>
+
+Arguments:
+  <FARES>  The fare file, a TOML document
+  <ZONE>   The time zone, a POSIX rule text such as GMT0BST,M3.5.0/1,M10.5.0
+           (a name such as Europe/London is none)
+
+Options:
+      --journal <PATH>  A journal, or a folder of journals; it is only read
+      --ledger <FILE>   The SQLite file that days were closed into
+  -h, --help            Print help
+
+PATH is the FILE of `run --journal FILE`, or the FOLDER of `serve --journal FOLDER`. Without
+--ledger FILE it is compared with what is kept beside it alone.
+
+Statuses:
+  0  the files belong together
+  1  they do not, or a fault, which one line on standard error names
+  2  the words were refused
+
+The journal, the ledger and the faults are described in docs/FORMATS.md.
+"""
+REBUILD_HELP = b"""\
+Print the lines of the taps and corrections that a ledger archives, as a journal
+has them
+
+Usage: farebox rebuild <FARES> <LEDGER>
+
+Arguments:
+  <FARES>   The fare file, a TOML document
+  <LEDGER>  The SQLite file that days were closed into
+
+Options:
+  -h, --help  Print help
+
+LEDGER is the FILE of `run --ledger FILE` or of `serve --ledger FILE`. It archives the taps and the
+corrections of the days that were closed into it.
+""" + STATUSES + b"""
+The lines, the journal, the ledger and the faults are described in docs/FORMATS.md.
+"""
 VERSION = b"farebox 0.1.0\n"
 
 
@@ -226,6 +284,8 @@ def help_texts(_):
             ["serve", "--help"], ["serve", "-h"], ["help", "serve"], ["serve", MISSING, "--help"], [*SERVE, "-h"],
             ["serve", "--lanes", "15", "--help", "--lanes", "16"], ["serve", "--port=1", "-h"],
         )),
+        (AUDIT_HELP, (["audit", "--help"], ["help", "audit"], ["audit", MISSING, "-h"], ["audit", "--journal", MISSING, "--help"])),
+        (REBUILD_HELP, (["rebuild", "--help"], ["help", "rebuild"], ["rebuild", MISSING, "-h"])),
     )
     for text, each in asked:
         for given in each:
@@ -259,6 +319,12 @@ REFUSED_WORDS = (
     ["check"], ["check", "--"], [*CHECK, LONDON], [*CHECK, ""], [*CHECK, "--", "more"], ["check", *CHECK], ["--", *CHECK], ["CHECK", FARES],
     *(STATE[:count] for count in range(1, len(STATE))), [*STATE[:3], "--", "19730"], ["statement", *RUN], ["run", *STATE], ["STATEMENT", *STATE[1:]],
     [*STATE, "more"], [*STATE, ""], [*STATE, "--", "more"], ["statement", *STATE], ["--", *STATE], ["statements", *STATE[1:]], [*RUN, "7", "19730"],
+    # Of an audit and of the lines of a ledger; and an option of others.
+    ["audit"], ["audit", FARES, LONDON], ["audit", FARES, "--journal", MISSING], ["audit", FARES, LONDON, "--journal"],
+    ["audit", FARES, LONDON, "--journal", MISSING, "--journal", MISSING], ["audit", FARES, LONDON, "--journal", MISSING, "more"],
+    ["audit", FARES, LONDON, "--journal", MISSING, "--early"], ["rebuild"], ["rebuild", FARES], ["rebuild", FARES, MISSING, "more"],
+    ["rebuild", FARES, "--ledger", MISSING], [*RUN, "--early", "--early"], [*RUN, "--early=1"], ["check", FARES, "--early"],
+    [*STATE, "--early"], ["replay", FARES, LONDON, MISSING, "--early"],
     # Unknown options.
     ["--fly"], ["-f"], ["--fly", *RUN], ["run", "--fly", FARES, LONDON], [*RUN, "--fly"], ["run", FARES, "-UTC0"],
     ["check", "--fly", FARES], [*CHECK, "-f"], [*CHECK, "--version"],

@@ -2,7 +2,10 @@
 ghost use Rattle.farebox.specs.NoJob.{IsTextOrFault};
 
 use crate::serve::serve_sessions;
-use pay_files::{check_fares, memory_or, replay_journals, run_session, write_statement};
+use pay_files::{
+    audit_files, check_fares, memory_or, rebuild_lines, replay_journals, run_session,
+    write_statement,
+};
 use pay_jobs::{Fault, Ledgers};
 use pay_words::{Job, WordsFault, read_words};
 use std::alloc::{AllocError, Global};
@@ -11,7 +14,7 @@ use std::fs::File;
 use std::io::Eprint;
 use std::net::{Net, TcpListener, TcpStream};
 use std::process::ExitCode;
-use std::rt::{Env, Files};
+use std::rt::{Clock, Env, Files};
 use std::sync::Wait;
 use std::thread::Threads;
 
@@ -35,6 +38,7 @@ where
         + Env
         + Files<File = File>
         + Ledgers
+        + Clock
         + Input
         + Print
         + Eprint
@@ -64,6 +68,7 @@ where
         + Env
         + Files<File = File>
         + Ledgers
+        + Clock
         + Input
         + Print
         + Eprint
@@ -94,6 +99,7 @@ where
         + Env
         + Files<File = File>
         + Ledgers
+        + Clock
         + Input
         + Print
         + Eprint
@@ -108,6 +114,8 @@ where
         Ok(Job::Statement(words)) => write_statement(&rt, &words),
         Ok(Job::Replay(words)) => replay_journals(&rt, &words),
         Ok(Job::Serve(words)) => serve_sessions(rt, &words),
+        Ok(Job::Audit(words)) => audit_files(&rt, &words),
+        Ok(Job::Rebuild(words)) => rebuild_lines(&rt, &words),
         Err(none) => print_text(&rt, none),
     }
 }

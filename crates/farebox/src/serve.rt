@@ -4,12 +4,12 @@ ghost use Rattle.pay_jobs.specs.Words.{IsDay};
 ghost use Rattle.pay_words.specs.declared.limits.TheConstants.{MOST_SHARDS};
 
 use pay_files::{
-    JournalFiles, KeptFares, fares_text, kept_in, open_journals, path_in, print_warnings,
-    ready_ledger, report_line, settle_journals,
+    CloseWatch, JournalFiles, KeptFares, NotedPosting, fares_text, kept_in, noted_in,
+    open_journals, path_in, print_warnings, ready_ledger, report_line, settle_journals,
 };
 use pay_jobs::{
-    Disk, FaresAndZone, Fault, FileStore, Keeper, Ledger, Ledgers, NoKeeper, Wary, begin_service,
-    compare_texts, new_ledger,
+    Disk, FaresAndZone, Fault, FileStore, Keeper, Ledger, Ledgers, NoKeeper, NoWatch, Wary, Watch,
+    begin_service, compare_texts, new_ledger,
 };
 use pay_serve_job::{Given, Plan, serve, serve_without_ledger, take_given};
 use pay_wire::Refusal;
@@ -20,7 +20,7 @@ use std::io;
 use std::io::Eprint;
 use std::net::{Net, TcpListener, TcpStream};
 use std::process::ExitCode;
-use std::rt::Files;
+use std::rt::{Clock, Files};
 use std::sync::Wait;
 use std::thread::Threads;
 
@@ -32,6 +32,7 @@ where
         + Wait
         + Files<File = File>
         + Ledgers
+        + Clock
         + Print
         + Eprint
         + AllocGlobal
@@ -79,6 +80,7 @@ where
         + Wait
         + Files<File = File>
         + Ledgers
+        + Clock
         + Print
         + Eprint
         + AllocGlobal
@@ -99,9 +101,9 @@ where
     match words.ledger {
         None => {
             let ledger = new_ledger(rt.alloc())?;
-            status_of(serve_over(rt, given, ledger))
+            status_of(serve_over(rt, given, ledger, &mut NoWatch))
         }
-        Some(path) => status_of(serve_in_file(rt, path, given)),
+        Some(path) => status_of(serve_in_file(rt, words, path, given)),
     }
 }
 
@@ -119,6 +121,7 @@ where
         + Wait
         + Files<File = File>
         + Ledgers
+        + Clock
         + Print
         + Eprint
         + AllocGlobal
@@ -151,6 +154,7 @@ where
         + Wait
         + Files<File = File>
         + Ledgers
+        + Clock
         + Print
         + Eprint
         + AllocGlobal
@@ -192,17 +196,23 @@ where
             kept.keep(&rt)?;
             serve_alone(rt, folder, given)
         }
-        Some(path) => serve_kept_in_file(rt, path, given, &kept),
+        Some(path) => {
+            let noted = noted_in(&rt, folder)?;
+            noted.refuse_new_ledger(&rt, path)?;
+            serve_kept_in_file(rt, words, path, given, &kept, noted)
+        }
     }
 }
 
-/// A service with journals over the ledger in the file at a path. What is to be kept beside the journals is kept once the ledger agrees
-/// with them.
+/// A service with journals over the ledger in the file at a path, which has the posting that is noted beside them. What is to be kept
+/// beside the journals is kept once the ledger agrees with them.
 fn serve_kept_in_file<R, K>(
     rt: R,
+    words: &ServeWords<'_>,
     path: &str,
     given: Given<'_, K>,
     kept: &KeptFares,
+    noted: NotedPosting,
 ) -> Result<bool, Fault>
 where
     R: Net<Listener = TcpListener, Stream = TcpStream>
@@ -210,6 +220,7 @@ where
         + Wait
         + Files<File = File>
         + Ledgers
+        + Clock
         + Print
         + Eprint
         + AllocGlobal
@@ -222,6 +233,7 @@ where
 {
     ready_ledger(&rt, path)?;
     let mut ledger = rt.ledger(path, Wary)?;
+    noted.is_in(&mut ledger)?;
     if !kept.is_there() {
         take_given(
             rt.alloc(),
@@ -232,7 +244,7 @@ where
         )?;
         kept.keep(&rt)?;
     }
-    serve_over(rt, given, ledger)
+    serve_watched(rt, words, given, ledger, Some(noted))
 }
 
 /// A service without a ledger. Whether the day was closed, which it is not. What was kept is brought to the disk, as before a close.
@@ -243,6 +255,7 @@ where
         + Wait
         + Files<File = File>
         + Ledgers
+        + Clock
         + Print
         + Eprint
         + AllocGlobal
@@ -260,13 +273,19 @@ where
 }
 
 /// A service over the ledger in the file at a path. Whether the day was closed.
-fn serve_in_file<R, K>(rt: R, path: &str, given: Given<'_, K>) -> Result<bool, Fault>
+fn serve_in_file<R, K>(
+    rt: R,
+    words: &ServeWords<'_>,
+    path: &str,
+    given: Given<'_, K>,
+) -> Result<bool, Fault>
 where
     R: Net<Listener = TcpListener, Stream = TcpStream>
         + Threads
         + Wait
         + Files<File = File>
         + Ledgers
+        + Clock
         + Print
         + Eprint
         + AllocGlobal
@@ -279,14 +298,16 @@ where
 {
     ready_ledger(&rt, path)?;
     let ledger = rt.ledger(path, Wary)?;
-    serve_over(rt, given, ledger)
+    serve_watched(rt, words, given, ledger, None)
 }
 
-/// A service over a ledger. In the end, what the log of a ledger in a file has is copied into its file.
-fn serve_over<R, K, D: Disk + Drop>(
+/// A service over the ledger in a file, whose close is watched. Whether the day was closed, and its last posting noted.
+fn serve_watched<R, K, D: Disk + Drop>(
     rt: R,
+    words: &ServeWords<'_>,
     given: Given<'_, K>,
-    mut ledger: Ledger<FileStore<D>>,
+    ledger: Ledger<FileStore<D>>,
+    noted: Option<NotedPosting>,
 ) -> Result<bool, Fault>
 where
     R: Net<Listener = TcpListener, Stream = TcpStream>
@@ -294,6 +315,7 @@ where
         + Wait
         + Files<File = File>
         + Ledgers
+        + Clock
         + Print
         + Eprint
         + AllocGlobal
@@ -304,7 +326,37 @@ where
     requires day { IsDay given.plan.close }
     requires keepers { length given.keepers.items ≡ given.plan.shards }
 {
-    let closed = serve(rt, rt.alloc(), given, &mut ledger, &mut io::writer(&rt));
+    let mut watch = CloseWatch::begin(rt, words.zone, words.early, noted)?;
+    let closed = serve_over(rt, given, ledger, &mut watch)?;
+    Ok(closed && !watch.has_failed)
+}
+
+/// A service over a ledger. In the end, what the log of a ledger in a file has is copied into its file.
+fn serve_over<R, K, D: Disk + Drop, C: Watch>(
+    rt: R,
+    given: Given<'_, K>,
+    mut ledger: Ledger<FileStore<D>>,
+    watch: &mut C,
+) -> Result<bool, Fault>
+where
+    R: Net<Listener = TcpListener, Stream = TcpStream>
+        + Threads
+        + Wait
+        + Files<File = File>
+        + Ledgers
+        + Clock
+        + Print
+        + Eprint
+        + AllocGlobal
+        + Copy
+        + Send
+        + 'static,
+    K: Keeper + Send + 'static,
+    requires day { IsDay given.plan.close }
+    requires keepers { length given.keepers.items ≡ given.plan.shards }
+{
+    let mut writer = io::writer(&rt);
+    let closed = serve(rt, rt.alloc(), given, &mut ledger, watch, &mut writer);
     let _ = ledger.into_connection().close();
     closed
 }

@@ -2,7 +2,7 @@
 
 use crate::errors::memory_or;
 use pay_fare_file::FareFileFault;
-use pay_jobs::Fault;
+use pay_jobs::{Fault, FileFault};
 use pay_warnings::warnings;
 use pay_wire::Refusal;
 use std::alloc::AllocError;
@@ -15,7 +15,7 @@ use std::rt::Files;
 pub fn fares_text<R: Files + AllocGlobal>(rt: &R, path: &str) -> Result<String, Fault> {
     match fs::read_to_string(rt, path) {
         Ok(fares) => Ok(fares),
-        Err(error) => Err(memory_or(&error, Fault::CannotReadFares)),
+        Err(error) => Err(memory_or(&error, Fault::File(FileFault::CannotReadFares))),
     }
 }
 
@@ -23,7 +23,7 @@ pub fn fares_text<R: Files + AllocGlobal>(rt: &R, path: &str) -> Result<String, 
 pub fn old_fares_text<R: Files + AllocGlobal>(rt: &R, path: &str) -> Result<String, Fault> {
     match fs::read_to_string(rt, path) {
         Ok(fares) => Ok(fares),
-        Err(error) => Err(memory_or(&error, Fault::CannotReadOldFares)),
+        Err(error) => Err(memory_or(&error, Fault::File(FileFault::CannotReadOldFares))),
     }
 }
 

@@ -6,7 +6,7 @@ ghost use Rattle.pay_words.specs.declared.limits.TheConstants.{MOST_SHARDS};
 
 use crate::errors::memory_or;
 use crate::reporting_keeper::ReportingKeeper;
-use pay_jobs::{Fault, LineKeeper, whole_bytes};
+use pay_jobs::{Fault, FileFault, LineKeeper, whole_bytes};
 use pay_ledger::OpenFault;
 use pay_wire::limits::MOST_LINE_BYTES;
 use pay_words::limits::MOST_SHARDS;
@@ -17,7 +17,7 @@ use std::os::unix::fs::OpenOptionsExt;
 use std::{fs, io};
 
 /// How many journals a folder has: one for each shard that a service may have.
-const JOURNALS: u8 = MOST_SHARDS as u8;
+pub(crate) const JOURNALS: u8 = MOST_SHARDS as u8;
 
 /// Who may read and write a file that is made here: accounts and charges are nobody else's.
 pub(crate) const OWNER_ALONE: u32 = 0o600;
@@ -49,7 +49,7 @@ pub fn open_journal<R: Files<File = File> + AllocGlobal>(
 ) -> Result<JournalFile, Fault> {
     match opened_alone(rt, path) {
         Ok((past, file)) => Ok(JournalFile { past, file }),
-        Err(error) => Err(memory_or(&error, Fault::CannotUseJournal)),
+        Err(error) => Err(memory_or(&error, Fault::File(FileFault::CannotUseJournal))),
     }
 }
 
@@ -67,7 +67,7 @@ pub fn open_journals<R: Files<File = File> + Eprint + AllocGlobal + Copy>(
 {
     match all_opened(rt, folder, shards) {
         Ok(journals) => Ok(journals),
-        Err(error) => Err(memory_or(&error, Fault::CannotUseJournal)),
+        Err(error) => Err(memory_or(&error, Fault::File(FileFault::CannotUseJournal))),
     }
 }
 
@@ -227,7 +227,7 @@ fn lock_once<R: Files<File = File>>(rt: &R, path: &str) -> io::Result<()> {
 pub fn read_journal<R: Files + AllocGlobal>(rt: &R, path: &str) -> Result<Vec<u8>, Fault> {
     match bytes_of(rt, path) {
         Ok(past) => Ok(past),
-        Err(error) => Err(memory_or(&error, Fault::CannotUseJournal)),
+        Err(error) => Err(memory_or(&error, Fault::File(FileFault::CannotUseJournal))),
     }
 }
 

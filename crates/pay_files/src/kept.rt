@@ -3,7 +3,8 @@ ghost use Rattle.std.specs.Prelude.{◌≡◌, true, OnErr};
 
 use crate::errors::memory_or;
 use crate::journal::{OWNER_ALONE, is_new_ledger, settle_folder_of};
-use pay_jobs::{Command, Fault, Keeper, NotKept, has_ledger, kept_text};
+use crate::noted::NotedPosting;
+use pay_jobs::{Command, Fault, FileFault, Keeper, NotKept, has_ledger, kept_text};
 use std::alloc::{AllocError, Global};
 use std::fs::{File, Files, OpenOptions};
 use std::io::{Eprint, ErrorKind, Write};
@@ -34,7 +35,13 @@ impl KeptFares {
         closes: bool,
         fares: &str,
     ) -> Result<KeptFares, Fault> {
-        let there = text_at(rt, path.as_str())?;
+        let there = match text_at(rt, path.as_str()) {
+            Ok(there) => there,
+            Err(error) => {
+                let fault = Fault::File(FileFault::CannotReadKeptFares);
+                return Err(memory_or(&error, fault));
+            }
+        };
         let had_ledger = match &there {
             Some(there) => has_ledger(there.as_str(), zone),
             None => false,
@@ -60,7 +67,7 @@ impl KeptFares {
     /// Refuses a ledger that is new, where the journal had one: it has nothing of what was charged.
     pub fn refuse_new_ledger<R: Files>(&self, rt: &R, ledger: &str) -> Result<(), Fault> {
         if self.had_ledger && is_new_ledger(rt, ledger) {
-            return Err(Fault::NewLedger);
+            return Err(Fault::File(FileFault::NewLedger));
         }
         Ok(())
     }
@@ -71,9 +78,7 @@ impl KeptFares {
             return Ok(());
         }
         let path = self.path.as_str();
-        let mut aside = copy_of(rt.alloc(), path)?;
-        aside.push_str(".tmp")?;
-        match replace(rt, path, aside.as_str(), self.text.as_str()) {
+        match replace(rt, path, self.text.as_str()) {
             Ok(()) => Ok(()),
             Err(_) => {
                 let _ = eprintln!(rt; "farebox: cannot keep fares in {path}");
@@ -92,11 +97,11 @@ impl KeptFares {
 }
 
 /// The text of the file at a path, if there is one. What is no file is not opened, since that could wait for another program.
-fn text_at<R: Files + AllocGlobal>(rt: &R, path: &str) -> Result<Option<String>, Fault> {
+pub(crate) fn text_at<R: Files + AllocGlobal>(rt: &R, path: &str) -> io::Result<Option<String>> {
     match read_text(rt, path) {
         Ok(text) => Ok(Some(text)),
         Err(error) if error.kind() == ErrorKind::NotFound => Ok(None),
-        Err(error) => Err(memory_or(&error, Fault::CannotReadKeptFares)),
+        Err(error) => Err(error),
     }
 }
 
@@ -111,8 +116,22 @@ fn read_text<R: Files + AllocGlobal>(rt: &R, path: &str) -> io::Result<String> {
 pub fn file_of<R: Files + AllocGlobal>(rt: &R, journal: &str) -> Result<String, Fault> {
     match fs::canonicalize(rt, journal) {
         Ok(file) => Ok(copy_of(rt.alloc(), file.as_str())?),
-        Err(error) => Err(memory_or(&error, Fault::CannotUseJournal)),
+        Err(error) => Err(memory_or(&error, Fault::File(FileFault::CannotUseJournal))),
     }
+}
+
+/// The posting that is noted beside the file of a journal.
+pub fn noted_beside<R: Files + AllocGlobal>(rt: &R, file: &str) -> Result<NotedPosting, Fault> {
+    let mut path = copy_of(rt.alloc(), file)?;
+    path.push_str(".posted")?;
+    NotedPosting::read(rt, path)
+}
+
+/// The posting that is noted beside the journals in a folder.
+pub fn noted_in<R: Files + AllocGlobal>(rt: &R, folder: &str) -> Result<NotedPosting, Fault> {
+    let mut path = String::new(rt.alloc());
+    write!(path, "{folder}/all.posted")?;
+    NotedPosting::read(rt, path)
 }
 
 /// What is kept beside the file of a journal.
@@ -142,16 +161,22 @@ pub fn kept_in<R: Files + AllocGlobal>(
 }
 
 /// Puts a text in the place of what a file has. A crash leaves the one or the other.
-fn replace<R: Files<File = File>>(rt: &R, path: &str, aside: &str, text: &str) -> io::Result<()> {
+pub(crate) fn replace<R: Files<File = File> + AllocGlobal>(
+    rt: &R,
+    path: &str,
+    text: &str,
+) -> io::Result<()> {
+    let mut aside = copy_of(rt.alloc(), path)?;
+    aside.push_str(".tmp")?;
     let mut file = OpenOptions::new()
         .write(true)
         .create(true)
         .truncate(true)
         .mode(OWNER_ALONE)
-        .open(rt, aside)?;
+        .open(rt, aside.as_str())?;
     file.write_all(text.as_bytes())?;
     file.sync_all()?;
-    fs::rename(rt, aside, path)?;
+    fs::rename(rt, aside.as_str(), path)?;
     settle_folder_of(rt, path)
 }
 

@@ -1,21 +1,27 @@
-//! The jobs `run`, `check`, `statement` and `replay` of the program, by their words: their fare files, journals and ledgers are files, and
-//! lines come from standard input and go to standard output. And the files of journals, which the job `serve` uses too.
+//! The jobs `run`, `check`, `statement`, `replay`, `audit` and `rebuild` of the program, by their words: their fare files, journals and
+//! ledgers are files, and lines come from standard input and go to standard output. And the files of journals, which the job `serve` uses too.
 #![tactic(auto)]
 
+mod audit;
 mod check;
+mod close_watch;
 mod errors;
 mod input;
 mod journal;
 mod kept;
+mod noted;
 mod reporting_keeper;
 mod run;
 mod texts;
 
+pub use audit::{audit_files, rebuild_lines};
 pub use check::check_fares;
+pub use close_watch::CloseWatch;
 pub use errors::memory_or;
 pub use input::{fares_text, print_warnings, report_line};
 pub use journal::{JournalFiles, open_journals, path_in, ready_ledger, settle_journals};
-pub use kept::{KeptFares, kept_in};
+pub use kept::{KeptFares, kept_in, noted_in};
+pub use noted::NotedPosting;
 pub use reporting_keeper::ReportingKeeper;
 pub use run::run_session;
 pub use texts::{replay_journals, write_statement};

@@ -1,11 +1,13 @@
 //! One session, from standard input to standard output.
 
+use crate::close_watch::CloseWatch;
 use crate::input::{fares_text, is_input_a_file, print_warnings};
 use crate::journal::{JournalFile, open_journal, ready_ledger};
-use crate::kept::{FaresFirst, file_of, kept_beside};
+use crate::kept::{FaresFirst, file_of, kept_beside, noted_beside};
+use crate::noted::NotedPosting;
 use pay_jobs::{
-    Begun, Book, Disk, Fault, FileStore, Keeper, Ledger, Ledgers, NoKeeper, Ran, Wary, begin,
-    new_ledger, told,
+    Begun, Book, Disk, Fault, FileStore, Keeper, Ledger, Ledgers, NoKeeper, NoWatch, Ran, Wary,
+    Watch, begin, new_ledger, told,
 };
 use pay_words::RunWords;
 use std::alloc::AllocError;
@@ -13,13 +15,13 @@ use std::fs::File;
 use std::io;
 use std::io::{BufRead, BufReader, Eprint};
 use std::process::ExitCode;
-use std::rt::Files;
+use std::rt::{Clock, Files};
 
 /// One session, from standard input to standard output. Where it has files, what there is to say of the fare file comes
 /// first, to standard error.
 pub fn run_session<R>(rt: &R, words: &RunWords<'_>) -> Result<ExitCode, Fault>
 where
-    R: Files<File = File> + Ledgers + Input + Print + Eprint + AllocGlobal + Copy,
+    R: Files<File = File> + Ledgers + Clock + Input + Print + Eprint + AllocGlobal + Copy,
 {
     let fares = fares_text(rt, words.fares)?;
     if words.journal.is_some() || words.ledger.is_some() {
@@ -41,7 +43,7 @@ fn run_from<R, I: BufRead>(
     reader: &mut I,
 ) -> Result<ExitCode, Fault>
 where
-    R: Files<File = File> + Ledgers + Print + Eprint + AllocGlobal + Copy,
+    R: Files<File = File> + Ledgers + Clock + Print + Eprint + AllocGlobal + Copy,
 {
     match words.journal {
         None => run_unkept(rt, words, fares, reader),
@@ -53,19 +55,22 @@ where
 }
 
 /// One session without a journal, over a ledger in a file, or in memory.
-fn run_unkept<R: Files<File = File> + Ledgers + Print + AllocGlobal, I: BufRead>(
+fn run_unkept<R, I: BufRead>(
     rt: &R,
     words: &RunWords<'_>,
     fares: &str,
     reader: &mut I,
-) -> Result<ExitCode, Fault> {
+) -> Result<ExitCode, Fault>
+where
+    R: Files<File = File> + Ledgers + Clock + Print + Eprint + AllocGlobal + Copy,
+{
     let begun = begin(rt.alloc(), fares, words.zone, &[])?;
     match words.ledger {
         None => {
             let ledger = new_ledger(rt.alloc())?;
-            run_over(rt, begun, NoKeeper, ledger, reader)
+            end(run_over(rt, begun, NoKeeper, ledger, &mut NoWatch, reader))
         }
-        Some(path) => run_in_file(rt, path, begun, NoKeeper, reader),
+        Some(path) => run_in_file(rt, words, path, begun, NoKeeper, None, reader),
     }
 }
 
@@ -81,7 +86,7 @@ fn run_kept<R, I: BufRead>(
     reader: &mut I,
 ) -> Result<ExitCode, Fault>
 where
-    R: Files<File = File> + Ledgers + Print + Eprint + AllocGlobal + Copy,
+    R: Files<File = File> + Ledgers + Clock + Print + Eprint + AllocGlobal + Copy,
 {
     let JournalFile { past, file } = journal;
     let begun = begin(rt.alloc(), fares, words.zone, past.as_slice())?;
@@ -96,34 +101,57 @@ where
     let keeper = FaresFirst::over(*rt, begun.keeper(file, words.syncs), kept);
     match words.ledger {
         None => end(Ok(begun.run_without_ledger(keeper, reader, &mut io::writer(rt)))),
-        Some(path) => run_in_file(rt, path, begun, keeper, reader),
+        Some(ledger) => {
+            let noted = noted_beside(rt, path.as_str())?;
+            run_in_file(rt, words, ledger, begun, keeper, Some(noted), reader)
+        }
     }
 }
 
-/// A session that has begun, over the ledger in the file at a path.
-fn run_in_file<R: Files<File = File> + Ledgers + Print + AllocGlobal, K: Keeper, I: BufRead>(
+/// A session that has begun, over the ledger in the file at a path, which has the posting that is noted beside the journal. The status
+/// says whether each close was posted.
+fn run_in_file<R, K: Keeper, I: BufRead>(
     rt: &R,
+    words: &RunWords<'_>,
     path: &str,
     begun: Begun,
     keeper: K,
+    noted: Option<NotedPosting>,
     reader: &mut I,
-) -> Result<ExitCode, Fault> {
+) -> Result<ExitCode, Fault>
+where
+    R: Files<File = File> + Ledgers + Clock + Print + Eprint + AllocGlobal + Copy,
+{
+    if let Some(noted) = &noted {
+        noted.refuse_new_ledger(rt, path)?;
+    }
     ready_ledger(rt, path)?;
-    let ledger = rt.ledger(path, Wary)?;
-    run_over(rt, begun, keeper, ledger, reader)
+    let mut ledger = rt.ledger(path, Wary)?;
+    if let Some(noted) = &noted {
+        noted.is_in(&mut ledger)?;
+    }
+    let mut watch = CloseWatch::begin(*rt, words.zone, words.early, noted)?;
+    let ran = run_over(rt, begun, keeper, ledger, &mut watch, reader);
+    let status = end(ran)?;
+    if watch.has_failed {
+        return Ok(ExitCode::FAILURE);
+    }
+    Ok(status)
 }
 
 /// A session that has begun, over a ledger. In the end, what the log of a ledger in a file has is copied into its file.
-fn run_over<R: Print + AllocGlobal, K: Keeper, D: Disk + Drop, I: BufRead>(
+fn run_over<R: Print + AllocGlobal, K: Keeper, D: Disk + Drop, C: Watch, I: BufRead>(
     rt: &R,
     begun: Begun,
     keeper: K,
     mut ledger: Ledger<FileStore<D>>,
+    watch: &mut C,
     reader: &mut I,
-) -> Result<ExitCode, Fault> {
-    let ran = begun.run(rt.alloc(), keeper, &mut ledger, reader, &mut io::writer(rt));
+) -> Result<Ran<Book, K>, Fault> {
+    let mut writer = io::writer(rt);
+    let ran = begun.run(rt.alloc(), keeper, &mut ledger, watch, reader, &mut writer);
     let _ = ledger.into_connection().close();
-    end(ran)
+    ran
 }
 
 /// How the program ends after a session.

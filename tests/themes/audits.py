@@ -1,0 +1,155 @@
+"""Audits of journals, what is kept beside them and a ledger; and the lines that a ledger gives back."""
+
+import os
+import shutil
+
+from running import RUN, SEVEN, A_DAY, MISSING, End, answers, fault, in_lines, run, test, written
+from themes.kept_fares import an_edition, bytes_of, quiet
+from themes.last_postings import DONE, PAID, closing, copied
+from themes.serve import closed, ended, serving, talk
+from themes.services import new_folder, with_both
+
+BUS = f"TAP 1 1 7 {SEVEN} 50 BUS"
+LOST = f"in the ledger and not in the journal: {BUS}, on day 19730 at second 25200"
+
+
+def audit(folder, ledger="ledger", journal="journal", fares=RUN[1], more=()):
+    given = ["--ledger", os.path.join(folder, ledger)] if ledger else []
+    return run(["audit", fares, RUN[2], "--journal", os.path.join(folder, journal), *given, *more])
+
+
+def differs(*lines, more=""):
+    """What an audit comes to that finds these differences, with further lines after them."""
+    return End(1, "".join(f"farebox: {line}\n" for line in lines).encode() + more.encode())
+
+
+def all_files(folder):
+    """What each file there has, but for the log of a ledger, which is copied into its file when it is opened."""
+    return {name: bytes_of(os.path.join(folder, name)) for name in sorted(os.listdir(folder)) if not name.endswith(("-wal", "-shm"))}
+
+
+@test
+def what_is_not_settled(folder):
+    """A late tap, credit or account of a week that was closed is told, and the close that settles it, until that is done."""
+    def later(*lines):
+        """More lines of the journal, without a ledger."""
+        return run([*RUN, "--journal", os.path.join(folder, "journal")], in_lines(lines))
+
+    yield "a first close", closing(folder, [BUS, "CLOSE 19730"]), answers(b"OK 19730 175 175\n" + PAID + DONE)
+    yield "settled", audit(folder), answers(b"")
+    yield "a late tap", later(f"TAP 1 2 7 {SEVEN + 7200} 50 BUS"), answers(b"OK 19730 350 350\n")
+    yield "not settled", audit(folder), answers(b"UNSETTLED 7 19730 19730 350 175\nCLOSE 19730\n")
+    yield "an account that was not posted", later(f"TAP 1 1 8 {SEVEN} 50 BUS"), answers(b"OK 19730 175 175\n")
+    yield "a tap of a day that is not closed", later(f"TAP 1 3 7 {SEVEN + A_DAY} 50 BUS"), answers(b"OK 19731 175 525\n")
+    yield "and of a week that is not closed", later(f"TAP 1 4 7 {SEVEN + 7 * A_DAY} 50 BUS"), answers(b"OK 19737 175 175\n")
+    before = all_files(folder)
+    told = audit(folder)
+    yield "two are not settled", told, answers(b"UNSETTLED 7 19730 19730 350 175\nUNSETTLED 8 19730 19730 175 0\nCLOSE 19730\n")
+    yield "nothing is changed", answers(repr(all_files(folder)).encode()), answers(repr(before).encode())
+    closes = [line for line in told.output.decode().splitlines() if line.startswith("CLOSE")]
+    yield "its closes", closing(folder, closes), answers(
+        b"PAY 7 19730 19730 4 350 175 4=175\nPAY 8 19730 19730 1 175 175 4=175\nDONE 19730 2\n")
+    yield "settled by them", audit(folder), answers(b"")
+    # A credit of a week that is closed through Sunday, and one of the week after, which is closed through its Tuesday.
+    yield "two more closes", closing(folder, ["CLOSE 19736", "CLOSE 19738"]), answers(
+        b"PAY 7 19730 19736 4 525 175 4=175\nPAY 8 19730 19736 1 175 0\nDONE 19736 2\n"
+        b"PAY 7 19737 19738 4 175 175 4=175\nDONE 19738 1\n")
+    yield "late credits", later("FIX 1 1 7 CREDIT 19730 100", "FIX 1 2 7 CREDIT 19738 200", "FIX 1 1 8 CREDIT 19737 1"), answers(
+        b"OK 19730 350 525\nOK 19738 0 175\nOK 19737 0 0\n")
+    yield "what they are", audit(folder), answers(
+        b"UNSETTLED 7 19730 19736 425 525\nUNSETTLED 7 19737 19738 0 175\nCLOSE 19736\nCLOSE 19738\n")
+    yield "a voided tap", later("FIX 1 3 7 VOID 1 4"), answers(b"OK 19737 0 0\n")
+    yield "of the tap nothing is due", audit(folder), answers(
+        b"UNSETTLED 7 19730 19736 425 525\nUNSETTLED 7 19737 19738 0 175\nCLOSE 19736\nCLOSE 19738\n")
+    yield "without the ledger", audit(folder, ledger=None), answers(b"")
+
+
+@test
+def what_differs(folder):
+    """Each account that differs is told, and what stands beside the journal; the status tells it."""
+    journal = os.path.join(folder, "journal")
+    lines = [BUS, f"TAP 1 1 8 {SEVEN} 50 BUS", f"TAP 1 2 8 {SEVEN + 7200} 50 BUS", "CLOSE 19730"]
+    paid = PAID + b"PAY 8 19730 19730 2 350 350 4=350\nDONE 19730 2\n"
+    yield "a first close", closing(folder, lines), answers(b"OK 19730 175 175\nOK 19730 175 175\nOK 19730 350 350\n" + paid)
+    first = copied(folder, "first")
+    yield "a late tap", closing(folder, [f"TAP 1 2 7 {SEVEN + 7200} 50 BUS", "CLOSE 19730"]), answers(
+        b"OK 19730 350 350\nPAY 7 19730 19730 2 350 175 4=175\nPAY 8 19730 19730 2 350 350 4=350\nDONE 19730 2\n")
+    yield "an older ledger", audit(folder, ledger=first), differs(
+        "another or an older ledger than the journal's: no posting of account 7 for week 19730 through 19730",
+        more="UNSETTLED 7 19730 19730 350 175\nCLOSE 19730\n")
+    whole = bytes_of(journal)
+    dearer = written(folder, "dearer.toml", quiet().replace(b"bus = 175", b"bus = 176"))
+    yield "other fares", audit(folder, fares=dearer), differs(
+        "other fares than the journal's on day 4: rules.bus; account 7 travelled on day 19730",
+        "account 7 was posted otherwise for week 19730 through 19730", "account 8 was posted otherwise for week 19730 through 19730",
+        more="UNSETTLED 7 19730 19730 352 350\nUNSETTLED 8 19730 19730 352 350\nCLOSE 19730\n")
+    edition = written(folder, "edition.toml", an_edition(19737, 180))
+    yield "an edition of next week", audit(folder, fares=edition), answers(b"")
+    # Lines that are lost of both accounts; of account 8 all.
+    written(folder, "journal", b"".join(line + b"\n" for line in whole.splitlines() if line.startswith(b"TAP 1 2 7")))
+    yield "lines that are lost", audit(folder), differs(
+        LOST, f"in the ledger and not in the journal: TAP 1 1 8 {SEVEN} 50 BUS, on day 19730 at second 25200",
+        more="UNSETTLED 7 19730 19730 175 350\nCLOSE 19730\n")
+    yield "lines that are lost, without the ledger", audit(folder, ledger=None), answers(b"")
+    written(folder, "journal", whole + f"TAP 1 1 7 {SEVEN + 1} 50 BUS\n".encode())
+    yield "a line that is not accepted", audit(folder), fault(f"{journal} line 5: 20 Conflict")
+    written(folder, "journal", whole)
+    yield "no such ledger", audit(folder, ledger="none"), fault("no such ledger")
+    yield "it is not made", answers(bytes_of(os.path.join(folder, "none"))), answers(None)
+    yield "no such journal", audit(folder, journal="none"), fault("cannot use journal")
+    yield "no such fare file", audit(folder, fares=MISSING), fault("cannot read fares")
+    written(folder, "journal.posted", b"7\n")
+    yield "what is no note", audit(folder), fault("cannot read the journal's last posting")
+
+
+@test
+def of_services(folder):
+    """The journals of a service are those of its folder, and a folder without any has no lines."""
+    journals, ledger = new_folder(folder), os.path.join(folder, "ledger")
+    more = with_both(journals, ledger)
+    with serving(1, 2, 1, more=more) as (ran, port, said):
+        talk(port, in_lines([BUS, f"TAP 1 1 8 {SEVEN} 50 BUS", "QUIT"]))
+        yield "its close", ended(ran, said), closed(port, 1, PAID + b"PAY 8 19730 19730 1 175 175 4=175\nDONE 19730 2\n")
+    before = all_files(journals)
+    yield "settled", audit(folder, journal="journals"), answers(b"")
+    of_seven = next(name for name, text in before.items() if text == f"{BUS}\n".encode())
+    written(journals, of_seven, f"{BUS}\nTAP 1 2 7 {SEVEN + 7200} 50 BUS\n".encode())
+    yield "a late tap", audit(folder, journal="journals"), answers(b"UNSETTLED 7 19730 19730 350 175\nCLOSE 19730\n")
+    os.remove(os.path.join(journals, of_seven))
+    yield "a journal that is lost", audit(folder, journal="journals"), differs(LOST)
+    yield "it is not made", answers(bytes_of(os.path.join(journals, of_seven))), answers(None)
+    written(journals, of_seven, f"{BUS}\nTAP 1 1 7 {SEVEN + 1} 50 BUS\n".encode())
+    yield "a line that is not accepted", audit(folder, journal="journals"), fault(f"{journals}/{of_seven} line 2: 20 Conflict")
+    new_folder(folder, "empty")
+    yield "an empty folder", audit(folder, ledger=None, journal="empty"), answers(b"")
+
+
+@test
+def a_lost_journal(folder):
+    """The lines of all that a ledger archives; as a journal they are taken with it, and the next close changes nothing."""
+    lines = [
+        f"TAP 2 1 8 {SEVEN} 50 BUS", BUS, f"TAP 1 2 7 {SEVEN + 7200} 50 BUS", f"FIX 3 1 7 FILL {SEVEN + 3600} 50 BUS", "FIX 3 2 7 VOID 1 2",
+        "FIX 3 3 7 CREDIT 19730 10", "FIX 3 4 7 DROP 3 3", "FIX 3 1 9 VOID 1 1",
+    ]
+    came = closing(folder, [*lines, "CLOSE 19730"])
+    posted = came.output[came.output.index(b"PAY"):]
+    yield "the close", came._replace(output=posted.split(b" 19730 ")[0]), answers(b"PAY 7")
+    ledger = os.path.join(folder, "ledger")
+    # By account, of each its taps and then its corrections, by their numbers. Account 9 travelled nowhere, so it was not closed.
+    wanted = in_lines([BUS, f"TAP 1 2 7 {SEVEN + 7200} 50 BUS", f"FIX 3 1 7 FILL {SEVEN + 3600} 50 BUS", "FIX 3 2 7 VOID 1 2",
+        "FIX 3 3 7 CREDIT 19730 10", "FIX 3 4 7 DROP 3 3", f"TAP 2 1 8 {SEVEN} 50 BUS"])
+    given = run(["rebuild", RUN[1], ledger])
+    yield "its lines", given, answers(wanted)
+    later = f"TAP 1 9 7 {SEVEN + 90_000} 50 BUS"
+    yield "a tap that is not closed", run([*RUN, "--journal", os.path.join(folder, "journal")], in_lines([later]))._replace(output=b""), answers(b"")
+    yield "is not there", run(["rebuild", RUN[1], ledger]), answers(wanted)
+    for name in ("journal", "journal.fares", "journal.posted"):
+        os.remove(os.path.join(folder, name))
+    yield "as a journal it is taken", closing(folder, [], journal="again"), fault("ledger without its journal")
+    written(folder, "again", given.output)
+    yield "the close once more", closing(folder, ["CLOSE 19730"], journal="again"), answers(posted)
+    yield "and belongs to the ledger", audit(folder, journal="again"), answers(b"")
+    yield "no such ledger", run(["rebuild", RUN[1], os.path.join(folder, "none")]), fault("no such ledger")
+    yield "it is not made", answers(bytes_of(os.path.join(folder, "none"))), answers(None)
+    shutil.copyfile(os.path.join(folder, "again"), os.path.join(folder, "text"))
+    yield "no ledger", run(["rebuild", RUN[1], os.path.join(folder, "text")]), fault("40 NotALedger")

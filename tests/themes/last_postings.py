@@ -1,0 +1,175 @@
+"""The last posting that is noted beside journals, ledgers that lack it, days that are not over, and closes that are refused."""
+
+import os
+import shutil
+import stat
+import time
+
+from running import RUN, SEVEN, A_DAY, MONDAY, End, answers, fault, in_lines, run, test, written
+from themes.kept_fares import bytes_of
+from themes.serve import closed, ended, failed, free_ports, serving, talk, words_of
+from themes.services import new_folder, with_both
+
+BUS = f"TAP 1 1 7 {SEVEN} 50 BUS"
+PAID, DONE = b"PAY 7 19730 19730 1 175 175 4=175\n", b"DONE 19730 1\n"
+CANNOT_READ = fault("cannot read the journal's last posting")
+
+
+def lacks(account, week, through):
+    return fault(f"another or an older ledger than the journal's: no posting of account {account} for week {week} through {through}")
+
+
+def refused(day, why, output):
+    return fault(f"close of day {day} refused: {why}", output)
+
+
+NOT_OVER = "it is not over (see --early)"
+
+
+def closing(folder, lines, *more, ledger="ledger", journal="journal"):
+    """What a session over a journal and a ledger in files comes to."""
+    return run([*RUN, "--journal", os.path.join(folder, journal), "--ledger", os.path.join(folder, ledger), *more], in_lines(lines))
+
+
+def copied(folder, name):
+    """The ledger as it stands, under another name."""
+    shutil.copyfile(os.path.join(folder, "ledger"), os.path.join(folder, name))
+    return name
+
+
+@test
+def what_is_noted(folder):
+    """The last posting that a close has made, as four numbers; an older ledger than it is refused, and nothing is changed."""
+    noted = os.path.join(folder, "journal.posted")
+    yield "a first close", closing(folder, [BUS, "CLOSE 19730"]), answers(b"OK 19730 175 175\n" + PAID + DONE)
+    yield "what is noted", answers(bytes_of(noted)), answers(b"7 19730 19730 1\n")
+    yield "who may read it", answers(oct(stat.S_IMODE(os.stat(noted).st_mode)).encode()), answers(b"0o600")
+    monday = copied(folder, "monday")
+    yield "the close once more", closing(folder, ["CLOSE 19730"]), answers(PAID + DONE)
+    yield "what is noted then", answers(bytes_of(noted)), answers(b"7 19730 19730 1\n")
+    # Another account on that day, and then a late tap of the first one: the last posting of the reply is not the new one.
+    lines, eight = [f"TAP 1 1 8 {SEVEN} 50 BUS", "CLOSE 19730"], b"PAY 8 19730 19730 1 175 175 4=175\n"
+    yield "another account", closing(folder, lines), answers(b"OK 19730 175 175\n" + PAID + eight + b"DONE 19730 2\n")
+    yield "what is noted of two", answers(bytes_of(noted)), answers(b"8 19730 19730 1\n")
+    both = copied(folder, "both")
+    lines, later = [f"TAP 1 2 7 {SEVEN + 7200} 50 BUS", "CLOSE 19730"], b"PAY 7 19730 19730 2 350 175 4=175\n"
+    yield "a late tap", closing(folder, lines), answers(b"OK 19730 350 350\n" + later + eight + b"DONE 19730 2\n")
+    yield "what is noted of the late tap", answers(bytes_of(noted)), answers(b"7 19730 19730 2\n")
+    # Ledgers of before, by which the same taps would be posted again.
+    kept = {name: bytes_of(os.path.join(folder, name)) for name in ("journal", "journal.posted", "journal.fares", monday, both)}
+    for name in (monday, both):
+        yield f"an older ledger, {name}", closing(folder, ["CLOSE 19730"], ledger=name), lacks(7, 19730, 19730)
+    yield "another ledger", closing(folder, [], ledger="elsewhere", journal="other"), answers(b"")
+    kept["elsewhere"] = bytes_of(os.path.join(folder, "elsewhere"))
+    yield "a ledger of another journal", closing(folder, ["CLOSE 19730"], ledger="elsewhere"), lacks(7, 19730, 19730)
+    yield "a new ledger", closing(folder, ["CLOSE 19730"], ledger="new"), fault("a new ledger beside a journal that had one")
+    yield "it is not made", answers(bytes_of(os.path.join(folder, "new"))), answers(None)
+    for name, text in kept.items():
+        yield f"then {name}", answers(bytes_of(os.path.join(folder, name))), answers(text)
+    yield "without a ledger", run([*RUN, "--journal", os.path.join(folder, "journal")], b"DUE 7 19730\n"), answers(b"DUE 7 19730 19730 2 350 4=350\n")
+    yield "the right one", closing(folder, ["CLOSE 19730"]), answers(later + eight + b"DONE 19730 2\n")
+    # Where nothing is noted, as by an earlier version, the ledger is taken, and the next close notes its last posting.
+    os.remove(noted)
+    yield "with nothing noted", closing(folder, ["CLOSE 19730"]), answers(later + eight + b"DONE 19730 2\n")
+    yield "nothing new, nothing noted", answers(bytes_of(noted)), answers(None)
+    yield "the next day", closing(folder, ["CLOSE 19731"]), answers(
+        b"PAY 7 19730 19731 2 350 0\nPAY 8 19730 19731 1 175 0\nDONE 19731 2\n")
+    yield "what is noted of it", answers(bytes_of(noted)), answers(b"8 19730 19731 1\n")
+
+
+@test
+def what_is_no_note(folder):
+    """A text that notes no posting bars a start with a ledger, and all stays as it is."""
+    noted = os.path.join(folder, "journal.posted")
+    yield "a first close", closing(folder, [BUS, "CLOSE 19730"]), answers(b"OK 19730 175 175\n" + PAID + DONE)
+    for name, text in (
+        ("nothing", b""), ("no newline", b"7 19730 19730 1"), ("two newlines", b"7 19730 19730 1\n\n"), ("a zero before", b"7 19730 19730 01\n"),
+        ("a sign", b"+7 19730 19730 1\n"), ("three numbers", b"7 19730 19730\n"), ("five numbers", b"7 19730 19730 1 1\n"), ("two spaces", b"7  19730 19730 1\n"),
+        ("a number that is too long", b"4294967296 19730 19730 1\n"), ("a word", b"seven 19730 19730 1\n"), ("no UTF-8", b"7 19730 19730 1\xff\n"),
+    ):
+        written(folder, "journal.posted", text)
+        yield name, closing(folder, ["CLOSE 19730"]), CANNOT_READ
+        yield f"{name}, then", answers(bytes_of(noted)), answers(text)
+    for name, text, wanted in (
+        ("another account", b"8 19730 19730 1\n", lacks(8, 19730, 19730)), ("another week", b"7 19737 19730 1\n", lacks(7, 19737, 19730)),
+        ("another day", b"7 19730 19731 1\n", lacks(7, 19730, 19731)), ("another version", b"7 19730 19730 2\n", lacks(7, 19730, 19730)),
+    ):
+        written(folder, "journal.posted", text)
+        yield name, closing(folder, ["CLOSE 19730"]), wanted
+    os.remove(noted)
+    os.mkdir(noted)
+    yield "a folder", closing(folder, ["CLOSE 19730"]), CANNOT_READ
+    os.rmdir(noted)
+    os.mkfifo(noted)
+    yield "a pipe", closing(folder, ["CLOSE 19730"]), CANNOT_READ
+    os.remove(noted)
+    # Where it cannot be written the day is closed all the same; that is reported, and the status tells it.
+    os.mkdir(f"{noted}.tmp")
+    came = closing(folder, [f"TAP 1 2 7 {SEVEN + 7200} 50 BUS", "CLOSE 19730", "DUE 7 19730"])
+    yield "it cannot be written", came, fault(f"cannot note the last posting in {os.path.realpath(noted)}",
+        b"OK 19730 350 350\nPAY 7 19730 19730 2 350 175 4=175\nDONE 19730 1\nDUE 7 19730 19730 2 350 4=350\n")
+    yield "nothing is noted", answers(bytes_of(noted)), answers(None)
+
+
+@test
+def days_that_are_not_over(folder):
+    """A day that is not over by the clock is not closed into a ledger in a file, unless that is asked for."""
+    utc = ["run", RUN[1], "UTC0"]
+    words = [*utc, "--ledger", os.path.join(folder, "ledger")]
+    # The service day now, which begins at 04:30; should it end while this runs, the checks are those of the one after.
+    today = int(time.time() + 60 - 16_200) // A_DAY
+    later = [f"CLOSE {today + 1}", "CLOSE 50000"]
+    lines = in_lines([f"CLOSE {today - 1}", *later, "DUE 7 19730"])
+    done = f"DONE {today - 1} 0\n".encode()
+    errors = "".join(f"farebox: close of day {day} refused: {NOT_OVER}\n" for day in (today + 1, 50000)).encode()
+    yield "days to come", run(words, lines), End(1, done + b"NO 49 NotOver\nNO 49 NotOver\nDUE 7 19730 19730 0 0\n", errors)
+    yield "today", run(words, f"CLOSE {today}\n".encode()), refused(today, NOT_OVER, b"NO 49 NotOver\n")
+    yield "today, early", run([*words, "--early"], f"CLOSE {today}\n".encode()), answers(f"DONE {today} 0\n".encode())
+    yield "in memory", run(utc, b"CLOSE 50000\n"), answers(b"DONE 50000 0\n")
+    yield "in memory, early", run([*utc, "--early"], b"CLOSE 50000\n"), answers(b"DONE 50000 0\n")
+    # West of Greenwich a day ends later: at 04:30 of a clock that is 24 hours behind, as a zone may be.
+    west = ["run", RUN[1], "WST24", "--ledger", os.path.join(folder, "western")]
+    yield "yesterday in the west", run(west, f"CLOSE {today - 1}\n".encode()), refused(today - 1, NOT_OVER, b"NO 49 NotOver\n")
+    yield "the day before in the west", run(west, f"CLOSE {today - 2}\n".encode()), answers(f"DONE {today - 2} 0\n".encode())
+
+
+@test
+def refused_closes(folder):
+    """A close into a ledger in a file that is refused is reported with an account, and the status tells it after the last line."""
+    lines = [BUS, "CLOSE 19731", "CLOSE 19730", "DUE 7 19730"]
+    output = b"OK 19730 175 175\nPAY 7 19730 19731 1 175 175 4=175\nDONE 19731 1\nNO 42 StaleQuote\nDUE 7 19730 19730 1 175 4=175\n"
+    why = "42 StaleQuote: account 7 was posted through day 19731"
+    yield "in memory", run(RUN, in_lines(lines)), answers(output)
+    yield "in a file", run([*RUN, "--ledger", os.path.join(folder, "alone")], in_lines(lines)), refused(19730, why, output)
+    yield "with a journal", closing(folder, lines), refused(19730, why, output)
+    yield "and QUIT", closing(folder, ["CLOSE 19730", "QUIT"]), refused(19730, why, b"NO 42 StaleQuote\nBYE\n")
+
+
+@test
+def of_services(folder):
+    """The same of a service: its last posting is noted in the folder, and an older ledger takes no port."""
+    journals = new_folder(folder, "journals")
+    ledger, noted = os.path.join(folder, "ledger"), os.path.join(journals, "all.posted")
+    more = with_both(journals, ledger)
+    with serving(1, 2, 1, more=more) as (ran, port, said):
+        talk(port, in_lines([BUS, "QUIT"]))
+        yield "Monday", ended(ran, said), closed(port, 1, PAID + DONE)
+    yield "what is noted", answers(bytes_of(noted)), answers(b"7 19730 19730 1\n")
+    monday = os.path.join(folder, copied(folder, "monday"))
+    with serving(1, 2, 1, close=MONDAY + 1, more=more) as (ran, port, said):
+        talk(port, in_lines([f"TAP 1 2 7 {SEVEN + A_DAY} 50 BUS", "QUIT"]))
+        yield "Tuesday", ended(ran, said), closed(port, 1, b"PAY 7 19730 19731 2 350 175 4=175\nDONE 19731 1\n")
+    yield "what is noted then", answers(bytes_of(noted)), answers(b"7 19730 19731 2\n")
+    yield "Monday's ledger", run([*words_of(free_ports(1), 1, 2, close=MONDAY + 2), *with_both(journals, monday)]), lacks(7, 19730, 19731)
+    yield "what is noted still", answers(bytes_of(noted)), answers(b"7 19730 19731 2\n")
+    with serving(1, 2, 1, more=more) as (ran, port, said):
+        talk(port, b"QUIT\n")
+        why = "42 StaleQuote: account 7 was posted through day 19731"
+        yield "Monday once more", ended(ran, said), failed(port, 1, f"close of day 19730 refused: {why}", b"NO 42 StaleQuote\n")
+    empty = with_both(new_folder(folder, "empty"), os.path.join(folder, "other"))
+    with serving(1, 2, 1, close=50000, more=empty) as (ran, port, said):
+        talk(port, b"QUIT\n")
+        yield "a day to come", ended(ran, said), failed(port, 1, f"close of day 50000 refused: {NOT_OVER}", b"NO 49 NotOver\n")
+    with serving(1, 2, 1, close=50000, more=[*empty, "--early"]) as (ran, port, said):
+        talk(port, b"QUIT\n")
+        yield "early", ended(ran, said), closed(port, 1, b"DONE 50000 0\n")
