@@ -4,16 +4,16 @@ ghost use Rattle.pay_lanes.specs.Words.{WorkerParts, AreTogether, IsSameLane};
 ghost use Rattle.pay_shard.specs.Words.{IsForShards};
 
 use crate::given::{MONDAY, expect_same, sample_in_london};
-use crate::ledger::{empty_ledger, expect_rows};
-use crate::lines::{expect_lines, expect_run};
+use crate::ledger::{empty_ledger, expect_net, expect_rows};
+use crate::lines::{expect_closed, expect_lines, expect_run};
 use pay_book::Book;
-use pay_close::{LedgerTill, NoWatch, NotClosed, close};
+use pay_close::{NotClosed, close};
 use pay_lanes::{Gate, Lane, laws};
 use pay_ledger::Ledger;
 use pay_office::{Ended, LaneDesk, Office, shut, start};
-use pay_rules::{Posting, Postings, Quote};
+use pay_rules::{Fares, Posting, Postings, Quote};
 use pay_session::{Done, SessionFault, session};
-use pay_shard::{Answer, Asked, Batch, Command, Desk, DeskFault, Entry, Reply, Shard};
+use pay_shard::{Answer, Asked, Batch, Command, Desk, DeskFault, Entry, Journal, Reply, Shard};
 use pay_till::NoTill;
 use sqlite::MemStore;
 use std::io::BufRead;
@@ -110,13 +110,13 @@ impl Gate for Counting {
 
 /// An office of two shards, a desk over a lane, and the other lanes.
 #[derive(Drop)]
-pub struct Closer<R: Wait + Copy> {
-    office: Office<Book, Counting>,
+pub struct Closer<F: Fares, R: Wait + Copy> {
+    office: Office<F, Counting>,
     lanes: Vec<Lane>,
     desk: LaneDesk<R>,
 }
 
-impl<R: Wait + Copy> Model for Closer<R> {
+impl<F: Fares, R: Wait + Copy> Model for Closer<F, R> {
     ghost use Rattle.std.specs.Prelude.{⊤, [], ◌∷◌};
     ghost use Rattle.pay_lanes.specs.Words.{AreTogether};
 
@@ -170,11 +170,11 @@ fn gates<R: Abort + AllocGlobal>(
 }
 
 // An office and its lanes, of which the last is the desk's.
-fn closer_over<R: Wait + Abort + AllocGlobal + Copy>(
+fn closer_over<F: Fares, R: Wait + Abort + AllocGlobal + Copy>(
     rt: R,
-    office: Office<Book, Counting>,
+    office: Office<F, Counting>,
     mut lanes: Vec<Lane>,
-) -> Closer<R>
+) -> Closer<F, R>
     requires { AreTogether office lanes.items }
 {
     let lane = take_last(&rt, &mut lanes);
@@ -187,8 +187,15 @@ fn closer_over<R: Wait + Abort + AllocGlobal + Copy>(
 }
 
 /// An office of two shards, whose gates open at these counts or once they have looked so often, and so many lanes.
-pub fn begin<R>(rt: R, counts: &Counts, lanes: u8, opens_at: [u64; 2], looks: u64) -> Closer<R>
+pub fn begin<F, R>(
+    rt: R,
+    counts: &Counts,
+    lanes: u8,
+    opens_at: [u64; 2],
+    looks: u64,
+) -> Closer<F, R>
 where
+    F: Fares + Send + 'static,
     R: Threads + Wait + Abort + AllocGlobal + Copy + Send + 'static,
 {
     let gates = gates(&rt, counts, opens_at, looks);
@@ -199,7 +206,7 @@ where
     closer_over(rt, office, lanes)
 }
 
-impl<R: Threads + Wait + Abort + AllocGlobal + Copy> Closer<R> {
+impl<F: Fares, R: Threads + Wait + Abort + AllocGlobal + Copy> Closer<F, R> {
     // Answers lines over the desk and a ledger, and compares the replies.
     fn expect_lines(
         &mut self,
@@ -209,9 +216,7 @@ impl<R: Threads + Wait + Abort + AllocGlobal + Copy> Closer<R> {
         answered: u128,
         replies: &str,
     ) {
-        let mut watch = NoWatch;
-        let mut till = LedgerTill::new(rt.alloc(), ledger, &mut watch);
-        expect_lines(&rt, &mut self.desk, &mut till, lines, answered, replies);
+        expect_closed(&rt, &mut self.desk, ledger, lines, answered, replies);
     }
 
     /// Answers what a reader shows over the desk, where nothing is closed.
@@ -263,7 +268,7 @@ DONE 19730 2
 fn all_shards_are_asked_before_one_has_answered(rt: HostRuntime) {
     let counts = Counts::new(&rt);
     let mut ledger = empty_ledger(&rt);
-    let mut closer = begin(rt, &counts, 1, [2, 0], 1_000_000);
+    let mut closer: Closer<Book, HostRuntime> = begin(rt, &counts, 1, [2, 0], 1_000_000);
     closer.expect_lines(rt, &mut ledger, "CLOSE 19730\n", 1, "DONE 19730 0\n");
     closer.expect_lines(rt, &mut ledger, BOARDINGS, 3, BOARDINGS_REPLIES);
     expect_same(&rt, counts.ran_out.load(Ordering::SeqCst), 0);
@@ -362,8 +367,9 @@ where
     (lane, closes)
 }
 
-impl<R> Closer<R>
+impl<F, R> Closer<F, R>
 where
+    F: Fares,
     R: Threads + Wait + Abort + AllocGlobal + Copy + Send + 'static,
 {
     // The same, where its last lane sends.
@@ -371,7 +377,7 @@ where
         self,
         rt: R,
         ledger: &mut Ledger<MemStore>,
-    ) -> (Closer<R>, Vec<Postings>) {
+    ) -> (Closer<F, R>, Vec<Postings>) {
         laws::still_together();
         laws::same_lanes();
         laws::same_workers();
@@ -392,10 +398,30 @@ where
     }
 }
 
+// Runs a journal over a shard, and keeps what it gives to each Quotes.
+fn add_batches<F: Fares, R: Abort>(
+    rt: &R,
+    shard: &mut Shard<F>,
+    journal: &Journal,
+    batches: &mut Vec<Batch>,
+) {
+    for place in 0..journal.len() {
+        let entry = journal.get(place).expect(rt, "an item").entry;
+        shard.reserve(1).expect(rt, "memory");
+        if let Reply::Quotes(batch) = shard.apply(entry).reply {
+            batches.push(batch).expect(rt, "memory");
+        }
+    }
+}
+
 // What the run of a shard's journal gives to each Quotes in it.
-fn batches_of<R: Abort + AllocGlobal>(rt: &R, ended: &Ended<Counting>, number: u8) -> Vec<Batch> {
+fn batches_of<F: Fares, R: Abort + AllocGlobal>(
+    rt: &R,
+    ended: &Ended<Counting>,
+    number: u8,
+) -> Vec<Batch> {
     let (editions, _) = sample_in_london(rt);
-    let none: Vec<Book> = Vec::new(rt.alloc());
+    let none: Vec<F> = Vec::new(rt.alloc());
     let mut shard = Shard::new(rt.alloc(), number, editions, none)
         .ok()
         .expect(rt, "memory");
@@ -404,13 +430,7 @@ fn batches_of<R: Abort + AllocGlobal>(rt: &R, ended: &Ended<Counting>, number: u
         .get(usize::from(number))
         .expect(rt, "a journal");
     let mut batches = Vec::new(rt.alloc());
-    for place in 0..journal.len() {
-        let entry = journal.get(place).expect(rt, "an item").entry;
-        shard.reserve(1).expect(rt, "memory");
-        if let Reply::Quotes(batch) = shard.apply(entry).reply {
-            batches.push(batch).expect(rt, "memory");
-        }
-    }
+    add_batches(rt, &mut shard, journal, &mut batches);
     batches
 }
 
@@ -434,6 +454,21 @@ fn expect_both<R: Abort>(rt: &R, postings: &[Posting], seven: &Batch, eight: &Ba
     expect_posted(rt, postings.get(seven.len()), eight.first());
 }
 
+// The same of each close, by the batches at its place.
+fn expect_each<R: Abort>(rt: &R, closes: &[Postings], sevens: &[Batch], eights: &[Batch]) {
+    expect_same(
+        rt,
+        (eights.len(), sevens.len()),
+        (closes.len(), closes.len()),
+    );
+    for place in 0..closes.len() {
+        let given = closes.get(place).expect(rt, "a close");
+        let seven = sevens.get(place).expect(rt, "a batch");
+        let eight = eights.get(place).expect(rt, "a batch");
+        expect_both(rt, given.as_slice(), seven, eight);
+    }
+}
+
 // Closes while a lane sends: each posting is of the quote that its shard gives at that place of its journal, and in the end
 // each account has paid what its journeys come to.
 fn close_while_a_lane_sends<R>(rt: R)
@@ -441,23 +476,14 @@ where
     R: Threads + Wait + Abort + AllocGlobal + Copy + Send + 'static,
 {
     let mut ledger = empty_ledger(&rt);
-    let closer = begin(rt, &Counts::new(&rt), 2, [0, 0], 1);
+    let closer: Closer<Book, R> = begin(rt, &Counts::new(&rt), 2, [0, 0], 1);
     let (closer, closes) = closer.close_while_it_sends(rt, &mut ledger);
     let ended = closer.shut(rt);
-    let (eights, sevens) = (batches_of(&rt, &ended, 0), batches_of(&rt, &ended, 1));
-    expect_same(
-        &rt,
-        (eights.len(), sevens.len()),
-        (closes.len(), closes.len()),
-    );
-    for place in 0..closes.len() {
-        let given = closes.get(place).expect(&rt, "a close");
-        let seven = sevens.get(place).expect(&rt, "a batch");
-        let eight = eights.get(place).expect(&rt, "a batch");
-        expect_both(&rt, given.as_slice(), seven, eight);
-    }
-    expect_same(&rt, ledger.net(7, MONDAY), Ok(890));
-    expect_same(&rt, ledger.net(8, MONDAY), Ok(890));
+    let eights = batches_of::<Book, R>(&rt, &ended, 0);
+    let sevens = batches_of::<Book, R>(&rt, &ended, 1);
+    expect_each(&rt, &closes, &sevens, &eights);
+    expect_net(&rt, &mut ledger, 7, Ok(890));
+    expect_net(&rt, &mut ledger, 8, Ok(890));
 }
 
 #[test]
@@ -536,7 +562,7 @@ fn put_dues<D: Desk, R: Abort>(rt: &R, desk: &mut D, count: u32)
     }
 }
 
-impl<R: Threads + Wait + Abort + AllocGlobal + Copy> Closer<R> {
+impl<F: Fares, R: Threads + Wait + Abort + AllocGlobal + Copy> Closer<F, R> {
     // Asks from the lane at a place so often what account 7 owes.
     fn ask_dues(&mut self, rt: R, place: usize, count: u32) {
         for _ in 0..count {
@@ -583,7 +609,7 @@ fn a_busy_shard_refuses_a_close(rt: HostRuntime) {
     let counts = Counts::new(&rt);
     let mut ledger = empty_ledger(&rt);
     expect_run(&rt, &mut ledger, PAID, 2, PAID_REPLIES);
-    let mut closer = begin(rt, &counts, 6, [0, 1_000], u64::MAX);
+    let mut closer: Closer<Book, HostRuntime> = begin(rt, &counts, 6, [0, 1_000], u64::MAX);
     closer.fill(rt, &counts);
     closer.expect_lines(
         rt,

@@ -189,6 +189,16 @@ pub fn expect_restored<R: Abort + AllocGlobal, S: Alter + Drop>(
     expect_same(rt, list.as_slice(), wanted);
 }
 
+/// Compares what the postings of an account for the week of the Monday come to.
+pub fn expect_net<R: Abort, S: Alter>(
+    rt: &R,
+    ledger: &mut Ledger<S>,
+    account: u32,
+    wanted: Result<i64, LedgerFault>,
+) {
+    expect_same(rt, ledger.net(account, MONDAY), wanted);
+}
+
 /// Compares the postings of account 7 for the week of the Monday, and what they come to.
 fn expect_week<R: Abort + AllocGlobal>(
     rt: &R,
@@ -199,7 +209,7 @@ fn expect_week<R: Abort + AllocGlobal>(
     let postings = ledger.postings(7, MONDAY).expect(rt, "postings");
     let list = told_all(rt, postings.as_slice());
     expect_same(rt, list.as_slice(), wanted);
-    expect_same(rt, ledger.net(7, MONDAY), Ok(net));
+    expect_net(rt, ledger, 7, Ok(net));
 }
 
 // A journey without its end costs the maximum, 860, and from station 10 to 12 it costs 340: 520 less. Both are operator 1's.
@@ -269,6 +279,15 @@ fn expect_refused<R: Abort + AllocGlobal>(
     expect_rows(rt, ledger, JOURNEY)
 }
 
+/// All that account 7 has accepted where it came in at another station.
+fn elsewhere<R: Abort + AllocGlobal>(rt: &R, editions: &Editions) -> Sets {
+    let mut account: Account = Fares::new(rt.alloc(), 7);
+    let entry = tap_at(rt, 1, 25_200, 11, Kind::In);
+    expect_price(rt, &mut account, editions, entry, 860);
+    let (_, sets) = owed(rt, &account, editions);
+    sets
+}
+
 // An earlier version; the version that was posted, with another due; and another tap of the number of an archived one, beside
 // a quote that could be posted.
 #[test]
@@ -281,10 +300,7 @@ fn refuses_and_stays(rt: HostRuntime) {
     let ledger = expect_refused(&rt, ledger, (&other, &[]), PostFault::QuoteDiffers);
     let half = [quoted(&rt, 8, 1, 175), quoted(&rt, 7, 1, 860)];
     let ledger = expect_refused(&rt, ledger, (&half, &[]), STALE);
-    let mut account: Account = Fares::new(rt.alloc(), 7);
-    let elsewhere = tap_at(&rt, 1, 25_200, 11, Kind::In);
-    expect_price(&rt, &mut account, &editions, elsewhere, 860);
-    let (_, sets) = owed(&rt, &account, &editions);
+    let sets = elsewhere(&rt, &editions);
     let _ = expect_refused(
         &rt,
         ledger,
@@ -422,6 +438,23 @@ enum Limited {
     Posted,
 }
 
+/// Posts a batch under that limit, or else where memory may be refused.
+fn posted_or_not<R: Abort + AllocGlobal>(
+    rt: &R,
+    ledger: &mut Ledger<MemStore>,
+    limit: Option<u64>,
+    batch: (&[Quote], &[Sets]),
+) -> Limited {
+    match ledger.post(batch.0, batch.1) {
+        Err(fault) => {
+            let (is_store, is_memory) = (fault == LedgerFault::Store, fault == NO_MEMORY);
+            expect_by_store(rt, is_store, is_memory, limit.is_none());
+            Limited::Refused
+        }
+        Ok(_) => Limited::Posted,
+    }
+}
+
 /// Opens the ledger under a limit on steps, or else where memory may be refused, and posts a batch. Then it is opened without.
 fn post_within<R: Abort + AllocGlobal>(
     rt: &R,
@@ -439,14 +472,7 @@ fn post_within<R: Abort + AllocGlobal>(
             (conn, Limited::Closed)
         }
         Ok(mut ledger) => {
-            let outcome = match ledger.post(batch.0, batch.1) {
-                Err(fault) => {
-                    let (is_store, is_memory) = (fault == LedgerFault::Store, fault == NO_MEMORY);
-                    expect_by_store(rt, is_store, is_memory, limit.is_none());
-                    Limited::Refused
-                }
-                Ok(_) => Limited::Posted,
-            };
+            let outcome = posted_or_not(rt, &mut ledger, limit, batch);
             (ledger.into_connection(), outcome)
         }
     };

@@ -3,18 +3,17 @@
 ghost use Rattle.std.specs.Prelude.{◌≡◌};
 
 use crate::accounts::expect_price;
-use crate::given::{
-    MAY_BE_REFUSED, MAY_NOT_BE, MONDAY, WAS_REFUSED, expect_same, sample, tap_at, tell,
-};
+use crate::given::{MAY_BE_REFUSED, MAY_NOT_BE, WAS_REFUSED, expect_same, sample, tap_at, tell};
 use crate::ledger::{
-    JOURNEY, NO_MEMORY, empty_ledger, expect_by_store, expect_posted, expect_restored, expect_rows,
-    opened, owed,
+    JOURNEY, NO_MEMORY, empty_ledger, expect_by_store, expect_net, expect_posted, expect_restored,
+    expect_rows, opened, owed,
 };
 use crate::lines::expect_run;
 use pay_account::Account;
 use pay_ledger::{Ledger, LedgerFault, OpenFault};
 use pay_ledger_files::Ledgers;
 use pay_rules::{Fares, Kind, PostFault};
+use pay_tables::Editions;
 use sqlite::{Alter, Connection, Error, MemStore, Wary};
 use std::fs;
 use std::process::Abort;
@@ -52,6 +51,32 @@ fn changed<R: Abort + AllocGlobal>(rt: &R, sql: &str) -> Connection<MemStore> {
     conn
 }
 
+/// Commands that leave no ledger, with why it is none, and the sum of the versions.
+static CLOSED: [(&str, OpenFault, i64); 8] = [
+    ("UPDATE meta SET version = 3", OpenFault::Version, 3),
+    // Version 1 has none of the tables of version 2.
+    ("UPDATE meta SET version = 1", OpenFault::NotALedger, 1),
+    ("UPDATE meta SET name = 'Farebox'", OpenFault::NotALedger, 2),
+    (
+        "INSERT INTO meta VALUES ('other', 2)",
+        OpenFault::NotALedger,
+        4,
+    ),
+    ("DELETE FROM meta", OpenFault::NotALedger, 0),
+    ("DROP TABLE fixes", OpenFault::NotALedger, 2),
+    (
+        "DROP TABLE shares2; CREATE VIEW shares2 AS SELECT id AS posting, 1 AS operator, amount FROM postings2",
+        OpenFault::NotALedger,
+        2,
+    ),
+    // A column is missing.
+    (
+        "DROP TABLE fixes; CREATE TABLE fixes (account INTEGER NOT NULL, staff INTEGER NOT NULL) STRICT",
+        OpenFault::NotALedger,
+        2,
+    ),
+];
+
 #[test]
 fn opens_ledgers_alone(rt: HostRuntime) {
     let mut conn = Connection::open_in_memory(rt.alloc()).expect(&rt, "a database");
@@ -59,36 +84,21 @@ fn opens_ledgers_alone(rt: HostRuntime) {
         "CREATE TABLE meta (name TEXT NOT NULL PRIMARY KEY, version INTEGER NOT NULL) STRICT; INSERT INTO meta VALUES ('farebox', 1)";
     run(&mut conn, meta).expect(&rt, "a table");
     expect_closed(&rt, conn, OpenFault::NotALedger, 1);
-    for (sql, fault, versions) in [
-        ("UPDATE meta SET version = 3", OpenFault::Version, 3),
-        // Version 1 has none of the tables of version 2.
-        ("UPDATE meta SET version = 1", OpenFault::NotALedger, 1),
-        ("UPDATE meta SET name = 'Farebox'", OpenFault::NotALedger, 2),
-        (
-            "INSERT INTO meta VALUES ('other', 2)",
-            OpenFault::NotALedger,
-            4,
-        ),
-        ("DELETE FROM meta", OpenFault::NotALedger, 0),
-        ("DROP TABLE fixes", OpenFault::NotALedger, 2),
-        (
-            "DROP TABLE shares2; CREATE VIEW shares2 AS SELECT id AS posting, 1 AS operator, amount FROM postings2",
-            OpenFault::NotALedger,
-            2,
-        ),
-        // A column is missing.
-        (
-            "DROP TABLE fixes; CREATE TABLE fixes (account INTEGER NOT NULL, staff INTEGER NOT NULL) STRICT",
-            OpenFault::NotALedger,
-            2,
-        ),
-    ] {
-        expect_closed(&rt, changed(&rt, sql), fault, versions);
+    for (sql, fault, versions) in &CLOSED {
+        expect_closed(&rt, changed(&rt, sql), *fault, *versions);
     }
 }
 
 /// The rows of an empty ledger.
 const EMPTY: &str = "meta farebox 2\n";
+
+/// No table was made, and it is opened without a limit.
+fn expect_not_made<R: Abort + AllocGlobal>(rt: &R, mut conn: Connection<MemStore>) {
+    conn.set_step_limit(None);
+    let tables = number(&mut conn, "SELECT count(*) FROM sqlite_schema");
+    expect_same(rt, tables, Ok(1));
+    let _ = expect_rows(rt, opened(rt, conn), EMPTY);
+}
 
 /// Opens a database with a table of another kind under a limit on steps, or else where memory may be refused. Where that is refused no
 /// table is made, and it is opened then.
@@ -100,13 +110,10 @@ fn expect_made<R: Abort + AllocGlobal>(rt: &R, limit: Option<u64>) {
     tell(rt, MAY_BE_REFUSED);
     let made = Ledger::open(rt.alloc(), conn);
     tell(rt, MAY_NOT_BE);
-    if let Err((fault, mut conn)) = made {
+    if let Err((fault, conn)) = made {
         let (is_store, is_memory) = (fault == OpenFault::Store, fault == OpenFault::Memory);
         expect_by_store(rt, is_store, is_memory, limit.is_none());
-        conn.set_step_limit(None);
-        let tables = number(&mut conn, "SELECT count(*) FROM sqlite_schema");
-        expect_same(rt, tables, Ok(1));
-        let _ = expect_rows(rt, opened(rt, conn), EMPTY);
+        expect_not_made(rt, conn);
     }
 }
 
@@ -134,21 +141,25 @@ fn expect_not_posted<R: Abort + AllocGlobal>(rt: &R, ledger: &mut Ledger<MemStor
 
 const BAD: LedgerFault = LedgerFault::Refused(PostFault::BadArchive);
 
+/// Why no accounts are restored.
+fn not_restored<S: Alter>(ledger: &mut Ledger<S>, editions: &Editions) -> Option<LedgerFault> {
+    let accounts: Result<Vec<Account>, LedgerFault> = ledger.restore(editions);
+    accounts.err()
+}
+
 /// Nothing is restored from a ledger with such a row, at the second time where memory is refused at the first. No account accepts the row,
 /// so all that grows of our own is the list that is read, and only want of memory for that is told.
 fn expect_not_restored<R: Abort + AllocGlobal>(rt: &R, sql: &str) {
     let mut ledger = opened(rt, changed(rt, sql));
     let editions = sample(rt);
     tell(rt, MAY_BE_REFUSED);
-    let first: Result<Vec<Account>, LedgerFault> = ledger.restore(&editions);
+    let mut fault = not_restored(&mut ledger, &editions);
     tell(rt, MAY_NOT_BE);
-    let mut fault = first.err();
     if fault == Some(NO_MEMORY) {
         tell(rt, WAS_REFUSED);
     }
     if fault == Some(NO_MEMORY) || fault == Some(LedgerFault::Store) {
-        let second: Result<Vec<Account>, LedgerFault> = ledger.restore(&editions);
-        fault = second.err();
+        fault = not_restored(&mut ledger, &editions);
     }
     expect_same(rt, fault, Some(BAD));
 }
@@ -218,6 +229,12 @@ share 1 1 860
 tap 7 1 1 1704697200 19730 25200 10 0
 ";
 
+fn stands_beside_a_key<R: Abort + AllocGlobal>(rt: &R) {
+    let mut ledger = opened(rt, changed(rt, ONE_POSTING));
+    expect_run(rt, &mut ledger, LINES, 4, REFUSED);
+    let _ = expect_rows(rt, ledger, ENTERED);
+}
+
 #[test]
 fn stands_beside_others(rt: HostRuntime) {
     let mut conn = Connection::open_in_memory(rt.alloc()).expect(&rt, "a database");
@@ -230,9 +247,7 @@ fn stands_beside_others(rt: HostRuntime) {
     let notes = number(&mut conn, "SELECT count(*) FROM notes");
     let marks = number(&mut conn, "SELECT count(*) FROM marks");
     expect_same(&rt, (notes, marks), (Ok(1), Ok(1)));
-    let mut ledger = opened(&rt, changed(&rt, ONE_POSTING));
-    expect_run(&rt, &mut ledger, LINES, 4, REFUSED);
-    let _ = expect_rows(&rt, ledger, ENTERED);
+    stands_beside_a_key(&rt);
 }
 
 /// The file, in the folder that the test is run in. It is made anew and stays there, for `tests/ledger` to read.
@@ -246,19 +261,46 @@ const LINES: &str =
 const REPLIES: &str =
     "OK 19730 860 860\nPAY 7 19730 19730 1 860 860 1=860\nDONE 19730 1\nOK 19730 340 340\nPAY 7 19730 19730 2 340 -520 1=-520\nDONE 19730 1\n";
 
+/// Answers the lines over an empty ledger, and gives its database back.
+fn written<R: Abort + AllocGlobal, S: Alter + Drop>(rt: &R, conn: Connection<S>) -> Connection<S> {
+    let mut ledger = expect_rows(rt, opened(rt, conn), EMPTY);
+    expect_run(rt, &mut ledger, LINES, 4, REPLIES);
+    ledger.into_connection()
+}
+
+/// The journey is there again, and so is its account.
+fn read_again<R: Abort + AllocGlobal, S: Alter + Drop>(
+    rt: &R,
+    conn: Connection<S>,
+) -> Connection<S> {
+    let mut ledger = expect_rows(rt, opened(rt, conn), JOURNEY);
+    expect_restored(rt, &mut ledger, &sample(rt), &[(7, 2, 340)]);
+    ledger.into_connection()
+}
+
+/// Writes it where it is new, or else reads it.
+fn kept<R: Abort + AllocGlobal, S: Alter + Drop>(
+    rt: &R,
+    conn: Result<Connection<S>, Error>,
+    is_new: bool,
+) -> Connection<S> {
+    let conn = conn.expect(rt, "a file");
+    if is_new {
+        written(rt, conn)
+    } else {
+        read_again(rt, conn)
+    }
+}
+
+// Each call with a database in a file costs some seconds to be proved, so all but its opening and its close is generic in the store.
 #[test]
 fn stays_in_a_file(rt: HostRuntime) {
     let _ = fs::remove_file(&rt, PATH);
-    let conn = Connection::open(&rt, PATH).expect(&rt, "a file");
-    let mut ledger = expect_rows(&rt, opened(&rt, conn), EMPTY);
-    expect_run(&rt, &mut ledger, LINES, 4, REPLIES);
-    let closed = ledger.into_connection().close();
-    closed.expect(&rt, "a file that is closed");
-    let again = Connection::open(&rt, PATH).expect(&rt, "the file again");
-    let mut ledger = expect_rows(&rt, opened(&rt, again), JOURNEY);
-    expect_restored(&rt, &mut ledger, &sample(&rt), &[(7, 2, 340)]);
-    let closed = ledger.into_connection().close();
-    closed.expect(&rt, "the file once more");
+    for time in 0..2 {
+        let conn = Connection::open(&rt, PATH);
+        let closed = kept(&rt, conn, time == 0).close();
+        closed.expect(&rt, "a file that is closed");
+    }
 }
 
 /// Another file there, which is made anew.
@@ -267,26 +309,49 @@ const OTHER: &str = "other.db";
 /// Its log.
 const OTHER_LOG: &str = "other.db-wal";
 
+/// A new ledger, which the lines were answered over.
+fn begun<R: Abort + AllocGlobal, S: Alter + Drop>(
+    rt: &R,
+    made: Result<Ledger<S>, OpenFault>,
+) -> Ledger<S> {
+    let mut ledger = made.expect(rt, "a new file");
+    expect_net(rt, &mut ledger, 7, Ok(0));
+    expect_run(rt, &mut ledger, LINES, 4, REPLIES);
+    ledger
+}
+
+/// The journey is there, and the database is given back.
+fn found<R: Abort + AllocGlobal, S: Alter + Drop>(
+    rt: &R,
+    again: Result<Ledger<S>, OpenFault>,
+) -> Connection<S> {
+    let mut ledger = again.expect(rt, "the file again");
+    expect_net(rt, &mut ledger, 7, Ok(340));
+    expect_rows(rt, ledger, JOURNEY).into_connection()
+}
+
+/// There is no ledger at a path.
+fn expect_none<R: Abort + Ledgers>(rt: &R, path: &str, fault: OpenFault) {
+    expect_same(rt, rt.ledger(path, Wary).err(), Some(fault));
+}
+
+/// The file is opened again, with the journey.
+fn expect_found<R: Abort + AllocGlobal + Ledgers>(rt: &R) {
+    let closed = found(rt, rt.ledger(OTHER, Wary)).close();
+    closed.expect(rt, "the file once more");
+}
+
 // It is in use by the first, then dropped with all that was posted still in its log, and at last no database.
 #[test]
 fn opens_a_file_by_its_path(rt: HostRuntime) {
     let _ = fs::remove_file(&rt, OTHER);
     let _ = fs::remove_file(&rt, OTHER_LOG);
-    let mut ledger = rt.ledger(OTHER, Wary).expect(&rt, "a new file");
-    expect_same(&rt, ledger.net(7, MONDAY), Ok(0));
-    expect_run(&rt, &mut ledger, LINES, 4, REPLIES);
-    expect_same(&rt, rt.ledger(OTHER, Wary).err(), Some(OpenFault::Store));
+    let ledger = begun(&rt, rt.ledger(OTHER, Wary));
+    expect_none(&rt, OTHER, OpenFault::Store);
     drop(ledger);
-    let mut again = rt.ledger(OTHER, Wary).expect(&rt, "the file again");
-    expect_same(&rt, again.net(7, MONDAY), Ok(340));
-    let closed = expect_rows(&rt, again, JOURNEY).into_connection().close();
-    closed.expect(&rt, "the file once more");
+    expect_found(&rt);
     let no_database = fs::write(&rt, OTHER, b"no database".as_slice());
     no_database.expect(&rt, "a file of text");
-    expect_same(
-        &rt,
-        rt.ledger(OTHER, Wary).err(),
-        Some(OpenFault::NotALedger),
-    );
-    expect_same(&rt, rt.ledger(".", Wary).err(), Some(OpenFault::Store));
+    expect_none(&rt, OTHER, OpenFault::NotALedger);
+    expect_none(&rt, ".", OpenFault::Store);
 }

@@ -6,6 +6,7 @@ use crate::given::{expect_same, sample_in_london};
 use pay_book::Book;
 use pay_close::{LedgerTill, NoWatch};
 use pay_ledger::Ledger;
+use pay_rules::Fares;
 use pay_session::{Done, session};
 use pay_shard::{Desk, LocalDesk};
 use pay_till::Till;
@@ -36,6 +37,30 @@ pub fn expect_lines<R: Abort + AllocGlobal, D: Desk, T: Till>(
     expect_same(rt, writer.as_slice(), replies.as_bytes());
 }
 
+/// The same over a ledger, by a till that closes into it.
+pub fn expect_closed<R: Abort + AllocGlobal, D: Desk, S: Alter>(
+    rt: &R,
+    desk: &mut D,
+    ledger: &mut Ledger<S>,
+    lines: &str,
+    answered: u128,
+    replies: &str,
+)
+    ensures { (D.parts desk.new).standing ≡ (D.parts desk.old).standing }
+{
+    let mut watch = NoWatch;
+    let mut till = LedgerTill::new(rt.alloc(), ledger, &mut watch);
+    expect_lines(rt, desk, &mut till, lines, answered, replies);
+}
+
+/// A desk over one shard without accounts.
+fn empty_desk<F: Fares, R: Abort + AllocGlobal>(rt: &R) -> LocalDesk<F> {
+    let (editions, _) = sample_in_london(rt);
+    LocalDesk::new(rt.alloc(), editions, Vec::new(rt.alloc()))
+        .ok()
+        .expect(rt, "a desk")
+}
+
 /// Answers lines over one shard without accounts and a ledger, and compares the replies.
 pub fn expect_run<R: Abort + AllocGlobal, S: Alter>(
     rt: &R,
@@ -44,11 +69,6 @@ pub fn expect_run<R: Abort + AllocGlobal, S: Alter>(
     answered: u128,
     replies: &str,
 ) {
-    let (editions, _) = sample_in_london(rt);
-    let mut desk: LocalDesk<Book> = LocalDesk::new(rt.alloc(), editions, Vec::new(rt.alloc()))
-        .ok()
-        .expect(rt, "a desk");
-    let mut watch = NoWatch;
-    let mut till = LedgerTill::new(rt.alloc(), ledger, &mut watch);
-    expect_lines(rt, &mut desk, &mut till, lines, answered, replies);
+    let mut desk: LocalDesk<Book> = empty_desk(rt);
+    expect_closed(rt, &mut desk, ledger, lines, answered, replies);
 }

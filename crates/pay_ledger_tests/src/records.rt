@@ -146,6 +146,36 @@ fn add_sets(tx: &mut Transaction<'_, MemStore>) -> Result<(), Error> {
     Ok(())
 }
 
+/// What SQL shows of them, a number each.
+static SHOWN: [(&str, i64); 8] = [
+    ("SELECT version FROM meta WHERE name = 'farebox'", 2),
+    ("SELECT edition FROM postings2 WHERE id = 3", 4),
+    (
+        "SELECT sum(amount) FROM postings2 WHERE account = 7 AND week = 19730",
+        340,
+    ),
+    (
+        "SELECT due FROM postings2 WHERE id = 3 AND through = 19732 AND version = 2",
+        340,
+    ),
+    ("SELECT sum(amount) FROM shares2 WHERE operator = 3", 515),
+    ("SELECT amount FROM shares2 WHERE posting = 3", -520),
+    (
+        "SELECT place FROM taps WHERE account = 7 AND reader = 1 AND seq = 2 AND utc = 1704697200 AND day = 19730 AND second = 25200 AND kind = 0",
+        10,
+    ),
+    (
+        "SELECT d FROM fixes WHERE account = 7 AND staff = 3 AND seq = 4 AND what = 1 AND a = 1704699000 AND b = 19730 AND c = 27000 AND e = 1",
+        12,
+    ),
+];
+
+fn expect_numbers<R: Abort>(rt: &R, conn: &mut Connection<MemStore>) {
+    for (sql, wanted) in &SHOWN {
+        expect_number(rt, conn, sql, *wanted);
+    }
+}
+
 #[test]
 fn rows_of_a_ledger(rt: HostRuntime) {
     let mut conn = Connection::open_in_memory(rt.alloc()).expect(&rt, "a database");
@@ -153,30 +183,7 @@ fn rows_of_a_ledger(rt: HostRuntime) {
     let numbers = written(&mut tx).expect(&rt, "rows");
     expect_same(&rt, numbers, (1, 2, 3));
     tx.commit().expect(&rt, "a commit");
-    for (sql, wanted) in [
-        ("SELECT version FROM meta WHERE name = 'farebox'", 2),
-        ("SELECT edition FROM postings2 WHERE id = 3", 4),
-        (
-            "SELECT sum(amount) FROM postings2 WHERE account = 7 AND week = 19730",
-            340,
-        ),
-        (
-            "SELECT due FROM postings2 WHERE id = 3 AND through = 19732 AND version = 2",
-            340,
-        ),
-        ("SELECT sum(amount) FROM shares2 WHERE operator = 3", 515),
-        ("SELECT amount FROM shares2 WHERE posting = 3", -520),
-        (
-            "SELECT place FROM taps WHERE account = 7 AND reader = 1 AND seq = 2 AND utc = 1704697200 AND day = 19730 AND second = 25200 AND kind = 0",
-            10,
-        ),
-        (
-            "SELECT d FROM fixes WHERE account = 7 AND staff = 3 AND seq = 4 AND what = 1 AND a = 1704699000 AND b = 19730 AND c = 27000 AND e = 1",
-            12,
-        ),
-    ] {
-        expect_number(&rt, &mut conn, sql, wanted);
-    }
+    expect_numbers(&rt, &mut conn);
 }
 
 /// What is read of the tables by the rows of account 7, and of all.

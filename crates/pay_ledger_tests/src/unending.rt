@@ -1,7 +1,8 @@
 //! A session over a lane whose reader never ends.
 
-use crate::closing::{Counts, begin};
+use crate::closing::{Closer, Counts, begin};
 use crate::given::expect_same;
+use pay_book::Book;
 use pay_session::SessionFault;
 use std::io;
 use std::io::{BufRead, Read};
@@ -41,7 +42,7 @@ impl BufRead for Unending<'_> {
 // The line before is answered by its shard.
 #[test]
 fn gives_up_over_a_lane(rt: HostRuntime) {
-    let mut closer = begin(rt, &Counts::new(&rt), 1, [0, 0], 1);
+    let mut closer: Closer<Book, HostRuntime> = begin(rt, &Counts::new(&rt), 1, [0, 0], 1);
     let mut reader = Unending {
         line: b"TAP 1 1 7 1704697200 50 BUS\n",
         fills: 0,

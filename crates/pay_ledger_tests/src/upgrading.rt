@@ -3,8 +3,8 @@
 ghost use Rattle.std.specs.Prelude.{◌≡◌};
 
 use crate::accounts::{expect_credited, expect_price};
-use crate::given::{MAY_BE_REFUSED, MAY_NOT_BE, MONDAY, expect_same, sample, tap_at, tell};
-use crate::ledger::{Told, expect_by_store, expect_posted, expect_rows, opened, owed};
+use crate::given::{MAY_BE_REFUSED, MAY_NOT_BE, expect_same, sample, tap_at, tell};
+use crate::ledger::{Told, expect_by_store, expect_net, expect_posted, expect_rows, opened, owed};
 use pay_account::Account;
 use pay_ledger::{Ledger, OpenFault};
 use pay_rules::{Fares, Kind};
@@ -88,7 +88,7 @@ fn copies_what_was_posted(rt: HostRuntime) {
     conn.execute_batch("DELETE FROM shares; DELETE FROM postings")
         .expect(&rt, "their rows are taken out");
     let mut ledger = expect_rows(&rt, opened(&rt, conn), COPIED);
-    expect_same(&rt, ledger.net(7, MONDAY), Ok(340));
+    expect_net(&rt, &mut ledger, 7, Ok(340));
 }
 
 // The kept posting is of edition 0, and the quote of 4.
@@ -104,7 +104,19 @@ fn posts_after_what_was_copied(rt: HostRuntime) {
     let (quote, sets) = owed(&rt, &account, &editions);
     expect_posted(&rt, &mut ledger, (&[quote], &[sets]), Ok(&[OF_CREDIT]));
     let mut ledger = expect_rows(&rt, ledger, CREDITED);
-    expect_same(&rt, ledger.net(7, MONDAY), Ok(300));
+    expect_net(&rt, &mut ledger, 7, Ok(300));
+}
+
+/// It is one of version 1, and is copied without a limit.
+fn expect_first<R: Abort + AllocGlobal>(rt: &R, mut conn: Connection<MemStore>) {
+    conn.set_step_limit(None);
+    let version = number(&mut conn, "SELECT version FROM meta");
+    let new = number(
+        &mut conn,
+        "SELECT count(*) FROM sqlite_schema WHERE name IN ('postings2', 'shares2')",
+    );
+    expect_same(rt, (version, new), (Ok(1), Ok(0)));
+    let _ = expect_rows(rt, opened(rt, conn), COPIED);
 }
 
 /// Opens a ledger of version 1 under a limit on steps, or else where memory may be refused, and says whether it was. Where it was refused,
@@ -123,17 +135,10 @@ fn expect_copied<R: Abort + AllocGlobal>(rt: &R, limit: Option<u64>) -> bool {
             let _ = expect_rows(rt, opened(rt, conn), COPIED);
             true
         }
-        Err((fault, mut conn)) => {
+        Err((fault, conn)) => {
             let (is_store, is_memory) = (fault == OpenFault::Store, fault == OpenFault::Memory);
             expect_by_store(rt, is_store, is_memory, limit.is_none());
-            conn.set_step_limit(None);
-            let version = number(&mut conn, "SELECT version FROM meta");
-            let new = number(
-                &mut conn,
-                "SELECT count(*) FROM sqlite_schema WHERE name IN ('postings2', 'shares2')",
-            );
-            expect_same(rt, (version, new), (Ok(1), Ok(0)));
-            let _ = expect_rows(rt, opened(rt, conn), COPIED);
+            expect_first(rt, conn);
             false
         }
     }

@@ -1,5 +1,5 @@
 use Rattle.std.specs.List.{IsDistinct}
-use Rattle.pay_ledger_tests.proofs.lines.expect_run.Goals as goal
+use Rattle.pay_ledger_tests.proofs.lines.empty_desk.Goals as goal
 
 -- no account has the number of another
 pub new-requires-2-clause-distinct : goal.new-requires-2-clause-distinct
