@@ -37,3 +37,11 @@ last_alone office ls rest l same together is alike = record {
       let parts : IsLaneOf office l × All (IsLaneOf office) rest = of_last (IsLaneOf office) rest l (subst (All (IsLaneOf office)) is together.lanes_of_them) in
       subst (λ x. All (IsLaneOf office) (x ∷ [])) (sym alike) (All-cons (IsLaneOf office) l [] parts.0 (no_lane (IsLaneOf office)));
 }
+
+-- the lanes of an office, without the last
+pub but_the_last : (office : List WorkerParts) (ls rest : List LaneParts) (l : LaneParts) → AreTogether office ls → ls ≡ rest ++ l ∷ [] → AreTogether office rest
+but_the_last office ls rest l together is = record {
+  few = together.few;
+  workers_of = together.workers_of;
+  lanes_of_them = (of_last (IsLaneOf office) rest l (subst (All (IsLaneOf office)) is together.lanes_of_them)).1;
+}

@@ -4,11 +4,12 @@ ghost use Rattle.pay_rules.specs.InTurn.{IsIn};
 ghost use Rattle.pay_shard.specs.Words.{IsForShards, IsNoneOf, with_waiting, without};
 
 use crate::gates::{Counting, Counts, gates};
-use crate::given::{bus_tap, expect_same};
-use crate::offices::{Begun, begin};
+use crate::given::{add_last, bus_tap, expect_same, take_last};
+use crate::offices::{Begun, begin, expect_items};
 use pay_book::Book;
 use pay_lanes::{Lane, laws};
-use pay_office::{Ended, LaneDesk, Office, shut};
+use pay_office::{Ended, LaneDesk, Office};
+use pay_rules::Fares;
 use pay_shard::{Command, Desk, DeskFault, Reply, Ticket};
 use std::marker::Model;
 use std::process::Abort;
@@ -103,12 +104,12 @@ fn fill<D: Desk, R: Abort>(rt: &R, desk: &mut D) -> (DeskFault, Option<u64>, u64
 
 // An office of one lane, and a desk over it.
 #[derive(Drop)]
-struct Desked<R: Wait + Copy> {
-    office: Office<Book, Counting>,
+struct Desked<F: Fares, R: Wait + Copy> {
+    office: Office<F, Counting>,
     desk: LaneDesk<R>,
 }
 
-impl<R: Wait + Copy> Model for Desked<R> {
+impl<F: Fares, R: Wait + Copy> Model for Desked<F, R> {
     ghost use Rattle.std.specs.Prelude.{⊤, [], ◌∷◌};
     ghost use Rattle.pay_lanes.specs.Words.{AreTogether};
 
@@ -128,21 +129,22 @@ fn desk_over<R: Wait + Abort + AllocGlobal + Copy>(rt: R, lane: Lane) -> LaneDes
 }
 
 // An office of a shard for each gate, and a desk over its one lane.
-fn begin_desk<R>(rt: R, gates: Vec<Counting>) -> Desked<R>
+fn begin_desk<F, R>(rt: R, gates: Vec<Counting>) -> Desked<F, R>
 where
+    F: Fares + Send + 'static,
     R: Threads + Wait + Abort + AllocGlobal + Copy + Send + 'static,
 {
     let Begun { office, mut lanes } = begin(rt, 1, gates);
-    let lane = lanes.pop().expect(&rt, "a lane");
+    let lane = take_last(&rt, &mut lanes);
     Desked {
         office,
         desk: desk_over(rt, lane),
     }
 }
 
-impl<R: Threads + Wait + Abort + AllocGlobal + Copy> Desked<R> {
+impl<F: Fares, R: Threads + Wait + Abort + AllocGlobal + Copy> Desked<F, R> {
     // With a new desk over the same lane.
-    fn anew(self, rt: R) -> Desked<R> {
+    fn anew(self, rt: R) -> Desked<F, R> {
         laws::still_together();
         laws::same_workers();
         let Desked { office, desk } = self;
@@ -152,21 +154,27 @@ impl<R: Threads + Wait + Abort + AllocGlobal + Copy> Desked<R> {
         }
     }
 
-    fn ask_both(&mut self, rt: R, first: Command, second: Command) -> (Option<u64>, Option<u64>)
-        requires first { (shards : ℕ) → IsForShards shards first }
-        requires second { (shards : ℕ) → IsForShards shards second }
-    {
-        ask_both(&rt, &mut self.desk, first, second)
+    // Puts a tap of account 7 and one of account 8 at these seconds, and compares the pence of their replies.
+    fn expect_both(&mut self, rt: R, seven: u32, eight: u32, wanted: (Option<u64>, Option<u64>)) {
+        let (seven, eight) = (bus_tap(&rt, 7, 1, seven), bus_tap(&rt, 8, 1, eight));
+        expect_same(&rt, ask_both(&rt, &mut self.desk, seven, eight), wanted);
     }
 
-    fn ask(&mut self, rt: R, command: Command) -> (u64, Result<Option<u64>, DeskFault>)
-        requires { (shards : ℕ) → IsForShards shards command }
-    {
-        ask(&rt, &mut self.desk, command)
+    // Puts a tap of an account at a second, and compares its ticket and the pence of the reply.
+    fn expect_one(
+        &mut self,
+        rt: R,
+        account: u32,
+        second: u32,
+        wanted: (u64, Result<Option<u64>, DeskFault>),
+    ) {
+        let command = bus_tap(&rt, account, 1, second);
+        expect_same(&rt, ask(&rt, &mut self.desk, command), wanted);
     }
 
-    fn fill(&mut self, rt: R) -> (DeskFault, Option<u64>, u64) {
-        fill(&rt, &mut self.desk)
+    // Puts as many taps as may wait, and compares what is refused and answered.
+    fn expect_full(&mut self, rt: R, wanted: (DeskFault, Option<u64>, u64)) {
+        expect_same(&rt, fill(&rt, &mut self.desk), wanted);
     }
 
     // Shuts the office.
@@ -175,49 +183,31 @@ impl<R: Threads + Wait + Abort + AllocGlobal + Copy> Desked<R> {
         laws::same_workers();
         let Desked { office, desk } = self;
         let mut lanes = Vec::new(rt.alloc());
-        lanes.push(desk.into_lane()).expect(&rt, "memory");
-        shut(&rt, office, lanes).ok().expect(&rt, "all lanes")
+        add_last(&rt, &mut lanes, desk.into_lane());
+        let begun = Begun { office, lanes };
+        begun.shut(&rt)
     }
-}
-
-// How many items the journal of a shard has.
-fn journal_len<R: Abort>(rt: &R, ended: &Ended<Counting>, shard: usize) -> usize {
-    ended.journals.get(shard).expect(rt, "a journal").len()
 }
 
 // Two hours after a boarding that paid another pays; half an hour after it, it is free.
 #[test]
 fn a_desk_answers(rt: HostRuntime) {
     let counts = Counts::new(&rt);
-    let mut desked = begin_desk(rt, gates(&rt, &counts, &[0, 0], None));
-    let (seven, eight) = (bus_tap(&rt, 7, 1, 0), bus_tap(&rt, 8, 1, 0));
-    expect_same(
-        &rt,
-        desked.ask_both(rt, seven, eight),
-        (Some(175), Some(175)),
-    );
-    let (seven, eight) = (bus_tap(&rt, 7, 1, 7_200), bus_tap(&rt, 8, 1, 1_800));
-    expect_same(
-        &rt,
-        desked.ask_both(rt, seven, eight),
-        (Some(350), Some(175)),
-    );
+    let mut desked: Desked<Book, HostRuntime> = begin_desk(rt, gates(&rt, &counts, &[0, 0], None));
+    desked.expect_both(rt, 0, 0, (Some(175), Some(175)));
+    desked.expect_both(rt, 7_200, 1_800, (Some(350), Some(175)));
     let mut desked = desked.anew(rt);
-    let eight = bus_tap(&rt, 8, 1, 14_400);
-    expect_same(&rt, desked.ask(rt, eight), (4, Ok(Some(350))));
+    desked.expect_one(rt, 8, 14_400, (4, Ok(Some(350))));
     let ended = desked.shut(rt);
-    expect_same(
-        &rt,
-        (journal_len(&rt, &ended, 0), journal_len(&rt, &ended, 1)),
-        (3, 2),
-    );
+    expect_items(&rt, &ended, 0, 3);
+    expect_items(&rt, &ended, 1, 2);
 }
 
 #[test]
 fn sixteen_wait_at_a_desk(rt: HostRuntime) {
     let counts = Counts::new(&rt);
-    let mut desked = begin_desk(rt, gates(&rt, &counts, &[0, 0], None));
-    expect_same(&rt, desked.fill(rt), (DeskFault::Window, Some(175), 16));
+    let mut desked: Desked<Book, HostRuntime> = begin_desk(rt, gates(&rt, &counts, &[0, 0], None));
+    desked.expect_full(rt, (DeskFault::Window, Some(175), 16));
     desked.shut(rt);
 }
 
@@ -225,12 +215,10 @@ fn sixteen_wait_at_a_desk(rt: HostRuntime) {
 #[test]
 fn a_late_reply(rt: HostRuntime) {
     let counts = Counts::new(&rt);
-    let mut desked = begin_desk(rt, gates(&rt, &counts, &[1], None));
-    let first = bus_tap(&rt, 7, 1, 0);
-    expect_same(&rt, desked.ask(rt, first), (0, Err(DeskFault::Late)));
+    let mut desked: Desked<Book, HostRuntime> = begin_desk(rt, gates(&rt, &counts, &[1], None));
+    desked.expect_one(rt, 7, 0, (0, Err(DeskFault::Late)));
     counts.open();
-    let second = bus_tap(&rt, 7, 1, 7_200);
-    expect_same(&rt, desked.ask(rt, second), (1, Ok(Some(350))));
+    desked.expect_one(rt, 7, 7_200, (1, Ok(Some(350))));
     let ended = desked.shut(rt);
-    expect_same(&rt, journal_len(&rt, &ended, 0), 2);
+    expect_items(&rt, &ended, 0, 2);
 }

@@ -1,8 +1,9 @@
 //! What `end` gives back where a lane is missing, and what was left where the threads return early.
-ghost use Rattle.std.specs.Prelude.{◌<◌, List, length};
+ghost use Rattle.std.specs.Prelude.{List};
 ghost use Rattle.pay_lanes.specs.Words.{LaneParts, WorkerParts, AreTogether, IsSameLane};
 
-use crate::given::{bus_tap, expect_same, opened};
+use crate::given::{add_last, bus_tap, expect_same, opened, sent, take_last};
+use pay_book::Book;
 use pay_lanes::{EndFault, Ended, Gate, Lane, OpenGate, Opened, Turn, Worker, end, laws};
 use pay_rules::Fares;
 use pay_shard::{Asked, Entry};
@@ -23,49 +24,55 @@ fn without<R: Abort>(rt: &R, mut lanes: Vec<Lane>, place: usize) -> Vec<Lane>
 
 // What is given back of a shard and two lanes where the lane of a number is missing: why, how many workers and lanes, and the
 // number of the first lane.
-fn given_back<R: Abort + Wait + AllocGlobal>(
+fn given_back<F: Fares, R: Abort + Wait + AllocGlobal>(
     rt: &R,
     missing: usize,
 ) -> (EndFault, usize, usize, Option<u8>) {
-    let Opened { workers, lanes } = opened(rt, 1, 2);
+    let Opened { workers, lanes } = opened::<F, R>(rt, 1, 2);
     let lanes = without(rt, lanes, missing);
     let (fault, workers, lanes) = end(rt, workers, lanes).err().expect(rt, "a fault");
-    let number = lanes.first().map(|lane| lane.number());
-    (fault, workers.len(), lanes.len(), number)
+    let number = lanes.first().expect(rt, "a lane").number();
+    (fault, workers.len(), lanes.len(), Some(number))
 }
 
 #[test]
 fn a_lane_is_missing(rt: HostRuntime) {
     let missing = EndFault::LaneMissing;
-    expect_same(&rt, given_back(&rt, 0), (missing, 1, 1, Some(1)));
-    expect_same(&rt, given_back(&rt, 1), (missing, 1, 1, Some(0)));
+    expect_same(
+        &rt,
+        given_back::<Book, HostRuntime>(&rt, 0),
+        (missing, 1, 1, Some(1)),
+    );
+    expect_same(
+        &rt,
+        given_back::<Book, HostRuntime>(&rt, 1),
+        (missing, 1, 1, Some(0)),
+    );
 }
 
 // Sends a tap of each account from 7 to 11.
 fn send_taps<R: Abort + Wait>(rt: &R, lane: &mut Lane)
-    requires { 0 < length lane.old.shards }
     ensures { IsSameLane lane.old lane.new }
 {
     laws::same_lanes();
     for account in 7..12 {
         let command = bus_tap(rt, account, 1, 0);
-        expect_same(rt, lane.send(rt, command).is_ok(), true);
+        expect_same(rt, sent(rt, lane, command).is_ok(), true);
     }
 }
 
 // Two lanes in the other order, once the first has sent the taps.
-fn sent<R: Abort + Wait>(rt: &R, mut lanes: Vec<Lane>) -> Vec<Lane>
+fn once_sent<R: Abort + Wait>(rt: &R, mut lanes: Vec<Lane>) -> Vec<Lane>
     ensures { (workers : List WorkerParts) → AreTogether workers lanes.items → AreTogether workers result.items }
 {
     laws::still_together();
     laws::same_lanes();
     laws::same_workers();
-    let second = lanes.pop().expect(rt, "a lane");
-    let mut first = lanes.pop().expect(rt, "a lane");
-    assert!(rt; first.shards() > 0);
+    let second = take_last(rt, &mut lanes);
+    let mut first = take_last(rt, &mut lanes);
     send_taps(rt, &mut first);
-    lanes.push(second).expect(rt, "memory");
-    lanes.push(first).expect(rt, "memory");
+    add_last(rt, &mut lanes, second);
+    add_last(rt, &mut lanes, first);
     lanes
 }
 
@@ -81,9 +88,9 @@ fn first_turn<F: Fares, G: Gate, R: Abort + Wait>(rt: &R, workers: &mut Vec<Work
 }
 
 // What stands when one of two lanes has sent the taps, and the worker of the first of two shards has answered one.
-fn ended_early<R: Abort + Wait + AllocGlobal>(rt: &R) -> Ended<OpenGate> {
-    let Opened { mut workers, lanes } = opened(rt, 2, 2);
-    let lanes = sent(rt, lanes);
+fn ended_early<F: Fares, R: Abort + Wait + AllocGlobal>(rt: &R) -> Ended<OpenGate> {
+    let Opened { mut workers, lanes } = opened::<F, R>(rt, 2, 2);
+    let lanes = once_sent(rt, lanes);
     expect_same(rt, first_turn(rt, &mut workers), Turn::Did(0));
     end(rt, workers, lanes).ok().expect(rt, "all lanes")
 }
@@ -115,7 +122,7 @@ fn expect_left<R: Abort>(rt: &R, ended: &Ended<OpenGate>, shard: usize, accounts
 // The accounts 8 and 10 are of shard 0, and 7, 9 and 11 of shard 1.
 #[test]
 fn what_is_left_of_two_shards(rt: HostRuntime) {
-    let ended = ended_early(&rt);
+    let ended = ended_early::<Book, HostRuntime>(&rt);
     expect_same(&rt, (ended.journals.len(), ended.left.len()), (2, 2));
     expect_same(&rt, journal(&rt, &ended, 0), (1, Some(8)));
     expect_same(&rt, journal(&rt, &ended, 1), (0, None));

@@ -1,19 +1,18 @@
 //! What tests are given: a fare file of one bus route, commands, and lanes and workers.
 
-ghost use Rattle.std.specs.Prelude.{ℕ};
-ghost use Rattle.pay_lanes.specs.Words.{AreTogether};
+ghost use Rattle.std.specs.Prelude.{◌≡◌, ℕ, [], ◌∷◌, ◌++◌};
+ghost use Rattle.pay_lanes.specs.Words.{AreTogether, IsSameLane};
 ghost use Rattle.pay_shard.specs.Words.{IsForShards};
 
-use pay_book::Book;
 use pay_day::Moment;
 use pay_fare_file::read_editions;
-use pay_lanes::{OpenGate, Opened, open};
-use pay_rules::{Kind, Tap};
+use pay_lanes::{Lane, OpenGate, Opened, SendFault, open};
+use pay_rules::{Fares, Kind, Tap};
 use pay_shard::{Answer, Asked, Command, Reply};
 use pay_tables::Editions;
 use std::fmt::Debug;
 use std::process::Abort;
-use std::sync::Arc;
+use std::sync::{Arc, Wait};
 
 const ONE_ROUTE: &str = "zones = 1
 minutes = [90]
@@ -62,7 +61,11 @@ pub fn gates<R: Abort + AllocGlobal>(rt: &R, count: u8) -> Vec<OpenGate> {
 }
 
 /// So many shards and lanes.
-pub fn opened<R: Abort + AllocGlobal>(rt: &R, shards: u8, lanes: u8) -> Opened<Book, OpenGate>
+pub fn opened<F: Fares, R: Abort + AllocGlobal>(
+    rt: &R,
+    shards: u8,
+    lanes: u8,
+) -> Opened<F, OpenGate>
     ensures { AreTogether result.workers.items result.lanes.items }
 {
     let gates = gates(rt, shards);
@@ -106,4 +109,34 @@ pub fn pence(answer: &Answer) -> Option<u64> {
         Reply::Due(quote) => Some(quote.due().pence()),
         _ => None,
     }
+}
+
+/// Sends a command from a lane: its ticket.
+pub fn sent<R: Abort + Wait>(rt: &R, lane: &mut Lane, command: Command) -> Result<u64, SendFault>
+    requires { (shards : ℕ) → IsForShards shards command }
+    ensures { IsSameLane lane.old lane.new }
+{
+    assert!(rt; lane.shards() > 0);
+    lane.send(rt, command).map(|ticket| ticket.number())
+}
+
+/// Takes an answer, by the ticket, and its pence.
+pub fn taken<R: Wait>(rt: &R, lane: &mut Lane) -> Option<(u64, Option<u64>)>
+    ensures { IsSameLane lane.old lane.new }
+{
+    lane.take(rt).map(|answer| (answer.ticket, pence(&answer)))
+}
+
+/// Takes the last one out of a list.
+pub fn take_last<T, R: Abort>(rt: &R, list: &mut Vec<T>) -> T
+    ensures { list.old.items ≡ list.new.items ++ result ∷ [] }
+{
+    list.pop().expect(rt, "the last one")
+}
+
+/// Puts one behind the others of a list.
+pub fn add_last<T: Drop, R: Abort>(rt: &R, list: &mut Vec<T>, one: T)
+    ensures { list.new.items ≡ list.old.items ++ one ∷ [] }
+{
+    list.push(one).expect(rt, "memory");
 }

@@ -1,15 +1,15 @@
 //! Threads share mailboxes, and what arrives of each sender is in its order.
-ghost use Rattle.std.specs.Prelude.{◌≡◌, length, IfOk};
+ghost use Rattle.std.specs.Prelude.{◌≡◌, length};
 ghost use Rattle.pay_mailbox.specs.Parts.{HasAll};
 
+use crate::given::expect_same;
 use pay_mailbox::{Inbox, Outbox, Senders};
-use std::alloc::{AllocError, Global};
+use std::alloc::Global;
 use std::process::Abort;
 use std::snapshot::Snapshot;
 use std::sync::Wait;
-use std::test::*;
 use std::thread;
-use std::thread::{Promise, Threads};
+use std::thread::{JoinHandle, Promise, PromisedHandle, Threads};
 
 const COUNT: u64 = 200;
 
@@ -73,7 +73,10 @@ impl Lane {
             from: self.number,
             what,
         };
-        self.letters.send(rt, letter).err().map(|back| back.what)
+        match self.letters.send(rt, letter) {
+            Ok(()) => None,
+            Err(back) => Some(back.what),
+        }
     }
 
     fn take<R: Wait + Abort>(&mut self, rt: &R, got: &mut Vec<u64>) {
@@ -92,30 +95,58 @@ impl Lane {
             left = self.send(rt, what);
         }
     }
+
+    fn send_each<R: Wait + Abort>(&mut self, rt: &R, alloc: Global, got: &mut Vec<u64>) {
+        for number in 0..COUNT {
+            let what = Vec::from_elem(alloc, number, 1).expect(rt, "memory");
+            self.send_surely(rt, what, got);
+        }
+    }
+
+    fn take_each<R: Wait + Abort>(&mut self, rt: &R, got: &mut Vec<u64>) {
+        for _ in rt.forever() {
+            if got.len() as u64 >= COUNT {
+                break;
+            }
+            self.take(rt, got);
+        }
+    }
 }
 
 fn run_lane<R: Wait + Abort>(rt: &R, alloc: Global, mut lane: Lane) -> Vec<u64> {
     let mut got = Vec::new(alloc);
-    for number in 0..COUNT {
-        let what = Vec::from_elem(alloc, number, 1).expect(rt, "memory");
-        lane.send_surely(rt, what, &mut got);
+    lane.send_each(rt, alloc, &mut got);
+    lane.take_each(rt, &mut got);
+    got
+}
+
+// Sends a count, unless the mailbox is full: whether it was sent.
+fn is_sent<R: Wait>(rt: &R, end: &mut Outbox<Count, ByShard>, count: Count) -> bool
+    requires { end.old.number ≡ count.shard }
+    ensures mailbox { end.new.mailbox ≡ end.old.mailbox }
+    ensures number { end.new.number ≡ end.old.number }
+{
+    match end.send(rt, count) {
+        Ok(()) => true,
+        Err(_) => false,
     }
+}
+
+fn send_surely<R: Wait>(rt: &R, end: &mut Outbox<Count, ByShard>, count: Count)
+    requires { end.old.number ≡ count.shard }
+    ensures mailbox { end.new.mailbox ≡ end.old.mailbox }
+    ensures number { end.new.number ≡ end.old.number }
+{
     for _ in rt.forever() {
-        if got.len() as u64 >= COUNT {
+        if is_sent(rt, end, count) {
             break;
         }
-        lane.take(rt, &mut got);
     }
-    got
 }
 
 impl Way {
     fn send_surely<R: Wait>(&mut self, rt: &R, number: u64) {
-        for _ in rt.forever() {
-            if self.counts.send(rt, Count { shard: 0, number }).is_ok() {
-                return;
-            }
-        }
+        send_surely(rt, &mut self.counts, Count { shard: 0, number });
     }
 }
 
@@ -189,6 +220,30 @@ fn is_in_order(letters: &[Letter], lane: u8) -> bool {
     next == COUNT
 }
 
+// So two lanes got the numbers in order.
+fn expect_counts<R: Abort>(rt: &R, first: &[u64], second: &[u64]) {
+    expect_same(rt, (is_count(first), is_count(second)), (true, true));
+}
+
+// So the letters of each of two lanes say them.
+fn expect_in_order<R: Abort>(rt: &R, letters: &[Letter]) {
+    expect_same(
+        rt,
+        (is_in_order(letters, 0), is_in_order(letters, 1)),
+        (true, true),
+    );
+}
+
+// Runs a lane in a thread of its own.
+fn start_lane<R>(rt: R, alloc: Global, lane: Lane) -> JoinHandle<Vec<u64>>
+where
+    R: Abort + Threads + Wait + Copy + Send + 'static,
+{
+    thread::spawn(&rt, move || run_lane(&rt, alloc, lane))
+        .ok()
+        .expect(&rt, "a thread")
+}
+
 #[test]
 fn each_lane_in_its_order(rt: HostRuntime) {
     let alloc = rt.alloc();
@@ -199,22 +254,16 @@ fn each_lane_in_its_order(rt: HostRuntime) {
     let first = make_lane(&rt, alloc, 0, first, &mut ways);
     let second = make_lane(&rt, alloc, 1, second, &mut ways);
     let worker = Worker { letters, ways };
-    let first = thread::spawn(&rt, move || run_lane(&rt, alloc, first))
-        .ok()
-        .expect(&rt, "a thread");
-    let second = thread::spawn(&rt, move || run_lane(&rt, alloc, second))
-        .ok()
-        .expect(&rt, "a thread");
+    let first = start_lane(rt, alloc, first);
+    let second = start_lane(rt, alloc, second);
     let worker = thread::spawn(&rt, move || run_worker(&rt, alloc, worker))
         .ok()
         .expect(&rt, "a thread");
     let first = first.join(&rt);
     let second = second.join(&rt);
     let letters = worker.join(&rt);
-    assert!(rt; is_count(first.as_slice()));
-    assert!(rt; is_count(second.as_slice()));
-    assert!(rt; is_in_order(letters.as_slice(), 0));
-    assert!(rt; is_in_order(letters.as_slice(), 1));
+    expect_counts(&rt, &first, &second);
+    expect_in_order(&rt, &letters);
 }
 
 /// That a sending end is the same sender of the same mailbox as before.
@@ -225,100 +274,116 @@ impl Promise<Outbox<Count, ByShard>> for SameSender {
     ghost kept_by = { λ before end. (end.mailbox ≡ before.0.value.mailbox) × (end.number ≡ before.0.value.number) };
 }
 
-fn send_surely<R: Wait>(
-    rt: &R,
-    mut end: Outbox<Count, ByShard>,
-    count: Count,
-) -> Outbox<Count, ByShard>
-    requires { end.number ≡ count.shard }
-    ensures mailbox { result.mailbox ≡ end.mailbox }
-    ensures number { result.number ≡ end.number }
-{
-    for _ in rt.forever() {
-        if end.send(rt, count).is_ok() {
-            break;
-        }
-    }
-    end
-}
-
 fn send_all<R: Wait>(rt: &R, mut end: Outbox<Count, ByShard>, shard: u8) -> Outbox<Count, ByShard>
     requires { end.number ≡ shard }
     ensures mailbox { result.mailbox ≡ end.mailbox }
     ensures number { result.number ≡ end.number }
 {
     for number in 0..COUNT {
-        end = send_surely(rt, end, Count { shard, number });
+        send_surely(rt, &mut end, Count { shard, number });
     }
     end
 }
 
-// Receives what two threads send, until so few are left that the mailbox holds them, and then the rest.
-fn gathered<R>(rt: R, alloc: Global) -> Result<(Inbox<Count, ByShard>, Vec<Count>), AllocError>
-where
-    R: Threads + Wait + Copy + Send + 'static,
-    ensures whole { IfOk result (λ r. HasAll (λ count. count.shard) r.0) }
-    ensures items { IfOk result (λ r. r.0.got ≡ r.1.items) }
-    ensures back { IfOk result (λ r. length r.0.back ≡ 2) }
+// Receives an item, if there is one.
+fn receive_one<R: Abort + Wait>(rt: &R, inbox: &mut Inbox<Count, ByShard>, got: &mut Vec<Count>)
+    requires { inbox.old.got ≡ got.old.items }
+    ensures mailbox { inbox.new.mailbox ≡ inbox.old.mailbox }
+    ensures made { inbox.new.made ≡ inbox.old.made }
+    ensures back { inbox.new.back ≡ inbox.old.back }
+    ensures got { inbox.new.got ≡ got.new.items }
 {
-    let mut inbox = Inbox::open(alloc, CAPACITY)?;
-    let first = inbox.outbox()?;
-    let second = inbox.outbox()?;
-    let same_first = SameSender(Snapshot::of(&first));
-    let same_second = SameSender(Snapshot::of(&second));
-    let first = thread::spawn_with(&rt, same_first, move || send_all(&rt, first, 0))?;
-    let second = thread::spawn_with(&rt, same_second, move || send_all(&rt, second, 1))?;
-    let mut got = Vec::new(alloc);
+    got.reserve(1).expect(rt, "memory");
+    if let Some(count) = inbox.receive(rt) {
+        got.push_reserved(count);
+    }
+}
+
+// Receives until so few are left that the mailbox holds them.
+fn receive_most<R: Abort + Wait>(rt: &R, inbox: &mut Inbox<Count, ByShard>, got: &mut Vec<Count>)
+    requires { inbox.old.got ≡ got.old.items }
+    ensures mailbox { inbox.new.mailbox ≡ inbox.old.mailbox }
+    ensures made { inbox.new.made ≡ inbox.old.made }
+    ensures back { inbox.new.back ≡ inbox.old.back }
+    ensures got { inbox.new.got ≡ got.new.items }
+{
     for _ in rt.forever() {
         if got.len() as u64 + CAPACITY as u64 >= 2 * COUNT {
             break;
         }
-        got.reserve(1)?;
-        if let Some(count) = inbox.receive(&rt) {
-            got.push_reserved(count);
-        }
+        receive_one(rt, inbox, got);
     }
+}
+
+// Sends all in a thread of its own.
+fn start_sender<R>(
+    rt: R,
+    end: Outbox<Count, ByShard>,
+    shard: u8,
+) -> PromisedHandle<Outbox<Count, ByShard>, SameSender>
+where
+    R: Abort + Threads + Wait + Copy + Send + 'static,
+    requires { end.number ≡ shard }
+    ensures { result.promise.0.value ≡ end }
+{
+    let same = SameSender(Snapshot::of(&end));
+    thread::spawn_with(&rt, same, move || send_all(&rt, end, shard)).expect(&rt, "a thread")
+}
+
+// Receives what two threads send, until so few are left that the mailbox holds them, and then the rest.
+fn gathered<R>(rt: R, alloc: Global) -> (Inbox<Count, ByShard>, Vec<Count>)
+where
+    R: Abort + Threads + Wait + Copy + Send + 'static,
+    ensures whole { HasAll (λ count. count.shard) result.0 }
+    ensures items { result.0.got ≡ result.1.items }
+    ensures back { length result.0.back ≡ 2 }
+{
+    let mut inbox = Inbox::open(alloc, CAPACITY).expect(&rt, "memory");
+    let first = inbox.outbox().expect(&rt, "memory");
+    let second = inbox.outbox().expect(&rt, "memory");
+    let first = start_sender(rt, first, 0);
+    let second = start_sender(rt, second, 1);
+    let mut got = Vec::new(alloc);
+    receive_most(&rt, &mut inbox, &mut got);
     inbox.rejoin(first.join(&rt));
     inbox.rejoin(second.join(&rt));
-    got.reserve(CAPACITY)?;
+    got.reserve(CAPACITY).expect(&rt, "memory");
     inbox.receive_rest(&rt, &mut got);
-    Ok((inbox, got))
+    (inbox, got)
 }
 
 #[test]
-fn all_is_gathered(rt: HostRuntime) -> Result<(), Fail> {
-    let (_, got) = gathered(rt, rt.alloc())?;
-    assert_eq!(rt; got.len() as u64, 2 * COUNT);
-    Ok(())
+fn all_is_gathered(rt: HostRuntime) {
+    let (_, got) = gathered(rt, rt.alloc());
+    expect_same(&rt, got.len() as u64, 2 * COUNT);
 }
 
 #[test]
-fn what_waits_is_counted(rt: HostRuntime) -> Result<(), Fail> {
-    let mut inbox = Inbox::open(rt.alloc(), CAPACITY)?;
-    let end = inbox.outbox()?;
-    assert_eq!(rt; inbox.waiting(&rt), 0);
-    let end = send_surely(
+fn what_waits_is_counted(rt: HostRuntime) {
+    let mut inbox = Inbox::open(rt.alloc(), CAPACITY).expect(&rt, "memory");
+    let mut end: Outbox<Count, ByShard> = inbox.outbox().expect(&rt, "memory");
+    expect_same(&rt, inbox.waiting(&rt), 0);
+    send_surely(
         &rt,
-        end,
+        &mut end,
         Count {
             shard: 0,
             number: 5,
         },
     );
-    let end = send_surely(
+    send_surely(
         &rt,
-        end,
+        &mut end,
         Count {
             shard: 0,
             number: 6,
         },
     );
-    assert_eq!(rt; inbox.waiting(&rt), 2);
+    expect_same(&rt, inbox.waiting(&rt), 2);
     inbox.rejoin(end);
-    let mut rest = Vec::with_capacity(rt.alloc(), CAPACITY)?;
+    let mut rest = Vec::with_capacity(rt.alloc(), CAPACITY).expect(&rt, "memory");
     inbox.receive_rest(&rt, &mut rest);
-    assert_eq!(rt; inbox.waiting(&rt), 0);
-    assert_eq!(rt; rest.len(), 2);
-    assert_eq!(rt; rest[1].number, 6);
-    Ok(())
+    expect_same(&rt, inbox.waiting(&rt), 0);
+    let last = rest.get(1).expect(&rt, "a count");
+    expect_same(&rt, (rest.len(), last.number), (2, 6));
 }

@@ -1,8 +1,9 @@
 //! A turn without memory.
 
-use crate::given::{MAY_BE_REFUSED, WAS_REFUSED, bus_tap, expect_same, opened, pence, tell};
+use crate::given::{MAY_BE_REFUSED, WAS_REFUSED, bus_tap, expect_same, opened, pence, sent, tell};
 use pay_book::Book;
 use pay_lanes::{Lane, OpenGate, Opened, Turn, Worker};
+use pay_rules::Fares;
 use pay_shard::Reply;
 use std::process::Abort;
 use std::sync::Wait;
@@ -10,16 +11,14 @@ use std::sync::Wait;
 // Sends the tap that gets a ticket: each is made two hours after the one before.
 fn send_tap<R: Abort + Wait>(rt: &R, lane: &mut Lane, ticket: u32) {
     let command = bus_tap(rt, 7, 1, ticket.saturating_mul(7_200));
-    assert!(rt; lane.shards() > 0);
-    let sent = lane.send(rt, command).map(|ticket| ticket.number());
-    expect_same(rt, sent, Ok(u64::from(ticket)));
+    expect_same(rt, sent(rt, lane, command), Ok(u64::from(ticket)));
 }
 
 // Takes turns until an entry is answered, which then stands at this place of the journal: the first turn, or the second, where
 // memory for the first is refused. How many turns were without memory.
-fn turns_without_memory<R: Abort + AllocGlobal + Wait>(
+fn turns_without_memory<F: Fares, R: Abort + AllocGlobal + Wait>(
     rt: &R,
-    worker: &mut Worker<Book, OpenGate>,
+    worker: &mut Worker<F, OpenGate>,
     place: usize,
 ) -> u64 {
     let turn = worker.turn(rt);
@@ -53,25 +52,33 @@ fn accepted_then<R: Abort + AllocGlobal + Wait>(
 }
 
 // At most one allocation fails, so at most one turn or one tap is without memory.
+fn starves_once<F: Fares, R: Abort + AllocGlobal + Wait>(
+    rt: &R,
+    worker: &mut Worker<F, OpenGate>,
+    lane: &mut Lane,
+) {
+    let (mut starved, mut accepted) = (0u64, 0u64);
+    for ticket in 0..3 {
+        send_tap(rt, lane, ticket);
+    }
+    for place in 0..3 {
+        starved = starved.saturating_add(turns_without_memory(rt, worker, place));
+    }
+    for ticket in 0..3 {
+        accepted = accepted_then(rt, lane, ticket, accepted);
+    }
+    expect_same(rt, lane.take(rt).is_none(), true);
+    assert!(rt; accepted >= starved.saturating_add(2));
+}
+
 #[test]
 fn a_turn_without_memory(rt: HostRuntime) {
     let Opened {
         mut workers,
         mut lanes,
-    } = opened(&rt, 1, 1);
+    } = opened::<Book, HostRuntime>(&rt, 1, 1);
     let worker = workers.first_mut().expect(&rt, "a worker");
     let lane = lanes.first_mut().expect(&rt, "a lane");
     tell(&rt, MAY_BE_REFUSED);
-    let (mut starved, mut accepted) = (0u64, 0u64);
-    for ticket in 0..3 {
-        send_tap(&rt, lane, ticket);
-    }
-    for place in 0..3 {
-        starved = starved.saturating_add(turns_without_memory(&rt, worker, place));
-    }
-    for ticket in 0..3 {
-        accepted = accepted_then(&rt, lane, ticket, accepted);
-    }
-    expect_same(&rt, lane.take(&rt).is_none(), true);
-    assert!(rt; accepted >= starved.saturating_add(2));
+    starves_once(&rt, worker, lane);
 }

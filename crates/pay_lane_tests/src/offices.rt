@@ -1,14 +1,15 @@
 //! Offices: that their shards work at once, that what waits is answered, and how they begin and end.
-ghost use Rattle.std.specs.Prelude.{ℕ, List, length};
+ghost use Rattle.std.specs.Prelude.{◌≡◌, ℕ, List, IsPermutation};
 ghost use Rattle.pay_lanes.specs.Words.{WorkerParts, AreTogether, IsSameLane};
 ghost use Rattle.pay_shard.specs.Words.{IsForShards};
 
 use crate::gates::{Counting, Counts, gates, passing};
-use crate::given::{bus_tap, due, expect_same, one_route, pence};
+use crate::given::{add_last, bus_tap, due, expect_same, one_route, sent, take_last, taken};
 use pay_book::Book;
 use pay_lanes::{Lane, SendFault, laws};
 use pay_office::{Ended, Office, ShutFault, StartFault, shut, start};
-use pay_shard::{Answer, Command};
+use pay_rules::Fares;
+use pay_shard::Command;
 use std::marker::Model;
 use std::process::Abort;
 use std::sync::Wait;
@@ -22,14 +23,14 @@ const LONG: u32 = 30_000;
 
 /// An office, and lanes that were opened with it.
 #[derive(Drop)]
-pub struct Begun {
+pub struct Begun<F: Fares> {
     /// The office.
-    pub office: Office<Book, Counting>,
+    pub office: Office<F, Counting>,
     /// The lanes.
     pub lanes: Vec<Lane>,
 }
 
-impl Model for Begun {
+impl<F: Fares> Model for Begun<F> {
     ghost use Rattle.std.specs.Prelude.{⊤};
     ghost use Rattle.pay_lanes.specs.Words.{AreTogether};
 
@@ -41,8 +42,9 @@ impl Model for Begun {
 }
 
 /// An office of a shard for each gate.
-pub fn begin<R>(rt: R, lanes: u8, gates: Vec<Counting>) -> Begun
+pub fn begin<F, R>(rt: R, lanes: u8, gates: Vec<Counting>) -> Begun<F>
 where
+    F: Fares + Send + 'static,
     R: Threads + Wait + Abort + AllocGlobal + Copy + Send + 'static,
 {
     let shards = u8::try_from(gates.len()).ok().expect(&rt, "a count");
@@ -66,19 +68,18 @@ fn send_at<R: Abort + Wait>(
     laws::same_lanes();
     laws::same_workers();
     assert!(rt; place < lanes.len());
-    let lane = &mut lanes[place];
-    assert!(rt; lane.shards() > 0);
-    lane.send(rt, command).map(|ticket| ticket.number())
+    sent(rt, &mut lanes[place], command)
 }
 
-// The next answer of a lane, if it comes while it is looked for so often.
-fn next_answer<R: Wait>(rt: &R, lane: &mut Lane, looks: u32) -> Option<Answer>
+// The next answer of a lane, by the ticket, and its pence, if it comes while it is looked for so often.
+fn next_answer<R: Wait>(rt: &R, lane: &mut Lane, looks: u32) -> Option<(u64, Option<u64>)>
     ensures { IsSameLane lane.old lane.new }
 {
     laws::same_lanes();
     for _ in 0..looks {
-        if let Some(answer) = lane.take(rt) {
-            return Some(answer);
+        let answer = taken(rt, lane);
+        if answer.is_some() {
+            return answer;
         }
         lane.wait(rt, Duration::from_millis(1));
     }
@@ -91,7 +92,7 @@ fn answer_at<R: Abort + Wait>(
     lanes: &mut Vec<Lane>,
     place: usize,
     looks: u32,
-) -> Option<Answer>
+) -> Option<(u64, Option<u64>)>
     ensures { (office : List WorkerParts) → AreTogether office lanes.old.items → AreTogether office lanes.new.items }
 {
     laws::still_together();
@@ -101,34 +102,42 @@ fn answer_at<R: Abort + Wait>(
     next_answer(rt, &mut lanes[place], looks)
 }
 
-impl Begun {
-    // Sends a command from the lane at a place: its ticket.
-    fn send<R: Abort + Wait>(
+impl<F: Fares> Begun<F> {
+    // Sends a command from the lane at a place, and compares its ticket.
+    fn expect_sent<R: Abort + Wait>(
         &mut self,
         rt: &R,
         place: usize,
         command: Command,
-    ) -> Result<u64, SendFault>
+        wanted: Result<u64, SendFault>,
+    )
         requires { (shards : ℕ) → IsForShards shards command }
     {
-        send_at(rt, &mut self.lanes, place, command)
+        expect_same(rt, send_at(rt, &mut self.lanes, place, command), wanted);
     }
 
-    // Takes the next answer of the lane at a place, by the ticket, and its pence, if it comes while it is looked for so often.
-    fn take<R: Abort + Wait>(
+    // Takes the next answer of the lane at a place, if it comes while it is looked for so often, and compares it.
+    fn expect_taken<R: Abort + Wait>(
         &mut self,
         rt: &R,
         place: usize,
         looks: u32,
-    ) -> Option<(u64, Option<u64>)> {
-        answer_at(rt, &mut self.lanes, place, looks).map(|answer| (answer.ticket, pence(&answer)))
+        wanted: Option<(u64, Option<u64>)>,
+    ) {
+        expect_same(rt, answer_at(rt, &mut self.lanes, place, looks), wanted);
     }
 
-    // Shuts the office.
-    fn shut<R: Abort + Threads + Wait + AllocGlobal>(self, rt: &R) -> Ended<Counting> {
+    /// Shuts the office.
+    pub fn shut<R: Abort + Threads + Wait + AllocGlobal>(self, rt: &R) -> Ended<Counting> {
         let Begun { office, lanes } = self;
         shut(rt, office, lanes).ok().expect(rt, "all lanes")
     }
+}
+
+/// So the journal of a shard has so many items.
+pub fn expect_items<R: Abort>(rt: &R, ended: &Ended<Counting>, shard: usize, count: usize) {
+    let journal = ended.journals.get(shard).expect(rt, "a journal");
+    expect_same(rt, journal.len(), count);
 }
 
 // So a shard was asked one command, by this lane.
@@ -145,13 +154,13 @@ fn expect_job<R: Abort>(rt: &R, ended: &Ended<Counting>, shard: usize, lane: u8,
 #[test]
 fn shards_work_at_once(rt: HostRuntime) {
     let counts = Counts::new(&rt);
-    let mut begun = begin(rt, 2, gates(&rt, &counts, &[1, 0], Some(LOOKS)));
+    let mut begun: Begun<Book> = begin(rt, 2, gates(&rt, &counts, &[1, 0], Some(LOOKS)));
     let (first, second) = (bus_tap(&rt, 8, 1, 0), bus_tap(&rt, 7, 2, 0));
-    expect_same(&rt, begun.send(&rt, 0, first), Ok(0));
-    expect_same(&rt, begun.send(&rt, 1, second), Ok(0));
-    expect_same(&rt, begun.take(&rt, 1, LONG), Some((0, Some(175))));
+    begun.expect_sent(&rt, 0, first, Ok(0));
+    begun.expect_sent(&rt, 1, second, Ok(0));
+    begun.expect_taken(&rt, 1, LONG, Some((0, Some(175))));
     counts.open();
-    expect_same(&rt, begun.take(&rt, 0, LONG), Some((0, Some(175))));
+    begun.expect_taken(&rt, 0, LONG, Some((0, Some(175))));
     expect_same(&rt, counts.ran_out(), 0);
     let ended = begun.shut(&rt);
     expect_job(&rt, &ended, 0, 0, first);
@@ -168,13 +177,13 @@ fn tap_of<R: Abort>(rt: &R, lane: u8) -> Command
 #[test]
 fn sixteen_shards_work_at_once(rt: HostRuntime) {
     let counts = Counts::meeting(&rt);
-    let mut begun = begin(rt, 16, gates(&rt, &counts, &[16; 16], Some(LOOKS)));
+    let mut begun: Begun<Book> = begin(rt, 16, gates(&rt, &counts, &[16; 16], Some(LOOKS)));
     for lane in 0..16u8 {
         let command = tap_of(&rt, lane);
-        expect_same(&rt, begun.send(&rt, usize::from(lane), command), Ok(0));
+        begun.expect_sent(&rt, usize::from(lane), command, Ok(0));
     }
     for lane in 0..16 {
-        expect_same(&rt, begun.take(&rt, lane, LONG), Some((0, Some(175))));
+        begun.expect_taken(&rt, lane, LONG, Some((0, Some(175))));
     }
     expect_same(&rt, counts.ran_out(), 0);
     let ended = begun.shut(&rt);
@@ -184,26 +193,32 @@ fn sixteen_shards_work_at_once(rt: HostRuntime) {
 }
 
 // Asks from a lane what account 7 owes, for the tickets from one to below another.
-fn ask_dues<R: Abort + Wait>(rt: &R, begun: &mut Begun, lane: usize, from: u64, to: u64) {
+fn ask_dues<F: Fares, R: Abort + Wait>(
+    rt: &R,
+    begun: &mut Begun<F>,
+    lane: usize,
+    from: u64,
+    to: u64,
+) {
     for ticket in from..to {
         let command = due(rt, 7);
-        expect_same(rt, begun.send(rt, lane, command), Ok(ticket));
+        begun.expect_sent(rt, lane, command, Ok(ticket));
     }
 }
 
 // So the lane is answered under so many tickets, in order and once each, that nothing is due.
-fn expect_dues<R: Abort + Wait>(rt: &R, begun: &mut Begun, lane: usize, count: u64) {
+fn expect_dues<F: Fares, R: Abort + Wait>(rt: &R, begun: &mut Begun<F>, lane: usize, count: u64) {
     for ticket in 0..count {
-        expect_same(rt, begun.take(rt, lane, LONG), Some((ticket, Some(0))));
+        begun.expect_taken(rt, lane, LONG, Some((ticket, Some(0))));
     }
-    expect_same(rt, begun.take(rt, lane, 1), None);
+    begun.expect_taken(rt, lane, 1, None);
 }
 
 // One entry is popped and held by the gate, and 64 wait.
 #[test]
 fn what_waits_is_answered(rt: HostRuntime) {
     let counts = Counts::new(&rt);
-    let mut begun = begin(rt, 5, gates(&rt, &counts, &[1], None));
+    let mut begun: Begun<Book> = begin(rt, 5, gates(&rt, &counts, &[1], None));
     let command = due(&rt, 7);
     ask_dues(&rt, &mut begun, 0, 0, 1);
     counts.await_entry(&rt);
@@ -211,17 +226,16 @@ fn what_waits_is_answered(rt: HostRuntime) {
     for lane in 1..4 {
         ask_dues(&rt, &mut begun, lane, 0, 16);
     }
-    expect_same(&rt, begun.send(&rt, 0, command), Err(SendFault::Window));
+    begun.expect_sent(&rt, 0, command, Err(SendFault::Window));
     ask_dues(&rt, &mut begun, 4, 0, 1);
-    expect_same(&rt, begun.send(&rt, 4, command), Err(SendFault::Busy));
+    begun.expect_sent(&rt, 4, command, Err(SendFault::Busy));
     counts.open();
     for lane in 0..4 {
         expect_dues(&rt, &mut begun, lane, 16);
     }
     expect_dues(&rt, &mut begun, 4, 1);
     let ended = begun.shut(&rt);
-    let journal = ended.journals.first().expect(&rt, "a journal");
-    expect_same(&rt, journal.len(), 65);
+    expect_items(&rt, &ended, 0, 65);
 }
 
 // Why no office of so many shards, lanes and gates begins.
@@ -244,54 +258,67 @@ fn an_office_is_refused(rt: HostRuntime) {
     expect_same(&rt, refused(rt, 2, 2, &[0; 3]), count);
 }
 
+// Tries to shut an office whose lanes are not all there: why it is not shut, and what is given back.
+fn not_shut<F: Fares, R: Abort + Threads + Wait>(
+    rt: &R,
+    office: Office<F, Counting>,
+    lanes: Vec<Lane>,
+) -> (ShutFault, Office<F, Counting>, Vec<Lane>)
+    requires { AreTogether office lanes.items }
+    ensures office { result.1 ≡ office }
+    ensures lanes { IsPermutation lanes.items result.2.items }
+{
+    match shut(rt, office, lanes) {
+        Ok(_) => panic!(rt; "no fault"),
+        Err(back) => back,
+    }
+}
+
 // Tries to shut an office without the last of its two lanes, and has all back.
-fn missing_a_lane<R: Abort + Threads + Wait + AllocGlobal>(rt: &R, begun: Begun) -> Begun {
+fn missing_a_lane<F: Fares, R: Abort + Threads + Wait>(rt: &R, begun: Begun<F>) -> Begun<F> {
     let Begun { office, mut lanes } = begun;
-    let last = lanes.pop().expect(rt, "a lane");
-    let Err(back) = shut(rt, office, lanes) else {
-        panic!(rt; "no fault")
-    };
-    let (fault, office, mut lanes) = back;
+    let last = take_last(rt, &mut lanes);
+    let (fault, office, mut lanes) = not_shut(rt, office, lanes);
     expect_same(rt, (fault, lanes.len()), (ShutFault::LaneMissing, 1));
-    lanes.push(last).expect(rt, "memory");
+    add_last(rt, &mut lanes, last);
     Begun { office, lanes }
 }
 
 #[test]
 fn a_lane_is_missing(rt: HostRuntime) {
     let counts = Counts::new(&rt);
-    let begun = begin(rt, 2, gates(&rt, &counts, &[0], None));
+    let begun: Begun<Book> = begin(rt, 2, gates(&rt, &counts, &[0], None));
     let mut begun = missing_a_lane(&rt, begun);
     for lane in 0..2u8 {
         let command = bus_tap(&rt, u32::from(lane) + 7, 1, 0);
         let lane = usize::from(lane);
-        expect_same(&rt, begun.send(&rt, lane, command), Ok(0));
-        expect_same(&rt, begun.take(&rt, lane, LONG), Some((0, Some(175))));
+        begun.expect_sent(&rt, lane, command, Ok(0));
+        begun.expect_taken(&rt, lane, LONG, Some((0, Some(175))));
     }
     let ended = begun.shut(&rt);
-    let journal = ended.journals.first().expect(&rt, "a journal");
-    expect_same(&rt, journal.len(), 2);
+    expect_items(&rt, &ended, 0, 2);
 }
 
-// How many answers the gate of the first shard lets pass still.
-fn still_passes<R: Abort>(rt: &R, ended: &Ended<Counting>) -> u64 {
-    ended.gates.first().expect(rt, "a gate").passes()
+// So the gate of the first shard lets no more answers pass, and three commands were popped and two left.
+fn expect_held<R: Abort>(rt: &R, ended: &Ended<Counting>) {
+    let gate = ended.gates.first().expect(rt, "a gate");
+    expect_same(rt, gate.passes(), 0);
+    let journal = ended.journals.get(0).expect(rt, "a journal");
+    let left = ended.left.get(0).expect(rt, "what was left");
+    expect_same(rt, (journal.len(), left.len()), (3, 2));
 }
 
 // Where the gate does not let the third answer pass, the lane gets two, and nothing more is popped.
 #[test]
 fn a_gate_that_holds_the_third_answer(rt: HostRuntime) {
-    let mut begun = begin(rt, 1, passing(&rt, 2));
+    let mut begun: Begun<Book> = begin(rt, 1, passing(&rt, 2));
     for ticket in 0..5u32 {
         let tap = bus_tap(&rt, 7, 1, ticket.saturating_mul(7_200));
-        expect_same(&rt, begun.send(&rt, 0, tap), Ok(u64::from(ticket)));
+        begun.expect_sent(&rt, 0, tap, Ok(u64::from(ticket)));
     }
-    expect_same(&rt, begun.take(&rt, 0, LONG), Some((0, Some(175))));
-    expect_same(&rt, begun.take(&rt, 0, LONG), Some((1, Some(350))));
-    expect_same(&rt, begun.take(&rt, 0, 100), None);
+    begun.expect_taken(&rt, 0, LONG, Some((0, Some(175))));
+    begun.expect_taken(&rt, 0, LONG, Some((1, Some(350))));
+    begun.expect_taken(&rt, 0, 100, None);
     let ended = begun.shut(&rt);
-    expect_same(&rt, still_passes(&rt, &ended), 0);
-    let journal = ended.journals.get(0).expect(&rt, "a journal");
-    let left = ended.left.get(0).expect(&rt, "what was left");
-    expect_same(&rt, (journal.len(), left.len()), (3, 2));
+    expect_held(&rt, &ended);
 }

@@ -1,8 +1,8 @@
 //! Two lanes, each in a thread of its own, and a worker.
-ghost use Rattle.std.specs.Prelude.{◌≡◌, ◌<◌, All, length};
+ghost use Rattle.std.specs.Prelude.{◌≡◌};
 ghost use Rattle.pay_lanes.specs.Words.{IsSameLane, IsSameWorker, AreTogether};
 
-use crate::given::{bus_tap, expect_same, one_route, pence};
+use crate::given::{add_last, bus_tap, expect_same, one_route, pence, sent, take_last};
 use pay_book::Book;
 use pay_lanes::{Ended, Gate, Lane, Opened, Turn, Worker, end, laws, open};
 use pay_rules::Fares;
@@ -70,13 +70,12 @@ fn take_one<R: Wait + Abort>(rt: &R, lane: &mut Lane, taken: &mut Vec<Answer>)
 
 // Sends a tap, and takes an answer each time that it is refused.
 fn send_surely<R: Wait + Abort>(rt: &R, lane: &mut Lane, second: u32, taken: &mut Vec<Answer>)
-    requires { 0 < length lane.old.shards }
     ensures { IsSameLane lane.old lane.new }
 {
     laws::same_lanes();
     let command = bus_tap(rt, 7, u16::from(lane.number()) + 1, second);
     for _ in rt.forever() {
-        if lane.send(rt, command).is_ok() {
+        if sent(rt, lane, command).is_ok() {
             return;
         }
         take_one(rt, lane, taken);
@@ -85,7 +84,6 @@ fn send_surely<R: Wait + Abort>(rt: &R, lane: &mut Lane, second: u32, taken: &mu
 
 // Sends all taps.
 fn send_all<R: Wait + Abort>(rt: &R, lane: &mut Lane, taken: &mut Vec<Answer>)
-    requires { 0 < length lane.old.shards }
     ensures { IsSameLane lane.old lane.new }
 {
     laws::same_lanes();
@@ -108,7 +106,6 @@ fn take_all<R: Wait + Abort>(rt: &R, lane: &mut Lane, taken: &mut Vec<Answer>)
 }
 
 fn run_lane<R: Wait + Abort>(rt: &R, alloc: Global, mut lane: Lane) -> (Lane, Vec<Answer>)
-    requires { 0 < length lane.shards }
     ensures { IsSameLane lane result.0 }
 {
     laws::same_lanes();
@@ -118,21 +115,31 @@ fn run_lane<R: Wait + Abort>(rt: &R, alloc: Global, mut lane: Lane) -> (Lane, Ve
     (lane, taken)
 }
 
-// Takes turns until all taps are answered. Where a lane has no room it lets others run, which have to take what is there.
+// Takes a turn. Where a lane has no room it lets others run, which have to take what is there. Whether all taps are answered.
+fn is_done<F: Fares, G: Gate, R: Wait>(rt: &R, worker: &mut Worker<F, G>) -> bool
+    ensures { IsSameWorker worker.old worker.new }
+{
+    match worker.turn(rt) {
+        Turn::Held => thread::yield_now(),
+        Turn::Idle => {
+            if worker.shard().journal().len() >= 2 * TAPS as usize {
+                return true;
+            }
+            worker.wait(rt, Duration::from_millis(REST));
+        }
+        _ => {}
+    }
+    false
+}
+
+// Takes turns until all taps are answered.
 fn run_worker<F: Fares, G: Gate, R: Wait>(rt: &R, mut worker: Worker<F, G>) -> Worker<F, G>
     ensures { IsSameWorker worker result }
 {
     laws::same_workers();
     for _ in rt.forever() {
-        let turn = worker.turn(rt);
-        if turn == Turn::Held {
-            thread::yield_now();
-        }
-        if turn == Turn::Idle {
-            if worker.shard().journal().len() >= 2 * TAPS as usize {
-                break;
-            }
-            worker.wait(rt, Duration::from_millis(REST));
+        if is_done(rt, &mut worker) {
+            break;
         }
     }
     worker
@@ -141,7 +148,6 @@ fn run_worker<F: Fares, G: Gate, R: Wait>(rt: &R, mut worker: Worker<F, G>) -> W
 fn start_lane<R>(rt: R, alloc: Global, lane: Lane) -> PromisedHandle<(Lane, Vec<Answer>), SameLane>
 where
     R: Threads + Wait + Abort + Copy + Send + 'static,
-    requires { 0 < length lane.shards }
     ensures { result.promise.0.value ≡ lane }
 {
     let same = SameLane(Snapshot::of(&lane));
@@ -156,8 +162,7 @@ fn run_all<F: Fares, G: Gate, R>(
 ) -> (Ended<G>, Vec<Answer>, Vec<Answer>)
 where
     R: Threads + Wait + Abort + Copy + Send + 'static,
-    requires together { AreTogether opened.workers.items opened.lanes.items }
-    requires shards { All (λ l. 0 < length l.shards) opened.lanes.items }
+    requires { AreTogether opened.workers.items opened.lanes.items }
 {
     laws::still_together();
     laws::same_lanes();
@@ -166,23 +171,23 @@ where
         mut workers,
         mut lanes,
     } = opened;
-    let worker = workers.pop().expect(&rt, "a worker");
-    let second = lanes.pop().expect(&rt, "a lane");
-    let first = lanes.pop().expect(&rt, "a lane");
+    let worker = take_last(&rt, &mut workers);
+    let second = take_last(&rt, &mut lanes);
+    let first = take_last(&rt, &mut lanes);
     let first = start_lane(rt, alloc, first);
     let second = start_lane(rt, alloc, second);
     let worker = run_worker(&rt, worker);
     let (first, by_first) = first.join(&rt);
     let (second, by_second) = second.join(&rt);
-    workers.push(worker).expect(&rt, "memory");
-    lanes.push(second).expect(&rt, "memory");
-    lanes.push(first).expect(&rt, "memory");
+    add_last(&rt, &mut workers, worker);
+    add_last(&rt, &mut lanes, second);
+    add_last(&rt, &mut lanes, first);
     let ended = end(&rt, workers, lanes).ok().expect(&rt, "all lanes");
     (ended, by_first, by_second)
 }
 
 // So an answer is the one that a shard of its own gives to the entry, which is the next.
-fn expect_answer<R: Abort>(rt: &R, shard: &mut Shard<Book>, entry: Entry, answer: &Answer) {
+fn expect_answer<F: Fares, R: Abort>(rt: &R, shard: &mut Shard<F>, entry: Entry, answer: &Answer) {
     shard.reserve(1).expect(rt, "memory");
     let wanted = shard.apply(entry);
     expect_same(
@@ -200,14 +205,14 @@ fn next_of<'a, R: Abort>(rt: &R, taken: &'a [Answer], next: usize) -> &'a Answer
 }
 
 // So the answers that two lanes took are those that the run of the journal gives, in its order, and no more.
-fn expect_run<R: Abort + AllocGlobal>(
+fn expect_run<F: Fares, R: Abort + AllocGlobal>(
     rt: &R,
     editions: Arc<Editions>,
     journal: &Journal,
     first: &[Answer],
     second: &[Answer],
 ) {
-    let none: Vec<Book> = Vec::new(rt.alloc());
+    let none: Vec<F> = Vec::new(rt.alloc());
     let mut shard = Shard::new(rt.alloc(), 0, editions, none)
         .ok()
         .expect(rt, "memory");
@@ -240,7 +245,7 @@ where
         .expect(&rt, "memory");
     let (ended, first, second) = run_all(rt, alloc, opened);
     let journal = ended.journals.first().expect(&rt, "a journal");
-    expect_run(
+    expect_run::<Book, R>(
         &rt,
         same_tables,
         journal,

@@ -1,20 +1,21 @@
 //! What waits, and what is refused while it does.
 
 use crate::gates::{Counting, passing};
-use crate::given::{due, expect_same, gates, one_route, opened, pence};
+use crate::given::{due, expect_same, gates, one_route, opened, sent, taken};
 use pay_book::Book;
-use pay_lanes::{Lane, OpenGate, OpenLanesFault, Opened, SendFault, Turn, Worker, open};
+use pay_lanes::{Gate, Lane, OpenGate, OpenLanesFault, Opened, SendFault, Turn, Worker, open};
+use pay_rules::Fares;
 use std::process::Abort;
 use std::sync::Wait;
 
-fn refused<R: Abort + AllocGlobal>(
+fn refused<F: Fares, R: Abort + AllocGlobal>(
     rt: &R,
     shards: u8,
     lanes: u8,
     gate_count: u8,
 ) -> Option<OpenLanesFault> {
     let gates = gates(rt, gate_count);
-    let opened = open::<Book, OpenGate>(rt.alloc(), one_route(rt), shards, lanes, gates);
+    let opened = open::<F, OpenGate>(rt.alloc(), one_route(rt), shards, lanes, gates);
     opened.err()
 }
 
@@ -23,29 +24,80 @@ fn counts_out_of_limits(rt: HostRuntime) {
     for (shards, lanes, gates) in [(0, 1, 0), (17, 1, 17), (1, 0, 1), (1, 17, 1), (2, 1, 1)] {
         expect_same(
             &rt,
-            refused(&rt, shards, lanes, gates),
+            refused::<Book, HostRuntime>(&rt, shards, lanes, gates),
             Some(OpenLanesFault::Count),
         );
     }
-    expect_same(&rt, refused(&rt, 16, 16, 16), None);
+    expect_same(&rt, refused::<Book, HostRuntime>(&rt, 16, 16, 16), None);
 }
 
-// Asks for what account 7 owes.
-fn asked<R: Abort + Wait>(rt: &R, lanes: &mut Vec<Lane>, lane: usize) -> Result<u64, SendFault> {
-    let command = due(rt, 7);
-    let lane = lanes.get_mut(lane).expect(rt, "a lane");
-    assert!(rt; lane.shards() > 0);
-    lane.send(rt, command).map(|ticket| ticket.number())
-}
-
-// Takes an answer, by the ticket, and what is due.
-fn taken<R: Abort + Wait>(
+// Asks for what account 7 owes, and compares the ticket.
+fn expect_asked<R: Abort + Wait>(
     rt: &R,
     lanes: &mut Vec<Lane>,
     lane: usize,
-) -> Option<(u64, Option<u64>)> {
+    wanted: Result<u64, SendFault>,
+) {
+    let command = due(rt, 7);
     let lane = lanes.get_mut(lane).expect(rt, "a lane");
-    lane.take(rt).map(|answer| (answer.ticket, pence(&answer)))
+    expect_same(rt, sent(rt, lane, command), wanted);
+}
+
+// Takes an answer, and compares its ticket, and what is due.
+fn expect_told<R: Abort + Wait>(
+    rt: &R,
+    lanes: &mut Vec<Lane>,
+    lane: usize,
+    wanted: Option<(u64, Option<u64>)>,
+) {
+    let lane = lanes.get_mut(lane).expect(rt, "a lane");
+    expect_same(rt, taken(rt, lane), wanted);
+}
+
+// Asks from a lane sixteen times.
+fn ask_sixteen<R: Abort + Wait>(rt: &R, lanes: &mut Vec<Lane>, lane: usize) {
+    for ticket in 0..16 {
+        expect_asked(rt, lanes, lane, Ok(ticket));
+    }
+}
+
+// So that is answered, and nothing else.
+fn expect_sixteen<R: Abort + Wait>(rt: &R, lanes: &mut Vec<Lane>, lane: usize) {
+    for ticket in 0..16 {
+        expect_told(rt, lanes, lane, Some((ticket, Some(0))));
+    }
+    expect_told(rt, lanes, lane, None);
+}
+
+// Takes so many turns, each of which does something, and one that does this.
+fn expect_turns<F: Fares, G: Gate, R: Abort + Wait>(
+    rt: &R,
+    worker: &mut Worker<F, G>,
+    count: usize,
+    last: Turn,
+) {
+    for place in 0..count {
+        expect_same(rt, worker.turn(rt), Turn::Did(place));
+    }
+    expect_same(rt, worker.turn(rt), last);
+}
+
+fn fill<F: Fares, G: Gate, R: Abort + Wait>(
+    rt: &R,
+    worker: &mut Worker<F, G>,
+    lanes: &mut Vec<Lane>,
+) {
+    for lane in 0..4 {
+        ask_sixteen(rt, lanes, lane);
+    }
+    expect_asked(rt, lanes, 0, Err(SendFault::Window));
+    expect_asked(rt, lanes, 4, Err(SendFault::Busy));
+    expect_turns(rt, worker, 64, Turn::Idle);
+    for lane in 0..4 {
+        expect_sixteen(rt, lanes, lane);
+    }
+    expect_asked(rt, lanes, 0, Ok(16));
+    expect_asked(rt, lanes, 4, Ok(0));
 }
 
 #[test]
@@ -53,27 +105,25 @@ fn sixteen_of_a_lane_and_sixty_four_of_a_shard(rt: HostRuntime) {
     let Opened {
         mut workers,
         mut lanes,
-    } = opened(&rt, 1, 5);
+    } = opened::<Book, HostRuntime>(&rt, 1, 5);
     let worker = workers.first_mut().expect(&rt, "a worker");
-    for lane in 0..4 {
-        for ticket in 0..16 {
-            expect_same(&rt, asked(&rt, &mut lanes, lane), Ok(ticket));
-        }
+    fill(&rt, worker, &mut lanes);
+}
+
+fn be_held<F: Fares, G: Gate, R: Abort + Wait>(
+    rt: &R,
+    worker: &mut Worker<F, G>,
+    lanes: &mut Vec<Lane>,
+) {
+    for ticket in 0..4 {
+        expect_asked(rt, lanes, 0, Ok(ticket));
     }
-    expect_same(&rt, asked(&rt, &mut lanes, 0), Err(SendFault::Window));
-    expect_same(&rt, asked(&rt, &mut lanes, 4), Err(SendFault::Busy));
-    for place in 0..64 {
-        expect_same(&rt, worker.turn(&rt), Turn::Did(place));
-    }
-    expect_same(&rt, worker.turn(&rt), Turn::Idle);
-    for lane in 0..4 {
-        for ticket in 0..16 {
-            expect_same(&rt, taken(&rt, &mut lanes, lane), Some((ticket, Some(0))));
-        }
-        expect_same(&rt, taken(&rt, &mut lanes, lane), None);
-    }
-    expect_same(&rt, asked(&rt, &mut lanes, 0), Ok(16));
-    expect_same(&rt, asked(&rt, &mut lanes, 4), Ok(0));
+    expect_turns(rt, worker, 3, Turn::Shut);
+    expect_same(rt, worker.turn(rt), Turn::Shut);
+    expect_same(rt, worker.shard().journal().len(), 3);
+    expect_told(rt, lanes, 0, Some((0, Some(0))));
+    expect_told(rt, lanes, 0, Some((1, Some(0))));
+    expect_told(rt, lanes, 0, None);
 }
 
 #[test]
@@ -85,17 +135,5 @@ fn nothing_after_an_answer_that_is_held(rt: HostRuntime) {
         .ok()
         .expect(&rt, "memory");
     let worker: &mut Worker<Book, Counting> = workers.first_mut().expect(&rt, "a worker");
-    for ticket in 0..4 {
-        expect_same(&rt, asked(&rt, &mut lanes, 0), Ok(ticket));
-    }
-    for place in 0..3 {
-        expect_same(&rt, worker.turn(&rt), Turn::Did(place));
-    }
-    for _ in 0..2 {
-        expect_same(&rt, worker.turn(&rt), Turn::Shut);
-    }
-    expect_same(&rt, worker.shard().journal().len(), 3);
-    expect_same(&rt, taken(&rt, &mut lanes, 0), Some((0, Some(0))));
-    expect_same(&rt, taken(&rt, &mut lanes, 0), Some((1, Some(0))));
-    expect_same(&rt, taken(&rt, &mut lanes, 0), None);
+    be_held(&rt, worker, &mut lanes);
 }

@@ -1,11 +1,10 @@
-use Rattle.pay_lane_tests.proofs.Together.{popped, pushed}
-use Rattle.pay_lane_tests.proofs.Used.{all_back}
+use Rattle.pay_lane_tests.proofs.Used.{all_back, but_the_last}
 use Rattle.pay_lane_tests.proofs.offices.missing_a_lane.Goals as goal
+
+pub not_shut-fault-requires : goal.not_shut-fault-requires
+not_shut-fault-requires g c = but_the_last c.begun.inside.office c.begun.inside.lanes.items c.take_last-last.new.list.items c.take_last-last.result c.begun.invariant c.take_last-last.ensures
 
 pub invariant_of-result : goal.invariant_of-result
 invariant_of-result g c =
-    all_back c.begun.inside.office c.in-Err.back.1 c.begun.inside.lanes.items c.pop.new.self.items c.in-Err.back.2.items c.push.new.self.items c.expect-last.result
-    c.begun.invariant c.in-Err.ensures.given_back.0
-    (popped c.begun.inside.lanes.items c.pop.new.self.items c.pop.result c.expect-last.result c.pop.ensures.items c.expect-last.ensures)
-    c.in-Err.ensures.given_back.1
-    (pushed c.push.result c.expect.result c.in-Err.back.2.items c.push.new.self.items c.expect-last.result c.expect.ensures c.push.ensures.items)
+    all_back c.begun.inside.office c.not_shut-fault.result.1 c.begun.inside.lanes.items c.take_last-last.new.list.items c.not_shut-fault.result.2.items c.add_last.new.list.items c.take_last-last.result
+    c.begun.invariant c.not_shut-fault.ensures.office c.take_last-last.ensures c.not_shut-fault.ensures.lanes c.add_last.ensures

@@ -1,5 +1,10 @@
-use Rattle.std.proofs.Common.{length}
 use Rattle.pay_lane_tests.proofs.threads.send_surely.Goals as goal
 
-pub send-requires-clause-shards : goal.send-requires-clause-shards
-send-requires-clause-shards g c = c.bus_tap-command.ensures (length c.loop.lane.shards)
+pub returns-then-is_ok : goal.returns-then-is_ok
+returns-then-is_ok g c = c.same_lanes.ensures.then c.args.lane.now c.loop.lane c.sent.new.lane c.loop.invariant c.sent.ensures
+
+pub loop-preserved : goal.loop-preserved
+loop-preserved g c =
+    c.same_lanes.ensures.then c.args.lane.now c.sent.new.lane c.take_one.new.lane
+    (c.same_lanes.ensures.then c.args.lane.now c.loop.lane c.sent.new.lane c.loop.invariant c.sent.ensures)
+    c.take_one.ensures
