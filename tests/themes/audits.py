@@ -104,7 +104,7 @@ def what_differs(folder):
 
 @test
 def of_services(folder):
-    """The journals of a service are those of its folder, and a folder without any has no lines."""
+    """The journals of a service are those of its folder; one may be missing or empty, and a folder without any is none of a service."""
     journals, ledger = new_folder(folder), os.path.join(folder, "ledger")
     more = with_both(journals, ledger)
     with serving(1, 2, 1, more=more) as (ran, port, said):
@@ -121,7 +121,10 @@ def of_services(folder):
     written(journals, of_seven, f"{BUS}\nTAP 1 1 7 {SEVEN + 1} 50 BUS\n".encode())
     yield "a line that is not accepted", audit(folder, journal="journals"), fault(f"{journals}/{of_seven} line 2: 20 Conflict")
     new_folder(folder, "empty")
-    yield "an empty folder", audit(folder, ledger=None, journal="empty"), answers(b"")
+    for name, more in (("an empty folder", None), ("an empty folder and a ledger", "ledger")):
+        yield name, audit(folder, ledger=more, journal="empty"), fault("cannot use journal")
+    written(folder, os.path.join("empty", "15.lines"), b"")
+    yield "a folder with one empty journal", audit(folder, ledger=None, journal="empty"), answers(b"")
 
 
 @test

@@ -112,6 +112,41 @@ def what_is_no_note(folder):
 
 
 @test
+def ledgers_in_their_place(folder):
+    """A ledger in the place of what is written beside a journal, or where that is written first, is refused, and none is made."""
+    names = ("journal.posted", "journal.fares", "journal.posted.tmp", "journal.fares.tmp")
+    for name in names:
+        yield f"a first session with {name}", closing(folder, [BUS, "CLOSE 19730"], ledger=name), fault("43 Store")
+        yield f"{name} is not made", answers(bytes_of(os.path.join(folder, name))), answers(None)
+    yield "a first close", closing(folder, [BUS, "CLOSE 19730"]), answers(b"OK 19730 175 175\n" + PAID + DONE)
+    os.symlink(folder, os.path.join(folder, "again"))
+    kept = {name: bytes_of(os.path.join(folder, name)) for name in ("journal", *names)}
+    for name in names:
+        for way in (name, os.path.join("again", name), os.path.join(".", name)):
+            yield f"{way}", closing(folder, [f"TAP 1 2 7 {SEVEN + 7200} 50 BUS", "CLOSE 19730"], ledger=way), fault("43 Store")
+    for name, text in kept.items():
+        yield f"then {name}", answers(bytes_of(os.path.join(folder, name))), answers(text)
+    journals = new_folder(folder, "journals")
+    for name in ("all.posted", "all.fares", "all.posted.tmp", "all.fares.tmp"):
+        ledger = os.path.join(journals, name)
+        yield f"a service with {name}", run([*words_of(free_ports(1), 1, 2), *with_both(journals, ledger)]), fault("43 Store")
+        yield f"{name} is not made", answers(bytes_of(ledger)), answers(None)
+
+
+@test
+def links_in_the_way(folder):
+    """A link where a note is written first is not followed: what it leads to stays."""
+    noted, other = os.path.join(folder, "journal.posted"), os.path.join(folder, "other")
+    written(folder, "other", b"another's")
+    os.symlink(other, f"{noted}.tmp")
+    os.symlink(other, os.path.join(folder, "journal.fares.tmp"))
+    yield "a close", closing(folder, [BUS, "CLOSE 19730"]), answers(b"OK 19730 175 175\n" + PAID + DONE)
+    yield "what is noted", answers(bytes_of(noted)), answers(b"7 19730 19730 1\n")
+    yield "what the links lead to", answers(bytes_of(other)), answers(b"another's")
+    yield "they are gone", answers(repr(sorted(it for it in os.listdir(folder) if it.endswith(".tmp"))).encode()), answers(b"[]")
+
+
+@test
 def days_that_are_not_over(folder):
     """A day that is not over by the clock is not closed into a ledger in a file, unless that is asked for."""
     utc = ["run", RUN[1], "UTC0"]

@@ -182,7 +182,7 @@ where
         )?;
     }
     if let Some(ledger) = words.ledger {
-        kept.refuse_new_ledger(&rt, ledger)?;
+        kept.refuse_ledger(&rt, ledger)?;
     }
     let given = Given {
         editions,
@@ -198,7 +198,7 @@ where
         }
         Some(path) => {
             let noted = noted_in(&rt, folder)?;
-            noted.refuse_new_ledger(&rt, path)?;
+            noted.refuse_ledger(&rt, path)?;
             serve_kept_in_file(rt, words, path, given, &kept, noted)
         }
     }

@@ -38,7 +38,8 @@ fn is_folder<R: Files>(rt: &R, path: &str) -> bool {
     fs::metadata(rt, path).is_ok_and(|found| found.is_dir())
 }
 
-/// The bytes of the journal at a path, or of those in a folder. One that a folder does not have is empty.
+/// The bytes of the journal at a path, or of those in a folder: one that a folder does not have is empty, and a folder without any is none
+/// of a service.
 fn texts_at<R: Files + AllocGlobal>(rt: &R, path: &str) -> Result<Vec<Vec<u8>>, Fault> {
     let mut texts: Vec<Vec<u8>> = Vec::new(rt.alloc());
     if !is_folder(rt, path) {
@@ -47,20 +48,30 @@ fn texts_at<R: Files + AllocGlobal>(rt: &R, path: &str) -> Result<Vec<Vec<u8>>, 
             .map_err(AllocError::from)?;
         return Ok(texts);
     }
+    let mut has_any = false;
     for number in 0..u64::from(JOURNALS) {
         let text = text_in(rt, path, number)?;
+        has_any = has_any || text.is_some();
+        let text = text.unwrap_or_else(|| Vec::new(rt.alloc()));
         texts.push(text).map_err(AllocError::from)?;
     }
-    Ok(texts)
+    if has_any {
+        return Ok(texts);
+    }
+    Err(Fault::File(FileFault::CannotUseJournal))
 }
 
-/// The bytes of the journal of that number in a folder.
-fn text_in<R: Files + AllocGlobal>(rt: &R, folder: &str, number: u64) -> Result<Vec<u8>, Fault> {
+/// The bytes of the journal of that number in a folder, if it has that one.
+fn text_in<R: Files + AllocGlobal>(
+    rt: &R,
+    folder: &str,
+    number: u64,
+) -> Result<Option<Vec<u8>>, Fault> {
     let path = path_in(rt.alloc(), folder, number)?;
     match fs::metadata(rt, path.as_str()) {
-        Err(error) if error.kind() == ErrorKind::NotFound => Ok(Vec::new(rt.alloc())),
+        Err(error) if error.kind() == ErrorKind::NotFound => Ok(None),
         Err(error) => Err(memory_or(&error, Fault::File(FileFault::CannotUseJournal))),
-        Ok(_) => read_journal(rt, path.as_str()),
+        Ok(_) => Ok(Some(read_journal(rt, path.as_str())?)),
     }
 }
 

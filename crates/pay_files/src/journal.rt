@@ -22,6 +22,9 @@ pub(crate) const JOURNALS: u8 = MOST_SHARDS as u8;
 /// Who may read and write a file that is made here: accounts and charges are nobody else's.
 pub(crate) const OWNER_ALONE: u32 = 0o600;
 
+/// What the name of a file ends with that is written beside another, before it takes that one's place.
+pub(crate) const ASIDE: &str = ".tmp";
+
 /// The journals in a folder, by their numbers.
 #[derive(Drop)]
 pub struct JournalFiles<R> {
@@ -186,6 +189,49 @@ pub(crate) fn is_new_ledger<R: Files>(rt: &R, ledger: &str) -> bool {
     }
 }
 
+/// Refuses a ledger whose place is that of a file which is written beside the journals, or where that is written first: it would be
+/// written over. The ledger need not be there yet.
+pub(crate) fn refuse_ledger_at<R: Files + AllocGlobal>(
+    rt: &R,
+    ledger: &str,
+    beside: &str,
+) -> Result<(), Fault> {
+    let place = place_of(rt, ledger)?;
+    let own = place_of(rt, beside)?;
+    let place = place.as_str();
+    if place == own.as_str() || place.strip_suffix(ASIDE) == Some(own.as_str()) {
+        return Err(Fault::from(OpenFault::Store));
+    }
+    Ok(())
+}
+
+/// Where the file at a path lies, or would lie: its name after its folder, without links. As it is written, where that has no folder.
+fn place_of<R: Files + AllocGlobal>(rt: &R, path: &str) -> Result<String, AllocError> {
+    let mut place = String::new(rt.alloc());
+    match put_place(rt, path, &mut place) {
+        Ok(()) => Ok(place),
+        Err(error) if error.kind() == ErrorKind::OutOfMemory => Err(AllocError),
+        Err(_) => {
+            let mut place = String::new(rt.alloc());
+            place.push_str(path)?;
+            Ok(place)
+        }
+    }
+}
+
+fn put_place<R: Files + AllocGlobal>(rt: &R, path: &str, place: &mut String) -> io::Result<()> {
+    match fs::canonicalize(rt, path) {
+        Ok(file) => place.push_str(file.as_str())?,
+        Err(error) if error.kind() == ErrorKind::NotFound => {
+            let folder = fs::canonicalize(rt, folder_of(path))?;
+            let folder = folder.as_str();
+            write!(place, "{}/{}", folder.trim_end_matches('/'), name_of(path))?;
+        }
+        Err(error) => return Err(error),
+    }
+    Ok(())
+}
+
 /// Makes the file at a path, at which nothing stands.
 fn make_new<R: Files<File = File>>(rt: &R, path: &str) -> io::Result<()> {
     OpenOptions::new()
@@ -337,5 +383,13 @@ fn folder_of(path: &str) -> &str {
         None => ".",
         Some(("", _)) => "/",
         Some((folder, _)) => folder,
+    }
+}
+
+/// The name of the file at a path in its folder.
+fn name_of(path: &str) -> &str {
+    match path.rsplit_once('/') {
+        None => path,
+        Some((_, name)) => name,
     }
 }

@@ -2,7 +2,7 @@
 ghost use Rattle.std.specs.Prelude.{◌≡◌, true, OnErr};
 
 use crate::errors::memory_or;
-use crate::journal::{OWNER_ALONE, is_new_ledger, settle_folder_of};
+use crate::journal::{ASIDE, OWNER_ALONE, is_new_ledger, refuse_ledger_at, settle_folder_of};
 use crate::noted::NotedPosting;
 use pay_jobs::{Command, Fault, FileFault, Keeper, NotKept, has_ledger, kept_text};
 use std::alloc::{AllocError, Global};
@@ -64,8 +64,13 @@ impl KeptFares {
         }
     }
 
-    /// Refuses a ledger that is new, where the journal had one: it has nothing of what was charged.
-    pub fn refuse_new_ledger<R: Files>(&self, rt: &R, ledger: &str) -> Result<(), Fault> {
+    /// Refuses a ledger in the place of what is kept, and one that is new where the journal had one: it has nothing of what was charged.
+    pub fn refuse_ledger<R: Files + AllocGlobal>(
+        &self,
+        rt: &R,
+        ledger: &str,
+    ) -> Result<(), Fault> {
+        refuse_ledger_at(rt, ledger, self.path.as_str())?;
         if self.had_ledger && is_new_ledger(rt, ledger) {
             return Err(Fault::File(FileFault::NewLedger));
         }
@@ -167,11 +172,12 @@ pub(crate) fn replace<R: Files<File = File> + AllocGlobal>(
     text: &str,
 ) -> io::Result<()> {
     let mut aside = copy_of(rt.alloc(), path)?;
-    aside.push_str(".tmp")?;
+    aside.push_str(ASIDE)?;
+    // What a crash left there goes. Another's link in its place is not followed.
+    let _ = fs::remove_file(rt, aside.as_str());
     let mut file = OpenOptions::new()
         .write(true)
-        .create(true)
-        .truncate(true)
+        .create_new(true)
         .mode(OWNER_ALONE)
         .open(rt, aside.as_str())?;
     file.write_all(text.as_bytes())?;

@@ -1,7 +1,7 @@
 //! The last posting that is noted beside a journal, as a file.
 
 use crate::errors::memory_or;
-use crate::journal::is_new_ledger;
+use crate::journal::{is_new_ledger, refuse_ledger_at};
 use crate::kept::{replace, text_at};
 use pay_jobs::{
     Alter, Fault, FileFault, LastPosting, Ledger, posting_of_text, take_noted, text_of_posting,
@@ -44,8 +44,13 @@ impl NotedPosting {
         self.there.as_ref()
     }
 
-    /// Refuses a ledger that is not made yet, where a posting is noted.
-    pub fn refuse_new_ledger<R: Files>(&self, rt: &R, ledger: &str) -> Result<(), Fault> {
+    /// Refuses a ledger in the place of the note, and one that is not made yet where a posting is noted.
+    pub fn refuse_ledger<R: Files + AllocGlobal>(
+        &self,
+        rt: &R,
+        ledger: &str,
+    ) -> Result<(), Fault> {
+        refuse_ledger_at(rt, ledger, self.path.as_str())?;
         if self.there.is_some() && is_new_ledger(rt, ledger) {
             return Err(Fault::File(FileFault::NewLedger));
         }

@@ -96,7 +96,7 @@ where
         begun.compare(rt.alloc(), words.zone, other)?;
     }
     if let Some(ledger) = words.ledger {
-        kept.refuse_new_ledger(rt, ledger)?;
+        kept.refuse_ledger(rt, ledger)?;
     }
     let keeper = FaresFirst::over(*rt, begun.keeper(file, words.syncs), kept);
     match words.ledger {
@@ -123,7 +123,7 @@ where
     R: Files<File = File> + Ledgers + Clock + Print + Eprint + AllocGlobal + Copy,
 {
     if let Some(noted) = &noted {
-        noted.refuse_new_ledger(rt, path)?;
+        noted.refuse_ledger(rt, path)?;
     }
     ready_ledger(rt, path)?;
     let mut ledger = rt.ledger(path, Wary)?;
