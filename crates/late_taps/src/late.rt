@@ -5,7 +5,7 @@ ghost use Rattle.pay_book.specs.History.{account_of};
 use crate::commands::{Asked, Failed, Shape, early_command, late_command};
 use pay_account::Account;
 use pay_book::{Book, Sent};
-use pay_fare_file::read_editions;
+use pay_editions::read_editions;
 use pay_rules::Fares;
 use pay_tables::Editions;
 use std::rt::{Clock, Env, Files};

@@ -10,7 +10,7 @@ use crate::fault::CheckFault;
 use crate::output::write_text;
 use pay_compare::{Difference, first_difference};
 use pay_day::limits::LAST_DAY;
-use pay_fare_file::read_editions;
+use pay_editions::read_editions;
 use pay_tables::Editions;
 use pay_wire::KnownWriter;
 use std::alloc::Global;

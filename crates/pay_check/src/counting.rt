@@ -6,7 +6,7 @@ ghost use Rattle.pay_wire.specs.Words.{IsFlushed, HasFault};
 
 use crate::fault::CheckFault;
 use crate::output::write_text;
-use pay_fare_file::read_editions;
+use pay_editions::read_editions;
 use pay_tables::Counts;
 use pay_wire::KnownWriter;
 use std::alloc::{AllocError, Global};

@@ -1,27 +1,30 @@
-//! The fare file: a text of TOML, read key by key as the tables and the editions that it says, or its first fault.
+//! The keys of a fare file: what stands at each, or why it is refused, and where. `pay_editions` reads the whole.
 #![tactic(auto)]
 
 mod bands;
-mod editions;
 mod fault;
 mod holidays;
 mod interchanges;
 mod key;
 mod keys;
-pub mod laws;
-mod lines;
 mod minutes;
 mod misread;
 mod places;
-mod reading;
 mod routes;
 mod rules;
 mod singles;
 mod spot;
 mod stations;
 
+pub use bands::bands_told;
 pub use fault::FareFileFault;
+pub use holidays::holidays_told;
+pub use interchanges::interchanges_told;
 pub use key::Key;
-pub use keys::{integer, integer_at, member};
-pub use reading::{check_file, fault_place, read_editions};
+pub use keys::{inner_table_told, integer, integer_at, integer_told, items_told, member};
+pub use minutes::minutes_told;
+pub use misread::Misread;
+pub use places::places_told;
+pub use rules::rules_at_told;
+pub use singles::singles_told;
 pub use spot::{FaultPlace, Spot};

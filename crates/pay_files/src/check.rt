@@ -4,7 +4,7 @@ ghost use Rattle.pay_jobs.specs.Words.{IsDay};
 
 use crate::input::{fares_text, old_fares_text, print_warnings};
 use pay_check::{CheckFault, check_against, check_text};
-use pay_fare_file::fault_place;
+use pay_editions::fault_place;
 use pay_jobs::Fault;
 use pay_words::CheckWords;
 use std::io;

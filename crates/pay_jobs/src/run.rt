@@ -23,7 +23,7 @@ use jiff::tz::TimeZone;
 use pay_book::Book;
 use pay_close::Watch;
 use pay_day::stamp;
-use pay_fare_file::read_editions;
+use pay_editions::read_editions;
 use pay_journal::{Keeper, Lasting, LineKeeper};
 use pay_ledger::Ledger;
 use pay_run::{Ran, replayed_desk, run_lines, run_lines_without_ledger};

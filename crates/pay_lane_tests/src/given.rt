@@ -5,7 +5,7 @@ ghost use Rattle.pay_lanes.specs.Words.{AreTogether, IsSameLane};
 ghost use Rattle.pay_shard.specs.Words.{IsForShards};
 
 use pay_day::Moment;
-use pay_fare_file::read_editions;
+use pay_editions::read_editions;
 use pay_lanes::{Lane, OpenGate, Opened, SendFault, open};
 use pay_rules::{Fares, Kind, Tap};
 use pay_shard::{Answer, Asked, Command, Reply};

@@ -3,7 +3,7 @@
 use crate::sample::SAMPLE_FARES;
 use jiff::tz::TimeZone;
 use pay_day::Moment;
-use pay_fare_file::read_editions;
+use pay_editions::read_editions;
 use pay_rules::{Kind, Tap};
 use pay_tables::Editions;
 use std::fmt::Debug;

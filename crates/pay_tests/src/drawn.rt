@@ -2,7 +2,7 @@
 
 use crate::dice::Dice;
 use crate::sample::SAMPLE_FARES;
-use pay_fare_file::read_editions;
+use pay_editions::read_editions;
 use pay_tables::Editions;
 use std::alloc::{AllocError, Global};
 use std::process::Abort;

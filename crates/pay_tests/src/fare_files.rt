@@ -2,6 +2,7 @@
 
 use crate::given::{expect_same, sample};
 use crate::sample::SAMPLE_FARES;
+use pay_editions::*;
 use pay_fare_file::*;
 use pay_money::Pence;
 use pay_tables::*;

@@ -3,7 +3,7 @@
 use crate::accounts::{empty_account, expect_fixed, expect_price};
 use crate::given::{MONDAY, expect_same, tap_at};
 use pay_account::Account;
-use pay_fare_file::read_editions;
+use pay_editions::read_editions;
 use pay_rules::{Addition, Fares, Fix, Kind, Tap, What};
 use pay_tables::Editions;
 use std::process::Abort;

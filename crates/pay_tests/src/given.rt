@@ -2,7 +2,7 @@
 
 use crate::sample::SAMPLE_FARES;
 use pay_day::Moment;
-use pay_fare_file::read_editions;
+use pay_editions::read_editions;
 use pay_rules::{Kind, Tap, Touch};
 use pay_tables::Editions;
 use std::fmt::Debug;

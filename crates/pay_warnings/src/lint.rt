@@ -12,7 +12,8 @@ use crate::said_tables::{add_array, add_shared, items_in, whole};
 use crate::unread::{add, add_unread};
 use crate::warning::{Concern, Warning};
 use pay_day::limits::LAST_DAY;
-use pay_fare_file::{FareFileFault, Key, check_file, integer, integer_at};
+use pay_editions::check_file;
+use pay_fare_file::{FareFileFault, Key, integer, integer_at};
 use std::alloc::{AllocError, Global};
 use toml::{Table, Value};
 

@@ -3,9 +3,9 @@ use Rattle.std.proofs.lemmas.Result.{IfOk-at_ok}
 use Rattle.toml.specs.View.{table_view}
 use Rattle.pay_tables.specs.Words.{IsFareTables, FareTables}
 use Rattle.pay_fare_file.specs.FaultPlaces.{own_keys_told}
-use Rattle.pay_fare_file.proofs.Forgetting.{found, own_keys_untold}
-use Rattle.pay_fare_file.proofs.Ranges.{own_keys_are}
-use Rattle.pay_fare_file.proofs.reading.own_keys.Goals as goal
+use Rattle.pay_editions.proofs.Forgetting.{found, own_keys_untold}
+use Rattle.pay_editions.proofs.Ranges.{own_keys_are}
+use Rattle.pay_editions.proofs.reading.own_keys.Goals as goal
 
 pub new-requires : goal.new-requires
 new-requires c =

@@ -3,9 +3,9 @@ use Rattle.std.proofs.lemmas.Result.{IfOk-at_ok}
 use Rattle.toml.specs.View.{table_view}
 use Rattle.pay_tables.specs.Words.{IsFareEditions, FareEditions}
 use Rattle.pay_fare_file.specs.FaultPlaces.{fare_file_told}
-use Rattle.pay_fare_file.proofs.Forgetting.{found, fare_file_untold}
-use Rattle.pay_fare_file.proofs.Ranges.{fare_file_is}
-use Rattle.pay_fare_file.proofs.reading.editions_of.Goals as goal
+use Rattle.pay_editions.proofs.Forgetting.{found, fare_file_untold}
+use Rattle.pay_editions.proofs.Ranges.{fare_file_is}
+use Rattle.pay_editions.proofs.reading.editions_of.Goals as goal
 
 pub new-requires : goal.new-requires
 new-requires c =

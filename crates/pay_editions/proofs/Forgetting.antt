@@ -26,7 +26,7 @@ use Rattle.pay_fare_file.specs.declared.spot.FaultPlace.TheVariants.{Own, OfEdit
 use Rattle.pay_fare_file.specs.Fault.{◌>>=◌}
 use Rattle.pay_fare_file.specs.Keys.{integer_of, integer_at, table_of, table_at, array_at, items_len, items_at}
 use Rattle.pay_fare_file.specs.Spots.{TellsUnlessMemory, told, fault_of, untold, put_in, integer_told}
-use Rattle.pay_fare_file.proofs.Documents.{fare_file-never_NotToml, fare_file-never_Memory}
+use Rattle.pay_editions.proofs.Documents.{fare_file-never_NotToml, fare_file-never_Memory}
 use Rattle.pay_fare_file.specs.FareFile.{with_each, with_minutes, minutes_items_at, minutes_at, hopper_at, rules_of, single_of, another_single, with_single, complete, singles_at, cover_at, band_of, another_band, with_band, bands_at, another_holiday, with_holiday, holidays_at, station_of, route_of, unless_taken, with_place, with_station, with_route, places_at, another_at, interchange_of, another_interchange, with_interchange, interchanges_at, zones_at, own_keys, tables_of_edition, edition_of, another_edition, with_edition, editions_at, fare_file, fare_document}
 use Rattle.pay_fare_file.specs.FaultPlaces.{with_minutes_told, minutes_told, rules_told, rules_at_told, single_told, another_single_told, with_single_told, singles_told, cover_told, band_told, another_band_told, with_band_told, bands_told, with_holiday_told, holidays_told, station_told, route_told, with_place_told, with_station_told, with_route_told, with_each_numbered, places_told, interchange_told, another_interchange_told, with_interchange_told, interchanges_told, own_keys_told, tables_of_edition_told, edition_told, another_edition_told, with_edition_told, editions_told, fare_file_told, place_told, TellsOf, IsPlaceIn}
 

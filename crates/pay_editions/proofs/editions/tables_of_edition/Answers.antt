@@ -1,13 +1,11 @@
-use Rattle.std.proofs.Common.{◌≡◌, Ok, Err, Some, rules, ap, sym, subst}
-use Rattle.std.specs.Prelude.{◌≢◌}
-use Rattle.std.proofs.lemmas.Result.{IfOk-at_ok, err_from_is_err_and}
+use Rattle.std.proofs.Common.{◌≡◌, Ok, Some, rules, ap, sym}
+use Rattle.std.proofs.lemmas.Result.{IfOk-at_ok}
 use Rattle.toml.specs.View.{table_view}
 use Rattle.pay_tables.specs.Words.{IsFareTables, FareTables, AreOfOneFile}
-use Rattle.pay_fare_file.specs.declared.misread.Misread.TheVariants.{Memory}
 use Rattle.pay_fare_file.specs.FaultPlaces.{minutes_told, rules_at_told, singles_told, bands_told, tables_of_edition_told}
-use Rattle.pay_fare_file.proofs.Forgetting.{found, passed, tables_of_edition_untold}
-use Rattle.pay_fare_file.proofs.Ranges.{tables_of_edition_are}
-use Rattle.pay_fare_file.proofs.editions.tables_of_edition.Goals as goal
+use Rattle.pay_editions.proofs.Forgetting.{found, tables_of_edition_untold}
+use Rattle.pay_editions.proofs.Ranges.{tables_of_edition_are}
+use Rattle.pay_editions.proofs.editions.tables_of_edition.Goals as goal
 
 pub edition-requires : goal.edition-requires
 edition-requires c =

@@ -13,16 +13,11 @@ ghost use Rattle.pay_fare_file.specs.Spots.{TellsUnlessMemory, put_in, told};
 ghost use Rattle.pay_fare_file.specs.FareFile.{begins_before, has_edition, put_edition, with_each};
 ghost use Rattle.pay_fare_file.specs.FaultPlaces.{another_edition_told, bands_told, day_told, edition_told, editions_told, tables_of_edition_told, with_edition_told};
 
-use crate::bands::bands_told;
-use crate::fault::FareFileFault;
-use crate::key::Key;
-use crate::keys::{inner_table_told, integer_told, items_told};
-use crate::minutes::minutes_told;
-use crate::misread::Misread;
-use crate::rules::rules_at_told;
-use crate::singles::singles_told;
-use crate::spot::{FaultPlace, Spot};
 use pay_day::limits::{FIRST_DAY, LAST_DAY};
+use pay_fare_file::{
+    FareFileFault, FaultPlace, Key, Misread, Spot, bands_told, inner_table_told, integer_told,
+    items_told, minutes_told, rules_at_told, singles_told,
+};
 use pay_tables::limits::MOST_EDITIONS;
 use pay_tables::{Band, Edition, EditionParts, Tables};
 use std::alloc::{AllocError, Global};

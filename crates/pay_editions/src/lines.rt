@@ -6,9 +6,7 @@ ghost use Rattle.pay_fare_file.specs.declared.misread.Misread.TheVariants.{At, M
 ghost use Rattle.pay_fare_file.specs.declared.spot.FaultPlace.TheVariants.{Line};
 ghost use Rattle.pay_fare_file.specs.FaultPlaces.{IsNoDocument, line_of};
 
-use crate::fault::FareFileFault;
-use crate::misread::Misread;
-use crate::spot::FaultPlace;
+use pay_fare_file::{FareFileFault, FaultPlace, Misread};
 use toml::de;
 
 /// Why a text is no document: out of memory, or the line where the error begins.

@@ -4,8 +4,8 @@ use Rattle.toml.specs.View.{table_view}
 use Rattle.pay_fare_file.specs.declared.fault.FareFileFault.TheVariants as fault
 use Rattle.pay_fare_file.specs.FareFile.{fare_file}
 use Rattle.pay_fare_file.specs.FaultPlaces.{fare_file_told}
-use Rattle.pay_fare_file.proofs.Forgetting.{found, fare_file_untold, answer_refused}
-use Rattle.pay_fare_file.proofs.reading.check_file.Goals as goal
+use Rattle.pay_editions.proofs.Forgetting.{found, fare_file_untold, answer_refused}
+use Rattle.pay_editions.proofs.reading.check_file.Goals as goal
 
 pub returns-in-Err-clause-refused : goal.returns-in-Err-clause-refused
 returns-in-Err-clause-refused c =

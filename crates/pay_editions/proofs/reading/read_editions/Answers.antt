@@ -4,8 +4,8 @@ use Rattle.toml.specs.Parse.{parse_document}
 use Rattle.pay_fare_file.specs.declared.fault.FareFileFault.TheVariants as fault
 use Rattle.pay_fare_file.specs.FareFile.{fare_text}
 use Rattle.pay_fare_file.specs.FaultPlaces.{TellsOfText}
-use Rattle.pay_fare_file.proofs.Forgetting.{answer_ok, answer_refused, answer_not_toml}
-use Rattle.pay_fare_file.proofs.reading.read_editions.Goals as goal
+use Rattle.pay_editions.proofs.Forgetting.{answer_ok, answer_refused, answer_not_toml}
+use Rattle.pay_editions.proofs.reading.read_editions.Goals as goal
 
 pub returns-in-Ok-clause-ok : goal.returns-in-Ok-clause-ok
 returns-in-Ok-clause-ok c = answer_ok c.args.text.now (parse_document c.args.text.now) c.in-Ok.editions (subst (TellsOfText c.args.text.now) c.in-Ok.is c.read.ensures)

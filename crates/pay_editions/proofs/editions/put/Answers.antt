@@ -1,9 +1,9 @@
-use Rattle.std.proofs.Common.{◌≡◌, ◌∙◌, ap, sym, List, length, unwrap_or}
+use Rattle.std.proofs.Common.{◌∙◌, ap, sym, List, length, unwrap_or}
 use Rattle.std.specs.List.{insert, position}
 use Rattle.pay_tables.specs.declared.edition.Edition.{Edition}
 use Rattle.pay_fare_file.specs.FareFile.{begins_before}
-use Rattle.pay_fare_file.proofs.PutEditions.{put_where_found}
-use Rattle.pay_fare_file.proofs.editions.put.Goals as goal
+use Rattle.pay_editions.proofs.PutEditions.{put_where_found}
+use Rattle.pay_editions.proofs.editions.put.Goals as goal
 
 pub returns : goal.returns
 returns c =

@@ -2,7 +2,7 @@ use Rattle.std.proofs.Common.{◌≡◌, [], drop}
 use Rattle.toml.specs.View.{items_view}
 use Rattle.pay_fare_file.specs.FareFile.{with_each}
 use Rattle.pay_fare_file.specs.FaultPlaces.{with_edition_told}
-use Rattle.pay_fare_file.proofs.editions.each_edition.Given as goal
+use Rattle.pay_editions.proofs.editions.each_edition.Given as goal
 
 -- what is left, put after the editions so far, gives what all gives
 abbrev pub invariant-loop-item : goal.invariant-loop-item

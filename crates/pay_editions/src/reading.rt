@@ -10,20 +10,12 @@ ghost use Rattle.pay_fare_file.specs.Spots.{TellsUnlessMemory, integer_told, put
 ghost use Rattle.pay_fare_file.specs.FareFile.{zones_at, fare_file, fare_text};
 ghost use Rattle.pay_fare_file.specs.FaultPlaces.{IsFaultPlace, TellsOfText, fare_file_told, own_keys_told};
 
-use crate::bands::bands_told;
 use crate::editions::editions_told;
-use crate::fault::FareFileFault;
-use crate::holidays::holidays_told;
-use crate::interchanges::interchanges_told;
-use crate::key::Key;
-use crate::keys::integer_told;
 use crate::lines::no_document;
-use crate::minutes::minutes_told;
-use crate::misread::Misread;
-use crate::places::places_told;
-use crate::rules::rules_at_told;
-use crate::singles::singles_told;
-use crate::spot::{FaultPlace, Spot};
+use pay_fare_file::{
+    FareFileFault, FaultPlace, Key, Misread, Spot, bands_told, holidays_told, integer_told,
+    interchanges_told, minutes_told, places_told, rules_at_told, singles_told,
+};
 use pay_tables::limits::MOST_ZONES;
 use pay_tables::{Editions, FareParts, Tables};
 use std::alloc::{AllocError, Global};

@@ -23,7 +23,7 @@ use Rattle.pay_tables.specs.declared.zones.Span.{Span}
 use Rattle.pay_fare_file.specs.Fault.{◌>>=◌}
 use Rattle.pay_fare_file.specs.Keys.{needed, integer_in, integer_of, integer_at, table_of, table_at, array_of, array_at, items_len, items_or_none, items_at}
 use Rattle.pay_tables.specs.Words.{IsSpan, same_span, IsCover, IsBand, AreRules, IsSingle, IsPlace, IsInterchange, FareTables, IsFareTables, AreFromLast, AreOfOneFile, IsEdition, IsFareEditions}
-use Rattle.pay_fare_file.proofs.PutEditions.{put_all, put_from_last, put_length}
+use Rattle.pay_editions.proofs.PutEditions.{put_all, put_from_last, put_length}
 use Rattle.pay_fare_file.specs.FareFile.{with_each, with_minutes, minutes_items_at, minutes_at, unless_differs, hopper_at, rules_of, single_of, another_single, with_single, singles_at, has_single, has_singles_from, has_each_single, greatest_to, cover_at, band_of, another_band, with_band, has_band, bands_at, holidays_at, station_of, route_of, unless_taken, with_place, with_station, with_route, places_at, another_at, interchange_of, joins_stations, has_interchange, unless_joined, another_interchange, with_interchange, interchanges_at, own_keys, tables_of_edition, edition_of, has_edition, another_edition, with_edition, editions_at, fare_file}
 
 -- ---- steps

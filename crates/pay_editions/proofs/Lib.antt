@@ -1,0 +1,4 @@
+pub mod Documents
+pub mod Ranges
+pub mod Forgetting
+pub mod PutEditions
