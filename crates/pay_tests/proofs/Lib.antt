@@ -1,1 +1,3 @@
+pub mod Together
 mod Unwilling
+pub mod Used

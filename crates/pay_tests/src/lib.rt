@@ -1,4 +1,4 @@
-//! The tests of the crates that need no SQL, from taps to sessions and the accounts of an archive, each by public calls
+//! The tests of the crates that need no SQL, from taps to sessions over lanes and the accounts of an archive, each by public calls
 //! alone. Those of the ledger and of closes into it are in `pay_ledger_tests`, so that no test of a price loads SQL. Both
 //! are crates of their own since one with tests is proved twice. They show what no clause says: that each public call
 //! succeeds with ample memory, that each generic one is met by a type, and what comes of readers, writers and allocations
@@ -35,6 +35,8 @@ mod journals;
 mod journeys;
 #[cfg(test)]
 mod kept;
+#[cfg(test)]
+mod lanes;
 #[cfg(test)]
 mod ledger_rows;
 #[cfg(test)]

@@ -1,4 +1,0 @@
-use Rattle.pay_lane_tests.proofs.desks.ask.Goals as goal
-
-pub returns : goal.returns
-returns g c = c.put_then_get.ensures.stands _ _ _ c.put-ticket.result c.put-ticket.ensures.fresh c.put-ticket.ensures.waits c.get.ensures.got

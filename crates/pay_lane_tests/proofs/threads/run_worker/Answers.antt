@@ -1,4 +1,0 @@
-use Rattle.pay_lane_tests.proofs.threads.run_worker.Goals as goal
-
-pub loop-preserved : goal.loop-preserved
-loop-preserved g c = c.same_workers.ensures.then c.args.worker c.loop.worker c.is_done.new.worker c.loop.invariant c.is_done.ensures
