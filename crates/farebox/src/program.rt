@@ -3,10 +3,10 @@ ghost use Rattle.farebox.specs.NoJob.{IsTextOrFault};
 
 use crate::serve::serve_sessions;
 use pay_files::{
-    audit_files, check_fares, memory_or, rebuild_lines, replay_journals, run_session,
+    Ledgers, audit_files, check_fares, memory_or, rebuild_lines, replay_journals, run_session,
     write_statement,
 };
-use pay_jobs::{Fault, Ledgers};
+use pay_jobs::{Alter, Fault, Ledger};
 use pay_words::{Job, WordsFault, read_words};
 use std::alloc::{AllocError, Global};
 use std::env;
@@ -30,14 +30,14 @@ fn text_or_fault(words: WordsFault) -> Result<String, Fault>
 }
 
 /// Does what the words of the process ask for. The status that the program then ends with.
-pub fn execute<R>(rt: R) -> Result<ExitCode, Fault>
+pub fn execute<R, S: Alter + Drop>(rt: R) -> Result<ExitCode, Fault>
 where
     R: Net<Listener = TcpListener, Stream = TcpStream>
         + Threads
         + Wait
         + Env
         + Files<File = File>
-        + Ledgers
+        + Ledgers<InFile = Ledger<S>>
         + Clock
         + Input
         + Print
@@ -60,14 +60,14 @@ fn given_texts<R: Env + AllocGlobal>(rt: &R) -> Result<Vec<String>, Fault> {
 }
 
 /// Does what these texts ask for as words.
-fn do_texts<R>(rt: R, texts: &[String]) -> Result<ExitCode, Fault>
+fn do_texts<R, S: Alter + Drop>(rt: R, texts: &[String]) -> Result<ExitCode, Fault>
 where
     R: Net<Listener = TcpListener, Stream = TcpStream>
         + Threads
         + Wait
         + Env
         + Files<File = File>
-        + Ledgers
+        + Ledgers<InFile = Ledger<S>>
         + Clock
         + Input
         + Print
@@ -91,14 +91,14 @@ fn views_of(alloc: Global, texts: &[String]) -> Result<Vec<&str>, AllocError> {
 }
 
 /// Does the job that these words ask for.
-fn do_words<R>(rt: R, words: &[&str]) -> Result<ExitCode, Fault>
+fn do_words<R, S: Alter + Drop>(rt: R, words: &[&str]) -> Result<ExitCode, Fault>
 where
     R: Net<Listener = TcpListener, Stream = TcpStream>
         + Threads
         + Wait
         + Env
         + Files<File = File>
-        + Ledgers
+        + Ledgers<InFile = Ledger<S>>
         + Clock
         + Input
         + Print

@@ -4,12 +4,12 @@ ghost use Rattle.pay_jobs.specs.Words.{IsDay};
 ghost use Rattle.pay_words.specs.declared.limits.TheConstants.{MOST_SHARDS};
 
 use pay_files::{
-    CloseWatch, JournalFiles, KeptFares, NotedPosting, fares_text, kept_in, noted_in,
-    open_journals, path_in, print_warnings, ready_ledger, report_line, settle_journals,
+    CloseWatch, JournalFiles, KeptFares, Ledgers, NotedPosting, fares_text, kept_in, new_ledger,
+    noted_in, open_journals, path_in, print_warnings, ready_ledger, report_line, settle_journals,
 };
 use pay_jobs::{
-    Disk, FaresAndZone, Fault, FileStore, Keeper, Ledger, Ledgers, NoKeeper, NoWatch, Wary, Watch,
-    begin_service, compare_texts, new_ledger,
+    Alter, FaresAndZone, Fault, Keeper, Ledger, NoKeeper, NoWatch, Watch, begin_service,
+    compare_texts,
 };
 use pay_serve_job::{Given, Plan, serve, serve_without_ledger, take_given};
 use pay_wire::Refusal;
@@ -25,13 +25,13 @@ use std::sync::Wait;
 use std::thread::Threads;
 
 /// The sessions of all lanes, and then the lines of the close, to standard output. The status says whether the day was closed.
-pub fn serve_sessions<R>(rt: R, words: &ServeWords<'_>) -> Result<ExitCode, Fault>
+pub fn serve_sessions<R, S: Alter + Drop>(rt: R, words: &ServeWords<'_>) -> Result<ExitCode, Fault>
 where
     R: Net<Listener = TcpListener, Stream = TcpStream>
         + Threads
         + Wait
         + Files<File = File>
-        + Ledgers
+        + Ledgers<InFile = Ledger<S>>
         + Clock
         + Print
         + Eprint
@@ -73,13 +73,17 @@ fn plan_of(words: &ServeWords<'_>) -> Plan
 }
 
 /// A service without journals, over a ledger in a file, or in memory.
-fn serve_unkept<R>(rt: R, words: &ServeWords<'_>, fares: &str) -> Result<ExitCode, Fault>
+fn serve_unkept<R, S: Alter + Drop>(
+    rt: R,
+    words: &ServeWords<'_>,
+    fares: &str,
+) -> Result<ExitCode, Fault>
 where
     R: Net<Listener = TcpListener, Stream = TcpStream>
         + Threads
         + Wait
         + Files<File = File>
-        + Ledgers
+        + Ledgers<InFile = Ledger<S>>
         + Clock
         + Print
         + Eprint
@@ -100,15 +104,15 @@ where
     };
     match words.ledger {
         None => {
-            let ledger = new_ledger(rt.alloc())?;
-            status_of(serve_over(rt, given, ledger, &mut NoWatch))
+            let mut ledger = new_ledger(rt.alloc())?;
+            status_of(serve_over(rt, given, &mut ledger, &mut NoWatch))
         }
-        Some(path) => status_of(serve_in_file(rt, words, path, given)),
+        Some(path) => status_of(serve_in_file(rt, words, path, given, None, None)),
     }
 }
 
 /// A service with journals. The line of one that is not accepted is reported by the path of its file.
-fn serve_kept<R>(
+fn serve_kept<R, S: Alter + Drop>(
     rt: R,
     words: &ServeWords<'_>,
     fares: &str,
@@ -120,7 +124,7 @@ where
         + Threads
         + Wait
         + Files<File = File>
-        + Ledgers
+        + Ledgers<InFile = Ledger<S>>
         + Clock
         + Print
         + Eprint
@@ -141,7 +145,7 @@ where
 
 /// A service with journals, over a ledger in a file, if the accounts come to the same by what is kept beside the journals. Whether the
 /// day was closed. Without a ledger it is not, as for a session.
-fn serve_beside<R>(
+fn serve_beside<R, S: Alter + Drop>(
     rt: R,
     words: &ServeWords<'_>,
     fares: &str,
@@ -153,7 +157,7 @@ where
         + Threads
         + Wait
         + Files<File = File>
-        + Ledgers
+        + Ledgers<InFile = Ledger<S>>
         + Clock
         + Print
         + Eprint
@@ -199,27 +203,27 @@ where
         Some(path) => {
             let noted = noted_in(&rt, folder)?;
             noted.refuse_ledger(&rt, path)?;
-            serve_kept_in_file(rt, words, path, given, &kept, noted)
+            serve_in_file(rt, words, path, given, Some(noted), Some(&kept))
         }
     }
 }
 
-/// A service with journals over the ledger in the file at a path, which has the posting that is noted beside them. What is to be kept
-/// beside the journals is kept once the ledger agrees with them.
-fn serve_kept_in_file<R, K>(
+/// A service over the ledger in the file at a path, with what is noted and kept beside its journals, if it has any. Whether the day was
+/// closed, and its last posting noted.
+fn serve_in_file<R, K, S: Alter + Drop>(
     rt: R,
     words: &ServeWords<'_>,
     path: &str,
     given: Given<'_, K>,
-    kept: &KeptFares,
-    noted: NotedPosting,
+    noted: Option<NotedPosting>,
+    kept: Option<&KeptFares>,
 ) -> Result<bool, Fault>
 where
     R: Net<Listener = TcpListener, Stream = TcpStream>
         + Threads
         + Wait
         + Files<File = File>
-        + Ledgers
+        + Ledgers<InFile = Ledger<S>>
         + Clock
         + Print
         + Eprint
@@ -232,19 +236,53 @@ where
     requires keepers { length given.keepers.items ≡ given.plan.shards }
 {
     ready_ledger(&rt, path)?;
-    let mut ledger = rt.ledger(path, Wary)?;
-    noted.is_in(&mut ledger)?;
-    if !kept.is_there() {
-        take_given(
-            rt.alloc(),
-            &given.editions,
-            &given.zone,
-            given.texts,
-            &mut ledger,
-        )?;
-        kept.keep(&rt)?;
+    let watch = CloseWatch::begin(rt, words.zone, words.early, noted)?;
+    let mut ledger = rt.ledger(path)?;
+    let closed = serve_watched(rt, given, &mut ledger, watch, kept);
+    rt.close(ledger);
+    closed
+}
+
+/// The same with the ledger, which has the posting that is noted. What is to be kept beside the journals is kept once the ledger agrees
+/// with them.
+fn serve_watched<R, K, S: Alter>(
+    rt: R,
+    given: Given<'_, K>,
+    ledger: &mut Ledger<S>,
+    mut watch: CloseWatch<R>,
+    kept: Option<&KeptFares>,
+) -> Result<bool, Fault>
+where
+    R: Net<Listener = TcpListener, Stream = TcpStream>
+        + Threads
+        + Wait
+        + Files<File = File>
+        + Clock
+        + Print
+        + Eprint
+        + AllocGlobal
+        + Copy
+        + Send
+        + 'static,
+    K: Keeper + Send + 'static,
+    requires day { IsDay given.plan.close }
+    requires keepers { length given.keepers.items ≡ given.plan.shards }
+{
+    watch.take(ledger)?;
+    if let Some(kept) = kept {
+        if !kept.is_there() {
+            take_given(
+                rt.alloc(),
+                &given.editions,
+                &given.zone,
+                given.texts,
+                ledger,
+            )?;
+            kept.keep(&rt)?;
+        }
     }
-    serve_watched(rt, words, given, ledger, Some(noted))
+    let closed = serve_over(rt, given, ledger, &mut watch)?;
+    Ok(closed && !watch.has_failed)
 }
 
 /// A service without a ledger. Whether the day was closed, which it is not. What was kept is brought to the disk, as before a close.
@@ -254,7 +292,6 @@ where
         + Threads
         + Wait
         + Files<File = File>
-        + Ledgers
         + Clock
         + Print
         + Eprint
@@ -272,70 +309,11 @@ where
     Ok(closed)
 }
 
-/// A service over the ledger in the file at a path. Whether the day was closed.
-fn serve_in_file<R, K>(
-    rt: R,
-    words: &ServeWords<'_>,
-    path: &str,
-    given: Given<'_, K>,
-) -> Result<bool, Fault>
-where
-    R: Net<Listener = TcpListener, Stream = TcpStream>
-        + Threads
-        + Wait
-        + Files<File = File>
-        + Ledgers
-        + Clock
-        + Print
-        + Eprint
-        + AllocGlobal
-        + Copy
-        + Send
-        + 'static,
-    K: Keeper + Send + 'static,
-    requires day { IsDay given.plan.close }
-    requires keepers { length given.keepers.items ≡ given.plan.shards }
-{
-    ready_ledger(&rt, path)?;
-    let ledger = rt.ledger(path, Wary)?;
-    serve_watched(rt, words, given, ledger, None)
-}
-
-/// A service over the ledger in a file, whose close is watched. Whether the day was closed, and its last posting noted.
-fn serve_watched<R, K, D: Disk + Drop>(
-    rt: R,
-    words: &ServeWords<'_>,
-    given: Given<'_, K>,
-    ledger: Ledger<FileStore<D>>,
-    noted: Option<NotedPosting>,
-) -> Result<bool, Fault>
-where
-    R: Net<Listener = TcpListener, Stream = TcpStream>
-        + Threads
-        + Wait
-        + Files<File = File>
-        + Ledgers
-        + Clock
-        + Print
-        + Eprint
-        + AllocGlobal
-        + Copy
-        + Send
-        + 'static,
-    K: Keeper + Send + 'static,
-    requires day { IsDay given.plan.close }
-    requires keepers { length given.keepers.items ≡ given.plan.shards }
-{
-    let mut watch = CloseWatch::begin(rt, words.zone, words.early, noted)?;
-    let closed = serve_over(rt, given, ledger, &mut watch)?;
-    Ok(closed && !watch.has_failed)
-}
-
-/// A service over a ledger. In the end, what the log of a ledger in a file has is copied into its file.
-fn serve_over<R, K, D: Disk + Drop, C: Watch>(
+/// A service over a ledger. Whether the day was closed.
+fn serve_over<R, K, S: Alter, C: Watch>(
     rt: R,
     given: Given<'_, K>,
-    mut ledger: Ledger<FileStore<D>>,
+    ledger: &mut Ledger<S>,
     watch: &mut C,
 ) -> Result<bool, Fault>
 where
@@ -343,7 +321,6 @@ where
         + Threads
         + Wait
         + Files<File = File>
-        + Ledgers
         + Clock
         + Print
         + Eprint
@@ -355,10 +332,7 @@ where
     requires day { IsDay given.plan.close }
     requires keepers { length given.keepers.items ≡ given.plan.shards }
 {
-    let mut writer = io::writer(&rt);
-    let closed = serve(rt, rt.alloc(), given, &mut ledger, watch, &mut writer);
-    let _ = ledger.into_connection().close();
-    closed
+    serve(rt, rt.alloc(), given, ledger, watch, &mut io::writer(&rt))
 }
 
 /// Reports the line of a journal in a folder that is not accepted, by the path of its file.

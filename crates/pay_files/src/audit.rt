@@ -4,8 +4,9 @@ use crate::errors::memory_or;
 use crate::input::{fares_text, report_line};
 use crate::journal::{JOURNALS, is_new_ledger, path_in, read_journal};
 use crate::kept::{KeptFares, file_of, kept_beside, kept_in, noted_beside, noted_in};
+use crate::ledgers::Ledgers;
 use crate::noted::NotedPosting;
-use pay_jobs::{Audit, Fault, FileFault, Ledgers, Wary, audit_journals, audit_ledger, rebuilt};
+use pay_jobs::{Alter, Audit, Fault, FileFault, Ledger, audit_journals, audit_ledger, rebuilt};
 use pay_words::{AuditWords, RebuildWords};
 use std::alloc::AllocError;
 use std::fs::File;
@@ -16,9 +17,9 @@ use std::{fs, io};
 
 /// All that differs between journals, what is kept beside them and a ledger, and all that is not settled, to standard output. The status
 /// says whether they belong together. No line is added, and nothing is posted.
-pub fn audit_files<R>(rt: &R, words: &AuditWords<'_>) -> Result<ExitCode, Fault>
+pub fn audit_files<R, S: Alter + Drop>(rt: &R, words: &AuditWords<'_>) -> Result<ExitCode, Fault>
 where
-    R: Files<File = File> + Ledgers + Print + Eprint + AllocGlobal,
+    R: Files<File = File> + Ledgers<InFile = Ledger<S>> + Print + Eprint + AllocGlobal,
 {
     let fares = fares_text(rt, words.fares)?;
     let texts = texts_at(rt, words.journal)?;
@@ -108,14 +109,14 @@ fn noted_at<R: Files + AllocGlobal>(rt: &R, path: &str) -> Result<NotedPosting, 
 }
 
 /// Whether journals, what is kept beside them and a ledger belong together.
-fn audit_texts<R>(
+fn audit_texts<R, S: Alter + Drop>(
     rt: &R,
     words: &AuditWords<'_>,
     fares: &str,
     texts: &[Vec<u8>],
 ) -> Result<bool, Fault>
 where
-    R: Files<File = File> + Ledgers + Print + AllocGlobal,
+    R: Files<File = File> + Ledgers<InFile = Ledger<S>> + Print + AllocGlobal,
 {
     let kept = kept_at(rt, words, fares)?;
     if let Some(ledger) = words.ledger {
@@ -128,7 +129,7 @@ where
 }
 
 /// The same with the ledger in the file at a path.
-fn audit_in_file<R>(
+fn audit_in_file<R, S: Alter + Drop>(
     rt: &R,
     words: &AuditWords<'_>,
     fares: &str,
@@ -138,21 +139,13 @@ fn audit_in_file<R>(
     noted: &NotedPosting,
 ) -> Result<bool, Fault>
 where
-    R: Files<File = File> + Ledgers + Print + AllocGlobal,
+    R: Files<File = File> + Ledgers<InFile = Ledger<S>> + Print + AllocGlobal,
 {
     refuse_missing(rt, path)?;
-    let mut ledger = rt.ledger(path, Wary)?;
-    let (alloc, zone) = (rt.alloc(), words.zone);
-    let found = audit_ledger(
-        alloc,
-        fares,
-        zone,
-        texts,
-        kept,
-        &mut ledger,
-        noted.posting(),
-    );
-    let _ = ledger.into_connection().close();
+    let (alloc, zone, noted) = (rt.alloc(), words.zone, noted.posting());
+    let mut ledger = rt.ledger(path)?;
+    let found = audit_ledger(alloc, fares, zone, texts, kept, &mut ledger, noted);
+    rt.close(ledger);
     let found = found?;
     print_audit(rt, &found).map_err(|_| Fault::Output)?;
     Ok(found.differences.is_empty())
@@ -189,15 +182,18 @@ fn refuse_missing<R: Files>(rt: &R, path: &str) -> Result<(), Fault> {
 }
 
 /// The lines of the taps and corrections that a ledger archives, to standard output.
-pub fn rebuild_lines<R>(rt: &R, words: &RebuildWords<'_>) -> Result<ExitCode, Fault>
+pub fn rebuild_lines<R, S: Alter + Drop>(
+    rt: &R,
+    words: &RebuildWords<'_>,
+) -> Result<ExitCode, Fault>
 where
-    R: Files<File = File> + Ledgers + Print + AllocGlobal,
+    R: Files<File = File> + Ledgers<InFile = Ledger<S>> + Print + AllocGlobal,
 {
     let fares = fares_text(rt, words.fares)?;
     refuse_missing(rt, words.ledger)?;
-    let mut ledger = rt.ledger(words.ledger, Wary)?;
+    let mut ledger = rt.ledger(words.ledger)?;
     let text = rebuilt(rt.alloc(), fares.as_str(), &mut ledger);
-    let _ = ledger.into_connection().close();
+    rt.close(ledger);
     match io::writer(rt).write_all(text?.as_slice()) {
         Ok(()) => Ok(ExitCode::SUCCESS),
         Err(_) => Err(Fault::Output),

@@ -1,7 +1,7 @@
 //! What is known of closes into a ledger in a file.
 
 use crate::noted::NotedPosting;
-use pay_jobs::{LastPosting, NotClosed, Watch, is_over, read_zone};
+use pay_jobs::{Alter, Fault, LastPosting, Ledger, NotClosed, Watch, is_over, read_zone};
 use std::alloc::AllocError;
 use std::fs::File;
 use std::io::Eprint;
@@ -44,6 +44,14 @@ impl<R: AllocGlobal + Copy> CloseWatch<R> {
 }
 
 impl<R: Files<File = File> + Clock + Eprint + AllocGlobal> CloseWatch<R> {
+    /// Takes a ledger that has the posting that is noted, if one is.
+    pub fn take<S: Alter>(&self, ledger: &mut Ledger<S>) -> Result<(), Fault> {
+        match &self.noted {
+            Some(noted) => noted.is_in(ledger),
+            None => Ok(()),
+        }
+    }
+
     /// Whether a service day is over by the clock of the machine.
     fn is_over(&self, day: u32) -> bool {
         match (read_zone(self.zone.as_str()), self.rt.since_1970()) {

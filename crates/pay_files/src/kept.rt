@@ -65,11 +65,7 @@ impl KeptFares {
     }
 
     /// Refuses a ledger in the place of what is kept, and one that is new where the journal had one: it has nothing of what was charged.
-    pub fn refuse_ledger<R: Files + AllocGlobal>(
-        &self,
-        rt: &R,
-        ledger: &str,
-    ) -> Result<(), Fault> {
+    pub fn refuse_ledger<R: Files + AllocGlobal>(&self, rt: &R, ledger: &str) -> Result<(), Fault> {
         refuse_ledger_at(rt, ledger, self.path.as_str())?;
         if self.had_ledger && is_new_ledger(rt, ledger) {
             return Err(Fault::File(FileFault::NewLedger));

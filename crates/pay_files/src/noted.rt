@@ -45,11 +45,7 @@ impl NotedPosting {
     }
 
     /// Refuses a ledger in the place of the note, and one that is not made yet where a posting is noted.
-    pub fn refuse_ledger<R: Files + AllocGlobal>(
-        &self,
-        rt: &R,
-        ledger: &str,
-    ) -> Result<(), Fault> {
+    pub fn refuse_ledger<R: Files + AllocGlobal>(&self, rt: &R, ledger: &str) -> Result<(), Fault> {
         refuse_ledger_at(rt, ledger, self.path.as_str())?;
         if self.there.is_some() && is_new_ledger(rt, ledger) {
             return Err(Fault::File(FileFault::NewLedger));

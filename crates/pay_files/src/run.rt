@@ -4,11 +4,10 @@ use crate::close_watch::CloseWatch;
 use crate::input::{fares_text, is_input_a_file, print_warnings};
 use crate::journal::{JournalFile, open_journal, ready_ledger};
 use crate::kept::{FaresFirst, file_of, kept_beside, noted_beside};
+use crate::ledgers::Ledgers;
 use crate::noted::NotedPosting;
-use pay_jobs::{
-    Begun, Book, Disk, Fault, FileStore, Keeper, Ledger, Ledgers, NoKeeper, NoWatch, Ran, Wary,
-    Watch, begin, new_ledger, told,
-};
+use pay_jobs::{Alter, Begun, Book, Fault, Keeper, Ledger, NoKeeper, NoWatch, Ran, begin, told};
+use pay_ledger_files::new_ledger;
 use pay_words::RunWords;
 use std::alloc::AllocError;
 use std::fs::File;
@@ -19,9 +18,16 @@ use std::rt::{Clock, Files};
 
 /// One session, from standard input to standard output. Where it has files, what there is to say of the fare file comes
 /// first, to standard error.
-pub fn run_session<R>(rt: &R, words: &RunWords<'_>) -> Result<ExitCode, Fault>
+pub fn run_session<R, S: Alter + Drop>(rt: &R, words: &RunWords<'_>) -> Result<ExitCode, Fault>
 where
-    R: Files<File = File> + Ledgers + Clock + Input + Print + Eprint + AllocGlobal + Copy,
+    R: Files<File = File>
+        + Ledgers<InFile = Ledger<S>>
+        + Clock
+        + Input
+        + Print
+        + Eprint
+        + AllocGlobal
+        + Copy,
 {
     let fares = fares_text(rt, words.fares)?;
     if words.journal.is_some() || words.ledger.is_some() {
@@ -36,14 +42,20 @@ where
 }
 
 /// One session from a reader, with its journal, or without one.
-fn run_from<R, I: BufRead>(
+fn run_from<R, S: Alter + Drop, I: BufRead>(
     rt: &R,
     words: &RunWords<'_>,
     fares: &str,
     reader: &mut I,
 ) -> Result<ExitCode, Fault>
 where
-    R: Files<File = File> + Ledgers + Clock + Print + Eprint + AllocGlobal + Copy,
+    R: Files<File = File>
+        + Ledgers<InFile = Ledger<S>>
+        + Clock
+        + Print
+        + Eprint
+        + AllocGlobal
+        + Copy,
 {
     match words.journal {
         None => run_unkept(rt, words, fares, reader),
@@ -55,20 +67,26 @@ where
 }
 
 /// One session without a journal, over a ledger in a file, or in memory.
-fn run_unkept<R, I: BufRead>(
+fn run_unkept<R, S: Alter + Drop, I: BufRead>(
     rt: &R,
     words: &RunWords<'_>,
     fares: &str,
     reader: &mut I,
 ) -> Result<ExitCode, Fault>
 where
-    R: Files<File = File> + Ledgers + Clock + Print + Eprint + AllocGlobal + Copy,
+    R: Files<File = File>
+        + Ledgers<InFile = Ledger<S>>
+        + Clock
+        + Print
+        + Eprint
+        + AllocGlobal
+        + Copy,
 {
     let begun = begin(rt.alloc(), fares, words.zone, &[])?;
     match words.ledger {
         None => {
-            let ledger = new_ledger(rt.alloc())?;
-            end(run_over(rt, begun, NoKeeper, ledger, &mut NoWatch, reader))
+            let mut ledger = new_ledger(rt.alloc())?;
+            run_in_memory(rt, begun, &mut ledger, reader)
         }
         Some(path) => run_in_file(rt, words, path, begun, NoKeeper, None, reader),
     }
@@ -77,7 +95,7 @@ where
 /// One session with a journal, over a ledger in a file, if the accounts come to the same by what is kept beside the journal. Without a
 /// ledger nothing is closed: what is posted would not be there for the next
 /// session, which has the accounts that the journal gives back, and each close would charge the whole week again.
-fn run_kept<R, I: BufRead>(
+fn run_kept<R, S: Alter + Drop, I: BufRead>(
     rt: &R,
     words: &RunWords<'_>,
     fares: &str,
@@ -86,7 +104,13 @@ fn run_kept<R, I: BufRead>(
     reader: &mut I,
 ) -> Result<ExitCode, Fault>
 where
-    R: Files<File = File> + Ledgers + Clock + Print + Eprint + AllocGlobal + Copy,
+    R: Files<File = File>
+        + Ledgers<InFile = Ledger<S>>
+        + Clock
+        + Print
+        + Eprint
+        + AllocGlobal
+        + Copy,
 {
     let JournalFile { past, file } = journal;
     let begun = begin(rt.alloc(), fares, words.zone, past.as_slice())?;
@@ -103,14 +127,26 @@ where
         None => end(Ok(begun.run_without_ledger(keeper, reader, &mut io::writer(rt)))),
         Some(ledger) => {
             let noted = noted_beside(rt, path.as_str())?;
+            noted.refuse_ledger(rt, ledger)?;
             run_in_file(rt, words, ledger, begun, keeper, Some(noted), reader)
         }
     }
 }
 
-/// A session that has begun, over the ledger in the file at a path, which has the posting that is noted beside the journal. The status
-/// says whether each close was posted.
-fn run_in_file<R, K: Keeper, I: BufRead>(
+/// A session that has begun, over a ledger in memory.
+fn run_in_memory<R: Print + AllocGlobal, S: Alter, I: BufRead>(
+    rt: &R,
+    begun: Begun,
+    ledger: &mut Ledger<S>,
+    reader: &mut I,
+) -> Result<ExitCode, Fault> {
+    let mut writer = io::writer(rt);
+    let (alloc, watch) = (rt.alloc(), &mut NoWatch);
+    end(begun.run(alloc, NoKeeper, ledger, watch, reader, &mut writer))
+}
+
+/// A session that has begun, over the ledger in the file at a path, which has the posting that is noted beside the journal.
+fn run_in_file<R, S: Alter + Drop, K: Keeper, I: BufRead>(
     rt: &R,
     words: &RunWords<'_>,
     path: &str,
@@ -120,38 +156,42 @@ fn run_in_file<R, K: Keeper, I: BufRead>(
     reader: &mut I,
 ) -> Result<ExitCode, Fault>
 where
-    R: Files<File = File> + Ledgers + Clock + Print + Eprint + AllocGlobal + Copy,
+    R: Files<File = File>
+        + Ledgers<InFile = Ledger<S>>
+        + Clock
+        + Print
+        + Eprint
+        + AllocGlobal
+        + Copy,
 {
-    if let Some(noted) = &noted {
-        noted.refuse_ledger(rt, path)?;
-    }
     ready_ledger(rt, path)?;
-    let mut ledger = rt.ledger(path, Wary)?;
-    if let Some(noted) = &noted {
-        noted.is_in(&mut ledger)?;
-    }
-    let mut watch = CloseWatch::begin(*rt, words.zone, words.early, noted)?;
-    let ran = run_over(rt, begun, keeper, ledger, &mut watch, reader);
+    let watch = CloseWatch::begin(*rt, words.zone, words.early, noted)?;
+    let mut ledger = rt.ledger(path)?;
+    let status = run_watched(rt, begun, keeper, &mut ledger, watch, reader);
+    rt.close(ledger);
+    status
+}
+
+/// The same with the ledger. The status says whether each close was posted.
+fn run_watched<R, K: Keeper, S: Alter, I: BufRead>(
+    rt: &R,
+    begun: Begun,
+    keeper: K,
+    ledger: &mut Ledger<S>,
+    mut watch: CloseWatch<R>,
+    reader: &mut I,
+) -> Result<ExitCode, Fault>
+where
+    R: Files<File = File> + Clock + Print + Eprint + AllocGlobal + Copy,
+{
+    watch.take(ledger)?;
+    let mut writer = io::writer(rt);
+    let ran = begun.run(rt.alloc(), keeper, ledger, &mut watch, reader, &mut writer);
     let status = end(ran)?;
     if watch.has_failed {
         return Ok(ExitCode::FAILURE);
     }
     Ok(status)
-}
-
-/// A session that has begun, over a ledger. In the end, what the log of a ledger in a file has is copied into its file.
-fn run_over<R: Print + AllocGlobal, K: Keeper, D: Disk + Drop, C: Watch, I: BufRead>(
-    rt: &R,
-    begun: Begun,
-    keeper: K,
-    mut ledger: Ledger<FileStore<D>>,
-    watch: &mut C,
-    reader: &mut I,
-) -> Result<Ran<Book, K>, Fault> {
-    let mut writer = io::writer(rt);
-    let ran = begun.run(rt.alloc(), keeper, &mut ledger, watch, reader, &mut writer);
-    let _ = ledger.into_connection().close();
-    ran
 }
 
 /// How the program ends after a session.

@@ -6,34 +6,35 @@ use Rattle.sqlite.specs.State.{State, HasCleanDisk, Opens, Survives}
 use Rattle.sqlite.specs.Steps.{IsEmpty}
 use Rattle.pay_records.specs.Words.{empty_is_free}
 use Rattle.pay_ledger.specs.declared.fault.OpenFault.{OpenFault}
-use Rattle.pay_ledger.specs.Words.{IsLedger, nothing, IsWhy, IsOpened, BlankJustGrows, MayLeaveOpened, IsOnDisk}
+use Rattle.pay_ledger.specs.Words.{IsLedger, nothing, MayLeaveOpened}
+use Rattle.pay_ledger_files.specs.Opening.{IsMadeOf, IsNoneOf}
 use Rattle.pay_ledger_files.specs.Files.{IsOpenedOf, IsNotOpened}
 use Rattle.std.proofs.Common.{arith}
 
-module _ {S : Type 0} (g : Ghosts S) (Found : State → Type 0) (was left : Held S) (survives : Survives (state g was) (state g left) (MayLeaveOpened (state g was))) where
-  was_clean : HasCleanDisk (state g left) → HasCleanDisk (state g was)
-  was_clean clean = let less = survives.clean in omega (arith, less, clean)
+module _ {S : Type 0} (g : Ghosts S) (was : Held S) where
+  was_clean : (left : Held S) → Survives (state g was) (state g left) (MayLeaveOpened (state g was)) → HasCleanDisk (state g left) → HasCleanDisk (state g was)
+  was_clean left survives clean = let less = survives.clean in omega (arith, less, clean)
 
-  module _ (found : HasCleanDisk (state g was) → Opens (state g was) × Found (state g was)) where
-    pub opened_of : (HasCleanDisk (state g left) → IsOpened (state g was) (state g left)) → (HasCleanDisk (state g left) → BlankJustGrows (state g was).now (state g left).now) → (HasCleanDisk (state g left) → IsOnDisk (state g left)) → IsOpenedOf g Found left
-    opened_of opened grows lasts = record {
+  module _ (Found : State → Type 0) (found : HasCleanDisk (state g was) → Opens (state g was) × Found (state g was)) where
+    pub opened_of : (ledger : Held S) → IsMadeOf g was ledger → IsOpenedOf g Found ledger
+    opened_of ledger made = record {
       was = was;
-      found = λ clean. found (was_clean clean);
-      opened = opened;
-      grows = grows;
-      lasts = lasts;
-      survives = survives;
+      found = λ clean. found (was_clean ledger made.survives clean);
+      opened = made.opened;
+      grows = made.grows;
+      lasts = made.lasts;
+      survives = made.survives;
     }
 
-    pub refused_of : (fault : OpenFault) → (HasCleanDisk (state g left) → IsWhy fault (state g was).now) → IsNotOpened g Found fault
-    refused_of fault why = inr (record {
+    pub refused_of : (fault : OpenFault) → IsNoneOf g was fault → IsNotOpened g Found fault
+    refused_of fault none = inr (record {
       was = was;
-      left = left;
-      found = λ clean. found (was_clean clean);
-      why = why;
-      survives = survives;
+      left = none.left;
+      found = λ clean. found (was_clean none.left none.survives clean);
+      why = none.why;
+      survives = none.survives;
     })
 
   -- where there was nothing it is a ledger of nothing
-  pub new_ledger : (Blank : Type 0) → (HasCleanDisk (state g was) → Blank → IsEmpty (state g was)) → (HasCleanDisk (state g left) → IsOpened (state g was) (state g left)) → HasCleanDisk (state g left) → Blank → IsLedger (state g left).now nothing
-  new_ledger Blank empty opened clean blank = (opened clean).blank (empty_is_free (state g was).now (empty (was_clean clean) blank).2)
+  pub new_ledger : (ledger : Held S) (Blank : Type 0) → (HasCleanDisk (state g was) → Blank → IsEmpty (state g was)) → IsMadeOf g was ledger → HasCleanDisk (state g ledger) → Blank → IsLedger (state g ledger).now nothing
+  new_ledger ledger Blank empty made clean blank = (made.opened clean).blank (empty_is_free (state g was).now (empty (was_clean ledger made.survives clean) blank).2)

@@ -8,6 +8,7 @@ ghost use Rattle.sqlite.specs.WalFiles.{image_at};
 ghost use Rattle.pay_ledger_files.specs.Files.{fault_of_file, IsUnopened, IsOpenedOf, IsNotOpenedFrom};
 ghost use Rattle.pay_ledger.specs.Words.{IsLedger, nothing};
 
+use crate::opening::ledger_of;
 use pay_disk::open_database;
 use pay_ledger::{Ledger, OpenFault};
 use sqlite::{Connection, Error, ErrorCode, FileFrom, FileStore, Start};
@@ -52,33 +53,8 @@ pub fn open_file<S: Start>(
     ensures refused { IsNotOpenedFrom (image_at S.Start) result }
 {
     let conn = database_at(rt, path, start)?;
-    match Ledger::open(rt.alloc(), conn) {
+    match ledger_of(rt.alloc(), conn) {
         Ok(ledger) => Ok(ledger),
-        Err((fault, _)) => Err(fault),
-    }
-}
-
-/// What opens a ledger at a path.
-pub trait Ledgers {
-    /// Opens the file at a path as a ledger, which is made where there is none. `S` stands for what the file and the log beside it
-    /// held: a program passes `Wary`.
-    fn ledger<S: Start>(
-        &self,
-        path: &str,
-        start: S,
-    ) -> Result<Ledger<FileStore<FileFrom<S>>>, OpenFault>
-        ensures opened { IfOk result (λ ledger. IsOpenedOf over_files (FindsIn (image_at S.Start)) ledger) }
-        ensures empty { IfOk result (λ ledger. HasCleanDisk (file_state ledger) → S.Start.db ≡ [] → IsLedger (file_state ledger).now nothing) }
-        ensures refused { IsNotOpenedFrom (image_at S.Start) result };
-}
-
-/// The files of the system.
-impl Ledgers for HostRuntime {
-    fn ledger<S: Start>(
-        &self,
-        path: &str,
-        start: S,
-    ) -> Result<Ledger<FileStore<FileFrom<S>>>, OpenFault> {
-        open_file(self, path, start)
+        Err(fault) => Err(fault),
     }
 }

@@ -3,6 +3,7 @@
 
 mod file;
 mod memory;
+mod opening;
 
-pub use file::{Ledgers, open_file};
+pub use file::open_file;
 pub use memory::new_ledger;

@@ -4,6 +4,7 @@ ghost use Rattle.sqlite.specs.Files.{file_state};
 ghost use Rattle.pay_ledger.specs.Words.{IsLedger, nothing};
 ghost use Rattle.pay_ledger.specs.declared.fault.OpenFault.TheVariants.{Store};
 
+use crate::opening::ledger_of;
 use pay_disk::laws::memory_returns;
 use pay_disk::{ScratchFile, new_database};
 use pay_ledger::{Ledger, OpenFault};
@@ -18,8 +19,8 @@ pub fn new_ledger(alloc: Global) -> Result<Ledger<FileStore<ScratchFile>>, OpenF
 {
     memory_returns();
     let conn = new_database(alloc)?;
-    match Ledger::open(alloc, conn) {
+    match ledger_of(alloc, conn) {
         Ok(ledger) => Ok(ledger),
-        Err((fault, _)) => Err(fault),
+        Err(fault) => Err(fault),
     }
 }

@@ -6,15 +6,12 @@ use Rattle.pay_ledger_files.proofs.file.open_file.Goals as goal
 
 pub returns-in-Ok-clause-opened : goal.returns-in-Ok-clause-opened
 returns-in-Ok-clause-opened g c =
-    let e = c.in-Ok.ensures in
-    opened_of over_files (FindsIn (image_at g.S.Start)) c.in_ok-conn.conn c.in-Ok.ledger e.survives c.in_ok-conn.ensures.opened e.opened e.grows e.lasts
+    opened_of over_files c.in_ok-conn.conn (FindsIn (image_at g.S.Start)) c.in_ok-conn.ensures.opened c.in-Ok.ledger c.in-Ok.ensures.made
 
 pub returns-in-Ok-clause-empty : goal.returns-in-Ok-clause-empty
 returns-in-Ok-clause-empty g c =
-    let e = c.in-Ok.ensures in
-    new_ledger over_files (FindsIn (image_at g.S.Start)) c.in_ok-conn.conn c.in-Ok.ledger e.survives _ c.in_ok-conn.ensures.empty e.opened
+    new_ledger over_files c.in_ok-conn.conn c.in-Ok.ledger _ c.in_ok-conn.ensures.empty c.in-Ok.ensures.made
 
-pub returns-clause-refused : goal.returns-clause-refused
-returns-clause-refused g c =
-    let e = c.in-Err.ensures in
-    refused_of over_files (FindsIn (image_at g.S.Start)) c.in_ok-conn.conn c.in-Err.field-0-1 e.survives_err c.in_ok-conn.ensures.opened c.in-Err.fault e.refused
+pub returns-in-Err-clause-refused : goal.returns-in-Err-clause-refused
+returns-in-Err-clause-refused g c =
+    refused_of over_files c.in_ok-conn.conn (FindsIn (image_at g.S.Start)) c.in_ok-conn.ensures.opened c.in-Err.fault c.in-Err.ensures.refused
