@@ -4,11 +4,11 @@
 use crate::given::{expect_list, expect_same, sample};
 use crate::ledger::{empty_ledger, opened};
 use pay_book::Book;
-use pay_ledger::LedgerFault;
+use pay_ledger::{Ledger, LedgerFault};
 use pay_records::*;
 use pay_rows::{FixRow, PostingRow, ShareRow, TapRow};
 use pay_rules::{Fares, PostFault};
-use sqlite::{Error, MemStore, Transaction};
+use sqlite::{Alter, Error, Transaction};
 use std::process::Abort;
 
 /// How many taps and corrections an account may have.
@@ -40,7 +40,7 @@ const VOIDED: FixRow = FixRow {
 };
 
 /// Archives so many taps and corrections of account 7, and a tap of account 8. The taps are three seconds one after another.
-fn archive(tx: &mut Transaction<'_, MemStore>, taps: u32, fixes: u32) -> Result<(), Error> {
+fn archive<S: Alter>(tx: &mut Transaction<'_, S>, taps: u32, fixes: u32) -> Result<(), Error> {
     add_tap(tx, 8, &BOARDED)?;
     for seq in 0..taps {
         let later = 3 * i64::from(seq);
@@ -62,13 +62,14 @@ fn archive(tx: &mut Transaction<'_, MemStore>, taps: u32, fixes: u32) -> Result<
     Ok(())
 }
 
-/// What is restored of so many taps and corrections: the number of each account, and how many of both it has accepted.
-fn restored<R: Abort + AllocGlobal>(
+/// What an empty ledger restores of so many taps and corrections: the number of each account, and how many of both it has accepted.
+fn restored<R: Abort + AllocGlobal, S: Alter + Drop>(
     rt: &R,
+    ledger: Ledger<S>,
     taps: u32,
     fixes: u32,
 ) -> Result<Vec<(u32, usize, usize)>, LedgerFault> {
-    let mut conn = empty_ledger(rt).into_connection();
+    let mut conn = ledger.into_connection();
     let mut tx = conn.transaction();
     archive(&mut tx, taps, fixes).expect(rt, "rows");
     tx.commit().expect(rt, "a commit");
@@ -87,14 +88,16 @@ const BAD: LedgerFault = LedgerFault::Refused(PostFault::BadArchive);
 #[test]
 fn restores_no_fuller_account(rt: HostRuntime) {
     let full = (7, MOST_TAPS as usize, MOST_FIXES as usize);
-    let archive = restored(&rt, MOST_TAPS, MOST_FIXES);
+    let archive = restored(&rt, empty_ledger(&rt), MOST_TAPS, MOST_FIXES);
     expect_list(&rt, archive, Ok(&[full, (8, 1, 0)]));
-    expect_list(&rt, restored(&rt, MOST_TAPS + 1, 0), Err(BAD));
-    expect_list(&rt, restored(&rt, 0, MOST_FIXES + 1), Err(BAD));
+    let taps = restored(&rt, empty_ledger(&rt), MOST_TAPS + 1, 0);
+    expect_list(&rt, taps, Err(BAD));
+    let fixes = restored(&rt, empty_ledger(&rt), 0, MOST_FIXES + 1);
+    expect_list(&rt, fixes, Err(BAD));
 }
 
 /// Adds so many rows of account 7 to each table.
-fn add_rows(tx: &mut Transaction<'_, MemStore>, count: u32) -> Result<(), Error> {
+fn add_rows<S: Alter>(tx: &mut Transaction<'_, S>, count: u32) -> Result<(), Error> {
     for seq in 0..count {
         let row = PostingRow {
             week: 19_730,
@@ -117,17 +120,22 @@ fn add_rows(tx: &mut Transaction<'_, MemStore>, count: u32) -> Result<(), Error>
 // There are more postings of an account than it has taps, where days are closed again and again.
 #[test]
 fn reads_more_rows_than_an_account_has_taps(rt: HostRuntime) {
-    let mut conn = empty_ledger(&rt).into_connection();
+    expect_rows_read(&rt, empty_ledger(&rt));
+}
+
+/// One more posting, share, tap and correction than an account has taps is read of an empty ledger.
+fn expect_rows_read<R: Abort + AllocGlobal, S: Alter + Drop>(rt: &R, ledger: Ledger<S>) {
+    let mut conn = ledger.into_connection();
     let mut tx = conn.transaction();
     let count = MOST_TAPS as usize + 1;
-    add_rows(&mut tx, MOST_TAPS + 1).expect(&rt, "rows");
-    let postings = postings_of(rt.alloc(), &mut tx, 7).expect(&rt, "postings");
-    let shares = shares_of(rt.alloc(), &mut tx, 7).expect(&rt, "shares");
-    expect_same(&rt, (postings.len(), shares.len()), (count, count));
-    let taps = taps_of(rt.alloc(), &mut tx, 7).expect(&rt, "taps");
-    let fixes = fixes_of(rt.alloc(), &mut tx, 7).expect(&rt, "corrections");
-    expect_same(&rt, (taps.len(), fixes.len()), (count, count));
-    let taps = all_taps(rt.alloc(), &mut tx).expect(&rt, "all taps");
-    let fixes = all_fixes(rt.alloc(), &mut tx).expect(&rt, "all corrections");
-    expect_same(&rt, (taps.len(), fixes.len()), (count + 1, count));
+    add_rows(&mut tx, MOST_TAPS + 1).expect(rt, "rows");
+    let postings = postings_of(rt.alloc(), &mut tx, 7).expect(rt, "postings");
+    let shares = shares_of(rt.alloc(), &mut tx, 7).expect(rt, "shares");
+    expect_same(rt, (postings.len(), shares.len()), (count, count));
+    let taps = taps_of(rt.alloc(), &mut tx, 7).expect(rt, "taps");
+    let fixes = fixes_of(rt.alloc(), &mut tx, 7).expect(rt, "corrections");
+    expect_same(rt, (taps.len(), fixes.len()), (count, count));
+    let taps = all_taps(rt.alloc(), &mut tx).expect(rt, "all taps");
+    let fixes = all_fixes(rt.alloc(), &mut tx).expect(rt, "all corrections");
+    expect_same(rt, (taps.len(), fixes.len()), (count + 1, count));
 }

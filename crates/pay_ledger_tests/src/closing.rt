@@ -15,7 +15,7 @@ use pay_rules::{Fares, Posting, Postings, Quote};
 use pay_session::{Done, SessionFault, session};
 use pay_shard::{Answer, Asked, Batch, Command, Desk, DeskFault, Entry, Journal, Reply, Shard};
 use pay_till::NoTill;
-use sqlite::MemStore;
+use sqlite::Alter;
 use std::io::BufRead;
 use std::marker::Model;
 use std::process::Abort;
@@ -208,10 +208,10 @@ where
 
 impl<F: Fares, R: Threads + Wait + Abort + AllocGlobal + Copy> Closer<F, R> {
     // Answers lines over the desk and a ledger, and compares the replies.
-    fn expect_lines(
+    fn expect_lines<S: Alter>(
         &mut self,
         rt: R,
-        ledger: &mut Ledger<MemStore>,
+        ledger: &mut Ledger<S>,
         lines: &str,
         answered: u128,
         replies: &str,
@@ -231,7 +231,7 @@ impl<F: Fares, R: Threads + Wait + Abort + AllocGlobal + Copy> Closer<F, R> {
     }
 
     // Closes the Monday into a ledger.
-    fn close(&mut self, rt: R, ledger: &mut Ledger<MemStore>) -> Result<Postings, NotClosed> {
+    fn close<S: Alter>(&mut self, rt: R, ledger: &mut Ledger<S>) -> Result<Postings, NotClosed> {
         close(rt.alloc(), &mut self.desk, ledger, MONDAY)
     }
 
@@ -332,10 +332,10 @@ where
 }
 
 // Closes over a desk, and keeps what was posted.
-fn close_once<R: Wait + Abort + AllocGlobal + Copy>(
+fn close_once<R: Wait + Abort + AllocGlobal + Copy, S: Alter>(
     rt: R,
     desk: &mut LaneDesk<R>,
-    ledger: &mut Ledger<MemStore>,
+    ledger: &mut Ledger<S>,
     closes: &mut Vec<Postings>,
 )
     ensures { desk.new.began ≡ desk.old.began }
@@ -346,11 +346,11 @@ fn close_once<R: Wait + Abort + AllocGlobal + Copy>(
 
 // Closes over a desk three times while a lane sends in a thread of its own, and once when it has sent all. The lane, and what was
 // posted at each close.
-fn close_while_it_sends<R>(
+fn close_while_it_sends<R, S: Alter>(
     rt: R,
     lane: Lane,
     desk: &mut LaneDesk<R>,
-    ledger: &mut Ledger<MemStore>,
+    ledger: &mut Ledger<S>,
 ) -> (Lane, Vec<Postings>)
 where
     R: Threads + Wait + Abort + AllocGlobal + Copy + Send + 'static,
@@ -373,10 +373,10 @@ where
     R: Threads + Wait + Abort + AllocGlobal + Copy + Send + 'static,
 {
     // The same, where its last lane sends.
-    fn close_while_it_sends(
+    fn close_while_it_sends<S: Alter>(
         self,
         rt: R,
-        ledger: &mut Ledger<MemStore>,
+        ledger: &mut Ledger<S>,
     ) -> (Closer<F, R>, Vec<Postings>) {
         laws::still_together();
         laws::same_lanes();
@@ -583,7 +583,7 @@ impl<F: Fares, R: Threads + Wait + Abort + AllocGlobal + Copy> Closer<F, R> {
     }
 
     // Closes once the desk does not refuse: how many postings are given.
-    fn close_at_last(&mut self, rt: R, ledger: &mut Ledger<MemStore>) -> usize {
+    fn close_at_last<S: Alter>(&mut self, rt: R, ledger: &mut Ledger<S>) -> usize {
         let mut given = None;
         for _ in rt.forever() {
             match self.close(rt, ledger) {

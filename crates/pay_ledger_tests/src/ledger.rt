@@ -200,9 +200,9 @@ pub fn expect_net<R: Abort, S: Alter>(
 }
 
 /// Compares the postings of account 7 for the week of the Monday, and what they come to.
-fn expect_week<R: Abort + AllocGlobal>(
+fn expect_week<R: Abort + AllocGlobal, S: Alter + Drop>(
     rt: &R,
-    ledger: &mut Ledger<MemStore>,
+    ledger: &mut Ledger<S>,
     wanted: &[Told],
     net: i64,
 ) {
@@ -269,12 +269,12 @@ const STALE: PostFault = PostFault::StaleQuote {
 };
 
 /// This is refused, and the ledger is as it was after the journey.
-fn expect_refused<R: Abort + AllocGlobal>(
+fn expect_refused<R: Abort + AllocGlobal, S: Alter + Drop>(
     rt: &R,
-    mut ledger: Ledger<MemStore>,
+    mut ledger: Ledger<S>,
     batch: (&[Quote], &[Sets]),
     fault: PostFault,
-) -> Ledger<MemStore> {
+) -> Ledger<S> {
     expect_posted(rt, &mut ledger, batch, Err(LedgerFault::Refused(fault)));
     expect_rows(rt, ledger, JOURNEY)
 }
@@ -439,9 +439,9 @@ enum Limited {
 }
 
 /// Posts a batch under that limit, or else where memory may be refused.
-fn posted_or_not<R: Abort + AllocGlobal>(
+fn posted_or_not<R: Abort + AllocGlobal, S: Alter + Drop>(
     rt: &R,
-    ledger: &mut Ledger<MemStore>,
+    ledger: &mut Ledger<S>,
     limit: Option<u64>,
     batch: (&[Quote], &[Sets]),
 ) -> Limited {
@@ -456,12 +456,12 @@ fn posted_or_not<R: Abort + AllocGlobal>(
 }
 
 /// Opens the ledger under a limit on steps, or else where memory may be refused, and posts a batch. Then it is opened without.
-fn post_within<R: Abort + AllocGlobal>(
+fn post_within<R: Abort + AllocGlobal, S: Alter + Drop>(
     rt: &R,
-    ledger: Ledger<MemStore>,
+    ledger: Ledger<S>,
     limit: Option<u64>,
     batch: (&[Quote], &[Sets]),
-) -> (Ledger<MemStore>, Limited) {
+) -> (Ledger<S>, Limited) {
     let mut conn = ledger.into_connection();
     conn.set_step_limit(limit);
     tell(rt, MAY_BE_REFUSED);

@@ -1,4 +1,4 @@
-//! What is opened as a ledger, what of a ledger is no archive, and a ledger in a file.
+//! What is opened as a ledger, and what of a ledger is no archive.
 
 ghost use Rattle.std.specs.Prelude.{◌≡◌};
 
@@ -11,11 +11,9 @@ use crate::ledger::{
 use crate::lines::expect_run;
 use pay_account::Account;
 use pay_ledger::{Ledger, LedgerFault, OpenFault};
-use pay_ledger_files::Ledgers;
 use pay_rules::{Fares, Kind, PostFault};
 use pay_tables::Editions;
-use sqlite::{Alter, Connection, Error, MemStore, Wary};
-use std::fs;
+use sqlite::{Alter, Connection, Error, MemStore};
 use std::process::Abort;
 
 fn run<S: Alter>(conn: &mut Connection<S>, sql: &str) -> Result<(), Error> {
@@ -27,9 +25,9 @@ fn number<S: Alter>(conn: &mut Connection<S>, sql: &str) -> Result<i64, Error> {
 }
 
 /// A database is no ledger, and is given back with its rows of `meta`: the sum of their versions.
-fn expect_closed<R: Abort + AllocGlobal>(
+fn expect_closed<R: Abort + AllocGlobal, S: Alter + Drop>(
     rt: &R,
-    conn: Connection<MemStore>,
+    conn: Connection<S>,
     fault: OpenFault,
     versions: i64,
 ) {
@@ -93,7 +91,7 @@ fn opens_ledgers_alone(rt: HostRuntime) {
 const EMPTY: &str = "meta farebox 2\n";
 
 /// No table was made, and it is opened without a limit.
-fn expect_not_made<R: Abort + AllocGlobal>(rt: &R, mut conn: Connection<MemStore>) {
+fn expect_not_made<R: Abort + AllocGlobal, S: Alter + Drop>(rt: &R, mut conn: Connection<S>) {
     conn.set_step_limit(None);
     let tables = number(&mut conn, "SELECT count(*) FROM sqlite_schema");
     expect_same(rt, tables, Ok(1));
@@ -130,7 +128,7 @@ fn makes_all_tables_or_none_without_memory(rt: HostRuntime) {
 }
 
 /// The entry of account 7 is not posted.
-fn expect_not_posted<R: Abort + AllocGlobal>(rt: &R, ledger: &mut Ledger<MemStore>) {
+fn expect_not_posted<R: Abort + AllocGlobal, S: Alter + Drop>(rt: &R, ledger: &mut Ledger<S>) {
     let editions = sample(rt);
     let mut account: Account = Fares::new(rt.alloc(), 7);
     let entry = tap_at(rt, 1, 25_200, 10, Kind::In);
@@ -250,9 +248,6 @@ fn stands_beside_others(rt: HostRuntime) {
     stands_beside_a_key(&rt);
 }
 
-/// The file, in the folder that the test is run in. It is made anew and stays there, for `tests/ledger` to read.
-const PATH: &str = "ledger.db";
-
 /// A journey that is closed after each of its taps.
 const LINES: &str =
     "TAP 1 1 7 1704697200 10 IN\nCLOSE 19730\nTAP 1 2 7 1704699000 12 OUT\nCLOSE 19730\n";
@@ -260,98 +255,3 @@ const LINES: &str =
 /// Its replies.
 const REPLIES: &str =
     "OK 19730 860 860\nPAY 7 19730 19730 1 860 860 1=860\nDONE 19730 1\nOK 19730 340 340\nPAY 7 19730 19730 2 340 -520 1=-520\nDONE 19730 1\n";
-
-/// Answers the lines over an empty ledger, and gives its database back.
-fn written<R: Abort + AllocGlobal, S: Alter + Drop>(rt: &R, conn: Connection<S>) -> Connection<S> {
-    let mut ledger = expect_rows(rt, opened(rt, conn), EMPTY);
-    expect_run(rt, &mut ledger, LINES, 4, REPLIES);
-    ledger.into_connection()
-}
-
-/// The journey is there again, and so is its account.
-fn read_again<R: Abort + AllocGlobal, S: Alter + Drop>(
-    rt: &R,
-    conn: Connection<S>,
-) -> Connection<S> {
-    let mut ledger = expect_rows(rt, opened(rt, conn), JOURNEY);
-    expect_restored(rt, &mut ledger, &sample(rt), &[(7, 2, 340)]);
-    ledger.into_connection()
-}
-
-/// Writes it where it is new, or else reads it.
-fn kept<R: Abort + AllocGlobal, S: Alter + Drop>(
-    rt: &R,
-    conn: Result<Connection<S>, Error>,
-    is_new: bool,
-) -> Connection<S> {
-    let conn = conn.expect(rt, "a file");
-    if is_new {
-        written(rt, conn)
-    } else {
-        read_again(rt, conn)
-    }
-}
-
-// Each call with a database in a file costs some seconds to be proved, so all but its opening and its close is generic in the store.
-#[test]
-fn stays_in_a_file(rt: HostRuntime) {
-    let _ = fs::remove_file(&rt, PATH);
-    for time in 0..2 {
-        let conn = Connection::open(&rt, PATH);
-        let closed = kept(&rt, conn, time == 0).close();
-        closed.expect(&rt, "a file that is closed");
-    }
-}
-
-/// Another file there, which is made anew.
-const OTHER: &str = "other.db";
-
-/// Its log.
-const OTHER_LOG: &str = "other.db-wal";
-
-/// A new ledger, which the lines were answered over.
-fn begun<R: Abort + AllocGlobal, S: Alter + Drop>(
-    rt: &R,
-    made: Result<Ledger<S>, OpenFault>,
-) -> Ledger<S> {
-    let mut ledger = made.expect(rt, "a new file");
-    expect_net(rt, &mut ledger, 7, Ok(0));
-    expect_run(rt, &mut ledger, LINES, 4, REPLIES);
-    ledger
-}
-
-/// The journey is there, and the database is given back.
-fn found<R: Abort + AllocGlobal, S: Alter + Drop>(
-    rt: &R,
-    again: Result<Ledger<S>, OpenFault>,
-) -> Connection<S> {
-    let mut ledger = again.expect(rt, "the file again");
-    expect_net(rt, &mut ledger, 7, Ok(340));
-    expect_rows(rt, ledger, JOURNEY).into_connection()
-}
-
-/// There is no ledger at a path.
-fn expect_none<R: Abort + Ledgers>(rt: &R, path: &str, fault: OpenFault) {
-    expect_same(rt, rt.ledger(path, Wary).err(), Some(fault));
-}
-
-/// The file is opened again, with the journey.
-fn expect_found<R: Abort + AllocGlobal + Ledgers>(rt: &R) {
-    let closed = found(rt, rt.ledger(OTHER, Wary)).close();
-    closed.expect(rt, "the file once more");
-}
-
-// It is in use by the first, then dropped with all that was posted still in its log, and at last no database.
-#[test]
-fn opens_a_file_by_its_path(rt: HostRuntime) {
-    let _ = fs::remove_file(&rt, OTHER);
-    let _ = fs::remove_file(&rt, OTHER_LOG);
-    let ledger = begun(&rt, rt.ledger(OTHER, Wary));
-    expect_none(&rt, OTHER, OpenFault::Store);
-    drop(ledger);
-    expect_found(&rt);
-    let no_database = fs::write(&rt, OTHER, b"no database".as_slice());
-    no_database.expect(&rt, "a file of text");
-    expect_none(&rt, OTHER, OpenFault::NotALedger);
-    expect_none(&rt, ".", OpenFault::Store);
-}

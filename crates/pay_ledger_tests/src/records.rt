@@ -3,16 +3,16 @@
 use crate::given::{expect_list, expect_same};
 use pay_records::*;
 use pay_rows::{FixRow, PostingRow, ShareRow, TapRow};
-use sqlite::{Connection, Error, MemStore, Transaction};
+use sqlite::{Alter, Connection, Error, Transaction};
 use std::fmt::Debug;
 use std::process::Abort;
 
 /// The whole number that a query shows.
-fn number(conn: &mut Connection<MemStore>, sql: &str) -> Result<i64, Error> {
+fn number<S: Alter>(conn: &mut Connection<S>, sql: &str) -> Result<i64, Error> {
     conn.query_row(sql, &[])?.get(0)
 }
 
-fn expect_number<R: Abort>(rt: &R, conn: &mut Connection<MemStore>, sql: &str, wanted: i64) {
+fn expect_number<R: Abort, S: Alter>(rt: &R, conn: &mut Connection<S>, sql: &str, wanted: i64) {
     let found = number(conn, sql).expect(rt, sql);
     expect_same(rt, found, wanted);
 }
@@ -120,7 +120,7 @@ static FIXES: [FixRow; 2] = [
 ];
 
 /// Two postings of one week of account 7, and one of account 8 between them.
-fn written(tx: &mut Transaction<'_, MemStore>) -> Result<(i64, i64, i64), Error> {
+fn written<S: Alter>(tx: &mut Transaction<'_, S>) -> Result<(i64, i64, i64), Error> {
     make(tx)?;
     let first = add_posting(tx, 7, &CHARGED)?;
     let other = add_posting(tx, 8, &OTHER)?;
@@ -130,7 +130,7 @@ fn written(tx: &mut Transaction<'_, MemStore>) -> Result<(i64, i64, i64), Error>
     Ok((first, other, second))
 }
 
-fn add_shares(tx: &mut Transaction<'_, MemStore>) -> Result<(), Error> {
+fn add_shares<S: Alter>(tx: &mut Transaction<'_, S>) -> Result<(), Error> {
     for share in &SHARES {
         add_share(tx, share)?;
     }
@@ -138,7 +138,7 @@ fn add_shares(tx: &mut Transaction<'_, MemStore>) -> Result<(), Error> {
 }
 
 /// A tap and a correction of each account.
-fn add_sets(tx: &mut Transaction<'_, MemStore>) -> Result<(), Error> {
+fn add_sets<S: Alter>(tx: &mut Transaction<'_, S>) -> Result<(), Error> {
     add_tap(tx, 8, &BOARDED)?;
     add_tap(tx, 7, &TAPPED)?;
     add_fix(tx, 7, &FIXES[0])?;
@@ -170,7 +170,7 @@ static SHOWN: [(&str, i64); 8] = [
     ),
 ];
 
-fn expect_numbers<R: Abort>(rt: &R, conn: &mut Connection<MemStore>) {
+fn expect_numbers<R: Abort, S: Alter>(rt: &R, conn: &mut Connection<S>) {
     for (sql, wanted) in &SHOWN {
         expect_number(rt, conn, sql, *wanted);
     }
@@ -187,7 +187,7 @@ fn rows_of_a_ledger(rt: HostRuntime) {
 }
 
 /// What is read of the tables by the rows of account 7, and of all.
-fn expect_read<R: Abort + AllocGlobal>(rt: &R, tx: &mut Transaction<'_, MemStore>) {
+fn expect_read<R: Abort + AllocGlobal, S: Alter>(rt: &R, tx: &mut Transaction<'_, S>) {
     let postings = postings_of(rt.alloc(), tx, 7);
     expect_list(rt, postings, Ok(&[(1, CHARGED), (3, GIVEN_BACK)]));
     expect_members(rt, shares_of(rt.alloc(), tx, 7), &[SHARES[0], SHARES[2]]);
@@ -196,7 +196,7 @@ fn expect_read<R: Abort + AllocGlobal>(rt: &R, tx: &mut Transaction<'_, MemStore
 }
 
 /// And of its corrections.
-fn expect_fixes_read<R: Abort + AllocGlobal>(rt: &R, tx: &mut Transaction<'_, MemStore>) {
+fn expect_fixes_read<R: Abort + AllocGlobal, S: Alter>(rt: &R, tx: &mut Transaction<'_, S>) {
     let [fix, other] = FIXES;
     expect_members(rt, fixes_of(rt.alloc(), tx, 7), &[fix]);
     expect_members(rt, all_fixes(rt.alloc(), tx), &[(7, fix), (8, other)]);
@@ -212,7 +212,7 @@ fn rows_read_back(rt: HostRuntime) {
 }
 
 /// Another's table of postings, in which an amount is no number.
-fn write_other(tx: &mut Transaction<'_, MemStore>) -> Result<(), Error> {
+fn write_other<S: Alter>(tx: &mut Transaction<'_, S>) -> Result<(), Error> {
     tx.execute(
         "CREATE TABLE postings2 (id INTEGER PRIMARY KEY, account INTEGER, week INTEGER, through INTEGER, version INTEGER, due INTEGER, amount, edition INTEGER)",
         &[],

@@ -9,7 +9,7 @@ use pay_account::Account;
 use pay_ledger::{Ledger, OpenFault};
 use pay_rules::{Fares, Kind};
 use pay_tables::Editions;
-use sqlite::{Connection, Error, MemStore};
+use sqlite::{Alter, Connection, Error, MemStore};
 use std::process::Abort;
 
 /// The tables of version 1, as that made them, with the two postings of a journey: a maximum fare was charged at its touch in, and most of
@@ -53,7 +53,7 @@ const KEPT: Told = (7, 2, 340, -520, -520, 0);
 
 const OF_CREDIT: Told = (7, 3, 300, -40, -40, 0);
 
-fn number(conn: &mut Connection<MemStore>, sql: &str) -> Result<i64, Error> {
+fn number<S: Alter>(conn: &mut Connection<S>, sql: &str) -> Result<i64, Error> {
     conn.query_row(sql, &[])?.get(0)
 }
 
@@ -108,7 +108,7 @@ fn posts_after_what_was_copied(rt: HostRuntime) {
 }
 
 /// It is one of version 1, and is copied without a limit.
-fn expect_first<R: Abort + AllocGlobal>(rt: &R, mut conn: Connection<MemStore>) {
+fn expect_first<R: Abort + AllocGlobal, S: Alter + Drop>(rt: &R, mut conn: Connection<S>) {
     conn.set_step_limit(None);
     let version = number(&mut conn, "SELECT version FROM meta");
     let new = number(
