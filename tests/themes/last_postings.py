@@ -122,8 +122,10 @@ def ledgers_in_their_place(folder):
     os.symlink(folder, os.path.join(folder, "again"))
     kept = {name: bytes_of(os.path.join(folder, name)) for name in ("journal", *names)}
     for name in names:
+        # Of what is not there, that the journal had a ledger is said first.
+        why = "a new ledger beside a journal that had one" if name == "journal.posted.tmp" else "43 Store"
         for way in (name, os.path.join("again", name), os.path.join(".", name)):
-            yield f"{way}", closing(folder, [f"TAP 1 2 7 {SEVEN + 7200} 50 BUS", "CLOSE 19730"], ledger=way), fault("43 Store")
+            yield f"{way}", closing(folder, [f"TAP 1 2 7 {SEVEN + 7200} 50 BUS", "CLOSE 19730"], ledger=way), fault(why)
     for name, text in kept.items():
         yield f"then {name}", answers(bytes_of(os.path.join(folder, name))), answers(text)
     journals = new_folder(folder, "journals")
