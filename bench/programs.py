@@ -9,6 +9,8 @@ ROOT = os.path.dirname(HERE)
 OUT = f"{HERE}/out"
 ZONE = "GMT0BST,M3.5.0/1,M10.5.0"
 BUILT = f"{ROOT}/crates/farebox/out/farebox"
+# For `oracle`: the loads that are measured, and what they have to be answered.
+sys.path.append(f"{ROOT}/tests")
 
 
 def build_farebox():

@@ -9,8 +9,7 @@ import tempfile
 import threading
 import time
 
-import loads
-import rules
+from oracle import loads, rules
 from running import LONDON, MONDAY, RUN_SAMPLE, SAMPLE, TIME_TO_REPLY, End, answers, but_for_closes, in_lines, run, started
 
 ACCOUNTS = 40
@@ -69,7 +68,7 @@ def bytes_of(path):
 
 
 class Kept:
-    """What was accepted and posted, by the rules of bench/rules.py."""
+    """What was accepted and posted, by the rules of tests/oracle/rules.py."""
 
     def __init__(self, has_ledger=True):
         self.accounts, self.postings, self.archives = {}, {}, {}

@@ -8,7 +8,7 @@ import subprocess
 import tempfile
 import time
 
-import rules
+from oracle import rules
 from killed import MOST_LATER, QUESTIONS, WEEK_DAYS, Story, answered, bytes_of, rows_of
 from running import LONDON, SAMPLE, TIME_TO_REPLY, End, answers, heard, run, started
 from themes.serve import closed, connected, ended, free_ports, listening, side_by_side, talk_ahead, words_of

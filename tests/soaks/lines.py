@@ -2,8 +2,7 @@
 
 from typing import NamedTuple
 
-import loads
-import rules
+from oracle import loads, rules
 
 LANES = 4
 WEEK_DAYS = range(loads.MONDAY, loads.MONDAY + loads.DAYS)

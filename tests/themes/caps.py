@@ -1,6 +1,6 @@
 """Prices of days and weeks, up to their caps."""
 
-import rules
+from oracle import rules
 from running import A_DAY, RUN, RUN_SAMPLE, answers, play, read, run, test
 from themes.examples import told_replies
 

@@ -1,12 +1,11 @@
-"""Sessions that are drawn at random, or come in every order, by the second reckoning of bench/rules.py."""
+"""Sessions that are drawn at random, or come in every order, by the second reckoning of tests/oracle/rules.py."""
 
 import csv
 import io
 import itertools
 import random
 
-import loads
-import rules
+from oracle import loads, rules
 from running import A_DAY, BUS, LONDON, MONDAY, RUN, RUN_SAMPLE, SAMPLE, SEVEN, answers, in_lines, play, run, test, written
 from themes.fare_files import counted
 from themes.limits import MOST_BANDS, SPANS, ZONES, zone_of
@@ -40,7 +39,7 @@ def reply_moved(line, weeks):
 
 
 def by_rules(fares, accounts, commands, later=0):
-    """The lines of commands, and their replies by the rules of bench/rules.py; and both so many weeks later, in summer time."""
+    """The lines of commands, and their replies by the rules of tests/oracle/rules.py; and both so many weeks later, in summer time."""
     ledger = {}
     for it in commands:
         replied = rules.reply(fares, accounts, it, ledger).splitlines()
@@ -134,7 +133,7 @@ def drawn_taps(draw, fares, accounts):
 
 @test
 def drawn_caps(folder):
-    """Fare files of nine zones, twelve bands and up to 8 editions that are drawn at random, checked, and sessions by bench/rules.py."""
+    """Fare files of nine zones, twelve bands and up to 8 editions that are drawn at random, checked, and sessions by tests/oracle/rules.py."""
     for seed in range(12):
         draw = random.Random(seed)
         fares = drawn_fares(draw, editions=max(0, seed - 3))
@@ -206,7 +205,7 @@ def drawn_command(draw, account):
 
 @test
 def drawn_corrections(_):
-    """Sessions by bench/rules.py in which what is named comes before, after and never, and numbers are taken; and the days that they end in."""
+    """Sessions by tests/oracle/rules.py in which what is named comes before, after and never, and numbers are taken; and the days that they end in."""
     for seed in range(2):
         draw, accounts, pairs = random.Random(seed), {}, []
         for account in range(1, 101):
@@ -244,7 +243,7 @@ def with_closes(draw, commands):
 
 @test
 def drawn_closes(folder):
-    """Sessions of several accounts with closes among their lines, by bench/rules.py."""
+    """Sessions of several accounts with closes among their lines, by tests/oracle/rules.py."""
     for name, path, fares, commands, later, numbers, _ in drawn_sessions(folder):
         draw = random.Random(name)
         last = [rules.Close(MONDAY + 6), *drawn_dues(draw, 20, numbers, WEEK_DAYS)]
@@ -259,7 +258,7 @@ def read_back(came):
 
 @test
 def drawn_statements(folder):
-    """Statements by bench/rules.py, as text and as what another reader reads of it."""
+    """Statements by tests/oracle/rules.py, as text and as what another reader reads of it."""
     for name, path, fares, commands, later, numbers, days in drawn_sessions(folder):
         accounts = {}
         lines = [line for line, _ in by_rules(fares, accounts, commands, later)]

@@ -9,8 +9,7 @@ import signal
 import socket
 import stat
 
-import loads
-import rules
+from oracle import loads, rules
 from killed import SessionStory
 from preloads import preloaded
 from running import (
@@ -179,7 +178,7 @@ def parts_of(draw, items, count):
 
 @test
 def drawn_sessions(folder):
-    """A week of taps, corrections, questions and closes in several sessions with one journal, each with lines of those before it, by bench/rules.py."""
+    """A week of taps, corrections, questions and closes in several sessions with one journal, each with lines of those before it, by tests/oracle/rules.py."""
     for seed, (words, fares) in enumerate(((RUN, rules.BUS), (RUN_SAMPLE, rules.SAMPLE))):
         draw, accounts, has = random.Random(seed), {}, b""
         path = os.path.join(folder, f"journal{seed}")
@@ -571,6 +570,6 @@ def names_on_the_disk(folder):
 
 @test
 def killed_sessions(folder):
-    """Sessions that are killed at random moments and go on, by bench/rules.py: every reply, what the files have, and what is due in the end."""
+    """Sessions that are killed at random moments and go on, by tests/oracle/rules.py: every reply, what the files have, and what is due in the end."""
     for number, (has_ledger, more) in enumerate(itertools.product((False, True), ((), ("--sync",)))):
         yield from SessionStory(folder, random.Random(number), has_ledger, more).told(15)

@@ -12,8 +12,7 @@ import subprocess
 import tempfile
 import time
 
-import loads
-import rules
+from oracle import loads, rules
 from killed import Kept, rows_of
 from preloads import preloaded
 from running import (

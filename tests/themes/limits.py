@@ -1,6 +1,6 @@
 """Accounts, days and fare files as full as they may be, and one more of each."""
 
-import rules
+from oracle import rules
 from running import A_DAY, MONDAY, RUN, RUN_SAMPLE, SEVEN, answers, fault, play, run, test, written
 from themes.fare_files import counted
 

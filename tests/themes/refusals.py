@@ -2,7 +2,7 @@
 
 import socket
 
-import rules
+from oracle import rules
 from preloads import preloaded
 from running import A_DAY, MONDAY, RUN, SEVEN, answers, heard, in_lines, play, session, test
 from themes.limits import MOST_FIXES, MOST_TAPS

@@ -12,8 +12,7 @@ import subprocess
 import tempfile
 import threading
 
-import loads
-import rules
+from oracle import loads, rules
 from preloads import preloaded
 from running import (
     FARES, LONDON, MISSING, MONDAY, SAMPLE, SEVEN, TIME_TO_REPLY, End, answers, closing, end_of, fault, heard, run, started, test,
@@ -231,7 +230,7 @@ def questions():
 
 
 def replies_by_rules(commands):
-    """The replies to the questions by the rules of bench/rules.py, for accounts that have accepted these taps and corrections."""
+    """The replies to the questions by the rules of tests/oracle/rules.py, for accounts that have accepted these taps and corrections."""
     accounts = {account: rules.Account({}, {}) for account in range(1, ACCOUNTS + 1)}
     for it in commands:
         account = accounts[it.account]

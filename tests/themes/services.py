@@ -7,8 +7,7 @@ import stat
 import subprocess
 from typing import NamedTuple
 
-import loads
-import rules
+from oracle import loads, rules
 from killed import Kept, rows_of
 from killed_services import ServedStory
 from preloads import preloaded
@@ -646,6 +645,6 @@ def crowd(folder):
 
 @test
 def killed_services(folder):
-    """Services that are killed at random moments and go on with other numbers of lanes and shards, by bench/rules.py."""
+    """Services that are killed at random moments and go on with other numbers of lanes and shards, by tests/oracle/rules.py."""
     for number in range(2):
         yield from ServedStory(folder, random.Random(number), number == 1).told(15)

@@ -3,7 +3,7 @@
 import os
 import random
 
-import rules
+from oracle import rules
 from running import A_DAY, MONDAY, RUN, RUN_SAMPLE, SEVEN, answers, boardings, in_lines, play, run, run_file, test, written
 from themes.limits import MOST_FIXES, MOST_TAPS
 from themes.serve import closed, ended, serving, side_by_side, talk_ahead

@@ -2,7 +2,7 @@
 
 import select
 
-import rules
+from oracle import rules
 from running import (
     BUS, LONDON, MONDAY, SAMPLE, SEVEN, STATE, End, answers, cut, edited, end_of, in_lines, run, run_file, started, taps_of, test, trickle, written,
 )

@@ -3,7 +3,7 @@
 import random
 from typing import Callable, NamedTuple
 
-from rules import A_DAY, BUS, ROUTE, SAMPLE, Band, Due, Fix, Tap, parts, service_day
+from oracle.rules import A_DAY, BUS, ROUTE, SAMPLE, Band, Due, Fix, Tap, parts, service_day
 
 # Service day 19730 begins on Monday 2024-01-08 at 04:30:00.
 MONDAY, BEGINS, DAYS = 19730, 1704688200, 7
