@@ -7,7 +7,7 @@ import socket
 import time
 from typing import NamedTuple
 
-from themes.serve import break_off, connected
+from support.serving import break_off, connected
 
 # The seconds after which a lane without a reply hangs: more than memory is ever out, and a late reply on top of it.
 SILENCE = 90

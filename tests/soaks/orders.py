@@ -2,9 +2,9 @@
 
 import collections
 
-import running
-from running import LONDON, SAMPLE
 from soaks.clients import FOR_NOW, LATE, Fault, grouped
+from support import running
+from support.repository import LONDON, SAMPLE
 
 
 class Told:

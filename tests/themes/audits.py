@@ -3,11 +3,12 @@
 import os
 import shutil
 
-from running import RUN, SEVEN, A_DAY, MISSING, End, answers, fault, in_lines, run, test, written
-from themes.kept_fares import an_edition, bytes_of, quiet
-from themes.last_postings import DONE, PAID, closing, copied
-from themes.serve import closed, ended, serving, talk
-from themes.services import new_folder, with_both
+from support.fares import an_edition, quiet
+from support.journals import new_folder, with_both
+from support.judging import test
+from support.ledgers import DONE, PAID, copied_ledger, session_over
+from support.running import A_DAY, MISSING, RUN, SEVEN, End, answers, bytes_of, fault, in_lines, run, written
+from support.serving import closed, ended, serving, talk
 
 BUS = f"TAP 1 1 7 {SEVEN} 50 BUS"
 LOST = f"in the ledger and not in the journal: {BUS}, on day 19730 at second 25200"
@@ -35,7 +36,7 @@ def what_is_not_settled(folder):
         """More lines of the journal, without a ledger."""
         return run([*RUN, "--journal", os.path.join(folder, "journal")], in_lines(lines))
 
-    yield "a first close", closing(folder, [BUS, "CLOSE 19730"]), answers(b"OK 19730 175 175\n" + PAID + DONE)
+    yield "a first close", session_over(folder, [BUS, "CLOSE 19730"]), answers(b"OK 19730 175 175\n" + PAID + DONE)
     yield "settled", audit(folder), answers(b"")
     yield "a late tap", later(f"TAP 1 2 7 {SEVEN + 7200} 50 BUS"), answers(b"OK 19730 350 350\n")
     yield "not settled", audit(folder), answers(b"UNSETTLED 7 19730 19730 350 175\nCLOSE 19730\n")
@@ -47,11 +48,11 @@ def what_is_not_settled(folder):
     yield "two are not settled", told, answers(b"UNSETTLED 7 19730 19730 350 175\nUNSETTLED 8 19730 19730 175 0\nCLOSE 19730\n")
     yield "nothing is changed", answers(repr(all_files(folder)).encode()), answers(repr(before).encode())
     closes = [line for line in told.output.decode().splitlines() if line.startswith("CLOSE")]
-    yield "its closes", closing(folder, closes), answers(
+    yield "its closes", session_over(folder, closes), answers(
         b"PAY 7 19730 19730 4 350 175 4=175\nPAY 8 19730 19730 1 175 175 4=175\nDONE 19730 2\n")
     yield "settled by them", audit(folder), answers(b"")
     # A credit of a week that is closed through Sunday, and one of the week after, which is closed through its Tuesday.
-    yield "two more closes", closing(folder, ["CLOSE 19736", "CLOSE 19738"]), answers(
+    yield "two more closes", session_over(folder, ["CLOSE 19736", "CLOSE 19738"]), answers(
         b"PAY 7 19730 19736 4 525 175 4=175\nPAY 8 19730 19736 1 175 0\nDONE 19736 2\n"
         b"PAY 7 19737 19738 4 175 175 4=175\nDONE 19738 1\n")
     yield "late credits", later("FIX 1 1 7 CREDIT 19730 100", "FIX 1 2 7 CREDIT 19738 200", "FIX 1 1 8 CREDIT 19737 1"), answers(
@@ -70,9 +71,9 @@ def what_differs(folder):
     journal = os.path.join(folder, "journal")
     lines = [BUS, f"TAP 1 1 8 {SEVEN} 50 BUS", f"TAP 1 2 8 {SEVEN + 7200} 50 BUS", "CLOSE 19730"]
     paid = PAID + b"PAY 8 19730 19730 2 350 350 4=350\nDONE 19730 2\n"
-    yield "a first close", closing(folder, lines), answers(b"OK 19730 175 175\nOK 19730 175 175\nOK 19730 350 350\n" + paid)
-    first = copied(folder, "first")
-    yield "a late tap", closing(folder, [f"TAP 1 2 7 {SEVEN + 7200} 50 BUS", "CLOSE 19730"]), answers(
+    yield "a first close", session_over(folder, lines), answers(b"OK 19730 175 175\nOK 19730 175 175\nOK 19730 350 350\n" + paid)
+    first = copied_ledger(folder, "first")
+    yield "a late tap", session_over(folder, [f"TAP 1 2 7 {SEVEN + 7200} 50 BUS", "CLOSE 19730"]), answers(
         b"OK 19730 350 350\nPAY 7 19730 19730 2 350 175 4=175\nPAY 8 19730 19730 2 350 350 4=350\nDONE 19730 2\n")
     yield "an older ledger", audit(folder, ledger=first), differs(
         "another or an older ledger than the journal's: no posting of account 7 for week 19730 through 19730",
@@ -134,7 +135,7 @@ def a_lost_journal(folder):
         f"TAP 2 1 8 {SEVEN} 50 BUS", BUS, f"TAP 1 2 7 {SEVEN + 7200} 50 BUS", f"FIX 3 1 7 FILL {SEVEN + 3600} 50 BUS", "FIX 3 2 7 VOID 1 2",
         "FIX 3 3 7 CREDIT 19730 10", "FIX 3 4 7 DROP 3 3", "FIX 3 1 9 VOID 1 1",
     ]
-    came = closing(folder, [*lines, "CLOSE 19730"])
+    came = session_over(folder, [*lines, "CLOSE 19730"])
     posted = came.output[came.output.index(b"PAY"):]
     yield "the close", came._replace(output=posted.split(b" 19730 ")[0]), answers(b"PAY 7")
     ledger = os.path.join(folder, "ledger")
@@ -148,9 +149,9 @@ def a_lost_journal(folder):
     yield "is not there", run(["rebuild", RUN[1], ledger]), answers(wanted)
     for name in ("journal", "journal.fares", "journal.posted"):
         os.remove(os.path.join(folder, name))
-    yield "as a journal it is taken", closing(folder, [], journal="again"), fault("ledger without its journal")
+    yield "as a journal it is taken", session_over(folder, [], journal="again"), fault("ledger without its journal")
     written(folder, "again", given.output)
-    yield "the close once more", closing(folder, ["CLOSE 19730"], journal="again"), answers(posted)
+    yield "the close once more", session_over(folder, ["CLOSE 19730"], journal="again"), answers(posted)
     yield "and belongs to the ledger", audit(folder, journal="again"), answers(b"")
     yield "no such ledger", run(["rebuild", RUN[1], os.path.join(folder, "none")]), fault("no such ledger")
     yield "it is not made", answers(bytes_of(os.path.join(folder, "none"))), answers(None)

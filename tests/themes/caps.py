@@ -1,27 +1,12 @@
 """Prices of days and weeks, up to their caps."""
 
-from oracle import rules
-from running import A_DAY, RUN, RUN_SAMPLE, answers, play, read, run, test
-from themes.examples import told_replies
+from support.examples import told_replies
+from support.judging import test
+from support.repository import RUN_SAMPLE
+from support.running import A_DAY, RUN, answers, play, read, run
+from support.sessions import BUS_DAY, BUS_WEEK, TRAIN_AND_BUS_DAY, TRAIN_AND_BUS_WEEK, ZONE_DAY, capped
 
-# Taps of account 7 with examples/sample.toml: the second, the place and the kind of each, and the prices of its day and its week.
-BUS_DAY = (
-    (1704700800, 50, "BUS", 175, 175),  # Monday 2024-01-08, day 19730, 08:00, and every two hours
-    (1704708000, 50, "BUS", 350, 350),
-    (1704715200, 50, "BUS", 525, 525),
-    (1704722400, 50, "BUS", 525, 525),  # 700, capped by the bus band
-)
-ZONE_DAY = (
-    (1704697200, 10, "IN", 860, 860),  # 07:00
-    (1704698400, 12, "OUT", 340, 340),
-    (1704699000, 12, "IN", 1200, 1200),
-    (1704700200, 10, "OUT", 680, 680),
-    (1704700800, 10, "IN", 1540, 1540),
-    (1704702000, 12, "OUT", 890, 890),  # 1020, capped by the band of zones 1 to 2
-    (1704708000, 14, "IN", 1750, 1750),
-    (1704708600, 13, "OUT", 1050, 1050),  # zone 3, off-peak: 1200, or 890 and 180, capped by the band of zones 1 to 3
-)
-# A leg that the bus band leaves outside.
+# Taps of account 7 with examples/sample.toml, each with the prices of its day and its week: a leg that the bus band leaves outside.
 LEG_AND_BUS_DAY = (
     (1704697200, 10, "IN", 860, 860),  # 07:00
     (1704698400, 12, "OUT", 340, 340),
@@ -30,23 +15,10 @@ LEG_AND_BUS_DAY = (
     (1704715200, 50, "BUS", 865, 865),
     (1704722400, 50, "BUS", 865, 865),  # 1040, or 525 and 340
 )
-# The day by train, and two boardings at 12:00 and 14:00: 1375 and 1550, of which the band of zones 1 to 3 covers all.
-TRAIN_AND_BUS_DAY = (*ZONE_DAY, (1704715200, 50, "BUS", 1050, 1050), (1704722400, 50, "BUS", 1050, 1050))
+
 # A maximum fare comes on top.
 TRAIN_BUS_AND_LONE = (*TRAIN_AND_BUS_DAY, (1704729600, 10, "IN", 1910, 1910))  # 16:00
-# The same from Monday to Saturday, on which the legs of zones 1 to 2 are off-peak. Six days would be 6300, and the week's cap of
-# zones 1 to 3 is 5250; by that of zones 1 to 2 it would be 4470 and 180 for each day.
-TRAIN_AND_BUS_WEEK = [
-    (utc + A_DAY * day, place, kind, price, 1050 * day + price) for day in range(5) for utc, place, kind, price, _ in TRAIN_AND_BUS_DAY
-] + [
-    (utc + A_DAY * 5, place, kind, price, 5250 + (860 if kind == "IN" else 0))
-    for (utc, place, kind, *_), price in zip(TRAIN_AND_BUS_DAY, (860, 280, 1140, 560, 1420, 840, 1700, 1020, 1050, 1050))
-]
-# Three boardings a day from Monday to Friday: each day is just its cap, and the week is 2625, capped by the bus band.
-BUS_WEEK = [
-    (1704700800 + 86_400 * day + 7_200 * boarding, 50, "BUS", 175 * (boarding + 1), min(525 * day + 175 * (boarding + 1), 2470))
-    for day in range(5) for boarding in range(3)
-]
+
 # The last four of these arrive late.
 LATE = (
     (1704697200, 10, "IN", 860, 860),  # 07:00
@@ -78,12 +50,6 @@ ZONE_WEEK = [
     (1705144200, 13, "OUT", 460, 4650),
     (1705233600, 10, "IN", 860, 5510),
 ]
-
-
-def capped(rows):
-    """The lines of taps, and their replies."""
-    for seq, (utc, place, kind, day_price, week_price) in enumerate(rows, 1):
-        yield f"TAP 1 {seq} 7 {utc} {place} {kind}", f"OK {rules.service_day(utc)} {day_price} {week_price}"
 
 
 @test

@@ -1,7 +1,9 @@
 """What closes post and give back, and what they refuse, by hand."""
 
-from running import RUN, RUN_SAMPLE, play, test
-from themes.caps import BUS_WEEK, ZONE_DAY, capped
+from support.judging import test
+from support.repository import RUN_SAMPLE
+from support.running import RUN, play
+from support.sessions import BUS_WEEK, ZONE_DAY, capped
 
 # Closes, with examples/sample.toml. An In alone is posted at the maximum fare; its Out comes late, and the rest is given back.
 REFUNDED = (

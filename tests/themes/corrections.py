@@ -1,26 +1,10 @@
 """What customer service does to an account's taps, by hand. All of it is with examples/sample.toml."""
 
-from running import RUN_SAMPLE, play, test
+from support.judging import test
+from support.repository import RUN_SAMPLE
+from support.running import play
+from support.sessions import CREDITS, FILLED, LEFT, ONE_SECOND
 
-# Corrections, with examples/sample.toml. A touch out that was forgotten is filled, and what was filled is withdrawn.
-FILLED = (
-    ("TAP 1 1 7 1704697200 10 IN", "OK 19730 860 860"),  # Monday 2024-01-08, day 19730, 07:00
-    ("FIX 3 1 7 FILL 1704699000 12 OUT", "OK 19730 340 340"),  # 07:30
-    ("SHOW 7 19730", "SHOW 7 19730 1 340\nJNY RAIL 10 12 1704697200 340"),
-    ("FIX 3 2 7 CREDIT 19730 100", "OK 19730 340 340"),
-    ("FIX 3 3 7 DROP 3 1", "OK 19730 860 860"),
-    ("SHOW 7 19730", "SHOW 7 19730 1 860\nJNY LONE 10 0 1704697200 860"),
-    ("FIX 3 4 7 VOID 1 1", "OK 19730 0 0"),
-    ("FIX 3 5 7 VOID 9 9", "OK 0 0 0"),
-    ("FIX 3 2 7 CREDIT 19730 200", "NO 22 FixConflict"),
-    ("SHOW 7 19730", "SHOW 7 19730 0 0"),
-    # Both ends of a change that were forgotten, between an In at 07:00 and an Out at 07:50.
-    ("TAP 1 1 8 1704697200 14 IN", "OK 19730 860 860"),
-    ("TAP 1 2 8 1704700200 11 OUT", "OK 19730 210 210"),
-    ("FIX 3 1 8 FILL 1704698400 12 OUT", "OK 19730 1070 1070"),  # 07:20: 210, and the Out after it is alone
-    ("FIX 3 2 8 FILL 1704699600 10 IN", "OK 19730 370 370"),  # 07:40: linked, zones 1 to 3
-    ("SHOW 8 19730", "SHOW 8 19730 1 370\nJNY RAIL 14 11 1704697200 370"),
-)
 # A boarding that never was is voided, brought back, and voided twice.
 VOIDED = (
     ("TAP 1 1 7 1704697200 50 BUS", "OK 19730 175 175"),
@@ -38,31 +22,7 @@ VOIDED = (
     ("FIX 3 8 7 DROP 3 8", "AGAIN 0 0 0"),
     ("SHOW 7 19730", "SHOW 7 19730 1 175\nJNY BUS 50 0 1704697200 175"),
 )
-# What a Void leaves is priced as if the tap had never been.
-LEFT = (
-    # Boardings at 07:00, 07:50 and 08:23:20. Without the first the second pays, and the third is free, 2,000 s after it.
-    ("TAP 1 1 7 1704697200 50 BUS", "OK 19730 175 175"),
-    ("TAP 1 2 7 1704700200 50 BUS", "OK 19730 175 175"),
-    ("TAP 1 3 7 1704702200 50 BUS", "OK 19730 350 350"),
-    ("FIX 3 1 7 VOID 1 1", "OK 19730 175 175"),
-    ("SHOW 7 19730", "SHOW 7 19730 2 175\nJNY BUS 50 0 1704700200 175\nJNY BUS 50 0 1704702200 0"),
-    ("FIX 3 2 7 DROP 3 1", "OK 19730 350 350"),
-    # An Out at 13 that parts two legs.
-    ("TAP 1 1 8 1704697200 14 IN", "OK 19730 860 860"),
-    ("TAP 1 2 8 1704698400 12 OUT", "OK 19730 210 210"),
-    ("TAP 1 3 8 1704699600 10 IN", "OK 19730 1070 1070"),
-    ("TAP 1 4 8 1704700200 11 OUT", "OK 19730 370 370"),
-    ("TAP 1 5 8 1704699000 13 OUT", "OK 19730 1350 1350"),
-    ("FIX 3 1 8 VOID 1 5", "OK 19730 370 370"),
-    ("SHOW 8 19730", "SHOW 8 19730 1 370\nJNY RAIL 14 11 1704697200 370"),
-    # Four boardings, two hours apart, capped by the bus band.
-    ("TAP 1 1 9 1704700800 50 BUS", "OK 19730 175 175"),
-    ("TAP 1 2 9 1704708000 50 BUS", "OK 19730 350 350"),
-    ("TAP 1 3 9 1704715200 50 BUS", "OK 19730 525 525"),
-    ("TAP 1 4 9 1704722400 50 BUS", "OK 19730 525 525"),
-    ("FIX 3 1 9 VOID 1 2", "OK 19730 525 525"),
-    ("FIX 3 2 9 VOID 1 3", "OK 19730 350 350"),
-)
+
 # A Void or a Drop comes before what it names.
 EARLY = (
     ("FIX 3 1 7 VOID 1 1", "OK 0 0 0"),
@@ -143,20 +103,7 @@ REFUSED_FIXES = (
     ("FIX 3 1 7 VOID 1 1", "AGAIN 0 0 0"),
     ("SHOW 7 19730", "SHOW 7 19730 0 0"),
 )
-# In one second accepted taps come before filled ones, and then the lower number comes first.
-ONE_SECOND = (
-    ("TAP 65535 9 7 1704697200 10 IN", "OK 19730 860 860"),
-    ("FIX 1 1 7 FILL 1704697200 12 OUT", "OK 19730 340 340"),
-    ("TAP 1 1 8 1704697200 12 OUT", "OK 19730 860 860"),
-    ("FIX 2 1 8 FILL 1704697200 10 IN", "OK 19730 1720 1720"),
-    ("FIX 2 1 9 FILL 1704697200 10 IN", "OK 19730 860 860"),
-    ("FIX 1 9 9 FILL 1704697200 12 OUT", "OK 19730 1720 1720"),
-    ("FIX 1 9 10 FILL 1704697200 10 IN", "OK 19730 860 860"),
-    ("FIX 2 1 10 FILL 1704697200 12 OUT", "OK 19730 340 340"),
-    ("FIX 1 1 11 FILL 1704697200 10 IN", "OK 19730 860 860"),
-    ("TAP 9 9 11 1704697200 50 BUS", "OK 19730 1035 1035"),
-    ("SHOW 11 19730", "SHOW 11 19730 2 1035\nJNY BUS 50 0 1704697200 175\nJNY LONE 10 0 1704697200 860"),
-)
+
 # The day of each reply, in the night to Monday, over weeks, and in summer time.
 DAYS_NAMED = (
     ("TAP 1 1 7 1704688199 10 IN", "OK 19729 860 860"),  # Monday 04:29:59
@@ -182,16 +129,7 @@ DAYS_NAMED = (
     ("FIX 3 3 8 DROP 3 1", "OK 19812 0 175"),
     ("SHOW 8 19813", "SHOW 8 19813 1 175\nJNY BUS 50 0 1711855800 175"),
 )
-# Credits change no price, however great they are.
-CREDITS = (
-    ("TAP 1 1 7 1704697200 50 BUS", "OK 19730 175 175"),
-    ("FIX 3 1 7 CREDIT 19730 100000", "OK 19730 175 175"),
-    ("FIX 3 2 7 CREDIT 19730 100000", "OK 19730 175 175"),
-    ("FIX 3 3 7 CREDIT 19736 1", "OK 19736 0 175"),
-    ("FIX 3 4 7 CREDIT 19737 1", "OK 19737 0 0"),
-    ("TAP 1 1 7 1704697200 50 BUS", "AGAIN 19730 175 175"),
-    ("SHOW 7 19730", "SHOW 7 19730 1 175\nJNY BUS 50 0 1704697200 175"),
-)
+
 # What stands in the end: a Fill between two boardings, of which the second is voided, and of two Credits the one that is not withdrawn.
 STANDING = (
     ("TAP 1 1 7 1704697200 50 BUS", "OK 19730 175 175"),

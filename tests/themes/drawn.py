@@ -6,52 +6,12 @@ import itertools
 import random
 
 from oracle import loads, rules
-from running import A_DAY, BUS, LONDON, MONDAY, RUN, RUN_SAMPLE, SAMPLE, SEVEN, answers, in_lines, play, run, test, written
-from themes.fare_files import counted
-from themes.limits import MOST_BANDS, SPANS, ZONES, zone_of
-from themes.statements import stated
-
-
-def moved(command, weeks):
-    """A command so many weeks later, in summer time."""
-    # The rules know winter alone. In summer the same clock shows an hour earlier by UTC.
-    after = weeks * 7 * A_DAY - (3_600 if weeks else 0)
-    if isinstance(command, (rules.Due, rules.Close)):
-        return command._replace(day=command.day + 7 * weeks)
-    if isinstance(command, rules.Tap):
-        return command._replace(utc=command.utc + after)
-    first, *others = command.words
-    by = {"FILL": after, "CREDIT": 7 * weeks}.get(command.form, 0)
-    return command._replace(words=(first + by, *others))
-
-
-# Where days stand in a reply.
-DAYS_IN_REPLY = {"OK": (1,), "AGAIN": (1,), "DUE": (2, 3), "PAY": (2, 3), "DONE": (1,), "NO": ()}
-
-
-def reply_moved(line, weeks):
-    """A line of a reply so many weeks later."""
-    words = line.split()
-    for at in DAYS_IN_REPLY[words[0]]:
-        if words[at] != "0":
-            words[at] = str(int(words[at]) + 7 * weeks)
-    return " ".join(words)
-
-
-def by_rules(fares, accounts, commands, later=0):
-    """The lines of commands, and their replies by the rules of tests/oracle/rules.py; and both so many weeks later, in summer time."""
-    ledger = {}
-    for it in commands:
-        replied = rules.reply(fares, accounts, it, ledger).splitlines()
-        yield rules.line(moved(it, later)).rstrip("\n"), "\n".join(reply_moved(line, later) for line in replied)
-
-
-def drawn_dues(draw, count, accounts, days):
-    """So many questions what an account owes, through one of the days."""
-    return [rules.Due(draw.choice(accounts), draw.choice(days)) for _ in range(count)]
-
-
-WEEK_DAYS = range(MONDAY, MONDAY + 7)
+from support.drawn import by_rules, drawn_dues, with_closes
+from support.fares import MOST_BANDS, SPANS, ZONES, counted, zone_of
+from support.judging import test
+from support.repository import BUS, LONDON, RUN_SAMPLE, SAMPLE
+from support.running import A_DAY, MONDAY, RUN, SEVEN, WEEK_DAYS, answers, in_lines, play, run, written
+from support.statements import stated
 
 
 @test
@@ -230,15 +190,6 @@ def drawn_sessions(folder):
             yield f"the fare file of draw {seed} with {editions} editions", path, fares, drawn_taps(draw, fares, 10), 0, range(1, 11), (MONDAY + 6,)
         for name, path, said in (("with caps", SAMPLE, rules.SAMPLE), ("without caps", BUS, rules.BUS)):
             yield f"a week {name} of draw {seed}", path, said, loads.corrected_week(draw, 10), 26 * seed, range(1, 11), (MONDAY + 2,)
-
-
-def with_closes(draw, commands):
-    """Commands and closes among them: mostly of ascending days, now and then of one that is closed already or comes too early, and many twice."""
-    for at, command in enumerate(commands):
-        yield command
-        if draw.random() < 0.04:
-            close = rules.Close(MONDAY + 7 * at // len(commands) + draw.choice((-1, 0, 0, 0, 1)))
-            yield from [close] * draw.randint(1, 2)
 
 
 @test

@@ -1,8 +1,9 @@
 """Prices on the days around a change of fares, by examples/two.toml, whose edition begins on Tuesday 2024-01-09, day 19731."""
 
-from running import A_DAY, CHECK, LONDON, RUN_SAMPLE, RUN_TWO, TWO, answers, edited, fault, play, run, test, written
-from themes.fare_files import COUNTED
-from themes.statements import rows_of_statement, stated
+from support.judging import test
+from support.repository import CHECK, COUNTED, LONDON, RUN_SAMPLE, RUN_TWO, TWO
+from support.running import A_DAY, answers, edited, fault, play, run, written
+from support.statements import rows_of_statement, stated
 
 # Of account 7: the second, the place and the kind of each tap, the day of the reply, and the prices of that day and its week.
 OVER_NIGHT = (

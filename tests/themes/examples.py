@@ -4,29 +4,10 @@ import contextlib
 import os
 import sqlite3
 
-from running import EXAMPLES, RUN, RUN_SAMPLE, RUN_TWO, STATE, End, answers, heard, in_lines, read, run, run_file, started, test
-
-
-def told_in(column):
-    """What examples/README.md gives in the columns of this name, by the name of the example."""
-    lines, name, at = {}, None, None
-    with open(f"{EXAMPLES}/README.md", encoding="utf-8") as document:
-        for line in document:
-            cells = [cell.strip() for cell in line.strip().strip("|").split("|")]
-            if line.startswith("## "):
-                name = line[3:].strip()
-            if not line.startswith("|"):
-                at = None
-            elif column in cells:
-                at = cells.index(column)
-            elif at is not None and cells[at].startswith("`"):
-                lines.setdefault(name, []).append(cells[at].strip("`"))
-    return {name: in_lines(those) for name, those in lines.items()}
-
-
-def told_replies():
-    return told_in("Reply")
-
+from support.examples import told_in, told_replies
+from support.judging import test
+from support.repository import EXAMPLES, RUN_SAMPLE, RUN_TWO, STATE
+from support.running import RUN, End, answers, heard, read, run, run_file, started
 
 # The examples that are not run with examples/bus.toml.
 GIVEN = {name: RUN_SAMPLE for name in ("capped-week.txt", "closes.txt", "corrections.txt", "statement.txt")} | {"two-fares.txt": RUN_TWO}

@@ -5,8 +5,11 @@ import subprocess
 import threading
 import time
 
-from running import (
-    BUS, CHECK, COUNTED, FARES, LONDON, MISSING, ROOT, SEVEN, answers, boardings, closing, edited, fault, play, read, run, run_file, test, written,
+from support.fares import BUS_BAND, ZONES_1_TO_2, counted
+from support.judging import test
+from support.repository import BUS, CHECK, COUNTED, LONDON, ROOT
+from support.running import (
+    FARES, MISSING, SEVEN, answers, boardings, closing, edited, fault, play, read, run, run_file, written,
 )
 
 # What is put in the place of what in examples/bus.toml, and how the file is then refused.
@@ -37,8 +40,8 @@ REFUSED_FARES = (
     (HOLIDAYS, "holidays = [3]\nband = 1", "12 WrongType"),
     ("bus = 175\nmaximum = 860", "bus = true\nmaximum = -1", "12 WrongType"),
 )
+
 # The same for examples/sample.toml.
-BUS_BAND, ZONES_1_TO_2 = "{ from = 0, to = 0, day = 525, week = 2470 },", "{ from = 1, to = 2, day = 890, week = 4470 },"
 LAST_STATION = "{ place = 14, low = 3, high = 3, operator = 3 },"
 REFUSED_SAMPLES = (
     ("bus = 175\n", "", "11 MissingKey"),
@@ -142,12 +145,6 @@ def long_fare_files(folder):
     ahead, bands_after = sample.split(b"band = [")
     long = ahead + (b"# " + b"-" * 1021 + b"\n") * 3072 + b"band = [" + bands_after
     yield "bands after 3 MiB, checked", run(["check", written(folder, "long", long)]), answers(COUNTED)
-
-
-def counted(places, bands, interchanges, holidays, editions=0):
-    """What a check of a fare file comes to that has so many of each."""
-    more = f" editions {editions}" if editions else ""
-    return answers(f"OK places {places} bands {bands} interchanges {interchanges} holidays {holidays}{more}\n".encode())
 
 
 @test

@@ -2,7 +2,8 @@
 
 import re
 
-from running import answers, fault, rows_of, run, test, written
+from support.judging import test
+from support.running import answers, fault, rows_of, run, written
 
 # A fare file in another order of its keys than that of the refusals.
 GOOD_FILE = {

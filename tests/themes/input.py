@@ -2,9 +2,13 @@
 
 import contextlib
 
-from running import RUN, End, answers, boardings, cut, end_of, heard, in_lines, read, run, run_file, session, started, test, trickle, written
-from themes.clocks import SUMMER_DAY
-from themes.examples import told_replies
+from support.clocks import SUMMER_DAY
+from support.examples import told_replies
+from support.judging import test
+from support.running import (
+    RUN, End, answers, boardings, cut, end_of, heard, in_lines, read, run, run_file, session, started, trickle, written,
+)
+from support.sessions import LATE_LINES, LATE_REPLIES
 
 
 def converse(pairs):
@@ -65,18 +69,6 @@ def ends_of_input(folder):
         yield name, run(RUN, first + rest), wanted
         yield f"{name}, in a file", run_file(RUN, written(folder, "cut", first + rest)), wanted
         yield f"{name}, after a pause", trickle([first, rest[:3], rest[3:]], 0.02), wanted
-
-
-# Four boardings, the last one late, the day that they make, the last one again, what is due, and a close; and how they are answered.
-LATE_LINES = [f"TAP 1 {seq} 7 {utc} 50 BUS" for seq, utc in enumerate((1704697200, 1704700200, 1704702200, 1704696200), 1)]
-LATE_LINES += ["SHOW 7 19730", LATE_LINES[-1], "DUE 7 19730", "CLOSE 19730"]
-LATE_REPLIES = (
-    "OK 19730 175 175", "OK 19730 175 175", "OK 19730 350 350", "OK 19730 350 350",
-    "SHOW 7 19730 4 350\nJNY BUS 50 0 1704696200 175\nJNY BUS 50 0 1704697200 0\nJNY BUS 50 0 1704700200 175\nJNY BUS 50 0 1704702200 0",
-    "AGAIN 19730 350 350",
-    "DUE 7 19730 19730 4 350 4=350",
-    "PAY 7 19730 19730 4 350 350 4=350\nDONE 19730 1",
-)
 
 
 @test

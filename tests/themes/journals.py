@@ -1,54 +1,29 @@
 """Journals: what a session keeps of its lines, and what the next one makes of it; journals that are cut, bad, full or another's, and kills."""
 
-import contextlib
 import itertools
 import os
 import random
-import resource
-import signal
 import socket
 import stat
 
 from oracle import loads, rules
-from killed import SessionStory
-from preloads import preloaded
-from running import (
-    FARES, LONDON, MISSING, MONDAY, RUN, RUN_SAMPLE, SAMPLE, SEVEN, STATE, End, answers, boardings, edited, end_of, fault, heard, in_lines,
-    keep_beside, run, run_file, session, started, test, written,
+from support.drawn import by_rules, drawn_dues, parts_of, with_closes
+from support.journals import CANNOT_USE, JOURNAL_FAULT, bad_line, keep_beside, replayed, with_journal
+from support.judging import test
+from support.killed import SessionStory
+from support.preloads import naming, preloaded
+from support.repository import LONDON, RUN_SAMPLE, SAMPLE, STATE
+from support.running import (
+    FARES, MISSING, MONDAY, RUN, SEVEN, End, answers, boardings, bytes_of, edited, end_of, fault, heard, in_lines,
+    limited_to, missing, run, run_file, session, started, written,
 )
-from themes.drawn import by_rules, drawn_dues, with_closes
-from themes.statements import A_BOARDING, rows_of_statement
-
-CANNOT_USE, JOURNAL_FAULT = fault("cannot use journal"), fault("journal fault")
-
-
-def with_journal(path, words=RUN, *more):
-    return [*words, "--journal", path, *more]
-
-
-def replayed(*paths, fares=FARES):
-    """What comes of a replay."""
-    return run(["replay", fares, LONDON, *paths])
+from support.statements import A_BOARDING, rows_of_statement
 
 
 def counted(lines, accounts, first, last, rest=0):
     """What a replay comes to of so many lines and accounts, from an instant to another."""
     not_taken = f" rest {rest}" if rest else ""
     return answers(f"OK lines {lines} accounts {accounts} from {first} to {last}{not_taken}\n".encode())
-
-
-def bytes_of(path):
-    """The bytes of a file. None where there is none."""
-    with contextlib.suppress(FileNotFoundError), open(path, "rb") as it:
-        return it.read()
-
-
-def missing(folder, name="journal"):
-    """The path of a file that is not there, or not any more."""
-    path = os.path.join(folder, name)
-    with contextlib.suppress(FileNotFoundError):
-        os.remove(path)
-    return path
 
 
 def leaving(path, came):
@@ -170,12 +145,6 @@ def statements_with_more_lines(folder):
     yield "a replay of no file", leaving(none, replayed(path, none)), CANNOT_USE
 
 
-def parts_of(draw, items, count):
-    """Items in so many parts, one after another."""
-    ends = sorted(draw.sample(range(1, len(items)), count - 1))
-    return [items[begin:end] for begin, end in zip([0, *ends], [*ends, len(items)])]
-
-
 @test
 def drawn_sessions(folder):
     """A week of taps, corrections, questions and closes in several sessions with one journal, each with lines of those before it, by tests/oracle/rules.py."""
@@ -295,11 +264,6 @@ BAD_LINES = (
 )
 
 
-def bad_line(number, why, path="journal"):
-    """What a line comes to that is not accepted: of several journals it is told by the path of its own."""
-    return fault(f"{path} line {number}: {why}")
-
-
 def told_as_bad(name, path, number, why, words=RUN, lines=b""):
     """Checks that this line of a journal is told by a session, by a statement and by a replay, that the journal stays as it is, and that
     the lines of the session stay where they are."""
@@ -392,16 +356,6 @@ def again_after(count):
     # Those that were kept are answered as they are then.
     prices = {0: None, 1: "AGAIN 19730 175 175", 2: "AGAIN 19730 350 350", 3: "AGAIN 19730 350 350"}
     return [(line, prices[count] if at < count else reply) for at, (line, reply) in enumerate(accepted)]
-
-
-def limited_to(room, most=None):
-    """How a program is run whose files take so many bytes, or that may be given room for this many."""
-
-    def limit():
-        signal.signal(signal.SIGXFSZ, signal.SIG_IGN)
-        resource.setrlimit(resource.RLIMIT_FSIZE, (room, room if most is None else most))
-
-    return {"preexec_fn": limit}
 
 
 @test
@@ -544,11 +498,6 @@ def links(folder):
     for name, to in (("a link to a file in no folder", "no/file"), ("a link to itself", "astray"), ("a link to a folder", "there")):
         os.symlink(to, missing(folder, "astray"))
         yield name, run(with_journal(os.path.join(folder, "astray")), first), CANNOT_USE
-
-
-def naming(library, count):
-    """How a program is run for which the disk takes the names of so many folders, and of no more."""
-    return {"env": {"LD_PRELOAD": library, "NAMED": str(count)}}
 
 
 @test

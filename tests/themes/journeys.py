@@ -2,7 +2,8 @@
 
 import itertools
 
-from running import A_DAY, RUN, answers, in_lines, play, rows_of, run, test
+from support.judging import test
+from support.running import A_DAY, RUN, answers, in_lines, play, rows_of, run
 
 # Taps of an account on Monday, 2024-01-08, or on another day of that January, and the journeys that are shown of that day, each
 # with the time of its first tap and its fare. Times go on to the end of the service day, at 28:30.

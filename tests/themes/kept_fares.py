@@ -3,8 +3,13 @@
 import os
 import stat
 
-from running import FARES, LONDON, RUN, SEVEN, A_DAY, End, answers, fault, heard, in_lines, keep_beside, run, started, test, text_beside, written
-from themes.journals import limited_to
+from support.fares import an_edition, quiet
+from support.journals import keep_beside, text_beside
+from support.judging import test
+from support.repository import LONDON
+from support.running import (
+    A_DAY, FARES, RUN, SEVEN, End, answers, bytes_of, fault, heard, in_lines, limited_to, run, started, written,
+)
 
 BUS = f"TAP 1 1 7 {SEVEN} 50 BUS"
 BOARDED = answers(b"OK 19730 175 175\n")
@@ -14,25 +19,6 @@ PARIS = "CET-1CEST,M3.5.0,M10.5.0/3"
 
 def other(day, key, on, account=7):
     return fault(f"other fares than the journal's on day {day}: {key}; account {account} travelled on day {on}")
-
-
-def bytes_of(path):
-    """The bytes of a file. None where there is none."""
-    return open(path, "rb").read() if os.path.exists(path) else None
-
-
-def quiet():
-    """The fare file of the sessions here."""
-    return open(FARES, "rb").read()
-
-
-def an_edition(day, bus):
-    """That file with an edition from a day on, which differs in the bus fare alone."""
-    text = quiet().decode().replace("holidays = [19723]", "holidays = [19723, 19740]")
-    single = text[text.index("single = ["):].split("\n]")[0] + "\n]\n"
-    band = text[text.index("band = ["):].split("\n")[0] + "\n"
-    rules = f"rules = {{ bus = {bus}, maximum = 860, hopper = 3600, same_free = 120, same_limit = 1800 }}\n"
-    return (text + f"\n[[edition]]\nday = {day}\nminutes = [90, 100, 110]\n{rules}{single}{band}").encode()
 
 
 def begun(journal, lines, words=RUN, more=(), **how):

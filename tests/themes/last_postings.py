@@ -1,17 +1,17 @@
 """The last posting that is noted beside journals, ledgers that lack it, days that are not over, and closes that are refused."""
 
 import os
-import shutil
 import stat
 import time
 
-from running import RUN, SEVEN, A_DAY, MONDAY, End, answers, fault, in_lines, run, test, written
-from themes.kept_fares import bytes_of
-from themes.serve import closed, ended, failed, free_ports, serving, talk, words_of
-from themes.services import new_folder, with_both
+from support.journals import new_folder, with_both
+from support.judging import test
+from support.ledgers import DONE, PAID, copied_ledger, session_over
+from support.running import A_DAY, MONDAY, RUN, SEVEN, End, answers, bytes_of, fault, in_lines, run, written
+from support.serving import closed, ended, failed, free_ports, serving, talk, words_of
 
 BUS = f"TAP 1 1 7 {SEVEN} 50 BUS"
-PAID, DONE = b"PAY 7 19730 19730 1 175 175 4=175\n", b"DONE 19730 1\n"
+
 CANNOT_READ = fault("cannot read the journal's last posting")
 
 
@@ -26,53 +26,42 @@ def refused(day, why, output):
 NOT_OVER = "it is not over (see --early)"
 
 
-def closing(folder, lines, *more, ledger="ledger", journal="journal"):
-    """What a session over a journal and a ledger in files comes to."""
-    return run([*RUN, "--journal", os.path.join(folder, journal), "--ledger", os.path.join(folder, ledger), *more], in_lines(lines))
-
-
-def copied(folder, name):
-    """The ledger as it stands, under another name."""
-    shutil.copyfile(os.path.join(folder, "ledger"), os.path.join(folder, name))
-    return name
-
-
 @test
 def what_is_noted(folder):
     """The last posting that a close has made, as four numbers; an older ledger than it is refused, and nothing is changed."""
     noted = os.path.join(folder, "journal.posted")
-    yield "a first close", closing(folder, [BUS, "CLOSE 19730"]), answers(b"OK 19730 175 175\n" + PAID + DONE)
+    yield "a first close", session_over(folder, [BUS, "CLOSE 19730"]), answers(b"OK 19730 175 175\n" + PAID + DONE)
     yield "what is noted", answers(bytes_of(noted)), answers(b"7 19730 19730 1\n")
     yield "who may read it", answers(oct(stat.S_IMODE(os.stat(noted).st_mode)).encode()), answers(b"0o600")
-    monday = copied(folder, "monday")
-    yield "the close once more", closing(folder, ["CLOSE 19730"]), answers(PAID + DONE)
+    monday = copied_ledger(folder, "monday")
+    yield "the close once more", session_over(folder, ["CLOSE 19730"]), answers(PAID + DONE)
     yield "what is noted then", answers(bytes_of(noted)), answers(b"7 19730 19730 1\n")
     # Another account on that day, and then a late tap of the first one: the last posting of the reply is not the new one.
     lines, eight = [f"TAP 1 1 8 {SEVEN} 50 BUS", "CLOSE 19730"], b"PAY 8 19730 19730 1 175 175 4=175\n"
-    yield "another account", closing(folder, lines), answers(b"OK 19730 175 175\n" + PAID + eight + b"DONE 19730 2\n")
+    yield "another account", session_over(folder, lines), answers(b"OK 19730 175 175\n" + PAID + eight + b"DONE 19730 2\n")
     yield "what is noted of two", answers(bytes_of(noted)), answers(b"8 19730 19730 1\n")
-    both = copied(folder, "both")
+    both = copied_ledger(folder, "both")
     lines, later = [f"TAP 1 2 7 {SEVEN + 7200} 50 BUS", "CLOSE 19730"], b"PAY 7 19730 19730 2 350 175 4=175\n"
-    yield "a late tap", closing(folder, lines), answers(b"OK 19730 350 350\n" + later + eight + b"DONE 19730 2\n")
+    yield "a late tap", session_over(folder, lines), answers(b"OK 19730 350 350\n" + later + eight + b"DONE 19730 2\n")
     yield "what is noted of the late tap", answers(bytes_of(noted)), answers(b"7 19730 19730 2\n")
     # Ledgers of before, by which the same taps would be posted again.
     kept = {name: bytes_of(os.path.join(folder, name)) for name in ("journal", "journal.posted", "journal.fares", monday, both)}
     for name in (monday, both):
-        yield f"an older ledger, {name}", closing(folder, ["CLOSE 19730"], ledger=name), lacks(7, 19730, 19730)
-    yield "another ledger", closing(folder, [], ledger="elsewhere", journal="other"), answers(b"")
+        yield f"an older ledger, {name}", session_over(folder, ["CLOSE 19730"], ledger=name), lacks(7, 19730, 19730)
+    yield "another ledger", session_over(folder, [], ledger="elsewhere", journal="other"), answers(b"")
     kept["elsewhere"] = bytes_of(os.path.join(folder, "elsewhere"))
-    yield "a ledger of another journal", closing(folder, ["CLOSE 19730"], ledger="elsewhere"), lacks(7, 19730, 19730)
-    yield "a new ledger", closing(folder, ["CLOSE 19730"], ledger="new"), fault("a new ledger beside a journal that had one")
+    yield "a ledger of another journal", session_over(folder, ["CLOSE 19730"], ledger="elsewhere"), lacks(7, 19730, 19730)
+    yield "a new ledger", session_over(folder, ["CLOSE 19730"], ledger="new"), fault("a new ledger beside a journal that had one")
     yield "it is not made", answers(bytes_of(os.path.join(folder, "new"))), answers(None)
     for name, text in kept.items():
         yield f"then {name}", answers(bytes_of(os.path.join(folder, name))), answers(text)
     yield "without a ledger", run([*RUN, "--journal", os.path.join(folder, "journal")], b"DUE 7 19730\n"), answers(b"DUE 7 19730 19730 2 350 4=350\n")
-    yield "the right one", closing(folder, ["CLOSE 19730"]), answers(later + eight + b"DONE 19730 2\n")
+    yield "the right one", session_over(folder, ["CLOSE 19730"]), answers(later + eight + b"DONE 19730 2\n")
     # Where nothing is noted, as by an earlier version, the ledger is taken, and the next close notes its last posting.
     os.remove(noted)
-    yield "with nothing noted", closing(folder, ["CLOSE 19730"]), answers(later + eight + b"DONE 19730 2\n")
+    yield "with nothing noted", session_over(folder, ["CLOSE 19730"]), answers(later + eight + b"DONE 19730 2\n")
     yield "nothing new, nothing noted", answers(bytes_of(noted)), answers(None)
-    yield "the next day", closing(folder, ["CLOSE 19731"]), answers(
+    yield "the next day", session_over(folder, ["CLOSE 19731"]), answers(
         b"PAY 7 19730 19731 2 350 0\nPAY 8 19730 19731 1 175 0\nDONE 19731 2\n")
     yield "what is noted of it", answers(bytes_of(noted)), answers(b"8 19730 19731 1\n")
 
@@ -81,31 +70,31 @@ def what_is_noted(folder):
 def what_is_no_note(folder):
     """A text that notes no posting bars a start with a ledger, and all stays as it is."""
     noted = os.path.join(folder, "journal.posted")
-    yield "a first close", closing(folder, [BUS, "CLOSE 19730"]), answers(b"OK 19730 175 175\n" + PAID + DONE)
+    yield "a first close", session_over(folder, [BUS, "CLOSE 19730"]), answers(b"OK 19730 175 175\n" + PAID + DONE)
     for name, text in (
         ("nothing", b""), ("no newline", b"7 19730 19730 1"), ("two newlines", b"7 19730 19730 1\n\n"), ("a zero before", b"7 19730 19730 01\n"),
         ("a sign", b"+7 19730 19730 1\n"), ("three numbers", b"7 19730 19730\n"), ("five numbers", b"7 19730 19730 1 1\n"), ("two spaces", b"7  19730 19730 1\n"),
         ("a number that is too long", b"4294967296 19730 19730 1\n"), ("a word", b"seven 19730 19730 1\n"), ("no UTF-8", b"7 19730 19730 1\xff\n"),
     ):
         written(folder, "journal.posted", text)
-        yield name, closing(folder, ["CLOSE 19730"]), CANNOT_READ
+        yield name, session_over(folder, ["CLOSE 19730"]), CANNOT_READ
         yield f"{name}, then", answers(bytes_of(noted)), answers(text)
     for name, text, wanted in (
         ("another account", b"8 19730 19730 1\n", lacks(8, 19730, 19730)), ("another week", b"7 19737 19730 1\n", lacks(7, 19737, 19730)),
         ("another day", b"7 19730 19731 1\n", lacks(7, 19730, 19731)), ("another version", b"7 19730 19730 2\n", lacks(7, 19730, 19730)),
     ):
         written(folder, "journal.posted", text)
-        yield name, closing(folder, ["CLOSE 19730"]), wanted
+        yield name, session_over(folder, ["CLOSE 19730"]), wanted
     os.remove(noted)
     os.mkdir(noted)
-    yield "a folder", closing(folder, ["CLOSE 19730"]), CANNOT_READ
+    yield "a folder", session_over(folder, ["CLOSE 19730"]), CANNOT_READ
     os.rmdir(noted)
     os.mkfifo(noted)
-    yield "a pipe", closing(folder, ["CLOSE 19730"]), CANNOT_READ
+    yield "a pipe", session_over(folder, ["CLOSE 19730"]), CANNOT_READ
     os.remove(noted)
     # Where it cannot be written the day is closed all the same; that is reported, and the status tells it.
     os.mkdir(f"{noted}.tmp")
-    came = closing(folder, [f"TAP 1 2 7 {SEVEN + 7200} 50 BUS", "CLOSE 19730", "DUE 7 19730"])
+    came = session_over(folder, [f"TAP 1 2 7 {SEVEN + 7200} 50 BUS", "CLOSE 19730", "DUE 7 19730"])
     yield "it cannot be written", came, fault(f"cannot note the last posting in {os.path.realpath(noted)}",
         b"OK 19730 350 350\nPAY 7 19730 19730 2 350 175 4=175\nDONE 19730 1\nDUE 7 19730 19730 2 350 4=350\n")
     yield "nothing is noted", answers(bytes_of(noted)), answers(None)
@@ -116,16 +105,16 @@ def ledgers_in_their_place(folder):
     """A ledger in the place of what is written beside a journal, or where that is written first, is refused, and none is made."""
     names = ("journal.posted", "journal.fares", "journal.posted.tmp", "journal.fares.tmp")
     for name in names:
-        yield f"a first session with {name}", closing(folder, [BUS, "CLOSE 19730"], ledger=name), fault("43 Store")
+        yield f"a first session with {name}", session_over(folder, [BUS, "CLOSE 19730"], ledger=name), fault("43 Store")
         yield f"{name} is not made", answers(bytes_of(os.path.join(folder, name))), answers(None)
-    yield "a first close", closing(folder, [BUS, "CLOSE 19730"]), answers(b"OK 19730 175 175\n" + PAID + DONE)
+    yield "a first close", session_over(folder, [BUS, "CLOSE 19730"]), answers(b"OK 19730 175 175\n" + PAID + DONE)
     os.symlink(folder, os.path.join(folder, "again"))
     kept = {name: bytes_of(os.path.join(folder, name)) for name in ("journal", *names)}
     for name in names:
         # Of what is not there, that the journal had a ledger is said first.
         why = "a new ledger beside a journal that had one" if name == "journal.posted.tmp" else "43 Store"
         for way in (name, os.path.join("again", name), os.path.join(".", name)):
-            yield f"{way}", closing(folder, [f"TAP 1 2 7 {SEVEN + 7200} 50 BUS", "CLOSE 19730"], ledger=way), fault(why)
+            yield f"{way}", session_over(folder, [f"TAP 1 2 7 {SEVEN + 7200} 50 BUS", "CLOSE 19730"], ledger=way), fault(why)
     for name, text in kept.items():
         yield f"then {name}", answers(bytes_of(os.path.join(folder, name))), answers(text)
     journals = new_folder(folder, "journals")
@@ -142,7 +131,7 @@ def links_in_the_way(folder):
     written(folder, "other", b"another's")
     os.symlink(other, f"{noted}.tmp")
     os.symlink(other, os.path.join(folder, "journal.fares.tmp"))
-    yield "a close", closing(folder, [BUS, "CLOSE 19730"]), answers(b"OK 19730 175 175\n" + PAID + DONE)
+    yield "a close", session_over(folder, [BUS, "CLOSE 19730"]), answers(b"OK 19730 175 175\n" + PAID + DONE)
     yield "what is noted", answers(bytes_of(noted)), answers(b"7 19730 19730 1\n")
     yield "what the links lead to", answers(bytes_of(other)), answers(b"another's")
     yield "they are gone", answers(repr(sorted(it for it in os.listdir(folder) if it.endswith(".tmp"))).encode()), answers(b"[]")
@@ -178,8 +167,8 @@ def refused_closes(folder):
     why = "42 StaleQuote: account 7 was posted through day 19731"
     yield "in memory", run(RUN, in_lines(lines)), answers(output)
     yield "in a file", run([*RUN, "--ledger", os.path.join(folder, "alone")], in_lines(lines)), refused(19730, why, output)
-    yield "with a journal", closing(folder, lines), refused(19730, why, output)
-    yield "and QUIT", closing(folder, ["CLOSE 19730", "QUIT"]), refused(19730, why, b"NO 42 StaleQuote\nBYE\n")
+    yield "with a journal", session_over(folder, lines), refused(19730, why, output)
+    yield "and QUIT", session_over(folder, ["CLOSE 19730", "QUIT"]), refused(19730, why, b"NO 42 StaleQuote\nBYE\n")
 
 
 @test
@@ -192,7 +181,7 @@ def of_services(folder):
         talk(port, in_lines([BUS, "QUIT"]))
         yield "Monday", ended(ran, said), closed(port, 1, PAID + DONE)
     yield "what is noted", answers(bytes_of(noted)), answers(b"7 19730 19730 1\n")
-    monday = os.path.join(folder, copied(folder, "monday"))
+    monday = os.path.join(folder, copied_ledger(folder, "monday"))
     with serving(1, 2, 1, close=MONDAY + 1, more=more) as (ran, port, said):
         talk(port, in_lines([f"TAP 1 2 7 {SEVEN + A_DAY} 50 BUS", "QUIT"]))
         yield "Tuesday", ended(ran, said), closed(port, 1, b"PAY 7 19730 19731 2 350 175 4=175\nDONE 19731 1\n")

@@ -13,33 +13,27 @@ import tempfile
 import time
 
 from oracle import loads, rules
-from killed import Kept, rows_of
-from preloads import preloaded
-from running import (
-    FARES, LONDON, MISSING, PROGRAM, RUN, RUN_SAMPLE, STATE, End, answers, boardings, but_for_closes, edited, end_of, fault, heard, in_lines, run, run_file,
-    session, started, test, written,
+from support.drawn import parts_of, with_closes
+from support.journals import CANNOT_USE, JOURNAL_FAULT, bad_line, replayed
+from support.judging import test
+from support.kept import Kept, rows_of_ledger
+from support.ledgers import (
+    ALONE, FIRST_POSTING, FIRST_SESSION, FIRST_SHARE, FIRST_TAP, NO_LEDGER, ROWS_AFTER_FIRST, ROWS_AFTER_SECOND,
+    SECOND_POSTING, SECOND_SHARE, SECOND_TAP, STORE, lacks, opened_ledger, others_database, refused_ledgers, rows,
+    with_ledger,
 )
-from themes.drawn import with_closes
-from themes.journals import CANNOT_USE, JOURNAL_FAULT, bad_line, bytes_of, limited_to, missing, parts_of, replayed
-from themes.statements import rows_of_statement
-
-ALONE, STORE, NO_LEDGER, OTHER_VERSION = fault("ledger without its journal"), fault("43 Store"), fault("40 NotALedger"), fault("41 Version")
-# What each ledger begins with, as rows_of tells it.
-WHOLE = (("ok",), ("farebox", 2))
-
-
-def with_ledger(ledger, journal=None, words=RUN, *more):
-    return [*words, *(["--journal", journal] if journal else []), *more, "--ledger", ledger]
+from support.preloads import preloaded
+from support.repository import LONDON, PROGRAM, RUN_SAMPLE, STATE
+from support.running import (
+    FARES, MISSING, RUN, End, answers, boardings, but_for_closes, bytes_of, edited, end_of, fault, heard, in_lines,
+    limited_to, missing, run, run_file, session, started, written,
+)
+from support.statements import rows_of_statement
 
 
 def copied_rows(path, folder):
     """The rows of a ledger by its file alone, without its log."""
-    return rows_of(shutil.copyfile(path, os.path.join(folder, "copied")))
-
-
-def rows(*those):
-    """A ledger's rows as they are told: those of meta, and these of the postings, the shares, the taps and the corrections."""
-    return in_lines(map(repr, (*WHOLE, *those)))
+    return rows_of_ledger(shutil.copyfile(path, os.path.join(folder, "copied")))
 
 
 def closing(path, folder, came):
@@ -47,16 +41,8 @@ def closing(path, folder, came):
     return came._replace(left=copied_rows(path, folder))
 
 
-# Three sessions with one journal and one ledger, with examples/sample.toml, and the rows after each of them. Of account 7 in the first an In
-# alone is charged; its Out comes in the second, and the rest is given back. In the third a boarding is filled in, and 40 pence are
+# The second and third session with the journal and ledger of FIRST_SESSION. In the third a boarding is filled in, and 40 pence are
 # credited: of 475, which are due, 475 * 340 / 515 is 313, and the rest is the bus operator's.
-FIRST_SESSION = (
-    ("TAP 1 1 7 1704697200 10 IN", "OK 19730 860 860"),
-    ("CLOSE 19730", "PAY 7 19730 19730 1 860 860 1=860\nDONE 19730 1"),
-    ("QUIT", "BYE"),
-)
-FIRST_POSTING, FIRST_SHARE, FIRST_TAP = (7, 19730, 19730, 1, 860, 860, 4), (7, 1, 19730, 1, 860), (7, 1, 1, 1704697200, 19730, 25200, 10, 0)
-ROWS_AFTER_FIRST = rows(FIRST_POSTING, FIRST_SHARE, FIRST_TAP)
 SECOND_SESSION = (
     ("CLOSE 19730", "PAY 7 19730 19730 1 860 860 1=860\nDONE 19730 1"),
     ("TAP 1 1 7 1704697200 10 IN", "AGAIN 19730 860 860"),
@@ -64,8 +50,7 @@ SECOND_SESSION = (
     ("CLOSE 19730", "PAY 7 19730 19730 2 340 -520 1=-520\nDONE 19730 1"),
     ("CLOSE 19730", "PAY 7 19730 19730 2 340 -520 1=-520\nDONE 19730 1"),
 )
-SECOND_POSTING, SECOND_SHARE, SECOND_TAP = (7, 19730, 19730, 2, 340, -520, 4), (7, 2, 19730, 1, -520), (7, 1, 2, 1704699000, 19730, 27000, 12, 1)
-ROWS_AFTER_SECOND = rows(FIRST_POSTING, SECOND_POSTING, FIRST_SHARE, SECOND_SHARE, FIRST_TAP, SECOND_TAP)
+
 THIRD_SESSION = (
     ("CLOSE 19730", "PAY 7 19730 19730 2 340 -520 1=-520\nDONE 19730 1"),
     ("FIX 3 1 7 CREDIT 19730 40", "OK 19730 340 340"),
@@ -143,11 +128,6 @@ def ledgers_without_a_journal(folder):
         ("CLOSE 19730", "PAY 7 19730 19730 2 350 175 4=175\nDONE 19730 1"),
     ))
     yield "a ledger and its journal", run(with_ledger(path, journal), lines), answers(replies)
-
-
-def lacks(line):
-    """The fault of a ledger that archives this, and its journal does not give it back."""
-    return fault(f"in the ledger and not in the journal: {line}")
 
 
 # Corrections of each form, of which the ledger archives each. The touch in is taken out in the end, and nothing is due.
@@ -228,39 +208,6 @@ def drawn_sessions(folder):
             came = but_for_closes(came)._replace(left=copied_rows(path, folder))
             yield f"session {number} of draw {seed}", came, End(0, wanted, left=kept.rows())
         yield f"the journal of draw {seed}", answers(bytes_of(journal)), answers(kept.lines)
-
-
-def others_database(path, *statements):
-    """Has Python's own `sqlite3` write a database."""
-    with contextlib.closing(sqlite3.connect(path)) as it:
-        it.executescript(";".join(statements))
-    return path
-
-
-def opened_ledger(folder, name):
-    """The path of a ledger of one posting, and of its journal."""
-    path, journal = os.path.join(folder, name), os.path.join(folder, f"{name}.lines")
-    run(with_ledger(path, journal, RUN_SAMPLE), session(FIRST_SESSION)[0])
-    return path, journal
-
-
-def refused_ledgers(folder):
-    """Files that are no ledger, by their names, and the fault that each of them is."""
-    yield "a text", written(folder, "text", b"day,kind,from,to,start,fare,band\n"), NO_LEDGER
-    yield "a journal", written(folder, "lines", b"TAP 1 1 7 1704697200 50 BUS\n" * 1_000), NO_LEDGER
-    yield "the head of a database alone", written(folder, "head", b"SQLite format 3\0" + b"\0" * 4_080), NO_LEDGER
-    postings = "CREATE TABLE postings (id INTEGER PRIMARY KEY, amount INTEGER)"
-    yield "a database with one of the tables", others_database(os.path.join(folder, "one"), postings), NO_LEDGER
-    meta = "CREATE VIEW meta AS SELECT 'farebox' AS name, 1 AS version"
-    yield "a database with a view in the place of a table", others_database(os.path.join(folder, "view"), meta), NO_LEDGER
-    for name, statement, wanted in (
-        ("another version", "UPDATE meta SET version = 3", OTHER_VERSION), ("a version before", "UPDATE meta SET version = 0", OTHER_VERSION),
-        ("version 1 with the tables of version 2", "UPDATE meta SET version = 1", NO_LEDGER),
-        ("another's name", "UPDATE meta SET name = 'fares'", NO_LEDGER), ("no name", "DELETE FROM meta", NO_LEDGER),
-        ("a table less", "DROP TABLE fixes", NO_LEDGER), ("another column", "ALTER TABLE taps RENAME COLUMN place TO stop", NO_LEDGER),
-    ):
-        path, _ = opened_ledger(folder, name.replace(" ", "-").replace("'", ""))
-        yield f"a ledger of {name}", others_database(path, statement), wanted
 
 
 # The tables of version 1, and its rows after the first two sessions of above; their numbers are not the first ones.
@@ -484,7 +431,7 @@ def killed_after_a_close(folder):
             yield "SQLite beside it", answers(repr(other.execute("SELECT * FROM postings2").fetchall()).encode()), answers(b"it is locked")
         ran.kill()
         ran.wait()
-    yield "the rows by SQLite", answers(rows_of(path)), answers(ROWS_AFTER_SECOND)
+    yield "the rows by SQLite", answers(rows_of_ledger(path)), answers(ROWS_AFTER_SECOND)
     lines, replies = session(THIRD_SESSION)
     came = but_for_closes(run(with_ledger(path, journal, RUN_SAMPLE), lines))
     yield "the next session", closing(path, folder, came), End(0, replies, left=ROWS_AFTER_THIRD)

@@ -1,10 +1,13 @@
 """Accounts, days and fare files as full as they may be, and one more of each."""
 
 from oracle import rules
-from running import A_DAY, MONDAY, RUN, RUN_SAMPLE, SEVEN, answers, fault, play, run, test, written
-from themes.fare_files import counted
-
-MOST_TAPS = 16_384
+from support.fares import (
+    MOST_BANDS, MOST_CHANGES, MOST_EDITIONS, MOST_FIXES, MOST_HOLIDAYS, MOST_PLACES, MOST_TAPS, SPANS, ZONES, counted,
+    zone_of,
+)
+from support.judging import test
+from support.repository import RUN_SAMPLE
+from support.running import A_DAY, MONDAY, RUN, SEVEN, answers, fault, play, run, written
 
 
 def full_of(prices, order):
@@ -45,7 +48,6 @@ def full_account(_):
         yield f"16,384 taps of one account, {name}", *play(given, full_of(each, order))
 
 
-MOST_FIXES = 1_024
 # What the correction of each sequence number does, the day and the prices in its reply, and what is due with a boarding at 07:00.
 FULL_OF = {
     "Credits": (lambda seq: f"CREDIT {MONDAY} 1", f"{MONDAY} 0 0", "0"),
@@ -116,15 +118,7 @@ def busy_day(_):
     yield "1,000 journeys of one day", *play(RUN, pairs)
 
 
-# A fare file at its limits: stations 1, 2, .. in the zones 1 to 9 in turn, routes 65535, 65534, .., interchanges between the
-# stations 1 and 2, 3 and 4, .., and a holiday on each Monday from day 19723 on. Every fare is another one.
-ZONES, MOST_PLACES, MOST_CHANGES, MOST_HOLIDAYS, MOST_BANDS, MOST_EDITIONS = 9, 1_024, 256, 64, 12, 8
-SPANS = [(low, high) for low in range(1, ZONES + 1) for high in range(low, ZONES + 1)]
 LAST_ROUTE, LONE = 65_535, 99_907
-
-
-def zone_of(station):
-    return (station - 1) % ZONES + 1
 
 
 def single(low, high, peak):

@@ -1,6 +1,8 @@
 """How commands are spelled, which numbers they may have, and taps that are refused."""
 
-from running import RUN, RUN_SAMPLE, play, test
+from support.judging import test
+from support.repository import RUN_SAMPLE
+from support.running import RUN, play
 
 # Places and numbers that are refused, also where the number is taken.
 UNKNOWN_PLACES = [

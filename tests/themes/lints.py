@@ -1,6 +1,8 @@
 """What `check --lint` says of a fare file and where its fault lies, and whether a file prices days as an old one does."""
 
-from running import COUNTED, FARES, LONDON, MISSING, SAMPLE, TWO, End, answers, edited, fault, read, run, test, written
+from support.judging import test
+from support.repository import COUNTED, LONDON, SAMPLE, TWO
+from support.running import FARES, MISSING, End, answers, edited, fault, read, run, written
 
 LAST_STATION = "{ place = 14, low = 3, high = 3, operator = 3 },"
 LAST_BANDS = "  { from = 0, to = 0, day = 540, week = 2500 },\n  { from = 1, to = 2, day = 900, week = 4500 },\n  { from = 1, to = 3, day = 1060, week = 5300 },\n"

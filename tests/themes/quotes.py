@@ -1,7 +1,9 @@
 """What an account owes of a week through a day, and each operator's share of it, by hand. All of it is with examples/sample.toml."""
 
-from running import LONDON, RUN_SAMPLE, answers, in_lines, play, read, run, test, written
-from themes.caps import BUS_WEEK, TRAIN_AND_BUS_WEEK, ZONE_DAY, capped
+from support.judging import test
+from support.repository import LONDON, RUN_SAMPLE
+from support.running import answers, in_lines, play, read, run, written
+from support.sessions import BUS_WEEK, TRAIN_AND_BUS_WEEK, ZONE_DAY, capped
 
 # Quotes, with examples/sample.toml: stations 10 and 11 are operator 1's, 12 and 13 operator 2's, 14 operator 3's, and route 50 operator 4's.
 # A journey of the Sunday that ends on Monday.

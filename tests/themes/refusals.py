@@ -3,10 +3,11 @@
 import socket
 
 from oracle import rules
-from preloads import preloaded
-from running import A_DAY, MONDAY, RUN, SEVEN, answers, heard, in_lines, play, session, test
-from themes.limits import MOST_FIXES, MOST_TAPS
-from themes.serve import break_off, closed, come_and_go, connected, ended, rest_of, serving, talk_ahead
+from support.fares import MOST_FIXES, MOST_TAPS
+from support.judging import test
+from support.preloads import preloaded
+from support.running import A_DAY, MONDAY, RUN, SEVEN, answers, heard, in_lines, play, session
+from support.serving import break_off, closed, come_and_go, connected, ended, rest_of, serving, talk_ahead
 
 # Four boardings, of which the last comes late: of each its instant and the price then. Each line has 28 bytes, and each reply 17.
 FOUR = ((SEVEN, 175), (SEVEN + 3_000, 175), (SEVEN + 5_000, 350), (SEVEN - 1_000, 350))

@@ -8,28 +8,26 @@ import subprocess
 from typing import NamedTuple
 
 from oracle import loads, rules
-from killed import Kept, rows_of
-from killed_services import ServedStory
-from preloads import preloaded
-from running import (
-    FARES, LONDON, MISSING, MONDAY, RUN, RUN_SAMPLE, SAMPLE, SEVEN, STATE, End, answers, end_of, fault, heard, in_lines, run, session, started, test,
-    text_beside, written,
+from support.journals import CANNOT_USE, bad_line, new_folder, replayed, text_beside, with_both, with_journal
+from support.judging import test
+from support.kept import Kept, rows_of_ledger
+from support.killed_services import ServedStory
+from support.ledgers import (
+    ALONE, ROWS_AFTER_FIRST, ROWS_AFTER_SECOND, STORE, lacks, opened_ledger, refused_ledgers, rows, with_ledger,
 )
-from themes.journals import CANNOT_USE, bad_line, bytes_of, limited_to, naming, replayed, with_journal
-from themes.ledgers import ALONE, ROWS_AFTER_FIRST, ROWS_AFTER_SECOND, STORE, lacks, opened_ledger, refused_ledgers, rows, with_ledger
-from themes.serve import (
-    WEEK_DAYS, boarding, closed, connected, ended, failed, free_ports, listening, paid, serving, side_by_side, talk, talk_ahead, words_of,
+from support.preloads import naming, preloaded
+from support.repository import LONDON, RUN_SAMPLE, SAMPLE, STATE
+from support.running import (
+    FARES, MISSING, MONDAY, RUN, SEVEN, WEEK_DAYS, End, answers, bytes_of, end_of, fault, heard, in_lines, limited_to,
+    run, session, started, written,
 )
-from themes.statements import A_BOARDING, rows_of_statement
+from support.serving import (
+    boarding, closed, connected, ended, failed, free_ports, listening, paid, serving, side_by_side, talk, talk_ahead,
+    words_of,
+)
+from support.statements import A_BOARDING, rows_of_statement
 
 FROM_EACH = range(16)
-
-
-def new_folder(folder, name="journals"):
-    """An empty folder."""
-    path = os.path.join(folder, name)
-    os.mkdir(path)
-    return path
 
 
 def path_of(journals, number):
@@ -49,10 +47,6 @@ def texts(*those):
 
 def with_journals(journals, *more):
     return ["--journal", journals, *more]
-
-
-def with_both(journals, ledger):
-    return ["--journal", journals, "--ledger", ledger]
 
 
 def with_new_ledger(journals):
@@ -545,7 +539,7 @@ def ledgers_of_services(folder):
         port, came, end = served(journals, ledger, lines, shards=shards)
         yield f"service {number}, its lane", answers(came), answers(replies.encode() + b"BYE\n")
         yield f"service {number}, its close", end, closed(port, 1, output.encode())
-        yield f"service {number}, the rows", answers(rows_of(ledger)), answers(left)
+        yield f"service {number}, the rows", answers(rows_of_ledger(ledger)), answers(left)
     # A later day of the week, and then an earlier one, which is refused.
     port, _, end = served(journals, ledger, "", MONDAY + 1)
     yield "a later day", end, closed(port, 1, b"PAY 7 19730 19731 2 340 0\nDONE 19731 1\n")
@@ -556,12 +550,12 @@ def ledgers_of_services(folder):
     lines, replies = session((("CLOSE 19731", "PAY 7 19730 19731 2 340 0\nDONE 19731 1"), ("DUE 7 19731", "DUE 7 19730 19731 2 340 1=340")))
     yield "a session after them", run(with_ledger(ledger, both, RUN_SAMPLE), lines), answers(replies)
     # A journal that is lost: its line is named, no port is taken, and nothing is posted.
-    posted = rows_of(ledger)
+    posted = rows_of_ledger(ledger)
     os.remove(path_of(journals, 0))
     for shards in (1, 2, 16):
         came = run([*words_of(port, 1, shards, fares=SAMPLE), *with_both(journals, ledger)])
         yield f"a journal that is lost, {shards} shards", came, lacks(f"{TAP_OUT.strip()}, on day 19730 at second 27000")
-    yield "a journal that is lost, the rows", answers(rows_of(ledger)), answers(posted)
+    yield "a journal that is lost, the rows", answers(rows_of_ledger(ledger)), answers(posted)
 
 
 @test
@@ -598,7 +592,7 @@ def ledgers_that_are_refused(folder):
         yield "a session beside services that do not begin", answers(talk(port, b"QUIT\n")), answers(b"BYE\n")
     yield "the journals then", answers(texts_of(journals)), answers(texts(boarding(8) + "TAP 1"))
     # It is opened, and shut again, where the port is not to be had.
-    yield "the ledger that was made beside a port that is taken", answers(rows_of(made)), answers(rows())
+    yield "the ledger that was made beside a port that is taken", answers(rows_of_ledger(made)), answers(rows())
 
 
 def shuffled_parts(draw, items, count):
@@ -640,7 +634,7 @@ def crowd(folder):
         told = talk_ahead(port, [it.encode() for it in asked])
         yield "what is due and shown in the end", answers(told), answers(wanted + b"BYE\n")
         yield "the same close again", ended(ran, said), closed(port, 1, kept.reply(rules.Close(MONDAY + 6)))
-    yield "the rows in the end", answers(rows_of(ledger)), answers(kept.rows())
+    yield "the rows in the end", answers(rows_of_ledger(ledger)), answers(kept.rows())
 
 
 @test

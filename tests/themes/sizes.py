@@ -4,10 +4,12 @@ import os
 import random
 
 from oracle import rules
-from running import A_DAY, MONDAY, RUN, RUN_SAMPLE, SEVEN, answers, boardings, in_lines, play, run, run_file, test, written
-from themes.limits import MOST_FIXES, MOST_TAPS
-from themes.serve import closed, ended, serving, side_by_side, talk_ahead
-from themes.statements import rows_of_statement, stated
+from support.fares import MOST_FIXES, MOST_TAPS
+from support.judging import test
+from support.repository import RUN_SAMPLE
+from support.running import A_DAY, MONDAY, RUN, SEVEN, answers, boardings, in_lines, play, run, run_file, written
+from support.serving import closed, ended, serving, side_by_side, talk_ahead
+from support.statements import rows_of_statement, stated
 
 # When the Monday begins, at 04:30:00.
 BEGINS = A_DAY * MONDAY + rules.DAY_BEGINS

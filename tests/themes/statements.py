@@ -3,29 +3,15 @@
 import select
 
 from oracle import rules
-from running import (
-    BUS, LONDON, MONDAY, SAMPLE, SEVEN, STATE, End, answers, cut, edited, end_of, in_lines, run, run_file, started, taps_of, test, trickle, written,
+from support.clocks import BY_SECONDS, FAR_EAST, INDIA, MEASURED, SUMMER_DAY
+from support.fares import BUS_BAND, MOST_TAPS, ZONES_1_TO_2
+from support.judging import test
+from support.repository import BUS, STATE
+from support.running import (
+    MONDAY, SEVEN, End, cut, edited, end_of, in_lines, run, run_file, started, taps_of, trickle, written,
 )
-from themes.caps import BUS_DAY, ZONE_DAY
-from themes.clocks import BY_SECONDS, FAR_EAST, INDIA, MEASURED, SUMMER_DAY
-from themes.corrections import CREDITS, FILLED, LEFT, ONE_SECOND
-from themes.fare_files import BUS_BAND, ZONES_1_TO_2
-from themes.limits import MOST_TAPS
-
-# Statements, of account 7 and the week of Monday, 2024-01-08, with examples/sample.toml where nothing else is said.
-HEADER = "day,kind,from,to,start,fare,band"
-# What a boarding at 07:00 gives.
-A_BOARDING = "19730,BUS,50,0,07:00:00,175,-"
-
-
-def rows_of_statement(*rows):
-    """What a run comes to that writes a statement of these rows."""
-    return answers(in_lines([HEADER, *rows]))
-
-
-def stated(lines, account, day, fares=SAMPLE, zone=LONDON):
-    """What the statement comes to after these lines."""
-    return run(["statement", fares, zone, str(account), str(day)], in_lines(lines))
+from support.sessions import BUS_DAY, CREDITS, FILLED, LEFT, ONE_SECOND, ZONE_DAY
+from support.statements import A_BOARDING, RAIL_AND_LONE, RAIL_AND_LONE_ROWS, rows_of_statement, stated
 
 
 def days_after(days, rows):
@@ -33,13 +19,6 @@ def days_after(days, rows):
     return [(utc + 86_400 * days, *others) for utc, *others in rows]
 
 
-RAIL_AND_LONE = [*ZONE_DAY[:6], (1704715200, 10, "IN")]
-RAIL_AND_LONE_ROWS = [
-    "19730,RAIL,10,12,07:00:00,340,1-2",
-    "19730,RAIL,12,10,07:30:00,340,1-2",
-    "19730,RAIL,10,12,08:00:00,340,1-2",
-    "19730,LONE,10,0,12:00:00,860,-",
-]
 # Each day is priced by another band, and each row has that of its own day.
 MIXED_WEEK = [
     (1704688199, 50, "BUS"),  # Monday 04:29:59, of the week before

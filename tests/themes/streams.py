@@ -7,13 +7,15 @@ import signal
 import socket
 import subprocess
 
-from running import (
-    CHECK, COUNTED, FARES, LONDON, MISSING, RUN, STATE, USAGE, End, answers, boardings, closing, edited, end_of, fault, heard, in_lines, run,
-    run_file, session, started, taps_of, test, written,
+from support.clocks import SUMMER_DAY
+from support.judging import test
+from support.repository import CHECK, COUNTED, LONDON, STATE
+from support.running import (
+    FARES, MISSING, RUN, USAGE, End, answers, boardings, closing, edited, end_of, fault, heard, in_lines, opened_pipe,
+    run, run_file, session, started, taps_of, written,
 )
-from themes.clocks import SUMMER_DAY
-from themes.input import LATE_LINES, LATE_REPLIES
-from themes.statements import A_BOARDING, RAIL_AND_LONE, RAIL_AND_LONE_ROWS, rows_of_statement
+from support.sessions import LATE_LINES, LATE_REPLIES
+from support.statements import A_BOARDING, RAIL_AND_LONE, RAIL_AND_LONE_ROWS, rows_of_statement
 
 
 @contextlib.contextmanager
@@ -24,15 +26,6 @@ def opened_folder():
         yield folder
     finally:
         os.close(folder)
-
-
-@contextlib.contextmanager
-def opened_pipe():
-    """A pipe to write to, which nobody reads."""
-    reading, writing = os.pipe()
-    os.close(reading)
-    with open(writing, "wb") as it:
-        yield it
 
 
 @test

@@ -2,8 +2,10 @@
 
 import os
 
-from running import CHECK, End, FARES, LONDON, MISSING, ROOT, RUN, STATE, USAGE, answers, boardings, fault, read, run, test, written
-from themes.statements import A_BOARDING, rows_of_statement
+from support.judging import test
+from support.repository import CHECK, LONDON, ROOT, STATE
+from support.running import FARES, MISSING, RUN, USAGE, End, answers, boardings, fault, read, run, written
+from support.statements import A_BOARDING, rows_of_statement
 
 OPTIONS = ["--port", "9000", "--lanes", "2", "--shards", "4", "--sessions", "1", "--close", "19730"]
 SERVE = ["serve", FARES, LONDON, *OPTIONS]

@@ -1,5 +1,5 @@
-"""Services over a folder of journals, and over a ledger in a file, that are killed at random moments and go on with other numbers of lanes and
-shards; and what has to come of them."""
+"""Services over a folder of journals, and over a ledger in a file, that are killed at random moments and go on with
+other numbers of lanes and shards; and what has to come of them."""
 
 import contextlib
 import os
@@ -9,13 +9,15 @@ import tempfile
 import time
 
 from oracle import rules
-from killed import MOST_LATER, QUESTIONS, WEEK_DAYS, Story, answered, bytes_of, rows_of
-from running import LONDON, SAMPLE, TIME_TO_REPLY, End, answers, heard, run, started
-from themes.serve import closed, connected, ended, free_ports, listening, side_by_side, talk_ahead, words_of
+from support.kept import rows_of_ledger
+from support.killed import MOST_LATER, QUESTIONS, Story, answered
+from support.repository import LONDON, SAMPLE
+from support.running import TIME_TO_REPLY, WEEK_DAYS, End, answers, bytes_of, heard, run, started
+from support.serving import closed, connected, ended, free_ports, listening, side_by_side, talk_ahead, words_of
 
 MOST_LANES, MOST_SHARDS = 5, 16
-# The most lines that each lane is sent before a service is killed; and the most seconds that pass where nothing is heard first, and where all
-# is heard, and a day is being closed.
+# The most lines that each lane is sent before a service is killed; and the most seconds that pass where nothing is
+# heard first, and where all is heard, and a day is being closed.
 MOST_SENT, MOST_OF_A_START, MOST_OF_A_CLOSE = 12, 0.03, 0.03
 
 
@@ -41,7 +43,8 @@ def hear(taken, awaited):
 
 
 def killed_service(words, port, texts, all_are_heard, draw):
-    """What the lanes of a service reply that is sent these texts and is killed at a random moment; and what it wrote and said."""
+    """What the lanes of a service reply that is sent these texts and is killed at a random moment; and what it wrote
+    and said."""
     with started(words, stdin=subprocess.DEVNULL) as ran, contextlib.ExitStack() as opened:
         taken, errors = {}, b""
         if all_are_heard or draw.random() < 0.85:
@@ -86,7 +89,11 @@ class ServedStory(Story):
 
     def texts(self):
         """The bytes of the journals, by their names."""
-        return {name: bytes_of(os.path.join(self.folder, name)) for name in sorted(os.listdir(self.folder)) if name.endswith(".lines")}
+        return {
+            name: (bytes_of(os.path.join(self.folder, name)) or b"")
+            for name in sorted(os.listdir(self.folder))
+            if name.endswith(".lines")
+        }
 
     def lines(self):
         """All whole lines of the journals, in one order."""
@@ -101,16 +108,20 @@ class ServedStory(Story):
                 yield f"kill {self.kills}, {name}", came, wanted
         yield from self.ended("the lines that were left", self.left)
         yield from self.asked()
-        yield "a replay", run(["replay", SAMPLE, LONDON, *(os.path.join(self.folder, name) for name in self.texts())]), self.kept.counted()
+        yield "a replay", run([
+            "replay", SAMPLE, LONDON, *(os.path.join(self.folder, name) for name in self.texts())
+        ]), self.kept.counted()
         if self.database:
-            yield "the rows of the ledger", answers(rows_of(self.database)), answers(self.kept.rows())
+            yield "the rows of the ledger", answers(rows_of_ledger(self.database)), answers(self.kept.rows())
 
     def words(self, port, lanes, shards):
         return [*words_of(port, lanes, shards, 1, self.day(), SAMPLE), *self.more]
 
     def killed(self):
         """Checks of a service that is killed."""
-        lanes, shards, is_heard = self.draw.randint(1, MOST_LANES), self.draw.randint(1, MOST_SHARDS), self.draw.random() < 0.25
+        lanes = self.draw.randint(1, MOST_LANES)
+        shards = self.draw.randint(1, MOST_SHARDS)
+        is_heard = self.draw.random() < 0.25
         day, before = self.day(), self.texts()
         dealt, others = self.dealt(lanes, self.draw.randint(1, MOST_SENT))
         texts = ["".join(map(rules.line, lane)).encode() + b"QUIT\n" * is_heard for lane in dealt]
@@ -134,7 +145,8 @@ class ServedStory(Story):
         yield from self.closed(rules.Close(day) if is_heard else None, came.output)
 
     def replied(self, lane, output):
-        """What a lane has to have replied, as much of it as was heard; and the lines of which not all was heard, which are sent again."""
+        """What a lane has to have replied, as much of it as was heard; and the lines of which not all was heard, which
+        are sent again."""
         wanted, answered = b"", 0
         for it in lane:
             if len(wanted) < len(output):
@@ -161,8 +173,8 @@ class ServedStory(Story):
         copied = os.path.join(self.files, "copied")
         for end in ("", "-wal"):
             with open(copied + end, "wb") as it:
-                it.write(bytes_of(self.database + end))
-        return rows_of(copied)
+                it.write((bytes_of(self.database + end) or b""))
+        return rows_of_ledger(copied)
 
     def ended(self, name, commands):
         """Checks of a service that answers all these lines, and ends."""
@@ -176,7 +188,9 @@ class ServedStory(Story):
             replies = side_by_side([lambda it=it: talk_ahead(*it) for it in enumerate(texts, port)])
             came = ended(ran, said)
         for number, (lane, output) in enumerate(zip(dealt, replies), 1):
-            yield f"{name}, lane {number} of {lanes}", answers(output), answers(b"".join(map(self.kept.reply, lane)) + b"BYE\n")
+            yield f"{name}, lane {number} of {lanes}", answers(output), answers(
+                b"".join(map(self.kept.reply, lane)) + b"BYE\n"
+            )
         yield f"{name}, the close", came, self.closing(port, lanes)
         yield f"{name}, the lines of the journals", answers(self.lines()), answers(self.wanted_lines())
 

@@ -1,46 +1,51 @@
-"""How the themes of tests/program run the built program, and how what comes of it is judged and printed."""
+"""How the themes run the built program, and what comes of a run."""
 
 import contextlib
 import os
 import re
+import resource
 import select
+import signal
 import subprocess
 import sys
 import tempfile
 import time
 from typing import NamedTuple, Optional
 
-ROOT = os.path.dirname(os.path.dirname(os.path.realpath(__file__)))
-PROGRAM = f"{ROOT}/crates/farebox/out/farebox"
-EXAMPLES = f"{ROOT}/examples"
-BUS = f"{EXAMPLES}/bus.toml"
-SAMPLE = f"{EXAMPLES}/sample.toml"
-TWO = f"{EXAMPLES}/two.toml"
+from support.repository import BUS, EXAMPLES, LONDON, PROGRAM
 
-# examples/bus.toml with a band that caps nothing: sessions with files warn of a file without bands.
+
+def written(folder, name, content):
+    path = os.path.join(folder, name)
+    with open(path, "wb") as it:
+        it.write(content)
+    return path
+
+
+def without_warnings(folder):
+    """The path of examples/bus.toml with a band that caps nothing: sessions with files warn of a file without bands."""
+    with open(BUS, "rb") as it:
+        text = it.read().replace(
+            b"holidays =", b"band = [{ from = 0, to = 0, day = 100000, week = 100000 }]\nholidays ="
+        )
+    return written(folder, "bus.toml", text)
+
+
 FOLDER = tempfile.TemporaryDirectory()
-FARES = f"{FOLDER.name}/bus.toml"
-with open(BUS, "rb") as bus, open(FARES, "wb") as quiet:
-    quiet.write(bus.read().replace(b"holidays =", b"band = [{ from = 0, to = 0, day = 100000, week = 100000 }]\nholidays ="))
-
-LONDON = "GMT0BST,M3.5.0/1,M10.5.0"
+FARES = without_warnings(FOLDER.name)
 RUN = ["run", FARES, LONDON]
-RUN_SAMPLE = ["run", SAMPLE, LONDON]
-RUN_TWO = ["run", TWO, LONDON]
-CHECK = ["check", SAMPLE]
-# The statement of account 7, and of the week of Monday, 2024-01-08.
-STATE = ["statement", SAMPLE, LONDON, "7", "19730"]
-COUNTED = b"OK places 6 bands 3 interchanges 1 holidays 1\n"
 MISSING = "/no/such/file"
 # The day 2024-01-08, its second at 07:00:00 in London, and how many seconds a day has.
 MONDAY, SEVEN, A_DAY = 19730, 1704697200, 86_400
+WEEK_DAYS = range(MONDAY, MONDAY + 7)
 
 # The seconds after which a run counts as one that does not end, and a reply as one that does not come.
 TIME_TO_END, TIME_TO_REPLY = 120, 20
 
 
 class End(NamedTuple):
-    """What a run comes to: its status, its output and errors, and what it leaves of a file, as one that is its input, or its journal."""
+    """What a run comes to: its status, its output and errors, and what it leaves of a file, as one that is its input,
+    or its journal."""
 
     status: object
     output: Optional[bytes] = b""
@@ -58,23 +63,29 @@ def fault(line, output=b"", status=1):
 
 USAGE = fault("usage", status=2)
 
-# What standard error has of a close into a ledger in a file: that it was refused, or that its last posting could not be noted; and the
-# refusals that only a close has.
-REFUSED = rb"farebox: close of day \d+ refused: (?:(42) StaleQuote: account \d+ was posted through day \d+|(4[34567]|90) [A-Z]\w+)\n"
+# What standard error has of a close into a ledger in a file: that it was refused, or that its last posting could not be
+# noted; and the refusals that only a close has.
+REFUSED = (
+    rb"farebox: close of day \d+ refused: "
+    rb"(?:(42) StaleQuote: account \d+ was posted through day \d+|(4[34567]|90) [A-Z]\w+)\n"
+)
 NOT_NOTED = rb"farebox: cannot note the last posting in \S+\n"
 OF_A_CLOSE = rb"(?m)^NO (4[2-7]) "
 
 
 def but_for_closes(came):
-    """What a session over a ledger in a file came to but for its closes: if standard error reports each that was refused, in order, and the
-    status tells it, as if it did neither. One that was killed may have reported another than it answered."""
+    """What a session over a ledger in a file came to but for its closes: if standard error reports each that was
+    refused, in order, and the status tells it, as if it did neither. One that was killed may have reported another than
+    it answered."""
     if not isinstance(came.errors, bytes):
         return came
     told = [first or second for first, second in re.findall(REFUSED, came.errors)]
     rest = re.sub(NOT_NOTED, b"", re.sub(REFUSED, b"", came.errors))
     if came.status == "killed":
         return came._replace(errors=rest)
-    if rest == came.errors or came.status != 1 or [number for number in told if number != b"90"] != re.findall(OF_A_CLOSE, came.output):
+    if rest == came.errors or came.status != 1 or [
+        number for number in told if number != b"90"
+    ] != re.findall(OF_A_CLOSE, came.output):
         return came
     return came._replace(status=1 if rest else 0, errors=rest)
 
@@ -90,7 +101,8 @@ def run(words, lines=b"", stdin=None, stdout=subprocess.PIPE, stderr=subprocess.
 
 
 def run_file(words, path, start=0, leaves=False, **how):
-    """The same with a file as its input, from this byte on; and, if asked, what is left of it to whoever has it open."""
+    """The same with a file as its input, from this byte on; and, if asked, what is left of it to whoever has it
+    open."""
     with open(path, "rb", buffering=0) as given:
         given.seek(start)
         came = run(words, stdin=given, **how)
@@ -100,7 +112,9 @@ def run_file(words, path, start=0, leaves=False, **how):
 @contextlib.contextmanager
 def started(words=RUN, stdin=subprocess.PIPE, stdout=subprocess.PIPE, **how):
     """A run that is spoken to while it goes on."""
-    with subprocess.Popen([PROGRAM, *words], stdin=stdin, stdout=stdout, stderr=subprocess.PIPE, bufsize=0, **how) as ran:
+    with subprocess.Popen(
+        [PROGRAM, *words], stdin=stdin, stdout=stdout, stderr=subprocess.PIPE, bufsize=0, **how
+    ) as ran:
         try:
             yield ran
         finally:
@@ -146,25 +160,6 @@ def cut(text, size):
 def closing(descriptor):
     """How a program is run with this stream closed."""
     return {"preexec_fn": lambda: os.close(descriptor)}
-
-
-def written(folder, name, content):
-    path = os.path.join(folder, name)
-    with open(path, "wb") as it:
-        it.write(content)
-    return path
-
-
-def text_beside(words, ledger=False):
-    """What a session with these words keeps beside its journal, once one of them had a ledger, or without."""
-    with open(words[1], "rb") as fares:
-        return f"# zone {words[2]}\n# {'with' if ledger else 'without'} a ledger\n".encode() + fares.read()
-
-
-def keep_beside(journal, words, ledger=False):
-    """Puts that beside a journal."""
-    with open(f"{journal}.fares", "wb") as it:
-        it.write(text_beside(words, ledger))
 
 
 def read(name):
@@ -214,54 +209,34 @@ def rows_of(text):
             yield given, wanted
 
 
-def test(function):
-    """Marks a function of a theme as a test. Given a folder for its files, it yields its checks: of each the name, what a run came to,
-    and what it has to come to."""
-    sys.modules[function.__module__].__dict__.setdefault("TESTS", []).append(function)
-    return function
+@contextlib.contextmanager
+def opened_pipe():
+    """A pipe to write to, which nobody reads."""
+    reading, writing = os.pipe()
+    os.close(reading)
+    with open(writing, "wb") as it:
+        yield it
 
 
-def build():
-    """Brings the program up to date."""
-    if subprocess.run([f"{ROOT}/farebox", "--help"], stdin=subprocess.DEVNULL, stdout=subprocess.DEVNULL).returncode:
-        sys.exit("program: farebox was not built")
+def bytes_of(path):
+    """The bytes of a file. None where there is none."""
+    with contextlib.suppress(FileNotFoundError), open(path, "rb") as it:
+        return it.read()
 
 
-def processor_seconds():
-    """Of this script and the runs so far."""
-    return sum(os.times()[:4])
+def missing(folder, name="journal"):
+    """The path of a file that is not there, or not any more."""
+    path = os.path.join(folder, name)
+    with contextlib.suppress(FileNotFoundError):
+        os.remove(path)
+    return path
 
 
-def shortened(text, other):
-    """A text, or where it is long its first line that differs from the other's."""
-    if text is None or len(text) < 400:
-        return repr(text)
-    mine, others = text.split(b"\n"), (other or b"").split(b"\n")
-    at = next((at for at, (a, b) in enumerate(zip(mine, others)) if a != b), min(len(mine), len(others)))
-    return f"{len(text):,} bytes, line {at + 1}: {b''.join(mine[at:at + 1])[:200]!r}"
+def limited_to(room, most=None):
+    """How a program is run whose files take so many bytes, or that may be given room for this many."""
 
+    def limit():
+        signal.signal(signal.SIGXFSZ, signal.SIG_IGN)
+        resource.setrlimit(resource.RLIMIT_FSIZE, (room, room if most is None else most))
 
-def in_words(end, other):
-    """An end, beside another."""
-    left = "" if end.left is None else f", left {shortened(end.left, other.left)}"
-    output, errors = shortened(end.output, other.output), shortened(end.errors, other.errors)
-    return f"status {end.status}, output {output}, errors {errors}{left}"
-
-
-def judge(name, theme):
-    """Runs the tests of a theme, prints what came of them, and returns how many checks there were and how many came out wrong."""
-    began, checks, wrong = processor_seconds(), 0, 0
-    for each in theme.TESTS:
-        with tempfile.TemporaryDirectory() as folder:
-            for what, came, wanted in each(folder):
-                checks += 1
-                if came != wanted:
-                    wrong += 1
-                    print(f"{what}\n    expected  {in_words(wanted, came)}\n    came      {in_words(came, wanted)}")
-    print(summary(name, checks, wrong, processor_seconds() - began), flush=True)
-    return checks, wrong
-
-
-def summary(name, checks, wrong, seconds):
-    came = f"{wrong} wrong" if wrong else "all right"
-    return f"{name:<12} {checks:>5} checks, {came}, {seconds:.1f} s of processor time"
+    return {"preexec_fn": limit}

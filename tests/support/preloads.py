@@ -1,14 +1,16 @@
-"""The library that is loaded before the built program, or before tests, and refuses them threads, memory, room in a connection and the disk."""
+"""The library that is loaded before the built program, or before tests, and refuses them threads, memory, room in a
+connection and the disk."""
 
 import os
 import subprocess
 
-# A pthread_create whose call number THREAD is refused, once standard input has ended. And a malloc and a realloc, counted together, of
-# which are refused the calls from number FIRST through LAST, and one in so many, drawn by SEED, as stands in the first eight bytes of the
-# file that is the descriptor ODDS, where there is one; 0 there refuses none. Each is told by an x on the descriptor TELL. Where there is
-# MARKED, only those between the marks of a test count; marks are requests of sizes that nothing else asks for, and a third such size
-# tells by an m that a call has said so. And a send that takes ROOM bytes in all, of the one connection that there is. And an fdatasync
-# that fails after the first SETTLED calls, and an fsync after the first NAMED ones. It declares what it calls: the toolchain's compiler
+# A pthread_create whose call number THREAD is refused, once standard input has ended. And a malloc and a realloc,
+# counted together, of which are refused the calls from number FIRST through LAST, and one in so many, drawn by SEED, as
+# stands in the first eight bytes of the file that is the descriptor ODDS, where there is one; 0 there refuses none.
+# Each is told by an x on the descriptor TELL. Where there is MARKED, only those between the marks of a test count;
+# marks are requests of sizes that nothing else asks for, and a third such size tells by an m that a call has said so.
+# And a send that takes ROOM bytes in all, of the one connection that there is. And an fdatasync that fails after the
+# first SETTLED calls, and an fsync after the first NAMED ones. It declares what it calls: the toolchain's compiler
 # comes without the C library's headers.
 SOURCE = r"""
 typedef unsigned long size_t;
@@ -142,5 +144,12 @@ def preloaded(folder):
     guide = subprocess.run(["rt", "doc"], capture_output=True, text=True, check=True).stdout.strip()
     toolchain = f"{os.path.dirname(guide)}/toolchain/bin"
     links = ["-shared", "-fPIC", "-nostdinc", "-nostdlib", f"-fuse-ld={toolchain}/ld.lld"]
-    subprocess.run([f"{toolchain}/clang", "-O1", *links, "-o", library, "-x", "c", "-"], input=SOURCE.encode(), check=True)
+    subprocess.run(
+        [f"{toolchain}/clang", "-O1", *links, "-o", library, "-x", "c", "-"], input=SOURCE.encode(), check=True
+    )
     return library
+
+
+def naming(library, count):
+    """How a program is run for which the disk takes the names of so many folders, and of no more."""
+    return {"env": {"LD_PRELOAD": library, "NAMED": str(count)}}
